@@ -1,0 +1,68 @@
+-- Where a word stands in a map's entries, and what the entries are once one more is put last.
+use Rattle.std.proofs.Common.{◌≡◌, ◌∙◌, ◌<◌, ◌++◌, ℕ, Bool, true, false, List, [], ◌∷◌, length, Option, Some, None, Result, Ok, Err, OnOk, OnErr, is_some, All, refl, sym, ap, subst, arith, map}
+use Rattle.std.proofs.lemmas.List.{length-append}
+use Rattle.std.proofs.lemmas.List.Elements.{All-push}
+use Rattle.std.specs.Str.{bytes_eq}
+use Rattle.std.specs.declared.vec.Vec.{Vec}
+use Rattle.std.specs.declared.alloc.Global.{Global}
+use Rattle.std.specs.Map.{lookup}
+use Rattle.sbl_script.specs.Tree.{Source}
+use Rattle.sbl_machine.specs.declared.outcome.Outcome.{Outcome}
+use Rattle.sbl_machine.specs.Outcome.{outcome_of, run_of}
+use Rattle.sbl_bench.specs.declared.fault.EditFault.{EditFault}
+use Rattle.sbl_bench.specs.Kept.{Entry, words_in, AreFresh, IsWord, IsKept}
+use Rattle.sbl_bench.specs.Rows.{Row, rows_of, most_steps}
+use Rattle.sbl_bench.specs.Vocabulary.{is_word}
+
+abbrev pub is_key : List ℕ → Vec ℕ Global → Bool
+is_key word k = bytes_eq word k.items
+
+-- a word has an entry exactly where it is a word of the entries
+pub found_word : (word : List ℕ) (es : List Entry) → is_some (lookup (is_key word) es) ≡ is_word word (words_in es)
+found_word word [] = refl
+found_word word (e ∷ es) = by (is_key word e.0) refl (found_word word es)
+  where
+    by : (b : Bool) → is_key word e.0 ≡ b → is_some (lookup (is_key word) es) ≡ is_word word (words_in es)
+        → is_some (lookup (is_key word) (e ∷ es)) ≡ is_word word (words_in (e ∷ es))
+    by true h rest = rw h refl
+    by false h rest = rw h rest
+
+-- a new word has no entry
+pub not_found : (word : List ℕ) (es : List Entry) → is_word word (words_in es) ≡ false → lookup (is_key word) es ≡ None
+not_found word es new = by (lookup (is_key word) es) (found_word word es ∙ new)
+  where
+    by : (o : Option Outcome) → is_some o ≡ false → o ≡ None
+    by None h = refl
+    by (Some x) h = cc
+
+pub words-push : (es : List Entry) (e : Entry) → words_in (es ++ e ∷ []) ≡ words_in es ++ e.0.items ∷ []
+words-push [] e = refl
+words-push (x ∷ es) e = ap (λ (ws : List (List ℕ)). x.0.items ∷ ws) (words-push es e)
+
+fresh-push : (script : Source) (es : List Entry) (e : Entry) → AreFresh script es → outcome_of e.1 ≡ run_of script e.0.items most_steps → AreFresh script (es ++ e ∷ [])
+fresh-push script [] e h p = (p, tt)
+fresh-push script (x ∷ es) e h p = (h.0, fresh-push script es e h.1 p)
+
+-- a word that is run and put last
+pub kept-push : (script : Source) (es : List Entry) (e : Entry) → IsKept script es → IsWord e.0.items → length es < 100000
+    → outcome_of e.1 ≡ run_of script e.0.items most_steps → IsKept script (es ++ e ∷ [])
+kept-push script es e h word room ran = record {
+  fresh = fresh-push script es e h.fresh ran;
+  sound = subst (All IsWord) (sym (words-push es e)) (All-push IsWord (words_in es) e.0.items h.sound word);
+  room = rw (length-append es (e ∷ [])) (omega (arith, room));
+}
+
+-- the row that an entry shows
+abbrev pub shown : Entry → Row
+shown e = record { word = e.0.items; outcome = outcome_of e.1 }
+
+-- fresh entries show the rows of their words
+pub rows_shown : (script : Source) (es : List Entry) → AreFresh script es → map shown es ≡ rows_of script (words_in es)
+rows_shown script [] h = refl
+rows_shown script (e ∷ es) h = λ i. record { word = e.0.items; outcome = h.0 i } ∷ rows_shown script es h.1 i
+
+-- entries that are kept, whether a word was put last or not
+pub kept_either : (script : Source) (es new : List Entry) (r : Result (Unit {0}) EditFault) → IsKept script es
+    → OnOk r (IsKept script new) → OnErr r (new ≡ es) → IsKept script new
+kept_either script es new (Ok u) kept more same = more
+kept_either script es new (Err f) kept more same = subst (IsKept script) (sym same) kept

@@ -1,0 +1,35 @@
+use Rattle.std.proofs.Common.{rules, ap, subst, ◌≡◌, ◌++◌, List, [], ◌∷◌, ℕ, Err, OnOk}
+use Rattle.std.proofs.lemmas.Result.{err_from_is_err_and, on_ok_weaker, on_err_weaker}
+use Rattle.sbl_script.specs.Parsed.{source_of}
+use Rattle.sbl_bench.specs.declared.fault.EditFault.TheVariants.{OutOfMemory}
+use Rattle.sbl_bench.specs.Kept.{Kept, state_of, words_in}
+use Rattle.sbl_bench.specs.State.{Adds}
+use Rattle.sbl_bench.proofs.Refusals.{accepted_among, adds, adds_nothing}
+use Rattle.sbl_bench.proofs.Words.{kept_either}
+use Rattle.sbl_bench.proofs.bench.Bench.add.Goals as goal
+
+pub returns-in_err-word : goal.returns-in_err-word
+returns-in_err-word c =
+    let script = source_of c.self.inside.script in
+    let es = c.self.inside.outcomes.entries in
+    let free = accepted_among script es c.self.inside.meter c.args.word.now c.has_word.result c.len.result (search rules) (search rules) c.has_word.ensures c.if-has_word.false c.len.ensures.len (search rules) in
+    let p = err_from_is_err_and c.from_residual.result c.from_residual.ensures.1 in
+    rw (p.1, p.2) (subst (λ (k : Kept). Adds (Err OutOfMemory) (state_of k) c.args.word.now (state_of k)) c.self.view_is (adds_nothing (record { script = script; words = words_in es; count = c.self.inside.meter }) c.args.word.now free))
+
+pub invariant_of-self : goal.invariant_of-self
+invariant_of-self c = (
+  c.self.invariant.0,
+  kept_either (source_of c.self.inside.script) _ _ c.put_last.result c.self.invariant.1
+      (on_ok_weaker c.put_last.result (λ keeps. keeps (source_of c.self.inside.script) c.self.invariant.0 c.self.invariant.1) c.put_last.ensures.kept)
+      c.put_last.ensures.err,
+)
+
+pub returns : goal.returns
+returns c =
+    let es = c.self.inside.outcomes.entries in
+    let script = source_of c.self.inside.script in
+    let free = accepted_among script es c.self.inside.meter c.args.word.now c.has_word.result c.len.result (search rules) (search rules) c.has_word.ensures c.if-has_word.false c.len.ensures.len (search rules) in
+    let last = subst (λ (w : List ℕ). OnOk c.put_last.result (words_in c.put_last.new.outcomes.entries ≡ words_in es ++ w ∷ [])) c.in_ok-word.ensures.items c.put_last.ensures.words in
+    subst (λ (k : Kept). Adds c.put_last.result (state_of k) c.args.word.now (state_of (record { script = c.self.inside.script; words = words_in c.put_last.new.outcomes.entries; count = c.put_last.new.meter }))) c.self.view_is
+    (adds c.put_last.result (record { script = script; words = words_in es; count = c.self.inside.meter }) c.args.word.now (words_in c.put_last.new.outcomes.entries) c.put_last.new.meter free last
+    c.put_last.ensures.counted c.put_last.ensures.room (on_err_weaker c.put_last.result (ap words_in) c.put_last.ensures.err) c.put_last.ensures.uncounted c.put_last.ensures.stop)

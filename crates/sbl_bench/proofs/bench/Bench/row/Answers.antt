@@ -1,0 +1,23 @@
+use Rattle.std.proofs.Common.{◌∙◌, List, ℕ, Some, Option, slice_get, ap, sym}
+use Rattle.std.specs.Option.{option_map}
+use Rattle.std.proofs.lemmas.Option.{slice_get-map}
+use Rattle.sbl_script.specs.Parsed.{source_of}
+use Rattle.sbl_machine.specs.declared.outcome.Outcome.{Outcome}
+use Rattle.sbl_machine.specs.Outcome.{outcome_of}
+use Rattle.sbl_bench.specs.Kept.{Kept}
+use Rattle.sbl_bench.specs.Rows.{Row, rows_of}
+use Rattle.sbl_bench.proofs.Words.{shown, rows_shown}
+use Rattle.sbl_bench.proofs.bench.Bench.row.Goals as goal
+
+-- a word and its outcome, as a row
+abbrev row_with : List ℕ → Outcome → Option Row
+row_with w o = Some (record { word = w; outcome = outcome_of o })
+
+pub returns : goal.returns
+returns c =
+    let es = c.self.inside.outcomes.entries in
+    ap (λ (w : List ℕ). row_with w c.in_ok-word.outcome.now) c.as_slice.ensures.value
+    ∙ ap (option_map shown) c.in_ok-word.ensures.entry
+    ∙ sym (slice_get-map shown es c.args.i)
+    ∙ ap (λ (rows : List Row). slice_get rows c.args.i) (rows_shown (source_of c.self.inside.script) es c.self.invariant.1.fresh)
+    ∙ ap (λ (k : Kept). slice_get (rows_of (source_of k.script) k.words) c.args.i) c.self.view_is

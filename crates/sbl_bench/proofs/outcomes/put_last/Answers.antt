@@ -1,0 +1,30 @@
+use Rattle.std.proofs.Common.{◌≡◌, ◌∙◌, ◌++◌, [], ◌∷◌, List, ℕ, None, ap, sym, subst}
+use Rattle.std.specs.Map.{lookup}
+use Rattle.std.specs.Str.{bytes_eq}
+use Rattle.std.specs.declared.vec.Vec.{Vec}
+use Rattle.std.specs.declared.alloc.Global.{Global}
+use Rattle.sbl_machine.specs.Outcome.{run_of}
+use Rattle.sbl_bench.specs.Kept.{Entry, words_in, IsKept}
+use Rattle.sbl_bench.specs.Rows.{most_steps}
+use Rattle.indexmap.proofs.CallerLemmas.{insert_entry-new}
+use Rattle.sbl_bench.proofs.Words.{is_key, not_found, words-push, kept-push}
+use Rattle.sbl_bench.proofs.outcomes.put_last.Goals as goal
+
+-- the new word goes last
+goes_last : (c : goal.Joined-unwrap) → c.insert.new.self.entries ≡ c.args.outcomes.now.entries ++ (c.args.word, c.in_ok-ran.ran.outcome) ∷ []
+goes_last c =
+    let es = c.args.outcomes.now.entries in
+    let eq = λ (x y : Vec ℕ Global). bytes_eq x.items y.items in
+    let inserted = rw c.unwrap.ensures at c.insert.ensures.entries in
+    let none : lookup (is_key c.args.word.items) c.reserve.new.self.entries ≡ None =
+    ap (lookup (is_key c.args.word.items)) c.reserve.ensures.entries ∙ not_found c.args.word.items es c.requires.new in
+    inserted ∙ insert_entry-new eq c.reserve.new.self c.args.word c.in_ok-ran.ran.outcome none ∙ ap (λ (l : List Entry). l ++ (c.args.word, c.in_ok-ran.ran.outcome) ∷ []) c.reserve.ensures.entries
+
+pub returns-clause-words : goal.returns-clause-words
+returns-clause-words c = ap words_in (goes_last c) ∙ words-push c.args.outcomes.now.entries _
+
+pub returns-clause-kept : goal.returns-clause-kept
+returns-clause-kept c s made kept =
+    subst (IsKept s) (sym (goes_last c))
+    (kept-push s c.args.outcomes.now.entries (c.args.word, c.in_ok-ran.ran.outcome) kept c.requires.sound c.requires.room
+    (c.in_ok-ran.ensures.outcome s made ∙ ap (λ (w : List ℕ). run_of s w most_steps) c.as_slice.ensures.value))

@@ -1,0 +1,41 @@
+-- What a bench keeps: its words in their order, each with what the script made of it.
+use Rattle.std.specs.Prelude.{◌≡◌, ◌≤◌, ◌<◌, ℕ, List, [], ◌∷◌, map, length, All, ⊤}
+use Rattle.std.specs.declared.vec.Vec.{Vec}
+use Rattle.std.specs.declared.alloc.Global.{Global}
+use Rattle.sbl_script.specs.Parsed.{Parsed, source_of}
+use Rattle.sbl_script.specs.Tree.{Source}
+use Rattle.sbl_machine.specs.declared.outcome.Outcome.{Outcome}
+use Rattle.sbl_machine.specs.Outcome.{outcome_of, run_of}
+use Rattle.sbl_bench.specs.Rows.{most_steps}
+use Rattle.sbl_bench.specs.State.{State, most_characters, most_words}
+
+pub record Kept : Type 0 where
+  pub script : Parsed
+  pub words : List (List ℕ)
+  pub count : ℕ
+
+-- the bench without where it lies in memory
+abbrev pub state_of : Kept → State
+state_of k = record { script = source_of k.script; words = k.words; count = k.count }
+
+-- a word and its outcome, as they lie in memory
+abbrev pub Entry : Type 0
+Entry = Vec ℕ Global × Outcome
+
+abbrev pub words_in : List Entry → List (List ℕ)
+words_in entries = map (λ e. e.0.items) entries
+
+-- a word that a vocabulary can have
+abbrev pub IsWord : List ℕ → Type 0
+IsWord word = (0 < length word) × (length word ≤ most_characters)
+
+-- each outcome is that of a fresh run of its word
+abbrev pub AreFresh : Source → List Entry → Type 0
+AreFresh script [] = ⊤
+AreFresh script (e ∷ entries) = (outcome_of e.1 ≡ run_of script e.0.items most_steps) × AreFresh script entries
+
+-- what holds of the entries at all times
+pub record IsKept (script : Source) (entries : List Entry) : Type 0 where
+  pub fresh : AreFresh script entries
+  pub sound : All IsWord (words_in entries)
+  pub room : length entries ≤ most_words

@@ -1,0 +1,5 @@
+pub mod Vocabulary
+pub mod Rows
+pub mod State
+pub mod Kept
+pub mod Stops

@@ -1,0 +1,18 @@
+-- Why a word that is not refused is not taken all the same.
+use Rattle.std.specs.Prelude.{◌≡◌, ℕ}
+use Rattle.sbl_machine.specs.declared.fault.RunStop.{RunStop}
+use Rattle.sbl_machine.specs.declared.fault.RunStop.TheVariants as stop
+use Rattle.sbl_bench.specs.declared.fault.EditFault.{EditFault}
+use Rattle.sbl_bench.specs.declared.fault.EditFault.TheVariants as fault
+use Rattle.sbl_bench.specs.State.{most_runs}
+
+-- a run that was not made, as an edit answers it
+abbrev pub fault_of_stop : RunStop → EditFault
+fault_of_stop stop.OutOfMemory = fault.OutOfMemory
+fault_of_stop stop.MeterFull = fault.MeterFull
+
+-- memory was refused, or the meter is full
+abbrev pub IsStop : EditFault → ℕ → Type 0
+IsStop fault.OutOfMemory count = Unit {0}
+IsStop fault.MeterFull count = count ≡ most_runs
+IsStop f count = ⊥

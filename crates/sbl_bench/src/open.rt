@@ -1,0 +1,82 @@
+//! Opening a bench.
+
+ghost use Rattle.std.specs.Prelude.{◌≡◌, ◌≤◌, ◌<◌, ◌+◌, ◌^◌, map, length, None, OnOk, IfErr};
+ghost use Rattle.sbl_script.specs.Tree.{Source};
+ghost use Rattle.sbl_machine.specs.MachineOf.{IsPlainMachineOf};
+ghost use Rattle.sbl_bench.specs.Vocabulary as vocabulary;
+ghost use Rattle.sbl_bench.specs.Vocabulary.{with_word};
+ghost use Rattle.sbl_bench.specs.State.{word_fault, IsFaultOrMemory};
+ghost use Rattle.sbl_bench.specs.Kept.{words_in, IsKept};
+
+use crate::bench::{Bench, MOST_CHARACTERS, MOST_WORDS};
+use crate::fault::EditFault;
+use crate::outcomes::{has_word, put_last};
+use indexmap::IndexMap;
+use sbl_machine::{Machine, Meter, Outcome, PlainTable};
+use sbl_script::Script;
+use std::alloc::Global;
+
+impl Bench {
+    ghost use Rattle.sbl_bench.specs.Kept.{state_of};
+    ghost use Rattle.sbl_bench.specs.State.{Opens};
+    ghost use Rattle.sbl_script.specs.Parsed.{source_of};
+
+    /// The bench of a script and a list of words. The words are taken in order: empty words and repeats are skipped, so that a
+    /// word's first place is kept, and each word of the vocabulary is run once.
+    ///
+    /// It answers WordTooLong at a word of more than 255 characters, a repeat too, and Full at a new word behind 100,000
+    /// others, whichever is met first, and OutOfMemory where a growth is refused. Then there is no bench. (Our own choice.)
+    pub fn open(alloc: Global, script: Script, words: Vec<Vec<char>>) -> Result<Bench, EditFault>
+        ensures { Opens (source_of script) (map (λ w. w.items) words.items) (λ b. state_of b) result }
+    {
+        let machine = Machine::new(alloc, &script)?;
+        let mut meter = Meter::new();
+        let mut outcomes = IndexMap::new(alloc);
+        for word in words {
+            take_word(alloc, &machine, &mut meter, &mut outcomes, word)?;
+        }
+        Ok(Bench {
+            alloc,
+            script,
+            machine,
+            outcomes,
+            meter,
+        })
+    }
+}
+
+/// Whether the word is empty or one of those that are kept. Takes no memory.
+fn is_skipped(outcomes: &IndexMap<Vec<char>, Outcome>, word: &[char]) -> bool
+    ensures { result ≡ vocabulary.is_skipped word.now (words_in outcomes.now.entries) }
+{
+    word.is_empty() || has_word(outcomes, word)
+}
+
+/// Takes one word of the list that a bench is opened over: skips it, or runs it and puts it last. It answers WordTooLong, Full
+/// or OutOfMemory as `Bench::open` does.
+fn take_word(
+    alloc: Global,
+    machine: &Machine<PlainTable>,
+    meter: &mut Meter,
+    outcomes: &mut IndexMap<Vec<char>, Outcome>,
+    word: Vec<char>,
+) -> Result<(), EditFault>
+    requires counted { meter.old ≡ length outcomes.old.entries }
+    requires room { length outcomes.old.entries ≤ 100000 }
+    ensures words { OnOk result (words_in outcomes.new.entries ≡ with_word (words_in outcomes.old.entries) word.items) }
+    ensures kept { OnOk result ((s : Source) → IsPlainMachineOf machine.now s → IsKept s outcomes.old.entries → IsKept s outcomes.new.entries) }
+    ensures counted { OnOk result (meter.new ≡ length outcomes.new.entries) }
+    ensures ok { OnOk result (word_fault (words_in outcomes.old.entries) word.items ≡ None) }
+    ensures fault { IfErr result (λ f. IsFaultOrMemory (word_fault (words_in outcomes.old.entries) word.items) f) }
+{
+    if word.len() > MOST_CHARACTERS {
+        return Err(EditFault::WordTooLong);
+    }
+    if is_skipped(outcomes, word.as_slice()) {
+        return Ok(());
+    }
+    if outcomes.len() >= MOST_WORDS {
+        return Err(EditFault::Full);
+    }
+    put_last(alloc, machine, meter, outcomes, word)
+}

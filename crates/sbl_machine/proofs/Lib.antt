@@ -1,0 +1,16 @@
+pub mod Exact
+pub mod Fits
+pub mod SoFar
+pub mod Mirror
+pub mod Next
+pub mod Taken
+pub mod Nothing
+pub mod Nodes
+pub mod Groups
+pub mod Views
+pub mod Pairs
+pub mod Same
+pub mod Choice
+pub mod AmongSame
+pub mod Listed
+pub mod MachineSame

@@ -1,0 +1,12 @@
+pub mod Fitting
+pub mod Listed
+pub mod Best
+pub mod Laws
+pub mod Strings
+pub mod Standing
+pub mod Run
+pub mod Program
+pub mod Outcome
+pub mod MachineOf
+pub mod Names
+pub mod Numbered

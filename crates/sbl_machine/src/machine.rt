@@ -1,0 +1,109 @@
+//! The machine.
+
+ghost use Rattle.std.specs.Prelude.{◌≡◌, ◌≤◌, ◌+◌, length, IfOk, MatchResult, Some, ◌↔◌, Err};
+ghost use Rattle.sbl_script.specs.Tree.{Source, body_of};
+ghost use Rattle.sbl_script.specs.View.{view_command};
+ghost use Rattle.sbl_script.specs.Parsed.{source_of};
+ghost use Rattle.sbl_machine.specs.Standing.{Ending};
+ghost use Rattle.sbl_machine.specs.Program.{Follows};
+ghost use Rattle.sbl_machine.specs.Outcome.{outcome_at, outcome_of, run_of, used_at, used_of};
+ghost use Rattle.sbl_machine.specs.MachineOf.{IsMachineOf};
+
+use crate::fault::{RunFault, RunStop};
+use crate::halt::Halt;
+use crate::meter::Meter;
+use crate::node::Node;
+use crate::numbered::node_of;
+use crate::outcome::{Outcome, Ran};
+use crate::run::run_command;
+use crate::search::AmongSearch;
+use crate::state::State;
+use crate::table::{TableList, tables_of};
+use sbl_script::{Command, Mode, Script};
+use std::alloc::{AllocError, Global};
+
+/// A script, ready to run.
+#[derive(Drop)]
+pub struct Machine<S> {
+    tables: TableList<S>,
+    body: Node,
+}
+
+impl<S: AmongSearch> Machine<S> {
+    /// The machine of a script. AllocError where a growth was refused.
+    pub fn new(alloc: Global, script: &Script) -> Result<Machine<S>, AllocError>
+        ensures { IfOk result (λ m. IsMachineOf S S.entries S.mode m (source_of script.now)) }
+    {
+        Machine::of(alloc, script.body())
+    }
+
+    /// The machine of a body.
+    pub(crate) fn of(alloc: Global, command: &Command) -> Result<Machine<S>, AllocError>
+        ensures { IfOk result (λ m. (script : Source) → body_of script ≡ Some (view_command command.now) → IsMachineOf S S.entries S.mode m script) }
+    {
+        let mut lists = Vec::new(alloc);
+        let body = node_of(alloc, command, &mut lists)?;
+        let tables = tables_of(alloc, &lists)?;
+        Ok(Machine {
+            tables: TableList { tables },
+            body,
+        })
+    }
+
+    /// Runs the script over a word with so many steps. `MeterFull` where the meter counts no further,
+    /// `OutOfMemory` where a growth was refused; the meter is then as before, else it is raised by one.
+    pub fn run(
+        &self,
+        alloc: Global,
+        meter: &mut Meter,
+        word: &[char],
+        limit: u32,
+    ) -> Result<Ran, RunStop>
+        requires { length word.now ≤ 255 }
+        ensures outcome { (script : Source) → IsMachineOf S S.entries S.mode self.now script → IfOk result (λ ran. outcome_of ran.outcome ≡ run_of script word.now limit) }
+        ensures used { (script : Source) → IsMachineOf S S.entries S.mode self.now script → IfOk result (λ ran. ran.used ≡ used_of script word.now limit) }
+        ensures counted { MatchResult result (λ _. meter.new ≡ meter.old + 1) (λ _. meter.new ≡ meter.old) }
+        ensures full { (result ≡ Err RunStop.MeterFull) ↔ (meter.old ≡ u64.MAX) }
+    {
+        if meter.is_full() {
+            return Err(RunStop::MeterFull);
+        }
+        let ran = self.ran(alloc, word, limit)?;
+        meter.raise();
+        Ok(ran)
+    }
+
+    /// The run itself.
+    fn ran(&self, alloc: Global, word: &[char], limit: u32) -> Result<Ran, AllocError>
+        requires { length word.now ≤ 255 }
+        ensures outcome { (script : Source) → IsMachineOf S S.entries S.mode self.now script → IfOk result (λ ran. outcome_of ran.outcome ≡ run_of script word.now limit) }
+        ensures used { (script : Source) → IsMachineOf S S.entries S.mode self.now script → IfOk result (λ ran. ran.used ≡ used_of script word.now limit) }
+    {
+        let mut state = State::start(alloc, word, limit)?;
+        let end = run_command(&self.tables, Mode::Forward, &self.body, &mut state);
+        ended(end, limit, state)
+    }
+}
+
+/// What a run gave that ended so. AllocError where it was for want of memory.
+fn ended(end: Result<bool, Halt>, limit: u32, state: State) -> Result<Ran, AllocError>
+    ensures outcome { (e : Ending) → Follows end state e → IfOk result (λ ran. outcome_of ran.outcome ≡ outcome_at e) }
+    ensures used { (e : Ending) → Follows end state e → IfOk result (λ ran. ran.used ≡ used_at limit e) }
+{
+    let paid = u64::from(limit.saturating_sub(state.steps()));
+    match end {
+        Err(Halt::OutOfMemory) => Err(AllocError),
+        Err(Halt::Refused(fault)) => Ok(Ran {
+            outcome: Outcome::Refused(fault),
+            used: if fault == RunFault::Steps {
+                u64::from(limit) + 1
+            } else {
+                paid
+            },
+        }),
+        Ok(_) => Ok(Ran {
+            outcome: Outcome::Stem(state.into_text()),
+            used: paid,
+        }),
+    }
+}

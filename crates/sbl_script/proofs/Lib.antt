@@ -1,0 +1,9 @@
+pub mod Left
+pub mod Starts
+pub mod Views
+pub mod Pushes
+pub mod Turns
+pub mod Meetings
+pub mod Sound
+pub mod Declared
+pub mod Unique

@@ -1,0 +1,11 @@
+pub mod Tree
+pub mod View
+pub mod Parsed
+pub mod Written
+pub mod Depth
+pub mod Next
+pub mod Reads
+pub mod Checks
+pub mod Met
+pub mod Reading
+pub mod Laws

@@ -1,0 +1,6 @@
+use Rattle.std.specs.Str.{chars}
+use Rattle.sbl_text.proofs.Whole.{given}
+use Rattle.sbl_text.proofs.pieces.piece.Goals as goal
+
+pub returns-clause-value : goal.returns-clause-value
+returns-clause-value c = given c.args.inserts (chars c.args.text.now) (λ r. chars r.now) c.cut.result c.cut.ensures.value

@@ -1,0 +1,39 @@
+-- A token without its place.
+use Rattle.std.specs.Prelude.{ℕ, List, []}
+use Rattle.sbl_text.specs.declared.signs.Sign.{Sign}
+use Rattle.sbl_text.specs.declared.words.Word.{Word}
+use Rattle.sbl_text.specs.declared.token.Kind.{Kind}
+use Rattle.sbl_text.specs.declared.token.Kind.TheVariants as kind
+use Rattle.sbl_text.specs.declared.token.Value.{Value}
+use Rattle.sbl_text.specs.declared.token.Value.TheVariants as value
+use Rattle.sbl_text.specs.declared.token.Token.{Token}
+
+-- a name by the bytes of its text, a number by its value, a literal by the bytes of its spelling and its characters
+pub data Lexeme : Type 0 where
+  word : Word → Lexeme
+  sign : Sign → Lexeme
+  name : List ℕ → Lexeme
+  number : ℕ → Lexeme
+  literal : List ℕ → List ℕ → Lexeme
+
+abbrev pub number_in : Value → ℕ
+number_in (value.Number n) = n
+number_in _ = 0
+
+abbrev pub spelling_in : Value → List ℕ
+spelling_in (value.Literal spelling characters) = spelling.now
+spelling_in _ = []
+
+abbrev pub characters_in : Value → List ℕ
+characters_in (value.Literal spelling characters) = characters.items
+characters_in _ = []
+
+abbrev pub lexeme_by : Kind → List ℕ → Value → Lexeme
+lexeme_by (kind.Word w) text v = word w
+lexeme_by (kind.Sign s) text v = sign s
+lexeme_by kind.Name text v = name text
+lexeme_by kind.Number text v = number (number_in v)
+lexeme_by kind.Literal text v = literal (spelling_in v) (characters_in v)
+
+abbrev pub lexeme_of : Token → Lexeme
+lexeme_of t = lexeme_by t.kind t.text.now t.value

@@ -1,0 +1,56 @@
+-- How a piece is found: by its first character, and then to its end.
+use Rattle.std.specs.Prelude.{ℕ, Bool, true, false, not, ◌&&◌, ◌==◌, if◌then◌else◌, List, [], ◌∷◌, drop, Option, Some, None, option_map}
+use Rattle.sbl_text.specs.declared.pieces.Shape.{Shape}
+use Rattle.sbl_text.specs.declared.pieces.Shape.TheVariants as shape
+use Rattle.sbl_text.specs.declared.pieces.Start.{Start}
+use Rattle.sbl_text.specs.declared.pieces.Start.TheVariants as start
+use Rattle.sbl_text.specs.declared.pieces.Inserts.{Inserts}
+use Rattle.sbl_text.specs.Classes.{is_white, is_letter, is_digit, is_word, past}
+use Rattle.sbl_text.specs.Signs.{sign_front}
+use Rattle.sbl_text.specs.Pieces.{opens, closes, starts_slash}
+
+abbrev pub start_of : ℕ → Start
+start_of c =
+    if is_white c then start.White else (if is_letter c then start.Letter else (if is_digit c then start.Digit
+    else (if c == 39 then start.Quote else (if c == 47 then start.Slash else start.Other))))
+
+-- what is left after the quote that ends the literal
+abbrev pub past_literal : Option Inserts → Bool → List ℕ → Option (List ℕ)
+past_literal e inside [] = None
+past_literal e true (c ∷ cs) = past_literal e (not (closes e c)) cs
+past_literal e false (c ∷ cs) =
+    if c == 39 then Some cs else (if c == 10 then None else past_literal e (opens e c) cs)
+
+-- what is left after the `*/`
+abbrev pub past_block : List ℕ → Option (List ℕ)
+past_block [] = None
+past_block (c ∷ cs) = if c == 42 && starts_slash cs then Some (drop 1 cs) else past_block cs
+
+-- a shape, and what is left after it
+abbrev pub Cut : Type 0
+Cut = Option (Shape × List ℕ)
+
+abbrev pub cut_as : Shape → Option (List ℕ) → Cut
+cut_as k rest = option_map (λ r. (k, r)) rest
+
+abbrev pub sign_cut : List ℕ → Cut
+sign_cut text = option_map (λ p. (shape.Sign, p.1)) (sign_front text)
+
+-- a text that begins with a slash, and what follows the slash
+abbrev pub slash_cut : List ℕ → List ℕ → Cut
+slash_cut text [] = sign_cut text
+slash_cut text (c ∷ cs) =
+    if c == 47 then Some (shape.LineComment, past (λ d. not (d == 10)) cs)
+    else (if c == 42 then cut_as shape.BlockComment (past_block cs) else sign_cut text)
+
+abbrev pub cut_at : Option Inserts → Start → ℕ → List ℕ → Cut
+cut_at e start.White c cs = Some (shape.Blank, cs)
+cut_at e start.Letter c cs = Some (shape.Word, past is_word cs)
+cut_at e start.Digit c cs = Some (shape.Number, past is_digit cs)
+cut_at e start.Quote c cs = cut_as shape.Literal (past_literal e false cs)
+cut_at e start.Slash c cs = slash_cut (c ∷ cs) cs
+cut_at e start.Other c cs = sign_cut (c ∷ cs)
+
+unfoldable pub cut : Option Inserts → List ℕ → Cut
+cut e [] = None
+cut e (c ∷ cs) = cut_at e (start_of c) c cs

@@ -1,0 +1,46 @@
+//! The classes of characters.
+
+ghost use Rattle.std.specs.Prelude.{◌≡◌, ◌≤◌, length};
+ghost use Rattle.std.specs.Str.{chars};
+ghost use Rattle.sbl_text.specs.Classes as spec;
+
+use crate::front::split_first;
+
+/// What characters are skipped.
+#[derive(Clone, Copy, Debug)]
+pub enum Class {
+    White,
+    Letter,
+    Word,
+    Digit,
+    Line,
+}
+
+pub fn is_in(class: Class, c: char) -> bool
+    ensures { result ≡ spec.is_in class c }
+{
+    match class {
+        Class::White => ('\t' <= c && c <= '\r') || (c == ' ' || c == '\u{feff}'),
+        Class::Letter => ('A' <= c && c <= 'Z') || ('a' <= c && c <= 'z'),
+        Class::Word => {
+            (('A' <= c && c <= 'Z') || ('a' <= c && c <= 'z'))
+                || (('0' <= c && c <= '9') || c == '_')
+        }
+        Class::Digit => '0' <= c && c <= '9',
+        Class::Line => c != '\n',
+    }
+}
+
+/// What is left after the characters of the class.
+pub fn past(class: Class, mut text: &str) -> &str
+    ensures value { chars result.now ≡ spec.past (spec.is_in class) (chars text.entry.now) }
+    ensures within { length result.now ≤ length text.entry.now }
+{
+    while let Some((c, rest)) = split_first(text) {
+        if !is_in(class, c) {
+            return text;
+        }
+        text = rest;
+    }
+    text
+}

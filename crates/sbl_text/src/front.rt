@@ -1,0 +1,45 @@
+//! The first character of a text, and the front of a text.
+
+ghost use Rattle.std.specs.Prelude.{◌≡◌, ◌<◌, ◌∷◌, ◌++◌, [], List, ℕ, length, encode_utf8_all, MatchOption};
+ghost use Rattle.std.specs.Str.{chars};
+
+/// The first character, and the text after it.
+pub fn split_first(text: &str) -> Option<(char, &str)>
+    ensures parts { MatchOption result (chars text.now ≡ []) (λ p. chars text.now ≡ p.0 ∷ chars p.1.now) }
+    ensures shorter { MatchOption result (length text.now ≡ 0) (λ p. length p.1.now < length text.now) }
+{
+    let mut chars = text.chars();
+    match chars.next() {
+        Some(c) => Some((c, chars.as_str())),
+        None => None,
+    }
+}
+
+/// The front of a text, up to a text that ends it.
+pub fn front_before<'a>(text: &'a str, rest: &str) -> &'a str
+    requires { (x : List ℕ) × (chars text.now ≡ x ++ chars rest.now) }
+    ensures characters { (x : List ℕ) → chars text.now ≡ x ++ chars rest.now → chars result.now ≡ x }
+    ensures bytes { (x : List ℕ) → chars text.now ≡ x ++ chars rest.now → result.now ≡ encode_utf8_all x }
+{
+    &text[..text.len() - rest.len()]
+}
+
+/// The byte place in a text where a text that ends it begins.
+pub fn place_of(source: &str, rest: &str) -> usize
+    requires { (x : List ℕ) × (chars source.now ≡ x ++ chars rest.now) }
+    ensures { (x : List ℕ) → chars source.now ≡ x ++ chars rest.now → result ≡ length (encode_utf8_all x) }
+{
+    source.len() - rest.len()
+}
+
+/// What stands between the quotes of a literal.
+pub fn between_quotes(text: &str) -> &str
+    requires { (x : List ℕ) × (chars text.now ≡ 39 ∷ (x ++ 39 ∷ [])) }
+    ensures characters { (x : List ℕ) → chars text.now ≡ 39 ∷ (x ++ 39 ∷ []) → chars result.now ≡ x }
+    ensures bytes { (x : List ℕ) → chars text.now ≡ 39 ∷ (x ++ 39 ∷ []) → result.now ≡ encode_utf8_all x }
+{
+    match split_first(text) {
+        Some((_, tail)) => front_before(tail, "'"),
+        None => text,
+    }
+}

@@ -1,0 +1,26 @@
+//! What is shown of the tokens of a text.
+
+ghost use Rattle.sbl_text.specs.Laws.{FirstFaultIsOne, PlacesAreOne, SameFaultAgain, SignsAreRead, TokensAreOne, TokensOrFault, WordsAreRead};
+
+/// A text has one list of tokens, and they have one list of places.
+pub fn tokens_are_one()
+    ensures tokens { TokensAreOne }
+    ensures places { PlacesAreOne }
+{}
+
+/// A text has one first fault, and then it has no list of tokens.
+pub fn first_fault_is_one()
+    ensures fault { FirstFaultIsOne }
+    ensures either { TokensOrFault }
+{}
+
+/// After a fault a lexer answers the same fault again.
+pub fn same_fault_again()
+    ensures { SameFaultAgain }
+{}
+
+/// Each word and each sign is read from how it is written.
+pub fn words_and_signs_are_read()
+    ensures words { WordsAreRead }
+    ensures signs { SignsAreRead }
+{}

@@ -1,0 +1,196 @@
+//! The piece at the front of a text.
+
+ghost use Rattle.std.specs.Prelude.{◌≡◌, ◌≤◌, ◌<◌, length, MatchOption, IfSome, Some, None, Bool, true, false, ◌∷◌, [], List, ℕ};
+ghost use Rattle.std.specs.Str.{chars};
+ghost use Rattle.sbl_text.specs.Pieces as pieces;
+ghost use Rattle.sbl_text.specs.Scan as spec;
+
+use crate::classes::{Class, is_in, past};
+use crate::front::split_first;
+use crate::signs::sign_front;
+
+/// The characters between which a name is inserted into a literal.
+#[derive(Clone, Copy, Debug)]
+pub struct Inserts {
+    pub open: char,
+    pub close: char,
+}
+
+/// What is cut from a text.
+#[derive(Clone, Copy, Debug, PartialEq, Eq)]
+pub enum Shape {
+    Blank,
+    LineComment,
+    BlockComment,
+    Word,
+    Number,
+    Sign,
+    Literal,
+}
+
+/// How a character can begin a piece.
+#[derive(Clone, Copy, Debug)]
+pub enum Start {
+    White,
+    Letter,
+    Digit,
+    Quote,
+    Slash,
+    Other,
+}
+
+fn start_of(c: char) -> Start
+    ensures { result ≡ spec.start_of c }
+{
+    if is_in(Class::White, c) {
+        Start::White
+    } else if is_in(Class::Letter, c) {
+        Start::Letter
+    } else if is_in(Class::Digit, c) {
+        Start::Digit
+    } else if c == '\'' {
+        Start::Quote
+    } else if c == '/' {
+        Start::Slash
+    } else {
+        Start::Other
+    }
+}
+
+fn opens(inserts: Option<Inserts>, c: char) -> bool
+    ensures { result ≡ pieces.opens inserts c }
+{
+    match inserts {
+        None => false,
+        Some(pair) => c == pair.open,
+    }
+}
+
+fn closes(inserts: Option<Inserts>, c: char) -> bool
+    ensures { result ≡ pieces.closes inserts c }
+{
+    match inserts {
+        None => false,
+        Some(pair) => c == pair.close,
+    }
+}
+
+fn past_literal(inserts: Option<Inserts>, mut text: &str) -> Option<&str>
+    ensures value { MatchOption result (spec.past_literal inserts false (chars text.entry.now) ≡ None) (λ r. spec.past_literal inserts false (chars text.entry.now) ≡ Some (chars r.now)) }
+    ensures within { IfSome result (λ r. length r.now < length text.entry.now) }
+{
+    let mut inside = false;
+    while let Some((c, rest)) = split_first(text) {
+        if inside {
+            inside = !closes(inserts, c);
+        } else if c == '\'' {
+            return Some(rest);
+        } else if c == '\n' {
+            return None;
+        } else {
+            inside = opens(inserts, c);
+        }
+        text = rest;
+    }
+    None
+}
+
+fn starts_slash(text: &str) -> bool
+    ensures { result ≡ pieces.starts_slash (chars text.now) }
+{
+    match split_first(text) {
+        Some((c, _)) => c == '/',
+        None => false,
+    }
+}
+
+fn past_block(mut text: &str) -> Option<&str>
+    ensures value { MatchOption result (spec.past_block (chars text.entry.now) ≡ None) (λ r. spec.past_block (chars text.entry.now) ≡ Some (chars r.now)) }
+    ensures within { IfSome result (λ r. length r.now < length text.entry.now) }
+{
+    while let Some((c, rest)) = split_first(text) {
+        if c == '*' {
+            if let Some(('/', behind)) = split_first(rest) {
+                return Some(behind);
+            }
+        }
+        text = rest;
+    }
+    None
+}
+
+fn sign(text: &str) -> Option<(Shape, &str)>
+    ensures value { MatchOption result (spec.sign_cut (chars text.now) ≡ None) (λ p. spec.sign_cut (chars text.now) ≡ Some (p.0, chars p.1.now)) }
+    ensures within { IfSome result (λ p. length p.1.now < length text.now) }
+{
+    match sign_front(text) {
+        Some((_, rest)) => Some((Shape::Sign, rest)),
+        None => None,
+    }
+}
+
+fn slash<'a>(text: &'a str, rest: &'a str) -> Option<(Shape, &'a str)>
+    requires { length rest.now < length text.now }
+    ensures value { MatchOption result (spec.slash_cut (chars text.now) (chars rest.now) ≡ None) (λ p. spec.slash_cut (chars text.now) (chars rest.now) ≡ Some (p.0, chars p.1.now)) }
+    ensures within { IfSome result (λ p. length p.1.now < length text.now) }
+{
+    match split_first(rest) {
+        Some(('/', behind)) => Some((Shape::LineComment, past(Class::Line, behind))),
+        Some(('*', behind)) => match past_block(behind) {
+            Some(end) => Some((Shape::BlockComment, end)),
+            None => None,
+        },
+        _ => sign(text),
+    }
+}
+
+/// What is cut from the front, and what is left.
+#[tactic(auto, unfolding(crate::specs::Scan::cut))]
+pub fn cut(inserts: Option<Inserts>, text: &str) -> Option<(Shape, &str)>
+    ensures value { MatchOption result (spec.cut inserts (chars text.now) ≡ None) (λ p. spec.cut inserts (chars text.now) ≡ Some (p.0, chars p.1.now)) }
+    ensures within { IfSome result (λ p. length p.1.now < length text.now) }
+{
+    let (c, rest) = split_first(text)?;
+    match start_of(c) {
+        Start::White => Some((Shape::Blank, rest)),
+        Start::Letter => Some((Shape::Word, past(Class::Word, rest))),
+        Start::Digit => Some((Shape::Number, past(Class::Digit, rest))),
+        Start::Quote => match past_literal(inserts, rest) {
+            Some(end) => Some((Shape::Literal, end)),
+            None => None,
+        },
+        Start::Slash => slash(text, rest),
+        Start::Other => sign(text),
+    }
+}
+
+/// The longest piece at the front, and what is left.
+pub fn piece(inserts: Option<Inserts>, text: &str) -> Option<(Shape, &str)>
+    ensures value { MatchOption result (pieces.NoPiece inserts (chars text.now)) (λ p. pieces.Piece_at inserts p.0 (chars text.now) (chars p.1.now)) }
+    ensures within { IfSome result (λ p. length p.1.now < length text.now) }
+{
+    cut(inserts, text)
+}
+
+fn is_gap(shape: Shape) -> bool
+    ensures { result ≡ pieces.is_gap shape }
+{
+    match shape {
+        Shape::Blank | Shape::LineComment | Shape::BlockComment => true,
+        _ => false,
+    }
+}
+
+/// The text after white space and comments, and the token that is cut there.
+pub fn past_gaps(inserts: Option<Inserts>, mut text: &str) -> (&str, Option<(Shape, &str)>)
+    ensures gaps { pieces.AfterGaps inserts (chars text.entry.now) (chars result.0.now) }
+    ensures next { MatchOption result.1 (pieces.NoPiece inserts (chars result.0.now)) (λ p. pieces.is_gap p.0 ≡ false × pieces.Piece_at inserts p.0 (chars result.0.now) (chars p.1.now)) }
+{
+    while let Some((shape, rest)) = piece(inserts, text) {
+        if !is_gap(shape) {
+            return (text, Some((shape, rest)));
+        }
+        text = rest;
+    }
+    (text, None)
+}

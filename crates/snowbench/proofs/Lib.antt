@@ -1,0 +1,4 @@
+pub mod Bytes
+pub mod EditFacts
+pub mod LoadFacts
+pub mod SessionFacts

@@ -1,0 +1,11 @@
+use Rattle.std.proofs.Common.{◌≡◌, ◌≤◌}
+use Rattle.std.specs.Io.KnownBytes.{Keeps}
+use Rattle.snowbench.specs.Held.{line_of, input_of}
+use Rattle.snowbench.proofs.lines.Lines.fill.Given as goal
+
+abbrev pub invariant-loop : goal.invariant-loop
+invariant-loop g l = (l.self.at ≡ l.self.end) × Keeps (input_of g.R.Source.left l.fn.self) (g.R.Source.left l.self.reader)
+    × (line_of l.self ≡ line_of l.fn.self) × (g.R.Source.failures l.self.reader ≡ g.R.Source.failures l.fn.self.reader)
+    × (l.counter ≤ g.R.Source.interruptions l.self.reader)
+    × (l.self.fault ≡ l.fn.self.fault)
+    × (l.self.reads_left ≤ l.fn.self.reads_left)

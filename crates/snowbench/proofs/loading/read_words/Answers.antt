@@ -1,0 +1,44 @@
+use Rattle.std.proofs.Common.{ap, ◌≡◌, ◌≢◌, ◌∙◌, ◌≤◌, ◌++◌, [], ◌∷◌, arith, rules, inl, inr, length, map, sym, subst, refl, List, ℕ, true, false, None}
+use Rattle.std.specs.Str.{chars, is_utf8}
+use Rattle.std.specs.declared.vec.Vec.{Vec}
+use Rattle.std.specs.declared.alloc.Global.{Global}
+use Rattle.std.specs.Result.{is_ok}
+use Rattle.snowbench.specs.Block.{point}
+use Rattle.snowbench.specs.Held.{input_of, line_of, GivesLine}
+use Rattle.snowbench.proofs.LoadFacts.{all_text-push, no_point-push, took-kept, took-more, words-push}
+use Rattle.snowbench.proofs.loading.read_words.Goals as goal
+
+pub returns-then-eq-clause-reads : goal.returns-then-eq-clause-reads
+returns-then-eq-clause-reads g c = λ _.
+    let left = g.R.Source.left in
+    let so = c.loop-words.invariant in
+    let line : line_of c.next_line.new.self ≡ point = search rules in
+    let gives : GivesLine (input_of left c.loop-words.lines) (input_of left c.next_line.new.self) point =
+    subst (λ (x : List ℕ). GivesLine (input_of left c.loop-words.lines) (input_of left c.next_line.new.self) x) line (c.in_ok-next_line.ensures.more c.if-branch.true) in
+    (so.0, (so.1, so.2, inl (took-more _ (input_of left c.loop-words.lines) _ so.0 point so.3 gives)), so.4)
+
+pub loop-words-preserved : goal.loop-words-preserved
+loop-words-preserved g c =
+    let left = g.R.Source.left in
+    let so = c.loop-words.invariant in
+    let line = line_of c.next_line.new.self in
+    let other : line ≢ point = search rules in
+    let same : c.line-in-loop-words.result.now ≡ line = c.line-in-loop-words.ensures in
+    let text : is_utf8 line ≡ true = subst (λ (x : List ℕ). is_utf8 x ≡ true) same c.in_ok-word.ensures.text.0 in
+    let words : map (λ w. w.items) c.push.new.self.items ≡ map chars (so.0 ++ line ∷ []) =
+    ap (λ (ws : List (Vec ℕ Global)). map (λ w. w.items) ws) c.in_ok-push.ensures.items
+    ∙ words-push c.loop-words.words.items so.0 c.in_ok-word.word line so.4 (c.in_ok-word.ensures.text.1 ∙ ap chars same) in (
+      so.0 ++ line ∷ [],
+      no_point-push so.0 line so.1 other,
+      all_text-push so.0 line so.2 text,
+      took-more _ (input_of left c.loop-words.lines) _ so.0 line so.3 (c.in_ok-next_line.ensures.more c.if-branch.true),
+      words,
+      c.in_ok-next_line.ensures.ready.1 ∙ sym c.in_ok-next_line.ensures.ready.0 ∙ so.5,
+      omega (arith, so.6, c.next_line.ensures.later),
+    )
+
+pub returns-clause-reads : goal.returns-clause-reads
+returns-clause-reads g c = λ _.
+    let so = c.loop-words.invariant in
+    let end = c.in_ok-next_line.ensures.end c.if-branch.false in
+    (so.0, (so.1, so.2, inr (took-kept _ (input_of g.R.Source.left c.loop-words.lines) _ so.0 so.3 end.2, end.1)), so.4)

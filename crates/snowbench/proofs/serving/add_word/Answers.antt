@@ -1,0 +1,15 @@
+use Rattle.std.proofs.Common.{◌≡◌, ◌∙◌, List, ℕ, subst, sym, take}
+use Rattle.std.specs.Str.{chars}
+use Rattle.sbl_bench.specs.Kept.{state_of}
+use Rattle.sbl_bench.specs.State.{Adds}
+use Rattle.snowbench.proofs.EditFacts.{answered, by_first}
+use Rattle.snowbench.proofs.serving.add_word.Goals as goal
+
+pub returns : goal.returns
+returns c =
+    let s = state_of c.args.bench.now in
+    let t = state_of c.add.new.self in
+    let word = chars c.args.word.now in
+    let adds : Adds c.add.result s (take 256 word) t = subst (λ (w : List ℕ). Adds c.add.result s w t) c.first_characters-count.ensures.first c.add.ensures in
+    let whole = answered c.add.result s t word (by_first c.add.result s t word adds) in
+    (whole.0, c.edit_text.ensures ∙ whole.1, whole.2)

@@ -1,0 +1,55 @@
+use Rattle.std.proofs.Common.{◌≡◌, ◌∙◌, ◌≤◌, arith, rules, length, sym, subst, refl, List, ℕ, true, false, None}
+use Rattle.std.specs.Io.KnownBytes.{Appends}
+use Rattle.sbl_bench.specs.Kept.{state_of}
+use Rattle.snowbench.specs.Answers.{reply_of}
+use Rattle.snowbench.specs.Held.{input_of, line_of, GivesLine}
+use Rattle.snowbench.specs.Session.{SoFar}
+use Rattle.snowbench.proofs.SessionFacts.{session_starts, session_goes_on, session_ends}
+use Rattle.snowbench.proofs.serving.serve.Goals as goal
+
+pub loop-lines-init : goal.loop-lines-init
+loop-lines-init g c = record { session = session_starts _ _ _; fault = refl; read = omega arith; written = omega arith }
+
+pub loop-lines-preserved-in_ok-write_reply : goal.loop-lines-preserved-in_ok-write_reply
+loop-lines-preserved-in_ok-write_reply g c = record {
+  session =
+      let left = g.R.Source.left in
+      let held = g.W.Sink.held in
+      let line = c.line.result.now in
+      let taken = line_of c.next_line.new.self in
+      let is : taken ≡ line = sym c.line.ensures in
+      let gives : GivesLine (input_of left c.loop-lines.lines) (input_of left c.next_line.new.self) line =
+      subst (λ (x : List ℕ). GivesLine (input_of left c.loop-lines.lines) (input_of left c.next_line.new.self) x) is (c.in_ok-next_line.ensures.more c.if-branch.true) in
+      let fits : length line ≤ 65536 = subst (λ (x : List ℕ). length x ≤ 65536) is (c.in_ok-next_line.ensures.fits c.if-branch.true) in
+      let writes : Appends (held c.loop-lines.writer) (held c.write_reply.new.writer) (reply_of (state_of c.loop-lines.bench) line c.answer-reply.ensures.0) =
+      c.in_ok-write_reply.ensures.all _ c.answer-reply.ensures.1 in
+      session_goes_on _ (input_of left c.loop-lines.lines) _ _ (held c.loop-lines.writer) _ _ (state_of c.loop-lines.bench) _ line c.answer-reply.ensures.0
+      c.loop-lines.invariant.session gives fits writes c.answer-reply.ensures.2;
+  fault = c.in_ok-next_line.ensures.ready.1 ∙ sym c.in_ok-next_line.ensures.ready.0 ∙ c.loop-lines.invariant.fault;
+  read = omega (arith, c.next_line.ensures.later);
+  written = omega (arith, c.write_reply.ensures.later);
+}
+
+pub loop-lines-preserved : goal.loop-lines-preserved
+loop-lines-preserved g c = record {
+  session =
+      let left = g.R.Source.left in
+      let held = g.W.Sink.held in
+      let line = c.line.result.now in
+      let taken = line_of c.next_line.new.self in
+      let is : taken ≡ line = sym c.line.ensures in
+      let gives : GivesLine (input_of left c.loop-lines.lines) (input_of left c.next_line.new.self) line =
+      subst (λ (x : List ℕ). GivesLine (input_of left c.loop-lines.lines) (input_of left c.next_line.new.self) x) is (c.in_ok-next_line.ensures.more c.if-branch.true) in
+      let fits : length line ≤ 65536 = subst (λ (x : List ℕ). length x ≤ 65536) is (c.in_ok-next_line.ensures.fits c.if-branch.true) in
+      let writes : Appends (held c.loop-lines.writer) (held c.write_reply.new.writer) (reply_of (state_of c.loop-lines.bench) line c.answer-reply.ensures.0) =
+      c.in_ok-write_reply.ensures.all _ c.answer-reply.ensures.1 in
+      session_goes_on _ (input_of left c.loop-lines.lines) _ _ (held c.loop-lines.writer) _ _ (state_of c.loop-lines.bench) _ line c.answer-reply.ensures.0
+      c.loop-lines.invariant.session gives fits writes c.answer-reply.ensures.2;
+  fault = c.in_ok-next_line.ensures.ready.1 ∙ sym c.in_ok-next_line.ensures.ready.0 ∙ c.loop-lines.invariant.fault;
+  read = omega (arith, c.next_line.ensures.later);
+  written = omega (arith, c.write_reply.ensures.later);
+}
+
+pub returns-clause-session : goal.returns-clause-session
+returns-clause-session g c = λ _.
+    session_ends _ (input_of g.R.Source.left c.loop-lines.lines) _ _ _ _ c.loop-lines.invariant.session (c.in_ok-next_line.ensures.end c.if-branch.false).0

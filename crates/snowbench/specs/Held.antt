@@ -1,0 +1,61 @@
+-- What a `Lines` has yet to give: what it holds, and then what its reader has left.
+use Rattle.std.specs.Prelude.{◌≡◌, ◌≢◌, ◌⊎◌, ◌<◌, ◌≤◌, ◌++◌, ℕ, List, [], ◌∷◌, Option, Some, None, ⊤, slice_range, length, ◌+◌, ◌*◌, ◌-◌}
+use Rattle.std.specs.Io.KnownBytes.{Consumes, IsAtEnd, prepend_known}
+use Rattle.snowbench.specs.LinesOf.{lines_of}
+use Rattle.snowbench.specs.declared.lines.Lines.{Lines}
+use Rattle.snowbench.specs.declared.lines.LineEnd.{LineEnd}
+use Rattle.snowbench.specs.declared.lines.LineEnd.TheVariants.{Feed, Input, Beyond}
+use Rattle.snowbench.specs.declared.faults.LineFault.{LineFault}
+
+module _ {R : Type 0} where
+  -- the bytes read and not yet taken
+  abbrev pub held_of : Lines R → List ℕ
+  held_of l = slice_range l.chunk.items l.at l.end
+
+  abbrev pub line_of : Lines R → List ℕ
+  line_of l = l.line.items
+
+  abbrev pub fault_of : Lines R → Option LineFault
+  fault_of l = l.fault
+
+  -- all that is yet to come, where the reader tells it
+  abbrev pub input_of : (R → Option (List ℕ)) → Lines R → Option (List ℕ)
+  input_of left l = prepend_known (held_of l) (left l.reader)
+
+  -- a bound on the bytes that are yet to come
+  abbrev pub fuel_of : Lines R → ℕ
+  fuel_of l = l.reads_left * 4096 + (l.end - l.at)
+
+  -- the reader has failed since, or a bound is met
+  abbrev pub HasCause : (R → ℕ) → (R → ℕ) → Lines R → Lines R → Type 0
+  HasCause failures interruptions old new = (failures old.reader < failures new.reader) ⊎ (new.reads_left ≡ 0) ⊎ (1001 ≤ interruptions new.reader)
+
+-- no byte is a line feed
+abbrev pub NoFeed : List ℕ → Type 0
+NoFeed [] = ⊤
+NoFeed (b ∷ bytes) = (b ≢ 10) × NoFeed bytes
+
+-- the line was taken, and what ended it
+abbrev pub TakesLine : Option (List ℕ) → Option (List ℕ) → List ℕ → LineEnd → Type 0
+TakesLine old new line Feed = Consumes old new (line ++ 10 ∷ [])
+TakesLine old new line Input = Consumes old new line × IsAtEnd new
+TakesLine old new line Beyond = (length line ≡ 65537) × (b : ℕ) × (b ≢ 10) × Consumes old new (line ++ b ∷ [])
+
+-- the first of the lines was taken
+abbrev pub GivesLine : Option (List ℕ) → Option (List ℕ) → List ℕ → Type 0
+GivesLine None new line = ⊤
+GivesLine (Some bytes) new line = (rest : List ℕ) × (new ≡ Some rest) × (lines_of bytes ≡ line ∷ lines_of rest)
+
+-- a line has more bytes than it may, its end not counted
+abbrev pub IsTooLong : List ℕ → Type 0
+IsTooLong line = 65536 < length line
+
+-- no line has
+abbrev pub AllFit : List (List ℕ) → Type 0
+AllFit [] = ⊤
+AllFit (line ∷ lines) = (length line ≤ 65536) × AllFit lines
+
+-- the first of the lines is too long
+abbrev pub BeginsLong : Option (List ℕ) → Type 0
+BeginsLong None = ⊤
+BeginsLong (Some bytes) = (line : List ℕ) × (rest : List (List ℕ)) × (lines_of bytes ≡ line ∷ rest) × IsTooLong line

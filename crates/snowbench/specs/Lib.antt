@@ -1,0 +1,13 @@
+pub mod Devices
+pub mod Faults
+pub mod LinesOf
+pub mod Held
+pub mod Commands
+pub mod Rows
+pub mod Answers
+pub mod Session
+pub mod CommandViews
+pub mod Edits
+pub mod RowWriter
+pub mod Block
+pub mod Loaded

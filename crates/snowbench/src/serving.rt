@@ -1,0 +1,99 @@
+//! A session: each line is answered before the next is read.
+ghost use Rattle.std.specs.Prelude.{◌≡◌, ◌≤◌, ℕ, Option, None, IfOk, OnOk, length, take};
+ghost use Rattle.std.specs.Str.{chars};
+ghost use Rattle.std.specs.Io.KnownBytes.{IsAtEnd};
+ghost use Rattle.sbl_bench.specs.Kept.{state_of};
+ghost use Rattle.snowbench.specs.Answers as spec;
+ghost use Rattle.snowbench.specs.CommandViews.{IsReply};
+ghost use Rattle.snowbench.specs.Held.{fault_of, input_of};
+ghost use Rattle.snowbench.specs.Rows as rows;
+ghost use Rattle.snowbench.specs.Session.{Ends, IsSession};
+
+use crate::commands::{Command, command_of};
+use crate::devices::{Sink, Source};
+use crate::faults::ServeFault;
+use crate::lines::Lines;
+use crate::replies::{Reply, edit_text, write_reply};
+use crate::rows::rows_text;
+use sbl_bench::Bench;
+use std::alloc::{AllocError, Global};
+
+/// How many characters of a word are looked at: one more than a word may have.
+const MOST_LOOKED_AT: usize = 256;
+
+// The first characters of a word, put into the room; answers how many.
+fn first_characters(word: &str, room: &mut [char; MOST_LOOKED_AT]) -> usize
+    ensures few { result ≤ 256 }
+    ensures first { take result room.new ≡ take 256 (chars word.now) }
+{
+    let mut count = 0;
+    for c in word.chars() {
+        if count == MOST_LOOKED_AT {
+            return count;
+        }
+        room[count] = c;
+        count += 1;
+    }
+    count
+}
+
+// Adds a word, and gives the answer. A word that is too long is so by its first characters already; so none of its memory
+// is refused before the edit itself.
+fn add_word(bench: &mut Bench, word: &str) -> &'static str
+    ensures { (refused : Option ℕ) × (result.now ≡ spec.edit_text (spec.answer_to_add (state_of bench.old) (chars word.now) refused))
+        × (state_of bench.new ≡ spec.state_after_add (state_of bench.old) (chars word.now) refused) }
+{
+    let mut room = ['\0'; MOST_LOOKED_AT];
+    let count = first_characters(word, &mut room);
+    edit_text(bench.add(&room[..count]))
+}
+
+// The report of all rows.
+fn stems_text(alloc: Global, bench: &Bench) -> Result<Vec<u8>, AllocError>
+    ensures { IfOk result (λ text. text.items ≡ rows.stems_text (state_of bench.now)) }
+{
+    let rows = bench.rows()?;
+    rows_text(alloc, &rows)
+}
+
+// Makes the edit or the report that a line asks for, and gives the answer.
+fn answer(alloc: Global, bench: &mut Bench, line: &[u8]) -> Reply
+    ensures { (refused : Option ℕ) × IsReply result (spec.reply_of (state_of bench.old) line.now refused)
+        × (state_of bench.new ≡ spec.state_after (state_of bench.old) line.now refused) }
+{
+    match command_of(line) {
+        Command::Nothing => Reply::Fixed(""),
+        Command::Add(word) => Reply::Fixed(add_word(bench, word)),
+        Command::Stems => match stems_text(alloc, bench) {
+            Ok(text) => Reply::Report(text),
+            Err(_) => Reply::Fixed("no 49 OutOfMemory\n"),
+        },
+        Command::Bad => Reply::Fixed("no 52 BadCommand\n"),
+    }
+}
+
+/// Answers each line of the input in turn, to its end. An edit is made as its line is read, and its answer written before
+/// the next line is read. `add WORD` is answered `ok`, or `no` and the refusal's number and name; `stems` by a row for each
+/// word; an empty line by nothing, and any other line `no 52 BadCommand`. Where memory is refused the answer is
+/// `no 49 OutOfMemory`.
+///
+/// # Errors
+///
+/// `Read` where the reader failed or a bound on reads or interruptions was met, `Write` where the writer failed or was
+/// interrupted more than 1,000 times in a row, `LineTooLong` at a line of more than 65,536 bytes. The lines before it are
+/// answered, and the bench keeps their edits. A fault that the lines have answered before is answered again.
+pub fn serve<R: Source + Drop, W: Sink>(
+    bench: &mut Bench,
+    lines: &mut Lines<R>,
+    writer: &mut W,
+) -> Result<(), ServeFault>
+    ensures session { fault_of lines.old ≡ None → IsSession (input_of R.left lines.old) (W.held writer.old) (W.held writer.new) (state_of bench.old) (state_of bench.new) result }
+    ensures ends { Ends R.failures R.interruptions W.failures W.interruptions lines.old lines.new writer.old writer.new result }
+    ensures whole { OnOk result (IsAtEnd (input_of R.left lines.new)) }
+{
+    while lines.next_line()? {
+        let reply = answer(lines.alloc(), bench, lines.line());
+        write_reply(writer, &reply)?;
+    }
+    Ok(())
+}

@@ -1,0 +1,187 @@
+//! Whole sessions, by what they write and how they end.
+use crate::tests::in_pieces;
+use crate::{Device, Lines, LoadFault, ServeFault, load, serve};
+use sbl_bench::EditFault;
+use sbl_script::ScriptFault;
+use std::alloc::Global;
+use std::test::Fail;
+
+/// What a session wrote, and how it ended.
+#[derive(Debug, Drop)]
+struct Ended {
+    text: Vec<u8>,
+    ending: Result<(), LoadFault>,
+}
+
+// A session of this input, whose reader fails at a read and whose writer fails at a write, both counted from 1, 0 for never.
+fn session(alloc: Global, input: &[u8], read: u64, write: u64) -> Result<Ended, Fail> {
+    let mut writer = in_pieces(Vec::new(alloc), 4, write, 0);
+    let mut lines = Lines::new(alloc, in_pieces(input, 16, read, 0))?;
+    let ending = match load(&mut lines, "stem") {
+        Ok(mut bench) => serve(&mut bench, &mut lines, &mut writer).map_err(LoadFault::Input),
+        Err(fault) => Err(fault),
+    };
+    Ok(Ended {
+        text: writer.inner,
+        ending,
+    })
+}
+
+const UN: &[u8] =
+    b"externals ( stem )\ndefine stem as ( [ among ( 'un' () 're' () ) ] delete )\n.\n";
+
+const A: &[u8] = b"externals ( stem ) define stem as ( [ 'a' ] <- 'bc' )\n.\n";
+
+// A script block and what follows it.
+fn after(alloc: Global, script: &[u8], rest: &[u8]) -> Result<Vec<u8>, Fail> {
+    let mut input = Vec::from_slice(alloc, script)?;
+    input.extend_from_slice(rest)?;
+    Ok(input)
+}
+
+#[test]
+fn sessions(rt: HostRuntime) -> Result<(), Fail> {
+    let rows: [(&[u8], &[u8], &[u8]); 8] = [
+        (
+            UN,
+            b".\nadd undo\nadd redo\nstems\n",
+            b"ok\nok\nundo,stem,do\nredo,stem,do\n",
+        ),
+        (UN, b"undo\nredo\n.\nstems", b"undo,stem,do\nredo,stem,do\n"),
+        (A, b"ad\nda\n.\nstems\n", b"ad,stem,bcd\nda,stem,da\n"),
+        (
+            UN,
+            b".\nadd\nadd undo\nadd undo\n",
+            b"no 42 EmptyWord\nok\nno 40 Present\n",
+        ),
+        (
+            UN,
+            b".\nstems\nstems \nremove x\n add x\nadd\tx\n\n\xff\nadd \xff\n",
+            b"no 52 BadCommand\nno 52 BadCommand\nno 52 BadCommand\nno 52 BadCommand\nno 52 BadCommand\nno 52 BadCommand\n",
+        ),
+        (
+            UN,
+            b"\r\nundo\r\n\nundo\n.\r\nadd  x\r\nadd x \r\nadd \"\r\nstems\r\n",
+            b"ok\nok\nok\nundo,stem,do\n x,stem, x\nx ,stem,x \n\"\"\"\",stem,\"\"\"\"\n",
+        ),
+        (
+            b"externals ( stem ) define stem as ( 'a' [ delete )\n.\n",
+            b"ab\nb\n.\nstems\n",
+            b"ab,refused,Slice\nb,stem,b\n",
+        ),
+        (
+            b"externals ( stem ) define stem as ( [ among ( 'a' () 'ab' () ) ] delete )\n.\n",
+            b"abc\n.\nstems\n",
+            b"abc,stem,c\n",
+        ),
+    ];
+    for (script, rest, text) in rows {
+        let input = after(rt.alloc(), script, rest)?;
+        let ended = session(rt.alloc(), input.as_slice(), 0, 0)?;
+        assert!(rt; ended.ending == Ok(()));
+        assert!(rt; ended.text.as_slice() == text, "{:?}", ended.text);
+    }
+    Ok(())
+}
+
+#[test]
+fn faults_of_loading(rt: HostRuntime) -> Result<(), Fail> {
+    let long = vec![in rt.alloc(); b'a'; 65_537]?;
+    let word = vec![in rt.alloc(); b'a'; 256]?;
+    let rows: [(&[u8], &[u8], LoadFault); 7] = [
+        (
+            b"externals ( stem )\n",
+            b"",
+            LoadFault::Input(ServeFault::Cut),
+        ),
+        (b"\xff\n.\n", b"", LoadFault::Script(ScriptFault::NotUtf8)),
+        (
+            b"externals ( stem )\n.\n",
+            b"\xff",
+            LoadFault::Script(ScriptFault::NoExternal),
+        ),
+        (UN, b"undo\n\xff\n", LoadFault::Input(ServeFault::NotText)),
+        (
+            UN,
+            long.as_slice(),
+            LoadFault::Input(ServeFault::LineTooLong),
+        ),
+        (
+            b"",
+            long.as_slice(),
+            LoadFault::Input(ServeFault::LineTooLong),
+        ),
+        (UN, word.as_slice(), LoadFault::Open(EditFault::WordTooLong)),
+    ];
+    for (script, rest, fault) in rows {
+        let input = after(rt.alloc(), script, rest)?;
+        let ended = session(rt.alloc(), input.as_slice(), 0, 0)?;
+        assert!(rt; ended.ending == Err(fault), "{:?}", ended.ending);
+    }
+    Ok(())
+}
+
+#[test]
+fn a_script_too_long(rt: HostRuntime) -> Result<(), Fail> {
+    let mut block = vec![in rt.alloc(); b'\n'; 1_048_577]?;
+    block.extend_from_slice(b".\n")?;
+    let mut lines = Lines::new(rt.alloc(), Device::new(block.as_slice()))?;
+    let Err(fault) = load(&mut lines, "stem") else {
+        assert!(rt; false);
+        return Ok(());
+    };
+    assert!(rt; fault == LoadFault::Script(ScriptFault::ScriptTooLong));
+    Ok(())
+}
+
+#[test]
+fn faults_of_serving(rt: HostRuntime) -> Result<(), Fail> {
+    let input = after(rt.alloc(), UN, b".\nadd undo\nadd redo\nstems\n")?;
+    // Sixteen bytes a read: the seventh gives the end of `add redo` and the front of `stems`.
+    let cut = session(rt.alloc(), input.as_slice(), 8, 0)?;
+    assert!(rt; cut.ending == Err(LoadFault::Input(ServeFault::Read)));
+    assert!(rt;
+        cut.text.as_slice() == b"ok\nok\n".as_slice(),
+        "{:?}",
+        cut.text
+    );
+    let early = session(rt.alloc(), input.as_slice(), 1, 0)?;
+    assert!(rt; early.ending == Err(LoadFault::Input(ServeFault::Read)));
+    // Four bytes a write: the fourth breaks the report off.
+    let broken = session(rt.alloc(), input.as_slice(), 0, 4)?;
+    assert!(rt; broken.ending == Err(LoadFault::Input(ServeFault::Write)));
+    assert!(rt;
+        broken.text.as_slice() == b"ok\nok\nundo".as_slice(),
+        "{:?}",
+        broken.text
+    );
+    let mut long = after(rt.alloc(), UN, b".\nadd undo\n")?;
+    let line = vec![in rt.alloc(); b'a'; 65_537]?;
+    long.extend_from_slice(line.as_slice())?;
+    let ended = session(rt.alloc(), long.as_slice(), 0, 0)?;
+    assert!(rt; ended.ending == Err(LoadFault::Input(ServeFault::LineTooLong)));
+    assert!(rt; ended.text.as_slice() == b"ok\n".as_slice());
+    Ok(())
+}
+
+#[test]
+fn faults_as_they_are_shown(rt: HostRuntime) -> Result<(), Fail> {
+    let rows = [
+        (LoadFault::Input(ServeFault::Read), "70 Read"),
+        (LoadFault::Input(ServeFault::Write), "71 Write"),
+        (LoadFault::Input(ServeFault::LineTooLong), "72 LineTooLong"),
+        (LoadFault::Input(ServeFault::Cut), "73 Cut"),
+        (LoadFault::Input(ServeFault::NotText), "75 NotText"),
+        (LoadFault::Input(ServeFault::OutOfMemory), "49 OutOfMemory"),
+        (
+            LoadFault::Script(ScriptFault::ScriptTooLong),
+            "24 ScriptTooLong",
+        ),
+        (LoadFault::Open(EditFault::Full), "44 Full"),
+    ];
+    for (fault, text) in rows {
+        let shown = format!(in rt.alloc(); "{fault}")?;
+        assert!(rt; shown.as_str() == text);
+    }
+    Ok(())
+}
