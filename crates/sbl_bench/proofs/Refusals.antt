@@ -1,6 +1,6 @@
 -- What the tests of an addition, in their order, say of its refusal, and what its last step says of its answer.
 use Rattle.std.proofs.Common.{◌≡◌, ◌≢◌, ◌∙◌, ◌<◌, ◌≤◌, ◌+◌, ◌++◌, ℕ, Bool, true, false, List, [], ◌∷◌, length, Option, Some, None, Result, Ok, Err, OnOk, OnErr, IfErr, nat_eq, refl, sym, ap, subst, arith}
-use Rattle.std.proofs.lemmas.Bool.{le-ltb, le-leb, lt-leb, eqb-true}
+use Rattle.std.proofs.lemmas.Bool.{le-ltb, lt-leb, eqb-true}
 use Rattle.std.proofs.lemmas.List.{length-map}
 use Rattle.sbl_script.specs.Tree.{Source}
 use Rattle.sbl_bench.specs.Kept.{Entry, words_in}
@@ -10,17 +10,8 @@ use Rattle.sbl_bench.specs.State.{State, MayHaveRun, Adds, most_runs, refusal_of
 use Rattle.sbl_bench.specs.Stops.{IsStop}
 use Rattle.sbl_bench.specs.Vocabulary.{is_word}
 
-pub refused_present : (s : State) (word : List ℕ) → 0 < length word → length word ≤ 255 → is_word word s.words ≡ true
-    → refusal_of_add s word ≡ Some fault.Present
-refused_present s [] h most there = absurd (omega (arith, h))
-refused_present s (c ∷ cs) h most there = rw (le-ltb 255 (length (c ∷ cs)) most, there) refl
-
-pub refused_full : (s : State) (word : List ℕ) → 0 < length word → length word ≤ 255 → is_word word s.words ≡ false → 100000 ≤ length s.words
-    → refusal_of_add s word ≡ Some fault.Full
-refused_full s [] h most new full = absurd (omega (arith, h))
-refused_full s (c ∷ cs) h most new full = rw (le-ltb 255 (length (c ∷ cs)) most, new, le-leb 100000 (length s.words) full) refl
-
-pub accepted : (s : State) (word : List ℕ) → 0 < length word → length word ≤ 255 → is_word word s.words ≡ false → length s.words < 100000
+-- behind all the tests a word is not refused
+accepted : (s : State) (word : List ℕ) → 0 < length word → length word ≤ 255 → is_word word s.words ≡ false → length s.words < 100000
     → refusal_of_add s word ≡ None
 accepted s [] h most new room = absurd (omega (arith, h))
 accepted s (c ∷ cs) h most new room = rw (le-ltb 255 (length (c ∷ cs)) most, new, lt-leb 100000 (length s.words) room) refl

@@ -30,7 +30,7 @@ pub struct Machine<S> {
 }
 
 impl<S: AmongSearch> Machine<S> {
-    /// The machine of a script. AllocError where a growth was refused.
+    /// The machine of a script, which owns what it needs of it. AllocError where a growth was refused.
     pub fn new(alloc: Global, script: &Script) -> Result<Machine<S>, AllocError>
         ensures { IfOk result (λ m. IsMachineOf S S.entries S.mode m (source_of script.now)) }
     {
@@ -50,8 +50,10 @@ impl<S: AmongSearch> Machine<S> {
         })
     }
 
-    /// Runs the script over a word with so many steps. `MeterFull` where the meter counts no further,
-    /// `OutOfMemory` where a growth was refused; the meter is then as before, else it is raised by one.
+    /// Runs the script over a word of at most 255 characters. Each command pays one of `limit` steps (our own choice);
+    /// what it then does is Snowball manual, "Strings" to "Among". A run that is refused is an answer, too.
+    /// `MeterFull` exactly where the meter counts no further, `OutOfMemory` where a growth was refused: the meter is then
+    /// as before, else it is raised by one.
     pub fn run(
         &self,
         alloc: Global,

@@ -6,7 +6,7 @@ use crate::meter::Meter;
 use crate::outcome::Outcome;
 use crate::plain::PlainTable;
 use crate::search::AmongSearch;
-use sbl_script::{Among, Command, Entry, Group, Literal, Mode};
+use sbl_script::{Among, Command, Entry, Group, Literal, Mode, Script};
 use std::alloc::{AllocError, Global};
 use std::process::Abort;
 use std::test::Fail;
@@ -201,4 +201,45 @@ fn says_faults(rt: HostRuntime) -> Result<(), Fail> {
         "50 MeterFull"
     );
     Ok(())
+}
+
+/// Reads a script, and runs it over a word.
+fn script_row(
+    rt: &impl Abort,
+    alloc: Global,
+    text: &str,
+    word: &str,
+    outcome: &Outcome,
+    used: u64,
+) -> Result<(), Fail> {
+    let script = Script::parse(alloc, text.as_bytes(), "stem")?;
+    let machine: Machine<PlainTable> = Machine::new(alloc, &script)?;
+    let mut meter = Meter::new();
+    let chars = letters(alloc, word)?;
+    assert!(rt; chars.len() <= 255);
+    let ran = machine.run(alloc, &mut meter, &chars, 100_000)?;
+    assert_eq!(rt; &ran.outcome, outcome, "{word}");
+    assert_eq!(rt; ran.used, used, "{word}");
+    Ok(())
+}
+
+#[test]
+fn runs_scripts(rt: HostRuntime) -> Result<(), Fail> {
+    let alloc = rt.alloc();
+    let replaces = "externals ( stem ) define stem as ( [ 'a' ] <- 'bc' )";
+    script_row(&rt, alloc, replaces, "ad", &stem(alloc, "bcd")?, 5)?;
+    script_row(&rt, alloc, replaces, "da", &stem(alloc, "da")?, 3)?;
+    let crossed = "externals ( stem ) define stem as ( 'a' [ delete )";
+    script_row(
+        &rt,
+        alloc,
+        crossed,
+        "ab",
+        &Outcome::Refused(RunFault::Slice),
+        4,
+    )?;
+    let prefixes = "externals ( stem ) define stem as ( [ among ( 'un' () 're' () ) ] delete )";
+    script_row(&rt, alloc, prefixes, "undo", &stem(alloc, "do")?, 7)?;
+    script_row(&rt, alloc, prefixes, "redo", &stem(alloc, "do")?, 7)?;
+    script_row(&rt, alloc, prefixes, "do", &stem(alloc, "do")?, 4)
 }

@@ -1,5 +1,5 @@
 -- The items that the checks have passed.
-use Rattle.std.proofs.Common.{◌≡◌, ℕ, ◌+◌, ◌<◌, Bool, true, false, cond, ◌||◌, List, [], ◌∷◌, ◌++◌, length, take, get_or, map, string_bytes, String, Some, IsSome, refl, sym, ap, subst, ◌∙◌, append_assoc, append-nil}
+use Rattle.std.proofs.Common.{◌≡◌, ℕ, ◌+◌, ◌<◌, Bool, true, false, cond, ◌||◌, List, [], ◌∷◌, ◌++◌, length, take, get_or, map, string_bytes, String, Option, Some, IsSome, refl, sym, ap, subst, ◌∙◌, append_assoc, append-nil}
 use Rattle.std.specs.List.{list_any, IsDistinct}
 use Rattle.std.specs.Str.{bytes_eq}
 use Rattle.std.specs.BTreeSet.{IsEmpty, contains_by}
@@ -9,9 +9,11 @@ use Rattle.std.specs.Global.{Vec}
 use Rattle.std.specs.declared.alloc.Global.{Global}
 use Rattle.std.proofs.lemmas.List.{take_more, map_push}
 use Rattle.sbl_script.specs.declared.tree.Item as code
-use Rattle.sbl_script.specs.declared.tree.Item.TheVariants.{Externals, Routine}
+use Rattle.sbl_script.specs.declared.tree.Item.TheVariants.{Externals, Routine, StringEscapes, StringDef}
 use Rattle.sbl_script.specs.declared.tree.Command.{Command}
-use Rattle.sbl_script.specs.Tree.{Tree, Item, externals, routine, body_in}
+use Rattle.sbl_script.specs.declared.tree.Base.{Base}
+use Rattle.sbl_script.specs.declared.tree.Literal.{Literal}
+use Rattle.sbl_script.specs.Tree.{Tree, Item, externals, routine, escapes, macro, body_in}
 use Rattle.sbl_script.specs.View.{view_item, view_items, view_command}
 use Rattle.sbl_script.specs.Checks.{IsIn, IsSound, EachAmong, EachAmongOfItems, DeclaredBefore, WellDeclared, declared_in, defined_in}
 use Rattle.sbl_script.specs.Met.{Met, Has, Meets, Passed}
@@ -31,21 +33,29 @@ declared_push : (is : List Item) (i : Item) → declared_in (is ++ i ∷ []) ≡
 declared_push [] i = refl
 declared_push (externals ns ∷ is) i = ap (λ (r : List (List ℕ)). ns ++ r) (declared_push is i) ∙ sym (append_assoc ns (declared_in is) (declared_in (i ∷ [])))
 declared_push (routine n t ∷ is) i = declared_push is i
+declared_push (escapes x y ∷ is) i = declared_push is i
+declared_push (macro n o q ∷ is) i = declared_push is i
 
 defined_push : (is : List Item) (i : Item) → defined_in (is ++ i ∷ []) ≡ defined_in is ++ defined_in (i ∷ [])
 defined_push [] i = refl
 defined_push (externals ns ∷ is) i = defined_push is i
 defined_push (routine n t ∷ is) i = ap (λ (r : List (List ℕ)). n ∷ r) (defined_push is i)
+defined_push (escapes x y ∷ is) i = defined_push is i
+defined_push (macro n o q ∷ is) i = defined_push is i
 
 before_push : (ns : List (List ℕ)) (is : List Item) (i : Item) → DeclaredBefore ns is → DeclaredBefore (ns ++ declared_in is) (i ∷ []) → DeclaredBefore ns (is ++ i ∷ [])
 before_push ns [] i h one = subst (λ (ms : List (List ℕ)). DeclaredBefore ms (i ∷ [])) (append-nil ns) one
 before_push ns (externals more ∷ is) i h one = before_push (ns ++ more) is i h (subst (λ (ms : List (List ℕ)). DeclaredBefore ms (i ∷ [])) (sym (append_assoc ns more (declared_in is))) one)
 before_push ns (routine n t ∷ is) i h one = (h.0, before_push ns is i h.1 one)
+before_push ns (escapes x y ∷ is) i h one = before_push ns is i h one
+before_push ns (macro n o q ∷ is) i h one = before_push ns is i h one
 
 amongs_push : (is : List Item) (i : Item) → EachAmongOfItems IsSound is → EachAmongOfItems IsSound (i ∷ []) → EachAmongOfItems IsSound (is ++ i ∷ [])
 amongs_push [] i h one = one
 amongs_push (externals ns ∷ is) i h one = amongs_push is i h one
 amongs_push (routine n t ∷ is) i h one = (h.0, amongs_push is i h.1 one)
+amongs_push (escapes x y ∷ is) i h one = amongs_push is i h one
+amongs_push (macro n o q ∷ is) i h one = amongs_push is i h one
 
 -- texts that are the same
 has_same : (m : Met) (xs ys : List (List ℕ)) → xs ≡ ys → Has m xs → Has m ys
@@ -85,6 +95,23 @@ passed_routine a b b2 is n t h declared met sound =
       amongs = amongs_push is i h.amongs (sound, tt);
     }
 
+-- an item that declares, defines and holds nothing
+abbrev IsIdle : Item → Type 0
+IsIdle i = (declared_in (i ∷ []) ≡ []) × ((defined_in (i ∷ []) ≡ []) × (((ns : List (List ℕ)) → DeclaredBefore ns (i ∷ [])) × EachAmongOfItems IsSound (i ∷ [])))
+
+passed_idle : (a b : Met) (is : List Item) (i : Item) → IsIdle i → Passed a b is → Passed a b (is ++ i ∷ [])
+passed_idle a b is i idle h =
+    let declared : declared_in is ≡ declared_in (is ++ i ∷ []) = sym (declared_push is i ∙ ap (λ (r : List (List ℕ)). declared_in is ++ r) idle.0 ∙ append-nil (declared_in is)) in
+    let defined : defined_in is ≡ defined_in (is ++ i ∷ []) = sym (defined_push is i ∙ ap (λ (r : List (List ℕ)). defined_in is ++ r) idle.1.0 ∙ append-nil (defined_in is)) in
+    record {
+      has_declared = has_same a (declared_in is) (declared_in (is ++ i ∷ [])) declared h.has_declared;
+      declared_differ = differ_same (declared_in is) (declared_in (is ++ i ∷ [])) declared h.declared_differ;
+      has_defined = has_same b (defined_in is) (defined_in (is ++ i ∷ [])) defined h.has_defined;
+      defined_differ = differ_same (defined_in is) (defined_in (is ++ i ∷ [])) defined h.defined_differ;
+      declared_before = before_push [] is i h.declared_before (idle.1.1.0 (declared_in is));
+      amongs = amongs_push is i h.amongs idle.1.1.1;
+    }
+
 -- one turn over items
 pub items_next : (xs : List code.Item) (i : ℕ) (x : code.Item) → i < length xs → x ≡ get_or xs i x → view_items (take i xs) ++ view_item x ∷ [] ≡ view_items (take (i + 1) xs)
 items_next xs i x lt is =
@@ -105,10 +132,27 @@ turn_routine a a3 b b2 b3 xs i x n text c is_a is_b lt at is name h declared met
     ap (λ (m : List ℕ). view_items (take i xs) ++ routine m (view_command c) ∷ []) name ∙ ap (λ (y : code.Item). view_items (take i xs) ++ view_item y ∷ []) (sym is) ∙ items_next xs i x lt at in
     rw (is_a, is_b) (subst (λ (is : List Item). Passed a b2 is) more (passed_routine a b b2 (view_items (take i xs)) text (view_command c) h declared met sound))
 
+turn_idle : (a a3 b b3 : Met) (xs : List code.Item) (i : ℕ) (x : code.Item) → IsIdle (view_item x) → a3 ≡ a → b3 ≡ b → i < length xs → x ≡ get_or xs i x
+    → Passed a b (view_items (take i xs)) → Passed a3 b3 (view_items (take (i + 1) xs))
+turn_idle a a3 b b3 xs i x idle is_a is_b lt at h =
+    rw (is_a, is_b) (subst (λ (is : List Item). Passed a b is) (items_next xs i x lt at) (passed_idle a b (view_items (take i xs)) (view_item x) idle h))
+
+pub turn_escapes : (a a3 b b3 : Met) (xs : List code.Item) (i : ℕ) (x : code.Item) (m n : ℕ) → a3 ≡ a → b3 ≡ b → i < length xs → x ≡ get_or xs i x → x ≡ StringEscapes m n
+    → Passed a b (view_items (take i xs)) → Passed a3 b3 (view_items (take (i + 1) xs))
+turn_escapes a a3 b b3 xs i x m n is_a is_b lt at is h =
+    turn_idle a a3 b b3 xs i x (subst (λ (y : code.Item). IsIdle (view_item y)) (sym is) (refl, (refl, (λ ns. tt, tt)))) is_a is_b lt at h
+
+pub turn_macro : (a a3 b b3 : Met) (xs : List code.Item) (i : ℕ) (x : code.Item) (n : String Global) (o : Option Base) (l : Literal) → a3 ≡ a → b3 ≡ b → i < length xs → x ≡ get_or xs i x → x ≡ StringDef n o l
+    → Passed a b (view_items (take i xs)) → Passed a3 b3 (view_items (take (i + 1) xs))
+turn_macro a a3 b b3 xs i x n o l is_a is_b lt at is h =
+    turn_idle a a3 b b3 xs i x (subst (λ (y : code.Item). IsIdle (view_item y)) (sym is) (refl, (refl, (λ ns. tt, tt)))) is_a is_b lt at h
+
 -- a name that is defined has a body
 pub body_found : (name : List ℕ) (is : List Item) → list_any (bytes_eq name) (defined_in is) ≡ true → IsSome (body_in name is)
 body_found name [] e = absurd cc
 body_found name (externals ns ∷ is) e = body_found name is e
+body_found name (escapes x y ∷ is) e = body_found name is e
+body_found name (macro n o q ∷ is) e = body_found name is e
 body_found name (routine n t ∷ is) e = go (bytes_eq name n) e (λ more. body_found name is more) where
   go : (b : Bool) → (b || list_any (bytes_eq name) (defined_in is)) ≡ true → (list_any (bytes_eq name) (defined_in is) ≡ true → IsSome (body_in name is)) → IsSome (cond b (Some t) (body_in name is))
   go true e next = refl

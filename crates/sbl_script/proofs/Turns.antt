@@ -1,5 +1,5 @@
 -- One turn of each loop of the reader, and each of its exits.
-use Rattle.std.proofs.Common.{◌≡◌, ℕ, ◌+◌, ◌<◌, ◌≤◌, List, [], ◌∷◌, ◌++◌, drop, length, map, string_bytes, String, refl, sym, ap, subst, ◌∙◌, arith}
+use Rattle.std.proofs.Common.{◌≡◌, ℕ, ◌+◌, ◌<◌, ◌≤◌, List, [], ◌∷◌, ◌++◌, drop, length, map, string_bytes, String, Option, Some, None, refl, sym, ap, subst, ◌∙◌, arith}
 use Rattle.std.specs.List.{insert}
 use Rattle.std.specs.Global.{Vec}
 use Rattle.std.specs.declared.alloc.Global.{Global}
@@ -21,10 +21,11 @@ use Rattle.sbl_script.specs.declared.tree.Item as items
 use Rattle.sbl_script.specs.declared.tree.Item.TheVariants.{Externals, Routine}
 use Rattle.sbl_script.specs.declared.reading.GroupRead.{GroupRead}
 use Rattle.sbl_script.specs.declared.reading.GroupRead.TheVariants.{WithCommands, Bare}
-use Rattle.sbl_script.specs.Tree.{Item, externals, routine, no_trees, tree, bare, group, Quoted, Tree, Trees, Groups, sequence, left_bracket, right_bracket, delete, replace, match, among}
+use Rattle.sbl_script.specs.declared.tree.Base.{Base}
+use Rattle.sbl_script.specs.Tree.{Item, externals, routine, escapes, macro, no_trees, tree, bare, group, Quoted, Tree, Trees, Groups, sequence, left_bracket, right_bracket, delete, replace, match, among}
 use Rattle.sbl_script.specs.View.{GroupView, view_literal, view_entry, view_command, view_among, view_group, view_item, view_items, trees_of, groups_of}
 use Rattle.sbl_script.specs.Next.{next_of}
-use Rattle.sbl_script.specs.Written.{quoted, spelled, spelled_trees, spelled_groups, spelled_strings, spelled_names, spelled_item, spelled_items}
+use Rattle.sbl_script.specs.Written.{quoted, spelled, spelled_trees, spelled_groups, spelled_strings, spelled_names, spelled_base, spelled_item, spelled_items}
 use Rattle.sbl_script.specs.Depth.{Placed, AreShallow, max_depth, placed, placed_trees, placed_groups, placed_strings, placed_item, placed_items}
 use Rattle.sbl_script.specs.Reads.{Reads, spelled_commands, placed_commands, spelled_among, placed_among, spelled_group, placed_group, spelled_all, placed_all, spelled_read, placed_read}
 use Rattle.sbl_script.proofs.Starts.{starts_so}
@@ -234,6 +235,11 @@ item_length (externals ns) rest = omega (arith, names_length ns (sign signs.Clos
   names_length [] rest = omega arith
   names_length (n ∷ ns) rest = omega (arith, names_length ns rest)
 item_length (routine n t) rest = omega (arith, tree_length t rest)
+item_length (escapes a b) rest = omega arith
+item_length (macro n b q) rest = omega (arith, base_length b (quoted q ∷ rest)) where
+  base_length : (b : Option Base) (rest : List Lexeme) → length rest ≤ length (spelled_base b rest)
+  base_length None rest = omega arith
+  base_length (Some b) rest = omega arith
 
 pub item_shorter : (rest after : List Lexeme) (i : items.Item) → Reads rest (spelled_item (view_item i)) (placed_item (view_item i)) after → length after < length rest
 item_shorter rest after i h = omega (arith, ap length h.0, item_length (view_item i) after)

@@ -1,11 +1,12 @@
 -- Two trees with the same tokens are one.
-use Rattle.std.proofs.Common.{◌≡◌, ℕ, Bool, true, false, List, [], ◌∷◌, refl, sym, ap, ◌∙◌}
+use Rattle.std.proofs.Common.{◌≡◌, ℕ, List, [], ◌∷◌, Option, Some, None, refl, sym, ap, ◌∙◌}
 use Rattle.sbl_text.specs.declared.signs.Sign.{Sign}
 use Rattle.sbl_text.specs.declared.signs.Sign.TheVariants as signs
-use Rattle.sbl_text.specs.declared.words.Word.TheVariants as words
-use Rattle.sbl_text.specs.Lexemes.{Lexeme, word, sign, name, literal}
-use Rattle.sbl_script.specs.Tree.{Quoted, Tree, Trees, Groups, Item, sequence, left_bracket, right_bracket, delete, replace, match, among, no_trees, tree, bare, group, externals, routine}
-use Rattle.sbl_script.specs.Written.{quoted, spelled, spelled_trees, spelled_groups, spelled_strings, spelled_names, spelled_item, spelled_items, written}
+use Rattle.sbl_text.specs.Lexemes.{Lexeme, sign}
+use Rattle.sbl_script.specs.declared.tree.Base.{Base}
+use Rattle.sbl_script.specs.declared.tree.Base.TheVariants as bases
+use Rattle.sbl_script.specs.Tree.{Quoted, Tree, Trees, Groups, Item, sequence, left_bracket, right_bracket, delete, replace, match, among, no_trees, tree, bare, group, externals, routine, escapes, macro}
+use Rattle.sbl_script.specs.Written.{quoted, spelled, spelled_trees, spelled_groups, spelled_strings, spelled_names, spelled_base, spelled_item, written}
 
 same_quoted : (p q : Quoted) → quoted p ≡ quoted q → p ≡ q
 same_quoted p q e =
@@ -85,18 +86,39 @@ mutual
       let same_inside = inside.0 in
       (cc, more.1)
 
+-- a base or none, and then a literal
+same_base : (o r : Option Base) (p q : Quoted) (a b : List Lexeme) → spelled_base o (quoted p ∷ a) ≡ spelled_base r (quoted q ∷ b) → (o ≡ r) × ((p ≡ q) × (a ≡ b))
+same_base None None p q a b e = (refl, (same_quoted p q cc, cc))
+same_base (Some bases.Hex) (Some bases.Hex) p q a b e = (refl, (same_quoted p q cc, cc))
+same_base (Some bases.Decimal) (Some bases.Decimal) p q a b e = (refl, (same_quoted p q cc, cc))
+same_base None (Some bases.Hex) p q a b e = absurd cc
+same_base None (Some bases.Decimal) p q a b e = absurd cc
+same_base (Some bases.Hex) None p q a b e = absurd cc
+same_base (Some bases.Decimal) None p q a b e = absurd cc
+same_base (Some bases.Hex) (Some bases.Decimal) p q a b e = absurd cc
+same_base (Some bases.Decimal) (Some bases.Hex) p q a b e = absurd cc
+
 same_item : (i j : Item) (a b : List Lexeme) → spelled_item i a ≡ spelled_item j b → (i ≡ j) × (a ≡ b)
 same_item (externals ns) (externals ms) a b e = let m = same_names ns ms a b cc in (ap (λ (r : List (List ℕ)). externals r) m.0, m.1)
-same_item (externals ns) (routine n t) a b e = absurd cc
-same_item (routine n t) (externals ns) a b e = absurd cc
+same_item (externals ns) _ a b e = absurd cc
 same_item (routine n t) (routine m u) a b e =
     let heads : n ≡ m = cc in
     let body = same_tree t u a b cc in
     (cc, body.1)
+same_item (routine n t) _ a b e = absurd cc
+same_item (escapes x y) (escapes z w) a b e = (cc, cc)
+same_item (escapes x y) _ a b e = absurd cc
+same_item (macro n o p) (macro m r q) a b e =
+    let heads : n ≡ m = cc in
+    let more = same_base o r p q a b cc in
+    (cc, more.1.1)
+same_item (macro n o p) _ a b e = absurd cc
 
 no_item : (i : Item) (a : List Lexeme) → spelled_item i a ≡ [] → ⊥
 no_item (externals ns) a e = cc
 no_item (routine n t) a e = cc
+no_item (escapes x y) a e = cc
+no_item (macro n o p) a e = cc
 
 pub one_tree : (is js : List Item) → written is ≡ written js → is ≡ js
 one_tree [] [] e = refl

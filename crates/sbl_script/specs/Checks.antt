@@ -2,19 +2,23 @@
 use Rattle.std.specs.Prelude.{ℕ, ◌<◌, List, [], ◌∷◌, ◌++◌, length, map, IsSome, IsTrue}
 use Rattle.std.specs.List.{list_any, IsDistinct}
 use Rattle.std.specs.Str.{bytes_eq}
-use Rattle.sbl_script.specs.Tree.{Tree, Trees, Groups, Item, Source, sequence, among, no_trees, tree, bare, group, externals, routine, body_of, strings_of}
+use Rattle.sbl_script.specs.Tree.{Tree, Trees, Groups, Item, Source, sequence, among, no_trees, tree, bare, group, externals, routine, escapes, macro, body_of, strings_of}
 
--- the names that some items declare, in text order
+-- the names that some items declare, in text order; a macro's name is none of them
 abbrev pub declared_in : List Item → List (List ℕ)
 declared_in [] = []
 declared_in (externals names ∷ items) = names ++ declared_in items
 declared_in (routine name body ∷ items) = declared_in items
+declared_in (escapes a b ∷ items) = declared_in items
+declared_in (macro name base value ∷ items) = declared_in items
 
 -- the names that some items define, in text order
 abbrev pub defined_in : List Item → List (List ℕ)
 defined_in [] = []
 defined_in (externals names ∷ items) = defined_in items
 defined_in (routine name body ∷ items) = name ∷ defined_in items
+defined_in (escapes a b ∷ items) = defined_in items
+defined_in (macro name base value ∷ items) = defined_in items
 
 -- one of the names is this
 abbrev pub IsIn : List ℕ → List (List ℕ) → Type 0
@@ -29,6 +33,8 @@ abbrev pub DeclaredBefore : List (List ℕ) → List Item → Type 0
 DeclaredBefore names [] = Unit {0}
 DeclaredBefore names (externals more ∷ items) = DeclaredBefore (names ++ more) items
 DeclaredBefore names (routine name body ∷ items) = IsIn name names × DeclaredBefore names items
+DeclaredBefore names (escapes a b ∷ items) = DeclaredBefore names items
+DeclaredBefore names (macro name base value ∷ items) = DeclaredBefore names items
 
 -- 12 DefinedTwice: no name is defined twice
 abbrev pub DefinedOnce : List Item → Type 0
@@ -67,6 +73,8 @@ abbrev pub EachAmongOfItems : (Groups → Type 0) → List Item → Type 0
 EachAmongOfItems P [] = Unit {0}
 EachAmongOfItems P (externals names ∷ items) = EachAmongOfItems P items
 EachAmongOfItems P (routine name body ∷ items) = EachAmong P body × EachAmongOfItems P items
+EachAmongOfItems P (escapes a b ∷ items) = EachAmongOfItems P items
+EachAmongOfItems P (macro name base value ∷ items) = EachAmongOfItems P items
 
 -- 21 NoExternal: the external that is run is declared and defined
 pub record HasExternal (s : Source) : Type 0 where

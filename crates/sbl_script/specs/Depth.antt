@@ -1,11 +1,12 @@
 -- How deep each token of a tree stands.
-use Rattle.std.specs.Prelude.{ℕ, ◌+◌, ◌≤◌, List, [], ◌∷◌}
+use Rattle.std.specs.Prelude.{ℕ, ◌+◌, ◌≤◌, List, [], ◌∷◌, Option, Some, None}
 use Rattle.std.specs.List.{AllByRecursion}
 use Rattle.sbl_text.specs.declared.signs.Sign.TheVariants as sign_of
 use Rattle.sbl_text.specs.declared.words.Word.TheVariants as word_of
-use Rattle.sbl_text.specs.Lexemes.{Lexeme, word, sign, name}
-use Rattle.sbl_script.specs.Tree.{Quoted, Tree, Trees, Groups, Item, sequence, left_bracket, right_bracket, delete, replace, match, among, no_trees, tree, bare, group, externals, routine}
-use Rattle.sbl_script.specs.Written.{quoted}
+use Rattle.sbl_text.specs.Lexemes.{Lexeme, word, sign, name, inserts, macro_name}
+use Rattle.sbl_script.specs.declared.tree.Base.{Base}
+use Rattle.sbl_script.specs.Tree.{Quoted, Tree, Trees, Groups, Item, sequence, left_bracket, right_bracket, delete, replace, match, among, no_trees, tree, bare, group, externals, routine, escapes, macro}
+use Rattle.sbl_script.specs.Written.{quoted, base_word}
 
 -- a token with the depth at which it stands
 abbrev pub Placed : Type 0
@@ -40,9 +41,15 @@ abbrev pub placed_names : List (List ℕ) → List Placed → List Placed
 placed_names [] rest = rest
 placed_names (n ∷ ns) rest = (name n, 0) ∷ placed_names ns rest
 
+abbrev pub placed_base : Option Base → List Placed → List Placed
+placed_base None rest = rest
+placed_base (Some b) rest = (base_word b, 0) ∷ rest
+
 abbrev pub placed_item : Item → List Placed → List Placed
 placed_item (externals ns) rest = (word word_of.Externals, 0) ∷ (sign sign_of.Open, 0) ∷ placed_names ns ((sign sign_of.Close, 0) ∷ rest)
 placed_item (routine n body) rest = (word word_of.Define, 0) ∷ (name n, 0) ∷ (word word_of.As, 0) ∷ placed body 1 rest
+placed_item (escapes a b) rest = (word word_of.StringEscapes, 0) ∷ (inserts a b, 0) ∷ rest
+placed_item (macro n b q) rest = (word word_of.StringDef, 0) ∷ (macro_name n, 0) ∷ placed_base b ((quoted q, 0) ∷ rest)
 
 abbrev pub placed_items : List Item → List Placed → List Placed
 placed_items [] rest = rest

@@ -5,7 +5,7 @@ use Rattle.sbl_text.specs.declared.signs.Sign.TheVariants as sign_of
 use Rattle.sbl_text.specs.declared.words.Word.{Word}
 use Rattle.sbl_text.specs.declared.words.Word.TheVariants as word_of
 use Rattle.sbl_text.specs.declared.token.Token.{Token}
-use Rattle.sbl_text.specs.Lexemes.{Lexeme, word, sign, name, number, literal, lexeme_of}
+use Rattle.sbl_text.specs.Lexemes.{Lexeme, word, sign, name, number, literal, inserts, macro_name, lexeme_of}
 use Rattle.sbl_script.specs.declared.cursor.Next.{Next}
 use Rattle.sbl_script.specs.declared.cursor.Next.TheVariants as next
 use Rattle.sbl_script.specs.Tree.{Quoted}
@@ -23,6 +23,10 @@ next_of_word word_of.As = next.As
 next_of_word word_of.Define = next.Define
 next_of_word word_of.Delete = next.Delete
 next_of_word word_of.Externals = next.Externals
+next_of_word word_of.StringEscapes = next.StringEscapes
+next_of_word word_of.StringDef = next.StringDef
+next_of_word word_of.Hex = next.Hex
+next_of_word word_of.Decimal = next.Decimal
 next_of_word _ = next.Other
 
 abbrev pub next_of_sign : Sign → Next
@@ -40,11 +44,23 @@ next_of (sign s ∷ ls) = next_of_sign s
 next_of (name n ∷ ls) = next.Name
 next_of (number n ∷ ls) = next.Other
 next_of (literal spelling value ∷ ls) = next.Literal
+next_of (inserts a b ∷ ls) = next.Inserts
+next_of (macro_name n ∷ ls) = next.MacroName
 
 -- the name that comes next
 abbrev pub name_in : List Lexeme → List ℕ
 name_in (name n ∷ ls) = n
 name_in _ = []
+
+-- the insert characters that come next
+abbrev pub inserts_in : List Lexeme → ℕ × ℕ
+inserts_in (inserts a b ∷ ls) = (a, b)
+inserts_in _ = (0, 0)
+
+-- the name of a macro that comes next
+abbrev pub macro_in : List Lexeme → List ℕ
+macro_in (macro_name n ∷ ls) = n
+macro_in _ = []
 
 -- the literal that comes next
 abbrev pub literal_in : List Lexeme → Quoted

@@ -1,6 +1,7 @@
 -- The trees of the grammar.
 use Rattle.std.specs.Prelude.{ℕ, List, [], ◌∷◌, ◌++◌, Option, Some, None, if◌then◌else◌}
 use Rattle.std.specs.Str.{bytes_eq}
+use Rattle.sbl_script.specs.declared.tree.Base.{Base}
 
 -- a literal: its spelling, as UTF-8 bytes, and the characters that it stands for
 pub record Quoted : Type 0 where
@@ -24,9 +25,12 @@ mutual
     bare : List Quoted → Groups
     group : Quoted → List Quoted → Trees → Groups → Groups
 
+-- declared names; a name and its body; the two insert characters; a macro's name, the base of its codes, and its literal
 pub data Item : Type 0 where
   externals : List (List ℕ) → Item
   routine : List ℕ → Tree → Item
+  escapes : ℕ → ℕ → Item
+  macro : List ℕ → Option Base → Quoted → Item
 
 -- the items of a script in text order, and the name of the external that is run; names are UTF-8 bytes
 pub record Source : Type 0 where
@@ -37,6 +41,8 @@ pub record Source : Type 0 where
 abbrev pub body_in : List ℕ → List Item → Option Tree
 body_in name [] = None
 body_in name (externals names ∷ items) = body_in name items
+body_in name (escapes a b ∷ items) = body_in name items
+body_in name (macro n base value ∷ items) = body_in name items
 body_in name (routine n body ∷ items) = if bytes_eq name n then Some body else body_in name items
 
 -- the body of the external that is run

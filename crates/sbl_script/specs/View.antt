@@ -60,6 +60,8 @@ view_group = fold-Group Tree Groups GroupView command_step among_step group_step
 abbrev pub view_item : Item → trees.Item
 view_item (items.Externals names) = trees.externals (map string_bytes names.items)
 view_item (items.Routine name body) = trees.routine (string_bytes name) (view_command body)
+view_item (items.StringEscapes a b) = trees.escapes a b
+view_item (items.StringDef name base value) = trees.macro (string_bytes name) base (view_literal value)
 
 abbrev pub view_items : List Item → List trees.Item
 view_items is = map view_item is

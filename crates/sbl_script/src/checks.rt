@@ -186,6 +186,8 @@ pub fn check(alloc: Global, items: &[Item], external: &str) -> Result<(), Script
                 check_defined(&declared, &mut defined, name.as_str(), number)?;
                 check_command(alloc, body, number)?;
             }
+            Item::StringEscapes { .. } => {}
+            Item::StringDef { .. } => {}
         }
     }
     if declared.contains(external) && defined.contains(external) {

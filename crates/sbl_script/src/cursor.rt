@@ -22,6 +22,14 @@ pub enum Next {
     Delete,
     /// `among`
     Among,
+    /// `stringescapes`
+    StringEscapes,
+    /// `stringdef`
+    StringDef,
+    /// `hex`
+    Hex,
+    /// `decimal`
+    Decimal,
     /// `(`
     Open,
     /// `)`
@@ -36,6 +44,10 @@ pub enum Next {
     Literal,
     /// A name.
     Name,
+    /// Two insert characters.
+    Inserts,
+    /// The name of a macro.
+    MacroName,
     /// A token that stands nowhere in the grammar.
     Other,
     /// No token is left.
@@ -51,6 +63,10 @@ fn next_word(word: Word) -> Next
         Word::Define => Next::Define,
         Word::Delete => Next::Delete,
         Word::Externals => Next::Externals,
+        Word::StringEscapes => Next::StringEscapes,
+        Word::StringDef => Next::StringDef,
+        Word::Hex => Next::Hex,
+        Word::Decimal => Next::Decimal,
         _ => Next::Other,
     }
 }
@@ -91,6 +107,8 @@ fn peek_first(tokens: &[Token]) -> Next
         Kind::Name => Next::Name,
         Kind::Number => Next::Other,
         Kind::Literal => Next::Literal,
+        Kind::Inserts => Next::Inserts,
+        Kind::MacroName => Next::MacroName,
     }
 }
 
@@ -127,6 +145,47 @@ pub fn name(alloc: Global, tokens: &[Token], at: usize) -> Result<String, AllocE
     ensures { IfOk result (λ s. string_bytes s ≡ spec.name_in (spec.left tokens.now at)) }
 {
     first_name(alloc, rest_of(tokens, at))
+}
+
+fn first_macro(alloc: Global, tokens: &[Token]) -> Result<String, AllocError>
+    ensures { IfOk result (λ s. string_bytes s ≡ spec.macro_in (lexemes_of tokens.now)) }
+{
+    let Some(token) = tokens.first() else {
+        return Ok(String::new(alloc));
+    };
+    match token.kind {
+        Kind::MacroName => String::from_str(alloc, token.text),
+        _ => Ok(String::new(alloc)),
+    }
+}
+
+/// The name of a macro that comes next; no text where none does.
+pub fn macro_name(alloc: Global, tokens: &[Token], at: usize) -> Result<String, AllocError>
+    ensures { IfOk result (λ s. string_bytes s ≡ spec.macro_in (spec.left tokens.now at)) }
+{
+    first_macro(alloc, rest_of(tokens, at))
+}
+
+fn first_inserts(tokens: &[Token]) -> (char, char)
+    ensures { result ≡ spec.inserts_in (lexemes_of tokens.now) }
+{
+    let Some(token) = tokens.first() else {
+        return ('\0', '\0');
+    };
+    match token.kind {
+        Kind::Inserts => match &token.value {
+            Value::Inserts(open, close) => (*open, *close),
+            _ => ('\0', '\0'),
+        },
+        _ => ('\0', '\0'),
+    }
+}
+
+/// The insert characters that come next; NUL where none do.
+pub fn inserts(tokens: &[Token], at: usize) -> (char, char)
+    ensures { result ≡ spec.inserts_in (spec.left tokens.now at) }
+{
+    first_inserts(rest_of(tokens, at))
 }
 
 /// A literal of these parts.

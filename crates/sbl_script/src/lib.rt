@@ -11,4 +11,4 @@ pub mod tree;
 
 pub use sbl_text::ScriptFault;
 pub use script::Script;
-pub use tree::{Among, Command, Entry, Group, Item, Literal, Mode};
+pub use tree::{Among, Base, Command, Entry, Group, Item, Literal, Mode};

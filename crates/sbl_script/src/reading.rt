@@ -6,14 +6,14 @@ ghost use Rattle.sbl_text.specs.declared.signs.Sign.TheVariants as signs;
 ghost use Rattle.sbl_text.specs.declared.words.Word.TheVariants as words;
 ghost use Rattle.sbl_script.specs.Next as spec;
 ghost use Rattle.sbl_script.specs.Next.{left, lexemes_of};
-ghost use Rattle.sbl_script.specs.Written.{quoted, written, spelled, spelled_strings, spelled_names, spelled_item};
+ghost use Rattle.sbl_script.specs.Written.{quoted, written, spelled, spelled_strings, spelled_names, spelled_base, spelled_item};
 ghost use Rattle.sbl_script.specs.Depth.{placed, placed_item, HasNoneTooDeep};
 ghost use Rattle.sbl_script.specs.Reads.{Reads, spelled_commands, placed_commands, spelled_among, placed_among, spelled_read, placed_read};
 ghost use Rattle.sbl_script.specs.View.{view_literal, view_entry, view_command, view_item, view_items};
 
-use crate::cursor::{Next, behind, literal, name, peek};
+use crate::cursor::{Next, behind, inserts, literal, macro_name, name, peek};
 use crate::error::{Fault, ReadError};
-use crate::tree::{Among, Command, Entry, Group, Item, Literal};
+use crate::tree::{Among, Base, Command, Entry, Group, Item, Literal};
 use sbl_text::Token;
 use std::alloc::Global;
 
@@ -310,6 +310,53 @@ fn keyword_as(tokens: &[Token], at: usize) -> Result<usize, ReadError>
     }
 }
 
+/// Two insert characters.
+#[tactic(auto, using(crate::proofs::Starts::starts_so))]
+fn insert_characters(tokens: &[Token], at: usize) -> Result<((char, char), usize), ReadError>
+    ensures { IfOk result (λ x. left tokens.now at ≡ lexeme.inserts x.0.0 x.0.1 ∷ left tokens.now x.1) }
+{
+    match peek(tokens, at) {
+        Next::Inserts => Ok((inserts(tokens, at), behind(tokens, at))),
+        _ => Err(syntax(at)),
+    }
+}
+
+/// The name of a macro.
+#[tactic(auto, using(crate::proofs::Starts::starts_so))]
+fn macro_label(alloc: Global, tokens: &[Token], at: usize) -> Result<(String, usize), ReadError>
+    ensures { IfOk result (λ x. left tokens.now at ≡ lexeme.macro_name (string_bytes x.0) ∷ left tokens.now x.1) }
+{
+    match peek(tokens, at) {
+        Next::MacroName => Ok((macro_name(alloc, tokens, at)?, behind(tokens, at))),
+        _ => Err(syntax(at)),
+    }
+}
+
+/// `hex`, `decimal` or neither.
+#[tactic(auto, using(crate::proofs::Starts::starts_so))]
+fn base(tokens: &[Token], at: usize) -> (Option<Base>, usize)
+    ensures { left tokens.now at ≡ spelled_base result.0 (left tokens.now result.1) }
+{
+    match peek(tokens, at) {
+        Next::Hex => (Some(Base::Hex), behind(tokens, at)),
+        Next::Decimal => (Some(Base::Decimal), behind(tokens, at)),
+        _ => (None, at),
+    }
+}
+
+/// `stringdef NAME [hex | decimal] 'L'`
+fn macro_definition(alloc: Global, tokens: &[Token], at: usize) -> Result<(Item, usize), ReadError>
+    ensures { IfOk result (λ x. Reads (left tokens.now at) (spelled_item (view_item x.0)) (placed_item (view_item x.0)) (left tokens.now x.1)) }
+{
+    let Next::StringDef = peek(tokens, at) else {
+        return Err(syntax(at));
+    };
+    let (name, rest) = macro_label(alloc, tokens, behind(tokens, at))?;
+    let (base, rest) = base(tokens, rest);
+    let (value, rest) = string(alloc, tokens, rest)?;
+    Ok((Item::StringDef { name, base, value }, rest))
+}
+
 /// One item.
 fn item(alloc: Global, tokens: &[Token], at: usize) -> Result<(Item, usize), ReadError>
     ensures { IfOk result (λ x. Reads (left tokens.now at) (spelled_item (view_item x.0)) (placed_item (view_item x.0)) (left tokens.now x.1)) }
@@ -325,6 +372,11 @@ fn item(alloc: Global, tokens: &[Token], at: usize) -> Result<(Item, usize), Rea
             let (body, rest) = command(alloc, tokens, rest, 1)?;
             Ok((Item::Routine { name, body }, rest))
         }
+        Next::StringEscapes => {
+            let ((open, close), rest) = insert_characters(tokens, behind(tokens, at))?;
+            Ok((Item::StringEscapes { open, close }, rest))
+        }
+        Next::StringDef => macro_definition(alloc, tokens, at),
         _ => Err(syntax(at)),
     }
 }

@@ -50,7 +50,7 @@ fn routine_body<'a>(items: &'a [Item], wanted: &str) -> Option<&'a Command>
     None
 }
 
-/// A script that has passed all checks, and the name of the external that is run.
+/// A script that has passed all checks, and the name of the external that is run. Contracts see it as `Parsed`.
 #[derive(Drop)]
 pub struct Script {
     items: Vec<Item>,
@@ -76,7 +76,20 @@ impl Model for Script {
 impl Script {
     ghost use Rattle.sbl_script.specs.Reading.{IsScriptOf};
 
-    /// The script of a text (UTF-8, at most 1,048,576 bytes), with the external that is run.
+    /// The script of a text, with the name of the external that is run.
+    ///
+    /// The grammar is that of the Snowball manual, as far as `tree` holds it; numbers, order and bounds of the faults are
+    /// our own choice. The first of these is answered:
+    /// - `ScriptTooLong`: more than 1,048,576 bytes; `NotUtf8`: the bytes are no text;
+    /// - the first fault of the tokens (`BadCharacter`, `UnclosedString`, `UnclosedComment`, `UnknownEscape`, `BadCode`,
+    ///   `NumberTooLarge`), at its byte;
+    /// - `Syntax`: the token at the byte cannot follow those before it, or at the text's length more is needed;
+    ///   `TooDeep`: the token at the byte stands deeper than 64;
+    /// - in text order, with the number of the item from 1: `DeclaredTwice`, `Undeclared`, `DefinedTwice`, `RepeatedString`
+    ///   (two strings of an among have the same characters), `EmptyAmong`;
+    /// - `NoExternal`: the external is not both declared and defined.
+    ///
+    /// `OutOfMemory` may come in place of any answer but the first two.
     pub fn parse(alloc: Global, bytes: &[u8], external: &str) -> Result<Script, ScriptFault>
         ensures { IfOk result (λ s. IsScriptOf bytes.now external.now (source_of s)) }
     {
@@ -123,7 +136,7 @@ impl Script {
     ghost use Rattle.sbl_script.specs.View.{view_command};
     ghost use Rattle.sbl_script.specs.Parsed.{source_of};
 
-    /// The body of the external that is run.
+    /// The body of the external that is run: that of its `define`.
     pub fn body(&self) -> &Command
         ensures { body_of (source_of self.now) ≡ Some (view_command result.now) }
     {
@@ -137,6 +150,7 @@ impl Script {
 #[cfg(test)]
 mod tests {
     use super::*;
+    use crate::tree::Base;
     use std::process::Abort;
 
     const FRONT: &str = "externals ( stem ) define stem as ";
@@ -270,6 +284,94 @@ mod tests {
     }
 
     #[test]
+    fn accepts_escapes_and_macros(rt: HostRuntime) {
+        let alloc = rt.alloc();
+        for text in [
+            "stringescapes {} externals ( stem ) define stem as '{'}'",
+            "stringescapes [] stringescapes {} externals ( stem ) define stem as '{'}'",
+            "stringdef a 'b' stringdef c hex '64 65' stringdef f decimal '100' externals ( stem ) define stem as delete",
+            // a macro's name is not declared
+            "stringdef stem 'a' externals ( stem ) stringdef stem '' define stem as delete",
+            // the name may be any word
+            "stringdef hex hex 'E4' stringdef delete 'a' externals ( stem ) define stem as delete stringescapes {}",
+        ] {
+            assert_eq!(rt; parsed(alloc, text).err(), None, "{text}");
+        }
+    }
+
+    #[test]
+    fn answers_faults_of_escapes_and_macros(rt: HostRuntime) {
+        let alloc = rt.alloc();
+        for (text, want) in [
+            ("stringdef", ScriptFault::Syntax { place: 9 }),
+            ("stringdef ", ScriptFault::Syntax { place: 10 }),
+            ("stringdef m", ScriptFault::Syntax { place: 11 }),
+            ("stringdef m hex", ScriptFault::Syntax { place: 15 }),
+            (
+                "stringdef m hex hex 'E4'",
+                ScriptFault::Syntax { place: 16 },
+            ),
+            (
+                "stringdef m hex decimal '4'",
+                ScriptFault::Syntax { place: 16 },
+            ),
+            ("stringdef m delete", ScriptFault::Syntax { place: 12 }),
+            ("stringdef m 'a' 'b'", ScriptFault::Syntax { place: 16 }),
+            ("hex 'E4'", ScriptFault::Syntax { place: 0 }),
+            ("stringescapes {} 'a'", ScriptFault::Syntax { place: 17 }),
+            (
+                "externals ( stem ) define stem as ( stringescapes {} )",
+                ScriptFault::Syntax { place: 36 },
+            ),
+            (
+                "externals ( stem ) define stem as ( stringdef m 'a' )",
+                ScriptFault::Syntax { place: 36 },
+            ),
+            (
+                "stringescapes {} stringdef a 'b' externals ( stem stem )",
+                ScriptFault::DeclaredTwice { item: 3 },
+            ),
+            (
+                "stringdef stem '' define stem as delete",
+                ScriptFault::Undeclared { item: 2 },
+            ),
+            (
+                "stringdef a '' externals ( stem ) stringescapes {} define stem as among ( )",
+                ScriptFault::EmptyAmong { item: 4 },
+            ),
+        ] {
+            assert_eq!(rt; parsed(alloc, text).err(), Some(want), "{text}");
+        }
+    }
+
+    #[test]
+    fn keeps_escapes_and_macros(rt: HostRuntime) {
+        let alloc = rt.alloc();
+        let text = "stringescapes {}\nstringdef ss hex 'DF'\nexternals ( stem )\n\
+                    define stem as ( '{'}' [ '{ss}' ] delete )";
+        let script = parsed(alloc, text).expect(&rt, "wanted");
+        assert_eq!(rt; script.items().len(), 4);
+        let Item::StringEscapes { open, close } = &script.items()[0] else {
+            panic!(rt; "no insert characters");
+        };
+        assert_eq!(rt; (*open, *close), ('{', '}'));
+        let Item::StringDef { name, base, value } = &script.items()[1] else {
+            panic!(rt; "no macro");
+        };
+        assert_eq!(rt; name.as_str(), "ss");
+        assert_eq!(rt; *base, Some(Base::Hex));
+        assert_eq!(rt; value.spelling.as_str(), "DF");
+        let Command::Sequence(commands) = script.body() else {
+            panic!(rt; "no commands");
+        };
+        let Command::Match(literal) = &commands[2] else {
+            panic!(rt; "no literal");
+        };
+        assert_eq!(rt; literal.spelling.as_str(), "{ss}");
+        assert!(rt; literal.value == vec![in alloc; '\u{df}'].expect(&rt, "wanted"));
+    }
+
+    #[test]
     fn refuses_what_is_no_text(rt: HostRuntime) {
         let alloc = rt.alloc();
         assert_eq!(rt;
@@ -327,6 +429,7 @@ mod tests {
         let alloc = rt.alloc();
         let text = "externals ( step stem ) define step as [ define stem as 'ab'";
         let script = parsed(alloc, text).expect(&rt, "wanted");
+        script.is_well_declared();
         assert_eq!(rt; script.external(), "stem");
         assert_eq!(rt; script.items().len(), 3);
         let Command::Match(literal) = script.body() else {

@@ -9,6 +9,15 @@ pub enum Mode {
     Backward,
 }
 
+/// The base in which the characters of a macro are written.
+#[derive(Clone, Copy, Debug, PartialEq, Eq)]
+pub enum Base {
+    /// `hex`
+    Hex,
+    /// `decimal`
+    Decimal,
+}
+
 /// A literal string.
 #[derive(Debug, Drop)]
 pub struct Literal {
@@ -78,5 +87,22 @@ pub enum Item {
         name: String,
         /// Its body.
         body: Command,
+    },
+    /// `stringescapes AB` (Snowball manual, "String escapes")
+    StringEscapes {
+        /// The character that opens an insertion.
+        open: char,
+        /// The character that closes it.
+        close: char,
+    },
+    /// `stringdef NAME 'L'`, with `hex` or `decimal` before the literal where the value is given by codes (Snowball
+    /// manual, "String escapes")
+    StringDef {
+        /// The macro's name.
+        name: String,
+        /// The base of the codes; none where the literal is the value itself.
+        base: Option<Base>,
+        /// The literal of which the value is made.
+        value: Literal,
     },
 }

@@ -4,10 +4,11 @@ use Rattle.std.specs.Prelude.{not, ◌&&◌, ◌||◌, ◌==◌, if◌then◌els
 use Rattle.std.specs.List.{list_all}
 use Rattle.std.proofs.lemmas.Bool.Decides.{nat_tests}
 use Rattle.sbl_text.specs.declared.signs.Sign.{Sign}
-use Rattle.sbl_text.specs.declared.pieces.Inserts.{Inserts}
+use Rattle.sbl_text.specs.declared.escapes.Inserts.{Inserts}
 use Rattle.sbl_text.specs.Classes.{past}
 use Rattle.sbl_text.specs.Signs.{sign_of, sign_front, or_one, one, two}
-use Rattle.sbl_text.specs.Pieces.{is_inner, opens, closes, starts_slash, has_end}
+use Rattle.sbl_text.specs.Escapes.{opens, closes}
+use Rattle.sbl_text.specs.Pieces.{is_inner, starts_slash, has_end}
 use Rattle.sbl_text.specs.Scan.{past_literal, past_block}
 
 pub and_left : (a b : Bool) → a && b ≡ true → a ≡ true
@@ -127,7 +128,7 @@ slash_same : (x t : List ℕ) → starts_slash (x ++ 42 ∷ t) ≡ starts_slash 
 slash_same [] t = refl
 slash_same (c ∷ x) t = refl
 
-and_false : (b : Bool) → b && false ≡ false
+pub and_false : (b : Bool) → b && false ≡ false
 and_false true = refl
 and_false false = refl
 

@@ -3,5 +3,9 @@ pub mod Cuts
 pub mod Whole
 pub mod Nexts
 pub mod Lists
-pub mod Unique
+pub mod Macros
+pub mod Numbers
+pub mod Spellings
+pub mod Parted
 pub mod Written
+pub mod Unique

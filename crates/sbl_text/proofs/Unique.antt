@@ -1,21 +1,25 @@
 -- A text has one list of tokens, or one first fault.
-use Rattle.std.proofs.Common.{◌≡◌, ℕ, ◌+◌, true, false, List, [], ◌∷◌, ◌++◌, length, Option, Some, None, Result, Ok, Err, refl, sym, ap, subst, ◌∙◌, arith, ◌⊎◌, inl, inr}
-use Rattle.std.specs.Prelude.{encode_utf8_all}
+use Rattle.std.proofs.Common.{◌≡◌, ℕ, suc, ◌+◌, ◌-◌, ◌*◌, ◌<◌, ◌≤◌, Bool, true, false, List, [], ◌∷◌, ◌++◌, length, Option, Some, None, Result, Ok, Err, refl, sym, ap, subst, ◌∙◌, arith, append_assoc, ◌⊎◌, inl, inr}
+use Rattle.std.specs.Prelude.{not, ◌&&◌, ◌==◌, encode_utf8_all}
 use Rattle.std.specs.List.{list_all}
 use Rattle.std.proofs.lemmas.List.{append_cancel_right}
 use Rattle.sbl_text.specs.declared.pieces.Shape.{Shape}
 use Rattle.sbl_text.specs.declared.pieces.Shape.TheVariants as shape
-use Rattle.sbl_text.specs.declared.pieces.Inserts.{Inserts}
+use Rattle.sbl_text.specs.declared.pieces.Wanted.TheVariants as wanted
+use Rattle.sbl_text.specs.declared.escapes.Inserts.{Inserts}
 use Rattle.sbl_text.specs.declared.fault.ScriptFault.{ScriptFault}
 use Rattle.sbl_text.specs.declared.fault.ScriptFault.TheVariants as fault
 use Rattle.sbl_text.specs.declared.token.Token.{Token}
-use Rattle.sbl_text.specs.Pieces.{IsPiece, Piece, AreCut, AreGaps, AfterGaps, is_gap}
-use Rattle.sbl_text.specs.Scan.{Cut, cut}
-use Rattle.sbl_text.specs.Lexemes.{Lexeme, lexeme_of, sign, literal}
-use Rattle.sbl_text.specs.Tokens.{Says, Say, AreTokens, byte_length, Placed, IsPlaced, Stand, ArePlaced, IsFault, IsFirstFault, IsNext}
+use Rattle.sbl_text.specs.Escapes.{InForce, opens, closes}
+use Rattle.sbl_text.specs.Literals.{Refusal, byte_length, inserted, IsInsertion, IsPlain, Part, IsPart, AreParts, values, Means, IsWrong, FirstWrong}
+use Rattle.sbl_text.specs.Pieces.{Setting, Stands, IsPiece, NoPiece, AfterGaps, is_gap}
+use Rattle.sbl_text.specs.Scan.{Cut, cut_in}
+use Rattle.sbl_text.specs.Lexemes.{Lexeme, lexeme_of, sign, literal, inserts}
+use Rattle.sbl_text.specs.States.{State, start, setting_of, value_for, after}
+use Rattle.sbl_text.specs.Tokens.{number_of, Told, HasValue, Says, Piece, MaySay, after_piece, AreCut, said, MayEnd, AreTokens, Placed, placed_from, ArePlaced, IsRefused, IsFault, IsFirstFault, Stops, Comes, IsNext}
 use Rattle.sbl_text.proofs.Cuts.{and_left, and_right}
 use Rattle.sbl_text.proofs.Whole.{LeavesCut, longest}
-use Rattle.sbl_text.proofs.Lists.{append_nil, cut_append, say_append, say_gaps, some_text}
+use Rattle.sbl_text.proofs.Lists.{append_nil, cut_append, said_append, said_gaps, as_pieces, gaps_cut, some_text}
 
 -- ---- one piece
 
@@ -31,223 +35,390 @@ same_shape : (j k : Shape) (n m : ℕ) (o : Cut) → LeavesCut j n o → LeavesC
 same_shape j k n m None a b = absurd a
 same_shape j k n m (Some p) a b = sym a.0 ∙ b.0
 
-pub piece_one : (e : Option Inserts) (j k : Shape) (x y r s : List ℕ) → IsPiece e j x r → IsPiece e k y s → x ++ r ≡ y ++ s → (j ≡ k) × (x ≡ y) × (r ≡ s)
+piece_one : (e : Setting) (j k : Shape) (x y r s : List ℕ) → IsPiece e j x r → IsPiece e k y s → x ++ r ≡ y ++ s → (j ≡ k) × (x ≡ y) × (r ≡ s)
 piece_one e j k x y r s p q is =
-    let a = longest e j x r p.stands.has p.stands.no_comment in
-    let b = longest e k y s q.stands.has q.stands.no_comment in
+    let a = longest e j x r p.stands in
+    let b = longest e k y s q.stands in
     let l : length x ≡ length y = omega (arith, p.longest k y s is q.stands, q.longest j x r (sym is) p.stands) in
     let t = same_front x y r s l is in
-    (same_shape j k (length r) (length s) (cut e (x ++ r)) a (subst (λ (u : List ℕ). LeavesCut k (length s) (cut e u)) (sym is) b), t.0, t.1)
+    (same_shape j k (length r) (length s) (cut_in e.inserts e.wanted (x ++ r)) a (subst (λ (u : List ℕ). LeavesCut k (length s) (cut_in e.inserts e.wanted u)) (sym is) b), t.0, t.1)
 
-same_piece : (p q : Piece) → p.shape ≡ q.shape → p.text ≡ q.text → p ≡ q
-same_piece p q a b =
-    let c : Piece → Piece = λ r. r in
-    ap (λ (k : Shape). let r : Piece = record { shape = k; text = p.text } in r) a ∙ ap (λ (t : List ℕ). let r : Piece = record { shape = q.shape; text = t } in r) b
+-- ---- one meaning of a spelling
+
+abbrev Free : Option Inserts → List ℕ → Type 0
+Free e x = list_all (λ c. not (closes e c)) x ≡ true
+
+not_free : (e : Option Inserts) (b c : ℕ) (x : List ℕ) → closes e b ≡ true → b ≡ c → Free e (c ∷ x) → ⊥
+not_free e b c x h is f =
+    let k : not (closes e c) ≡ true = and_left (not (closes e c)) (list_all (λ d. not (closes e d)) x) f in
+    let m : not (closes e c) ≡ false = ap (λ (d : ℕ). not (closes e d)) (sym is) ∙ ap not h in absurd (cc (sym k ∙ m))
+
+name_one : (e : Option Inserts) (x y : List ℕ) (b d : ℕ) (r s : List ℕ) → Free e x → Free e y → closes e b ≡ true → closes e d ≡ true → x ++ b ∷ r ≡ y ++ d ∷ s → (x ≡ y) × (b ≡ d) × (r ≡ s)
+name_one e [] [] b d r s f g i j is = (refl, cc, cc)
+name_one e [] (c ∷ y) b d r s f g i j is = absurd (not_free e b c y i (cc) g)
+name_one e (c ∷ x) [] b d r s f g i j is = absurd (not_free e d c x j (cc) f)
+name_one e (c ∷ x) (k ∷ y) b d r s f g i j is =
+    let t : x ++ b ∷ r ≡ y ++ d ∷ s = cc in
+    let h : c ≡ k = cc in
+    let n = name_one e x y b d r s (and_right (not (closes e c)) (list_all (λ m. not (closes e m)) x) f) (and_right (not (closes e k)) (list_all (λ m. not (closes e m)) y) g) i j t in
+    (ap (λ (v : List ℕ). c ∷ v) n.0 ∙ ap (λ (m : ℕ). m ∷ y) h, n.1, n.2)
+
+-- an insertion is taken in one way
+insertion_one : (e : InForce) (x y n m r s : List ℕ) → IsInsertion e x n → IsInsertion e y m → x ++ r ≡ y ++ s → (x ≡ y) × (n ≡ m) × (r ≡ s)
+insertion_one e x y n m r s a b is =
+    let i : a.0 ∷ ((n ++ a.1 ∷ []) ++ r) ≡ b.0 ∷ ((m ++ b.1 ∷ []) ++ s) = ap (λ (t : List ℕ). t ++ r) (sym a.2) ∙ is ∙ ap (λ (t : List ℕ). t ++ s) b.2 in
+    let first : a.0 ≡ b.0 = cc in
+    let j : (n ++ a.1 ∷ []) ++ r ≡ (m ++ b.1 ∷ []) ++ s = cc in
+    let k : n ++ a.1 ∷ r ≡ m ++ b.1 ∷ s = sym (append_assoc n (a.1 ∷ []) r) ∙ j ∙ append_assoc m (b.1 ∷ []) s in
+    let t = name_one e.inserts n m a.1 b.1 r s a.6 b.6 a.5 b.5 k in
+    (a.2 ∙ ap (λ (c : ℕ). c ∷ (n ++ a.1 ∷ [])) first ∙ ap (λ (v : List ℕ). b.0 ∷ (v ++ a.1 ∷ [])) t.0 ∙ ap (λ (c : ℕ). b.0 ∷ (m ++ c ∷ [])) t.1 ∙ sym b.2, t.0, t.2)
+
+plain_not_insertion : (e : InForce) (x y v n r s : List ℕ) → IsPlain e x v → IsInsertion e y n → x ++ r ≡ y ++ s → ⊥
+plain_not_insertion e x y v n r s a b is =
+    let i : a.0 ∷ r ≡ b.0 ∷ ((n ++ b.1 ∷ []) ++ s) = ap (λ (t : List ℕ). t ++ r) (sym a.1) ∙ is ∙ ap (λ (t : List ℕ). t ++ s) b.2 in
+    let first : a.0 ≡ b.0 = cc in
+    let k : opens e.inserts b.0 ≡ false = ap (opens e.inserts) (sym first) ∙ a.3 in
+    absurd (cc (sym b.4 ∙ k))
+
+same_part : (p q : Part) → p.text ≡ q.text → p.value ≡ q.value → p ≡ q
+same_part p q a b =
+    let make : List ℕ → List ℕ → Part = λ t v. record { text = t; value = v } in ap (λ (t : List ℕ). make t p.value) a ∙ ap (make q.text) b
+
+part_one : (e : InForce) (p q : Part) (r s : List ℕ) → IsPart e p → IsPart e q → p.text ++ r ≡ q.text ++ s → (p ≡ q) × (r ≡ s)
+part_one e p q r s (inl a) (inl b) is =
+    let i : a.0 ∷ r ≡ b.0 ∷ s = ap (λ (t : List ℕ). t ++ r) (sym a.1) ∙ is ∙ ap (λ (t : List ℕ). t ++ s) b.1 in
+    let first : a.0 ≡ b.0 = cc in
+    let h = ap (λ (c : ℕ). let t : List ℕ = c ∷ [] in t) first in
+    (same_part p q (a.1 ∙ h ∙ sym b.1) (a.4 ∙ h ∙ sym b.4), cc)
+part_one e p q r s (inl a) (inr b) is = absurd (plain_not_insertion e p.text q.text p.value b.0 r s a b.1 is)
+part_one e p q r s (inr a) (inl b) is = absurd (plain_not_insertion e q.text p.text q.value a.0 s r b a.1 (sym is))
+part_one e p q r s (inr a) (inr b) is =
+    let t = insertion_one e p.text q.text a.0 b.0 r s a.1 b.1 is in
+    let o : Ok p.value ≡ Ok q.value = sym a.2 ∙ ap (inserted e) t.1 ∙ b.2 in
+    (same_part p q t.0 (cc), t.2)
+
+part_takes : (e : InForce) (p : Part) → IsPart e p → 0 < length p.text
+part_takes e p (inl a) = let l = ap length a.1 in omega arith
+part_takes e p (inr a) = let l = ap length a.1.2 in omega arith
+
+starts_empty : (x y : List ℕ) → [] ≡ x ++ y → x ≡ []
+starts_empty [] y is = refl
+starts_empty (c ∷ x) y is = cc
+
+no_part : (e : InForce) (p : Part) (behind : List ℕ) → [] ≡ p.text ++ behind → IsPart e p → ⊥
+no_part e p behind is h = let l = part_takes e p h in omega (arith, ap length (starts_empty p.text behind is), l)
+
+parts_one : (e : InForce) (text : List ℕ) (ps qs : List Part) → AreParts e text ps [] → AreParts e text qs [] → ps ≡ qs
+parts_one e text [] [] a b = refl
+parts_one e text [] (q ∷ qs) a b = absurd (no_part e q b.0 (sym a ∙ b.1) b.2)
+parts_one e text (p ∷ ps) [] a b = absurd (no_part e p a.0 (sym b ∙ a.1) a.2)
+parts_one e text (p ∷ ps) (q ∷ qs) a b =
+    let o = part_one e p q a.0 b.0 a.2 b.2 (sym a.1 ∙ b.1) in
+    ap (λ (x : Part). x ∷ ps) o.0 ∙ ap (λ (t : List Part). q ∷ t) (parts_one e a.0 ps qs a.3 (subst (λ (t : List ℕ). AreParts e t qs []) (sym o.1) b.3))
+
+means_one : (e : InForce) (text v w : List ℕ) → Means e text v → Means e text w → v ≡ w
+means_one e text v w a b = a.2 ∙ ap values (parts_one e text a.0 b.0 a.1 b.1) ∙ sym b.2
+
+-- where a spelling is wrong no part stands
+wrong_no_part : (e : InForce) (p : Part) (text behind : List ℕ) (n : ℕ) (f : ScriptFault) → IsWrong e text n f → text ≡ p.text ++ behind → IsPart e p → ⊥
+wrong_no_part e p text behind n f (inl h) is (inl a) =
+    let i : 39 ∷ h.0 ≡ a.0 ∷ behind = sym h.1 ∙ is ∙ ap (λ (t : List ℕ). t ++ behind) a.1 in
+    let c : 39 ≡ a.0 = cc in absurd (let k : (39 == 39) ≡ false = ap (λ (m : ℕ). m == 39) c ∙ a.2 in cc)
+wrong_no_part e p text behind n f (inl h) is (inr a) =
+    let i : 39 ∷ h.0 ≡ a.1.0 ∷ ((a.0 ++ a.1.1 ∷ []) ++ behind) = sym h.1 ∙ is ∙ ap (λ (t : List ℕ). t ++ behind) a.1.2 in
+    let c : 39 ≡ a.1.0 = cc in absurd (let k : (39 == 39) ≡ false = ap (λ (m : ℕ). m == 39) c ∙ a.1.3 in cc)
+wrong_no_part e p text behind n f (inr h) is (inl a) = plain_not_insertion e p.text h.0 p.value h.1 behind h.2 a h.4 (sym is ∙ h.3)
+wrong_no_part e p text behind n f (inr h) is (inr a) =
+    let t = insertion_one e h.0 p.text h.1 a.0 h.2 behind h.4 a.1 (sym h.3 ∙ is) in
+    absurd (let k : Err h.5 ≡ Ok p.value = sym h.6 ∙ ap (inserted e) t.1 ∙ a.2 in cc)
+
+quote_not_insertion : (e : InForce) (text more x n r : List ℕ) → text ≡ 39 ∷ more → text ≡ x ++ r → IsInsertion e x n → ⊥
+quote_not_insertion e text more x n r i j a =
+    let k : 39 ∷ more ≡ a.0 ∷ ((n ++ a.1 ∷ []) ++ r) = sym i ∙ j ∙ ap (λ (t : List ℕ). t ++ r) a.2 in
+    let c : 39 ≡ a.0 = cc in absurd (let k : (39 == 39) ≡ false = ap (λ (m : ℕ). m == 39) c ∙ a.3 in cc)
+
+wrong_one_at : (e : InForce) (text : List ℕ) (n : ℕ) (f g : ScriptFault) → IsWrong e text n f → IsWrong e text n g → f ≡ g
+wrong_one_at e text n f g (inl a) (inl b) = a.2 ∙ sym b.2
+wrong_one_at e text n f g (inl a) (inr b) = absurd (quote_not_insertion e text a.0 b.0 b.1 b.2 a.1 b.3 b.4)
+wrong_one_at e text n f g (inr a) (inl b) = absurd (quote_not_insertion e text b.0 a.0 a.1 a.2 b.1 a.3 a.4)
+wrong_one_at e text n f g (inr a) (inr b) =
+    let t = insertion_one e a.0 b.0 a.1 b.1 a.2 b.2 a.4 b.4 (sym a.3 ∙ b.3) in
+    let o : Err a.5 ≡ Err b.5 = sym a.6 ∙ ap (inserted e) t.1 ∙ b.6 in
+    let h : a.5 ≡ b.5 = cc in
+    a.7 ∙ ap (λ (k : Refusal). k n) h ∙ sym b.7
+
+-- a fault and a meaning, or two faults: the parts before them are the same
+wrong_place : (e : InForce) (text r s : List ℕ) (n m : ℕ) (f g : ScriptFault) (ps qs : List Part) → AreParts e text ps r → AreParts e text qs s → IsWrong e r n f → IsWrong e s m g → r ≡ s
+wrong_place e text r s n m f g [] [] a b i j = sym a ∙ b
+wrong_place e text r s n m f g [] (q ∷ qs) a b i j = absurd (wrong_no_part e q r b.0 n f i (sym a ∙ b.1) b.2)
+wrong_place e text r s n m f g (p ∷ ps) [] a b i j = absurd (wrong_no_part e p s a.0 m g j (sym b ∙ a.1) a.2)
+wrong_place e text r s n m f g (p ∷ ps) (q ∷ qs) a b i j =
+    let o = part_one e p q a.0 b.0 a.2 b.2 (sym a.1 ∙ b.1) in
+    wrong_place e a.0 r s n m f g ps qs a.3 (subst (λ (t : List ℕ). AreParts e t qs s) (sym o.1) b.3) i j
+
+wrong_not_end : (e : InForce) (n : ℕ) (f : ScriptFault) → IsWrong e [] n f → ⊥
+wrong_not_end e n f (inl h) = let i = h.1 in cc
+wrong_not_end e n f (inr h) = let i : [] ≡ h.4.0 ∷ ((h.1 ++ h.4.1 ∷ []) ++ h.2) = h.3 ∙ ap (λ (t : List ℕ). t ++ h.2) h.4.2 in cc
+
+wrong_no_meaning : (e : InForce) (text r : List ℕ) (n : ℕ) (f : ScriptFault) (ps qs : List Part) → AreParts e text ps r → AreParts e text qs [] → IsWrong e r n f → ⊥
+wrong_no_meaning e text r n f [] [] a b i = wrong_not_end e n f (subst (λ (t : List ℕ). IsWrong e t n f) (sym a ∙ b) i)
+wrong_no_meaning e text r n f [] (q ∷ qs) a b i = wrong_no_part e q r b.0 n f i (sym a ∙ b.1) b.2
+wrong_no_meaning e text r n f (p ∷ ps) [] a b i = no_part e p a.0 (sym b ∙ a.1) a.2
+wrong_no_meaning e text r n f (p ∷ ps) (q ∷ qs) a b i =
+    let o = part_one e p q a.0 b.0 a.2 b.2 (sym a.1 ∙ b.1) in
+    wrong_no_meaning e a.0 r n f ps qs a.3 (subst (λ (t : List ℕ). AreParts e t qs []) (sym o.1) b.3) i
+
+first_wrong_one : (e : InForce) (text : List ℕ) (n : ℕ) (f g : ScriptFault) → FirstWrong e text n f → FirstWrong e text n g → f ≡ g
+first_wrong_one e text n f g a b =
+    let r = wrong_place e text a.1 b.1 (n + byte_length a.0) (n + byte_length b.0) f g a.2 b.2 a.4 b.4 a.5 b.5 in
+    let k : a.0 ≡ b.0 = append_cancel_right a.0 b.0 b.1 (ap (λ (t : List ℕ). a.0 ++ t) (sym r) ∙ sym a.3 ∙ b.3) in
+    wrong_one_at e b.1 (n + byte_length b.0) f g
+    (subst (λ (t : List ℕ). IsWrong e b.1 (n + byte_length t) f) k (subst (λ (t : List ℕ). IsWrong e t (n + byte_length a.0) f) r a.5)) b.5
+
+-- ---- what pieces say
+
+told_gap : (s : State) (k : Shape) (x : List ℕ) (l : Lexeme) → is_gap k ≡ true → Told s k x l → ⊥
+told_gap s shape.Blank x l g h = h
+told_gap s shape.LineComment x l g h = h
+told_gap s shape.BlockComment x l g h = h
+told_gap s shape.Word x l g h = cc
+told_gap s shape.Number x l g h = cc
+told_gap s shape.Sign x l g h = cc
+told_gap s shape.Literal x l g h = cc
+told_gap s shape.Inserts x l g h = cc
+told_gap s shape.MacroName x l g h = cc
+
+same_inner : (x inner other : List ℕ) → x ≡ 39 ∷ (inner ++ 39 ∷ []) → x ≡ 39 ∷ (other ++ 39 ∷ []) → inner ≡ other
+same_inner x inner other a b = append_cancel_right inner other (39 ∷ []) (let h = sym a ∙ b in cc)
+
+told_one : (s : State) (k : Shape) (x : List ℕ) (l m : Lexeme) → Told s k x l → Told s k x m → l ≡ m
+told_one s shape.Blank x l m a b = absurd a
+told_one s shape.LineComment x l m a b = absurd a
+told_one s shape.BlockComment x l m a b = absurd a
+told_one s shape.Word x l m a b = a ∙ sym b
+told_one s shape.Number x l m a b = a.1 ∙ sym b.1
+told_one s shape.Sign x l m a b = let e : Some a.0 ≡ Some b.0 = sym a.1 ∙ b.1 in let d : a.0 ≡ b.0 = cc in a.2 ∙ ap sign d ∙ sym b.2
+told_one s shape.Literal x l m a b =
+    let d = same_inner x a.0 b.0 a.2 b.2 in
+    let v = means_one s.escapes b.0 a.1 b.1 (subst (λ (t : List ℕ). Means s.escapes t a.1) d a.3) b.3 in
+    a.4 ∙ ap (λ (t : List ℕ). literal (encode_utf8_all t) a.1) d ∙ ap (literal (encode_utf8_all b.0)) v ∙ sym b.4
+told_one s shape.Inserts x l m a b =
+    let e : a.0 ∷ a.1 ∷ [] ≡ b.0 ∷ b.1 ∷ [] = sym a.2 ∙ b.2 in
+    let d : a.0 ≡ b.0 = cc in
+    let f : a.1 ≡ b.1 = cc in
+    a.3 ∙ ap (λ (n : ℕ). inserts n a.1) d ∙ ap (inserts b.0) f ∙ sym b.3
+told_one s shape.MacroName x l m a b = a ∙ sym b
+
+may_say_one : (s : State) (k : Shape) (x : List ℕ) (o u : Option Lexeme) → MaySay s k x o → MaySay s k x u → o ≡ u
+may_say_one s k x None None a b = refl
+may_say_one s k x None (Some m) a b = absurd (told_gap s k x m a b.0)
+may_say_one s k x (Some l) None a b = absurd (told_gap s k x l b a.0)
+may_say_one s k x (Some l) (Some m) a b = ap Some (told_one s k x l m a.0 b.0)
+
+same_piece : (p q : Piece) → p.shape ≡ q.shape → p.text ≡ q.text → p.lexeme ≡ q.lexeme → p ≡ q
+same_piece p q a b c =
+    let make : Shape → List ℕ → Option Lexeme → Piece = λ k t o. record { shape = k; text = t; lexeme = o } in
+    ap (λ (k : Shape). make k p.text p.lexeme) a ∙ ap (λ (t : List ℕ). make q.shape t p.lexeme) b ∙ ap (make q.shape q.text) c
 
 -- ---- two lists of pieces of a text: one goes on where the other ends
 
-abbrev Ahead : Option Inserts → List Piece → List Piece → List ℕ → List ℕ → Type 0
-Ahead e ps qs r s = (us : List Piece) × (qs ≡ ps ++ us) × AreCut e r us s
+abbrev Ahead : List Piece → List Piece → State → List ℕ → State → List ℕ → Type 0
+Ahead ps qs u r v z = (us : List Piece) × (qs ≡ ps ++ us) × AreCut u r us v z
 
-ahead_cons : (e : Option Inserts) (p q : Piece) (ps qs : List Piece) (r s : List ℕ) → p ≡ q → Ahead e ps qs r s ⊎ Ahead e qs ps s r → Ahead e (p ∷ ps) (q ∷ qs) r s ⊎ Ahead e (q ∷ qs) (p ∷ ps) s r
-ahead_cons e p q ps qs r s is (inl h) = inl (h.0, ap (λ (t : List Piece). q ∷ t) h.1 ∙ ap (λ (t : Piece). t ∷ (ps ++ h.0)) (sym is), h.2)
-ahead_cons e p q ps qs r s is (inr h) = inr (h.0, ap (λ (t : List Piece). p ∷ t) h.1 ∙ ap (λ (t : Piece). t ∷ (qs ++ h.0)) is, h.2)
+ahead_cons : (p q : Piece) (ps qs : List Piece) (u : State) (r : List ℕ) (v : State) (z : List ℕ) → p ≡ q → Ahead ps qs u r v z ⊎ Ahead qs ps v z u r → Ahead (p ∷ ps) (q ∷ qs) u r v z ⊎ Ahead (q ∷ qs) (p ∷ ps) v z u r
+ahead_cons p q ps qs u r v z is (inl h) = inl (h.0, ap (λ (t : List Piece). q ∷ t) h.1 ∙ ap (λ (t : Piece). t ∷ (ps ++ h.0)) (sym is), h.2)
+ahead_cons p q ps qs u r v z is (inr h) = inr (h.0, ap (λ (t : List Piece). p ∷ t) h.1 ∙ ap (λ (t : Piece). t ∷ (qs ++ h.0)) is, h.2)
 
-pub two_cuts : (e : Option Inserts) (text : List ℕ) (ps qs : List Piece) (r s : List ℕ) → AreCut e text ps r → AreCut e text qs s → Ahead e ps qs r s ⊎ Ahead e qs ps s r
-two_cuts e text [] qs r s a b = inl (qs, refl, subst (λ (t : List ℕ). AreCut e t qs s) a b)
-two_cuts e text (p ∷ ps) [] r s a b = inr (p ∷ ps, refl, subst (λ (t : List ℕ). AreCut e t (p ∷ ps) r) b a)
-two_cuts e text (p ∷ ps) (q ∷ qs) r s a b =
-    let o = piece_one e p.shape q.shape p.text q.text a.0 b.0 a.2 b.2 (sym a.1 ∙ b.1) in
-    ahead_cons e p q ps qs r s (same_piece p q o.0 o.1) (two_cuts e a.0 ps qs r s a.3 (subst (λ (t : List ℕ). AreCut e t qs s) (sym o.2) b.3))
+restart : (s t u : State) (x y r : List ℕ) (ps : List Piece) → s ≡ t → x ≡ y → AreCut s x ps u r → AreCut t y ps u r
+restart s t u x y r ps a b h = subst (λ (z : List ℕ). AreCut t z ps u r) b (subst (λ (k : State). AreCut k x ps u r) a h)
 
-no_more : (e : Option Inserts) (us : List Piece) (s : List ℕ) → AreCut e [] us s → (us ≡ []) × (s ≡ [])
-no_more e [] s h = (refl, sym h)
-no_more e (u ∷ us) s h = absurd (let l = some_text e u.shape u.text h.2.stands.has in let m = starts_empty u.text h.0 h.1 in omega (arith, ap length m))
-  where
-    starts_empty : (x y : List ℕ) → [] ≡ x ++ y → x ≡ []
-    starts_empty [] y is = refl
-    starts_empty (c ∷ x) y is = cc
+two_cuts : (s : State) (text : List ℕ) (ps qs : List Piece) (u : State) (r : List ℕ) (v : State) (z : List ℕ) → AreCut s text ps u r → AreCut s text qs v z → Ahead ps qs u r v z ⊎ Ahead qs ps v z u r
+two_cuts s text [] qs u r v z a b = inl (qs, refl, restart s u v text r z qs a.1 a.0 b)
+two_cuts s text (p ∷ ps) [] u r v z a b = inr (p ∷ ps, refl, restart s v u text z r (p ∷ ps) b.1 b.0 a)
+two_cuts s text (p ∷ ps) (q ∷ qs) u r v z a b =
+    let o = piece_one (setting_of s) p.shape q.shape p.text q.text a.0 b.0 a.2 b.2 (sym a.1 ∙ b.1) in
+    let m : MaySay s p.shape p.text q.lexeme = subst (λ (k : Shape). MaySay s k p.text q.lexeme) (sym o.0) (subst (λ (t : List ℕ). MaySay s q.shape t q.lexeme) (sym o.1) b.3) in
+    let l = may_say_one s p.shape p.text p.lexeme q.lexeme a.3 m in
+    ahead_cons p q ps qs u r v z (same_piece p q o.0 o.1 l)
+    (two_cuts (after_piece s p.lexeme) a.0 ps qs u r v z a.4 (restart (after_piece s q.lexeme) (after_piece s p.lexeme) v b.0 a.0 z qs (ap (after_piece s) (sym l)) (sym o.2) b.4))
 
--- ---- what they say
+no_more : (s t : State) (us : List Piece) (r : List ℕ) → AreCut s [] us t r → (us ≡ []) × (r ≡ []) × (s ≡ t)
+no_more s t [] r h = (refl, sym h.0, h.1)
+no_more s t (u ∷ us) r h = absurd (let l = some_text s.escapes.inserts u.shape u.text h.2.stands.has in omega (arith, ap length (starts_empty u.text h.0 h.1), l))
 
-gap_says : (k : Shape) (x : List ℕ) (l : Lexeme) → is_gap k ≡ true → Says k x l → ⊥
-gap_says shape.Blank x l g h = h
-gap_says shape.LineComment x l g h = h
-gap_says shape.BlockComment x l g h = h
-gap_says shape.Word x l g h = cc
-gap_says shape.Number x l g h = cc
-gap_says shape.Sign x l g h = cc
-gap_says shape.Literal x l g h = cc
-
-says_one : (k : Shape) (x : List ℕ) (l m : Lexeme) → Says k x l → Says k x m → l ≡ m
-says_one shape.Blank x l m a b = absurd a
-says_one shape.LineComment x l m a b = absurd a
-says_one shape.BlockComment x l m a b = absurd a
-says_one shape.Word x l m a b = a ∙ sym b
-says_one shape.Number x l m a b = a.1 ∙ sym b.1
-says_one shape.Sign x l m a b = let e : Some a.0 ≡ Some b.0 = sym a.1 ∙ b.1 in let d : a.0 ≡ b.0 = cc in a.2 ∙ ap sign d ∙ sym b.2
-says_one shape.Literal x l m a b =
-    let e : a.0 ++ 39 ∷ [] ≡ b.0 ++ 39 ∷ [] = (let h = sym a.1 ∙ b.1 in cc) in
-    let d = append_cancel_right a.0 b.0 (39 ∷ []) e in
-    a.2 ∙ ap (λ (t : List ℕ). literal (encode_utf8_all t) t) d ∙ sym b.2
-
-say_one : (ps : List Piece) (ls ms : List Lexeme) → Say ps ls → Say ps ms → ls ≡ ms
-say_one [] ls ms a b = a ∙ sym b
-say_one (p ∷ ps) ls ms (inl a) (inl b) = say_one ps ls ms a.1 b.1
-say_one (p ∷ ps) ls ms (inl a) (inr b) = absurd (gap_says p.shape p.text b.0 a.0 b.3)
-say_one (p ∷ ps) ls ms (inr a) (inl b) = absurd (gap_says p.shape p.text a.0 b.0 a.3)
-say_one (p ∷ ps) ls ms (inr a) (inr b) =
-    a.2 ∙ ap (λ (l : Lexeme). l ∷ a.1) (says_one p.shape p.text a.0 b.0 a.3 b.3) ∙ ap (λ (t : List Lexeme). b.0 ∷ t) (say_one ps a.1 b.1 a.4 b.4) ∙ sym b.2
-
-say_split : (ps us : List Piece) (ls : List Lexeme) → Say (ps ++ us) ls → (ms : List Lexeme) × Say us ms
-say_split [] us ls h = (ls, h)
-say_split (p ∷ ps) us ls (inl h) = say_split ps us ls h.1
-say_split (p ∷ ps) us ls (inr h) = say_split ps us h.1 h.4
-
-placed_one : (n : ℕ) (p : Piece) (t u : Placed) → IsPlaced n p t → IsPlaced n p u → t ≡ u
-placed_one n p t u a b =
-    let make : Lexeme → List ℕ → ℕ → ℕ → Placed = λ l x i j. record { lexeme = l; text = x; start = i; end = j } in
-    ap (λ (l : Lexeme). make l t.text t.start t.end) (says_one p.shape p.text t.lexeme u.lexeme a.0 b.0) ∙ ap (λ (x : List ℕ). make u.lexeme x t.start t.end) (a.1 ∙ sym b.1)
-    ∙ ap (λ (i : ℕ). make u.lexeme u.text i t.end) (a.2 ∙ sym b.2) ∙ ap (λ (j : ℕ). make u.lexeme u.text u.start j) (a.3 ∙ sym b.3)
-
-stand_one : (n : ℕ) (ps : List Piece) (ts us : List Placed) → Stand n ps ts → Stand n ps us → ts ≡ us
-stand_one n [] ts us a b = a ∙ sym b
-stand_one n (p ∷ ps) ts us (inl a) (inl b) = stand_one (n + byte_length p.text) ps ts us a.1 b.1
-stand_one n (p ∷ ps) ts us (inl a) (inr b) = absurd (gap_says p.shape p.text b.0.lexeme a.0 b.3.0)
-stand_one n (p ∷ ps) ts us (inr a) (inl b) = absurd (gap_says p.shape p.text a.0.lexeme b.0 a.3.0)
-stand_one n (p ∷ ps) ts us (inr a) (inr b) =
-    a.2 ∙ ap (λ (t : Placed). t ∷ a.1) (placed_one n p a.0 b.0 a.3 b.3) ∙ ap (λ (t : List Placed). b.0 ∷ t) (stand_one (n + byte_length p.text) ps a.1 b.1 a.4 b.4) ∙ sym b.2
-
--- ---- whole texts
-
-same_at_end : (ps qs : List Piece) → Ahead None ps qs [] [] ⊎ Ahead None qs ps [] [] → qs ≡ ps
-same_at_end ps qs (inl h) = h.1 ∙ ap (λ (t : List Piece). ps ++ t) (no_more None h.0 [] h.2).0 ∙ append_nil ps
-same_at_end ps qs (inr h) = sym (h.1 ∙ ap (λ (t : List Piece). qs ++ t) (no_more None h.0 [] h.2).0 ∙ append_nil qs)
+same_at_end : (ps qs : List Piece) (u v : State) → Ahead ps qs u [] v [] ⊎ Ahead qs ps v [] u [] → qs ≡ ps
+same_at_end ps qs u v (inl h) = h.1 ∙ ap (λ (t : List Piece). ps ++ t) (no_more u v h.0 [] h.2).0 ∙ append_nil ps
+same_at_end ps qs u v (inr h) = sym (h.1 ∙ ap (λ (t : List Piece). qs ++ t) (no_more v u h.0 [] h.2).0 ∙ append_nil qs)
 
 pub tokens_one : (text : List ℕ) (ls ms : List Lexeme) → AreTokens text ls → AreTokens text ms → ls ≡ ms
 tokens_one text ls ms a b =
-    let e = same_at_end a.0 b.0 (two_cuts None text a.0 b.0 [] [] a.1 b.1) in say_one a.0 ls ms a.2 (subst (λ (ps : List Piece). Say ps ms) e b.2)
+    a.4 ∙ ap said (sym (same_at_end a.0 b.0 a.1 b.1 (two_cuts start text a.0 b.0 a.1 [] b.1 [] a.2 b.2))) ∙ sym b.4
 
 pub placed_tokens_one : (text : List ℕ) (ts us : List Placed) → ArePlaced text ts → ArePlaced text us → ts ≡ us
 placed_tokens_one text ts us a b =
-    let e = same_at_end a.0 b.0 (two_cuts None text a.0 b.0 [] [] a.1 b.1) in stand_one 0 a.0 ts us a.2 (subst (λ (ps : List Piece). Stand 0 ps us) e b.2)
+    a.4 ∙ ap (placed_from 0) (sym (same_at_end a.0 b.0 a.1 b.1 (two_cuts start text a.0 b.0 a.1 [] b.1 [] a.2 b.2))) ∙ sym b.4
 
 -- ---- faults
 
-fault_stops : (text s : List ℕ) (n : ℕ) (f : ScriptFault) (us : List Piece) (ls : List Lexeme) → IsFault text n f → AreCut None text us s → Say us ls → us ≡ []
-fault_stops text s n f [] ls h c y = refl
-fault_stops text s n f (u ∷ us) ls (inl h) c y = absurd (h.1 u.shape u.text c.0 c.1 c.2.stands)
-fault_stops text s n f (u ∷ us) ls (inr h) c (inl y) =
-    let o = piece_one None u.shape shape.Number u.text h.0 c.0 h.1 c.2 h.3 (sym c.1 ∙ h.2) in
-    absurd (let e : false ≡ true = subst (λ (k : Shape). is_gap k ≡ true) o.0 y.0 in cc)
-fault_stops text s n f (u ∷ us) ls (inr h) c (inr y) =
-    let o = piece_one None u.shape shape.Number u.text h.0 c.0 h.1 c.2 h.3 (sym c.1 ∙ h.2) in
-    let says : Says shape.Number h.0 y.0 = subst (λ (x : List ℕ). Says shape.Number x y.0) o.1 (subst (λ (k : Shape). Says k u.text y.0) o.0 y.3) in
-    absurd (omega (arith, says.0, h.4))
-
-fault_same : (text : List ℕ) (n : ℕ) (f g : ScriptFault) → IsFault text n f → IsFault text n g → f ≡ g
-fault_same text n f g (inl a) (inl b) = a.2 ∙ sym b.2
-fault_same text n f g (inl a) (inr b) = absurd (a.1 shape.Number b.0 b.1 b.2 b.3.stands)
-fault_same text n f g (inr a) (inl b) = absurd (b.1 shape.Number a.0 a.1 a.2 a.3.stands)
-fault_same text n f g (inr a) (inr b) = a.5 ∙ sym b.5
-
-fault_not_end : (n : ℕ) (f : ScriptFault) → IsFault [] n f → ⊥
-fault_not_end n f (inl h) = h.0 refl
-fault_not_end n f (inr h) = let k = no_more None (record { shape = shape.Number; text = h.0 } ∷ []) h.1 (h.1, h.2, h.3, refl) in let e = k.0 in cc
-
--- two faults after pieces without fault stand at one place
-same_place : (text r s : List ℕ) (n m : ℕ) (f g : ScriptFault) (ps qs : List Piece) (ls ms : List Lexeme) → AreCut None text ps r → AreCut None text qs s → Say ps ls → Say qs ms → IsFault r n f → IsFault s m g → r ≡ s
-same_place text r s n m f g ps qs ls ms a b x y i j = met (two_cuts None text ps qs r s a b)
+refused_says : (s : State) (k : Shape) (x : List ℕ) (n : ℕ) (f : ScriptFault) (o : Option Lexeme) → IsRefused s k x n f → MaySay s k x o → ⊥
+refused_says s shape.Number x n f None h m = cc
+refused_says s shape.Number x n f (Some l) h m = omega (arith, h.0, m.0.0)
+refused_says s shape.Literal x n f None h m = cc
+refused_says s shape.Literal x n f (Some l) h m = literal_refused h.2
   where
-    met : Ahead None ps qs r s ⊎ Ahead None qs ps s r → r ≡ s
-    met (inl h) =
-        let k = say_split ps h.0 ms (subst (λ (t : List Piece). Say t ms) h.1 y) in
-        let e = fault_stops r s n f h.0 k.0 i h.2 k.1 in subst (λ (t : List Piece). AreCut None r t s) e h.2
-    met (inr h) =
-        let k = say_split qs h.0 ls (subst (λ (t : List Piece). Say t ls) h.1 x) in
-        let e = fault_stops s r m g h.0 k.0 j h.2 k.1 in sym (subst (λ (t : List Piece). AreCut None s t r) e h.2)
+    same : m.0.0 ≡ h.0
+    same = same_inner x m.0.0 h.0 m.0.2 h.1
 
-one_fault : (text before r other s : List ℕ) (f g : ScriptFault) → text ≡ before ++ r → text ≡ other ++ s → r ≡ s → IsFault r (byte_length before) f → IsFault s (byte_length other) g → f ≡ g
-one_fault text before r other s f g a b e i j =
-    let k : before ≡ other = append_cancel_right before other s (ap (λ (t : List ℕ). before ++ t) (sym e) ∙ sym a ∙ b) in
-    fault_same s (byte_length other) f g (subst (λ (t : List ℕ). IsFault s (byte_length t) f) k (subst (λ (t : List ℕ). IsFault t (byte_length before) f) e i)) j
+    means : Means s.escapes h.0 m.0.1
+    means = subst (λ (t : List ℕ). Means s.escapes t m.0.1) same m.0.3
+
+    value : (w : List ℕ) × (value_for s.defining m.0.1 ≡ Some w)
+    value = subst (HasValue s) m.0.4 m.1
+
+    literal_refused : FirstWrong s.escapes h.0 (n + 1) f ⊎ ((v : List ℕ) × Means s.escapes h.0 v × (value_for s.defining v ≡ None) × (f ≡ fault.BadCode n)) → ⊥
+    literal_refused (inl w) = wrong_no_meaning s.escapes h.0 w.1 (n + 1 + byte_length w.0) f w.2 means.0 w.4 means.1 w.5
+    literal_refused (inr w) =
+        let v = means_one s.escapes h.0 m.0.1 w.0 means w.1 in absurd (let e : Some value.0 ≡ None = sym value.1 ∙ ap (value_for s.defining) v ∙ w.2 in cc)
+refused_says s shape.Blank x n f o h m = h
+refused_says s shape.LineComment x n f o h m = h
+refused_says s shape.BlockComment x n f o h m = h
+refused_says s shape.Word x n f o h m = h
+refused_says s shape.Sign x n f o h m = h
+refused_says s shape.Inserts x n f o h m = h
+refused_says s shape.MacroName x n f o h m = h
+
+literal_refused_one : (s : State) (inner : List ℕ) (n : ℕ) (f g : ScriptFault) → FirstWrong s.escapes inner (n + 1) f ⊎ ((v : List ℕ) × Means s.escapes inner v × (value_for s.defining v ≡ None) × (f ≡ fault.BadCode n))
+    → FirstWrong s.escapes inner (n + 1) g ⊎ ((v : List ℕ) × Means s.escapes inner v × (value_for s.defining v ≡ None) × (g ≡ fault.BadCode n)) → f ≡ g
+literal_refused_one s inner n f g (inl a) (inl b) = first_wrong_one s.escapes inner (n + 1) f g a b
+literal_refused_one s inner n f g (inl a) (inr b) = absurd (wrong_no_meaning s.escapes inner a.1 (n + 1 + byte_length a.0) f a.2 b.1.0 a.4 b.1.1 a.5)
+literal_refused_one s inner n f g (inr a) (inl b) = absurd (wrong_no_meaning s.escapes inner b.1 (n + 1 + byte_length b.0) g b.2 a.1.0 b.4 a.1.1 b.5)
+literal_refused_one s inner n f g (inr a) (inr b) = a.3 ∙ sym b.3
+
+refused_one : (s : State) (k : Shape) (x : List ℕ) (n : ℕ) (f g : ScriptFault) → IsRefused s k x n f → IsRefused s k x n g → f ≡ g
+refused_one s shape.Number x n f g a b = a.1 ∙ sym b.1
+refused_one s shape.Literal x n f g a b =
+    let d = same_inner x a.0 b.0 a.1 b.1 in
+    literal_refused_one s b.0 n f g
+    (subst (λ (t : List ℕ). FirstWrong s.escapes t (n + 1) f ⊎ ((v : List ℕ) × Means s.escapes t v × (value_for s.defining v ≡ None) × (f ≡ fault.BadCode n))) d a.2) b.2
+refused_one s shape.Blank x n f g a b = absurd a
+refused_one s shape.LineComment x n f g a b = absurd a
+refused_one s shape.BlockComment x n f g a b = absurd a
+refused_one s shape.Word x n f g a b = absurd a
+refused_one s shape.Sign x n f g a b = absurd a
+refused_one s shape.Inserts x n f g a b = absurd a
+refused_one s shape.MacroName x n f g a b = absurd a
+
+-- no piece without fault stands where a fault does
+fault_stops : (s : State) (text : List ℕ) (n : ℕ) (f : ScriptFault) (u : State) (r : List ℕ) (us : List Piece) → IsFault s text n f → AreCut s text us u r → us ≡ []
+fault_stops s text n f u r [] h c = refl
+fault_stops s text n f u r (p ∷ us) (inl h) c = absurd (h.1 p.shape p.text c.0 c.1 c.2.stands)
+fault_stops s text n f u r (p ∷ us) (inr h) c =
+    let o = piece_one (setting_of s) p.shape h.0 p.text h.1 c.0 h.2 c.2 h.4 (sym c.1 ∙ h.3) in
+    absurd (refused_says s p.shape p.text n f p.lexeme
+    (subst (λ (k : Shape). IsRefused s k p.text n f) (sym o.0) (subst (λ (x : List ℕ). IsRefused s h.0 x n f) (sym o.1) h.5)) c.3)
+
+fault_same : (s : State) (text : List ℕ) (n : ℕ) (f g : ScriptFault) → IsFault s text n f → IsFault s text n g → f ≡ g
+fault_same s text n f g (inl a) (inl b) = a.2 ∙ sym b.2
+fault_same s text n f g (inl a) (inr b) = absurd (a.1 b.0 b.1 b.2 b.3 b.4.stands)
+fault_same s text n f g (inr a) (inl b) = absurd (b.1 a.0 a.1 a.2 a.3 a.4.stands)
+fault_same s text n f g (inr a) (inr b) =
+    let o = piece_one (setting_of s) a.0 b.0 a.1 b.1 a.2 b.2 a.4 b.4 (sym a.3 ∙ b.3) in
+    refused_one s b.0 b.1 n f g (subst (λ (k : Shape). IsRefused s k b.1 n f) o.0 (subst (λ (x : List ℕ). IsRefused s a.0 x n f) o.1 a.5)) b.5
+
+fault_not_end : (s : State) (n : ℕ) (f : ScriptFault) → MayEnd s → IsFault s [] n f → ⊥
+fault_not_end s n f m (inl h) = m (h.0 refl)
+fault_not_end s n f m (inr h) = let l = some_text s.escapes.inserts h.0 h.1 h.4.stands.has in omega (arith, ap length (starts_empty h.1 h.2 h.3), l)
+
+-- where faults stand after the pieces before them
+abbrev Same : State → List ℕ → State → List ℕ → Type 0
+Same u r v z = (u ≡ v) × (r ≡ z)
+
+same_place : (s : State) (text : List ℕ) (u : State) (r : List ℕ) (v : State) (z : List ℕ) (n m : ℕ) (f g : ScriptFault) (ps qs : List Piece) → AreCut s text ps u r → AreCut s text qs v z → IsFault u r n f → IsFault v z m g → Same u r v z
+same_place s text u r v z n m f g ps qs a b i j = met (two_cuts s text ps qs u r v z a b)
+  where
+    met : Ahead ps qs u r v z ⊎ Ahead qs ps v z u r → Same u r v z
+    met (inl h) = let c = subst (λ (t : List Piece). AreCut u r t v z) (fault_stops u r n f v z h.0 i h.2) h.2 in (c.1, c.0)
+    met (inr h) = let c = subst (λ (t : List Piece). AreCut v z t u r) (fault_stops v z m g u r h.0 j h.2) h.2 in (sym c.1, sym c.0)
+
+one_fault : (text before r other z : List ℕ) (u v : State) (f g : ScriptFault) → text ≡ before ++ r → text ≡ other ++ z → Same u r v z → IsFault u r (byte_length before) f → IsFault v z (byte_length other) g → f ≡ g
+one_fault text before r other z u v f g a b e i j =
+    let k : before ≡ other = append_cancel_right before other z (ap (λ (t : List ℕ). before ++ t) (sym e.1) ∙ sym a ∙ b) in
+    fault_same v z (byte_length other) f g
+    (subst (λ (t : List ℕ). IsFault v z (byte_length t) f) k (subst (λ (t : List ℕ). IsFault v t (byte_length before) f) e.1 (subst (λ (w : State). IsFault w r (byte_length before) f) e.0 i))) j
 
 pub first_fault_one : (text : List ℕ) (f g : ScriptFault) → IsFirstFault text f → IsFirstFault text g → f ≡ g
 first_fault_one text f g a b =
-    one_fault text a.0 a.1 b.0 b.1 f g a.4 b.4 (same_place text a.1 b.1 (byte_length a.0) (byte_length b.0) f g a.2 b.2 a.3 b.3 a.5 b.5 a.6 b.6 a.7 b.7) a.7 b.7
+    one_fault text a.0 a.1 b.0 b.1 a.3 b.3 f g a.4 b.4 (same_place start text a.3 a.1 b.3 b.1 (byte_length a.0) (byte_length b.0) f g a.2 b.2 a.5 b.5 a.6 b.6) a.6 b.6
+
+end_or_fault : (s : State) (text : List ℕ) (u : State) (v : State) (r : List ℕ) (n : ℕ) (f : ScriptFault) (ps qs : List Piece) → AreCut s text ps u [] → MayEnd u → AreCut s text qs v r → IsFault v r n f → ⊥
+end_or_fault s text u v r n f ps qs a m b i = met (two_cuts s text ps qs u [] v r a b)
+  where
+    met : Ahead ps qs u [] v r ⊎ Ahead qs ps v r u [] → ⊥
+    met (inl h) =
+        let e = no_more u v h.0 r h.2 in
+        fault_not_end v n f (subst MayEnd e.2 m) (subst (λ (t : List ℕ). IsFault v t n f) e.1 i)
+    met (inr h) =
+        let c = subst (λ (t : List Piece). AreCut v r t u []) (fault_stops v r n f u [] h.0 i h.2) h.2 in
+        fault_not_end v n f (subst MayEnd (sym c.1) m) (subst (λ (t : List ℕ). IsFault v t n f) c.0 i)
 
 pub tokens_or_fault : (text : List ℕ) (ls : List Lexeme) (f : ScriptFault) → AreTokens text ls → IsFirstFault text f → ⊥
-tokens_or_fault text ls f a b = met (two_cuts None text a.0 b.2 [] b.1 a.1 b.5)
-  where
-    met : Ahead None a.0 b.2 [] b.1 ⊎ Ahead None b.2 a.0 b.1 [] → ⊥
-    met (inl h) = fault_not_end (byte_length b.0) f (subst (λ (t : List ℕ). IsFault t (byte_length b.0) f) (no_more None h.0 b.1 h.2).1 b.7)
-    met (inr h) =
-        let k = say_split b.2 h.0 ls (subst (λ (t : List Piece). Say t ls) h.1 a.2) in
-        let e = fault_stops b.1 [] (byte_length b.0) f h.0 k.0 b.7 h.2 k.1 in
-        fault_not_end (byte_length b.0) f (subst (λ (t : List ℕ). IsFault t (byte_length b.0) f) (subst (λ (t : List Piece). AreCut None b.1 t []) e h.2) b.7)
+tokens_or_fault text ls f a b = end_or_fault start text a.1 b.3 b.1 (byte_length b.0) f a.0 b.2 a.2 a.3 b.5 b.6
 
 -- ---- the same fault again
 
-gap_ends : (gs ps us : List Piece) (q : Piece) → AreGaps gs → gs ≡ (ps ++ q ∷ []) ++ us → is_gap q.shape ≡ true
-gap_ends gs ps us q g is = inside ps us q (subst AreGaps is g)
-  where
-    inside : (ps us : List Piece) (q : Piece) → AreGaps ((ps ++ q ∷ []) ++ us) → is_gap q.shape ≡ true
-    inside [] us q g = and_left (is_gap q.shape) (list_all (λ p. is_gap p.shape) us) g
-    inside (p ∷ ps) us q g = inside ps us q (and_right (is_gap p.shape) (list_all (λ p. is_gap p.shape) ((ps ++ q ∷ []) ++ us)) g)
-
--- after gaps stands a fault, and no token
-fault_no_token : (from at x rest : List ℕ) (n : ℕ) (f : ScriptFault) (k : Shape) (l : Lexeme) → AfterGaps None from at → IsFault at n f → AfterGaps None from (x ++ rest) → IsPiece None k x rest → Says k x l → ⊥
-fault_no_token from at x rest n f k l g i h p y = met (two_cuts None from g.0 (h.0 ++ q ∷ []) at rest g.1 (cut_append None from (x ++ rest) rest h.0 (q ∷ []) h.1 (rest, refl, p, refl)))
+fault_no_token : (s : State) (from at x rest : List ℕ) (n : ℕ) (f : ScriptFault) (k : Shape) (l : Lexeme) → AfterGaps (setting_of s) from at → IsFault s at n f → AfterGaps (setting_of s) from (x ++ rest)
+    → IsPiece (setting_of s) k x rest → Says s k x l → ⊥
+fault_no_token s from at x rest n f k l g i h p y = met (two_cuts s from gaps pieces s at (after s l) rest (gaps_cut s from at g.0 g.1) cut)
   where
     q : Piece
-    q = record { shape = k; text = x }
+    q = record { shape = k; text = x; lexeme = Some l }
 
-    said : Say (h.0 ++ q ∷ []) (l ∷ [])
-    said = say_append h.0 (q ∷ []) [] (l ∷ []) (say_gaps h.0 h.2) (inr (l, [], refl, y, refl))
+    gaps : List Piece
+    gaps = as_pieces g.0
 
-    whole : (us : List Piece) → us ≡ [] → h.0 ++ q ∷ [] ≡ g.0 ++ us → g.0 ≡ (h.0 ++ q ∷ []) ++ []
-    whole us e is = sym (append_nil (h.0 ++ q ∷ []) ∙ is ∙ ap (λ (t : List Piece). g.0 ++ t) e ∙ append_nil g.0)
+    pieces : List Piece
+    pieces = as_pieces h.0 ++ q ∷ []
 
-    met : Ahead None g.0 (h.0 ++ q ∷ []) at rest ⊎ Ahead None (h.0 ++ q ∷ []) g.0 rest at → ⊥
+    cut : AreCut s from (as_pieces h.0 ++ q ∷ []) (after s l) rest
+    cut = cut_append s s (after s l) from (x ++ rest) rest (as_pieces h.0) (q ∷ []) (gaps_cut s from (x ++ rest) h.0 h.1) (rest, refl, p, y, (refl, refl))
+
+    says : said (as_pieces h.0 ++ q ∷ []) ≡ l ∷ []
+    says = said_append (as_pieces h.0) (q ∷ []) ∙ ap (λ (t : List Lexeme). t ++ l ∷ []) (said_gaps h.0)
+
+    met : Ahead (as_pieces g.0) (as_pieces h.0 ++ q ∷ []) s at (after s l) rest ⊎ Ahead (as_pieces h.0 ++ q ∷ []) (as_pieces g.0) (after s l) rest s at → ⊥
     met (inl a) =
-        let s = say_split g.0 a.0 (l ∷ []) (subst (λ (t : List Piece). Say t (l ∷ [])) a.1 said) in
-        gap_says k x l (gap_ends g.0 h.0 [] q g.2 (whole a.0 (fault_stops at rest n f a.0 s.0 i a.2 s.1) a.1)) y
-    met (inr a) = gap_says k x l (gap_ends g.0 h.0 a.0 q g.2 a.1) y
+        let e : as_pieces h.0 ++ q ∷ [] ≡ as_pieces g.0 = a.1 ∙ ap (λ (t : List Piece). as_pieces g.0 ++ t) (fault_stops s at n f (after s l) rest a.0 i a.2) ∙ append_nil (as_pieces g.0) in
+        absurd (let c : l ∷ [] ≡ [] = sym says ∙ ap said e ∙ said_gaps g.0 in cc)
+    met (inr a) =
+        absurd (let c : [] ≡ (l ∷ []) ++ said a.0 = sym (said_gaps g.0) ∙ ap said a.1 ∙ said_append (as_pieces h.0 ++ q ∷ []) a.0 ∙ ap (λ (t : List Lexeme). t ++ said a.0) says in cc)
 
-fault_not_last : (from at : List ℕ) (n : ℕ) (f : ScriptFault) → AfterGaps None from at → IsFault at n f → AfterGaps None from [] → ⊥
-fault_not_last from at n f g i h = met (two_cuts None from g.0 h.0 at [] g.1 h.1)
-  where
-    met : Ahead None g.0 h.0 at [] ⊎ Ahead None h.0 g.0 [] at → ⊥
-    met (inl a) =
-        let s = say_split g.0 a.0 [] (subst (λ (t : List Piece). Say t []) a.1 (say_gaps h.0 h.2)) in
-        let e = fault_stops at [] n f a.0 s.0 i a.2 s.1 in
-        fault_not_end n f (subst (λ (t : List ℕ). IsFault t n f) (subst (λ (t : List Piece). AreCut None at t []) e a.2) i)
-    met (inr a) = fault_not_end n f (subst (λ (t : List ℕ). IsFault t n f) (no_more None a.0 at a.2).1 i)
-
-abbrev Stops : List ℕ → List ℕ → ScriptFault → Type 0
-Stops text from f = (before : List ℕ) × (at : List ℕ) × (text ≡ before ++ at) × AfterGaps None from at × IsFault at (byte_length before) f
-
-one_stop : (text from : List ℕ) (f g : ScriptFault) → Stops text from f → Stops text from g → f ≡ g
-one_stop text from f g a b =
-    one_fault text a.0 a.1 b.0 b.1 f g a.2 b.2
-    (same_place from a.1 b.1 (byte_length a.0) (byte_length b.0) f g a.3.0 b.3.0 [] [] a.3.1 b.3.1 (say_gaps a.3.0 a.3.2) (say_gaps b.3.0 b.3.2) a.4 b.4) a.4 b.4
+one_stop : (text : List ℕ) (s : State) (from : List ℕ) (f g : ScriptFault) → Stops text s from f → Stops text s from g → f ≡ g
+one_stop text s from f g a b =
+    one_fault text a.0 a.1 b.0 b.1 s s f g a.2 b.2
+    (same_place s from s a.1 s b.1 (byte_length a.0) (byte_length b.0) f g (as_pieces a.3.0) (as_pieces b.3.0) (gaps_cut s from a.1 a.3.0 a.3.1) (gaps_cut s from b.1 b.3.0 b.3.1) a.4 b.4) a.4 b.4
 
 abbrev OrErr : Result (Option Token) ScriptFault → ScriptFault → Type 0
 OrErr a f = (a ≡ Err fault.OutOfMemory) ⊎ (a ≡ Err f)
 
-erred : (text from : List ℕ) (f g : ScriptFault) → Stops text from f → (g ≡ fault.OutOfMemory) ⊎ Stops text from g → OrErr (Err g) f
-erred text from f g s (inl o) = inl (ap Err o)
-erred text from f g s (inr o) = inr (ap Err (one_stop text from g f o s))
+erred : (text : List ℕ) (s : State) (from : List ℕ) (f g : ScriptFault) → Stops text s from f → (g ≡ fault.OutOfMemory) ⊎ Stops text s from g → OrErr (Err g) f
+erred text s from f g b (inl o) = inl (ap Err o)
+erred text s from f g b (inr o) = inr (ap Err (one_stop text s from g f o b))
 
-again : (text from rest : List ℕ) (f : ScriptFault) (a : Result (Option Token) ScriptFault) → Stops text from f → IsNext text from rest a → OrErr a f
-again text from rest f (Ok None) s h = absurd (fault_not_last from s.1 (byte_length s.0) f s.3 s.4 h.0)
-again text from rest f (Ok (Some t)) s h = absurd (fault_no_token from s.1 h.1 rest (byte_length s.0) f h.2 (lexeme_of t) s.3 s.4 h.4 h.5 h.6)
-again text from rest f (Err g) s h = erred text from f g s h.1
+again : (text : List ℕ) (s : State) (from : List ℕ) (u : State) (rest : List ℕ) (f : ScriptFault) (a : Result (Option Token) ScriptFault) → Stops text s from f → IsNext text s from u rest a → OrErr a f
+again text s from u rest f (Ok None) b h =
+    absurd (end_or_fault s from s s b.1 (byte_length b.0) f (as_pieces h.0.0.0) (as_pieces b.3.0) (gaps_cut s from [] h.0.0.0 h.0.0.1) h.0.1 (gaps_cut s from b.1 b.3.0 b.3.1) b.4)
+again text s from u rest f (Ok (Some t)) b h =
+    absurd (fault_no_token s from b.1 h.0.1 rest (byte_length b.0) f h.0.2 (lexeme_of t) b.3 b.4 h.0.4 h.0.5 (h.0.6, h.1))
+again text s from u rest f (Err g) b h = erred text s from f g b h.2
 
-pub same_again : (text from mid rest : List ℕ) (f : ScriptFault) (a : Result (Option Token) ScriptFault) → IsNext text from mid (Err f) → IsNext text mid rest a
+moved : (text : List ℕ) (s t u : State) (from mid rest : List ℕ) (a : Result (Option Token) ScriptFault) → mid ≡ from → t ≡ s → IsNext text t mid u rest a → IsNext text s from u rest a
+moved text s t u from mid rest a is same h = subst (λ (x : List ℕ). IsNext text s x u rest a) is (subst (λ (v : State). IsNext text v mid u rest a) same h)
+
+again_or : (text : List ℕ) (s : State) (from : List ℕ) (u : State) (rest : List ℕ) (f : ScriptFault) (a : Result (Option Token) ScriptFault) → (f ≡ fault.OutOfMemory) ⊎ Stops text s from f → IsNext text s from u rest a
+    → (f ≡ fault.OutOfMemory) ⊎ OrErr a f
+again_or text s from u rest f a (inl o) h = inl o
+again_or text s from u rest f a (inr b) h = inr (again text s from u rest f a b h)
+
+pub same_again : (text : List ℕ) (s t u : State) (from mid rest : List ℕ) (f : ScriptFault) (a : Result (Option Token) ScriptFault) → IsNext text s from t mid (Err f) → IsNext text t mid u rest a
     → (f ≡ fault.OutOfMemory) ⊎ ((a ≡ Err fault.OutOfMemory) ⊎ (a ≡ Err f))
-same_again text from mid rest f a h k = either h.1
-  where
-    either : (f ≡ fault.OutOfMemory) ⊎ Stops text from f → (f ≡ fault.OutOfMemory) ⊎ ((a ≡ Err fault.OutOfMemory) ⊎ (a ≡ Err f))
-    either (inl o) = inl o
-    either (inr o) = inr (again text from rest f a o (subst (λ (t : List ℕ). IsNext text t rest a) h.0 k))
+same_again text s t u from mid rest f a h k = again_or text s from u rest f a h.2 (moved text s t u from mid rest a h.0 h.1 k)

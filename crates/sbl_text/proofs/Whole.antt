@@ -7,13 +7,15 @@ use Rattle.std.proofs.lemmas.List.{length-append}
 use Rattle.sbl_text.specs.declared.signs.Sign.{Sign}
 use Rattle.sbl_text.specs.declared.pieces.Shape.{Shape}
 use Rattle.sbl_text.specs.declared.pieces.Shape.TheVariants as shape
+use Rattle.sbl_text.specs.declared.pieces.Wanted.{Wanted}
+use Rattle.sbl_text.specs.declared.pieces.Wanted.TheVariants as wanted
 use Rattle.sbl_text.specs.declared.pieces.Start.{Start}
 use Rattle.sbl_text.specs.declared.pieces.Start.TheVariants as start
-use Rattle.sbl_text.specs.declared.pieces.Inserts.{Inserts}
+use Rattle.sbl_text.specs.declared.escapes.Inserts.{Inserts}
 use Rattle.sbl_text.specs.Classes.{past, is_white, is_letter, is_digit, is_word}
 use Rattle.sbl_text.specs.Signs.{sign_of, sign_front, one, two}
-use Rattle.sbl_text.specs.Pieces.{Has, Stands, IsPiece, NoPiece, BeginsComment, IsCutFrom, Piece, AreCut, AreGaps, AfterGaps, Piece_at, is_gap}
-use Rattle.sbl_text.specs.Scan.{past_literal, past_block, start_of, Cut, cut, cut_at, cut_as, sign_cut, slash_cut}
+use Rattle.sbl_text.specs.Pieces.{Has, may_come, Setting, setting, Stands, IsPiece, NoPiece, BeginsComment, IsCutFrom, Gap, AreGaps, AfterGaps, Piece_at, is_gap}
+use Rattle.sbl_text.specs.Scan.{past_literal, past_block, start_of, Cut, cut, cut_at, cut_as, sign_cut, slash_cut, pair_from, pair_cut, name_cut, cut_in}
 use Rattle.sbl_text.proofs.Cuts.{and_left, and_right, or_left, or_right, run, run_longest, sign_found, sign_longest, literal_parts, literal_ends, block_parts, block_ends, same_number}
 
 -- ---- first characters
@@ -105,59 +107,65 @@ sign_case e (a ∷ y) more s h free =
     along e shape.Sign (length more) a (y ++ more) (if a == 47 then start.Slash else start.Other) (sign_start a y s h)
     (sign_leaves e (length more) a (y ++ more) (a == 47) refl free (leaves_sign (length more) (sign_front (a ∷ (y ++ more))) (sign_longest (a ∷ y) more s h)))
 
-pub longest : (e : Option Inserts) (k : Shape) (y more : List ℕ) → Has e k y → (k ≡ shape.Sign → BeginsComment (y ++ more) → ⊥) → LeavesCut k (length more) (cut e (y ++ more))
-longest e shape.Blank y more h free =
+longest_token : (e : Option Inserts) (k : Shape) (y more : List ℕ) → Has e k y → may_come wanted.Token k ≡ true → (k ≡ shape.Sign → BeginsComment (y ++ more) → ⊥) → LeavesCut k (length more) (cut e (y ++ more))
+longest_token e shape.Blank y more h may free =
     subst (λ (t : List ℕ). LeavesCut shape.Blank (length more) (cut e (t ++ more))) (sym h.1) (along e shape.Blank (length more) h.0 more start.White (white_start h.0 h.2) (refl, omega arith))
-longest e shape.Word y more h free =
+longest_token e shape.Word y more h may free =
     subst (λ (t : List ℕ). LeavesCut shape.Word (length more) (cut e (t ++ more))) (sym h.2) (along e shape.Word (length more) h.0 (h.1 ++ more) start.Letter (letter_start h.0 h.3) (refl, run_longest is_word h.1 more h.4))
-longest e shape.Number y more h free =
+longest_token e shape.Number y more h may free =
     subst (λ (t : List ℕ). LeavesCut shape.Number (length more) (cut e (t ++ more))) (sym h.2) (along e shape.Number (length more) h.0 (h.1 ++ more) start.Digit (digit_start h.0 h.3) (refl, run_longest is_digit h.1 more h.4))
-longest e shape.LineComment y more h free =
+longest_token e shape.LineComment y more h may free =
     subst (λ (t : List ℕ). LeavesCut shape.LineComment (length more) (cut e (t ++ more))) (sym h.1) (along e shape.LineComment (length more) 47 (47 ∷ (h.0 ++ more)) start.Slash refl (refl, run_longest (λ d. not (d == 10)) h.0 more h.2))
-longest e shape.BlockComment y more h free =
+longest_token e shape.BlockComment y more h may free =
     subst (λ (t : List ℕ). LeavesCut shape.BlockComment (length more) (cut e (t ++ more))) (sym h.1)
     (along e shape.BlockComment (length more) 47 (42 ∷ ((h.0 ++ 42 ∷ 47 ∷ []) ++ more)) start.Slash refl
     (let a : past_block ((h.0 ++ 42 ∷ 47 ∷ []) ++ more) ≡ Some more = ap past_block (append_assoc h.0 (42 ∷ 47 ∷ []) more) ∙ block_ends h.0 more h.2 in
     subst (λ (t : Option (List ℕ)). LeavesCut shape.BlockComment (length more) (cut_as shape.BlockComment t)) (sym a) (refl, omega arith)))
-longest e shape.Literal y more h free =
+longest_token e shape.Literal y more h may free =
     subst (λ (t : List ℕ). LeavesCut shape.Literal (length more) (cut e (t ++ more))) (sym h.1)
     (along e shape.Literal (length more) 39 ((h.0 ++ 39 ∷ []) ++ more) start.Quote refl
     (let a : past_literal e false ((h.0 ++ 39 ∷ []) ++ more) ≡ Some more = ap (past_literal e false) (append_assoc h.0 (39 ∷ []) more) ∙ literal_ends e false h.0 more h.2 in
     subst (λ (t : Option (List ℕ)). LeavesCut shape.Literal (length more) (cut_as shape.Literal t)) (sym a) (refl, omega arith)))
-longest e shape.Sign y more h free = sign_case e y more h.0 h.1 (free refl)
+longest_token e shape.Sign y more h may free = sign_case e y more h.0 h.1 (free refl)
+longest_token e shape.Inserts y more h may free = absurd (cc)
+longest_token e shape.MacroName y more h may free = absurd (cc)
 
 -- ---- what is cut stands there
 
+-- an ordinary piece stands there
+abbrev Stood : Option Inserts → Shape → List ℕ → List ℕ → Type 0
+Stood e k x rest = Has e k x × (may_come wanted.Token k ≡ true) × (k ≡ shape.Sign → BeginsComment (x ++ rest) → ⊥)
+
 abbrev FoundCut : Option Inserts → List ℕ → Cut → Type 0
-FoundCut e text o = IfSome o (λ p. (x : List ℕ) × (text ≡ x ++ p.1) × Stands e p.0 x p.1)
+FoundCut e text o = IfSome o (λ p. (x : List ℕ) × (text ≡ x ++ p.1) × Stood e p.0 x p.1)
 
 sign_stands : (e : Option Inserts) (text : List ℕ) (o : Option (Sign × List ℕ)) → (BeginsComment text → ⊥)
     → IfSome o (λ p. (x : List ℕ) × (text ≡ x ++ p.1) × (sign_of x ≡ Some p.0)) → FoundCut e text (option_map (λ p. (shape.Sign, p.1)) o)
 sign_stands e text None free f = tt
-sign_stands e text (Some p) free f = (f.0, f.1, record { has = (p.0, f.2); no_comment = λ i b. free (subst BeginsComment (sym f.1) b) })
+sign_stands e text (Some p) free f = (f.0, f.1, ((p.0, f.2), refl, λ i b. free (subst BeginsComment (sym f.1) b)))
 
 sign_cut_stands : (e : Option Inserts) (text : List ℕ) → (BeginsComment text → ⊥) → FoundCut e text (sign_cut text)
 sign_cut_stands e text free = sign_stands e text (sign_front text) free (sign_found text)
 
-run_stands : (e : Option Inserts) (k : Shape) (c : ℕ) (cs rest : List ℕ) (x : List ℕ) → cs ≡ x ++ rest → Has e k (c ∷ x) → (k ≡ shape.Sign → ⊥) → FoundCut e (c ∷ cs) (Some (k, rest))
-run_stands e k c cs rest x is h other = (c ∷ x, ap (λ (t : List ℕ). c ∷ t) is, record { has = h; no_comment = λ i b. other i })
+run_stands : (e : Option Inserts) (k : Shape) (c : ℕ) (cs rest : List ℕ) (x : List ℕ) → cs ≡ x ++ rest → Has e k (c ∷ x) → may_come wanted.Token k ≡ true → (k ≡ shape.Sign → ⊥) → FoundCut e (c ∷ cs) (Some (k, rest))
+run_stands e k c cs rest x is h may other = (c ∷ x, ap (λ (t : List ℕ). c ∷ t) is, (h, may, λ i b. other i))
 
 literal_stands : (e : Option Inserts) (cs : List ℕ) (o : Option (List ℕ)) → past_literal e false cs ≡ o → FoundCut e (39 ∷ cs) (cut_as shape.Literal o)
 literal_stands e cs None h = tt
 literal_stands e cs (Some rest) h =
     let r = literal_parts e false cs rest h in
-    run_stands e shape.Literal 39 cs rest (r.0 ++ 39 ∷ []) (r.1 ∙ sym (append_assoc r.0 (39 ∷ []) rest)) (r.0, refl, r.2) (λ i. cc)
+    run_stands e shape.Literal 39 cs rest (r.0 ++ 39 ∷ []) (r.1 ∙ sym (append_assoc r.0 (39 ∷ []) rest)) (r.0, refl, r.2) refl (λ i. cc)
 
 block_stands : (e : Option Inserts) (cs : List ℕ) (o : Option (List ℕ)) → past_block cs ≡ o → FoundCut e (47 ∷ 42 ∷ cs) (cut_as shape.BlockComment o)
 block_stands e cs None h = tt
 block_stands e cs (Some rest) h =
     let r = block_parts cs rest h in
-    run_stands e shape.BlockComment 47 (42 ∷ cs) rest (42 ∷ (r.0 ++ 42 ∷ 47 ∷ [])) (ap (λ (t : List ℕ). 42 ∷ t) (r.1 ∙ sym (append_assoc r.0 (42 ∷ 47 ∷ []) rest))) (r.0, refl, r.2) (λ i. cc)
+    run_stands e shape.BlockComment 47 (42 ∷ cs) rest (42 ∷ (r.0 ++ 42 ∷ 47 ∷ [])) (ap (λ (t : List ℕ). 42 ∷ t) (r.1 ∙ sym (append_assoc r.0 (42 ∷ 47 ∷ []) rest))) (r.0, refl, r.2) refl (λ i. cc)
 
 line_stands : (e : Option Inserts) (cs : List ℕ) → FoundCut e (47 ∷ 47 ∷ cs) (Some (shape.LineComment, past (λ d. not (d == 10)) cs))
 line_stands e cs =
     let r = run (λ d. not (d == 10)) cs in
-    run_stands e shape.LineComment 47 (47 ∷ cs) (past (λ d. not (d == 10)) cs) (47 ∷ r.0) (ap (λ (t : List ℕ). 47 ∷ t) r.1) (r.0, refl, r.2) (λ i. cc)
+    run_stands e shape.LineComment 47 (47 ∷ cs) (past (λ d. not (d == 10)) cs) (47 ∷ r.0) (ap (λ (t : List ℕ). 47 ∷ t) r.1) (r.0, refl, r.2) refl (λ i. cc)
 
 no_comment_at : (d : ℕ) (cs : List ℕ) → (d == 47) ≡ false → (d == 42) ≡ false → BeginsComment (47 ∷ d ∷ cs) → ⊥
 no_comment_at d cs i j b =
@@ -182,9 +190,9 @@ other_free c cs h b = let s : c ≡ 47 = cc (b.2) in let t : (c == 47) ≡ true 
 
 found_by : (e : Option Inserts) (c : ℕ) (cs : List ℕ) (w l d q s : Bool) → is_white c ≡ w → is_letter c ≡ l → is_digit c ≡ d → (c == 39) ≡ q → (c == 47) ≡ s
     → FoundCut e (c ∷ cs) (cut_at e (if w then start.White else (if l then start.Letter else (if d then start.Digit else (if q then start.Quote else (if s then start.Slash else start.Other))))) c cs)
-found_by e c cs true l d q s hw hl hd hq hs = (c ∷ [], refl, record { has = (c, refl, hw); no_comment = λ i b. cc })
-found_by e c cs false true d q s hw hl hd hq hs = let r = run is_word cs in run_stands e shape.Word c cs (past is_word cs) r.0 r.1 (c, r.0, refl, hl, r.2) (λ i. cc)
-found_by e c cs false false true q s hw hl hd hq hs = let r = run is_digit cs in run_stands e shape.Number c cs (past is_digit cs) r.0 r.1 (c, r.0, refl, hd, r.2) (λ i. cc)
+found_by e c cs true l d q s hw hl hd hq hs = (c ∷ [], refl, ((c, refl, hw), refl, λ i b. cc))
+found_by e c cs false true d q s hw hl hd hq hs = let r = run is_word cs in run_stands e shape.Word c cs (past is_word cs) r.0 r.1 (c, r.0, refl, hl, r.2) refl (λ i. cc)
+found_by e c cs false false true q s hw hl hd hq hs = let r = run is_digit cs in run_stands e shape.Number c cs (past is_digit cs) r.0 r.1 (c, r.0, refl, hd, r.2) refl (λ i. cc)
 found_by e c cs false false false true s hw hl hd hq hs =
     subst (λ (n : ℕ). FoundCut e (n ∷ cs) (cut_as shape.Literal (past_literal e false cs))) (sym (same_number c 39 hq)) (literal_stands e cs (past_literal e false cs) refl)
 found_by e c cs false false false false true hw hl hd hq hs = subst (λ (n : ℕ). FoundCut e (n ∷ cs) (slash_cut (n ∷ cs) cs)) (sym (same_number c 47 hs)) (slash_stands e cs)
@@ -195,47 +203,121 @@ unfolding cut
 found e [] = tt
 found e (c ∷ cs) = found_by e c cs (is_white c) (is_letter c) (is_digit c) (c == 39) (c == 47) refl refl refl refl refl
 
-cut_is_at : (e : Option Inserts) (text : List ℕ) (o : Cut) → cut e text ≡ o → FoundCut e text o → IsCutFrom e text o
-cut_is_at e text None h f = λ j y more is st. subst (λ (o : Cut). LeavesCut j (length more) o) (ap (cut e) (sym is) ∙ h) (longest e j y more st.has st.no_comment)
+-- ---- insert characters and names of macros
+
+longest_pair : (e : Option Inserts) (k : Shape) (y more : List ℕ) → Has e k y → may_come wanted.Inserts k ≡ true → LeavesCut k (length more) (pair_cut (y ++ more))
+unfolding pair_cut
+longest_pair e shape.Blank y more h may = subst (λ (t : List ℕ). LeavesCut shape.Blank (length more) (pair_cut (t ++ more))) (sym h.1) (rw h.2 (refl, omega arith))
+longest_pair e shape.Inserts y more h may =
+    subst (λ (t : List ℕ). LeavesCut shape.Inserts (length more) (pair_cut (t ++ more))) (sym h.2) (rw (h.4, h.3, h.5) (refl, omega arith))
+longest_pair e shape.Word y more h may = absurd (cc)
+longest_pair e shape.Number y more h may = absurd (cc)
+longest_pair e shape.LineComment y more h may = absurd (cc)
+longest_pair e shape.BlockComment y more h may = absurd (cc)
+longest_pair e shape.Literal y more h may = absurd (cc)
+longest_pair e shape.Sign y more h may = absurd (cc)
+longest_pair e shape.MacroName y more h may = absurd (cc)
+
+longest_name : (e : Option Inserts) (k : Shape) (y more : List ℕ) → Has e k y → may_come wanted.MacroName k ≡ true → LeavesCut k (length more) (name_cut (y ++ more))
+unfolding name_cut
+longest_name e shape.Blank y more h may = subst (λ (t : List ℕ). LeavesCut shape.Blank (length more) (name_cut (t ++ more))) (sym h.1) (rw h.2 (refl, omega arith))
+longest_name e shape.MacroName y more h may =
+    subst (λ (t : List ℕ). LeavesCut shape.MacroName (length more) (name_cut (t ++ more))) (sym h.2) (rw h.3 (refl, run_longest (λ d. not (is_white d)) h.1 more h.4))
+longest_name e shape.Word y more h may = absurd (cc)
+longest_name e shape.Number y more h may = absurd (cc)
+longest_name e shape.LineComment y more h may = absurd (cc)
+longest_name e shape.BlockComment y more h may = absurd (cc)
+longest_name e shape.Literal y more h may = absurd (cc)
+longest_name e shape.Sign y more h may = absurd (cc)
+longest_name e shape.Inserts y more h may = absurd (cc)
+
+longest_in : (e : Option Inserts) (w : Wanted) (k : Shape) (y more : List ℕ) → Has e k y → may_come w k ≡ true → (k ≡ shape.Sign → BeginsComment (y ++ more) → ⊥) → LeavesCut k (length more) (cut_in e w (y ++ more))
+longest_in e wanted.Token k y more h may free = longest_token e k y more h may free
+longest_in e wanted.Inserts k y more h may free = longest_pair e k y more h may
+longest_in e wanted.MacroName k y more h may free = longest_name e k y more h may
+
+-- whatever may come and stands at the front is what is cut, and no more is left
+pub longest : (e : Setting) (k : Shape) (y more : List ℕ) → Stands e k y more → LeavesCut k (length more) (cut_in e.inserts e.wanted (y ++ more))
+longest e k y more st = longest_in e.inserts e.wanted k y more st.has st.comes st.no_comment
+
+abbrev FoundIn : Setting → List ℕ → Cut → Type 0
+FoundIn e text o = IfSome o (λ p. (x : List ℕ) × (text ≡ x ++ p.1) × Stands e p.0 x p.1)
+
+found_token : (e : Option Inserts) (text : List ℕ) (o : Cut) → FoundCut e text o → FoundIn (setting e wanted.Token) text o
+found_token e text None f = tt
+found_token e text (Some p) f = (f.0, f.1, record { has = f.2.0; comes = f.2.1; no_comment = f.2.2 })
+
+pair_two : (e : Option Inserts) (a b : ℕ) (cs : List ℕ) (q w : Bool) → (a == 39) ≡ q → is_white a ≡ false → is_white b ≡ w → FoundIn (setting e wanted.Inserts) (a ∷ b ∷ cs) (if q || w then None else Some (shape.Inserts, cs))
+pair_two e a b cs true w x y z = tt
+pair_two e a b cs false true x y z = tt
+pair_two e a b cs false false x y z = (a ∷ b ∷ [], refl, record { has = (a, b, refl, x, y, z); comes = refl; no_comment = λ j k. cc })
+
+pair_after : (e : Option Inserts) (a : ℕ) (cs : List ℕ) → is_white a ≡ false → FoundIn (setting e wanted.Inserts) (a ∷ cs) (pair_from a cs)
+pair_after e a [] h = tt
+pair_after e a (b ∷ cs) h = pair_two e a b cs (a == 39) (is_white b) refl h refl
+
+pair_at : (e : Option Inserts) (c : ℕ) (cs : List ℕ) (b : Bool) → is_white c ≡ b → FoundIn (setting e wanted.Inserts) (c ∷ cs) (if b then Some (shape.Blank, cs) else pair_from c cs)
+pair_at e c cs true h = (c ∷ [], refl, record { has = (c, refl, h); comes = refl; no_comment = λ j k. cc })
+pair_at e c cs false h = pair_after e c cs h
+
+found_pair : (e : Option Inserts) (text : List ℕ) → FoundIn (setting e wanted.Inserts) text (pair_cut text)
+unfolding pair_cut
+found_pair e [] = tt
+found_pair e (c ∷ cs) = pair_at e c cs (is_white c) refl
+
+name_at : (e : Option Inserts) (c : ℕ) (cs : List ℕ) (b : Bool) → is_white c ≡ b
+    → FoundIn (setting e wanted.MacroName) (c ∷ cs) (if b then Some (shape.Blank, cs) else Some (shape.MacroName, past (λ d. not (is_white d)) cs))
+name_at e c cs true h = (c ∷ [], refl, record { has = (c, refl, h); comes = refl; no_comment = λ j k. cc })
+name_at e c cs false h =
+    let r = run (λ d. not (is_white d)) cs in
+    (c ∷ r.0, ap (λ (t : List ℕ). c ∷ t) r.1, record { has = (c, r.0, refl, h, r.2); comes = refl; no_comment = λ j k. cc })
+
+found_name : (e : Option Inserts) (text : List ℕ) → FoundIn (setting e wanted.MacroName) text (name_cut text)
+unfolding name_cut
+found_name e [] = tt
+found_name e (c ∷ cs) = name_at e c cs (is_white c) refl
+
+found_in : (e : Option Inserts) (w : Wanted) (text : List ℕ) → FoundIn (setting e w) text (cut_in e w text)
+found_in e wanted.Token text = found_token e text (cut e text) (found e text)
+found_in e wanted.Inserts text = found_pair e text
+found_in e wanted.MacroName text = found_name e text
+
+cut_is_at : (e : Setting) (text : List ℕ) (o : Cut) → cut_in e.inserts e.wanted text ≡ o → FoundIn e text o → IsCutFrom e text o
+cut_is_at e text None h f = λ j y more is st. subst (λ (o : Cut). LeavesCut j (length more) o) (ap (cut_in e.inserts e.wanted) (sym is) ∙ h) (longest e j y more st)
 cut_is_at e text (Some p) h f = (
   f.0,
   f.1,
   record {
     stands = f.2;
     longest = λ j y more is st. shorter f.0 y p.1 more is
-        (subst (λ (o : Cut). LeavesCut j (length more) o) (ap (cut e) (sym is ∙ sym f.1) ∙ h) (longest e j y more st.has st.no_comment)).1;
+        (subst (λ (o : Cut). LeavesCut j (length more) o) (ap (cut_in e.inserts e.wanted) (sym is ∙ sym f.1) ∙ h) (longest e j y more st)).1;
   },
 )
   where
     shorter : (x y rest more : List ℕ) → x ++ rest ≡ y ++ more → length rest ≤ length more → length y ≤ length x
     shorter x y rest more is h = omega (arith, length-append x rest, length-append y more, ap length is)
 
-pub cut_is : (e : Option Inserts) (text : List ℕ) → IsCutFrom e text (cut e text)
-cut_is e text = cut_is_at e text (cut e text) refl (found e text)
+pub cut_is : (i : Option Inserts) (w : Wanted) (text : List ℕ) → IsCutFrom (setting i w) text (cut_in i w text)
+cut_is i w text = cut_is_at (setting i w) text (cut_in i w text) refl (found_in i w text)
 
 -- the same of what the code answers
-pub given : {B : Type 0} (e : Option Inserts) (text : List ℕ) (view : B → List ℕ) (o : Option (Shape × B)) → MatchOption o (cut e text ≡ None) (λ p. cut e text ≡ Some (p.0, view p.1))
-    → MatchOption o (NoPiece e text) (λ p. (x : List ℕ) × (text ≡ x ++ view p.1) × IsPiece e p.0 x (view p.1))
-given e text view None h = subst (IsCutFrom e text) h (cut_is e text)
-given e text view (Some p) h = subst (IsCutFrom e text) h (cut_is e text)
+pub given : {B : Type 0} (i : Option Inserts) (w : Wanted) (text : List ℕ) (view : B → List ℕ) (o : Option (Shape × B)) → MatchOption o (cut_in i w text ≡ None) (λ p. cut_in i w text ≡ Some (p.0, view p.1))
+    → MatchOption o (NoPiece (setting i w) text) (λ p. (x : List ℕ) × (text ≡ x ++ view p.1) × IsPiece (setting i w) p.0 x (view p.1))
+given i w text view None h = subst (IsCutFrom (setting i w) text) h (cut_is i w text)
+given i w text view (Some p) h = subst (IsCutFrom (setting i w) text) h (cut_is i w text)
 
 -- ---- gaps
 
-pub gap_none : (e : Option Inserts) (text : List ℕ) → AfterGaps e text text
-gap_none e text = ([], refl, refl)
+pub gap_none : (e : Setting) (text : List ℕ) → AfterGaps e text text
+gap_none e text = ([], refl)
 
-cut_more : (e : Option Inserts) (text rest behind x : List ℕ) (ps : List Piece) (k : Shape) → AreCut e text ps rest → rest ≡ x ++ behind → IsPiece e k x behind
-    → AreCut e text (ps ++ record { shape = k; text = x } ∷ []) behind
-cut_more e text rest behind x [] k a is p = (behind, a ∙ is, p, refl)
-cut_more e text rest behind x (q ∷ ps) k a is p = (a.0, a.1, a.2, cut_more e a.0 rest behind x ps k a.3 is p)
+gaps_more : (e : Setting) (text rest behind x : List ℕ) (gs : List Gap) (k : Shape) → AreGaps e text gs rest → rest ≡ x ++ behind → IsPiece e k x behind → is_gap k ≡ true
+    → AreGaps e text (gs ++ record { shape = k; text = x } ∷ []) behind
+gaps_more e text rest behind x [] k a is p g = (behind, a ∙ is, p, g, refl)
+gaps_more e text rest behind x (q ∷ gs) k a is p g = (a.0, a.1, a.2, a.3, gaps_more e a.0 rest behind x gs k a.4 is p g)
 
-gaps_more : (ps : List Piece) (k : Shape) (x : List ℕ) → AreGaps ps → is_gap k ≡ true → AreGaps (ps ++ record { shape = k; text = x } ∷ [])
-gaps_more [] k x a g = rw g refl
-gaps_more (q ∷ ps) k x a g = rw (and_left (is_gap q.shape) (list_all (λ p. is_gap p.shape) ps) a) (gaps_more ps k x (and_right (is_gap q.shape) (list_all (λ p. is_gap p.shape) ps) a) g)
-
-pub gap_more : (e : Option Inserts) (text rest behind : List ℕ) (k : Shape) → AfterGaps e text rest → Piece_at e k rest behind → is_gap k ≡ true → AfterGaps e text behind
-gap_more e text rest behind k a p g =
-    (a.0 ++ record { shape = k; text = p.0 } ∷ [], cut_more e text rest behind p.0 a.0 k a.1 p.1 p.2, gaps_more a.0 k p.0 a.2 g)
+pub gap_more : (e : Setting) (text rest behind : List ℕ) (k : Shape) → AfterGaps e text rest → Piece_at e k rest behind → is_gap k ≡ true → AfterGaps e text behind
+gap_more e text rest behind k a p g = (a.0 ++ record { shape = k; text = p.0 } ∷ [], gaps_more e text rest behind p.0 a.0 k a.1 p.1 p.2 g)
 
 pub passed : (r s : Bool) → r ≡ s → r ≡ true → s ≡ true
 passed r s h i = sym h ∙ i

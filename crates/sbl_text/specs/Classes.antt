@@ -21,6 +21,7 @@ is_in class.Letter c = is_letter c
 is_in class.Word c = is_word c
 is_in class.Digit c = is_digit c
 is_in class.Line c = not (c == 10)
+is_in class.Black c = not (is_white c)
 
 -- what is left after the characters that pass
 abbrev pub past : (ℕ → Bool) → List ℕ → List ℕ

@@ -8,6 +8,7 @@ use Rattle.sbl_text.specs.declared.words.Word.{Word}
 use Rattle.sbl_text.specs.Signs.{sign_of, sign_text}
 use Rattle.sbl_text.specs.Words.{word_of, word_text}
 use Rattle.sbl_text.specs.Lexemes.{Lexeme}
+use Rattle.sbl_text.specs.States.{State}
 use Rattle.sbl_text.specs.Tokens.{Placed, AreTokens, ArePlaced, IsFirstFault, IsNext}
 
 -- a text has one list of tokens
@@ -29,7 +30,7 @@ TokensOrFault = (text : List ℕ) (ls : List Lexeme) (f : ScriptFault) → AreTo
 -- after a fault comes the same fault, unless memory is refused
 abbrev pub SameFaultAgain : Type 0
 SameFaultAgain =
-    (text from mid rest : List ℕ) (f : ScriptFault) (next : Result (Option Token) ScriptFault) → IsNext text from mid (Err f) → IsNext text mid rest next
+    (text : List ℕ) (s t u : State) (from mid rest : List ℕ) (f : ScriptFault) (next : Result (Option Token) ScriptFault) → IsNext text s from t mid (Err f) → IsNext text t mid u rest next
     → (f ≡ fault.OutOfMemory) ⊎ ((next ≡ Err fault.OutOfMemory) ⊎ (next ≡ Err f))
 
 -- a word is read from how it is written

@@ -8,13 +8,16 @@ use Rattle.sbl_text.specs.declared.token.Value.{Value}
 use Rattle.sbl_text.specs.declared.token.Value.TheVariants as value
 use Rattle.sbl_text.specs.declared.token.Token.{Token}
 
--- a name by the bytes of its text, a number by its value, a literal by the bytes of its spelling and its characters
+-- a name by the bytes of its text, a number by its value, a literal by the bytes of its spelling and its characters,
+-- insert characters by the two, and the name of a macro by the bytes of its text
 pub data Lexeme : Type 0 where
   word : Word → Lexeme
   sign : Sign → Lexeme
   name : List ℕ → Lexeme
   number : ℕ → Lexeme
   literal : List ℕ → List ℕ → Lexeme
+  inserts : ℕ → ℕ → Lexeme
+  macro_name : List ℕ → Lexeme
 
 abbrev pub number_in : Value → ℕ
 number_in (value.Number n) = n
@@ -28,12 +31,18 @@ abbrev pub characters_in : Value → List ℕ
 characters_in (value.Literal spelling characters) = characters.items
 characters_in _ = []
 
+abbrev pub inserts_in : Value → ℕ × ℕ
+inserts_in (value.Inserts a b) = (a, b)
+inserts_in _ = (0, 0)
+
 abbrev pub lexeme_by : Kind → List ℕ → Value → Lexeme
 lexeme_by (kind.Word w) text v = word w
 lexeme_by (kind.Sign s) text v = sign s
 lexeme_by kind.Name text v = name text
 lexeme_by kind.Number text v = number (number_in v)
 lexeme_by kind.Literal text v = literal (spelling_in v) (characters_in v)
+lexeme_by kind.Inserts text v = inserts (inserts_in v).0 (inserts_in v).1
+lexeme_by kind.MacroName text v = macro_name text
 
 abbrev pub lexeme_of : Token → Lexeme
 lexeme_of t = lexeme_by t.kind t.text.now t.value

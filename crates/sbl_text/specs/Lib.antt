@@ -1,8 +1,12 @@
 pub mod Classes
 pub mod Words
 pub mod Signs
+pub mod Escapes
+pub mod Codes
+pub mod Literals
 pub mod Pieces
 pub mod Scan
 pub mod Lexemes
+pub mod States
 pub mod Tokens
 pub mod Laws

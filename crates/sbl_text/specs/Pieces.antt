@@ -4,17 +4,12 @@ use Rattle.std.specs.List.{list_all}
 use Rattle.sbl_text.specs.declared.signs.Sign.{Sign}
 use Rattle.sbl_text.specs.declared.pieces.Shape.{Shape}
 use Rattle.sbl_text.specs.declared.pieces.Shape.TheVariants as shape
-use Rattle.sbl_text.specs.declared.pieces.Inserts.{Inserts}
+use Rattle.sbl_text.specs.declared.escapes.Inserts.{Inserts}
 use Rattle.sbl_text.specs.Classes.{is_white, is_letter, is_digit, is_word}
+use Rattle.sbl_text.specs.declared.pieces.Wanted.{Wanted}
+use Rattle.sbl_text.specs.declared.pieces.Wanted.TheVariants as wanted
 use Rattle.sbl_text.specs.Signs.{sign_of}
-
-abbrev pub opens : Option Inserts → ℕ → Bool
-opens None c = false
-opens (Some p) c = c == p.open
-
-abbrev pub closes : Option Inserts → ℕ → Bool
-closes None c = false
-closes (Some p) c = c == p.close
+use Rattle.sbl_text.specs.Escapes.{opens, closes}
 
 -- The text can stand between the quotes of a literal. `inside` says that an insertion has begun.
 abbrev pub is_inner : Option Inserts → Bool → List ℕ → Bool
@@ -41,29 +36,46 @@ Has e shape.Word x = (c : ℕ) × (cs : List ℕ) × (x ≡ c ∷ cs) × (is_let
 Has e shape.Number x = (c : ℕ) × (cs : List ℕ) × (x ≡ c ∷ cs) × (is_digit c ≡ true) × (list_all is_digit cs ≡ true)
 Has e shape.Sign x = (s : Sign) × (sign_of x ≡ Some s)
 Has e shape.Literal x = (inner : List ℕ) × (x ≡ 39 ∷ (inner ++ 39 ∷ [])) × (is_inner e false inner ≡ true)
+Has e shape.Inserts x = (a : ℕ) × (b : ℕ) × (x ≡ a ∷ b ∷ []) × (a == 39 ≡ false) × (is_white a ≡ false) × (is_white b ≡ false)
+Has e shape.MacroName x = (c : ℕ) × (cs : List ℕ) × (x ≡ c ∷ cs) × (is_white c ≡ false) × (list_all (λ d. not (is_white d)) cs ≡ true)
+
+-- which shapes may come: after the word that asks for insert characters or for a macro's name, white space and that
+abbrev pub may_come : Wanted → Shape → Bool
+may_come wanted.Inserts shape.Blank = true
+may_come wanted.Inserts shape.Inserts = true
+may_come wanted.Inserts _ = false
+may_come wanted.MacroName shape.Blank = true
+may_come wanted.MacroName shape.MacroName = true
+may_come wanted.MacroName _ = false
+may_come wanted.Token shape.Inserts = false
+may_come wanted.Token shape.MacroName = false
+may_come wanted.Token _ = true
+
+-- the insert characters in force, and what may come
+pub record Setting : Type 0 where
+  pub inserts : Option Inserts
+  pub wanted : Wanted
+
+abbrev pub setting : Option Inserts → Wanted → Setting
+setting i w = record { inserts = i; wanted = w }
 
 abbrev pub BeginsComment : List ℕ → Type 0
 BeginsComment text = (c : ℕ) × (more : List ℕ) × (text ≡ 47 ∷ c ∷ more) × (c == 47 || c == 42 ≡ true)
 
--- The text x is of the shape, and stands before the rest. No sign begins where a comment does.
-pub record Stands (e : Option Inserts) (k : Shape) (x rest : List ℕ) : Type 0 where
-  pub has : Has e k x
+-- The text x is of the shape, may come, and stands before the rest. No sign begins where a comment does.
+pub record Stands (e : Setting) (k : Shape) (x rest : List ℕ) : Type 0 where
+  pub has : Has e.inserts k x
+  pub comes : may_come e.wanted k ≡ true
   pub no_comment : k ≡ shape.Sign → BeginsComment (x ++ rest) → ⊥
 
 -- and no longer one does
-pub record IsPiece (e : Option Inserts) (k : Shape) (x rest : List ℕ) : Type 0 where
+pub record IsPiece (e : Setting) (k : Shape) (x rest : List ℕ) : Type 0 where
   pub stands : Stands e k x rest
   pub longest : (j : Shape) (y more : List ℕ) → x ++ rest ≡ y ++ more → Stands e j y more → length y ≤ length x
 
 -- nothing stands at the front
-abbrev pub NoPiece : Option Inserts → List ℕ → Type 0
+abbrev pub NoPiece : Setting → List ℕ → Type 0
 NoPiece e text = (j : Shape) (y more : List ℕ) → text ≡ y ++ more → Stands e j y more → ⊥
-
--- ---- the whole list of pieces
-
-pub record Piece : Type 0 where
-  pub shape : Shape
-  pub text : List ℕ
 
 -- white space and comments
 abbrev pub is_gap : Shape → Bool
@@ -72,23 +84,23 @@ is_gap shape.LineComment = true
 is_gap shape.BlockComment = true
 is_gap _ = false
 
--- the pieces stand one after another at the front of the text, before the rest
-abbrev pub AreCut : Option Inserts → List ℕ → List Piece → List ℕ → Type 0
-AreCut e text [] rest = text ≡ rest
-AreCut e text (p ∷ ps) rest = (behind : List ℕ) × (text ≡ p.text ++ behind) × IsPiece e p.shape p.text behind × AreCut e behind ps rest
-
-abbrev pub AreGaps : List Piece → Type 0
-AreGaps ps = list_all (λ p. is_gap p.shape) ps ≡ true
-
 -- what is cut from the front of a text is the longest piece there
-abbrev pub IsCutFrom : Option Inserts → List ℕ → Option (Shape × List ℕ) → Type 0
+abbrev pub IsCutFrom : Setting → List ℕ → Option (Shape × List ℕ) → Type 0
 IsCutFrom e text None = NoPiece e text
 IsCutFrom e text (Some p) = (x : List ℕ) × (text ≡ x ++ p.1) × IsPiece e p.0 x p.1
 
--- white space and comments alone stand before the rest
-abbrev pub AfterGaps : Option Inserts → List ℕ → List ℕ → Type 0
-AfterGaps e text rest = (ps : List Piece) × AreCut e text ps rest × AreGaps ps
-
 -- a piece stands at the front of the text, and nothing of it is longer
-abbrev pub Piece_at : Option Inserts → Shape → List ℕ → List ℕ → Type 0
+abbrev pub Piece_at : Setting → Shape → List ℕ → List ℕ → Type 0
 Piece_at e k text rest = (x : List ℕ) × (text ≡ x ++ rest) × IsPiece e k x rest
+
+pub record Gap : Type 0 where
+  pub shape : Shape
+  pub text : List ℕ
+
+-- white space and comments alone stand before the rest
+abbrev pub AreGaps : Setting → List ℕ → List Gap → List ℕ → Type 0
+AreGaps e text [] rest = text ≡ rest
+AreGaps e text (g ∷ gs) rest = (behind : List ℕ) × (text ≡ g.text ++ behind) × IsPiece e g.shape g.text behind × (is_gap g.shape ≡ true) × AreGaps e behind gs rest
+
+abbrev pub AfterGaps : Setting → List ℕ → List ℕ → Type 0
+AfterGaps e text rest = (gs : List Gap) × AreGaps e text gs rest

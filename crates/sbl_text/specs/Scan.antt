@@ -1,13 +1,16 @@
 -- How a piece is found: by its first character, and then to its end.
-use Rattle.std.specs.Prelude.{ℕ, Bool, true, false, not, ◌&&◌, ◌==◌, if◌then◌else◌, List, [], ◌∷◌, drop, Option, Some, None, option_map}
+use Rattle.std.specs.Prelude.{ℕ, Bool, true, false, not, ◌&&◌, ◌||◌, ◌==◌, if◌then◌else◌, List, [], ◌∷◌, drop, Option, Some, None, option_map}
 use Rattle.sbl_text.specs.declared.pieces.Shape.{Shape}
 use Rattle.sbl_text.specs.declared.pieces.Shape.TheVariants as shape
+use Rattle.sbl_text.specs.declared.pieces.Wanted.{Wanted}
+use Rattle.sbl_text.specs.declared.pieces.Wanted.TheVariants as wanted
 use Rattle.sbl_text.specs.declared.pieces.Start.{Start}
 use Rattle.sbl_text.specs.declared.pieces.Start.TheVariants as start
-use Rattle.sbl_text.specs.declared.pieces.Inserts.{Inserts}
+use Rattle.sbl_text.specs.declared.escapes.Inserts.{Inserts}
 use Rattle.sbl_text.specs.Classes.{is_white, is_letter, is_digit, is_word, past}
 use Rattle.sbl_text.specs.Signs.{sign_front}
-use Rattle.sbl_text.specs.Pieces.{opens, closes, starts_slash}
+use Rattle.sbl_text.specs.Escapes.{opens, closes}
+use Rattle.sbl_text.specs.Pieces.{starts_slash}
 
 abbrev pub start_of : ℕ → Start
 start_of c =
@@ -54,3 +57,21 @@ cut_at e start.Other c cs = sign_cut (c ∷ cs)
 unfoldable pub cut : Option Inserts → List ℕ → Cut
 cut e [] = None
 cut e (c ∷ cs) = cut_at e (start_of c) c cs
+
+-- two characters that are not white, the first no quote
+abbrev pub pair_from : ℕ → List ℕ → Cut
+pair_from a [] = None
+pair_from a (b ∷ cs) = if a == 39 || is_white b then None else Some (shape.Inserts, cs)
+
+unfoldable pub pair_cut : List ℕ → Cut
+pair_cut [] = None
+pair_cut (c ∷ cs) = if is_white c then Some (shape.Blank, cs) else pair_from c cs
+
+unfoldable pub name_cut : List ℕ → Cut
+name_cut [] = None
+name_cut (c ∷ cs) = if is_white c then Some (shape.Blank, cs) else Some (shape.MacroName, past (λ d. not (is_white d)) cs)
+
+abbrev pub cut_in : Option Inserts → Wanted → List ℕ → Cut
+cut_in e wanted.Token text = cut e text
+cut_in e wanted.Inserts text = pair_cut text
+cut_in e wanted.MacroName text = name_cut text

@@ -1,4 +1,5 @@
 -- The tokens of a text, and the first thing that is wrong with it.
+use Rattle.sbl_text.specs.Escapes.{InForce}
 use Rattle.std.specs.Prelude.{◌≡◌, ◌⊎◌, ℕ, ◌<◌, ◌≤◌, ◌+◌, ◌-◌, ◌*◌, Bool, true, false, ◌&&◌, ◌==◌, if◌then◌else◌, List, [], ◌∷◌, ◌++◌, length, encode_utf8_all, Option, Some, None, Result, Ok, Err}
 use Rattle.sbl_text.specs.declared.signs.Sign.{Sign}
 use Rattle.sbl_text.specs.declared.words.Word.{Word}
@@ -9,8 +10,12 @@ use Rattle.sbl_text.specs.declared.fault.ScriptFault.TheVariants as fault
 use Rattle.sbl_text.specs.declared.token.Token.{Token}
 use Rattle.sbl_text.specs.Signs.{sign_of}
 use Rattle.sbl_text.specs.Words.{word_of}
-use Rattle.sbl_text.specs.Pieces.{IsPiece, NoPiece, Piece, AreCut, AfterGaps, is_gap}
-use Rattle.sbl_text.specs.Lexemes.{Lexeme, word, sign, name, number, literal, lexeme_of}
+use Rattle.sbl_text.specs.declared.pieces.Wanted.{Wanted}
+use Rattle.sbl_text.specs.declared.pieces.Wanted.TheVariants as wanted
+use Rattle.sbl_text.specs.Pieces.{IsPiece, NoPiece, AfterGaps, is_gap}
+use Rattle.sbl_text.specs.States.{State, start, setting_of, value_for, after}
+use Rattle.sbl_text.specs.Literals.{byte_length, Means, FirstWrong}
+use Rattle.sbl_text.specs.Lexemes.{Lexeme, word, sign, name, number, literal, inserts, macro_name, lexeme_of}
 
 -- the number that digits write, after digits that write n
 abbrev pub digits_value : ℕ → List ℕ → ℕ
@@ -24,28 +29,71 @@ abbrev pub word_or_name : Option Word → List ℕ → Lexeme
 word_or_name None text = name text
 word_or_name (Some w) text = word w
 
--- What a token says: a reserved word is no name, a number is at most 2147483647, a literal means what stands between its quotes.
-abbrev pub Says : Shape → List ℕ → Lexeme → Type 0
-Says shape.Word x l = l ≡ word_or_name (word_of (encode_utf8_all x)) (encode_utf8_all x)
-Says shape.Number x l = (number_of x ≤ 2147483647) × (l ≡ number (number_of x))
-Says shape.Sign x l = (s : Sign) × (sign_of x ≡ Some s) × (l ≡ sign s)
-Says shape.Literal x l = (inner : List ℕ) × (x ≡ 39 ∷ (inner ++ 39 ∷ [])) × (l ≡ literal (encode_utf8_all inner) inner)
-Says _ x l = ⊥
+-- a shape that says nothing, and one that says what a lexeme tells
+abbrev pub Told : State → Shape → List ℕ → Lexeme → Type 0
+Told s shape.Word x l = l ≡ word_or_name (word_of (encode_utf8_all x)) (encode_utf8_all x)
+Told s shape.Number x l = (number_of x ≤ 2147483647) × (l ≡ number (number_of x))
+Told s shape.Sign x l = (g : Sign) × (sign_of x ≡ Some g) × (l ≡ sign g)
+Told s shape.Literal x l = (inner : List ℕ) × (v : List ℕ) × (x ≡ 39 ∷ (inner ++ 39 ∷ [])) × Means s.escapes inner v × (l ≡ literal (encode_utf8_all inner) v)
+Told s shape.Inserts x l = (a : ℕ) × (b : ℕ) × (x ≡ a ∷ b ∷ []) × (l ≡ inserts a b)
+Told s shape.MacroName x l = l ≡ macro_name (encode_utf8_all x)
+Told s _ x l = ⊥
 
--- the pieces that are no gaps say these, in order
-abbrev pub Say : List Piece → List Lexeme → Type 0
-Say [] ls = ls ≡ []
-Say (p ∷ ps) ls = (is_gap p.shape ≡ true × Say ps ls) ⊎ ((l : Lexeme) × (more : List Lexeme) × (ls ≡ l ∷ more) × Says p.shape p.text l × Say ps more)
+-- a literal after `stringdef` has a value for the macro
+abbrev pub HasValue : State → Lexeme → Type 0
+HasValue s (literal spelling v) = (w : List ℕ) × (value_for s.defining v ≡ Some w)
+HasValue s _ = Unit {0}
+
+-- and one that has none
+abbrev pub LacksValue : State → Lexeme → Type 0
+LacksValue s (literal spelling v) = value_for s.defining v ≡ None
+LacksValue s _ = ⊥
+
+-- What a token says: a reserved word is no name, a number is at most 2147483647, a literal means its characters.
+abbrev pub Says : State → Shape → List ℕ → Lexeme → Type 0
+Says s k x l = Told s k x l × HasValue s l
+
+-- a piece, and what it says, if it is no gap
+pub record Piece : Type 0 where
+  pub shape : Shape
+  pub text : List ℕ
+  pub lexeme : Option Lexeme
+
+abbrev pub MaySay : State → Shape → List ℕ → Option Lexeme → Type 0
+MaySay s k x None = is_gap k ≡ true
+MaySay s k x (Some l) = Says s k x l
+
+abbrev pub after_piece : State → Option Lexeme → State
+after_piece s None = s
+after_piece s (Some l) = after s l
+
+-- The pieces stand one after another at the front of the text, each the longest under what those before it have set.
+abbrev pub AreCut : State → List ℕ → List Piece → State → List ℕ → Type 0
+AreCut s text [] t rest = (text ≡ rest) × (s ≡ t)
+AreCut s text (p ∷ ps) t rest =
+    (behind : List ℕ) × (text ≡ p.text ++ behind) × IsPiece (setting_of s) p.shape p.text behind × MaySay s p.shape p.text p.lexeme × AreCut (after_piece s p.lexeme) behind ps t rest
+
+abbrev pub and_more : Option Lexeme → List Lexeme → List Lexeme
+and_more None ls = ls
+and_more (Some l) ls = l ∷ ls
+
+-- what the pieces say, in order
+abbrev pub said : List Piece → List Lexeme
+said [] = []
+said (p ∷ ps) = and_more p.lexeme (said ps)
+
+-- the text may end here: no insert characters are wanted
+abbrev pub MayEnd : State → Type 0
+MayEnd s = s.wanted ≡ wanted.Inserts → ⊥
+
+abbrev pub AreTokensFrom : State → List ℕ → List Lexeme → Type 0
+AreTokensFrom s text ls = (ps : List Piece) × (t : State) × AreCut s text ps t [] × MayEnd t × (ls ≡ said ps)
 
 -- the tokens of a text
 abbrev pub AreTokens : List ℕ → List Lexeme → Type 0
-AreTokens text ls = (ps : List Piece) × AreCut None text ps [] × Say ps ls
+AreTokens text ls = AreTokensFrom start text ls
 
 -- ---- places
-
--- how many bytes a text has
-abbrev pub byte_length : List ℕ → ℕ
-byte_length text = length (encode_utf8_all text)
 
 -- a token's lexeme, the bytes of its text, and the byte places where it begins and ends
 pub record Placed : Type 0 where
@@ -57,21 +105,18 @@ pub record Placed : Type 0 where
 abbrev pub placed_of : Token → Placed
 placed_of t = record { lexeme = lexeme_of t; text = t.text.now; start = t.start; end = t.end }
 
--- the token says what this text does, which stands at a place
-abbrev pub IsPlaced : ℕ → Piece → Placed → Type 0
-IsPlaced place p t =
-    Says p.shape p.text t.lexeme × (t.text ≡ encode_utf8_all p.text) × (t.start ≡ place) × (t.end ≡ place + byte_length p.text)
+abbrev pub put_placed : ℕ → List ℕ → Option Lexeme → List Placed → List Placed
+put_placed place x None ts = ts
+put_placed place x (Some l) ts = record { lexeme = l; text = encode_utf8_all x; start = place; end = place + byte_length x } ∷ ts
 
--- the pieces from a place on that are no gaps are these tokens, in order
-abbrev pub Stand : ℕ → List Piece → List Placed → Type 0
-Stand place [] ts = ts ≡ []
-Stand place (p ∷ ps) ts =
-    (is_gap p.shape ≡ true × Stand (place + byte_length p.text) ps ts)
-    ⊎ ((t : Placed) × (more : List Placed) × (ts ≡ t ∷ more) × IsPlaced place p t × Stand (place + byte_length p.text) ps more)
+-- the tokens among the pieces from a place on
+abbrev pub placed_from : ℕ → List Piece → List Placed
+placed_from place [] = []
+placed_from place (p ∷ ps) = put_placed place p.text p.lexeme (placed_from (place + byte_length p.text) ps)
 
 -- the tokens of a text with their places
 abbrev pub ArePlaced : List ℕ → List Placed → Type 0
-ArePlaced text ts = (ps : List Piece) × AreCut None text ps [] × Stand 0 ps ts
+ArePlaced text ts = (ps : List Piece) × (t : State) × AreCut start text ps t [] × MayEnd t × (ts ≡ placed_from 0 ps)
 
 -- ---- faults
 
@@ -79,40 +124,67 @@ abbrev pub starts_star : List ℕ → Bool
 starts_star [] = false
 starts_star (c ∷ cs) = c == 42
 
--- the fault where no piece stands
-abbrev pub fault_at : List ℕ → ℕ → ScriptFault
-fault_at [] place = fault.BadCharacter place
-fault_at (c ∷ cs) place =
+-- where two insert characters are wanted: a quote, or what stands after the first one
+abbrev pub pair_fault : List ℕ → ℕ → ScriptFault
+pair_fault [] place = fault.BadCharacter place
+pair_fault (c ∷ cs) place = if c == 39 then fault.BadCharacter place else fault.BadCharacter (place + byte_length (c ∷ []))
+
+abbrev pub token_fault : List ℕ → ℕ → ScriptFault
+token_fault [] place = fault.BadCharacter place
+token_fault (c ∷ cs) place =
     if c == 39 then fault.UnclosedString place
     else (if c == 47 && starts_star cs then fault.UnclosedComment place else fault.BadCharacter place)
 
--- there is something at the front of the text, and no piece, or a number that is too large
-abbrev pub IsFault : List ℕ → ℕ → ScriptFault → Type 0
-IsFault text place f =
-    ((text ≡ [] → ⊥) × NoPiece None text × (f ≡ fault_at text place))
-    ⊎ ((x : List ℕ) × (rest : List ℕ) × (text ≡ x ++ rest) × IsPiece None shape.Number x rest × (2147483647 < number_of x) × (f ≡ fault.NumberTooLarge place))
+-- the fault where no piece stands
+abbrev pub fault_at : Wanted → List ℕ → ℕ → ScriptFault
+fault_at wanted.Inserts text place = pair_fault text place
+fault_at _ text place = token_fault text place
 
--- the first fault of a text: tokens without fault stand before it, and its place is the number of bytes before it
+-- a number that is too large, a literal with a bad insertion, or one that gives no value to its macro
+abbrev pub IsRefused : State → Shape → List ℕ → ℕ → ScriptFault → Type 0
+IsRefused s shape.Number x place f = (2147483647 < number_of x) × (f ≡ fault.NumberTooLarge place)
+IsRefused s shape.Literal x place f =
+    (inner : List ℕ) × (x ≡ 39 ∷ (inner ++ 39 ∷ []))
+    × (FirstWrong s.escapes inner (place + 1) f ⊎ ((v : List ℕ) × Means s.escapes inner v × (value_for s.defining v ≡ None) × (f ≡ fault.BadCode place)))
+IsRefused s _ x place f = ⊥
+
+-- no piece stands at the front of the text, and there is something or insert characters are wanted; or the piece is refused
+abbrev pub IsFault : State → List ℕ → ℕ → ScriptFault → Type 0
+IsFault s text place f =
+    ((text ≡ [] → s.wanted ≡ wanted.Inserts) × NoPiece (setting_of s) text × (f ≡ fault_at s.wanted text place))
+    ⊎ ((k : Shape) × (x : List ℕ) × (rest : List ℕ) × (text ≡ x ++ rest) × IsPiece (setting_of s) k x rest × IsRefused s k x place f)
+
+-- the first fault of a text: tokens without fault stand before it, and its place counts the bytes before it
 abbrev pub IsFirstFault : List ℕ → ScriptFault → Type 0
 IsFirstFault text f =
-    (before : List ℕ) × (rest : List ℕ) × (ps : List Piece) × (ls : List Lexeme) × (text ≡ before ++ rest) × AreCut None text ps rest × Say ps ls × IsFault rest (byte_length before) f
+    (before : List ℕ) × (rest : List ℕ) × (ps : List Piece) × (t : State) × (text ≡ before ++ rest) × AreCut start text ps t rest × IsFault t rest (byte_length before) f
 
 -- ---- one token after another
 
--- a text that is being read, and what of it is left
+-- a text that is being read, what of it is left, and what was set
 pub record Reading : Type 0 where
   pub text : List ℕ
   pub rest : List ℕ
+  pub state : State
 
 -- the token's text is x, which stands after `before`
 abbrev pub IsAt : List ℕ → List ℕ → Token → Type 0
 IsAt before x t = (t.text.now ≡ encode_utf8_all x) × (t.start ≡ byte_length before) × (t.end ≡ byte_length before + byte_length x)
 
--- What stands in the text from `from` on: gaps, then the end, a token, or a fault. What is left is `rest`.
-abbrev pub IsNext : List ℕ → List ℕ → List ℕ → Result (Option Token) ScriptFault → Type 0
-IsNext text from rest (Ok None) = AfterGaps None from [] × (rest ≡ [])
-IsNext text from rest (Ok (Some t)) =
-    (before : List ℕ) × (x : List ℕ) × (k : Shape) × (text ≡ before ++ (x ++ rest)) × AfterGaps None from (x ++ rest) × IsPiece None k x rest
-    × Says k x (lexeme_of t) × IsAt before x t
-IsNext text from rest (Err f) =
-    (rest ≡ from) × ((f ≡ fault.OutOfMemory) ⊎ ((before : List ℕ) × (at : List ℕ) × (text ≡ before ++ at) × AfterGaps None from at × IsFault at (byte_length before) f))
+-- after gaps a fault stands
+abbrev pub Stops : List ℕ → State → List ℕ → ScriptFault → Type 0
+Stops text s from f =
+    (before : List ℕ) × (at : List ℕ) × (text ≡ before ++ at) × AfterGaps (setting_of s) from at × IsFault s at (byte_length before) f
+
+-- What stands in the text from `from` on: gaps, then the end or a token. What is left is `rest`.
+abbrev pub Comes : List ℕ → State → List ℕ → List ℕ → Option Token → Type 0
+Comes text s from rest None = AfterGaps (setting_of s) from [] × MayEnd s × (rest ≡ [])
+Comes text s from rest (Some token) =
+    (before : List ℕ) × (x : List ℕ) × (k : Shape) × (text ≡ before ++ (x ++ rest)) × AfterGaps (setting_of s) from (x ++ rest) × IsPiece (setting_of s) k x rest
+    × Told s k x (lexeme_of token) × IsAt before x token
+
+-- The token that comes next, or the end, or a fault. What is set then is t.
+abbrev pub IsNext : List ℕ → State → List ℕ → State → List ℕ → Result (Option Token) ScriptFault → Type 0
+IsNext text s from t rest (Ok None) = Comes text s from rest None × (t ≡ s)
+IsNext text s from t rest (Ok (Some token)) = Comes text s from rest (Some token) × HasValue s (lexeme_of token) × (t ≡ after s (lexeme_of token))
+IsNext text s from t rest (Err f) = (rest ≡ from) × (t ≡ s) × ((f ≡ fault.OutOfMemory) ⊎ Stops text s from f)

@@ -14,13 +14,20 @@ pub enum Class {
     Word,
     Digit,
     Line,
+    Black,
+}
+
+fn is_white(c: char) -> bool
+    ensures { result ≡ spec.is_white c }
+{
+    ('\t' <= c && c <= '\r') || (c == ' ' || c == '\u{feff}')
 }
 
 pub fn is_in(class: Class, c: char) -> bool
     ensures { result ≡ spec.is_in class c }
 {
     match class {
-        Class::White => ('\t' <= c && c <= '\r') || (c == ' ' || c == '\u{feff}'),
+        Class::White => is_white(c),
         Class::Letter => ('A' <= c && c <= 'Z') || ('a' <= c && c <= 'z'),
         Class::Word => {
             (('A' <= c && c <= 'Z') || ('a' <= c && c <= 'z'))
@@ -28,6 +35,7 @@ pub fn is_in(class: Class, c: char) -> bool
         }
         Class::Digit => '0' <= c && c <= '9',
         Class::Line => c != '\n',
+        Class::Black => !is_white(c),
     }
 }
 

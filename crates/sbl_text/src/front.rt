@@ -1,6 +1,6 @@
 //! The first character of a text, and the front of a text.
 
-ghost use Rattle.std.specs.Prelude.{◌≡◌, ◌<◌, ◌∷◌, ◌++◌, [], List, ℕ, length, encode_utf8_all, MatchOption};
+ghost use Rattle.std.specs.Prelude.{◌+◌, ◌^◌, ◌≤◌, ◌≡◌, ◌<◌, ◌∷◌, ◌++◌, [], List, ℕ, length, encode_utf8_all, MatchOption};
 ghost use Rattle.std.specs.Str.{chars};
 
 /// The first character, and the text after it.
@@ -20,6 +20,7 @@ pub fn front_before<'a>(text: &'a str, rest: &str) -> &'a str
     requires { (x : List ℕ) × (chars text.now ≡ x ++ chars rest.now) }
     ensures characters { (x : List ℕ) → chars text.now ≡ x ++ chars rest.now → chars result.now ≡ x }
     ensures bytes { (x : List ℕ) → chars text.now ≡ x ++ chars rest.now → result.now ≡ encode_utf8_all x }
+    ensures within { length result.now ≤ length text.now }
 {
     &text[..text.len() - rest.len()]
 }
@@ -27,7 +28,9 @@ pub fn front_before<'a>(text: &'a str, rest: &str) -> &'a str
 /// The byte place in a text where a text that ends it begins.
 pub fn place_of(source: &str, rest: &str) -> usize
     requires { (x : List ℕ) × (chars source.now ≡ x ++ chars rest.now) }
-    ensures { (x : List ℕ) → chars source.now ≡ x ++ chars rest.now → result ≡ length (encode_utf8_all x) }
+    ensures place { (x : List ℕ) → chars source.now ≡ x ++ chars rest.now → result ≡ length (encode_utf8_all x) }
+    ensures room { result + length rest.now < 2 ^ 64 }
+    ensures within { result ≤ length source.now }
 {
     source.len() - rest.len()
 }

@@ -6,11 +6,14 @@ ghost use Rattle.sbl_text.specs.Pieces as pieces;
 ghost use Rattle.sbl_text.specs.Tokens as spec;
 ghost use Rattle.sbl_text.specs.Tokens.{Reading};
 ghost use Rattle.sbl_text.specs.Lexemes.{lexeme_of};
+ghost use Rattle.sbl_text.specs.States.{setting_of};
 
+use crate::escapes::Escapes;
 use crate::fault::ScriptFault;
 use crate::front::{front_before, place_of};
 use crate::meanings::{end_or_fault, meaning};
-use crate::pieces::past_gaps;
+use crate::pieces::{Shape, past_gaps};
+use crate::states::State;
 use crate::token::Token;
 use std::alloc::Global;
 use std::marker::Model;
@@ -21,35 +24,45 @@ pub struct Lexer<'a> {
     alloc: Global,
     source: &'a str,
     rest: &'a str,
+    state: State<'a>,
 }
 
 impl<'a> Model for Lexer<'a> {
     ghost Value = { Reading };
 
-    ghost view = { λ s. record { text = chars s.source.now; rest = chars s.rest.now } };
+    ghost view = { λ s. record { text = chars s.source.now; rest = chars s.rest.now; state = s.state } };
 
     ghost invariant = { λ s. (x : List ℕ) × (chars s.source.now ≡ x ++ chars s.rest.now) };
+}
+
+/// The text after white space and comments, and the token that is cut there.
+fn cut_after<'a>(state: &State<'_>, from: &'a str) -> (&'a str, Option<(Shape, &'a str)>)
+    ensures gaps { pieces.AfterGaps (setting_of state.now) (chars from.now) (chars result.0.now) }
+    ensures next { MatchOption result.1 (pieces.NoPiece (setting_of state.now) (chars result.0.now)) (λ p. pieces.is_gap p.0 ≡ false × pieces.Piece_at (setting_of state.now) p.0 (chars result.0.now) (chars p.1.now)) }
+{
+    past_gaps(state.escapes().inserts(), state.wanted(), from)
 }
 
 /// The token that comes next in a text from a place on, and what is left after it; at the end no token.
 fn token_after<'a>(
     alloc: Global,
+    state: &State<'_>,
     source: &'a str,
     from: &'a str,
 ) -> Result<(Option<Token<'a>>, &'a str), ScriptFault>
     requires { (x : List ℕ) × (chars source.now ≡ x ++ chars from.now) }
-    ensures { MatchResult result (λ p. spec.IsNext (chars source.now) (chars from.now) (chars p.1.now) (Ok p.0)) (λ f. spec.IsNext (chars source.now) (chars from.now) (chars from.now) (Err f)) }
+    ensures { MatchResult result (λ p. spec.Comes (chars source.now) state.now (chars from.now) (chars p.1.now) p.0) (λ f. (f ≡ ScriptFault.OutOfMemory) ⊎ spec.Stops (chars source.now) state.now (chars from.now) f) }
 {
-    let (at, found) = past_gaps(None, from);
+    let (at, found) = cut_after(state, from);
     let start = place_of(source, at);
     match found {
         None => {
-            end_or_fault(at, start)?;
+            end_or_fault(state.wanted(), at, start)?;
             Ok((None, at))
         }
         Some((shape, rest)) => {
             let text = front_before(at, rest);
-            let (kind, value) = meaning(alloc, shape, text, start)?;
+            let (kind, value) = meaning(alloc, state, shape, text, start)?;
             let end = place_of(source, rest);
             Ok((
                 Some(Token {
@@ -66,30 +79,57 @@ fn token_after<'a>(
 }
 
 impl<'a> Lexer<'a> {
-    /// Begins at the text's front. The allocator is kept for the tokens' values.
+    ghost use Rattle.sbl_text.specs.States.{start, start_under};
+
+    /// Begins at the text's front, with no insert characters and no macros. The allocator is kept for what tokens mean.
     pub fn new(alloc: Global, text: &'a str) -> Lexer<'a>
         ensures text { result.text ≡ chars text.now }
         ensures rest { result.rest ≡ chars text.now }
+        ensures state { result.state ≡ start }
+    {
+        Lexer::with_escapes(alloc, text, Escapes::new(alloc))
+    }
+
+    /// Begins at the text's front, with insert characters and macros.
+    pub fn with_escapes(alloc: Global, text: &'a str, escapes: Escapes) -> Lexer<'a>
+        ensures text { result.text ≡ chars text.now }
+        ensures rest { result.rest ≡ chars text.now }
+        ensures state { result.state ≡ start_under escapes }
     {
         Lexer {
             alloc,
             source: text,
             rest: text,
+            state: State::new(escapes),
         }
     }
 
     /// The next token, or nothing at the end.
     ///
-    /// White space and comments before it are skipped; it is the longest token there (Snowball manual, "The
-    /// language"). Where no token stands, and where a number is too large, the fault with its place; the lexer is
+    /// White space and comments before it are skipped; it is the longest token there under the insert characters and
+    /// macros that the tokens before it have set (Snowball manual, "The language"). Where no token stands, where a
+    /// number is too large, and where a literal inserts what is not defined, the fault with its place; the lexer is
     /// left as it was, so that the same fault comes again. After `OutOfMemory` the same token is read again.
     pub fn next(&mut self) -> Result<Option<Token<'a>>, ScriptFault>
-        ensures next { spec.IsNext self.old.text self.old.rest self.new.rest result }
+        ensures next { spec.IsNext self.old.text self.old.state self.old.rest self.new.state self.new.rest result }
         ensures same_text { self.new.text ≡ self.old.text }
     {
-        let (token, rest) = token_after(self.alloc, self.source, self.rest)?;
-        self.rest = rest;
-        Ok(token)
+        match token_after(self.alloc, &self.state, self.source, self.rest) {
+            Err(fault) => Err(fault),
+            Ok((found, rest)) => match found {
+                None => {
+                    self.rest = rest;
+                    Ok(None)
+                }
+                Some(token) => match self.state.after_token(self.alloc, &token) {
+                    Err(fault) => Err(fault),
+                    Ok(()) => {
+                        self.rest = rest;
+                        Ok(Some(token))
+                    }
+                },
+            },
+        }
     }
 }
 

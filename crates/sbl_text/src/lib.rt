@@ -2,20 +2,27 @@
 #![tactic(auto)]
 
 mod classes;
+mod codes;
+mod escapes;
 mod fault;
 mod front;
 pub mod laws;
 mod lexer;
+mod literals;
 mod meanings;
 mod pieces;
 mod signs;
+mod states;
 #[cfg(test)]
 mod tests;
 mod token;
 mod words;
 
+pub use codes::read_codes;
+pub use escapes::{Escapes, Inserts};
 pub use fault::ScriptFault;
 pub use lexer::{Lexer, tokens};
+pub use literals::read_literal;
 pub use signs::Sign;
 pub use token::{Kind, Token, Value};
 pub use words::Word;

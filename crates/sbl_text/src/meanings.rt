@@ -1,18 +1,21 @@
 //! What a piece means, and what is wrong where no piece stands.
 
-ghost use Rattle.std.specs.Prelude.{◌≡◌, ◌≤◌, ◌<◌, ◌⊎◌, MatchOption, MatchResult, IfOk, Some, None, Bool, true, false, ◌∷◌, [], List, ℕ, ◌++◌};
+ghost use Rattle.std.specs.Prelude.{◌+◌, ◌^◌, length, ◌≡◌, ◌≤◌, ◌<◌, ◌⊎◌, MatchOption, MatchResult, IfOk, Some, None, Bool, true, false, ◌∷◌, [], List, ℕ, ◌++◌};
 ghost use Rattle.std.specs.Str.{chars};
 ghost use Rattle.sbl_text.specs.Pieces as pieces;
 ghost use Rattle.sbl_text.specs.Tokens as spec;
 ghost use Rattle.sbl_text.specs.Lexemes.{lexeme_by};
+ghost use Rattle.sbl_text.specs.States as states;
 
 use crate::fault::ScriptFault;
-use crate::front::{between_quotes, split_first};
-use crate::pieces::Shape;
+use crate::front::{between_quotes, place_of, split_first};
+use crate::literals::literal_value;
+use crate::pieces::{Shape, Wanted};
 use crate::signs::sign_of;
+use crate::states::State;
 use crate::token::{Kind, Value};
 use crate::words::word_of;
-use std::alloc::{AllocError, Global};
+use std::alloc::Global;
 
 /// The largest number of a script (our own choice: the largest that 32 bits with a sign hold).
 const MOST: u64 = 2147483647;
@@ -32,18 +35,27 @@ fn number(mut text: &str) -> Option<u32>
     Some(value as u32)
 }
 
-/// A literal's spelling, and its characters.
-fn literal<'a>(alloc: Global, text: &'a str) -> Result<Value<'a>, AllocError>
-    requires { (x : List ℕ) × (chars text.now ≡ 39 ∷ (x ++ 39 ∷ [])) }
-    ensures { IfOk result (λ v. spec.Says Shape.Literal (chars text.now) (lexeme_by Kind.Literal text.now v)) }
+/// A literal's spelling, and the characters that it means.
+fn literal<'a>(
+    alloc: Global,
+    state: &State<'_>,
+    text: &'a str,
+    place: usize,
+) -> Result<Value<'a>, ScriptFault>
+    requires has { pieces.Has state.now.escapes.inserts Shape.Literal (chars text.now) }
+    requires room { place + length text.now < 2 ^ 64 }
+    ensures { MatchResult result (λ v. spec.Told state.now Shape.Literal (chars text.now) (lexeme_by Kind.Literal text.now v)) (λ f. (f ≡ ScriptFault.OutOfMemory) ⊎ spec.IsRefused state.now Shape.Literal (chars text.now) place f) }
 {
     let spelling = between_quotes(text);
-    let value = spelling.chars().collect(alloc)?;
-    Ok(Value::Literal { spelling, value })
+    let letters: Vec<char> = spelling.chars().collect(alloc)?;
+    match literal_value(alloc, state.escapes(), &letters, place + 1) {
+        Ok(value) => Ok(Value::Literal { spelling, value }),
+        Err(fault) => Err(fault),
+    }
 }
 
-fn word(text: &str) -> Kind
-    ensures { (v : Value) → spec.Says Shape.Word (chars text.now) (lexeme_by result text.now v) }
+fn word(state: &State<'_>, text: &str) -> Kind
+    ensures { (v : Value) → spec.Told state.now Shape.Word (chars text.now) (lexeme_by result text.now v) }
 {
     match word_of(text) {
         Some(word) => Kind::Word(word),
@@ -51,9 +63,9 @@ fn word(text: &str) -> Kind
     }
 }
 
-fn sign(text: &str) -> Kind
+fn sign(state: &State<'_>, text: &str) -> Kind
     requires { pieces.Has None Shape.Sign (chars text.now) }
-    ensures { (v : Value) → spec.Says Shape.Sign (chars text.now) (lexeme_by result text.now v) }
+    ensures { (v : Value) → spec.Told state.now Shape.Sign (chars text.now) (lexeme_by result text.now v) }
 {
     match sign_of(text) {
         Some(sign) => Kind::Sign(sign),
@@ -61,25 +73,52 @@ fn sign(text: &str) -> Kind
     }
 }
 
-/// What the text of a token means; a number may be too large.
+/// The name of a macro is told by its text.
+fn macro_name(text: &str) -> Kind
+    ensures { (s : states.State) (v : Value) → spec.Told s Shape.MacroName (chars text.now) (lexeme_by result text.now v) }
+{
+    Kind::MacroName
+}
+
+/// The two insert characters.
+fn pair<'a>(text: &str) -> Value<'a>
+    requires { pieces.Has None Shape.Inserts (chars text.now) }
+    ensures { (s : states.State) → spec.Told s Shape.Inserts (chars text.now) (lexeme_by Kind.Inserts text.now result) }
+{
+    if let Some((a, rest)) = split_first(text) {
+        if let Some((b, _)) = split_first(rest) {
+            return Value::Inserts(a, b);
+        }
+    }
+    Value::None
+}
+
+/// What the text of a token means; a number may be too large, and a literal may have a bad insertion.
 pub fn meaning<'a>(
     alloc: Global,
+    state: &State<'_>,
     shape: Shape,
     text: &'a str,
     place: usize,
 ) -> Result<(Kind, Value<'a>), ScriptFault>
     requires token { pieces.is_gap shape ≡ false }
-    requires has { pieces.Has None shape (chars text.now) }
-    ensures { MatchResult result (λ p. spec.Says shape (chars text.now) (lexeme_by p.0 text.now p.1)) (λ f. (f ≡ ScriptFault.OutOfMemory) ⊎ ((shape ≡ Shape.Number) × (2147483647 < spec.number_of (chars text.now)) × (f ≡ ScriptFault.NumberTooLarge place))) }
+    requires has { pieces.Has state.now.escapes.inserts shape (chars text.now) }
+    requires room { place + length text.now < 2 ^ 64 }
+    ensures { MatchResult result (λ p. spec.Told state.now shape (chars text.now) (lexeme_by p.0 text.now p.1)) (λ f. (f ≡ ScriptFault.OutOfMemory) ⊎ spec.IsRefused state.now shape (chars text.now) place f) }
 {
     match shape {
         Shape::Number => match number(text) {
             Some(n) => Ok((Kind::Number, Value::Number(n))),
             None => Err(ScriptFault::NumberTooLarge { place }),
         },
-        Shape::Literal => Ok((Kind::Literal, literal(alloc, text)?)),
-        Shape::Sign => Ok((sign(text), Value::None)),
-        Shape::Word => Ok((word(text), Value::None)),
+        Shape::Literal => match literal(alloc, state, text, place) {
+            Ok(value) => Ok((Kind::Literal, value)),
+            Err(fault) => Err(fault),
+        },
+        Shape::Sign => Ok((sign(state, text), Value::None)),
+        Shape::Word => Ok((word(state, text), Value::None)),
+        Shape::Inserts => Ok((Kind::Inserts, pair(text))),
+        Shape::MacroName => Ok((macro_name(text), Value::None)),
         Shape::Blank | Shape::LineComment | Shape::BlockComment => unreachable!(),
     }
 }
@@ -93,10 +132,33 @@ fn starts_star(text: &str) -> bool
     }
 }
 
-/// At the end nothing; elsewhere the fault of a place where no piece stands.
-pub fn end_or_fault(text: &str, place: usize) -> Result<(), ScriptFault>
-    ensures { MatchResult result (λ _. chars text.now ≡ []) (λ f. (chars text.now ≡ [] → ⊥) × (f ≡ spec.fault_at (chars text.now) place)) }
+/// The fault where insert characters are wanted and do not stand.
+fn pair_fault(text: &str, place: usize) -> ScriptFault
+    requires { place + length text.now < 2 ^ 64 }
+    ensures { result ≡ spec.pair_fault (chars text.now) place }
 {
+    match split_first(text) {
+        Some((c, rest)) => {
+            if c == '\'' {
+                ScriptFault::BadCharacter { place }
+            } else {
+                ScriptFault::BadCharacter {
+                    place: place + place_of(text, rest),
+                }
+            }
+        }
+        None => ScriptFault::BadCharacter { place },
+    }
+}
+
+/// At the end nothing, if no insert characters are wanted; elsewhere the fault of a place where no piece stands.
+pub fn end_or_fault(wanted: Wanted, text: &str, place: usize) -> Result<(), ScriptFault>
+    requires { place + length text.now < 2 ^ 64 }
+    ensures { MatchResult result (λ _. (chars text.now ≡ []) × (wanted ≡ Wanted.Inserts → ⊥)) (λ f. (chars text.now ≡ [] → wanted ≡ Wanted.Inserts) × (f ≡ spec.fault_at wanted (chars text.now) place)) }
+{
+    if wanted == Wanted::Inserts {
+        return Err(pair_fault(text, place));
+    }
     let Some((c, rest)) = split_first(text) else {
         return Ok(());
     };

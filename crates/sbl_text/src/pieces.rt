@@ -6,15 +6,9 @@ ghost use Rattle.sbl_text.specs.Pieces as pieces;
 ghost use Rattle.sbl_text.specs.Scan as spec;
 
 use crate::classes::{Class, is_in, past};
+use crate::escapes::{Inserts, closes, opens};
 use crate::front::split_first;
 use crate::signs::sign_front;
-
-/// The characters between which a name is inserted into a literal.
-#[derive(Clone, Copy, Debug)]
-pub struct Inserts {
-    pub open: char,
-    pub close: char,
-}
 
 /// What is cut from a text.
 #[derive(Clone, Copy, Debug, PartialEq, Eq)]
@@ -26,6 +20,16 @@ pub enum Shape {
     Number,
     Sign,
     Literal,
+    Inserts,
+    MacroName,
+}
+
+/// What may come next beside white space: an ordinary piece, or what a word before it asks for.
+#[derive(Clone, Copy, Debug, PartialEq, Eq)]
+pub enum Wanted {
+    Token,
+    Inserts,
+    MacroName,
 }
 
 /// How a character can begin a piece.
@@ -54,24 +58,6 @@ fn start_of(c: char) -> Start
         Start::Slash
     } else {
         Start::Other
-    }
-}
-
-fn opens(inserts: Option<Inserts>, c: char) -> bool
-    ensures { result ≡ pieces.opens inserts c }
-{
-    match inserts {
-        None => false,
-        Some(pair) => c == pair.open,
-    }
-}
-
-fn closes(inserts: Option<Inserts>, c: char) -> bool
-    ensures { result ≡ pieces.closes inserts c }
-{
-    match inserts {
-        None => false,
-        Some(pair) => c == pair.close,
     }
 }
 
@@ -164,12 +150,55 @@ pub fn cut(inserts: Option<Inserts>, text: &str) -> Option<(Shape, &str)>
     }
 }
 
-/// The longest piece at the front, and what is left.
-pub fn piece(inserts: Option<Inserts>, text: &str) -> Option<(Shape, &str)>
-    ensures value { MatchOption result (pieces.NoPiece inserts (chars text.now)) (λ p. pieces.Piece_at inserts p.0 (chars text.now) (chars p.1.now)) }
+/// Two insert characters, or white space.
+#[tactic(auto, unfolding(crate::specs::Scan::pair_cut))]
+fn pair_cut(text: &str) -> Option<(Shape, &str)>
+    ensures value { MatchOption result (spec.pair_cut (chars text.now) ≡ None) (λ p. spec.pair_cut (chars text.now) ≡ Some (p.0, chars p.1.now)) }
     ensures within { IfSome result (λ p. length p.1.now < length text.now) }
 {
-    cut(inserts, text)
+    let (a, rest) = split_first(text)?;
+    if is_in(Class::White, a) {
+        return Some((Shape::Blank, rest));
+    }
+    let (b, behind) = split_first(rest)?;
+    if a == '\'' || is_in(Class::White, b) {
+        None
+    } else {
+        Some((Shape::Inserts, behind))
+    }
+}
+
+/// A macro's name, or white space.
+#[tactic(auto, unfolding(crate::specs::Scan::name_cut))]
+fn name_cut(text: &str) -> Option<(Shape, &str)>
+    ensures value { MatchOption result (spec.name_cut (chars text.now) ≡ None) (λ p. spec.name_cut (chars text.now) ≡ Some (p.0, chars p.1.now)) }
+    ensures within { IfSome result (λ p. length p.1.now < length text.now) }
+{
+    let (c, rest) = split_first(text)?;
+    if is_in(Class::White, c) {
+        Some((Shape::Blank, rest))
+    } else {
+        Some((Shape::MacroName, past(Class::Black, rest)))
+    }
+}
+
+fn cut_in(inserts: Option<Inserts>, wanted: Wanted, text: &str) -> Option<(Shape, &str)>
+    ensures value { MatchOption result (spec.cut_in inserts wanted (chars text.now) ≡ None) (λ p. spec.cut_in inserts wanted (chars text.now) ≡ Some (p.0, chars p.1.now)) }
+    ensures within { IfSome result (λ p. length p.1.now < length text.now) }
+{
+    match wanted {
+        Wanted::Token => cut(inserts, text),
+        Wanted::Inserts => pair_cut(text),
+        Wanted::MacroName => name_cut(text),
+    }
+}
+
+/// The longest piece at the front, and what is left.
+pub fn piece(inserts: Option<Inserts>, wanted: Wanted, text: &str) -> Option<(Shape, &str)>
+    ensures value { MatchOption result (pieces.NoPiece (pieces.setting inserts wanted) (chars text.now)) (λ p. pieces.Piece_at (pieces.setting inserts wanted) p.0 (chars text.now) (chars p.1.now)) }
+    ensures within { IfSome result (λ p. length p.1.now < length text.now) }
+{
+    cut_in(inserts, wanted, text)
 }
 
 fn is_gap(shape: Shape) -> bool
@@ -182,11 +211,15 @@ fn is_gap(shape: Shape) -> bool
 }
 
 /// The text after white space and comments, and the token that is cut there.
-pub fn past_gaps(inserts: Option<Inserts>, mut text: &str) -> (&str, Option<(Shape, &str)>)
-    ensures gaps { pieces.AfterGaps inserts (chars text.entry.now) (chars result.0.now) }
-    ensures next { MatchOption result.1 (pieces.NoPiece inserts (chars result.0.now)) (λ p. pieces.is_gap p.0 ≡ false × pieces.Piece_at inserts p.0 (chars result.0.now) (chars p.1.now)) }
+pub fn past_gaps(
+    inserts: Option<Inserts>,
+    wanted: Wanted,
+    mut text: &str,
+) -> (&str, Option<(Shape, &str)>)
+    ensures gaps { pieces.AfterGaps (pieces.setting inserts wanted) (chars text.entry.now) (chars result.0.now) }
+    ensures next { MatchOption result.1 (pieces.NoPiece (pieces.setting inserts wanted) (chars result.0.now)) (λ p. pieces.is_gap p.0 ≡ false × pieces.Piece_at (pieces.setting inserts wanted) p.0 (chars result.0.now) (chars p.1.now)) }
 {
-    while let Some((shape, rest)) = piece(inserts, text) {
+    while let Some((shape, rest)) = piece(inserts, wanted, text) {
         if !is_gap(shape) {
             return (text, Some((shape, rest)));
         }

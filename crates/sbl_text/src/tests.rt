@@ -1,6 +1,8 @@
 //! Worked texts, and what is printed of their faults.
 
-use crate::{Kind, Lexer, ScriptFault, Sign, Token, Value, Word, tokens};
+use crate::{
+    Escapes, Kind, Lexer, ScriptFault, Sign, Token, Value, Word, read_codes, read_literal, tokens,
+};
 use std::alloc::{AllocError, Global};
 use std::test::Fail;
 
@@ -175,5 +177,166 @@ fn faults_are_printed_with_number_and_place(rt: HostRuntime) -> Result<(), Fail>
     for (fault, want) in rows {
         assert_eq!(rt; format!(in rt.alloc(); "{fault}")?.as_str(), want);
     }
+    Ok(())
+}
+
+#[test]
+fn directives_change_what_follows(rt: HostRuntime) -> Result<(), Fail> {
+    let rows = [
+        ("stringescapes{} x", "stringescapes {} x "),
+        ("stringescapes //", "stringescapes // "),
+        ("stringescapesab", "stringescapesab "),
+        ("stringescapes /* {} */", "1 BadCharacter at 17"),
+        ("stringescapes", "1 BadCharacter at 13"),
+        ("stringescapes  ", "1 BadCharacter at 15"),
+        ("stringescapes \u{e4}", "1 BadCharacter at 16"),
+        ("stringescapes a b", "1 BadCharacter at 15"),
+        ("stringescapes ' ", "1 BadCharacter at 14"),
+        ("stringescapes a' 'xay'", "2 UnclosedString at 17"),
+        ("stringdef", "stringdef "),
+        ("stringdef m'x'", "stringdef m'x' "),
+        ("stringdef m/*c*/ 'x'", "stringdef m/*c*/ 'x' "),
+        ("stringdef /*c*/ m", "stringdef /*c*/ m "),
+        ("stringdef e /*c*/ hex 'E4'", "stringdef e hex 'E4' "),
+        ("stringdef e hex '110000'", "5 BadCode at 16"),
+        ("stringdef e hex 'zz'", "5 BadCode at 16"),
+        ("stringdef e hex hex 'zz'", "stringdef e hex hex 'zz' "),
+        (
+            "stringescapes {} stringdef e hex '{zz}'",
+            "4 UnknownEscape at 34",
+        ),
+        ("stringescapes {} '{x' '}'", "4 UnknownEscape at 18"),
+        ("stringescapes {} '{zz}", "2 UnclosedString at 17"),
+        ("stringescapes {} '{zz}' 'a", "4 UnknownEscape at 18"),
+        ("stringescapes {} '\u{e4}{U+110000}'", "5 BadCode at 20"),
+        (
+            "stringescapes {} '{a}' stringdef a 'x'",
+            "4 UnknownEscape at 18",
+        ),
+    ];
+    for (text, want) in rows {
+        assert_eq!(rt; cut(rt.alloc(), text)?.as_str(), want, "in {text:?}");
+    }
+    Ok(())
+}
+
+/// The characters of the last literal.
+fn last_value(alloc: Global, text: &str) -> Result<String, ScriptFault> {
+    let mut shown = String::new(alloc);
+    for token in &tokens(alloc, text)? {
+        if let Value::Literal { value, .. } = &token.value {
+            shown = text_of(alloc, value)?;
+        }
+    }
+    Ok(shown)
+}
+
+fn text_of(alloc: Global, value: &[char]) -> Result<String, AllocError> {
+    let mut shown = String::new(alloc);
+    for c in value {
+        shown.push(*c)?;
+    }
+    Ok(shown)
+}
+
+#[test]
+fn macros_hold_from_their_definition_on(rt: HostRuntime) -> Result<(), Fail> {
+    let rows = [
+        (
+            "stringescapes {} stringdef ss '\u{df}' 'gro{ss}{'}'",
+            "gro\u{df}'",
+        ),
+        (
+            "stringescapes {} stringdef a 'x' stringdef b '{a}y' '{b}'",
+            "xy",
+        ),
+        (
+            "stringescapes {} stringdef a 'x' stringdef a '{a}{a}' '{a}'",
+            "xx",
+        ),
+        (
+            "stringescapes {} stringdef a 'x' stringescapes <> '<a>{a}'",
+            "x{a}",
+        ),
+        ("stringescapes {} stringdef e hex 'E4  62' '{e}'", "\u{e4}b"),
+        ("stringescapes {} stringdef e decimal '98' '{e}'", "b"),
+        (
+            "stringescapes {} stringdef U+E4 'a' '{U+E4}{U+e5}'",
+            "a\u{e5}",
+        ),
+        ("'{a}'", "{a}"),
+    ];
+    for (text, want) in rows {
+        assert_eq!(rt; last_value(rt.alloc(), text)?.as_str(), want, "in {text:?}");
+    }
+    Ok(())
+}
+
+fn with_ss(alloc: Global) -> Result<Escapes, AllocError> {
+    let mut escapes = Escapes::new(alloc);
+    escapes.set('{', '}');
+    escapes.define("ss", &['\u{df}'])?;
+    Ok(escapes)
+}
+
+#[test]
+fn literals_are_read_alone(rt: HostRuntime) -> Result<(), Fail> {
+    let escapes = with_ss(rt.alloc())?;
+    let rows = [
+        ("gro{ss}", "gro\u{df}"),
+        ("{U+00E4}", "\u{e4}"),
+        ("{{}{'}", "{'"),
+        ("{ }", ""),
+        ("{\n}{}", ""),
+        ("{zz}", "4 UnknownEscape at 0"),
+        ("{ ss }", "4 UnknownEscape at 0"),
+        ("{u+e4}", "4 UnknownEscape at 0"),
+        ("{U+D800}", "5 BadCode at 0"),
+        ("\u{e4}{U+0000041}", "5 BadCode at 2"),
+        ("{U+}", "5 BadCode at 0"),
+        ("a'b{", "2 UnclosedString at 0"),
+        ("{zz}\n", "2 UnclosedString at 0"),
+        ("{zz}'", "4 UnknownEscape at 0"),
+        ("'{zz}", "1 BadCharacter at 0"),
+    ];
+    for (spelling, want) in rows {
+        let shown = match read_literal(rt.alloc(), &escapes, spelling) {
+            Ok(value) => text_of(rt.alloc(), &value)?,
+            Err(fault) => format!(in rt.alloc(); "{fault}")?,
+        };
+        assert_eq!(rt; shown.as_str(), want, "in {spelling:?}");
+    }
+    let mut lexer = Lexer::with_escapes(rt.alloc(), "'{ss}'", escapes);
+    match lexer.next()? {
+        Some(
+            Token {
+                value: Value::Literal { spelling, value },
+                ..
+            },
+        ) => {
+            assert_eq!(rt; spelling, "{ss}");
+            assert_eq!(rt; value.as_slice(), ['\u{df}'].as_slice());
+        }
+        _ => assert!(rt; false),
+    }
+    assert!(rt; kind_of(lexer.next()?) == None);
+    Ok(())
+}
+
+#[test]
+fn codes_are_read_alone(rt: HostRuntime) -> Result<(), Fail> {
+    let hex = ['E', '4', ' ', '6', '2'];
+    assert_eq!(rt;
+        read_codes(rt.alloc(), true, &hex)?.as_slice(),
+        ['\u{e4}', 'b'].as_slice()
+    );
+    assert_eq!(rt;
+        read_codes(rt.alloc(), false, &['9', '8'])?.as_slice(),
+        ['b'].as_slice()
+    );
+    assert_eq!(rt; read_codes(rt.alloc(), false, &[' '])?.len(), 0);
+    assert!(rt;
+        read_codes(rt.alloc(), false, &['9', 'a']).err() == Some(ScriptFault::BadCode { place: 0 })
+    );
     Ok(())
 }

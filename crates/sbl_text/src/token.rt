@@ -16,17 +16,23 @@ pub enum Kind {
     Number,
     /// What stands in single quotes.
     Literal,
+    /// The two insert characters after `stringescapes`.
+    Inserts,
+    /// The name of a macro after `stringdef`.
+    MacroName,
 }
 
 /// What a token says beyond its kind and its text.
 #[derive(Debug, Drop)]
 pub enum Value<'a> {
-    /// Of a word, a sign or a name.
+    /// Of a word, a sign, a name or the name of a macro.
     None,
     /// The number that the digits write, at most 2147483647.
     Number(u32),
     /// What stands between the quotes, and the characters that it means.
     Literal { spelling: &'a str, value: Vec<char> },
+    /// The two insert characters.
+    Inserts(char, char),
 }
 
 /// A token, and where it stands in its source: its text is the slice `start..end`, in bytes.

@@ -1,15 +1,15 @@
 -- Facts on bytes that are told.
-use Rattle.std.proofs.Common.{Bool, true, length-append, length-take, lit<, ◌≡◌, ◌≢◌, ◌∙◌, ◌++◌, ◌<◌, ◌≤◌, ◌+◌, ◌-◌, ℕ, suc, List, [], ◌∷◌, length, take, drop, Option, Some, None, refl, sym, ap, map, ◌==◌, false, append_assoc, add-one, arith, slice_index_or}
+use Rattle.std.proofs.Common.{Bool, true, length-append, length-take, lit<, ◌≡◌, ◌≢◌, ◌∙◌, ◌++◌, ◌<◌, ◌≤◌, ◌+◌, ◌-◌, ℕ, suc, List, [], ◌∷◌, length, drop, Option, Some, None, refl, sym, ap, map, ◌==◌, false, append_assoc, add-one, arith, slice_index_or}
 use Rattle.std.specs.Prelude.{slice_range}
 use Rattle.std.proofs.Math.Seq.{drop-cons}
-use Rattle.std.specs.Io.KnownBytes.{Appends, Consumes, IsAtEnd, Keeps, prepend_known}
+use Rattle.std.specs.Io.KnownBytes.{Consumes, Keeps, prepend_known}
 use Rattle.snowbench.specs.Held.{NoFeed, BeginsLong, GivesLine, TakesLine}
 use Rattle.snowbench.specs.declared.lines.LineEnd.{LineEnd}
 use Rattle.snowbench.specs.declared.lines.LineEnd.TheVariants.{Feed, Input, Beyond}
-use Rattle.snowbench.specs.LinesOf.{chomped, lines_of, onto_first, raw_lines}
+use Rattle.snowbench.specs.LinesOf.{chomped, lines_of, raw_lines}
 use Rattle.std.proofs.lemmas.Bool.{ne_eqb}
 use Rattle.std.proofs.lemmas.List.{append-nil}
-use Rattle.std.proofs.KnownBytes.{prepend_known-nil, Keeps-trans, Consumes-kept, Consumes-trans}
+use Rattle.std.proofs.KnownBytes.{prepend_known-nil}
 
 pub empty_range : (xs : List ℕ) (a b : ℕ) → a ≡ b → slice_range xs a b ≡ []
 empty_range xs a b e = let none : b - a ≡ 0 = omega arith in rw none refl

@@ -1,5 +1,5 @@
 -- Lines are taken from an input, up to a point.
-use Rattle.std.proofs.Common.{◌≡◌, ◌≢◌, ◌∙◌, ◌++◌, ◌<◌, ◌≤◌, ℕ, Bool, true, false, List, [], ◌∷◌, Option, Some, None, Result, Ok, Err, IfOk, IfErr, refl, sym, ap, subst, map, append_assoc, length}
+use Rattle.std.proofs.Common.{◌≡◌, ◌≢◌, ◌∙◌, ◌++◌, ◌<◌, ◌≤◌, ℕ, true, List, [], ◌∷◌, Option, Some, None, Result, Ok, Err, IfOk, IfErr, sym, ap, subst, map, append_assoc, length}
 use Rattle.std.proofs.lemmas.List.{append-nil, map-append}
 use Rattle.std.specs.Str.{chars, is_utf8}
 use Rattle.std.specs.Io.KnownBytes.{IsAtEnd, Keeps}
@@ -7,17 +7,13 @@ use Rattle.std.specs.declared.vec.Vec.{Vec}
 use Rattle.std.specs.declared.alloc.Global.{Global}
 use Rattle.sbl_script.specs.declared.ScriptFault.TheVariants as script
 use Rattle.snowbench.specs.Block.{AllText, ForLines, HoldsText, NoPoint, Took, made_text, most_bytes, point}
-use Rattle.snowbench.specs.Held.{BeginsLong, GivesLine, IsTooLong}
+use Rattle.snowbench.specs.Held.{GivesLine}
 use Rattle.snowbench.specs.LinesOf.{chomped, lines_of}
-use Rattle.snowbench.specs.Loaded.{BeforePoint, IsNoText, ReadsScript, TookScript}
+use Rattle.snowbench.specs.Loaded.{ReadsScript, ScriptLines, TookScript}
 use Rattle.snowbench.specs.declared.faults.LoadFault.{LoadFault}
 use Rattle.snowbench.specs.declared.faults.LoadFault.TheVariants.{Script}
 use Rattle.snowbench.specs.declared.script_text.ScriptText.{ScriptText}
 use Rattle.snowbench.proofs.Bytes.{no_lines}
-
-pub took-none : (a : Option (List ℕ)) → Took a a []
-took-none None = tt
-took-none (Some bytes) = refl
 
 pub took-more : (a b c : Option (List ℕ)) (taken : List (List ℕ)) (line : List ℕ) → Took a b taken → GivesLine b c line → Took a c (taken ++ line ∷ [])
 took-more None b c taken line took gives = tt
@@ -49,32 +45,17 @@ words-push words lines word line before is =
     ∙ ap (λ (w : List ℕ). map chars lines ++ w ∷ []) is ∙ sym (map-append chars lines (line ∷ []))
 
 -- the input ended before a point
-pub cut : (a b : Option (List ℕ)) (taken : List (List ℕ)) → Took a b taken → NoPoint taken → IsAtEnd b → ForLines a NoPoint
+pub cut : (a b : Option (List ℕ)) (taken : List (List ℕ)) → Took a b taken → ScriptLines taken → IsAtEnd b → ForLines a ScriptLines
 cut None b taken took free end = tt
 cut (Some bytes) None taken took free end = absurd took
 cut (Some bytes) (Some rest) taken took free end =
     let all : lines_of bytes ≡ taken = took ∙ ap (λ (x : List ℕ). taken ++ lines_of x) end ∙ ap (λ (x : List (List ℕ)). taken ++ x) (ap (map chomped) no_lines) ∙ append-nil taken in
-    subst NoPoint (sym all) free
-
--- a line before any point is too long
-pub before_long : (a b : Option (List ℕ)) (taken : List (List ℕ)) → Took a b taken → NoPoint taken → BeginsLong b → ForLines a (BeforePoint IsTooLong)
-before_long None b taken took free long = tt
-before_long (Some bytes) None taken took free long = absurd took
-before_long (Some bytes) (Some rest) taken took free long =
-    (taken, long.0, long.1, took ∙ ap (λ (x : List (List ℕ)). taken ++ x) long.2, free, long.3)
-
--- a line before any point is not UTF-8
-pub before_bytes : (a b c : Option (List ℕ)) (taken : List (List ℕ)) (line : List ℕ) → Took a b taken → NoPoint taken → GivesLine b c line
-    → line ≢ point → is_utf8 line ≡ false → ForLines a (BeforePoint IsNoText)
-before_bytes None b c taken line took free gives other bytes = tt
-before_bytes (Some all) None c taken line took free gives other bytes = absurd took
-before_bytes (Some all) (Some left) c taken line took free gives other bytes =
-    (taken, line, lines_of gives.0, took ∙ ap (λ (x : List (List ℕ)). taken ++ x) gives.2, free, (other, bytes))
+    subst ScriptLines (sym all) free
 
 -- the text that was made of a block is the block's
 pub script_read : (r : Result (Vec ℕ Global) LoadFault) (a b : Option (List ℕ)) (t : ScriptText) (lines : List (List ℕ)) → TookScript a b lines → HoldsText t lines
-    → IfOk r (λ text. (ls : List (List ℕ)) → HoldsText t ls → (text.items ≡ made_text ls) × (length (made_text ls) ≤ 1048576))
-    → IfErr r (λ f. (f ≡ Script script.ScriptTooLong) × ((ls : List (List ℕ)) → HoldsText t ls → 1048576 < length (made_text ls)))
+    → IfOk r (λ text. (ls : List (List ℕ)) → HoldsText t ls → (text.items ≡ made_text ls) × (length (made_text ls) ≤ most_bytes))
+    → IfErr r (λ f. (f ≡ Script script.ScriptTooLong) × ((ls : List (List ℕ)) → HoldsText t ls → most_bytes < length (made_text ls)))
     → ReadsScript a b r
 script_read (Ok text) a b t lines took holds ok err = (lines, took, (ok lines holds).0, (ok lines holds).1)
 script_read (Err f) a b t lines took holds ok err =

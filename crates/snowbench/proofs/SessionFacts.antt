@@ -1,11 +1,11 @@
 -- A session goes on line by line.
-use Rattle.std.proofs.Common.{map, ◌≡◌, ◌∙◌, ◌++◌, ◌≤◌, ◌<◌, ℕ, suc, List, [], ◌∷◌, Option, Some, None, Ok, Err, refl, sym, ap, subst, append_assoc, arith, length, length-append, take}
+use Rattle.std.proofs.Common.{map, ◌≡◌, ◌∙◌, ◌++◌, ◌≤◌, ℕ, List, [], ◌∷◌, Option, Some, None, Ok, Err, refl, take, sym, ap, subst, append_assoc, arith, length, length-append}
 use Rattle.std.proofs.lemmas.List.{append-nil}
 use Rattle.std.specs.Io.KnownBytes.{Appends, IsAtEnd}
 use Rattle.std.proofs.KnownBytes.{Appends-nil, Appends-trans}
 use Rattle.sbl_bench.specs.State.{State}
 use Rattle.snowbench.specs.Answers.{answers, reply_of, state_after, state_after_all}
-use Rattle.snowbench.specs.Held.{AllFit, BeginsLong, GivesLine}
+use Rattle.snowbench.specs.Held.{AllFit, BreaksOff, GivesLine}
 use Rattle.snowbench.specs.LinesOf.{chomped, lines_of}
 use Rattle.snowbench.specs.Session.{Answered, HalfAnswered, IsSession, SoFar}
 use Rattle.snowbench.specs.declared.faults.ServeFault.TheVariants as fault
@@ -29,7 +29,7 @@ more_state s [] line (q ∷ m) r e = absurd (omega arith)
 more_state s (l ∷ done) line [] r e = absurd (omega arith)
 more_state s (l ∷ done) line (q ∷ m) r e = more_state (state_after s l q) done line m r (omega arith)
 
-all_fit-push : (lines : List (List ℕ)) (line : List ℕ) → AllFit lines → length line ≤ 65536 → AllFit (lines ++ line ∷ [])
+pub all_fit-push : (lines : List (List ℕ)) (line : List ℕ) → AllFit lines → length line ≤ 65536 → AllFit (lines ++ line ∷ [])
 all_fit-push [] line h fits = (fits, tt)
 all_fit-push (l ∷ lines) line h fits = (h.0, all_fit-push lines line h.1 fits)
 
@@ -76,27 +76,26 @@ session_goes_on (Some bytes) (Some left) (Some rest) h i j s t u line r so gives
     so.1 ∙ ap (λ (x : List (List ℕ)). so.0 ++ x) (gives.2 ∙ ap (λ (x : List ℕ). line ∷ lines_of x) (sym same)) ∙ sym (append_assoc so.0 (line ∷ []) (lines_of rest)) in
     (so.0 ++ line ∷ [], whole, all_fit-push so.0 line so.2 fits, answered-more s t u so.0 line h i j r so.3 writes next)
 
-pub session_ends : (a b h i : Option (List ℕ)) (s t : State) → SoFar a b h i s t → IsAtEnd b → IsSession a h i s t (Ok tt)
-session_ends None b h i s t so end = tt
-session_ends (Some bytes) None h i s t so end = absurd so
-session_ends (Some bytes) (Some rest) h i s t so end =
+pub session_ends : (a b c h i : Option (List ℕ)) (s t : State) → SoFar a b h i s t → IsAtEnd b → IsSession a c h i s t (Ok tt)
+session_ends None b c h i s t so end = tt
+session_ends (Some bytes) None c h i s t so end = absurd so
+session_ends (Some bytes) (Some rest) c h i s t so end =
     let whole : lines_of bytes ≡ so.0 = so.1 ∙ ap (λ (x : List ℕ). so.0 ++ lines_of x) end ∙ ap (λ (x : List (List ℕ)). so.0 ++ x) (ap (map chomped) no_lines) ∙ append-nil so.0 in
     (subst AllFit (sym whole) so.2, subst (λ (x : List (List ℕ)). Answered s x h i t) (sym whole) so.3)
 
-pub session_at_long : (a b h i : Option (List ℕ)) (s t : State) → SoFar a b h i s t → BeginsLong b → IsSession a h i s t (Err fault.LineTooLong)
-session_at_long None b h i s t so long = tt
-session_at_long (Some bytes) None h i s t so long = absurd so
-session_at_long (Some bytes) (Some rest) h i s t so long =
-    (so.0, long.0, long.1, so.1 ∙ ap (λ (x : List (List ℕ)). so.0 ++ x) long.2, so.2, long.3, so.3)
+-- where a line was broken off by the reader
+pub session_at_read : (a b c h i : Option (List ℕ)) (s t : State) (front : List ℕ) → SoFar a b h i s t → BreaksOff b c front → IsSession a c h i s t (Err fault.Read)
+session_at_read None b c h i s t front so cut = tt
+session_at_read (Some bytes) None c h i s t front so cut = absurd so
+session_at_read (Some bytes) (Some rest) None h i s t front so cut = absurd cut.0
+session_at_read (Some bytes) (Some rest) (Some left) h i s t front so cut =
+    (so.0, front, left, refl, cut.1, so.1 ∙ ap (λ (x : List ℕ). so.0 ++ lines_of x) cut.0, so.2, so.3)
 
-pub session_at_read : (a b h i : Option (List ℕ)) (s t : State) → SoFar a b h i s t → IsSession a h i s t (Err fault.Read)
-session_at_read None b h i s t so = tt
-session_at_read (Some bytes) None h i s t so = absurd so
-session_at_read (Some bytes) (Some rest) h i s t so = (so.0, lines_of rest, so.1, so.3)
-
+-- where an answer was broken off by the writer
 pub session_at_write : (a b c h i j : Option (List ℕ)) (s t u : State) (line : List ℕ) (r : Option ℕ) (n : ℕ)
-    → SoFar a b h i s t → GivesLine b c line → Appends i j (take n (reply_of t line r)) → u ≡ state_after t line r → IsSession a h j s u (Err fault.Write)
-session_at_write None b c h i j s t u line r n so gives writes next = tt
-session_at_write (Some bytes) None c h i j s t u line r n so gives writes next = absurd so
-session_at_write (Some bytes) (Some left) c h i j s t u line r n so gives writes next =
-    (so.0, line, lines_of gives.0, so.1 ∙ ap (λ (x : List (List ℕ)). so.0 ++ x) gives.2, half-more s t u so.0 line h i j r n so.3 writes next)
+    → SoFar a b h i s t → GivesLine b c line → length line ≤ 65536 → Appends i j (take n (reply_of t line r)) → u ≡ state_after t line r
+    → IsSession a c h j s u (Err fault.Write)
+session_at_write None b c h i j s t u line r n so gives fits writes next = tt
+session_at_write (Some bytes) None c h i j s t u line r n so gives fits writes next = absurd so
+session_at_write (Some bytes) (Some left) c h i j s t u line r n so gives fits writes next =
+    (so.0, line, gives.0, gives.1, so.1 ∙ ap (λ (x : List (List ℕ)). so.0 ++ x) gives.2, so.2, fits, half-more s t u so.0 line h i j r n so.3 writes next)

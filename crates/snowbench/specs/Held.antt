@@ -1,7 +1,8 @@
 -- What a `Lines` has yet to give: what it holds, and then what its reader has left.
-use Rattle.std.specs.Prelude.{◌≡◌, ◌≢◌, ◌⊎◌, ◌<◌, ◌≤◌, ◌++◌, ℕ, List, [], ◌∷◌, Option, Some, None, ⊤, slice_range, length, ◌+◌, ◌*◌, ◌-◌}
+use Rattle.std.specs.Prelude.{◌≡◌, ◌≢◌, ◌⊎◌, ◌<◌, ◌≤◌, ◌++◌, ℕ, List, [], ◌∷◌, Option, Some, None, ⊤, slice_range, length, min, ◌+◌, ◌*◌, ◌-◌}
 use Rattle.std.specs.Io.KnownBytes.{Consumes, IsAtEnd, prepend_known}
-use Rattle.snowbench.specs.LinesOf.{lines_of}
+use Rattle.snowbench.specs.Devices.{most_reads, most_tries}
+use Rattle.snowbench.specs.LinesOf.{lines_of, longest_line}
 use Rattle.snowbench.specs.declared.lines.Lines.{Lines}
 use Rattle.snowbench.specs.declared.lines.LineEnd.{LineEnd}
 use Rattle.snowbench.specs.declared.lines.LineEnd.TheVariants.{Feed, Input, Beyond}
@@ -26,9 +27,13 @@ module _ {R : Type 0} where
   abbrev pub fuel_of : Lines R → ℕ
   fuel_of l = l.reads_left * 4096 + (l.end - l.at)
 
-  -- the reader has failed since, or a bound is met
-  abbrev pub HasCause : (R → ℕ) → (R → ℕ) → Lines R → Lines R → Type 0
-  HasCause failures interruptions old new = (failures old.reader < failures new.reader) ⊎ (new.reads_left ≡ 0) ⊎ (1001 ≤ interruptions new.reader)
+  -- the bound on reads: how many the reader will have counted once these lines ask for no more
+  abbrev pub reads_bound : (R → ℕ) → Lines R → ℕ
+  reads_bound reads l = min (reads l.reader + l.reads_left) most_reads
+
+  -- the reader has failed since, or was asked for as many reads as the bound, or was interrupted more than 1,000 times in a row
+  abbrev pub HasCause : (R → ℕ) → (R → ℕ) → (R → ℕ) → Lines R → Lines R → Type 0
+  HasCause failures interruptions reads old new = (failures old.reader < failures new.reader) ⊎ (reads_bound reads old ≤ reads new.reader) ⊎ (most_tries ≤ interruptions new.reader)
 
 -- no byte is a line feed
 abbrev pub NoFeed : List ℕ → Type 0
@@ -39,7 +44,11 @@ NoFeed (b ∷ bytes) = (b ≢ 10) × NoFeed bytes
 abbrev pub TakesLine : Option (List ℕ) → Option (List ℕ) → List ℕ → LineEnd → Type 0
 TakesLine old new line Feed = Consumes old new (line ++ 10 ∷ [])
 TakesLine old new line Input = Consumes old new line × IsAtEnd new
-TakesLine old new line Beyond = (length line ≡ 65537) × (b : ℕ) × (b ≢ 10) × Consumes old new (line ++ b ∷ [])
+TakesLine old new line Beyond = (length line ≡ longest_line + 1) × (b : ℕ) × (b ≢ 10) × Consumes old new (line ++ b ∷ [])
+
+-- Reading broke off in a line: a front of it was taken, and no line feed.
+abbrev pub BreaksOff : Option (List ℕ) → Option (List ℕ) → List ℕ → Type 0
+BreaksOff old new part = Consumes old new part × NoFeed part
 
 -- the first of the lines was taken
 abbrev pub GivesLine : Option (List ℕ) → Option (List ℕ) → List ℕ → Type 0
@@ -48,12 +57,12 @@ GivesLine (Some bytes) new line = (rest : List ℕ) × (new ≡ Some rest) × (l
 
 -- a line has more bytes than it may, its end not counted
 abbrev pub IsTooLong : List ℕ → Type 0
-IsTooLong line = 65536 < length line
+IsTooLong line = longest_line < length line
 
 -- no line has
 abbrev pub AllFit : List (List ℕ) → Type 0
 AllFit [] = ⊤
-AllFit (line ∷ lines) = (length line ≤ 65536) × AllFit lines
+AllFit (line ∷ lines) = (length line ≤ longest_line) × AllFit lines
 
 -- the first of the lines is too long
 abbrev pub BeginsLong : Option (List ℕ) → Type 0

@@ -1,4 +1,5 @@
 pub mod Devices
+pub mod Counted
 pub mod Faults
 pub mod LinesOf
 pub mod Held

@@ -1,5 +1,5 @@
 -- What loading makes of an input: a script block, up to a point, and then words, one a line, up to a point or the end.
-use Rattle.std.specs.Prelude.{◌≡◌, ◌≢◌, ◌⊎◌, ◌<◌, ◌≤◌, ℕ, Bool, true, false, List, [], ◌∷◌, ◌++◌, Option, Some, None, Result, Ok, Err, ⊤, length, map}
+use Rattle.std.specs.Prelude.{◌≡◌, ◌≢◌, ◌⊎◌, ◌<◌, ◌≤◌, ℕ, false, List, [], ◌∷◌, ◌++◌, Option, Some, None, Result, Ok, Err, ⊤, length, map}
 use Rattle.std.specs.Str.{chars, is_utf8}
 use Rattle.std.specs.Io.KnownBytes.{IsAtEnd}
 use Rattle.std.specs.declared.vec.Vec.{Vec}
@@ -10,7 +10,8 @@ use Rattle.sbl_script.specs.Reading.{IsScriptOf}
 use Rattle.sbl_script.specs.Tree.{Source}
 use Rattle.sbl_script.specs.declared.ScriptFault.TheVariants as script
 use Rattle.snowbench.specs.Block.{AllText, ForLines, NoPoint, Took, made_text, most_bytes, point}
-use Rattle.snowbench.specs.Held.{HasCause, IsTooLong, fault_of}
+use Rattle.snowbench.specs.Held.{AllFit, HasCause, IsTooLong, fault_of}
+use Rattle.snowbench.specs.LinesOf.{longest_line}
 use Rattle.snowbench.specs.declared.lines.Lines.{Lines}
 use Rattle.snowbench.specs.declared.faults.LineFault.TheVariants as line
 use Rattle.snowbench.specs.declared.faults.LoadFault.{LoadFault}
@@ -19,21 +20,31 @@ use Rattle.snowbench.specs.declared.faults.ServeFault.TheVariants as fault
 
 -- ---- the parts of an input
 
--- A script block stands at the front: these lines, none of them a point, and a point.
+-- lines of a script: none is a point or too long
+abbrev pub ScriptLines : List (List ℕ) → Type 0
+ScriptLines lines = NoPoint lines × AllFit lines
+
+-- lines of words: these are UTF-8 too
+abbrev pub WordLines : List (List ℕ) → Type 0
+WordLines lines = NoPoint lines × AllFit lines × AllText lines
+
+-- A script block stands at the front: lines of a script, and a point.
 abbrev pub TookScript : Option (List ℕ) → Option (List ℕ) → List (List ℕ) → Type 0
-TookScript old new script = NoPoint script × Took old new (script ++ point ∷ [])
+TookScript old new script = ScriptLines script × Took old new (script ++ point ∷ [])
 
--- Words stand at the front: these lines, each UTF-8 and none of them a point, and then a point or the end of input.
+-- Words stand at the front: lines of words, and then a point or the end of input.
 abbrev pub TookWords : Option (List ℕ) → Option (List ℕ) → List (List ℕ) → Type 0
-TookWords old new words = NoPoint words × AllText words × (Took old new (words ++ point ∷ []) ⊎ (Took old new words × IsAtEnd new))
+TookWords old new words = WordLines words × (Took old new (words ++ point ∷ []) ⊎ (Took old new words × IsAtEnd new))
 
--- The first line of which this holds stands before any point.
-abbrev pub BeforePoint : (List ℕ → Type 0) → List (List ℕ) → Type 0
-BeforePoint P lines = (done : List (List ℕ)) × (first : List ℕ) × (rest : List (List ℕ)) × (lines ≡ done ++ first ∷ rest) × NoPoint done × P first
+-- Lines of a block stand at the front, and then one that is too long.
+abbrev pub LongAfter : (List (List ℕ) → Type 0) → List (List ℕ) → Type 0
+LongAfter Good lines = (done : List (List ℕ)) × (first : List ℕ) × (rest : List (List ℕ)) × (lines ≡ done ++ first ∷ rest) × Good done × IsTooLong first
 
--- a line of words that is not UTF-8
-abbrev pub IsNoText : List ℕ → Type 0
-IsNoText words = (words ≢ point) × (is_utf8 words ≡ false)
+-- Lines of words were taken, and one more that is not UTF-8.
+abbrev pub TookNoText : Option (List ℕ) → Option (List ℕ) → Type 0
+TookNoText old new =
+    (done : List (List ℕ)) × (first : List ℕ) × WordLines done × (first ≢ point) × (length first ≤ longest_line) × (is_utf8 first ≡ false)
+    × Took old new (done ++ first ∷ [])
 
 -- ---- reading the script block
 
@@ -44,8 +55,8 @@ ReadsScript old new (Ok text) = (lines : List (List ℕ)) × TookScript old new 
 ReadsScript old new (Err (Script script.ScriptTooLong)) = (lines : List (List ℕ)) × TookScript old new lines × (most_bytes < length (made_text lines))
 ReadsScript old new (Err (Script f)) = ⊥
 ReadsScript old new (Err (Open f)) = ⊥
-ReadsScript old new (Err (Input fault.Cut)) = ForLines old NoPoint
-ReadsScript old new (Err (Input fault.LineTooLong)) = ForLines old (BeforePoint IsTooLong)
+ReadsScript old new (Err (Input fault.Cut)) = ForLines old ScriptLines × IsAtEnd new
+ReadsScript old new (Err (Input fault.LineTooLong)) = ForLines old (LongAfter ScriptLines)
 ReadsScript old new (Err (Input fault.Read)) = ⊤
 ReadsScript old new (Err (Input fault.OutOfMemory)) = ⊤
 ReadsScript old new (Err (Input f)) = ⊥
@@ -56,22 +67,27 @@ abbrev pub ReadsWords : Option (List ℕ) → Option (List ℕ) → Result (Vec 
 ReadsWords old new (Ok words) = (lines : List (List ℕ)) × TookWords old new lines × (map (λ w. w.items) words.items ≡ map chars lines)
 ReadsWords old new (Err (Script f)) = ⊥
 ReadsWords old new (Err (Open f)) = ⊥
-ReadsWords old new (Err (Input fault.NotText)) = ForLines old (BeforePoint IsNoText)
-ReadsWords old new (Err (Input fault.LineTooLong)) = ForLines old (BeforePoint IsTooLong)
+ReadsWords old new (Err (Input fault.NotText)) = TookNoText old new
+ReadsWords old new (Err (Input fault.LineTooLong)) = ForLines old (LongAfter WordLines)
 ReadsWords old new (Err (Input fault.Read)) = ⊤
 ReadsWords old new (Err (Input fault.OutOfMemory)) = ⊤
 ReadsWords old new (Err (Input f)) = ⊥
 
 -- ---- loading
 
+-- A script block was taken, and is read as this script with this external.
+abbrev pub TookSource : Option (List ℕ) → Option (List ℕ) → List ℕ → Source → Type 0
+TookSource old new external s =
+    (lines : List (List ℕ)) × TookScript old new lines × (length (made_text lines) ≤ most_bytes) × IsScriptOf (made_text lines) external s
+
 -- An input is a script block that is read as this script with this external, and then these words.
 abbrev pub IsInput : Option (List ℕ) → Option (List ℕ) → List ℕ → Source → List (List ℕ) → Type 0
 IsInput old new external s words =
-    (lines : List (List ℕ)) × (between : Option (List ℕ)) × TookScript old between lines × (length (made_text lines) ≤ most_bytes)
-    × IsScriptOf (made_text lines) external s × TookWords between new words
+    (between : Option (List ℕ)) × TookSource old between external s × TookWords between new words
 
 -- What loading answers: the bench of the script and the words, or why there is none. The script block is read to its end
 -- before it is judged, the script is judged before the words are read, and the words are all read before they are judged.
+-- A fault of the words stands after a script block that is read as a script.
 abbrev pub IsLoaded : {B : Type 0} → Option (List ℕ) → Option (List ℕ) → List ℕ → (B → State) → Result B LoadFault → Type 0
 IsLoaded old new external state (Ok bench) =
     (s : Source) × (words : List (List ℕ)) × IsInput old new external s words
@@ -81,16 +97,16 @@ IsLoaded old new external state (Err (Script f)) =
 IsLoaded old new external state (Err (Open edit.OutOfMemory)) = ⊤
 IsLoaded old new external state (Err (Open f)) =
     (s : Source) × (words : List (List ℕ)) × IsInput old new external s words × (opening_fault [] (map chars words) ≡ Some f)
-IsLoaded old new external state (Err (Input fault.Cut)) = ForLines old NoPoint
+IsLoaded old new external state (Err (Input fault.Cut)) = ForLines old ScriptLines × IsAtEnd new
 IsLoaded old new external state (Err (Input fault.NotText)) =
-    (lines : List (List ℕ)) × (between : Option (List ℕ)) × TookScript old between lines × ForLines between (BeforePoint IsNoText)
+    (s : Source) × (between : Option (List ℕ)) × TookSource old between external s × TookNoText between new
 IsLoaded old new external state (Err (Input fault.LineTooLong)) =
-    ForLines old (BeforePoint IsTooLong)
-    ⊎ ((lines : List (List ℕ)) × (between : Option (List ℕ)) × TookScript old between lines × ForLines between (BeforePoint IsTooLong))
+    ForLines old (LongAfter ScriptLines)
+    ⊎ ((s : Source) × (between : Option (List ℕ)) × TookSource old between external s × ForLines between (LongAfter WordLines))
 IsLoaded old new external state (Err (Input fault.Read)) = ⊤
 IsLoaded old new external state (Err (Input fault.OutOfMemory)) = ⊤
 IsLoaded old new external state (Err (Input f)) = ⊥
 
 -- a fault of reading has its cause in the reader or a bound, or is one that the lines answer again
-abbrev pub HasReason : {R : Type 0} → (R → ℕ) → (R → ℕ) → Lines R → Lines R → LoadFault → Type 0
-HasReason failures row lines new_lines f = f ≡ Input fault.Read → HasCause failures row lines new_lines ⊎ (fault_of lines ≡ Some line.Read)
+abbrev pub HasReason : {R : Type 0} → (R → ℕ) → (R → ℕ) → (R → ℕ) → Lines R → Lines R → LoadFault → Type 0
+HasReason failures row reads lines new_lines f = f ≡ Input fault.Read → HasCause failures row reads lines new_lines ⊎ (fault_of lines ≡ Some line.Read)

@@ -1,5 +1,5 @@
 -- The text of rows, as a flexible and otherwise default writer of `csv` writes it.
-use Rattle.std.specs.Prelude.{◌≡◌, ℕ, Bool, true, false, List, [], ◌∷◌, map, codes, Option, Some}
+use Rattle.std.specs.Prelude.{ℕ, true, List, [], ◌∷◌, map, codes}
 use Rattle.std.specs.List.{flat_map}
 use Rattle.std.specs.Str.{encode_utf8_all}
 use Rattle.csv.specs.Writing.{default_writer, with_flexible, row_text}

@@ -29,7 +29,7 @@ pub(crate) fn command_of(line: &[u8]) -> Command<'_>
     }
 }
 
-// The command of a line that is text.
+/// The command of a line that is text.
 fn text_command(text: &str) -> Command<'_>
     ensures { view_command result ≡ spec.text_command text.now }
 {

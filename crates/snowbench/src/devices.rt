@@ -1,9 +1,15 @@
 //! What is read from and written to: devices that may fail or be interrupted, and are counted at it.
 ghost use Rattle.std.specs.Prelude.{◌≡◌, ◌≤◌, ◌<◌, ◌^◌, ℕ, List, Option, length, IfOk, Err};
 ghost use Rattle.std.specs.Io.KnownBytes.{Keeps};
-ghost use Rattle.snowbench.specs.Devices.{Reads, Writes, Counts, CountsRow};
+ghost use Rattle.snowbench.specs.Devices.{Reads, Writes, Counts, CountsRead, CountsRow, most_reads, most_tries};
 
 use std::io::{ErrorKind, Read, Write};
+
+/// How many reads one reader is asked for (our own choice).
+pub(crate) const MAX_READS: u64 = 1_099_511_627_776;
+
+/// How often one read or write is tried: 1,000 interruptions in a row are borne (our own choice).
+pub(crate) const MOST_TRIES: u16 = 1_001;
 
 /// Why a read or a write did nothing.
 #[derive(Clone, Copy, Debug, PartialEq, Eq)]
@@ -25,13 +31,17 @@ pub trait Source {
     /// How many reads in a row were interrupted last, up to 1001.
     ghost interruptions: { Self → ℕ };
 
+    /// How many reads it was asked for, up to 1,099,511,627,776.
+    ghost reads: { Self → ℕ };
+
     /// Takes bytes from the front of those left into `buf`, and answers how many: 0 into some room is their end. A stop
     /// takes none.
     fn read(&mut self, buf: &mut [u8]) -> Result<usize, Stop>
         ensures bound { IfOk result (λ n. n ≤ length buf.new) }
         ensures bytes { Reads (left self.old) (left self.new) result buf.new }
         ensures counts { Counts (failures self.old) (failures self.new) result }
-        ensures row { CountsRow (interruptions self.old) (interruptions self.new) result };
+        ensures row { CountsRow (interruptions self.old) (interruptions self.new) result }
+        ensures asked { CountsRead (reads self.old) (reads self.new) };
 }
 
 /// What bytes are written to.
@@ -61,21 +71,47 @@ pub struct Device<D> {
     stops: Stops,
 }
 
-/// How often a device has failed, and how often in a row it was interrupted last.
+/// How often a device has failed, how often in a row it was interrupted last, and how many reads it was asked for.
 #[derive(Clone, Copy)]
 pub(crate) struct Stops {
     pub(crate) failures: u64,
     pub(crate) interruptions: u16,
-    ghost capped: { interruptions ≤ 1001 },
+    pub(crate) reads: u64,
+    ghost capped: { interruptions ≤ most_tries },
+    ghost in_bound: { reads ≤ most_reads },
 }
 
 impl Stops {
+    /// No stop, and no read.
+    pub(crate) fn new() -> Stops
+        ensures failures { result.failures ≡ 0 }
+        ensures interruptions { result.interruptions ≡ 0 }
+        ensures reads { result.reads ≡ 0 }
+    {
+        Stops {
+            failures: 0,
+            interruptions: 0,
+            reads: 0,
+        }
+    }
+
+    /// Counts one more read.
+    pub(crate) fn ask(&mut self)
+        ensures reads { CountsRead self.old.reads self.new.reads }
+        ensures failures { self.new.failures ≡ self.old.failures }
+        ensures interruptions { self.new.interruptions ≡ self.old.interruptions }
+    {
+        self.reads = (self.reads + 1).min(MAX_READS);
+    }
+
+    /// Counts a failure or an interruption, and says which it is.
     pub(crate) fn note(&mut self, kind: ErrorKind) -> Stop
         ensures counts { Counts self.old.failures self.new.failures (Err result) }
         ensures row { CountsRow self.old.interruptions self.new.interruptions (Err result) }
+        ensures reads { self.new.reads ≡ self.old.reads }
     {
         if kind == ErrorKind::Interrupted || self.failures == u64::MAX {
-            self.interruptions = (self.interruptions + 1).min(1001);
+            self.interruptions = (self.interruptions + 1).min(MOST_TRIES);
             return Stop::Interrupted;
         }
         self.failures += 1;
@@ -85,28 +121,33 @@ impl Stops {
 }
 
 impl<D> Device<D> {
-    /// A device that has not failed and was not interrupted.
+    ghost use Rattle.snowbench.specs.Counted.{failures_of, inner_of, interruptions_of, reads_of};
+
+    /// A device that has not failed, was not interrupted and was asked for no read.
     pub fn new(inner: D) -> Device<D>
-        ensures inner { result.inner ≡ inner }
-        ensures failures { result.stops.failures ≡ 0 }
-        ensures interruptions { result.stops.interruptions ≡ 0 }
+        ensures inner { inner_of result ≡ inner }
+        ensures failures { failures_of result ≡ 0 }
+        ensures interruptions { interruptions_of result ≡ 0 }
+        ensures reads { reads_of result ≡ 0 }
     {
-        let stops = Stops {
-            failures: 0,
-            interruptions: 0,
-        };
+        let stops = Stops::new();
         Device { inner, stops }
     }
 }
 
 impl<D: Read> Source for Device<D> {
-    ghost left = { λ d. D.remaining d.inner };
+    ghost use Rattle.snowbench.specs.Counted.{failures_of, inner_of, interruptions_of, reads_of};
 
-    ghost failures = { λ d. d.stops.failures };
+    ghost left = { λ d. D.remaining (inner_of d) };
 
-    ghost interruptions = { λ d. d.stops.interruptions };
+    ghost failures = { λ d. failures_of d };
+
+    ghost interruptions = { λ d. interruptions_of d };
+
+    ghost reads = { λ d. reads_of d };
 
     fn read(&mut self, buf: &mut [u8]) -> Result<usize, Stop> {
+        self.stops.ask();
         match self.inner.read(buf) {
             Ok(n) => {
                 self.stops.interruptions = 0;
@@ -118,11 +159,13 @@ impl<D: Read> Source for Device<D> {
 }
 
 impl<D: Write> Sink for Device<D> {
-    ghost held = { λ d. D.contents d.inner };
+    ghost use Rattle.snowbench.specs.Counted.{failures_of, inner_of, interruptions_of};
 
-    ghost failures = { λ d. d.stops.failures };
+    ghost held = { λ d. D.contents (inner_of d) };
 
-    ghost interruptions = { λ d. d.stops.interruptions };
+    ghost failures = { λ d. failures_of d };
+
+    ghost interruptions = { λ d. interruptions_of d };
 
     fn write(&mut self, bytes: &[u8]) -> Result<usize, Stop> {
         match self.inner.write(bytes) {

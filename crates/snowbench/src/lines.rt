@@ -1,25 +1,26 @@
 //! Lines of a reader, in buffers of their own that do not grow.
 ghost use Rattle.std.specs.Prelude.{◌≡◌, ◌≢◌, ◌+◌, ◌≤◌, ◌<◌, ◌⊎◌, [], ◌∷◌, vec_len, vec_capacity, OnOk, OnErr, IfOk, IfErr, MatchOption, Some, None, Ok, Err, true, false, length, IsSome};
 ghost use Rattle.std.specs.Io.KnownBytes.{Consumes, IsAtEnd, Keeps};
-ghost use Rattle.snowbench.specs.LinesOf.{chomped};
+ghost use Rattle.snowbench.specs.LinesOf.{chomped, longest_line};
 
-use crate::devices::{Source, Stop};
+use crate::devices::{MAX_READS, MOST_TRIES, Source, Stop};
 use crate::faults::LineFault;
 use std::alloc::{AllocError, Global};
 
 /// The longest line in bytes, its end not counted (our own choice).
 pub const MAX_LINE: usize = 65_536;
 
-/// How many reads one reader is asked for (our own choice).
-pub const MAX_READS: u64 = 1_099_511_627_776;
-
+/// How many bytes are asked for at a read (our own choice).
 const CHUNK: usize = 4_096;
 
 /// What ended a line: a line feed, the end of input, or nothing within the longest line.
 #[derive(Clone, Copy, Debug, PartialEq, Eq)]
 enum LineEnd {
+    /// A line feed.
     Feed,
+    /// The end of input.
     Input,
+    /// Nothing: the line has more bytes than it may.
     Beyond,
 }
 
@@ -38,27 +39,28 @@ pub struct Lines<R> {
     ghost in_order: { at ≤ end },
     ghost in_chunk: { end ≤ vec_len chunk },
     ghost whole: { vec_len chunk ≡ 4096 },
-    ghost room: { 65537 ≤ vec_capacity line },
+    ghost room: { longest_line + 1 ≤ vec_capacity line },
 }
 
 impl<R: Source + Drop> Lines<R> {
-    ghost use Rattle.snowbench.specs.Held.{fuel_of, line_of, fault_of, input_of, BeginsLong, HasCause, TakesLine, NoFeed, GivesLine};
+    ghost use Rattle.snowbench.specs.Devices.{most_reads};
+    ghost use Rattle.snowbench.specs.Held.{fuel_of, held_of, line_of, fault_of, input_of, reads_bound, BeginsLong, BreaksOff, HasCause, TakesLine, NoFeed, GivesLine};
 
     /// The lines of `reader`, which is asked for at most 1,099,511,627,776 reads. Takes its buffers at once; a refused
     /// growth is the one error.
     pub fn new(alloc: Global, reader: R) -> Result<Lines<R>, AllocError>
         ensures input { IfOk result (λ lines. input_of R.left lines ≡ R.left reader) }
         ensures fault { IfOk result (λ lines. fault_of lines ≡ None) }
-        ensures reads { IfOk result (λ lines. lines.reads_left ≡ 1099511627776) }
+        ensures bound { IfOk result (λ lines. reads_bound R.reads lines ≡ most_reads) }
     {
         Lines::with_reads(alloc, reader, MAX_READS)
     }
 
-    // Takes its buffers at once.
+    /// Takes its buffers at once.
     fn with_reads(alloc: Global, reader: R, most: u64) -> Result<Lines<R>, AllocError>
         ensures input { IfOk result (λ lines. input_of R.left lines ≡ R.left reader) }
         ensures fault { IfOk result (λ lines. fault_of lines ≡ None) }
-        ensures reads { IfOk result (λ lines. lines.reads_left ≡ most) }
+        ensures bound { IfOk result (λ lines. (lines.reads_left ≡ most) × (lines.reader ≡ reader)) }
     {
         let chunk = vec![in alloc; 0u8; CHUNK]?;
         let line = Vec::with_capacity(alloc, MAX_LINE + 1)?;
@@ -86,18 +88,20 @@ impl<R: Source + Drop> Lines<R> {
         self.line.as_slice()
     }
 
-    // Reads some more bytes into the chunk, all of which were taken. None come at the end of input alone.
+    /// Reads some more bytes into the chunk, all of which were taken. None come at the end of input alone.
     fn fill(&mut self) -> Result<(), LineFault>
         requires { self.old.at ≡ self.old.end }
         ensures input { Keeps (input_of R.left self.old) (input_of R.left self.new) }
         ensures end { OnOk result (self.new.at ≡ self.new.end → IsAtEnd (R.left self.new.reader)) }
         ensures line { line_of self.new ≡ line_of self.old }
         ensures fault { fault_of self.new ≡ fault_of self.old }
+        ensures empty { OnErr result (self.new.at ≡ self.new.end) }
         ensures fuel { fuel_of self.new ≤ fuel_of self.old }
         ensures later { R.failures self.old.reader ≤ R.failures self.new.reader }
-        ensures why { IfErr result (λ fault. (fault ≡ LineFault.Read) × HasCause R.failures R.interruptions self.old self.new) }
+        ensures bound { reads_bound R.reads self.new ≡ reads_bound R.reads self.old }
+        ensures why { IfErr result (λ fault. (fault ≡ LineFault.Read) × HasCause R.failures R.interruptions R.reads self.old self.new) }
     {
-        for _ in 0..1001u16 {
+        for _ in 0..MOST_TRIES {
             if self.reads_left == 0 {
                 return Err(LineFault::Read);
             }
@@ -115,16 +119,18 @@ impl<R: Source + Drop> Lines<R> {
         Err(LineFault::Read)
     }
 
-    // The next byte, if there is one.
+    /// The next byte, if there is one.
     fn next_byte(&mut self) -> Result<Option<u8>, LineFault>
         ensures byte { IfOk result (λ o. MatchOption o (IsAtEnd (input_of R.left self.new) × Keeps (input_of R.left self.old) (input_of R.left self.new)) (λ b. Consumes (input_of R.left self.old) (input_of R.left self.new) (b ∷ []))) }
         ensures err { OnErr result (Keeps (input_of R.left self.old) (input_of R.left self.new)) }
+        ensures empty { OnErr result (self.new.at ≡ self.new.end) }
         ensures line { line_of self.new ≡ line_of self.old }
         ensures fault { fault_of self.new ≡ fault_of self.old }
         ensures fuel { fuel_of self.new ≤ fuel_of self.old }
         ensures falls { IfOk result (λ o. MatchOption o Unit (λ b. fuel_of self.new < fuel_of self.old)) }
         ensures later { R.failures self.old.reader ≤ R.failures self.new.reader }
-        ensures why { IfErr result (λ fault. (fault ≡ LineFault.Read) × HasCause R.failures R.interruptions self.old self.new) }
+        ensures bound { reads_bound R.reads self.new ≡ reads_bound R.reads self.old }
+        ensures why { IfErr result (λ fault. (fault ≡ LineFault.Read) × HasCause R.failures R.interruptions R.reads self.old self.new) }
     {
         if self.at == self.end {
             self.fill()?;
@@ -137,15 +143,18 @@ impl<R: Source + Drop> Lines<R> {
         Ok(Some(byte))
     }
 
-    // Takes the bytes of a line, up to a line feed, the end of input or more than a line may hold.
+    /// Takes the bytes of a line, up to a line feed, the end of input or more than a line may hold.
     fn take_line(&mut self) -> Result<LineEnd, LineFault>
         ensures takes { IfOk result (λ end. TakesLine (input_of R.left self.old) (input_of R.left self.new) (line_of self.new) end) }
         ensures no_feed { OnOk result (NoFeed (line_of self.new)) }
+        ensures cut { OnErr result (BreaksOff (input_of R.left self.old) (input_of R.left self.new) (line_of self.new)) }
+        ensures empty { OnErr result (self.new.at ≡ self.new.end) }
         ensures fault { fault_of self.new ≡ fault_of self.old }
         ensures fuel { OnOk result (vec_len self.new.line + fuel_of self.new ≤ fuel_of self.old) }
         ensures falls { IfOk result (λ end. end ≢ LineEnd.Input → fuel_of self.new < fuel_of self.old) }
         ensures later { R.failures self.old.reader ≤ R.failures self.new.reader }
-        ensures why { IfErr result (λ fault. (fault ≡ LineFault.Read) × HasCause R.failures R.interruptions self.old self.new) }
+        ensures bound { reads_bound R.reads self.new ≡ reads_bound R.reads self.old }
+        ensures why { IfErr result (λ fault. (fault ≡ LineFault.Read) × HasCause R.failures R.interruptions R.reads self.old self.new) }
     {
         self.line.clear();
         for _ in 0..MAX_LINE + 1 {
@@ -162,16 +171,19 @@ impl<R: Source + Drop> Lines<R> {
         }
     }
 
-    // Takes the next line, or says that the input has ended.
+    /// Takes the next line, or says that the input has ended.
     fn take_whole(&mut self) -> Result<bool, LineFault>
         ensures more { IfOk result (λ more. more ≡ true → GivesLine (input_of R.left self.old) (input_of R.left self.new) (line_of self.new)) }
-        ensures fits { IfOk result (λ more. more ≡ true → length (line_of self.new) ≤ 65536) }
+        ensures fits { IfOk result (λ more. more ≡ true → length (line_of self.new) ≤ longest_line) }
         ensures end { IfOk result (λ more. more ≡ false → IsAtEnd (input_of R.left self.old) × IsAtEnd (input_of R.left self.new) × Keeps (input_of R.left self.old) (input_of R.left self.new)) }
         ensures long { IfErr result (λ fault. fault ≡ LineFault.TooLong → BeginsLong (input_of R.left self.old)) }
+        ensures cut { IfErr result (λ fault. fault ≡ LineFault.Read → BreaksOff (input_of R.left self.old) (input_of R.left self.new) (line_of self.new)) }
+        ensures empty { IfErr result (λ fault. fault ≡ LineFault.Read → self.new.at ≡ self.new.end) }
         ensures falls { IfOk result (λ more. more ≡ true → fuel_of self.new < fuel_of self.old) }
         ensures fault { fault_of self.new ≡ fault_of self.old }
         ensures later { R.failures self.old.reader ≤ R.failures self.new.reader }
-        ensures why { IfErr result (λ fault. fault ≡ LineFault.Read → HasCause R.failures R.interruptions self.old self.new) }
+        ensures bound { reads_bound R.reads self.new ≡ reads_bound R.reads self.old }
+        ensures why { IfErr result (λ fault. fault ≡ LineFault.Read → HasCause R.failures R.interruptions R.reads self.old self.new) }
     {
         let end = self.take_line()?;
         if end == LineEnd::Input && self.line.is_empty() {
@@ -191,15 +203,18 @@ impl<R: Source + Drop> Lines<R> {
     /// call answers it again, and takes nothing.
     pub fn next_line(&mut self) -> Result<bool, LineFault>
         ensures more { IfOk result (λ more. more ≡ true → GivesLine (input_of R.left self.old) (input_of R.left self.new) (line_of self.new)) }
-        ensures fits { IfOk result (λ more. more ≡ true → length (line_of self.new) ≤ 65536) }
+        ensures fits { IfOk result (λ more. more ≡ true → length (line_of self.new) ≤ longest_line) }
         ensures end { IfOk result (λ more. more ≡ false → IsAtEnd (input_of R.left self.old) × IsAtEnd (input_of R.left self.new) × Keeps (input_of R.left self.old) (input_of R.left self.new)) }
         ensures long { IfErr result (λ fault. fault ≡ LineFault.TooLong → BeginsLong (input_of R.left self.old) ⊎ (fault_of self.old ≡ Some fault)) }
+        ensures cut { IfErr result (λ fault. fault ≡ LineFault.Read → fault_of self.old ≡ None → BreaksOff (input_of R.left self.old) (input_of R.left self.new) (line_of self.new)) }
+        ensures empty { IfErr result (λ fault. fault ≡ LineFault.Read → fault_of self.old ≡ None → held_of self.new ≡ []) }
         ensures falls { IfOk result (λ more. more ≡ true → fuel_of self.new < fuel_of self.old) }
         ensures again { IsSome (fault_of self.old) → (fault_of self.new ≡ fault_of self.old) × Keeps (input_of R.left self.old) (input_of R.left self.new) }
         ensures ready { OnOk result ((fault_of self.old ≡ None) × (fault_of self.new ≡ None)) }
         ensures fault { IfErr result (λ fault. fault_of self.new ≡ Some fault) }
         ensures later { R.failures self.old.reader ≤ R.failures self.new.reader }
-        ensures why { IfErr result (λ fault. fault ≡ LineFault.Read → HasCause R.failures R.interruptions self.old self.new ⊎ (fault_of self.old ≡ Some fault)) }
+        ensures bound { reads_bound R.reads self.new ≡ reads_bound R.reads self.old }
+        ensures why { IfErr result (λ fault. fault ≡ LineFault.Read → HasCause R.failures R.interruptions R.reads self.old self.new ⊎ (fault_of self.old ≡ Some fault)) }
     {
         if let Some(fault) = self.fault {
             return Err(fault);

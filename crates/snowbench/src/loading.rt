@@ -1,8 +1,11 @@
 //! A bench from an input: a script block, and then words.
-ghost use Rattle.std.specs.Prelude.{◌≡◌, ◌⊎◌, ◌≤◌, ◌∷◌, [], None, IfOk, IfErr, OnOk, true, false};
+ghost use Rattle.std.specs.Prelude.{◌≡◌, ◌⊎◌, ◌≤◌, None, Some, Err, IfOk, IfErr, OnOk, true, false};
 ghost use Rattle.std.specs.Str.{chars, is_utf8};
 ghost use Rattle.sbl_bench.specs.Kept.{state_of};
-ghost use Rattle.snowbench.specs.Held.{fault_of, input_of};
+ghost use Rattle.std.specs.Io.KnownBytes.{Keeps};
+ghost use Rattle.snowbench.specs.Faults.{left_by_load, serve_fault_of};
+ghost use Rattle.snowbench.specs.declared.faults.LineFault.{LineFault};
+ghost use Rattle.snowbench.specs.Held.{fault_of, input_of, reads_bound};
 ghost use Rattle.snowbench.specs.Loaded.{HasReason, IsLoaded, ReadsScript, ReadsWords};
 
 use crate::devices::Source;
@@ -13,12 +16,15 @@ use sbl_bench::Bench;
 use sbl_script::Script;
 use std::alloc::Global;
 
-// The text of the script block, read to its end.
+/// The text of the script block, read to its end.
 fn read_script<R: Source + Drop>(lines: &mut Lines<R>) -> Result<Vec<u8>, LoadFault>
     ensures reads { fault_of lines.old ≡ None → ReadsScript (input_of R.left lines.old) (input_of R.left lines.new) result }
-    ensures fault { OnOk result (fault_of lines.new ≡ fault_of lines.old) }
+    ensures ready { OnOk result (fault_of lines.old ≡ None) }
+    ensures remembered { fault_of lines.new ≡ left_by_load result }
+    ensures again { (fault : LineFault) → fault_of lines.old ≡ Some fault → (result ≡ Err (LoadFault.Input (serve_fault_of fault))) × Keeps (input_of R.left lines.old) (input_of R.left lines.new) }
     ensures later { R.failures lines.old.reader ≤ R.failures lines.new.reader }
-    ensures why { IfErr result (λ fault. HasReason R.failures R.interruptions lines.old lines.new fault) }
+    ensures bound { reads_bound R.reads lines.new ≡ reads_bound R.reads lines.old }
+    ensures why { IfErr result (λ fault. HasReason R.failures R.interruptions R.reads lines.old lines.new fault) }
 {
     let mut text = ScriptText::new(lines.alloc());
     while lines.next_line()? {
@@ -30,7 +36,7 @@ fn read_script<R: Source + Drop>(lines: &mut Lines<R>) -> Result<Vec<u8>, LoadFa
     Err(LoadFault::Input(ServeFault::Cut))
 }
 
-// The characters of a line, or `NotText`.
+/// The characters of a line, or `NotText`.
 fn characters_of(alloc: Global, line: &[u8]) -> Result<Vec<char>, LoadFault>
     ensures text { IfOk result (λ word. (is_utf8 line.now ≡ true) × (word.items ≡ chars line.now)) }
     ensures none { IfErr result (λ fault. ((fault ≡ LoadFault.Input ServeFault.NotText) × (is_utf8 line.now ≡ false)) ⊎ (fault ≡ LoadFault.Input ServeFault.OutOfMemory)) }
@@ -38,18 +44,16 @@ fn characters_of(alloc: Global, line: &[u8]) -> Result<Vec<char>, LoadFault>
     let Ok(text) = str::from_utf8(line) else {
         return Err(LoadFault::Input(ServeFault::NotText));
     };
-    let mut word = Vec::new(alloc);
-    for c in text.chars() {
-        word.push(c)?;
-    }
-    Ok(word)
+    Ok(text.chars().collect(alloc)?)
 }
 
-// The words, up to a point or the end of input.
+/// The words, up to a point or the end of input.
 fn read_words<R: Source + Drop>(lines: &mut Lines<R>) -> Result<Vec<Vec<char>>, LoadFault>
     ensures reads { fault_of lines.old ≡ None → ReadsWords (input_of R.left lines.old) (input_of R.left lines.new) result }
+    ensures remembered { fault_of lines.new ≡ left_by_load result }
     ensures later { R.failures lines.old.reader ≤ R.failures lines.new.reader }
-    ensures why { IfErr result (λ fault. HasReason R.failures R.interruptions lines.old lines.new fault) }
+    ensures bound { reads_bound R.reads lines.new ≡ reads_bound R.reads lines.old }
+    ensures why { IfErr result (λ fault. HasReason R.failures R.interruptions R.reads lines.old lines.new fault) }
 {
     let mut words = Vec::new(lines.alloc());
     while lines.next_line()? {
@@ -70,10 +74,15 @@ fn read_words<R: Source + Drop>(lines: &mut Lines<R>) -> Result<Vec<Vec<char>>, 
 /// The script block is read to its end before it is judged: `Read`, `LineTooLong`, and `Cut` where the input ended before
 /// the point. Then the script's faults, `ScriptTooLong` first. All words are read before they are judged: `Read`,
 /// `LineTooLong`, and `NotText` at a line that is not UTF-8. Then the vocabulary's faults, `WordTooLong` and `Full`. A refused
-/// growth is `OutOfMemory`.
+/// growth is `OutOfMemory`. After `Cut` the lines stand at the end of input, and after `NotText` behind the line that is no
+/// text. `Read` and `LineTooLong` are remembered: the lines answer them again, and so does every later `load`, which then
+/// takes nothing.
 pub fn load<R: Source + Drop>(lines: &mut Lines<R>, external: &str) -> Result<Bench, LoadFault>
     ensures loaded { fault_of lines.old ≡ None → IsLoaded (input_of R.left lines.old) (input_of R.left lines.new) external.now (λ b. state_of b) result }
-    ensures why { IfErr result (λ fault. HasReason R.failures R.interruptions lines.old lines.new fault) }
+    ensures why { IfErr result (λ fault. HasReason R.failures R.interruptions R.reads lines.old lines.new fault) }
+    ensures remembered { fault_of lines.new ≡ left_by_load result }
+    ensures again { (fault : LineFault) → fault_of lines.old ≡ Some fault → (result ≡ Err (LoadFault.Input (serve_fault_of fault))) × Keeps (input_of R.left lines.old) (input_of R.left lines.new) }
+    ensures bound { reads_bound R.reads lines.new ≡ reads_bound R.reads lines.old }
 {
     let text = read_script(lines)?;
     let script = match Script::parse(lines.alloc(), &text, external) {

@@ -33,7 +33,7 @@ fn main(rt: HostRuntime) -> ExitCode {
     }
 }
 
-// Loads a bench from standard input, and answers the commands after it.
+/// Loads a bench from standard input, and answers the commands after it.
 fn session(rt: &HostRuntime) -> Result<(), LoadFault> {
     let mut lines = Lines::new(rt.alloc(), Device::new(rt.stdin()))?;
     let mut bench = load(&mut lines, EXTERNAL)?;

@@ -14,7 +14,9 @@ use sbl_bench::EditFault;
 /// An answer: a report that was made, or a text of the program.
 #[derive(Debug, Drop)]
 pub(crate) enum Reply {
+    /// A report.
     Report(Vec<u8>),
+    /// A text of the program.
     Fixed(&'static str),
 }
 

@@ -10,7 +10,7 @@ use sbl_bench::Row;
 use sbl_machine::Outcome;
 use std::alloc::{AllocError, Global};
 
-// Some characters as UTF-8.
+/// Some characters as UTF-8.
 fn text_of(alloc: Global, characters: &[char]) -> Result<String, AllocError>
     ensures { IfOk result (λ text. string_bytes text ≡ encode_utf8_all characters.now) }
 {
@@ -21,7 +21,7 @@ fn text_of(alloc: Global, characters: &[char]) -> Result<String, AllocError>
     Ok(text)
 }
 
-// The record of a row: the word, and its stem or why its run is refused.
+/// The record of a row: the word, and its stem or why its run is refused.
 #[tactic(auto, unfolding(crate::specs::Rows::row_fields))]
 fn record_of(alloc: Global, row: &Row<'_>) -> Result<ByteRecord, AllocError>
     ensures { IfOk result (λ r. fields_of r ≡ spec.row_fields (view_row row.now)) }

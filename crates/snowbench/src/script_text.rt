@@ -1,6 +1,6 @@
 //! The text of a script block, as its lines are taken.
 ghost use Rattle.std.specs.Prelude.{◌≡◌, ◌<◌, ◌≤◌, ◌++◌, [], ◌∷◌, List, ℕ, OnOk, IfOk, IfErr, length};
-ghost use Rattle.snowbench.specs.Block.{HoldsText, made_text};
+ghost use Rattle.snowbench.specs.Block.{HoldsText, made_text, most_bytes};
 
 use crate::faults::LoadFault;
 use sbl_script::ScriptFault;
@@ -46,8 +46,8 @@ impl ScriptText {
 
     /// The text, or `ScriptTooLong`: it has more than 1,048,576 bytes.
     pub(crate) fn whole(self) -> Result<Vec<u8>, LoadFault>
-        ensures text { IfOk result (λ text. (lines : List (List ℕ)) → HoldsText self lines → (text.items ≡ made_text lines) × (length (made_text lines) ≤ 1048576)) }
-        ensures long { IfErr result (λ fault. (fault ≡ LoadFault.Script (ScriptFault.ScriptTooLong)) × ((lines : List (List ℕ)) → HoldsText self lines → 1048576 < length (made_text lines))) }
+        ensures text { IfOk result (λ text. (lines : List (List ℕ)) → HoldsText self lines → (text.items ≡ made_text lines) × (length (made_text lines) ≤ most_bytes)) }
+        ensures long { IfErr result (λ fault. (fault ≡ LoadFault.Script (ScriptFault.ScriptTooLong)) × ((lines : List (List ℕ)) → HoldsText self lines → most_bytes < length (made_text lines))) }
     {
         if self.too_long {
             return Err(LoadFault::Script(ScriptFault::ScriptTooLong));

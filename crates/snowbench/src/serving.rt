@@ -1,11 +1,13 @@
 //! A session: each line is answered before the next is read.
-ghost use Rattle.std.specs.Prelude.{◌≡◌, ◌≤◌, ℕ, Option, None, IfOk, OnOk, length, take};
+ghost use Rattle.std.specs.Prelude.{◌≡◌, ◌≤◌, ℕ, Option, [], None, Some, Err, IfOk, OnOk, take};
 ghost use Rattle.std.specs.Str.{chars};
-ghost use Rattle.std.specs.Io.KnownBytes.{IsAtEnd};
+ghost use Rattle.std.specs.Io.KnownBytes.{IsAtEnd, Keeps};
 ghost use Rattle.sbl_bench.specs.Kept.{state_of};
 ghost use Rattle.snowbench.specs.Answers as spec;
 ghost use Rattle.snowbench.specs.CommandViews.{IsReply};
-ghost use Rattle.snowbench.specs.Held.{fault_of, input_of};
+ghost use Rattle.snowbench.specs.Faults.{left_by_serve, serve_fault_of};
+ghost use Rattle.snowbench.specs.declared.faults.LineFault.{LineFault};
+ghost use Rattle.snowbench.specs.Held.{fault_of, held_of, input_of, reads_bound};
 ghost use Rattle.snowbench.specs.Rows as rows;
 ghost use Rattle.snowbench.specs.Session.{Ends, IsSession};
 
@@ -16,12 +18,13 @@ use crate::lines::Lines;
 use crate::replies::{Reply, edit_text, write_reply};
 use crate::rows::rows_text;
 use sbl_bench::Bench;
+use sbl_bench::bench::MOST_CHARACTERS;
 use std::alloc::{AllocError, Global};
 
 /// How many characters of a word are looked at: one more than a word may have.
-const MOST_LOOKED_AT: usize = 256;
+const MOST_LOOKED_AT: usize = MOST_CHARACTERS + 1;
 
-// The first characters of a word, put into the room; answers how many.
+/// The first characters of a word, put into the room; answers how many.
 fn first_characters(word: &str, room: &mut [char; MOST_LOOKED_AT]) -> usize
     ensures few { result ≤ 256 }
     ensures first { take result room.new ≡ take 256 (chars word.now) }
@@ -37,8 +40,8 @@ fn first_characters(word: &str, room: &mut [char; MOST_LOOKED_AT]) -> usize
     count
 }
 
-// Adds a word, and gives the answer. A word that is too long is so by its first characters already; so none of its memory
-// is refused before the edit itself.
+/// Adds a word, and gives the answer. A word that is too long is so by its first characters already; so none of its memory
+/// is refused before the edit itself.
 fn add_word(bench: &mut Bench, word: &str) -> &'static str
     ensures { (refused : Option ℕ) × (result.now ≡ spec.edit_text (spec.answer_to_add (state_of bench.old) (chars word.now) refused))
         × (state_of bench.new ≡ spec.state_after_add (state_of bench.old) (chars word.now) refused) }
@@ -48,7 +51,7 @@ fn add_word(bench: &mut Bench, word: &str) -> &'static str
     edit_text(bench.add(&room[..count]))
 }
 
-// The report of all rows.
+/// The report of all rows.
 fn stems_text(alloc: Global, bench: &Bench) -> Result<Vec<u8>, AllocError>
     ensures { IfOk result (λ text. text.items ≡ rows.stems_text (state_of bench.now)) }
 {
@@ -56,7 +59,7 @@ fn stems_text(alloc: Global, bench: &Bench) -> Result<Vec<u8>, AllocError>
     rows_text(alloc, &rows)
 }
 
-// Makes the edit or the report that a line asks for, and gives the answer.
+/// Makes the edit or the report that a line asks for, and gives the answer.
 fn answer(alloc: Global, bench: &mut Bench, line: &[u8]) -> Reply
     ensures { (refused : Option ℕ) × IsReply result (spec.reply_of (state_of bench.old) line.now refused)
         × (state_of bench.new ≡ spec.state_after (state_of bench.old) line.now refused) }
@@ -81,15 +84,22 @@ fn answer(alloc: Global, bench: &mut Bench, line: &[u8]) -> Reply
 ///
 /// `Read` where the reader failed or a bound on reads or interruptions was met, `Write` where the writer failed or was
 /// interrupted more than 1,000 times in a row, `LineTooLong` at a line of more than 65,536 bytes. The lines before it are
-/// answered, and the bench keeps their edits. A fault that the lines have answered before is answered again.
+/// answered, and the bench keeps their edits. At `Read` these are all whole lines that were read. At `Write` the edit of the
+/// line in hand is made and a front of its answer written, and the lines stand behind it. `Read` and `LineTooLong` are
+/// remembered: a fault that the lines have answered before is answered again, and nothing is done.
 pub fn serve<R: Source + Drop, W: Sink>(
     bench: &mut Bench,
     lines: &mut Lines<R>,
     writer: &mut W,
 ) -> Result<(), ServeFault>
-    ensures session { fault_of lines.old ≡ None → IsSession (input_of R.left lines.old) (W.held writer.old) (W.held writer.new) (state_of bench.old) (state_of bench.new) result }
-    ensures ends { Ends R.failures R.interruptions W.failures W.interruptions lines.old lines.new writer.old writer.new result }
+    ensures session { fault_of lines.old ≡ None → IsSession (input_of R.left lines.old) (input_of R.left lines.new) (W.held writer.old) (W.held writer.new) (state_of bench.old) (state_of bench.new) result }
+    ensures ends { Ends R.failures R.interruptions R.reads W.failures W.interruptions lines.old lines.new writer.old writer.new result }
     ensures whole { OnOk result (IsAtEnd (input_of R.left lines.new)) }
+    ensures drained { result ≡ Err ServeFault.Read → fault_of lines.old ≡ None → held_of lines.new ≡ [] }
+    ensures remembered { fault_of lines.new ≡ left_by_serve result }
+    ensures again { (fault : LineFault) → fault_of lines.old ≡ Some fault → (result ≡ Err (serve_fault_of fault)) × (state_of bench.new ≡ state_of bench.old)
+        × Keeps (W.held writer.old) (W.held writer.new) × Keeps (input_of R.left lines.old) (input_of R.left lines.new) }
+    ensures bound { reads_bound R.reads lines.new ≡ reads_bound R.reads lines.old }
 {
     while lines.next_line()? {
         let reply = answer(lines.alloc(), bench, lines.line());

@@ -49,7 +49,10 @@ impl<D: Read> Source for Pieces<D> {
 
     ghost interruptions = { λ p. p.stops.interruptions };
 
+    ghost reads = { λ p. p.stops.reads };
+
     fn read(&mut self, buf: &mut [u8]) -> Result<usize, Stop> {
+        self.stops.ask();
         if let Some(kind) = self.plan.next() {
             return Err(self.stops.note(kind));
         }
@@ -90,10 +93,7 @@ impl<D: Write> Sink for Pieces<D> {
 pub(crate) fn in_pieces<D>(inner: D, piece: usize, fails_at: u64, interruptions: u64) -> Pieces<D>
     requires { 0 < piece }
 {
-    let stops = Stops {
-        failures: 0,
-        interruptions: 0,
-    };
+    let stops = Stops::new();
     let plan = Plan {
         interruptions,
         waited: 0,

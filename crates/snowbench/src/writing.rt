@@ -3,10 +3,10 @@ ghost use Rattle.std.specs.Prelude.{◌≡◌, ◌≤◌, ◌<◌, ℕ, IfOk, If
 ghost use Rattle.std.specs.Io.KnownBytes.{Appends, Keeps};
 ghost use Rattle.snowbench.specs.Devices.{HasStopped};
 
-use crate::devices::{Sink, Stop};
+use crate::devices::{MOST_TRIES, Sink, Stop};
 use crate::faults::ServeFault;
 
-// Writes a front of some bytes, and answers how many. Bears 1,000 interruptions in a row; the next ends it.
+/// Writes a front of some bytes, and answers how many. Bears 1,000 interruptions in a row; the next ends it.
 fn write_some<W: Sink>(writer: &mut W, bytes: &[u8]) -> Result<usize, ServeFault>
     requires { 0 < length bytes.now }
     ensures some { IfOk result (λ n. (0 < n) × (n ≤ length bytes.now)) }
@@ -15,7 +15,7 @@ fn write_some<W: Sink>(writer: &mut W, bytes: &[u8]) -> Result<usize, ServeFault
     ensures later { W.failures writer.old ≤ W.failures writer.new }
     ensures why { IfErr result (λ fault. (fault ≡ ServeFault.Write) × HasStopped W.failures W.interruptions writer.old writer.new) }
 {
-    for _ in 0..1001u16 {
+    for _ in 0..MOST_TRIES {
         match writer.write(bytes) {
             Ok(n) => return Ok(n),
             Err(Stop::Failed) => return Err(ServeFault::Write),

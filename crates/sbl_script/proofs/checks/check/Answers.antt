@@ -2,8 +2,8 @@ use Rattle.std.proofs.Common.{◌≡◌, take, refl, arith, sym, ◌∙◌}
 use Rattle.std.proofs.lemmas.Grind.{common_steps}
 use Rattle.sbl_script.specs.View.{view_items}
 use Rattle.sbl_script.specs.Met.{Passed}
-use Rattle.sbl_script.proofs.Declared.{passed_none, turn_externals, turn_routine, passed_all}
-use Rattle.sbl_script.proofs.checks.check.Goals.{in-Externals+in_ok-check_declared-in-Externals, in-Routine+in_ok-check_defined-in-Routine+in_ok-check_command-in-Routine}
+use Rattle.sbl_script.proofs.Declared.{passed_none, turn_externals, turn_routine, turn_escapes, turn_macro, passed_all}
+use Rattle.sbl_script.proofs.checks.check.Goals.{in-Externals+in_ok-check_declared-in-Externals, in-Routine+in_ok-check_defined-in-Routine+in_ok-check_command-in-Routine, in-StringEscapes, in-StringDef}
 use Rattle.sbl_script.proofs.checks.check.Goals as goal
 
 pub loop-item-init : goal.loop-item-init
@@ -21,6 +21,12 @@ loop-item-preserved c =
             turn_routine c.loop-item.declared c.match-item.declared c.loop-item.defined w.check_defined.new.defined c.match-item.defined c.args.items.now c.loop-item.item-index c.item-item.result w.in-Routine.name w.as_str.result.now w.in-Routine.body
             w.declared-is w.defined-is c.loop-item-test.true c.item-item.is w.in-Routine.is w.as_str.ensures.value c.loop-item.invariant.passed
             w.in_ok-check_defined-in-Routine.ensures.declared w.in_ok-check_defined-in-Routine.ensures.defined w.in_ok-check_command-in-Routine.ensures
+        | in-StringEscapes w ↦
+            turn_escapes c.loop-item.declared c.match-item.declared c.loop-item.defined c.match-item.defined c.args.items.now c.loop-item.item-index c.item-item.result w.in-StringEscapes.«open» w.in-StringEscapes.close
+            w.declared-is w.defined-is c.loop-item-test.true c.item-item.is w.in-StringEscapes.is c.loop-item.invariant.passed
+        | in-StringDef w ↦
+            turn_macro c.loop-item.declared c.match-item.declared c.loop-item.defined c.match-item.defined c.args.items.now c.loop-item.item-index c.item-item.result w.in-StringDef.name w.in-StringDef.base w.in-StringDef.value
+            w.declared-is w.defined-is c.loop-item-test.true c.item-item.is w.in-StringDef.is c.loop-item.invariant.passed
       ];
     }
 

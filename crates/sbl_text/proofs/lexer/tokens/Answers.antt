@@ -8,27 +8,27 @@ use Rattle.sbl_text.proofs.lexer.tokens.Goals as goal
 pub returns-in_err-token-clause-fault : goal.returns-in_err-token-clause-fault
 returns-in_err-token-clause-fault c =
     let p = err_from_is_err_and c.from_residual.result c.from_residual.ensures.1 in
-    rw (p.1, p.2) (first_of_all (chars c.args.text.now) c.loop-tokens.lexer.rest c.next.new.self.rest c.in_err-token.field-0.0 c.loop-tokens.tokens.items c.loop-tokens.invariant.1
-    (subst (λ (s : List ℕ). IsNext s c.loop-tokens.lexer.rest c.next.new.self.rest (Err c.in_err-token.field-0.0)) c.loop-tokens.invariant.0 c.in_err-token.ensures.next))
+    rw (p.1, p.2) (first_of_all (chars c.args.text.now) c.loop-tokens.lexer.state c.loop-tokens.lexer.rest c.next.new.self.state c.next.new.self.rest c.in_err-token.field-0.0 c.loop-tokens.tokens.items c.loop-tokens.invariant.1
+    (subst (λ (s : List ℕ). IsNext s c.loop-tokens.lexer.state c.loop-tokens.lexer.rest c.next.new.self.state c.next.new.self.rest (Err c.in_err-token.field-0.0)) c.loop-tokens.invariant.0 c.in_err-token.ensures.next))
 
 pub loop-tokens-smaller : goal.loop-tokens-smaller
 loop-tokens-smaller c =
-    next_shorter c.loop-tokens.lexer.text c.loop-tokens.lexer.rest c.next.new.self.rest c.in-Some.token (rw c.in-Some.is at c.in_ok-token.ensures.next)
+    next_shorter c.loop-tokens.lexer.text c.loop-tokens.lexer.state c.loop-tokens.lexer.rest c.next.new.self.state c.next.new.self.rest c.in-Some.token (rw c.in-Some.is at c.in_ok-token.ensures.next)
 
 pub loop-tokens-preserved : goal.loop-tokens-preserved
 loop-tokens-preserved c = (
   c.in_ok-token.ensures.same_text ∙ c.loop-tokens.invariant.0,
-  subst (SoFar (chars c.args.text.now) c.next.new.self.rest) (sym c.in_ok-push.ensures.items)
-      (with_next (chars c.args.text.now) c.loop-tokens.lexer.rest c.next.new.self.rest c.in-Some.token c.loop-tokens.tokens.items c.loop-tokens.invariant.1
-      (subst (λ (s : List ℕ). IsNext s c.loop-tokens.lexer.rest c.next.new.self.rest (Ok (Some c.in-Some.token))) c.loop-tokens.invariant.0 (rw c.in-Some.is at c.in_ok-token.ensures.next))),
+  subst (SoFar (chars c.args.text.now) c.next.new.self.state c.next.new.self.rest) (sym c.in_ok-push.ensures.items)
+      (with_next (chars c.args.text.now) c.loop-tokens.lexer.state c.loop-tokens.lexer.rest c.next.new.self.state c.next.new.self.rest c.in-Some.token c.loop-tokens.tokens.items c.loop-tokens.invariant.1
+      (subst (λ (s : List ℕ). IsNext s c.loop-tokens.lexer.state c.loop-tokens.lexer.rest c.next.new.self.state c.next.new.self.rest (Ok (Some c.in-Some.token))) c.loop-tokens.invariant.0 (rw c.in-Some.is at c.in_ok-token.ensures.next))),
 )
 
 pub returns-clause-all : goal.returns-clause-all
 returns-clause-all c =
-    all_tokens (chars c.args.text.now) c.loop-tokens.lexer.rest c.next.new.self.rest c.loop-tokens.tokens.items c.loop-tokens.invariant.1
-    (subst (λ (s : List ℕ). IsNext s c.loop-tokens.lexer.rest c.next.new.self.rest (Ok None)) c.loop-tokens.invariant.0 (rw c.in_default.is at c.in_ok-token.ensures.next))
+    all_tokens (chars c.args.text.now) c.loop-tokens.lexer.state c.loop-tokens.lexer.rest c.next.new.self.state c.next.new.self.rest c.loop-tokens.tokens.items c.loop-tokens.invariant.1
+    (subst (λ (s : List ℕ). IsNext s c.loop-tokens.lexer.state c.loop-tokens.lexer.rest c.next.new.self.state c.next.new.self.rest (Ok None)) c.loop-tokens.invariant.0 (rw c.in_default.is at c.in_ok-token.ensures.next))
 
 pub returns-clause-placed : goal.returns-clause-placed
 returns-clause-placed c =
-    all_placed (chars c.args.text.now) c.loop-tokens.lexer.rest c.next.new.self.rest c.loop-tokens.tokens.items c.loop-tokens.invariant.1
-    (subst (λ (s : List ℕ). IsNext s c.loop-tokens.lexer.rest c.next.new.self.rest (Ok None)) c.loop-tokens.invariant.0 (rw c.in_default.is at c.in_ok-token.ensures.next))
+    all_placed (chars c.args.text.now) c.loop-tokens.lexer.state c.loop-tokens.lexer.rest c.next.new.self.state c.next.new.self.rest c.loop-tokens.tokens.items c.loop-tokens.invariant.1
+    (subst (λ (s : List ℕ). IsNext s c.loop-tokens.lexer.state c.loop-tokens.lexer.rest c.next.new.self.state c.next.new.self.rest (Ok None)) c.loop-tokens.invariant.0 (rw c.in_default.is at c.in_ok-token.ensures.next))

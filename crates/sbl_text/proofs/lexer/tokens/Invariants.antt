@@ -4,7 +4,7 @@ use Rattle.sbl_text.proofs.Lists.{SoFar}
 use Rattle.sbl_text.proofs.lexer.tokens.Given as goal
 
 abbrev pub invariant-loop-tokens : goal.invariant-loop-tokens
-invariant-loop-tokens l = (l.lexer.text ≡ chars l.text) × SoFar (chars l.text) l.lexer.rest l.tokens.items
+invariant-loop-tokens l = (l.lexer.text ≡ chars l.text) × SoFar (chars l.text) l.lexer.state l.lexer.rest l.tokens.items
 
 abbrev pub decreases-loop-tokens : goal.decreases-loop-tokens
 decreases-loop-tokens l = length l.lexer.rest

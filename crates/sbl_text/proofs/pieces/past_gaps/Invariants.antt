@@ -7,7 +7,7 @@ use Rattle.sbl_text.proofs.pieces.past_gaps.Given as goal
 
 abbrev pub invariant-loop-shape : goal.invariant-loop-shape
 invariant-loop-shape l =
-    shadow (Utf8 l.text) × spec.AfterGaps l.inserts (chars l.initial.text) (chars l.text)
+    shadow (Utf8 l.text) × spec.AfterGaps (spec.setting l.inserts l.wanted) (chars l.initial.text) (chars l.text)
 
 abbrev pub decreases-loop-shape : goal.decreases-loop-shape
 decreases-loop-shape l = length l.text

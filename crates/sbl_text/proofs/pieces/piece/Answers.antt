@@ -3,4 +3,4 @@ use Rattle.sbl_text.proofs.Whole.{given}
 use Rattle.sbl_text.proofs.pieces.piece.Goals as goal
 
 pub returns-clause-value : goal.returns-clause-value
-returns-clause-value c = given c.args.inserts (chars c.args.text.now) (λ r. chars r.now) c.cut.result c.cut.ensures.value
+returns-clause-value c = given c.args.inserts c.args.wanted (chars c.args.text.now) (λ r. chars r.now) c.cut_in.result c.cut_in.ensures.value

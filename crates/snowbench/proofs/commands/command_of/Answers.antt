@@ -1,8 +1,7 @@
-use Rattle.std.proofs.Common.{◌≡◌, ◌∙◌, arith, rules, refl, sym, ap, List, [], ◌∷◌, ℕ, true, false, length, Bool, subst, ◌≢◌}
+use Rattle.std.proofs.Common.{◌≡◌, ◌∙◌, arith, rules, refl, sym, ap, List, [], ◌∷◌, ℕ, true, false, length, Bool, ◌≢◌}
 use Rattle.std.specs.Str.{IsUtf8, is_utf8}
 use Rattle.std.proofs.lemmas.Str.{IsUtf8-from_is_utf8, is_utf8-from_IsUtf8}
 use Rattle.snowbench.specs.Commands as spec
-use Rattle.snowbench.specs.CommandViews.{view_command}
 use Rattle.snowbench.proofs.commands.command_of.Goals as goal
 
 of_none : (line : List ℕ) → length line ≡ 0 → spec.Nothing ≡ spec.command_of line

@@ -1,10 +1,10 @@
-use Rattle.std.proofs.Common.{ap, ◌≡◌, ◌≢◌, ◌∙◌, ◌≤◌, ◌++◌, [], ◌∷◌, arith, rules, inl, inr, length, map, sym, subst, refl, List, ℕ, true, false, None}
+use Rattle.std.proofs.Common.{ap, ◌≡◌, ◌≢◌, ◌∙◌, ◌++◌, [], ◌∷◌, arith, rules, inl, inr, map, sym, subst, List, ℕ, true}
 use Rattle.std.specs.Str.{chars, is_utf8}
 use Rattle.std.specs.declared.vec.Vec.{Vec}
 use Rattle.std.specs.declared.alloc.Global.{Global}
-use Rattle.std.specs.Result.{is_ok}
 use Rattle.snowbench.specs.Block.{point}
 use Rattle.snowbench.specs.Held.{input_of, line_of, GivesLine}
+use Rattle.snowbench.proofs.SessionFacts.{all_fit-push}
 use Rattle.snowbench.proofs.LoadFacts.{all_text-push, no_point-push, took-kept, took-more, words-push}
 use Rattle.snowbench.proofs.loading.read_words.Goals as goal
 
@@ -15,7 +15,7 @@ returns-then-eq-clause-reads g c = λ _.
     let line : line_of c.next_line.new.self ≡ point = search rules in
     let gives : GivesLine (input_of left c.loop-words.lines) (input_of left c.next_line.new.self) point =
     subst (λ (x : List ℕ). GivesLine (input_of left c.loop-words.lines) (input_of left c.next_line.new.self) x) line (c.in_ok-next_line.ensures.more c.if-branch.true) in
-    (so.0, (so.1, so.2, inl (took-more _ (input_of left c.loop-words.lines) _ so.0 point so.3 gives)), so.4)
+    (so.0, ((so.1, so.7, so.2), inl (took-more _ (input_of left c.loop-words.lines) _ so.0 point so.3 gives)), so.4)
 
 pub loop-words-preserved : goal.loop-words-preserved
 loop-words-preserved g c =
@@ -35,10 +35,12 @@ loop-words-preserved g c =
       words,
       c.in_ok-next_line.ensures.ready.1 ∙ sym c.in_ok-next_line.ensures.ready.0 ∙ so.5,
       omega (arith, so.6, c.next_line.ensures.later),
+      all_fit-push so.0 line so.7 (c.in_ok-next_line.ensures.fits c.if-branch.true),
+      c.next_line.ensures.bound ∙ so.8,
     )
 
 pub returns-clause-reads : goal.returns-clause-reads
 returns-clause-reads g c = λ _.
     let so = c.loop-words.invariant in
     let end = c.in_ok-next_line.ensures.end c.if-branch.false in
-    (so.0, (so.1, so.2, inr (took-kept _ (input_of g.R.Source.left c.loop-words.lines) _ so.0 so.3 end.2, end.1)), so.4)
+    (so.0, ((so.1, so.7, so.2), inr (took-kept _ (input_of g.R.Source.left c.loop-words.lines) _ so.0 so.3 end.2, end.1)), so.4)

@@ -1,13 +1,14 @@
 use Rattle.std.proofs.Common.{◌≡◌, ◌≤◌, List, ℕ, map}
 use Rattle.std.specs.Str.{chars}
 use Rattle.snowbench.specs.Block.{AllText, NoPoint, Took}
-use Rattle.snowbench.specs.Held.{fault_of, fuel_of, input_of}
+use Rattle.snowbench.specs.Held.{AllFit, fault_of, fuel_of, input_of, reads_bound}
 use Rattle.snowbench.proofs.loading.read_words.Given as goal
 
 abbrev pub invariant-loop-words : goal.invariant-loop-words
 invariant-loop-words g l = (taken : List (List ℕ)) × NoPoint taken × AllText taken × Took (input_of g.R.Source.left l.fn.lines) (input_of g.R.Source.left l.lines) taken
     × (map (λ w. w.items) l.words.items ≡ map chars taken) × (fault_of l.lines ≡ fault_of l.fn.lines)
     × (g.R.Source.failures l.fn.lines.reader ≤ g.R.Source.failures l.lines.reader)
+    × AllFit taken × (reads_bound g.R.Source.reads l.lines ≡ reads_bound g.R.Source.reads l.fn.lines)
 
 abbrev pub decreases-loop-words : goal.decreases-loop-words
 decreases-loop-words g l = fuel_of l.lines

@@ -1,4 +1,4 @@
-use Rattle.std.proofs.Common.{◌≡◌, ◌∙◌, List, ℕ, subst, sym, take}
+use Rattle.std.proofs.Common.{◌∙◌, List, ℕ, subst, take}
 use Rattle.std.specs.Str.{chars}
 use Rattle.sbl_bench.specs.Kept.{state_of}
 use Rattle.sbl_bench.specs.State.{Adds}

@@ -1,4 +1,4 @@
-use Rattle.std.proofs.Common.{◌≡◌, ap, sym, refl, Some, ◌∙◌}
+use Rattle.std.proofs.Common.{◌≡◌, ap, Some}
 use Rattle.sbl_bench.specs.Kept.{state_of}
 use Rattle.snowbench.specs.Answers.{after, reply_to}
 use Rattle.snowbench.specs.Commands as spec

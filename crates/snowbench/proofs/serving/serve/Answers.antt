@@ -1,14 +1,18 @@
-use Rattle.std.proofs.Common.{◌≡◌, ◌∙◌, ◌≤◌, arith, rules, length, sym, subst, refl, List, ℕ, true, false, None}
+use Rattle.std.proofs.Common.{◌≡◌, ◌∙◌, ◌≤◌, arith, length, sym, subst, refl, List, ℕ, Option, None, IsSome}
+use Rattle.snowbench.specs.declared.faults.LineFault.{LineFault}
 use Rattle.std.specs.Io.KnownBytes.{Appends}
+use Rattle.std.proofs.KnownBytes.{Keeps-refl}
 use Rattle.sbl_bench.specs.Kept.{state_of}
 use Rattle.snowbench.specs.Answers.{reply_of}
 use Rattle.snowbench.specs.Held.{input_of, line_of, GivesLine}
-use Rattle.snowbench.specs.Session.{SoFar}
 use Rattle.snowbench.proofs.SessionFacts.{session_starts, session_goes_on, session_ends}
 use Rattle.snowbench.proofs.serving.serve.Goals as goal
 
+no_fault : {f : Option LineFault} → f ≡ None → IsSome f → ⊥
+no_fault {f} e some = let none : IsSome {T = LineFault} None = subst IsSome e some in cc none
+
 pub loop-lines-init : goal.loop-lines-init
-loop-lines-init g c = record { session = session_starts _ _ _; fault = refl; read = omega arith; written = omega arith }
+loop-lines-init g c = record { session = session_starts _ _ _; fault = refl; read = omega arith; written = omega arith; bound = refl; untouched = λ _. (refl, Keeps-refl _, Keeps-refl _) }
 
 pub loop-lines-preserved-in_ok-write_reply : goal.loop-lines-preserved-in_ok-write_reply
 loop-lines-preserved-in_ok-write_reply g c = record {
@@ -28,6 +32,8 @@ loop-lines-preserved-in_ok-write_reply g c = record {
   fault = c.in_ok-next_line.ensures.ready.1 ∙ sym c.in_ok-next_line.ensures.ready.0 ∙ c.loop-lines.invariant.fault;
   read = omega (arith, c.next_line.ensures.later);
   written = omega (arith, c.write_reply.ensures.later);
+  bound = c.next_line.ensures.bound ∙ c.loop-lines.invariant.bound;
+  untouched = λ some. absurd (no_fault (sym c.loop-lines.invariant.fault ∙ c.in_ok-next_line.ensures.ready.0) some);
 }
 
 pub loop-lines-preserved : goal.loop-lines-preserved
@@ -48,8 +54,10 @@ loop-lines-preserved g c = record {
   fault = c.in_ok-next_line.ensures.ready.1 ∙ sym c.in_ok-next_line.ensures.ready.0 ∙ c.loop-lines.invariant.fault;
   read = omega (arith, c.next_line.ensures.later);
   written = omega (arith, c.write_reply.ensures.later);
+  bound = c.next_line.ensures.bound ∙ c.loop-lines.invariant.bound;
+  untouched = λ some. absurd (no_fault (sym c.loop-lines.invariant.fault ∙ c.in_ok-next_line.ensures.ready.0) some);
 }
 
 pub returns-clause-session : goal.returns-clause-session
 returns-clause-session g c = λ _.
-    session_ends _ (input_of g.R.Source.left c.loop-lines.lines) _ _ _ _ c.loop-lines.invariant.session (c.in_ok-next_line.ensures.end c.if-branch.false).0
+    session_ends _ (input_of g.R.Source.left c.loop-lines.lines) _ _ _ _ _ c.loop-lines.invariant.session (c.in_ok-next_line.ensures.end c.if-branch.false).0

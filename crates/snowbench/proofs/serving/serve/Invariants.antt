@@ -1,6 +1,7 @@
-use Rattle.std.proofs.Common.{◌≡◌, ◌≤◌, None}
+use Rattle.std.proofs.Common.{◌≡◌, ◌≤◌, IsSome}
+use Rattle.std.specs.Io.KnownBytes.{Keeps}
 use Rattle.sbl_bench.specs.Kept.{state_of}
-use Rattle.snowbench.specs.Held.{fault_of, fuel_of, input_of}
+use Rattle.snowbench.specs.Held.{fault_of, fuel_of, input_of, reads_bound}
 use Rattle.snowbench.specs.Session.{SoFar}
 use Rattle.snowbench.proofs.serving.serve.Given as goal
 
@@ -10,6 +11,9 @@ invariant-loop-lines g l = record {
   fault : fault_of l.lines ≡ fault_of l.fn.lines;
   read : g.R.Source.failures l.fn.lines.reader ≤ g.R.Source.failures l.lines.reader;
   written : g.W.Sink.failures l.fn.writer ≤ g.W.Sink.failures l.writer;
+  bound : reads_bound g.R.Source.reads l.lines ≡ reads_bound g.R.Source.reads l.fn.lines;
+  untouched : IsSome (fault_of l.fn.lines) → (state_of l.bench ≡ state_of l.fn.bench) × Keeps (g.W.Sink.held l.fn.writer) (g.W.Sink.held l.writer)
+      × Keeps (input_of g.R.Source.left l.fn.lines) (input_of g.R.Source.left l.lines);
 }
 
 abbrev pub decreases-loop-lines : goal.decreases-loop-lines

@@ -1,4 +1,4 @@
-use Rattle.std.proofs.Common.{arith, rules, ◌≡◌, ◌≤◌, ◌+◌, ◌-◌, length, take, drop, length-drop, List, ℕ, subst}
+use Rattle.std.proofs.Common.{arith, rules, ◌≡◌, ◌-◌, length, take, drop, List, ℕ, subst}
 use Rattle.std.proofs.Math.Seq.{take-add}
 use Rattle.std.specs.Io.KnownBytes.{Appends}
 use Rattle.std.proofs.KnownBytes.{Appends-trans}

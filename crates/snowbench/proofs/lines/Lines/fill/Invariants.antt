@@ -1,6 +1,6 @@
 use Rattle.std.proofs.Common.{◌≡◌, ◌≤◌}
 use Rattle.std.specs.Io.KnownBytes.{Keeps}
-use Rattle.snowbench.specs.Held.{line_of, input_of}
+use Rattle.snowbench.specs.Held.{line_of, input_of, reads_bound}
 use Rattle.snowbench.proofs.lines.Lines.fill.Given as goal
 
 abbrev pub invariant-loop : goal.invariant-loop
@@ -9,3 +9,4 @@ invariant-loop g l = (l.self.at ≡ l.self.end) × Keeps (input_of g.R.Source.le
     × (l.counter ≤ g.R.Source.interruptions l.self.reader)
     × (l.self.fault ≡ l.fn.self.fault)
     × (l.self.reads_left ≤ l.fn.self.reads_left)
+    × (reads_bound g.R.Source.reads l.self ≡ reads_bound g.R.Source.reads l.fn.self)

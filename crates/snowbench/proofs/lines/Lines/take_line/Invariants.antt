@@ -1,6 +1,6 @@
 use Rattle.std.proofs.Common.{◌≡◌, ◌≤◌, ◌+◌, vec_len}
 use Rattle.std.specs.Io.KnownBytes.{Consumes}
-use Rattle.snowbench.specs.Held.{fuel_of, line_of, input_of, NoFeed}
+use Rattle.snowbench.specs.Held.{fuel_of, line_of, input_of, reads_bound, NoFeed}
 use Rattle.snowbench.proofs.lines.Lines.take_line.Given as goal
 
 abbrev pub invariant-loop : goal.invariant-loop
@@ -8,3 +8,4 @@ invariant-loop g l = Consumes (input_of g.R.Source.left l.fn.self) (input_of g.R
     × NoFeed (line_of l.self) × (vec_len l.self.line ≡ l.counter) × (g.R.Source.failures l.fn.self.reader ≤ g.R.Source.failures l.self.reader)
     × (l.self.fault ≡ l.fn.self.fault)
     × (vec_len l.self.line + fuel_of l.self ≤ fuel_of l.fn.self)
+    × (reads_bound g.R.Source.reads l.self ≡ reads_bound g.R.Source.reads l.fn.self)

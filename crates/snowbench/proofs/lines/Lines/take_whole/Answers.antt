@@ -1,7 +1,7 @@
-use Rattle.std.proofs.Common.{rules, ap, arith, length, vec_len, ◌≡◌, ◌≢◌, ◌<◌, [], ◌∙◌, sym, List, ℕ}
-use Rattle.snowbench.specs.Held.{input_of, line_of, GivesLine, TakesLine}
+use Rattle.std.proofs.Common.{rules, ap, arith, length, vec_len, ◌≡◌, ◌≢◌, [], ◌∙◌}
+use Rattle.snowbench.specs.Held.{input_of, line_of, GivesLine}
 use Rattle.snowbench.specs.LinesOf.{chomped}
-use Rattle.snowbench.specs.declared.lines.LineEnd.TheVariants.{Feed, Input, Beyond}
+use Rattle.snowbench.specs.declared.lines.LineEnd.TheVariants.{Input, Beyond}
 use Rattle.snowbench.proofs.Bytes.{begins_long, gives_line, gives_long}
 use Rattle.snowbench.proofs.lines.Lines.take_whole.Goals as goal
 use Rattle.snowbench.proofs.lines.Lines.take_whole.Goals.{else-eq-via-then-eq+else-is_empty, else-eq-via-else-eq}

@@ -1,0 +1,96 @@
+-- What the spelling of a literal means.
+use Rattle.std.specs.Prelude.{◌≡◌, ◌⊎◌, ℕ, ◌+◌, Bool, true, false, not, ◌&&◌, ◌||◌, ◌==◌, if◌then◌else◌, List, [], ◌∷◌, ◌++◌, length, encode_utf8_all, Option, Some, None, Result, Ok, Err}
+use Rattle.std.specs.List.{list_all}
+use Rattle.sbl_text.specs.declared.escapes.Inserts.{Inserts}
+use Rattle.sbl_text.specs.declared.fault.ScriptFault.{ScriptFault}
+use Rattle.sbl_text.specs.declared.fault.ScriptFault.TheVariants as fault
+use Rattle.sbl_text.specs.Classes.{is_white}
+use Rattle.sbl_text.specs.Codes.{code_of}
+use Rattle.sbl_text.specs.Escapes.{InForce, opens, closes, find}
+
+-- how many bytes a text has
+abbrev pub byte_length : List ℕ → ℕ
+byte_length text = length (encode_utf8_all text)
+
+-- ---- an insertion's name
+
+-- a fault that lacks its place
+abbrev pub Refusal : Type 0
+Refusal = ℕ → ScriptFault
+
+abbrev pub code_or_fault : Option ℕ → Result ℕ Refusal
+code_or_fault None = Err fault.BadCode
+code_or_fault (Some c) = Ok c
+
+-- a quote, the opening insert character, or `U+` and 1 to 6 hexadecimal digits
+abbrev pub character_named : Option Inserts → List ℕ → Result ℕ Refusal
+character_named e [] = Err fault.UnknownEscape
+character_named e (c ∷ []) = if c == 39 || opens e c then Ok c else Err fault.UnknownEscape
+character_named e (c ∷ d ∷ cs) = if c == 85 && d == 43 then code_or_fault (code_of 16 6 cs) else Err fault.UnknownEscape
+
+abbrev pub alone : Result ℕ Refusal → Result (List ℕ) Refusal
+alone (Ok c) = Ok (c ∷ [])
+alone (Err g) = Err g
+
+abbrev pub value_or_character : Option (List ℕ) → Result ℕ Refusal → Result (List ℕ) Refusal
+value_or_character (Some v) c = Ok v
+value_or_character None c = alone c
+
+-- What an insertion gives: white space nothing, a macro its value, and else the character that is named.
+abbrev pub inserted : InForce → List ℕ → Result (List ℕ) Refusal
+inserted e name =
+    if list_all is_white name then Ok [] else value_or_character (find e.macros name) (character_named e.inserts name)
+
+-- ---- parts of a spelling
+
+-- an opening character, a name, and the next closing one
+abbrev pub IsInsertion : InForce → List ℕ → List ℕ → Type 0
+IsInsertion e x name =
+    (a : ℕ) × (b : ℕ) × (x ≡ a ∷ (name ++ b ∷ [])) × (a == 39 ≡ false) × (opens e.inserts a ≡ true) × (closes e.inserts b ≡ true) × (list_all (λ c. not (closes e.inserts c)) name ≡ true)
+
+-- a character that stands for itself
+abbrev pub IsPlain : InForce → List ℕ → List ℕ → Type 0
+IsPlain e x v = (c : ℕ) × (x ≡ c ∷ []) × (c == 39 ≡ false) × (opens e.inserts c ≡ false) × (v ≡ c ∷ [])
+
+pub record Part : Type 0 where
+  pub text : List ℕ
+  pub value : List ℕ
+
+abbrev pub IsPart : InForce → Part → Type 0
+IsPart e p = IsPlain e p.text p.value ⊎ ((name : List ℕ) × IsInsertion e p.text name × (inserted e name ≡ Ok p.value))
+
+-- the parts stand one after another at the front of the spelling, before the rest
+abbrev pub AreParts : InForce → List ℕ → List Part → List ℕ → Type 0
+AreParts e text [] rest = text ≡ rest
+AreParts e text (p ∷ ps) rest = (behind : List ℕ) × (text ≡ p.text ++ behind) × IsPart e p × AreParts e behind ps rest
+
+abbrev pub values : List Part → List ℕ
+values [] = []
+values (p ∷ ps) = p.value ++ values ps
+
+-- the spelling means these characters
+abbrev pub Means : InForce → List ℕ → List ℕ → Type 0
+Means e spelling v = (ps : List Part) × AreParts e spelling ps [] × (v ≡ values ps)
+
+-- a quote that ends the literal too early, or an insertion that gives nothing
+abbrev pub IsWrong : InForce → List ℕ → ℕ → ScriptFault → Type 0
+IsWrong e text place f =
+    ((more : List ℕ) × (text ≡ 39 ∷ more) × (f ≡ fault.BadCharacter place))
+    ⊎ ((x : List ℕ) × (name : List ℕ) × (more : List ℕ) × (text ≡ x ++ more) × IsInsertion e x name × (g : Refusal) × (inserted e name ≡ Err g) × (f ≡ g place))
+
+-- the first fault of a spelling that begins at a place
+abbrev pub FirstWrong : InForce → List ℕ → ℕ → ScriptFault → Type 0
+FirstWrong e spelling place f =
+    (before : List ℕ) × (rest : List ℕ) × (ps : List Part) × (spelling ≡ before ++ rest) × AreParts e spelling ps rest × IsWrong e rest (place + byte_length before) f
+
+-- each insertion has an end, and outside of them stands no line feed
+abbrev pub is_closed : Option Inserts → Bool → List ℕ → Bool
+is_closed e inside [] = not inside
+is_closed e true (c ∷ cs) = is_closed e (not (closes e c)) cs
+is_closed e false (c ∷ cs) = if c == 39 then is_closed e false cs else (if c == 10 then false else is_closed e (opens e c) cs)
+
+-- what a spelling without its quotes gives
+abbrev pub IsLiteral : InForce → List ℕ → Result (List ℕ) ScriptFault → Type 0
+IsLiteral e spelling (Ok v) = (is_closed e.inserts false spelling ≡ true) × Means e spelling v
+IsLiteral e spelling (Err f) =
+    ((is_closed e.inserts false spelling ≡ false) × (f ≡ fault.UnclosedString 0)) ⊎ ((is_closed e.inserts false spelling ≡ true) × FirstWrong e spelling 0 f)

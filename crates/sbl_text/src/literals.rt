@@ -1,0 +1,169 @@
+//! What the spelling of a literal means.
+
+ghost use Rattle.std.specs.Prelude.{◌≡◌, ◌<◌, ◌+◌, ◌^◌, ◌⊎◌, ◌++◌, ◌∷◌, List, ℕ, MatchOption, MatchResult, Ok, Err, true, false, not, length};
+ghost use Rattle.std.specs.List.{list_all, position};
+ghost use Rattle.std.specs.Str.{chars};
+ghost use Rattle.sbl_text.specs.Classes.{is_white};
+ghost use Rattle.sbl_text.specs.Escapes as escaping;
+ghost use Rattle.sbl_text.specs.Literals as spec;
+
+use crate::classes::{Class, is_in};
+use crate::codes::code;
+use crate::escapes::{Escapes, Inserts, closes, opens};
+use crate::fault::ScriptFault;
+use std::alloc::Global;
+
+/// Each insertion has an end, and outside of them stands no line feed.
+pub fn is_closed(inserts: Option<Inserts>, mut chars: &[char]) -> bool
+    ensures { result ≡ spec.is_closed inserts false chars.entry.now }
+{
+    let mut inside = false;
+    while let [c, rest @ ..] = chars {
+        if inside {
+            inside = !closes(inserts, *c);
+        } else if *c == '\'' {
+            inside = false;
+        } else if *c == '\n' {
+            return false;
+        } else {
+            inside = opens(inserts, *c);
+        }
+        chars = rest;
+    }
+    !inside
+}
+
+fn is_blank(name: &[char]) -> bool
+    ensures { result ≡ list_all is_white name.now }
+{
+    name.iter().all(|c| is_in(Class::White, *c))
+}
+
+/// The character that an insertion names: a quote, the opening character, or one with its code.
+fn character(inserts: Option<Inserts>, name: &[char], place: usize) -> Result<char, ScriptFault>
+    ensures { MatchResult result (λ c. spec.character_named inserts name.now ≡ Ok c) (λ f. (g : spec.Refusal) × (spec.character_named inserts name.now ≡ Err g) × (f ≡ g place)) }
+{
+    match name {
+        [c] => {
+            if *c == '\'' || opens(inserts, *c) {
+                return Ok(*c);
+            }
+        }
+        [u, plus, digits @ ..] => {
+            if *u == 'U' && *plus == '+' {
+                return match code(16, 6, digits) {
+                    Some(c) => Ok(c),
+                    None => Err(ScriptFault::BadCode { place }),
+                };
+            }
+        }
+        [] => {}
+    }
+    Err(ScriptFault::UnknownEscape { place })
+}
+
+/// Puts what an insertion gives after a value.
+fn insert(
+    value: &mut Vec<char>,
+    escapes: &Escapes,
+    name: &[char],
+    place: usize,
+) -> Result<(), ScriptFault>
+    ensures { MatchResult result (λ _. (w : List ℕ) × (spec.inserted escapes.now name.now ≡ Ok w) × (value.new.items ≡ value.old.items ++ w)) (λ f. (f ≡ ScriptFault.OutOfMemory) ⊎ ((g : spec.Refusal) × (spec.inserted escapes.now name.now ≡ Err g) × (f ≡ g place))) }
+{
+    if is_blank(name) {
+        return Ok(());
+    }
+    if let Some(found) = escapes.find(name) {
+        value.extend_from_slice(found)?;
+        return Ok(());
+    }
+    let c = character(escapes.inserts(), name, place)?;
+    value.push(c)?;
+    Ok(())
+}
+
+fn first_closing(inserts: Option<Inserts>, chars: &[char]) -> Option<usize>
+    ensures { result ≡ position (escaping.closes inserts) chars.now }
+{
+    chars.iter().position(|c| closes(inserts, *c))
+}
+
+/// The name of an insertion, the character that closes it, and what stands after that.
+fn split_name(inserts: Option<Inserts>, chars: &[char]) -> Option<(&[char], char, &[char])>
+    ensures { MatchOption result (spec.is_closed inserts true chars.now ≡ false) (λ p. (chars.now ≡ p.0.now ++ p.1 ∷ p.2.now) × (escaping.closes inserts p.1 ≡ true) × (list_all (λ c. not (escaping.closes inserts c)) p.0.now ≡ true) × (spec.is_closed inserts true chars.now ≡ spec.is_closed inserts false p.2.now)) }
+{
+    let end = first_closing(inserts, chars)?;
+    let (name, rest) = chars.split_at(end);
+    match rest {
+        [closing, after @ ..] => Some((name, *closing, after)),
+        [] => None,
+    }
+}
+
+/// How many bytes the characters have.
+fn bytes_of(mut chars: &[char]) -> usize
+    requires { spec.byte_length chars.now < 2 ^ 64 }
+    ensures { result ≡ spec.byte_length chars.entry.now }
+{
+    let mut total = 0;
+    while let [c, rest @ ..] = chars {
+        total += c.len_utf8();
+        chars = rest;
+    }
+    total
+}
+
+/// The characters that a spelling means, or its first fault, where the spelling begins at a place.
+pub fn literal_value(
+    alloc: Global,
+    escapes: &Escapes,
+    spelling: &[char],
+    place: usize,
+) -> Result<Vec<char>, ScriptFault>
+    requires closed { spec.is_closed escapes.now.inserts false spelling.now ≡ true }
+    requires room { place + spec.byte_length spelling.now < 2 ^ 64 }
+    ensures { MatchResult result (λ v. spec.Means escapes.now spelling.now v.items) (λ f. (f ≡ ScriptFault.OutOfMemory) ⊎ spec.FirstWrong escapes.now spelling.now place f) }
+{
+    let inserts = escapes.inserts();
+    let mut value = Vec::new(alloc);
+    let mut at = place;
+    let mut rest = spelling;
+    while let [c, behind @ ..] = rest {
+        if *c == '\'' {
+            return Err(ScriptFault::BadCharacter { place: at });
+        }
+        if !opens(inserts, *c) {
+            value.push(*c)?;
+            at += c.len_utf8();
+            rest = behind;
+            continue;
+        }
+        let Some((name, closing, after)) = split_name(inserts, behind) else {
+            return Err(ScriptFault::UnclosedString { place });
+        };
+        insert(&mut value, escapes, name, at)?;
+        at += c.len_utf8() + bytes_of(name) + closing.len_utf8();
+        rest = after;
+    }
+    Ok(value)
+}
+
+/// The characters of a literal, from its spelling without the outer quotes.
+///
+/// Answers `UnclosedString` at 0 where an insertion has no end or a line feed stands outside of them, before any other
+/// fault; then the first of `BadCharacter` at a quote outside of insertions, `UnknownEscape` and `BadCode` at the
+/// character that opens the insertion (Snowball manual, "stringescapes"; what is refused is our own choice).
+pub fn read_literal(
+    alloc: Global,
+    escapes: &Escapes,
+    spelling: &str,
+) -> Result<Vec<char>, ScriptFault>
+    ensures { MatchResult result (λ v. spec.IsLiteral escapes.now (chars spelling.now) (Ok v.items)) (λ f. (f ≡ ScriptFault.OutOfMemory) ⊎ spec.IsLiteral escapes.now (chars spelling.now) (Err f)) }
+{
+    let letters: Vec<char> = spelling.chars().collect(alloc)?;
+    if !is_closed(escapes.inserts(), &letters) {
+        return Err(ScriptFault::UnclosedString { place: 0 });
+    }
+    literal_value(alloc, escapes, &letters, 0)
+}
