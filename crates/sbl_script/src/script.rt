@@ -364,7 +364,7 @@ mod tests {
         let Command::Sequence(commands) = script.body() else {
             panic!(rt; "no commands");
         };
-        let Command::Match(literal) = &commands[2] else {
+        let Some(Command::Match(literal)) = commands.get(2) else {
             panic!(rt; "no literal");
         };
         assert_eq!(rt; literal.spelling.as_str(), "{ss}");
