@@ -1,0 +1,4 @@
+pub mod Terminal
+pub mod Tree
+pub mod Places
+pub mod View

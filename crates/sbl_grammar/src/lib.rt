@@ -1,0 +1,11 @@
+//! The grammar of Snowball: trees, the tokens of a tree, and the tree of some tokens.
+#![tactic(auto)]
+
+mod role;
+mod tree;
+
+pub use role::Role;
+pub use tree::{
+    Added, Additive, Among, Argument, Assignment, Base, Command, Comparison, Constant, Count, DeclarationKind, Edit, Entry, Expression, Factor, Group,
+    Item, Joined, Joiner, Literal, Move, Multiplicative, Naming, Plain, Prefix, Product, Row, Scaled, Simple, Term,
+};
