@@ -2,3 +2,5 @@ pub mod Terminal
 pub mod Tree
 pub mod Places
 pub mod View
+pub mod Steps
+pub mod Reading

@@ -212,5 +212,8 @@ spelled_items [] rest = rest
 spelled_items (i ∷ is) rest = spelled_item i (spelled_items is rest)
 
 -- the tokens of a script
-abbrev pub written : List Item → List Lexeme
-written items = map lexeme_as (spelled_items items [])
+abbrev pub written : List Item → List Terminal
+written items = spelled_items items []
+
+abbrev pub lexemes_of : List Item → List Lexeme
+lexemes_of items = map lexeme_as (written items)
