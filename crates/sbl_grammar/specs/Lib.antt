@@ -4,3 +4,4 @@ pub mod Places
 pub mod View
 pub mod Steps
 pub mod Reading
+pub mod First

@@ -1,6 +1,8 @@
 //! The grammar of Snowball: trees, the tokens of a tree, and the tree of some tokens.
 #![tactic(auto)]
 
+mod cursor;
+mod error;
 mod role;
 mod tree;
 
