@@ -5,3 +5,4 @@ pub mod View
 pub mod Steps
 pub mod Reading
 pub mod First
+pub mod Gives

@@ -4,6 +4,7 @@
 mod cursor;
 mod error;
 mod role;
+mod tokens;
 mod tree;
 
 pub use role::Role;
