@@ -5,4 +5,5 @@ pub mod View
 pub mod Steps
 pub mod Reading
 pub mod First
+pub mod Starts
 pub mod Gives

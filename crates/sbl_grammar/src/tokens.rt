@@ -50,7 +50,7 @@ pub fn argument<'a>(alloc: Global, tokens: &'a [Token<'a>], depth: u8) -> Result
     }
 }
 
-/// A sign that compares.
+/// A sign that compares two numbers.
 pub fn comparison<'a>(tokens: &'a [Token<'a>], depth: u8) -> Result<(Comparison, &'a [Token<'a>]), ReadError>
     requires { depth ≤ max_depth }
     ensures { Gives (terminals_of tokens.now) (wanted.comparison depth ∷ []) (λ x. t.compares x.0 ∷ terminals_of x.1.now) (λ x. terminals_of x.1.now) result }
