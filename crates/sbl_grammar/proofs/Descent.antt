@@ -14,7 +14,7 @@ use Rattle.sbl_text.specs.declared.token.Token.{Token}
 use Rattle.sbl_text.specs.Lexemes.{lexeme_of, lexeme_by, number_in, inserts_in}
 use Rattle.sbl_grammar.specs.declared.role.Role.{Role}
 use Rattle.sbl_grammar.specs.declared.role.Role.TheVariants as roles
-use Rattle.sbl_grammar.specs.declared.error.Fault.TheVariants.{Syntax, TooDeep, OutOfProfile}
+use Rattle.sbl_grammar.specs.declared.error.Fault.TheVariants.{Syntax}
 use Rattle.sbl_grammar.specs.declared.error.ReadError.{ReadError}
 use Rattle.sbl_grammar.specs.declared.error.ReadError.TheVariants as errors
 use Rattle.sbl_grammar.specs.declared.tree.Additive.TheVariants as additives
@@ -38,7 +38,7 @@ use Rattle.sbl_grammar.specs.First.{first_text, first_number, first_inserts, fir
 use Rattle.sbl_grammar.specs.Starts.{begins_command, begins_plain, begins_item}
 use Rattle.sbl_grammar.specs.Steps.{Stack, Step, goes, stuck, step, Fault, syntax, too_deep, no_operator, fault, after_step, max_depth}
 use Rattle.sbl_grammar.specs.Steps as s
-use Rattle.sbl_grammar.specs.Gives.{told, Fails}
+use Rattle.sbl_grammar.specs.Gives.{Fails}
 
 abbrev Ts : Type 0
 Ts = List Terminal
@@ -131,7 +131,7 @@ as_terminal (y ∷ ts) x d e = go (determined y) refl where
   go true is = let f : Some y ≡ Some x = sym (undone y is) ∙ ap undo e ∙ undone x d in cc
   go false is = let f : None ≡ Some x = sym (lost y is) ∙ ap undo e ∙ undone x d in absurd cc
 
-some_first : (ts : List Token) (r : Role) → role_of (terminals_of ts) ≡ r → (r ≡ roles.End → ⊥) → 0 < length ts
+pub some_first : (ts : Ts) (r : Role) → role_of ts ≡ r → (r ≡ roles.End → ⊥) → 0 < length ts
 some_first [] r e n = absurd (n (sym e))
 some_first (x ∷ ts) r e n = omega arith
 
@@ -317,14 +317,8 @@ headed ts next x e is = e ∙ ap (λ (r : Ts). x ∷ r) (sym is)
 
 -- ---- the code's fault is the one found
 
-pub fails_along : (e : ReadError) (f h : Option Fault) → f ≡ h → Fails e h → Fails e f
-fails_along e f h same g = subst (λ (x : Option Fault). Fails e x) (sym same) g
-
-pub fails_syntax : (tokens : List Token) (k : Stack) → fault (terminals_of tokens) k ≡ Some (syntax (terminals_of tokens)) → Fails (errors.Fault (Syntax (length tokens))) (fault (terminals_of tokens) k)
-fails_syntax tokens k e = (syntax (terminals_of tokens), e, ap (λ (n : ℕ). Syntax n) (sym (length-map tokens _)))
-
-pub fails_too_deep : (tokens : List Token) (k : Stack) → fault (terminals_of tokens) k ≡ Some (too_deep (terminals_of tokens)) → Fails (errors.Fault (TooDeep (length tokens))) (fault (terminals_of tokens) k)
-fails_too_deep tokens k e = (too_deep (terminals_of tokens), e, ap (λ (n : ℕ). TooDeep n) (sym (length-map tokens _)))
+pub fails_along : (ts : List Token) (e : ReadError) (f h : Option Fault) → f ≡ h → Fails ts e h → Fails ts e f
+fails_along ts e f h same g = subst (λ (x : Option Fault). Fails ts e x) (sym same) g
 
 -- ---- what cannot come, and what is skipped
 

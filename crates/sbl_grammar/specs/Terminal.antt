@@ -1,5 +1,5 @@
 -- A token as the grammar sees it: the part that it plays.
-use Rattle.std.specs.Prelude.{ℕ, List, [], ◌∷◌, map}
+use Rattle.std.specs.Prelude.{ℕ, List, [], ◌∷◌, map, drop}
 use Rattle.sbl_text.specs.Lexemes.{Lexeme, word, sign, lexeme_of}
 use Rattle.sbl_text.specs.Lexemes as lexemes
 use Rattle.sbl_text.specs.declared.words.Word.{Word}
@@ -168,6 +168,10 @@ terminal_of (lexemes.macro_name n) = macro_name n
 
 abbrev pub terminals_of : List Token → List Terminal
 terminals_of ts = map (λ t. terminal_of (lexeme_of t)) ts
+
+-- those from a place on
+abbrev pub left : List Token → ℕ → List Terminal
+left ts at = terminals_of (drop at ts)
 
 -- ---- and the lexeme of each part
 

@@ -137,6 +137,10 @@ abbrev mutual
   spelled_factor (fixed c) rest = t.constant c ∷ rest
   spelled_factor (length_of a) rest = t.len_of ∷ argument_terminal a ∷ rest
 
+abbrev pub spelled_condition : Option (List ℕ) → List Terminal → List Terminal
+spelled_condition None rest = rest
+spelled_condition (Some n) rest = t.name n ∷ rest
+
 abbrev pub spelled_entry : Entry → List Terminal → List Terminal
 spelled_entry (entry q None) rest = t.literal q ∷ rest
 spelled_entry (entry q (Some n)) rest = t.literal q ∷ t.name n ∷ rest

@@ -1,7 +1,7 @@
 //! The first of some tokens.
 
 ghost use Rattle.std.specs.Prelude.{◌≡◌, ◌<◌, length, drop, IfOk, string_bytes};
-ghost use Rattle.sbl_grammar.specs.Terminal.{terminals_of, role_of, role_as, word_terminal, sign_terminal};
+ghost use Rattle.sbl_grammar.specs.Terminal.{terminals_of, left, role_of, role_as, word_terminal, sign_terminal};
 ghost use Rattle.sbl_grammar.specs.First.{kind_role, first_text, first_number, first_inserts, first_literal, quoted_in};
 ghost use Rattle.sbl_grammar.specs.View.{view_literal};
 
@@ -120,8 +120,17 @@ fn role_of_kind(kind: Kind) -> Role
     }
 }
 
-/// The part that the first token plays.
-pub fn role(tokens: &[Token<'_>]) -> Role
+/// The tokens from a place on.
+fn rest_of<'a, 'b>(tokens: &'b [Token<'a>], at: usize) -> &'b [Token<'a>]
+    ensures { result.now ≡ drop at tokens.now }
+{
+    if at < tokens.len() {
+        return &tokens[at..];
+    }
+    &tokens[tokens.len()..]
+}
+
+fn first_role(tokens: &[Token<'_>]) -> Role
     ensures { result ≡ role_of (terminals_of tokens.now) }
 {
     match tokens.first() {
@@ -130,16 +139,23 @@ pub fn role(tokens: &[Token<'_>]) -> Role
     }
 }
 
-/// The tokens behind the first.
-pub fn behind<'a>(tokens: &'a [Token<'a>]) -> &'a [Token<'a>]
-    requires { 0 < length tokens.now }
-    ensures { terminals_of result.now ≡ drop 1 (terminals_of tokens.now) }
+/// The part that the token at a place plays.
+pub fn role(tokens: &[Token<'_>], at: usize) -> Role
+    ensures { result ≡ role_of (left tokens.now at) }
 {
-    &tokens[1..]
+    first_role(rest_of(tokens, at))
 }
 
-/// The first token's text.
-pub fn text(alloc: Global, tokens: &[Token<'_>]) -> Result<String, AllocError>
+/// The place behind a token.
+#[tactic(auto, using(crate::proofs::Left::left_next))]
+pub fn behind(tokens: &[Token<'_>], at: usize) -> usize
+    requires { 0 < length (left tokens.now at) }
+    ensures { left tokens.now result ≡ drop 1 (left tokens.now at) }
+{
+    at + 1
+}
+
+fn text_first(alloc: Global, tokens: &[Token<'_>]) -> Result<String, AllocError>
     ensures { IfOk result (λ s. string_bytes s ≡ first_text tokens.now) }
 {
     match tokens.first() {
@@ -148,8 +164,14 @@ pub fn text(alloc: Global, tokens: &[Token<'_>]) -> Result<String, AllocError>
     }
 }
 
-/// The first token's number.
-pub fn number(tokens: &[Token<'_>]) -> u32
+/// The text of the token at a place.
+pub fn text(alloc: Global, tokens: &[Token<'_>], at: usize) -> Result<String, AllocError>
+    ensures { IfOk result (λ s. string_bytes s ≡ first_text (drop at tokens.now)) }
+{
+    text_first(alloc, rest_of(tokens, at))
+}
+
+fn number_first(tokens: &[Token<'_>]) -> u32
     ensures { result ≡ first_number tokens.now }
 {
     match tokens.first() {
@@ -161,8 +183,14 @@ pub fn number(tokens: &[Token<'_>]) -> u32
     }
 }
 
-/// The first token's insert characters.
-pub fn inserts(tokens: &[Token<'_>]) -> (char, char)
+/// The number of the token at a place.
+pub fn number(tokens: &[Token<'_>], at: usize) -> u32
+    ensures { result ≡ first_number (drop at tokens.now) }
+{
+    number_first(rest_of(tokens, at))
+}
+
+fn inserts_first(tokens: &[Token<'_>]) -> (char, char)
     ensures { result ≡ first_inserts tokens.now }
 {
     match tokens.first() {
@@ -174,6 +202,13 @@ pub fn inserts(tokens: &[Token<'_>]) -> (char, char)
     }
 }
 
+/// The insert characters of the token at a place.
+pub fn inserts(tokens: &[Token<'_>], at: usize) -> (char, char)
+    ensures { result ≡ first_inserts (drop at tokens.now) }
+{
+    inserts_first(rest_of(tokens, at))
+}
+
 fn literal_in(alloc: Global, value: &Value<'_>) -> Result<Literal, AllocError>
     ensures { IfOk result (λ l. view_literal l ≡ quoted_in value.now) }
 {
@@ -183,12 +218,18 @@ fn literal_in(alloc: Global, value: &Value<'_>) -> Result<Literal, AllocError>
     }
 }
 
-/// The first token's literal.
-pub fn literal(alloc: Global, tokens: &[Token<'_>]) -> Result<Literal, AllocError>
+fn literal_first(alloc: Global, tokens: &[Token<'_>]) -> Result<Literal, AllocError>
     ensures { IfOk result (λ l. view_literal l ≡ first_literal tokens.now) }
 {
     match tokens.first() {
         None => Ok(Literal { spelling: String::new(alloc), value: Vec::new(alloc) }),
         Some(token) => literal_in(alloc, &token.value),
     }
+}
+
+/// The literal of the token at a place.
+pub fn literal(alloc: Global, tokens: &[Token<'_>], at: usize) -> Result<Literal, AllocError>
+    ensures { IfOk result (λ l. view_literal l ≡ first_literal (drop at tokens.now)) }
+{
+    literal_first(alloc, rest_of(tokens, at))
 }

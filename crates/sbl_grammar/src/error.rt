@@ -1,12 +1,14 @@
 //! Why tokens could not be read.
 
-ghost use Rattle.std.specs.Prelude.{◌≡◌, length};
+ghost use Rattle.std.specs.Prelude.{◌≡◌};
 ghost use Rattle.sbl_grammar.specs.declared.error.ReadError.TheVariants.{Memory};
 
-use sbl_text::Token;
 use std::alloc::{AllocError, AllocFailed};
 
-/// The first fault, with the number of tokens from it on.
+/// The greatest depth (our own choice).
+pub const MAX_DEPTH: u8 = 64;
+
+/// The first fault, with the number of tokens before its place.
 #[derive(Clone, Copy, Debug, PartialEq, Eq)]
 pub enum Fault {
     /// The token cannot follow those before it.
@@ -42,23 +44,23 @@ impl<T: Drop> From<AllocFailed<T>> for ReadError {
     }
 }
 
-/// The first of these tokens cannot come.
-pub fn syntax(tokens: &[Token<'_>]) -> ReadError
-    ensures { result ≡ ReadError.Fault (Fault.Syntax (length tokens.now)) }
+/// The token at the place cannot come.
+pub fn syntax(at: usize) -> ReadError
+    ensures { result ≡ ReadError.Fault (Fault.Syntax at) }
 {
-    ReadError::Fault(Fault::Syntax(tokens.len()))
+    ReadError::Fault(Fault::Syntax(at))
 }
 
-/// The first of these tokens stands too deep.
-pub fn too_deep(tokens: &[Token<'_>]) -> ReadError
-    ensures { result ≡ ReadError.Fault (Fault.TooDeep (length tokens.now)) }
+/// The token at the place stands too deep.
+pub fn too_deep(at: usize) -> ReadError
+    ensures { result ≡ ReadError.Fault (Fault.TooDeep at) }
 {
-    ReadError::Fault(Fault::TooDeep(tokens.len()))
+    ReadError::Fault(Fault::TooDeep(at))
 }
 
-/// The first of these tokens is a `$` with a name and no operator.
-pub fn out_of_profile(tokens: &[Token<'_>]) -> ReadError
-    ensures { result ≡ ReadError.Fault (Fault.OutOfProfile (length tokens.now)) }
+/// The `$` at the place has a name and no operator.
+pub fn out_of_profile(at: usize) -> ReadError
+    ensures { result ≡ ReadError.Fault (Fault.OutOfProfile at) }
 {
-    ReadError::Fault(Fault::OutOfProfile(tokens.len()))
+    ReadError::Fault(Fault::OutOfProfile(at))
 }

@@ -1,9 +1,15 @@
 //! The grammar of Snowball: trees, the tokens of a tree, and the tree of some tokens.
 #![tactic(auto)]
 
+mod arithmetic;
+mod commands;
 mod cursor;
+mod entries;
 mod error;
+mod items;
+mod leaves;
 mod role;
+mod starts;
 mod tokens;
 mod tree;
 

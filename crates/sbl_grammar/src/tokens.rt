@@ -1,7 +1,7 @@
 //! Parts of one or two tokens.
 
 ghost use Rattle.std.specs.Prelude.{◌≡◌, ◌≤◌, ◌∷◌, [], string_bytes};
-ghost use Rattle.sbl_grammar.specs.Terminal.{terminals_of};
+ghost use Rattle.sbl_grammar.specs.Terminal.{left};
 ghost use Rattle.sbl_grammar.specs.Terminal as t;
 ghost use Rattle.sbl_grammar.specs.Steps as wanted;
 ghost use Rattle.sbl_grammar.specs.Steps.{max_depth};
@@ -17,46 +17,68 @@ use sbl_text::Token;
 use std::alloc::Global;
 
 /// `)`
-pub fn close<'a>(tokens: &'a [Token<'a>], depth: u8) -> Result<&'a [Token<'a>], ReadError>
+pub fn close(tokens: &[Token<'_>], at: usize, depth: u8) -> Result<usize, ReadError>
     requires { depth ≤ max_depth }
-    ensures { Gives (terminals_of tokens.now) (wanted.closing depth ∷ []) (λ x. t.close_ ∷ terminals_of x.now) (λ x. terminals_of x.now) result }
+    ensures { Gives tokens.now at (wanted.closing depth ∷ []) (λ x. t.close_ ∷ left tokens.now x) (λ x. x) result }
 {
-    match role(tokens) {
-        Role::Close => Ok(behind(tokens)),
-        _ => Err(syntax(tokens)),
+    match role(tokens, at) {
+        Role::Close => Ok(behind(tokens, at)),
+        _ => Err(syntax(at)),
+    }
+}
+
+/// `(`
+pub fn open(tokens: &[Token<'_>], at: usize, depth: u8) -> Result<usize, ReadError>
+    requires { depth ≤ max_depth }
+    ensures { Gives tokens.now at (wanted.opening depth ∷ []) (λ x. t.open_ ∷ left tokens.now x) (λ x. x) result }
+{
+    match role(tokens, at) {
+        Role::Open => Ok(behind(tokens, at)),
+        _ => Err(syntax(at)),
+    }
+}
+
+/// `for`
+pub fn for_word(tokens: &[Token<'_>], at: usize, depth: u8) -> Result<usize, ReadError>
+    requires { depth ≤ max_depth }
+    ensures { Gives tokens.now at (wanted.for_ depth ∷ []) (λ x. t.for_ ∷ left tokens.now x) (λ x. x) result }
+{
+    match role(tokens, at) {
+        Role::For => Ok(behind(tokens, at)),
+        _ => Err(syntax(at)),
     }
 }
 
 /// A name.
-pub fn name<'a>(alloc: Global, tokens: &'a [Token<'a>], depth: u8) -> Result<(String, &'a [Token<'a>]), ReadError>
+pub fn name(alloc: Global, tokens: &[Token<'_>], at: usize, depth: u8) -> Result<(String, usize), ReadError>
     requires { depth ≤ max_depth }
-    ensures { Gives (terminals_of tokens.now) (wanted.name depth ∷ []) (λ x. t.name (string_bytes x.0) ∷ terminals_of x.1.now) (λ x. terminals_of x.1.now) result }
+    ensures { Gives tokens.now at (wanted.name depth ∷ []) (λ x. t.name (string_bytes x.0) ∷ left tokens.now x.1) (λ x. x.1) result }
 {
-    match role(tokens) {
-        Role::Name => Ok((text(alloc, tokens)?, behind(tokens))),
-        _ => Err(syntax(tokens)),
+    match role(tokens, at) {
+        Role::Name => Ok((text(alloc, tokens, at)?, behind(tokens, at))),
+        _ => Err(syntax(at)),
     }
 }
 
 /// A literal or a name.
-pub fn argument<'a>(alloc: Global, tokens: &'a [Token<'a>], depth: u8) -> Result<(Argument, &'a [Token<'a>]), ReadError>
+pub fn argument(alloc: Global, tokens: &[Token<'_>], at: usize, depth: u8) -> Result<(Argument, usize), ReadError>
     requires { depth ≤ max_depth }
-    ensures { Gives (terminals_of tokens.now) (wanted.argument depth ∷ []) (λ x. argument_terminal (view_argument x.0) ∷ terminals_of x.1.now) (λ x. terminals_of x.1.now) result }
+    ensures { Gives tokens.now at (wanted.argument depth ∷ []) (λ x. argument_terminal (view_argument x.0) ∷ left tokens.now x.1) (λ x. x.1) result }
 {
-    match role(tokens) {
-        Role::Literal => Ok((Argument::Literal(literal(alloc, tokens)?), behind(tokens))),
-        Role::Name => Ok((Argument::Name(text(alloc, tokens)?), behind(tokens))),
-        _ => Err(syntax(tokens)),
+    match role(tokens, at) {
+        Role::Literal => Ok((Argument::Literal(literal(alloc, tokens, at)?), behind(tokens, at))),
+        Role::Name => Ok((Argument::Name(text(alloc, tokens, at)?), behind(tokens, at))),
+        _ => Err(syntax(at)),
     }
 }
 
 /// A sign that compares two numbers.
-pub fn comparison<'a>(tokens: &'a [Token<'a>], depth: u8) -> Result<(Comparison, &'a [Token<'a>]), ReadError>
+pub fn comparison(tokens: &[Token<'_>], at: usize, depth: u8) -> Result<(Comparison, usize), ReadError>
     requires { depth ≤ max_depth }
-    ensures { Gives (terminals_of tokens.now) (wanted.comparison depth ∷ []) (λ x. t.compares x.0 ∷ terminals_of x.1.now) (λ x. terminals_of x.1.now) result }
+    ensures { Gives tokens.now at (wanted.comparison depth ∷ []) (λ x. t.compares x.0 ∷ left tokens.now x.1) (λ x. x.1) result }
 {
-    match role(tokens) {
-        Role::Comparison(operator) => Ok((operator, behind(tokens))),
-        _ => Err(syntax(tokens)),
+    match role(tokens, at) {
+        Role::Comparison(operator) => Ok((operator, behind(tokens, at))),
+        _ => Err(syntax(at)),
     }
 }
