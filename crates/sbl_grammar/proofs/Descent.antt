@@ -625,3 +625,20 @@ deep_command (t.set_limit ∷ ts) d k e lt = sinks (t.set_limit ∷ ts) t.set_li
 deep_command (t.dollar ∷ ts) d k e lt = sinks (t.dollar ∷ ts) t.dollar ts (s.command d ∷ k) (s.subject d ∷ k) d refl refl lt
 deep_command (t.among ∷ ts) d k e lt = sinks (t.among ∷ ts) t.among ts (s.command d ∷ k) (s.opening d ∷ s.starter d ∷ s.groups d ∷ s.closing d ∷ k) d refl refl lt
 deep_command (_ ∷ ts) d k e lt = absurd cc
+
+pub refused_all : (ts : Ts) (d : ℕ) (k : Stack) → (role_of ts ≡ roles.Open → ⊥) → ((o : Simple) → role_of ts ≡ roles.Simple o → ⊥) → (role_of ts ≡ roles.Literal → ⊥) → (role_of ts ≡ roles.Name → ⊥) → (role_of ts ≡ roles.Non → ⊥) → ((o : Prefix) → role_of ts ≡ roles.Prefix o → ⊥) → ((o : Count) → role_of ts ≡ roles.Count o → ⊥) → ((o : Move) → role_of ts ≡ roles.Move o → ⊥) → ((o : Naming) → role_of ts ≡ roles.Naming o → ⊥) → ((o : Edit) → role_of ts ≡ roles.Edit o → ⊥) → (role_of ts ≡ roles.SetLimit → ⊥) → (role_of ts ≡ roles.Dollar → ⊥) → (role_of ts ≡ roles.Among → ⊥) → fault ts (s.command d ∷ k) ≡ Some (syntax ts)
+refused_all [] d k n0 n1 n2 n3 n4 n5 n6 n7 n8 n9 n10 n11 n12 = refl
+refused_all (t.open_ ∷ ts) d k n0 n1 n2 n3 n4 n5 n6 n7 n8 n9 n10 n11 n12 = absurd (n0 refl)
+refused_all ((t.simple o) ∷ ts) d k n0 n1 n2 n3 n4 n5 n6 n7 n8 n9 n10 n11 n12 = absurd (n1 o refl)
+refused_all ((t.literal q) ∷ ts) d k n0 n1 n2 n3 n4 n5 n6 n7 n8 n9 n10 n11 n12 = absurd (n2 refl)
+refused_all ((t.name n) ∷ ts) d k n0 n1 n2 n3 n4 n5 n6 n7 n8 n9 n10 n11 n12 = absurd (n3 refl)
+refused_all (t.non ∷ ts) d k n0 n1 n2 n3 n4 n5 n6 n7 n8 n9 n10 n11 n12 = absurd (n4 refl)
+refused_all ((t.prefix o) ∷ ts) d k n0 n1 n2 n3 n4 n5 n6 n7 n8 n9 n10 n11 n12 = absurd (n5 o refl)
+refused_all ((t.count o) ∷ ts) d k n0 n1 n2 n3 n4 n5 n6 n7 n8 n9 n10 n11 n12 = absurd (n6 o refl)
+refused_all ((t.move o) ∷ ts) d k n0 n1 n2 n3 n4 n5 n6 n7 n8 n9 n10 n11 n12 = absurd (n7 o refl)
+refused_all ((t.naming o) ∷ ts) d k n0 n1 n2 n3 n4 n5 n6 n7 n8 n9 n10 n11 n12 = absurd (n8 o refl)
+refused_all ((t.edit o) ∷ ts) d k n0 n1 n2 n3 n4 n5 n6 n7 n8 n9 n10 n11 n12 = absurd (n9 o refl)
+refused_all (t.set_limit ∷ ts) d k n0 n1 n2 n3 n4 n5 n6 n7 n8 n9 n10 n11 n12 = absurd (n10 refl)
+refused_all (t.dollar ∷ ts) d k n0 n1 n2 n3 n4 n5 n6 n7 n8 n9 n10 n11 n12 = absurd (n11 refl)
+refused_all (t.among ∷ ts) d k n0 n1 n2 n3 n4 n5 n6 n7 n8 n9 n10 n11 n12 = absurd (n12 refl)
+refused_all (_ ∷ ts) d k n0 n1 n2 n3 n4 n5 n6 n7 n8 n9 n10 n11 n12 = refl

@@ -1,7 +1,5 @@
 //! Arithmetic expressions.
 
-#![tactic(none)]
-
 ghost use Rattle.std.specs.Prelude.{◌≡◌, ◌≤◌, ◌∷◌, [], string_bytes};
 ghost use Rattle.sbl_grammar.specs.Terminal.{role_of, left};
 ghost use Rattle.sbl_grammar.specs.Steps as wanted;

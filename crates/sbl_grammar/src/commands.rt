@@ -1,7 +1,5 @@
 //! Commands, by recursive descent.
 
-#![tactic(none)]
-
 ghost use Rattle.std.specs.Prelude.{◌≡◌, ◌≤◌, ◌+◌, ◌∷◌, [], drop, string_bytes, OnOk};
 ghost use Rattle.sbl_grammar.specs.Terminal.{role_of, left};
 ghost use Rattle.sbl_grammar.specs.Terminal as t;
@@ -110,8 +108,8 @@ fn among(alloc: Global, tokens: &[Token<'_>], at: usize, depth: u8) -> Result<(C
     requires shallow { depth ≤ max_depth }
     ensures { Gives tokens.now at (wanted.command depth ∷ []) (λ x. spelled (view_command x.0) (left tokens.now x.1)) (λ x. x.1) result }
 {
-    let rest = open(tokens, behind(tokens, at), depth)?;
-    let (starter, rest) = starter(alloc, tokens, rest, depth)?;
+    let inside = open(tokens, behind(tokens, at), depth)?;
+    let (starter, rest) = starter(alloc, tokens, inside, depth)?;
     let ((groups, bare), rest) = groups(alloc, tokens, rest, depth)?;
     let rest = close(tokens, rest, depth)?;
     Ok((Command::Among(Among { starter, groups, bare }), rest))

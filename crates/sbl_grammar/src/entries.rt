@@ -1,7 +1,5 @@
 //! The strings of an `among`.
 
-#![tactic(none)]
-
 ghost use Rattle.std.specs.Prelude.{◌≡◌, ◌≤◌, ◌∷◌, [], drop, map, IfOk, IfErr};
 ghost use Rattle.sbl_grammar.specs.Terminal.{role_of, left};
 ghost use Rattle.sbl_grammar.specs.Steps as wanted;

@@ -1,7 +1,5 @@
 //! Items, by recursive descent.
 
-#![tactic(none)]
-
 ghost use Rattle.std.specs.Prelude.{◌≡◌, ◌≤◌, ◌∷◌, [], map, string_bytes};
 ghost use Rattle.sbl_grammar.specs.Terminal.{role_of, left};
 ghost use Rattle.sbl_grammar.specs.Terminal as t;
@@ -83,8 +81,8 @@ fn declaration(alloc: Global, tokens: &[Token<'_>], at: usize, kind: Declaration
     requires { role_of (left tokens.now at) ≡ Role.Declares kind }
     ensures { Gives tokens.now at (wanted.plain ∷ []) (λ x. spelled_plain (view_plain x.0) (left tokens.now x.1)) (λ x. x.1) result }
 {
-    let rest = open(tokens, behind(tokens, at), 0)?;
-    let (names, rest) = names(alloc, tokens, rest)?;
+    let inside = open(tokens, behind(tokens, at), 0)?;
+    let (names, rest) = names(alloc, tokens, inside)?;
     let rest = close(tokens, rest, 0)?;
     Ok((Plain::Declaration(kind, names), rest))
 }
@@ -168,8 +166,8 @@ fn backward_mode(alloc: Global, tokens: &[Token<'_>], at: usize) -> Result<(Item
     requires { role_of (left tokens.now at) ≡ Role.BackwardMode }
     ensures { Gives tokens.now at (wanted.item ∷ []) (λ x. spelled_item (view_item x.0) (left tokens.now x.1)) (λ x. x.1) result }
 {
-    let rest = open(tokens, behind(tokens, at), 0)?;
-    let (plains, rest) = plains(alloc, tokens, rest)?;
+    let inside = open(tokens, behind(tokens, at), 0)?;
+    let (plains, rest) = plains(alloc, tokens, inside)?;
     let rest = close(tokens, rest, 0)?;
     Ok((Item::BackwardMode(plains), rest))
 }
