@@ -35,7 +35,7 @@ use Rattle.sbl_grammar.specs.declared.tree.Constant.{Constant}
 use Rattle.sbl_grammar.specs.Terminal.{Terminal, terminal_of, terminals_of, role_as, role_of, word_terminal, sign_terminal}
 use Rattle.sbl_grammar.specs.Terminal as t
 use Rattle.sbl_grammar.specs.First.{first_text, first_number, first_inserts, first_literal, quoted_in}
-use Rattle.sbl_grammar.specs.Starts.{begins_command, begins_plain, begins_item}
+use Rattle.sbl_grammar.specs.Starts.{begins_command, begins_plain, begins_item, begins_argument}
 use Rattle.sbl_grammar.specs.Steps.{Stack, Step, goes, stuck, step, Fault, syntax, too_deep, no_operator, fault, after_step, max_depth}
 use Rattle.sbl_grammar.specs.Steps as s
 use Rattle.sbl_grammar.specs.Gives.{Fails}
@@ -642,3 +642,30 @@ refused_all (t.set_limit ∷ ts) d k n0 n1 n2 n3 n4 n5 n6 n7 n8 n9 n10 n11 n12 =
 refused_all (t.dollar ∷ ts) d k n0 n1 n2 n3 n4 n5 n6 n7 n8 n9 n10 n11 n12 = absurd (n11 refl)
 refused_all (t.among ∷ ts) d k n0 n1 n2 n3 n4 n5 n6 n7 n8 n9 n10 n11 n12 = absurd (n12 refl)
 refused_all (_ ∷ ts) d k n0 n1 n2 n3 n4 n5 n6 n7 n8 n9 n10 n11 n12 = refl
+
+pub refused_terms : (ts : Ts) (k : Stack) → (role_of ts ≡ roles.As → ⊥) → begins_argument (role_of ts) ≡ false → fault ts (s.definition ∷ k) ≡ Some (syntax ts)
+refused_terms [] k n e = refl
+refused_terms (t.as_ ∷ ts) k n e = absurd (n refl)
+refused_terms (t.literal q ∷ ts) k n e = absurd cc
+refused_terms (t.name m ∷ ts) k n e = absurd cc
+refused_terms (_ ∷ ts) k n e = refl
+
+pub definition_first : (ts : Ts) (k : Stack) → begins_argument (role_of ts) ≡ true → fault ts (s.definition ∷ k) ≡ fault ts (s.argument 0 ∷ s.terms ∷ k)
+definition_first [] k e = absurd cc
+definition_first (t.literal q ∷ ts) k e = refl
+definition_first (t.name m ∷ ts) k e = refl
+definition_first (_ ∷ ts) k e = absurd cc
+
+pub item_other : (ts : Ts) (k : Stack) → (role_of ts ≡ roles.BackwardMode → ⊥) → fault ts (s.item ∷ k) ≡ fault ts (s.plain ∷ k)
+item_other [] k n = refl
+item_other (t.backward_mode ∷ ts) k n = absurd (n refl)
+item_other (_ ∷ ts) k n = refl
+
+pub refused_plain_all : (ts : Ts) (k : Stack) → ((o : DeclarationKind) → role_of ts ≡ roles.Declares o → ⊥) → (role_of ts ≡ roles.StringEscapes → ⊥) → (role_of ts ≡ roles.StringDef → ⊥) → (role_of ts ≡ roles.Define → ⊥)
+    → fault ts (s.plain ∷ k) ≡ Some (syntax ts)
+refused_plain_all [] k n0 n1 n2 n3 = refl
+refused_plain_all (t.declares o ∷ ts) k n0 n1 n2 n3 = absurd (n0 o refl)
+refused_plain_all (t.string_escapes ∷ ts) k n0 n1 n2 n3 = absurd (n1 refl)
+refused_plain_all (t.string_def ∷ ts) k n0 n1 n2 n3 = absurd (n2 refl)
+refused_plain_all (t.define ∷ ts) k n0 n1 n2 n3 = absurd (n3 refl)
+refused_plain_all (_ ∷ ts) k n0 n1 n2 n3 = refl

@@ -72,3 +72,6 @@ drop_two (x ∷ y ∷ ts) = refl
 
 pub through : (a b c : Ts) → length b < length a → length c ≤ length b → length c < length a
 through a b c h g = omega arith
+
+pub less : (a b : Ts) → 0 < length a → b ≡ drop 1 a → length b < length a
+less a b some e = omega (arith, ap length e, length-drop 1 a)

@@ -7,3 +7,4 @@ pub mod Reading
 pub mod First
 pub mod Starts
 pub mod Gives
+pub mod Told

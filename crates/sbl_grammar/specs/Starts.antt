@@ -33,3 +33,9 @@ begins_item roles.StringDef = true
 begins_item roles.Define = true
 begins_item roles.BackwardMode = true
 begins_item _ = false
+
+-- a literal or a name comes
+abbrev pub begins_argument : Role → Bool
+begins_argument roles.Literal = true
+begins_argument roles.Name = true
+begins_argument _ = false

@@ -4,17 +4,17 @@ ghost use Rattle.std.specs.Prelude.{◌≡◌, ◌≤◌, ◌∷◌, [], map, st
 ghost use Rattle.sbl_grammar.specs.Terminal.{role_of, left};
 ghost use Rattle.sbl_grammar.specs.Terminal as t;
 ghost use Rattle.sbl_grammar.specs.Steps as wanted;
-ghost use Rattle.sbl_grammar.specs.Tree.{spelled_names, spelled_base, spelled_terms, spelled_plain, spelled_plains, spelled_item, spelled_items};
-ghost use Rattle.sbl_grammar.specs.View.{view_literal, view_term, view_plain, view_item, view_items};
+ghost use Rattle.sbl_grammar.specs.Tree.{argument_terminal, spelled_names, spelled_base, spelled_terms, spelled_plain, spelled_plains, spelled_item, spelled_items};
+ghost use Rattle.sbl_grammar.specs.View.{view_argument, view_literal, view_term, view_plain, view_item, view_items};
 ghost use Rattle.sbl_grammar.specs.Gives.{Gives};
 
 use crate::commands::{command, others};
 use crate::cursor::{behind, inserts, literal, role, text};
 use crate::error::{ReadError, syntax};
 use crate::role::Role;
-use crate::starts::{begins_item, begins_plain};
+use crate::starts::{begins_argument, begins_item, begins_plain};
 use crate::tokens::{argument, close, name, open};
-use crate::tree::{Base, DeclarationKind, Item, Literal, Plain, Row, Term};
+use crate::tree::{Argument, Base, DeclarationKind, Item, Literal, Plain, Row, Term};
 use sbl_text::Token;
 use std::alloc::Global;
 
@@ -113,6 +113,19 @@ fn string_def(alloc: Global, tokens: &[Token<'_>], at: usize) -> Result<(Plain, 
     Ok((Plain::StringDef { name, base, value }, rest))
 }
 
+/// The terms of a grouping: the first, and those after it.
+pub fn grouping_terms(alloc: Global, tokens: &[Token<'_>], at: usize) -> Result<((Argument, Vec<Term>), usize), ReadError>
+    requires { role_of (left tokens.now at) ≡ Role.As → ⊥ }
+    ensures { Gives tokens.now at (wanted.definition ∷ []) (λ x. argument_terminal (view_argument x.0.0) ∷ spelled_terms (map view_term x.0.1.items) (left tokens.now x.1)) (λ x. x.1) result }
+{
+    if !begins_argument(role(tokens, at)) {
+        return Err(syntax(at));
+    }
+    let (first, rest) = argument(alloc, tokens, at, 0)?;
+    let (others, rest) = terms(alloc, tokens, rest)?;
+    Ok(((first, others), rest))
+}
+
 /// `define NAME as R` and `define NAME T1 + T2 ..`
 fn define(alloc: Global, tokens: &[Token<'_>], at: usize) -> Result<(Plain, usize), ReadError>
     requires { role_of (left tokens.now at) ≡ Role.Define }
@@ -125,12 +138,10 @@ fn define(alloc: Global, tokens: &[Token<'_>], at: usize) -> Result<(Plain, usiz
             let (others, rest) = others(alloc, tokens, rest, 1)?;
             Ok((Plain::Routine { name, body: Row { first, others } }, rest))
         }
-        Role::Literal | Role::Name => {
-            let (first, rest) = argument(alloc, tokens, rest, 0)?;
-            let (others, rest) = terms(alloc, tokens, rest)?;
+        _ => {
+            let ((first, others), rest) = grouping_terms(alloc, tokens, rest)?;
             Ok((Plain::Grouping { name, first, others }, rest))
         }
-        _ => Err(syntax(rest)),
     }
 }
 

@@ -8,11 +8,13 @@ mod entries;
 mod error;
 mod items;
 mod leaves;
+mod reading;
 mod role;
 mod starts;
 mod tokens;
 mod tree;
 
+pub use reading::{one_part, one_tree, parse};
 pub use role::Role;
 pub use tree::{
     Added, Additive, Among, Argument, Assignment, Base, Command, Comparison, Constant, Count, DeclarationKind, Edit, Entry, Expression, Factor, Group,

@@ -46,3 +46,13 @@ pub fn begins_item(role: Role) -> bool
         _ => false,
     }
 }
+
+/// Whether a literal or a name comes.
+pub fn begins_argument(role: Role) -> bool
+    ensures { result ≡ spec.begins_argument role }
+{
+    match role {
+        Role::Literal | Role::Name => true,
+        _ => false,
+    }
+}

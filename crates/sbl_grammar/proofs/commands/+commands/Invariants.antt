@@ -56,11 +56,11 @@ invariant-others-loop-joiner l = record {
 abbrev pub decreases-others-loop-joiner : goal.decreases-others-loop-joiner
 decreases-others-loop-joiner l = length (left l.tokens l.rest)
 
-abbrev pub invariant-groups-loop-alloc : goal.invariant-groups-loop-alloc
-invariant-groups-loop-alloc l = record {
+abbrev pub invariant-groups-loop-groups : goal.invariant-groups-loop-groups
+invariant-groups-loop-groups l = record {
   spelled : left l.tokens l.at ≡ trees.spelled_groups (view.view_groups l.groups.items []) (left l.tokens l.rest);
   faults : (k : wanted.Stack) → wanted.fault (left l.tokens l.at) (wanted.groups l.depth ∷ k) ≡ wanted.fault (left l.tokens l.rest) (wanted.groups l.depth ∷ k);
 }
 
-abbrev pub decreases-groups-loop-alloc : goal.decreases-groups-loop-alloc
-decreases-groups-loop-alloc l = length (left l.tokens l.rest)
+abbrev pub decreases-groups-loop-groups : goal.decreases-groups-loop-groups
+decreases-groups-loop-groups l = length (left l.tokens l.rest)
