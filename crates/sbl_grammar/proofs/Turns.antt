@@ -1,5 +1,5 @@
 -- One more at the end of each list.
-use Rattle.std.proofs.Common.{◌≡◌, ℕ, ◌+◌, ◌<◌, ◌≤◌, List, [], ◌∷◌, ◌++◌, length, drop, map, Option, Some, None, refl, sym, ap, ◌∙◌, arith, length-drop}
+use Rattle.std.proofs.Common.{◌≡◌, ℕ, suc, ◌+◌, ◌<◌, ◌≤◌, List, [], ◌∷◌, ◌++◌, length, drop, map, Option, Some, None, refl, sym, ap, ◌∙◌, arith, length-drop}
 use Rattle.sbl_grammar.specs.declared.tree.Additive.{Additive}
 use Rattle.sbl_grammar.specs.Terminal.{Terminal}
 use Rattle.sbl_grammar.specs.Terminal as t
@@ -75,3 +75,6 @@ through a b c h g = omega arith
 
 pub less : (a b : Ts) → 0 < length a → b ≡ drop 1 a → length b < length a
 less a b some e = omega (arith, ap length e, length-drop 1 a)
+
+pub far : (a b next c : Ts) → length b ≤ length a → next ≡ drop 1 b → suc (length c) ≤ length next → length c ≤ length a
+far a b next c h e g = omega (arith, ap length e, length-drop 1 b)

@@ -6,8 +6,9 @@ use Rattle.sbl_text.specs.declared.fault.ScriptFault.TheVariants as script
 use Rattle.sbl_grammar.specs.declared.error.Fault.TheVariants.{Syntax, TooDeep, OutOfProfile}
 use Rattle.sbl_grammar.specs.declared.error.ReadError.{ReadError}
 use Rattle.sbl_grammar.specs.declared.error.ReadError.TheVariants as errors
-use Rattle.sbl_grammar.specs.Terminal.{Terminal, terminals_of, left}
+use Rattle.sbl_grammar.specs.Terminal.{Terminal, terminal_of, terminals_of, left}
 use Rattle.sbl_grammar.specs.Terminal as t
+use Rattle.sbl_text.specs.Lexemes.{lexeme_of}
 use Rattle.sbl_grammar.specs.Tree.{Item, spelled_items}
 use Rattle.sbl_grammar.specs.Steps.{Stack, items, fault, syntax, no_operator}
 use Rattle.sbl_grammar.specs.Reading.{IsReadAs, IsOutOfProfileAt}
@@ -47,7 +48,7 @@ read_whole ts at tree le h =
 front_left : (ts : List Token) (at : ℕ) → (p : Ts) × (terminals_of ts ≡ p ++ left ts at)
 front_left ts zero = ([], refl)
 front_left [] (suc n) = ([], refl)
-front_left (x ∷ ts) (suc n) = let m = front_left ts n in (_ ∷ m.0, ap (λ (r : Ts). _ ∷ r) m.1)
+front_left (x ∷ ts) (suc n) = let m = front_left ts n in (terminal_of (lexeme_of x) ∷ m.0, ap (λ (r : Ts). terminal_of (lexeme_of x) ∷ r) m.1)
 
 same_end : (p q s r : Ts) → p ++ s ≡ q ++ r → length s ≡ length r → s ≡ r
 same_end [] [] s r e l = e
@@ -78,6 +79,3 @@ fault_of ts end errors.Memory h = inl refl
 fault_of ts end (errors.Fault (Syntax at)) h = inr (at, refl, is_syntax (terminals_of ts) (left ts at) h)
 fault_of ts end (errors.Fault (TooDeep at)) h = inr (at, refl, is_too_deep (terminals_of ts) (left ts at) h)
 fault_of ts end (errors.Fault (OutOfProfile at)) h = inr (at, refl, out_of_profile ts at h)
-
-pub fails_along : (ts : List Token) (e : ReadError) (at : ℕ) → fault (terminals_of ts) (items ∷ []) ≡ fault (left ts at) [] → fault (left ts at) [] ≡ Some (syntax (left ts at)) → Fails ts (errors.Fault (Syntax at)) (fault (terminals_of ts) (items ∷ []))
-fails_along ts e at h g = h ∙ g

@@ -234,3 +234,28 @@ others-loop-joiner-preserved t_ c =
 
 pub others-loop-joiner-smaller : goal.others-loop-joiner-smaller
 others-loop-joiner-smaller t_ c = turns.shorter (left c.args.tokens.now c.loop-joiner.rest) (left c.args.tokens.now c.in_ok-command.after) (left c.args.tokens.now c.behind.result) c.behind.ensures (subst (λ (r : List Terminal). length (left c.args.tokens.now c.in_ok-command.after) < length r) (sym c.in_ok-command.ensures.gives.0) (lengths.tree_length (view.view_command c.in_ok-command.command) (left c.args.tokens.now c.in_ok-command.after)))
+
+pub groups-loop-groups-preserved : goal.groups-loop-groups-preserved
+groups-loop-groups-preserved t_ c = 
+    let first : (left c.args.tokens.now c.loop-groups.rest) ≡ (t.literal (first_literal (drop c.loop-groups.rest c.args.tokens.now))) ∷ drop 1 (left c.args.tokens.now c.loop-groups.rest) = d.as_literal (drop c.loop-groups.rest c.args.tokens.now) (sym c.role.ensures ∙ c.in-Literal.is) in
+    let second : (left c.args.tokens.now c.in_ok-others.after) ≡ t.open_ ∷ drop 1 (left c.args.tokens.now c.in_ok-others.after) = d.as_terminal (left c.args.tokens.now c.in_ok-others.after) t.open_ refl (sym c.role-in-Literal.ensures ∙ c.in-Open.is) in
+    let last : view.GroupView = record { first = (view.view_entry c.in_ok-first.first); others = (map view.view_entry c.in_ok-others.others.items); rows = view.view_rows c.in_ok-rows-in-Open.rows.items } in
+    let more : map view.view_group c.push.new.self.items ≡ map view.view_group c.loop-groups.groups.items ++ last ∷ [] = ap (λ (xs : List Group). map view.view_group xs) c.in_ok-push-in-Open.ensures.items ∙ map_push view.view_group c.loop-groups.groups.items _ ∙ ap (λ (x : view.GroupView). map view.view_group c.loop-groups.groups.items ++ x ∷ []) (views.view_of_group (record { first = c.in_ok-first.first; others = c.in_ok-others.others; rows = c.in_ok-rows-in-Open.rows })) in
+    record {
+      spelled = c.loop-groups.invariant.spelled ∙ ap (λ (r : List Terminal). trees.spelled_groups (view.groups_of (map view.view_group c.loop-groups.groups.items) []) r) (c.in_ok-first.ensures.spelled ∙ ap (λ (r : List Terminal). trees.spelled_entry (view.view_entry c.in_ok-first.first) r) (c.in_ok-others.ensures.spelled ∙ ap (λ (r : List Terminal). trees.spelled_entries (map view.view_entry c.in_ok-others.others.items) r) (d.headed (left c.args.tokens.now c.in_ok-others.after) (left c.args.tokens.now c.behind.result) t.open_ second c.behind.ensures ∙ ap (λ (r : List Terminal). t.open_ ∷ r) c.in_ok-rows-in-Open.ensures.0))) ∙ sym (turns.groups_push (map view.view_group c.loop-groups.groups.items) last (left c.args.tokens.now c.in_ok-rows-in-Open.after)) ∙ ap (λ (xs : List view.GroupView). trees.spelled_groups (view.groups_of xs []) (left c.args.tokens.now c.in_ok-rows-in-Open.after)) (sym more);
+      faults = λ k. c.loop-groups.invariant.faults k ∙ d.goes_on (left c.args.tokens.now c.loop-groups.rest) (t.literal (first_literal (drop c.loop-groups.rest c.args.tokens.now))) (drop 1 (left c.args.tokens.now c.loop-groups.rest)) (s.groups c.args.depth ∷ k) (s.condition c.args.depth ∷ s.entries c.args.depth ∷ k) c.args.depth first refl (omega arith) ∙ c.in_ok-first.ensures.faults (s.entries c.args.depth ∷ k) ∙ c.in_ok-others.ensures.faults k ∙ d.took (left c.args.tokens.now c.in_ok-others.after) (left c.args.tokens.now c.behind.result) t.open_ (s.entries c.args.depth ∷ k) (s.rows (c.args.depth + 1 + 1) ∷ s.closing (c.args.depth + 1) ∷ s.groups c.args.depth ∷ k) (c.args.depth + 1) second c.behind.ensures refl (omega arith) ∙ c.in_ok-rows-in-Open.ensures.1 (s.groups c.args.depth ∷ k);
+    }
+
+pub groups-loop-groups-smaller : goal.groups-loop-groups-smaller
+groups-loop-groups-smaller t_ c = 
+    let second : (left c.args.tokens.now c.in_ok-others.after) ≡ t.open_ ∷ drop 1 (left c.args.tokens.now c.in_ok-others.after) = d.as_terminal (left c.args.tokens.now c.in_ok-others.after) t.open_ refl (sym c.role-in-Literal.ensures ∙ c.in-Open.is) in
+    turns.through (left c.args.tokens.now c.loop-groups.rest) (left c.args.tokens.now c.in_ok-first.after) (left c.args.tokens.now c.in_ok-rows-in-Open.after) (subst (λ (r : List Terminal). length (left c.args.tokens.now c.in_ok-first.after) < length r) (sym c.in_ok-first.ensures.spelled) (lengths.entry_length (view.view_entry c.in_ok-first.first) (left c.args.tokens.now c.in_ok-first.after)))
+        (turns.far (left c.args.tokens.now c.in_ok-first.after) (left c.args.tokens.now c.in_ok-others.after) (left c.args.tokens.now c.behind.result) (left c.args.tokens.now c.in_ok-rows-in-Open.after) (subst (λ (r : List Terminal). length (left c.args.tokens.now c.in_ok-others.after) ≤ length r) (sym c.in_ok-others.ensures.spelled) (lengths.entries_length (map view.view_entry c.in_ok-others.others.items) (left c.args.tokens.now c.in_ok-others.after))) c.behind.ensures
+            (subst (λ (r : List Terminal). length (t.close_ ∷ (left c.args.tokens.now c.in_ok-rows-in-Open.after)) ≤ length r) (sym c.in_ok-rows-in-Open.ensures.0) (lengths.rows_length (view.view_rows c.in_ok-rows-in-Open.rows.items) (t.close_ ∷ (left c.args.tokens.now c.in_ok-rows-in-Open.after)))))
+
+pub groups-returns-in_default-role : goal.groups-returns-in_default-role
+groups-returns-in_default-role t_ c = 
+    let first : (left c.args.tokens.now c.loop-groups.rest) ≡ (t.literal (first_literal (drop c.loop-groups.rest c.args.tokens.now))) ∷ drop 1 (left c.args.tokens.now c.loop-groups.rest) = d.as_literal (drop c.loop-groups.rest c.args.tokens.now) (sym c.role.ensures ∙ c.in-Literal.is) in
+    let same : map view.view_entry c.insert.new.self.items ≡ (view.view_entry c.in_ok-first.first) ∷ (map view.view_entry c.in_ok-others.others.items) = ap (λ (xs : List Entry). map view.view_entry xs) c.in_ok-insert-in_default-role.ensures.items in
+    (c.loop-groups.invariant.spelled ∙ ap (λ (r : List Terminal). trees.spelled_groups (view.groups_of (map view.view_group c.loop-groups.groups.items) []) r) (c.in_ok-first.ensures.spelled ∙ ap (λ (r : List Terminal). trees.spelled_entry (view.view_entry c.in_ok-first.first) r) c.in_ok-others.ensures.spelled) ∙ sym (turns.groups_bare (map view.view_group c.loop-groups.groups.items) ((view.view_entry c.in_ok-first.first) ∷ (map view.view_entry c.in_ok-others.others.items)) (left c.args.tokens.now c.in_ok-others.after)) ∙ ap (λ (xs : List trees.Entry). trees.spelled_groups (view.groups_of (map view.view_group c.loop-groups.groups.items) xs) (left c.args.tokens.now c.in_ok-others.after)) (sym same),
+     λ k. c.loop-groups.invariant.faults k ∙ d.goes_on (left c.args.tokens.now c.loop-groups.rest) (t.literal (first_literal (drop c.loop-groups.rest c.args.tokens.now))) (drop 1 (left c.args.tokens.now c.loop-groups.rest)) (s.groups c.args.depth ∷ k) (s.condition c.args.depth ∷ s.entries c.args.depth ∷ k) c.args.depth first refl (omega arith) ∙ c.in_ok-first.ensures.faults (s.entries c.args.depth ∷ k) ∙ c.in_ok-others.ensures.faults k ∙ d.skips_entries (left c.args.tokens.now c.in_ok-others.after) c.args.depth k c.in_ok-others.ensures.ended (λ e. c.in_default-role.not-Open (c.role-in-Literal.ensures ∙ e)))

@@ -9,8 +9,8 @@ returns-in_err-found-clause-fault c =
     let p = err_from_is_err_and c.from_residual.result c.from_residual.ensures.1 in
     rw (p.1, p.2) (c.in_err-found.ensures [])
 
-pub returns-then-rest-lt-clause-fault : goal.returns-then-rest-lt-clause-fault
-returns-then-rest-lt-clause-fault c = rw c.syntax.ensures (c.in_ok-found.ensures.1 [] ∙ some_left c.args.tokens.now c.in_ok-found.rest (omega arith))
+pub returns-then-rest-tokens-clause-fault : goal.returns-then-rest-tokens-clause-fault
+returns-then-rest-tokens-clause-fault c = rw c.syntax.ensures (c.in_ok-found.ensures.1 [] ∙ some_left c.args.tokens.now c.in_ok-found.rest (omega arith))
 
 pub returns-clause-read : goal.returns-clause-read
 returns-clause-read c = read_whole c.args.tokens.now c.in_ok-found.rest (view_items c.in_ok-found.found.items) (omega arith) c.in_ok-found.ensures
