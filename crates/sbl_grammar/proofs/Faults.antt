@@ -201,6 +201,7 @@ halts (x ∷ ts) k f e = go (step k x) refl e (λ next. halts ts next f) where
   deeper : (d : ℕ) (n : Stack) (b : Bool) → step k x ≡ goes d n → nat_lt max_depth d ≡ b → (if b then Some (too_deep (x ∷ ts)) else fault ts n) ≡ Some f → (fault ts n ≡ Some f → Halts ts n f) → Halts (x ∷ ts) k f
   deeper d n true is lt e below = subst (λ (g : Fault). Halts (x ∷ ts) k g) (some_fault (too_deep (x ∷ ts)) f e) ([], x ∷ ts, refl, refl, tt, (d, n, is, ltb-true max_depth d lt))
   deeper d n false is lt e below = let h = below e in ((x, d) ∷ h.0, h.1, cons x h.2, h.3, (ltb-false max_depth d lt, h.4), (n, is, h.5))
+
   go : (b : Step) → step k x ≡ b → after_step b (fault ts) (x ∷ ts) ≡ Some f → ((next : Stack) → fault ts next ≡ Some f → Halts ts next f) → Halts (x ∷ ts) k f
   go stuck is e below = subst (λ (g : Fault). Halts (x ∷ ts) k g) (some_fault (syntax (x ∷ ts)) f e) ([], x ∷ ts, refl, refl, tt, is)
   go unassigned is e below = subst (λ (g : Fault). Halts (x ∷ ts) k g) (some_fault (no_operator (x ∷ ts)) f e) ([], x ∷ ts, refl, refl, tt, is)
@@ -218,6 +219,7 @@ passes (x ∷ ts) k e = go (step k x) refl e (λ next. passes ts next) where
   deeper : (d : ℕ) (n : Stack) (b : Bool) → step k x ≡ goes d n → nat_lt max_depth d ≡ b → (if b then Some (too_deep (x ∷ ts)) else fault ts n) ≡ None → (fault ts n ≡ None → PassedTo ts n) → PassedTo (x ∷ ts) k
   deeper d n true is lt e below = absurd cc
   deeper d n false is lt e below = let h = below e in ((x, d) ∷ h.0, cons x h.1, (ltb-false max_depth d lt, h.2), (n, is, h.3))
+
   go : (b : Step) → step k x ≡ b → after_step b (fault ts) (x ∷ ts) ≡ None → ((next : Stack) → fault ts next ≡ None → PassedTo ts next) → PassedTo (x ∷ ts) k
   go stuck is e below = absurd cc
   go unassigned is e below = absurd cc
@@ -248,34 +250,34 @@ none_too_deep ps End shallow h b c x parts deep =
     let steps = splits front ((x, deep.2) ∷ deep.3) start IsDone (subst (λ (qs : List Placed). Runs qs start IsDone) deep.4 (items_run deep.0)) in
     let m = meets front ps (x ∷ c) start (λ end. Runs ((x, deep.2) ∷ deep.3) end IsDone) End (parts ∙ ap (λ (r : List Terminal). r ++ x ∷ c) (sym deep.5)) steps h in
     go m.0 m.1 m.2 m.3 m.4 m.5 where
-  go : (end : Stack) (rest : List Placed) → Runs ((x, deep.2) ∷ deep.3) end IsDone → Runs rest end End → tokens rest ≡ x ∷ c → ps ≡ deep.1 ++ rest → ⊥
-  go end [] first other is whole = absurd cc
-  go end (q ∷ qs) first other is whole =
-      let same : q.0 ≡ x = cc in
-      let depth = same_depth end x deep.2 first.0 q other.0 first.1 same other.1 in
-      let low = shallow_at deep.1 q qs (subst (λ (r : List Placed). Shallow r) whole shallow) in
-      let high = deep.6 in
-      omega (arith, depth, low, high)
+      go : (end : Stack) (rest : List Placed) → Runs ((x, deep.2) ∷ deep.3) end IsDone → Runs rest end End → tokens rest ≡ x ∷ c → ps ≡ deep.1 ++ rest → ⊥
+      go end [] first other is whole = absurd cc
+      go end (q ∷ qs) first other is whole =
+          let same : q.0 ≡ x = cc in
+          let depth = same_depth end x deep.2 first.0 q other.0 first.1 same other.1 in
+          let low = shallow_at deep.1 q qs (subst (λ (r : List Placed). Shallow r) whole shallow) in
+          let high = deep.6 in
+          omega (arith, depth, low, high)
 
 no_end : (ps : List Placed) → Runs ps start (λ end. Stuck end []) → (tree : List Item) → written tree ≡ tokens ps → ⊥
 no_end ps h tree is =
     let m = meets ps (places tree) [] start (λ end. Stuck end []) IsDone (places_tokens tree ∙ is ∙ sym (append-nil (tokens ps))) h (items_run tree) in
     go m.0 m.1 m.2 m.3 m.4 where
-  go : (end : Stack) (rest : List Placed) → is_done end ≡ false → Runs rest end IsDone → tokens rest ≡ [] → ⊥
-  go end [] stuck_so goes_so same = cc
-  go end (q ∷ qs) stuck_so goes_so same = cc
+      go : (end : Stack) (rest : List Placed) → is_done end ≡ false → Runs rest end IsDone → tokens rest ≡ [] → ⊥
+      go end [] stuck_so goes_so same = cc
+      go end (q ∷ qs) stuck_so goes_so same = cc
 
 -- a token that takes no step cannot follow
 no_next : (ps : List Placed) (x : Terminal) (b : Step) → ((d : ℕ) (n : Stack) → goes d n ≡ b → ⊥) → Runs ps start (λ end. step end x ≡ b) → IsFront (tokens ps ++ x ∷ []) → ⊥
 no_next ps x b never h front =
     let m = meets ps (places front.0) (x ∷ front.1) start (λ end. step end x ≡ b) IsDone (places_tokens front.0 ∙ front.2 ∙ append_assoc (tokens ps) (x ∷ []) front.1) h (items_run front.0) in
     go m.0 m.1 m.2 m.3 m.4 where
-  go : (end : Stack) (rest : List Placed) → step end x ≡ b → Runs rest end IsDone → tokens rest ≡ x ∷ front.1 → ⊥
-  go end [] at goes_so is = cc
-  go end (q ∷ qs) at goes_so is =
-      let same : q.0 ≡ x = cc in
-      let other : step end x ≡ goes q.1 goes_so.0 = subst (λ (y : Terminal). step end y ≡ goes q.1 goes_so.0) same goes_so.1 in
-      never q.1 goes_so.0 (sym other ∙ at)
+      go : (end : Stack) (rest : List Placed) → step end x ≡ b → Runs rest end IsDone → tokens rest ≡ x ∷ front.1 → ⊥
+      go end [] at goes_so is = cc
+      go end (q ∷ qs) at goes_so is =
+          let same : q.0 ≡ x = cc in
+          let other : step end x ≡ goes q.1 goes_so.0 = subst (λ (y : Terminal). step end y ≡ goes q.1 goes_so.0) same goes_so.1 in
+          never q.1 goes_so.0 (sym other ∙ at)
 
 cannot_follow : (ps : List Placed) (place : List Terminal) → Runs ps start (λ end. Stuck end place) → CannotFollow (tokens ps) place
 cannot_follow ps [] h = no_end ps h
@@ -328,38 +330,40 @@ pub is_too_deep : (all place : List Terminal) → fault all start ≡ Some (too_
 is_too_deep all place e =
     let h = halts all start (too_deep place) e in
     go place h.0 (h.2 ∙ ap (λ (r : List Terminal). tokens h.0 ++ r) (sym h.3)) h.4 (subst (λ (r : List Terminal). Runs h.0 start (λ end. Sinks end r)) (sym h.3) h.5) where
-  go : (rest : List Terminal) (ps : List Placed) → all ≡ tokens ps ++ rest → Shallow ps → Runs ps start (λ end. Sinks end rest) → IsTooDeepAt all rest
-  go [] ps parts low steps = absurd (no_runs ps start steps)
-  go (x ∷ more) ps parts low steps = record {
-      before = tokens ps;
-      first = x;
-      more = more;
-      is = refl;
-      parts = parts;
-      shallow = none_too_deep ps _ low steps;
-      deep = too_deep_next ps x more steps;
-    }
+      go : (rest : List Terminal) (ps : List Placed) → all ≡ tokens ps ++ rest → Shallow ps → Runs ps start (λ end. Sinks end rest) → IsTooDeepAt all rest
+      go [] ps parts low steps = absurd (no_runs ps start steps)
+      go (x ∷ more) ps parts low steps = record {
+        before = tokens ps;
+        first = x;
+        more = more;
+        is = refl;
+        parts = parts;
+        shallow = none_too_deep ps _ low steps;
+        deep = too_deep_next ps x more steps;
+      }
 
 -- the place is that of the `$`, two tokens before
 pub is_out_of_profile : (all place : List Terminal) → fault all start ≡ Some (no_operator place) → (n : List ℕ) × IsOutOfProfileAt all (t.dollar ∷ t.name n ∷ place)
 is_out_of_profile all place e =
     let h = halts all start (no_operator place) e in
     go place h.0 (h.2 ∙ ap (λ (r : List Terminal). tokens h.0 ++ r) (sym h.3)) h.4 (subst (λ (r : List Terminal). Runs h.0 start (λ end. Lacks end r)) (sym h.3) h.5) where
-  go : (rest : List Terminal) (ps : List Placed) → all ≡ tokens ps ++ rest → Shallow ps → Runs ps start (λ end. Lacks end rest) → (n : List ℕ) × IsOutOfProfileAt all (t.dollar ∷ t.name n ∷ rest)
-  go [] ps parts low steps = absurd (no_runs ps start steps)
-  go (x ∷ more) ps parts low steps =
-      let at = came ps x steps in
-      let qs = at.0 in
-      let n = at.2 in
-      let two : List Terminal = t.dollar ∷ t.name n ∷ [] in
-      let same : tokens ps ≡ tokens qs ++ two = ap (λ (r : List Placed). tokens r) at.4 ∙ map-append (λ p. p.0) qs ((t.dollar, at.1) ∷ (t.name n, at.3) ∷ []) in
-      let stops : StopsAt (tokens ps) (x ∷ more) = record { front = front_of ps _ steps; shallow = none_too_deep ps _ low steps; stops = no_next ps x unassigned (λ d m e. cc) steps } in
-      (n, record {
-        before = tokens qs;
-        subject = n;
-        bad = x;
-        more = more;
-        is = refl;
-        parts = parts ∙ ap (λ (r : List Terminal). r ++ x ∷ more) same ∙ append_assoc (tokens qs) two (x ∷ more);
-        stops = subst (λ (r : List Terminal). StopsAt r (x ∷ more)) same stops;
-      })
+      go : (rest : List Terminal) (ps : List Placed) → all ≡ tokens ps ++ rest → Shallow ps → Runs ps start (λ end. Lacks end rest) → (n : List ℕ) × IsOutOfProfileAt all (t.dollar ∷ t.name n ∷ rest)
+      go [] ps parts low steps = absurd (no_runs ps start steps)
+      go (x ∷ more) ps parts low steps =
+          let at = came ps x steps in
+          let qs = at.0 in
+          let n = at.2 in
+          let two : List Terminal = t.dollar ∷ t.name n ∷ [] in
+          let same : tokens ps ≡ tokens qs ++ two = ap (λ (r : List Placed). tokens r) at.4 ∙ map-append (λ p. p.0) qs ((t.dollar, at.1) ∷ (t.name n, at.3) ∷ []) in
+          let stops : StopsAt (tokens ps) (x ∷ more) = record { front = front_of ps _ steps; shallow = none_too_deep ps _ low steps; stops = no_next ps x unassigned (λ d m e. cc) steps } in (
+            n,
+            record {
+              before = tokens qs;
+              subject = n;
+              bad = x;
+              more = more;
+              is = refl;
+              parts = parts ∙ ap (λ (r : List Terminal). r ++ x ∷ more) same ∙ append_assoc (tokens qs) two (x ∷ more);
+              stops = subst (λ (r : List Terminal). StopsAt r (x ∷ more)) same stops;
+            },
+          )

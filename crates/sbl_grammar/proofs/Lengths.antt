@@ -74,8 +74,13 @@ mutual
 
   pub groups_length : (gs : Groups) (rest : Ts) → length rest ≤ length (spelled_groups gs rest)
   groups_length (bare xs) rest = omega (arith, entries_length xs rest)
-  groups_length (group x xs rs gs) rest = omega (arith, entry_length x (spelled_entries xs (t.open_ ∷ spelled_rows rs (t.close_ ∷ spelled_groups gs rest))),
-      entries_length xs (t.open_ ∷ spelled_rows rs (t.close_ ∷ spelled_groups gs rest)), rows_length rs (t.close_ ∷ spelled_groups gs rest), groups_length gs rest)
+  groups_length (group x xs rs gs) rest = omega (
+    arith,
+    entry_length x (spelled_entries xs (t.open_ ∷ spelled_rows rs (t.close_ ∷ spelled_groups gs rest))),
+    entries_length xs (t.open_ ∷ spelled_rows rs (t.close_ ∷ spelled_groups gs rest)),
+    rows_length rs (t.close_ ∷ spelled_groups gs rest),
+    groups_length gs rest,
+  )
 
 pub names_length : (ns : List (List ℕ)) (rest : Ts) → length rest ≤ length (spelled_names ns rest)
 names_length [] rest = omega arith

@@ -74,7 +74,6 @@ as_item : (ps : List Placed) (k : Stack) → Passes ps (s.plain ∷ k) → Passe
 as_item [] k h = absurd cc
 as_item (p ∷ ps) k h = (h.0, same p.0 p.1 h.0 h.1, h.2) where
   same : (x : Terminal) (e : ℕ) (n : Stack) → or_else (behind_plain x k) stuck ≡ goes e n → or_else (behind_item x k) stuck ≡ goes e n
-
   same t.open_ e z h = absurd cc
   same t.close_ e z h = absurd cc
   same t.dollar e z h = absurd cc
@@ -292,8 +291,11 @@ mutual
 
   factor_runs : (f : Factor) (d : ℕ) (ps : List Placed) (k : Stack) → Passes ps k → Passes (placed_factor f d ps) (s.factor d ∷ k)
   factor_runs (negated f) d ps k h = (s.factor (d + 1) ∷ k, refl, factor_runs f (d + 1) ps k h)
-  factor_runs (bracketed x) d ps k h = (s.expression (d + 1) (s.closing (d + 1) ∷ k), refl,
-      expression_runs x (d + 1) ((t.close_, d + 1) ∷ ps) (s.closing (d + 1) ∷ k) (record { plus = refl; times = refl }) (k, refl, h))
+  factor_runs (bracketed x) d ps k h = (
+    s.expression (d + 1) (s.closing (d + 1) ∷ k),
+    refl,
+    expression_runs x (d + 1) ((t.close_, d + 1) ∷ ps) (s.closing (d + 1) ∷ k) (record { plus = refl; times = refl }) (k, refl, h),
+  )
   factor_runs (numeral n) d ps k h = (k, refl, h)
   factor_runs (variable n) d ps k h = (k, refl, h)
   factor_runs (fixed c) d ps k h = (k, refl, h)
@@ -325,7 +327,6 @@ bare_runs (x ∷ xs) d ps k h = (entry_runs x d (placed_entries xs d ((t.close_,
 -- ---- commands
 
 tree_calm : (c : Tree) (d : ℕ) (ps : List Placed) → Calm (placed c d ps)
-
 tree_calm (bracket rs) d ps = record { plus = refl; times = refl }
 tree_calm (single x) d ps = record { plus = refl; times = refl }
 tree_calm (quoted q) d ps = record { plus = refl; times = refl }
@@ -375,32 +376,54 @@ others_calm (joined j x os) d ps c = record { plus = refl; times = refl }
 
 mutual
   pub tree_runs : (c : Tree) (d : ℕ) (ps : List Placed) (k : Stack) → Calm ps → Passes ps k → Passes (placed c d ps) (s.command d ∷ k)
-  tree_runs (bracket rs) d ps k c h = (s.rows (d + 1) ∷ s.closing d ∷ k, refl,
-      rows_runs rs (d + 1) ((t.close_, d) ∷ ps) (s.closing d ∷ k) (record { plus = refl; times = refl }) refl (k, refl, h) (k, refl, h))
+  tree_runs (bracket rs) d ps k c h = (
+    s.rows (d + 1) ∷ s.closing d ∷ k,
+    refl,
+    rows_runs rs (d + 1) ((t.close_, d) ∷ ps) (s.closing d ∷ k) (record { plus = refl; times = refl }) refl (k, refl, h) (k, refl, h),
+  )
   tree_runs (single x) d ps k c h = (k, refl, h)
   tree_runs (quoted q) d ps k c h = (k, refl, h)
   tree_runs (called n) d ps k c h = (k, refl, h)
   tree_runs (excluded true n) d ps k c h = (s.excluded d ∷ k, refl, (s.name d ∷ k, refl, (k, refl, h)))
   tree_runs (excluded false n) d ps k c h = (s.excluded d ∷ k, refl, (k, refl, h))
   tree_runs (prefixed p x) d ps k c h = (s.command (d + 1) ∷ k, refl, tree_runs x (d + 1) ps k c h)
-  tree_runs (counted n e x) d ps k c h = (s.expression d (s.command (d + 1) ∷ k), refl,
-      expression_runs e d (placed x (d + 1) ps) (s.command (d + 1) ∷ k) (tree_calm x (d + 1) ps) (tree_runs x (d + 1) ps k c h))
+  tree_runs (counted n e x) d ps k c h = (
+    s.expression d (s.command (d + 1) ∷ k),
+    refl,
+    expression_runs e d (placed x (d + 1) ps) (s.command (d + 1) ∷ k) (tree_calm x (d + 1) ps) (tree_runs x (d + 1) ps k c h),
+  )
   tree_runs (moved m e) d ps k c h = (s.expression d k, refl, expression_runs e d ps k c h)
   tree_runs (named x n) d ps k c h = (s.name d ∷ k, refl, (k, refl, h))
   tree_runs (edited x a) d ps k c h = (s.argument d ∷ k, refl, argument_runs a d ps k h)
-  tree_runs (limited b x) d ps k c h = (s.command (d + 1) ∷ s.for_ d ∷ s.command (d + 1) ∷ k, refl,
-      tree_runs b (d + 1) ((t.for_, d) ∷ placed x (d + 1) ps) (s.for_ d ∷ s.command (d + 1) ∷ k) (record { plus = refl; times = refl })
-          (s.command (d + 1) ∷ k, refl, tree_runs x (d + 1) ps k c h))
+  tree_runs (limited b x) d ps k c h = (
+    s.command (d + 1) ∷ s.for_ d ∷ s.command (d + 1) ∷ k,
+    refl,
+    tree_runs b (d + 1) ((t.for_, d) ∷ placed x (d + 1) ps) (s.for_ d ∷ s.command (d + 1) ∷ k) (record { plus = refl; times = refl })
+        (s.command (d + 1) ∷ k, refl, tree_runs x (d + 1) ps k c h),
+  )
   tree_runs (assigned n o e) d ps k c h = (s.subject d ∷ k, refl, (s.operator d ∷ k, refl, (s.expression d k, refl, expression_runs e d ps k c h)))
   tree_runs (compared n o e) d ps k c h = (s.subject d ∷ k, refl, (s.operator d ∷ k, refl, (s.expression d k, refl, expression_runs e d ps k c h)))
   tree_runs (values_compared e o f) d ps k c h =
       let behind_f : Passes ((t.close_, d) ∷ ps) (s.closing d ∷ k) = (k, refl, h) in
       let behind_o = expression_runs f d ((t.close_, d) ∷ ps) (s.closing d ∷ k) (record { plus = refl; times = refl }) behind_f in
-      let behind_e : Passes ((t.compares o, d) ∷ placed_expression f d ((t.close_, d) ∷ ps)) (s.comparison d ∷ s.expression d (s.closing d ∷ k)) = (s.expression d (s.closing d ∷ k), refl, behind_o) in
-      (s.subject d ∷ k, refl, (s.expression d (s.comparison d ∷ s.expression d (s.closing d ∷ k)), refl,
-          expression_runs e d ((t.compares o, d) ∷ placed_expression f d ((t.close_, d) ∷ ps)) (s.comparison d ∷ s.expression d (s.closing d ∷ k)) (record { plus = refl; times = refl }) behind_e))
-  tree_runs (chosen x gs) d ps k c h = (s.opening d ∷ s.starter d ∷ s.groups d ∷ s.closing d ∷ k, refl, (s.starter d ∷ s.groups d ∷ s.closing d ∷ k, refl,
-      starter_runs x d (placed_groups gs d ((t.close_, d) ∷ ps)) (s.groups d ∷ s.closing d ∷ k) (groups_refuse gs d ps (s.groups d ∷ s.closing d ∷ k)) (groups_runs gs d ps k h)))
+      let behind_e : Passes ((t.compares o, d) ∷ placed_expression f d ((t.close_, d) ∷ ps)) (s.comparison d ∷ s.expression d (s.closing d ∷ k)) = (s.expression d (s.closing d ∷ k), refl, behind_o) in (
+        s.subject d ∷ k,
+        refl,
+        (
+          s.expression d (s.comparison d ∷ s.expression d (s.closing d ∷ k)),
+          refl,
+          expression_runs e d ((t.compares o, d) ∷ placed_expression f d ((t.close_, d) ∷ ps)) (s.comparison d ∷ s.expression d (s.closing d ∷ k)) (record { plus = refl; times = refl }) behind_e,
+        ),
+      )
+  tree_runs (chosen x gs) d ps k c h = (
+    s.opening d ∷ s.starter d ∷ s.groups d ∷ s.closing d ∷ k,
+    refl,
+    (
+      s.starter d ∷ s.groups d ∷ s.closing d ∷ k,
+      refl,
+      starter_runs x d (placed_groups gs d ((t.close_, d) ∷ ps)) (s.groups d ∷ s.closing d ∷ k) (groups_refuse gs d ps (s.groups d ∷ s.closing d ∷ k)) (groups_runs gs d ps k h),
+    ),
+  )
 
   groups_refuse : (gs : Groups) (d : ℕ) (ps : List Placed) (k : Stack) → Refuses (s.starter d) (placed_groups gs d ((t.close_, d) ∷ ps)) k
   groups_refuse (bare []) d ps k = refl
@@ -414,25 +437,31 @@ mutual
   rows_runs (row x os rs) d ps k c j h g =
       let more = rows_runs rs d ps k c j h g in
       as_row d (placed x d (placed_others os d (placed_rows rs d ps))) k
-          (tree_runs x d (placed_others os d (placed_rows rs d ps)) (s.others d ∷ s.rows d ∷ k) (others_calm os d (placed_rows rs d ps) (rows_calm rs d ps c))
-              (others_runs os d (placed_rows rs d ps) (s.rows d ∷ k) (rows_calm rs d ps c) (rows_no_or rs d ps j) more))
+      (tree_runs x d (placed_others os d (placed_rows rs d ps)) (s.others d ∷ s.rows d ∷ k) (others_calm os d (placed_rows rs d ps) (rows_calm rs d ps c))
+      (others_runs os d (placed_rows rs d ps) (s.rows d ∷ k) (rows_calm rs d ps c) (rows_no_or rs d ps j) more))
 
   pub others_runs : (os : Others) (d : ℕ) (ps : List Placed) (k : Stack) → Calm ps → first_is no_or ps ≡ true → Passes ps k → Passes (placed_others os d ps) (s.others d ∷ k)
   others_runs no_others d ps k c j h = skip_others d ps k j h
-  others_runs (joined o x os) d ps k c j h = (s.command d ∷ s.others d ∷ k, refl,
-      tree_runs x d (placed_others os d ps) (s.others d ∷ k) (others_calm os d ps c) (others_runs os d ps k c j h))
+  others_runs (joined o x os) d ps k c j h = (
+    s.command d ∷ s.others d ∷ k,
+    refl,
+    tree_runs x d (placed_others os d ps) (s.others d ∷ k) (others_calm os d ps c) (others_runs os d ps k c j h),
+  )
 
   starter_runs : (x : Starter) (d : ℕ) (ps : List Placed) (k : Stack) → Refuses (s.starter d) ps k → Passes ps k → Passes (placed_starter x d ps) (s.starter d ∷ k)
   starter_runs no_starter d ps k r h = skip (s.starter d) ps k refl r h
-  starter_runs (starter rs) d ps k r h = (s.rows (d + 1 + 1) ∷ s.closing (d + 1) ∷ k, refl,
-      rows_runs rs (d + 1 + 1) ((t.close_, d + 1) ∷ ps) (s.closing (d + 1) ∷ k) (record { plus = refl; times = refl }) refl (k, refl, h) (k, refl, h))
+  starter_runs (starter rs) d ps k r h = (
+    s.rows (d + 1 + 1) ∷ s.closing (d + 1) ∷ k,
+    refl,
+    rows_runs rs (d + 1 + 1) ((t.close_, d + 1) ∷ ps) (s.closing (d + 1) ∷ k) (record { plus = refl; times = refl }) refl (k, refl, h) (k, refl, h),
+  )
 
   groups_runs : (gs : Groups) (d : ℕ) (ps : List Placed) (k : Stack) → Passes ps k → Passes (placed_groups gs d ((t.close_, d) ∷ ps)) (s.groups d ∷ s.closing d ∷ k)
   groups_runs (bare xs) d ps k h = bare_runs xs d ps k h
   groups_runs (group x xs rs gs) d ps k h =
       let after = groups_runs gs d ps k h in
       let inside = rows_runs rs (d + 1 + 1) ((t.close_, d + 1) ∷ placed_groups gs d ((t.close_, d) ∷ ps)) (s.closing (d + 1) ∷ s.groups d ∷ s.closing d ∷ k) (record { plus = refl; times = refl }) refl
-          (s.groups d ∷ s.closing d ∷ k, refl, after) (s.groups d ∷ s.closing d ∷ k, refl, after) in
+      (s.groups d ∷ s.closing d ∷ k, refl, after) (s.groups d ∷ s.closing d ∷ k, refl, after) in
       let block = (t.open_, d + 1) ∷ placed_rows rs (d + 1 + 1) ((t.close_, d + 1) ∷ placed_groups gs d ((t.close_, d) ∷ ps)) in
       let opened : Ends block d (s.closing d ∷ k) = ((s.rows (d + 1 + 1) ∷ s.closing (d + 1) ∷ s.groups d ∷ s.closing d ∷ k, refl, inside), (s.rows (d + 1 + 1) ∷ s.closing (d + 1) ∷ s.groups d ∷ s.closing d ∷ k, refl, inside)) in
       (entry_runs x d (placed_entries xs d block) (s.closing d ∷ k) (entries_runs xs d block (s.closing d ∷ k) opened)).0
@@ -459,8 +488,19 @@ plain_runs : (p : Plain) (ps : List Placed) (k : Stack) → Calm ps → first_is
 plain_runs (declaration x ns) ps k c j h = (s.opening 0 ∷ s.names ∷ s.closing 0 ∷ k, refl, (s.names ∷ s.closing 0 ∷ k, refl, names_runs ns ps k h))
 plain_runs (escapes a b) ps k c j h = (s.inserts ∷ k, refl, (k, refl, h))
 plain_runs (macro n b q) ps k c j h = (s.macro ∷ s.base ∷ s.literal ∷ k, refl, (s.base ∷ s.literal ∷ k, refl, base_runs b q ps k h))
-plain_runs (routine n x os) ps k c j h = (s.name 0 ∷ s.definition ∷ k, refl, (s.definition ∷ k, refl, (s.command 1 ∷ s.others 1 ∷ k, refl,
-    tree_runs x 1 (placed_others os 1 ps) (s.others 1 ∷ k) (others_calm os 1 ps c) (others_runs os 1 ps k c j h))))
+plain_runs (routine n x os) ps k c j h = (
+  s.name 0 ∷ s.definition ∷ k,
+  refl,
+  (
+    s.definition ∷ k,
+    refl,
+    (
+      s.command 1 ∷ s.others 1 ∷ k,
+      refl,
+      tree_runs x 1 (placed_others os 1 ps) (s.others 1 ∷ k) (others_calm os 1 ps c) (others_runs os 1 ps k c j h),
+    ),
+  ),
+)
 plain_runs (grouping n a xs) ps k c j h = (s.name 0 ∷ s.definition ∷ k, refl, (s.definition ∷ k, refl, definition_runs a (placed_terms xs ps) k (terms_runs xs ps k c h)))
 
 plain_calm : (p : Plain) (ps : List Placed) → Calm (placed_plain p ps) × (first_is no_or (placed_plain p ps) ≡ true)
@@ -479,7 +519,7 @@ plains_runs [] ps k h = (k, refl, h)
 plains_runs (x ∷ xs) ps k h =
     let calm = plains_calm xs ps in
     as_plains (placed_plain x (placed_plains xs ((t.close_, 0) ∷ ps))) (s.closing 0 ∷ k)
-        (plain_runs x (placed_plains xs ((t.close_, 0) ∷ ps)) (s.plains ∷ s.closing 0 ∷ k) calm.0 calm.1 (plains_runs xs ps k h))
+    (plain_runs x (placed_plains xs ((t.close_, 0) ∷ ps)) (s.plains ∷ s.closing 0 ∷ k) calm.0 calm.1 (plains_runs xs ps k h))
 
 item_runs : (x : Item) (ps : List Placed) (k : Stack) → Calm ps → first_is no_or ps ≡ true → Passes ps k → Passes (placed_item x ps) (s.item ∷ k)
 item_runs (plain p) ps k c j h = as_item (placed_plain p ps) k (plain_runs p ps k c j h)

@@ -65,8 +65,12 @@ cons : {a b : List Terminal} (x : Terminal) → a ≡ b → x ∷ a ≡ x ∷ b
 cons x e = ap (λ (r : List Terminal). x ∷ r) e
 
 expression_made : (d : ℕ) (k : Stack) (ts : List Terminal) → Makes (s.expression d k) ts → (x : Expression) × (rest : List Terminal) × (ts ≡ spelled_expression x rest) × Makes k rest
-expression_made d k ts m = (expression (product m.0 m.3.0) m.3.3.0, m.3.3.1,
-    m.2 ∙ ap (λ (r : Ts). spelled_factor m.0 r) (m.3.2 ∙ ap (λ (r : Ts). spelled_scales m.3.0 r) m.3.3.2), m.3.3.3)
+expression_made d k ts m = (
+  expression (product m.0 m.3.0) m.3.3.0,
+  m.3.3.1,
+  m.2 ∙ ap (λ (r : Ts). spelled_factor m.0 r) (m.3.2 ∙ ap (λ (r : Ts). spelled_scales m.3.0 r) m.3.3.2),
+  m.3.3.3,
+)
 
 -- an entry before some groups is the first of their first
 prepend : Entry → Groups → Groups
@@ -110,9 +114,12 @@ subject_made : (d : ℕ) (x : Terminal) (k : Stack) → Assembles (s.subject d �
 subject_made d (t.name n) k = λ ts m. (m.0 n, m.1, m.2 n, m.3)
 subject_made d t.open_ k = λ ts m.
     let e = expression_made d (s.comparison d ∷ s.expression d (s.closing d ∷ k)) ts m in
-    let g = expression_made d (s.closing d ∷ k) e.3.1 e.3.3 in
-    (values_compared e.0 e.3.0 g.0, g.3.0,
-        cons t.dollar (cons t.open_ (e.2 ∙ ap (λ (r : Ts). spelled_expression e.0 r) (e.3.2 ∙ cons (t.compares e.3.0) (g.2 ∙ ap (λ (r : Ts). spelled_expression g.0 r) g.3.1)))), g.3.2)
+    let g = expression_made d (s.closing d ∷ k) e.3.1 e.3.3 in (
+      values_compared e.0 e.3.0 g.0,
+      g.3.0,
+      cons t.dollar (cons t.open_ (e.2 ∙ ap (λ (r : Ts). spelled_expression e.0 r) (e.3.2 ∙ cons (t.compares e.3.0) (g.2 ∙ ap (λ (r : Ts). spelled_expression g.0 r) g.3.1)))),
+      g.3.2,
+    )
 subject_made d _ k = tt
 
 operator_made : (d : ℕ) (x : Terminal) (k : Stack) → Assembles (s.operator d ∷ k) x (behind_operator d x k)
@@ -141,8 +148,12 @@ scales_made d (t.multiplicative o) k = λ ts m. (scale o m.0 m.3.0, m.3.1, cons 
 scales_made d _ k = tt
 
 sums_made : (d : ℕ) (x : Terminal) (k : Stack) → Assembles (s.sums d ∷ k) x (behind_sums d x k)
-sums_made d (t.additive o) k = λ ts m. (sum o (product m.0 m.3.0) m.3.3.0, m.3.3.1,
-    cons (t.additive o) (m.2 ∙ ap (λ (r : Ts). spelled_factor m.0 r) (m.3.2 ∙ ap (λ (r : Ts). spelled_scales m.3.0 r) m.3.3.2)), m.3.3.3)
+sums_made d (t.additive o) k = λ ts m. (
+  sum o (product m.0 m.3.0) m.3.3.0,
+  m.3.3.1,
+  cons (t.additive o) (m.2 ∙ ap (λ (r : Ts). spelled_factor m.0 r) (m.3.2 ∙ ap (λ (r : Ts). spelled_scales m.3.0 r) m.3.3.2)),
+  m.3.3.3,
+)
 sums_made d _ k = tt
 
 command_made : (d : ℕ) (x : Terminal) (k : Stack) → Assembles (s.command d ∷ k) x (behind_command d x k)
@@ -159,8 +170,12 @@ command_made d (t.naming x) k = λ ts m. (named x m.0, m.1, cons (t.naming x) m.
 command_made d (t.edit x) k = λ ts m. (edited x m.0, m.1, cons (t.edit x) m.2, m.3)
 command_made d t.set_limit k = λ ts m. (limited m.0 m.3.2.0, m.3.2.1, cons t.set_limit (m.2 ∙ ap (λ (r : Ts). spelled m.0 r) (m.3.1 ∙ cons t.for_ m.3.2.2)), m.3.2.3)
 command_made d t.dollar k = λ ts m. (m.0, m.1, m.2, m.3)
-command_made d t.among k = λ ts m. (chosen m.2.0 m.2.3.0, m.2.3.3.0,
-    cons t.among (m.1 ∙ cons t.open_ (m.2.2 ∙ ap (λ (r : Ts). spelled_starter m.2.0 r) (m.2.3.2 ∙ ap (λ (r : Ts). spelled_groups m.2.3.0 r) m.2.3.3.1))), m.2.3.3.2)
+command_made d t.among k = λ ts m. (
+  chosen m.2.0 m.2.3.0,
+  m.2.3.3.0,
+  cons t.among (m.1 ∙ cons t.open_ (m.2.2 ∙ ap (λ (r : Ts). spelled_starter m.2.0 r) (m.2.3.2 ∙ ap (λ (r : Ts). spelled_groups m.2.3.0 r) m.2.3.3.1))),
+  m.2.3.3.2,
+)
 command_made d _ k = tt
 
 others_made : (d : ℕ) (x : Terminal) (k : Stack) → Assembles (s.others d ∷ k) x (behind_others d x k)
@@ -187,9 +202,12 @@ entries_made : (d : ℕ) (x : Terminal) (k : Stack) → Assembles (s.entries d �
 entries_made d (t.literal q) k = λ ts m.
     let gs = m.3.0 (entry q m.0) in
     (λ x. prepend x gs, m.3.1, λ x. ap (λ (r : Ts). spelled_entry x r) (m.2 q ∙ m.3.2 (entry q m.0)) ∙ sym (prepended x gs m.3.1), m.3.3)
-entries_made d t.open_ k = λ ts m.
-    (λ x. group x [] m.0 m.3.2.0, m.3.2.1,
-        λ x. ap (λ (r : Ts). spelled_entry x r) (cons t.open_ (m.2 ∙ ap (λ (r : Ts). spelled_rows m.0 r) (m.3.1 ∙ cons t.close_ m.3.2.2))), m.3.2.3)
+entries_made d t.open_ k = λ ts m. (
+  λ x. group x [] m.0 m.3.2.0,
+  m.3.2.1,
+  λ x. ap (λ (r : Ts). spelled_entry x r) (cons t.open_ (m.2 ∙ ap (λ (r : Ts). spelled_rows m.0 r) (m.3.1 ∙ cons t.close_ m.3.2.2))),
+  m.3.2.3,
+)
 entries_made d _ k = tt
 
 condition_made : (d : ℕ) (x : Terminal) (k : Stack) → Assembles (s.condition d ∷ k) x (behind_name d x k)
@@ -213,8 +231,12 @@ literal_made (t.literal q) k = λ ts m. (q, ts, refl, m)
 literal_made _ k = tt
 
 definition_made : (x : Terminal) (k : Stack) → Assembles (s.definition ∷ k) x (behind_definition x k)
-definition_made t.as_ k = λ ts m. (λ n. routine n m.0 m.3.0, m.3.1,
-    λ n. cons t.define (cons (t.name n) (cons t.as_ (m.2 ∙ ap (λ (r : Ts). spelled m.0 r) m.3.2))), m.3.3)
+definition_made t.as_ k = λ ts m. (
+  λ n. routine n m.0 m.3.0,
+  m.3.1,
+  λ n. cons t.define (cons (t.name n) (cons t.as_ (m.2 ∙ ap (λ (r : Ts). spelled m.0 r) m.3.2))),
+  m.3.3,
+)
 definition_made (t.literal q) k = λ ts m. (λ n. grouping n (written_out q) m.0, m.1, λ n. cons t.define (cons (t.name n) (cons (t.literal q) m.2)), m.3)
 definition_made (t.name x) k = λ ts m. (λ n. grouping n (by_name x) m.0, m.1, λ n. cons t.define (cons (t.name n) (cons (t.name x) m.2)), m.3)
 definition_made _ k = tt
@@ -230,8 +252,12 @@ names_made _ k = tt
 plain_made : (x : Terminal) (k : Stack) → Assembles (s.plain ∷ k) x (behind_plain x k)
 plain_made (t.declares x) k = λ ts m. (declaration x m.2.0, m.2.3.0, cons (t.declares x) (m.1 ∙ cons t.open_ (m.2.2 ∙ ap (λ (r : Ts). spelled_names m.2.0 r) m.2.3.1)), m.2.3.2)
 plain_made t.string_escapes k = λ ts m. (escapes m.0 m.1, m.2, cons t.string_escapes m.3, m.4)
-plain_made t.string_def k = λ ts m. (macro m.0 m.3.0 m.3.3.0, m.3.3.1,
-    cons t.string_def (m.2 ∙ cons (t.macro_name m.0) (m.3.2 ∙ ap (λ (r : Ts). spelled_base m.3.0 r) m.3.3.2)), m.3.3.3)
+plain_made t.string_def k = λ ts m. (
+  macro m.0 m.3.0 m.3.3.0,
+  m.3.3.1,
+  cons t.string_def (m.2 ∙ cons (t.macro_name m.0) (m.3.2 ∙ ap (λ (r : Ts). spelled_base m.3.0 r) m.3.3.2)),
+  m.3.3.3,
+)
 plain_made t.define k = λ ts m. (m.3.0 m.0, m.3.1, cons t.define m.2 ∙ m.3.2 m.0, m.3.3)
 plain_made _ k = tt
 

@@ -71,8 +71,8 @@ out_of_profile ts at h =
     let lengths : length (left ts at) ≡ length (t.dollar ∷ t.name n ∷ drop 2 (left ts at)) = omega (arith, two_more (left ts at) stands.bad stands.more tail) in
     let same : left ts at ≡ t.dollar ∷ t.name n ∷ drop 2 (left ts at) = same_end front.0 stands.before (left ts at) (t.dollar ∷ t.name n ∷ drop 2 (left ts at)) (sym front.1 ∙ stands.parts) lengths in
     subst (λ (r : Ts). IsOutOfProfileAt (terminals_of ts) r) (sym same) stands where
-  tail_of : (place : Ts) (n m : List ℕ) (x : Terminal) (more : Ts) → t.dollar ∷ t.name n ∷ place ≡ t.dollar ∷ t.name m ∷ x ∷ more → place ≡ x ∷ more
-  tail_of place n m x more e = cc
+      tail_of : (place : Ts) (n m : List ℕ) (x : Terminal) (more : Ts) → t.dollar ∷ t.name n ∷ place ≡ t.dollar ∷ t.name m ∷ x ∷ more → place ≡ x ∷ more
+      tail_of place n m x more e = cc
 
 pub fault_of : (ts : List Token) (end : ℕ) (e : ReadError) → Fails ts e (fault (terminals_of ts) (items ∷ [])) → (fault_told ts end e ≡ script.OutOfMemory) ⊎ IsFaultOf ts end (fault_told ts end e)
 fault_of ts end errors.Memory h = inl refl

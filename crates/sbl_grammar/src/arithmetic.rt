@@ -18,7 +18,12 @@ use std::alloc::Global;
 
 /// An arithmetic expression. A bracket or minus in it stands one deeper than `depth`.
 #[cycle(arithmetic)]
-pub fn expression(alloc: Global, tokens: &[Token<'_>], at: usize, depth: u8) -> Result<(Expression, usize), ReadError>
+pub fn expression(
+    alloc: Global,
+    tokens: &[Token<'_>],
+    at: usize,
+    depth: u8,
+) -> Result<(Expression, usize), ReadError>
     requires { depth ≤ max_depth }
     ensures { Gives tokens.now at (wanted.expression depth []) (λ x. spelled_expression (view_expression x.0) (left tokens.now x.1)) (λ x. x.1) result }
 {
@@ -29,7 +34,12 @@ pub fn expression(alloc: Global, tokens: &[Token<'_>], at: usize, depth: u8) -> 
 
 /// Further products, as many as come.
 #[cycle(arithmetic)]
-fn sums(alloc: Global, tokens: &[Token<'_>], at: usize, depth: u8) -> Result<(Vec<Added>, usize), ReadError>
+fn sums(
+    alloc: Global,
+    tokens: &[Token<'_>],
+    at: usize,
+    depth: u8,
+) -> Result<(Vec<Added>, usize), ReadError>
     requires { depth ≤ max_depth }
     ensures { Gives tokens.now at (wanted.sums depth ∷ []) (λ x. spelled_sums (view_sums x.0.items) (left tokens.now x.1)) (λ x. x.1) result }
 {
@@ -45,7 +55,12 @@ fn sums(alloc: Global, tokens: &[Token<'_>], at: usize, depth: u8) -> Result<(Ve
 
 /// A product.
 #[cycle(arithmetic)]
-fn product(alloc: Global, tokens: &[Token<'_>], at: usize, depth: u8) -> Result<(Product, usize), ReadError>
+fn product(
+    alloc: Global,
+    tokens: &[Token<'_>],
+    at: usize,
+    depth: u8,
+) -> Result<(Product, usize), ReadError>
     requires { depth ≤ max_depth }
     ensures { Gives tokens.now at (wanted.factor depth ∷ wanted.scales depth ∷ []) (λ x. spelled_product (view_product x.0) (left tokens.now x.1)) (λ x. x.1) result }
 {
@@ -56,7 +71,12 @@ fn product(alloc: Global, tokens: &[Token<'_>], at: usize, depth: u8) -> Result<
 
 /// Further factors, as many as come.
 #[cycle(arithmetic)]
-fn scales(alloc: Global, tokens: &[Token<'_>], at: usize, depth: u8) -> Result<(Vec<Scaled>, usize), ReadError>
+fn scales(
+    alloc: Global,
+    tokens: &[Token<'_>],
+    at: usize,
+    depth: u8,
+) -> Result<(Vec<Scaled>, usize), ReadError>
     requires { depth ≤ max_depth }
     ensures { Gives tokens.now at (wanted.scales depth ∷ []) (λ x. spelled_scales (view_scales x.0.items) (left tokens.now x.1)) (λ x. x.1) result }
 {
@@ -72,7 +92,12 @@ fn scales(alloc: Global, tokens: &[Token<'_>], at: usize, depth: u8) -> Result<(
 
 /// A factor.
 #[cycle(arithmetic)]
-fn factor(alloc: Global, tokens: &[Token<'_>], at: usize, depth: u8) -> Result<(Factor, usize), ReadError>
+fn factor(
+    alloc: Global,
+    tokens: &[Token<'_>],
+    at: usize,
+    depth: u8,
+) -> Result<(Factor, usize), ReadError>
     requires { depth ≤ max_depth }
     ensures { Gives tokens.now at (wanted.factor depth ∷ []) (λ x. spelled_factor (view_factor x.0) (left tokens.now x.1)) (λ x. x.1) result }
 {
@@ -89,7 +114,13 @@ fn factor(alloc: Global, tokens: &[Token<'_>], at: usize, depth: u8) -> Result<(
 
 /// `- F`
 #[cycle(arithmetic)]
-fn negated(alloc: Global, tokens: &[Token<'_>], at: usize, depth: u8, operator: Additive) -> Result<(Factor, usize), ReadError>
+fn negated(
+    alloc: Global,
+    tokens: &[Token<'_>],
+    at: usize,
+    depth: u8,
+    operator: Additive,
+) -> Result<(Factor, usize), ReadError>
     requires first { role_of (left tokens.now at) ≡ Role.Additive operator }
     requires shallow { depth ≤ max_depth }
     ensures { Gives tokens.now at (wanted.factor depth ∷ []) (λ x. spelled_factor (view_factor x.0) (left tokens.now x.1)) (λ x. x.1) result }
@@ -108,7 +139,12 @@ fn negated(alloc: Global, tokens: &[Token<'_>], at: usize, depth: u8, operator: 
 
 /// `( E )`
 #[cycle(arithmetic)]
-fn bracketed(alloc: Global, tokens: &[Token<'_>], at: usize, depth: u8) -> Result<(Factor, usize), ReadError>
+fn bracketed(
+    alloc: Global,
+    tokens: &[Token<'_>],
+    at: usize,
+    depth: u8,
+) -> Result<(Factor, usize), ReadError>
     requires first { role_of (left tokens.now at) ≡ Role.Open }
     requires shallow { depth ≤ max_depth }
     ensures { Gives tokens.now at (wanted.factor depth ∷ []) (λ x. spelled_factor (view_factor x.0) (left tokens.now x.1)) (λ x. x.1) result }
@@ -122,7 +158,12 @@ fn bracketed(alloc: Global, tokens: &[Token<'_>], at: usize, depth: u8) -> Resul
 }
 
 /// `lenof S`
-fn length_of(alloc: Global, tokens: &[Token<'_>], at: usize, depth: u8) -> Result<(Factor, usize), ReadError>
+fn length_of(
+    alloc: Global,
+    tokens: &[Token<'_>],
+    at: usize,
+    depth: u8,
+) -> Result<(Factor, usize), ReadError>
     requires first { role_of (left tokens.now at) ≡ Role.LenOf }
     requires shallow { depth ≤ max_depth }
     ensures { Gives tokens.now at (wanted.factor depth ∷ []) (λ x. spelled_factor (view_factor x.0) (left tokens.now x.1)) (λ x. x.1) result }

@@ -12,9 +12,9 @@ ghost use Rattle.std.specs.Prelude.{map};
 
 use crate::arithmetic::expression;
 use crate::cursor::{behind, literal, role, text};
+use crate::entries::{entries, entry};
 use crate::error::{MAX_DEPTH, ReadError, syntax, too_deep};
 use crate::leaves::{dollar, edited, moved, named, non};
-use crate::entries::{entries, entry};
 use crate::role::Role;
 use crate::starts::begins_command;
 use crate::tokens::{close, for_word, open};
@@ -24,7 +24,12 @@ use std::alloc::Global;
 
 /// One command. Its first token stands at `depth`.
 #[cycle(commands)]
-pub fn command(alloc: Global, tokens: &[Token<'_>], at: usize, depth: u8) -> Result<(Command, usize), ReadError>
+pub fn command(
+    alloc: Global,
+    tokens: &[Token<'_>],
+    at: usize,
+    depth: u8,
+) -> Result<(Command, usize), ReadError>
     requires { depth ≤ max_depth + 1 }
     ensures shallow { OnOk result (depth ≤ max_depth) }
     ensures gives { Gives tokens.now at (wanted.command depth ∷ []) (λ x. spelled (view_command x.0) (left tokens.now x.1)) (λ x. x.1) result }
@@ -39,7 +44,10 @@ pub fn command(alloc: Global, tokens: &[Token<'_>], at: usize, depth: u8) -> Res
     match role {
         Role::Open => bracket(alloc, tokens, at, depth),
         Role::Simple(simple) => Ok((Command::Simple(simple), behind(tokens, at))),
-        Role::Literal => Ok((Command::Literal(literal(alloc, tokens, at)?), behind(tokens, at))),
+        Role::Literal => Ok((
+            Command::Literal(literal(alloc, tokens, at)?),
+            behind(tokens, at),
+        )),
         Role::Name => Ok((Command::Name(text(alloc, tokens, at)?), behind(tokens, at))),
         Role::Non => non(alloc, tokens, at, depth),
         Role::Prefix(prefix) => prefixed(alloc, tokens, at, depth, prefix),
@@ -56,7 +64,12 @@ pub fn command(alloc: Global, tokens: &[Token<'_>], at: usize, depth: u8) -> Res
 
 /// `( C1 C2 .. )`
 #[cycle(commands)]
-fn bracket(alloc: Global, tokens: &[Token<'_>], at: usize, depth: u8) -> Result<(Command, usize), ReadError>
+fn bracket(
+    alloc: Global,
+    tokens: &[Token<'_>],
+    at: usize,
+    depth: u8,
+) -> Result<(Command, usize), ReadError>
     requires first { role_of (left tokens.now at) ≡ Role.Open }
     requires shallow { depth ≤ max_depth }
     ensures { Gives tokens.now at (wanted.command depth ∷ []) (λ x. spelled (view_command x.0) (left tokens.now x.1)) (λ x. x.1) result }
@@ -67,7 +80,13 @@ fn bracket(alloc: Global, tokens: &[Token<'_>], at: usize, depth: u8) -> Result<
 
 /// `not C` and its like
 #[cycle(commands)]
-fn prefixed(alloc: Global, tokens: &[Token<'_>], at: usize, depth: u8, prefix: Prefix) -> Result<(Command, usize), ReadError>
+fn prefixed(
+    alloc: Global,
+    tokens: &[Token<'_>],
+    at: usize,
+    depth: u8,
+    prefix: Prefix,
+) -> Result<(Command, usize), ReadError>
     requires first { role_of (left tokens.now at) ≡ Role.Prefix prefix }
     requires shallow { depth ≤ max_depth }
     ensures { Gives tokens.now at (wanted.command depth ∷ []) (λ x. spelled (view_command x.0) (left tokens.now x.1)) (λ x. x.1) result }
@@ -78,19 +97,33 @@ fn prefixed(alloc: Global, tokens: &[Token<'_>], at: usize, depth: u8, prefix: P
 
 /// `loop E C` and `atleast E C`
 #[cycle(commands)]
-fn counted(alloc: Global, tokens: &[Token<'_>], at: usize, depth: u8, count: Count) -> Result<(Command, usize), ReadError>
+fn counted(
+    alloc: Global,
+    tokens: &[Token<'_>],
+    at: usize,
+    depth: u8,
+    count: Count,
+) -> Result<(Command, usize), ReadError>
     requires first { role_of (left tokens.now at) ≡ Role.Count count }
     requires shallow { depth ≤ max_depth }
     ensures { Gives tokens.now at (wanted.command depth ∷ []) (λ x. spelled (view_command x.0) (left tokens.now x.1)) (λ x. x.1) result }
 {
     let (times, rest) = expression(alloc, tokens, behind(tokens, at), depth)?;
     let (inner, rest) = command(alloc, tokens, rest, depth + 1)?;
-    Ok((Command::Counted(count, times, Box::new(alloc, inner)?), rest))
+    Ok((
+        Command::Counted(count, times, Box::new(alloc, inner)?),
+        rest,
+    ))
 }
 
 /// `setlimit C1 for C2`
 #[cycle(commands)]
-fn set_limit(alloc: Global, tokens: &[Token<'_>], at: usize, depth: u8) -> Result<(Command, usize), ReadError>
+fn set_limit(
+    alloc: Global,
+    tokens: &[Token<'_>],
+    at: usize,
+    depth: u8,
+) -> Result<(Command, usize), ReadError>
     requires first { role_of (left tokens.now at) ≡ Role.SetLimit }
     requires shallow { depth ≤ max_depth }
     ensures { Gives tokens.now at (wanted.command depth ∷ []) (λ x. spelled (view_command x.0) (left tokens.now x.1)) (λ x. x.1) result }
@@ -98,12 +131,20 @@ fn set_limit(alloc: Global, tokens: &[Token<'_>], at: usize, depth: u8) -> Resul
     let (limit, rest) = command(alloc, tokens, behind(tokens, at), depth + 1)?;
     let rest = for_word(tokens, rest, depth)?;
     let (inner, rest) = command(alloc, tokens, rest, depth + 1)?;
-    Ok((Command::SetLimit(Box::new(alloc, limit)?, Box::new(alloc, inner)?), rest))
+    Ok((
+        Command::SetLimit(Box::new(alloc, limit)?, Box::new(alloc, inner)?),
+        rest,
+    ))
 }
 
 /// `among ( .. )`
 #[cycle(commands)]
-fn among(alloc: Global, tokens: &[Token<'_>], at: usize, depth: u8) -> Result<(Command, usize), ReadError>
+fn among(
+    alloc: Global,
+    tokens: &[Token<'_>],
+    at: usize,
+    depth: u8,
+) -> Result<(Command, usize), ReadError>
     requires first { role_of (left tokens.now at) ≡ Role.Among }
     requires shallow { depth ≤ max_depth }
     ensures { Gives tokens.now at (wanted.command depth ∷ []) (λ x. spelled (view_command x.0) (left tokens.now x.1)) (λ x. x.1) result }
@@ -112,12 +153,24 @@ fn among(alloc: Global, tokens: &[Token<'_>], at: usize, depth: u8) -> Result<(C
     let (starter, rest) = starter(alloc, tokens, inside, depth)?;
     let ((groups, bare), rest) = groups(alloc, tokens, rest, depth)?;
     let rest = close(tokens, rest, depth)?;
-    Ok((Command::Among(Among { starter, groups, bare }), rest))
+    Ok((
+        Command::Among(Among {
+            starter,
+            groups,
+            bare,
+        }),
+        rest,
+    ))
 }
 
 /// The bracket before the first string of an `among`, where there is one. It stands one deeper than `depth`.
 #[cycle(commands)]
-fn starter(alloc: Global, tokens: &[Token<'_>], at: usize, depth: u8) -> Result<(Option<Vec<Row>>, usize), ReadError>
+fn starter(
+    alloc: Global,
+    tokens: &[Token<'_>],
+    at: usize,
+    depth: u8,
+) -> Result<(Option<Vec<Row>>, usize), ReadError>
     requires { depth ≤ max_depth }
     ensures { Gives tokens.now at (wanted.starter depth ∷ []) (λ x. spelled_starter (view_starter x.0) (left tokens.now x.1)) (λ x. x.1) result }
 {
@@ -135,7 +188,12 @@ fn starter(alloc: Global, tokens: &[Token<'_>], at: usize, depth: u8) -> Result<
 
 /// Groups, and the strings behind the last bracket. A bracket stands one deeper than `depth`.
 #[cycle(commands)]
-fn groups(alloc: Global, tokens: &[Token<'_>], at: usize, depth: u8) -> Result<((Vec<Group>, Vec<Entry>), usize), ReadError>
+fn groups(
+    alloc: Global,
+    tokens: &[Token<'_>],
+    at: usize,
+    depth: u8,
+) -> Result<((Vec<Group>, Vec<Entry>), usize), ReadError>
     requires { depth ≤ max_depth }
     ensures { Gives tokens.now at (wanted.groups depth ∷ []) (λ x. spelled_groups (view_groups x.0.0.items (map view_entry x.0.1.items)) (left tokens.now x.1)) (λ x. x.1) result }
 {
@@ -150,7 +208,11 @@ fn groups(alloc: Global, tokens: &[Token<'_>], at: usize, depth: u8) -> Result<(
                     return Err(too_deep(after));
                 }
                 let (rows, after) = block(alloc, tokens, behind(tokens, after), depth + 1)?;
-                groups.push(Group { first, others, rows })?;
+                groups.push(Group {
+                    first,
+                    others,
+                    rows,
+                })?;
                 rest = after;
             }
             _ => {
@@ -164,7 +226,12 @@ fn groups(alloc: Global, tokens: &[Token<'_>], at: usize, depth: u8) -> Result<(
 
 /// What stands in a bracket at `depth`, and the `)`.
 #[cycle(commands)]
-fn block(alloc: Global, tokens: &[Token<'_>], at: usize, depth: u8) -> Result<(Vec<Row>, usize), ReadError>
+fn block(
+    alloc: Global,
+    tokens: &[Token<'_>],
+    at: usize,
+    depth: u8,
+) -> Result<(Vec<Row>, usize), ReadError>
     requires { depth ≤ max_depth }
     ensures { Gives tokens.now at (wanted.rows (depth + 1) ∷ wanted.closing depth ∷ []) (λ x. spelled_rows (view_rows x.0.items) (t.close_ ∷ left tokens.now x.1)) (λ x. x.1) result }
 {
@@ -175,7 +242,12 @@ fn block(alloc: Global, tokens: &[Token<'_>], at: usize, depth: u8) -> Result<(V
 
 /// Rows, as many as come.
 #[cycle(commands)]
-fn rows(alloc: Global, tokens: &[Token<'_>], at: usize, depth: u8) -> Result<(Vec<Row>, usize), ReadError>
+fn rows(
+    alloc: Global,
+    tokens: &[Token<'_>],
+    at: usize,
+    depth: u8,
+) -> Result<(Vec<Row>, usize), ReadError>
     requires { depth ≤ max_depth + 1 }
     ensures { Gives tokens.now at (wanted.rows depth ∷ []) (λ x. spelled_rows (view_rows x.0.items) (left tokens.now x.1)) (λ x. x.1) result }
 {
@@ -192,7 +264,12 @@ fn rows(alloc: Global, tokens: &[Token<'_>], at: usize, depth: u8) -> Result<(Ve
 
 /// Further commands of a row, as many as come.
 #[cycle(commands)]
-pub fn others(alloc: Global, tokens: &[Token<'_>], at: usize, depth: u8) -> Result<(Vec<Joined>, usize), ReadError>
+pub fn others(
+    alloc: Global,
+    tokens: &[Token<'_>],
+    at: usize,
+    depth: u8,
+) -> Result<(Vec<Joined>, usize), ReadError>
     requires { depth ≤ max_depth }
     ensures { Gives tokens.now at (wanted.others depth ∷ []) (λ x. spelled_others (view_others x.0.items) (left tokens.now x.1)) (λ x. x.1) result }
 {

@@ -7,7 +7,8 @@ ghost use Rattle.sbl_grammar.specs.View.{view_literal};
 
 use crate::role::Role;
 use crate::tree::{
-    Additive, Assignment, Base, Comparison, Constant, Count, DeclarationKind, Edit, Joiner, Literal, Move, Multiplicative, Naming, Prefix, Simple,
+    Additive, Assignment, Base, Comparison, Constant, Count, DeclarationKind, Edit, Joiner,
+    Literal, Move, Multiplicative, Naming, Prefix, Simple,
 };
 use sbl_text::{Kind, Sign, Token, Value, Word};
 use std::alloc::{AllocError, Global};
@@ -213,8 +214,14 @@ fn literal_in(alloc: Global, value: &Value<'_>) -> Result<Literal, AllocError>
     ensures { IfOk result (λ l. view_literal l ≡ quoted_in value.now) }
 {
     match value {
-        Value::Literal { spelling, value } => Ok(Literal { spelling: String::from_str(alloc, spelling)?, value: value.clone()? }),
-        _ => Ok(Literal { spelling: String::new(alloc), value: Vec::new(alloc) }),
+        Value::Literal { spelling, value } => Ok(Literal {
+            spelling: String::from_str(alloc, spelling)?,
+            value: value.clone()?,
+        }),
+        _ => Ok(Literal {
+            spelling: String::new(alloc),
+            value: Vec::new(alloc),
+        }),
     }
 }
 
@@ -222,7 +229,10 @@ fn literal_first(alloc: Global, tokens: &[Token<'_>]) -> Result<Literal, AllocEr
     ensures { IfOk result (λ l. view_literal l ≡ first_literal tokens.now) }
 {
     match tokens.first() {
-        None => Ok(Literal { spelling: String::new(alloc), value: Vec::new(alloc) }),
+        None => Ok(Literal {
+            spelling: String::new(alloc),
+            value: Vec::new(alloc),
+        }),
         Some(token) => literal_in(alloc, &token.value),
     }
 }

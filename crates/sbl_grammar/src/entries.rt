@@ -16,7 +16,12 @@ use sbl_text::Token;
 use std::alloc::Global;
 
 /// A string's condition, where there is one.
-fn condition(alloc: Global, tokens: &[Token<'_>], at: usize, depth: u8) -> Result<(Option<String>, usize), ReadError>
+fn condition(
+    alloc: Global,
+    tokens: &[Token<'_>],
+    at: usize,
+    depth: u8,
+) -> Result<(Option<String>, usize), ReadError>
     requires { depth ≤ max_depth }
     ensures memory { IfErr result (λ e. e ≡ ReadError.Memory) }
     ensures gives { Gives tokens.now at (wanted.condition depth ∷ []) (λ x. spelled_condition (view_name x.0) (left tokens.now x.1)) (λ x. x.1) result }
@@ -28,7 +33,12 @@ fn condition(alloc: Global, tokens: &[Token<'_>], at: usize, depth: u8) -> Resul
 }
 
 /// A string and its condition.
-pub fn entry(alloc: Global, tokens: &[Token<'_>], at: usize, depth: u8) -> Result<(Entry, usize), ReadError>
+pub fn entry(
+    alloc: Global,
+    tokens: &[Token<'_>],
+    at: usize,
+    depth: u8,
+) -> Result<(Entry, usize), ReadError>
     requires first { role_of (left tokens.now at) ≡ Role.Literal }
     requires shallow { depth ≤ max_depth }
     ensures spelled { IfOk result (λ x. left tokens.now at ≡ spelled_entry (view_entry x.0) (left tokens.now x.1)) }
@@ -41,7 +51,12 @@ pub fn entry(alloc: Global, tokens: &[Token<'_>], at: usize, depth: u8) -> Resul
 }
 
 /// Further strings, as many as come.
-pub fn entries(alloc: Global, tokens: &[Token<'_>], at: usize, depth: u8) -> Result<(Vec<Entry>, usize), ReadError>
+pub fn entries(
+    alloc: Global,
+    tokens: &[Token<'_>],
+    at: usize,
+    depth: u8,
+) -> Result<(Vec<Entry>, usize), ReadError>
     requires { depth ≤ max_depth }
     ensures spelled { IfOk result (λ x. left tokens.now at ≡ spelled_entries (map view_entry x.0.items) (left tokens.now x.1)) }
     ensures faults { IfOk result (λ x. (k : wanted.Stack) → wanted.fault (left tokens.now at) (wanted.entries depth ∷ k) ≡ wanted.fault (left tokens.now x.1) (wanted.entries depth ∷ k)) }

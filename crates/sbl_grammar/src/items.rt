@@ -67,7 +67,11 @@ fn base(tokens: &[Token<'_>], at: usize) -> (Option<Base>, usize)
 }
 
 /// A macro's literal.
-fn macro_literal(alloc: Global, tokens: &[Token<'_>], at: usize) -> Result<(Literal, usize), ReadError>
+fn macro_literal(
+    alloc: Global,
+    tokens: &[Token<'_>],
+    at: usize,
+) -> Result<(Literal, usize), ReadError>
     ensures { Gives tokens.now at (wanted.literal ∷ []) (λ x. t.literal (view_literal x.0) ∷ left tokens.now x.1) (λ x. x.1) result }
 {
     match role(tokens, at) {
@@ -77,7 +81,12 @@ fn macro_literal(alloc: Global, tokens: &[Token<'_>], at: usize) -> Result<(Lite
 }
 
 /// `routines ( A B .. )` and its like
-fn declaration(alloc: Global, tokens: &[Token<'_>], at: usize, kind: DeclarationKind) -> Result<(Plain, usize), ReadError>
+fn declaration(
+    alloc: Global,
+    tokens: &[Token<'_>],
+    at: usize,
+    kind: DeclarationKind,
+) -> Result<(Plain, usize), ReadError>
     requires { role_of (left tokens.now at) ≡ Role.Declares kind }
     ensures { Gives tokens.now at (wanted.plain ∷ []) (λ x. spelled_plain (view_plain x.0) (left tokens.now x.1)) (λ x. x.1) result }
 {
@@ -114,7 +123,11 @@ fn string_def(alloc: Global, tokens: &[Token<'_>], at: usize) -> Result<(Plain, 
 }
 
 /// The terms of a grouping: the first, and those after it.
-pub fn grouping_terms(alloc: Global, tokens: &[Token<'_>], at: usize) -> Result<((Argument, Vec<Term>), usize), ReadError>
+pub fn grouping_terms(
+    alloc: Global,
+    tokens: &[Token<'_>],
+    at: usize,
+) -> Result<((Argument, Vec<Term>), usize), ReadError>
     requires { role_of (left tokens.now at) ≡ Role.As → ⊥ }
     ensures { Gives tokens.now at (wanted.definition ∷ []) (λ x. argument_terminal (view_argument x.0.0) ∷ spelled_terms (map view_term x.0.1.items) (left tokens.now x.1)) (λ x. x.1) result }
 {
@@ -136,11 +149,24 @@ fn define(alloc: Global, tokens: &[Token<'_>], at: usize) -> Result<(Plain, usiz
         Role::As => {
             let (first, rest) = command(alloc, tokens, behind(tokens, rest), 1)?;
             let (others, rest) = others(alloc, tokens, rest, 1)?;
-            Ok((Plain::Routine { name, body: Row { first, others } }, rest))
+            Ok((
+                Plain::Routine {
+                    name,
+                    body: Row { first, others },
+                },
+                rest,
+            ))
         }
         _ => {
             let ((first, others), rest) = grouping_terms(alloc, tokens, rest)?;
-            Ok((Plain::Grouping { name, first, others }, rest))
+            Ok((
+                Plain::Grouping {
+                    name,
+                    first,
+                    others,
+                },
+                rest,
+            ))
         }
     }
 }
@@ -197,7 +223,11 @@ fn item(alloc: Global, tokens: &[Token<'_>], at: usize) -> Result<(Item, usize),
 }
 
 /// Items, as many as come.
-pub fn items(alloc: Global, tokens: &[Token<'_>], at: usize) -> Result<(Vec<Item>, usize), ReadError>
+pub fn items(
+    alloc: Global,
+    tokens: &[Token<'_>],
+    at: usize,
+) -> Result<(Vec<Item>, usize), ReadError>
     ensures { Gives tokens.now at (wanted.items ∷ []) (λ x. spelled_items (view_items x.0.items) (left tokens.now x.1)) (λ x. x.1) result }
 {
     let mut items = Vec::new(alloc);

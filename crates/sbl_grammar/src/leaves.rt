@@ -18,21 +18,38 @@ use sbl_text::Token;
 use std::alloc::Global;
 
 /// `non G` and `non - G`
-pub fn non(alloc: Global, tokens: &[Token<'_>], at: usize, depth: u8) -> Result<(Command, usize), ReadError>
+pub fn non(
+    alloc: Global,
+    tokens: &[Token<'_>],
+    at: usize,
+    depth: u8,
+) -> Result<(Command, usize), ReadError>
     requires first { role_of (left tokens.now at) ≡ Role.Non }
     requires shallow { depth ≤ max_depth }
     ensures { Gives tokens.now at (wanted.command depth ∷ []) (λ x. spelled (view_command x.0) (left tokens.now x.1)) (λ x. x.1) result }
 {
     let rest = behind(tokens, at);
     match role(tokens, rest) {
-        Role::Name => Ok((Command::Non { with_minus: false, name: text(alloc, tokens, rest)? }, behind(tokens, rest))),
+        Role::Name => Ok((
+            Command::Non {
+                with_minus: false,
+                name: text(alloc, tokens, rest)?,
+            },
+            behind(tokens, rest),
+        )),
         Role::Additive(operator) => non_minus(alloc, tokens, at, depth, operator),
         _ => Err(syntax(rest)),
     }
 }
 
 /// `non - G`
-fn non_minus(alloc: Global, tokens: &[Token<'_>], at: usize, depth: u8, operator: Additive) -> Result<(Command, usize), ReadError>
+fn non_minus(
+    alloc: Global,
+    tokens: &[Token<'_>],
+    at: usize,
+    depth: u8,
+    operator: Additive,
+) -> Result<(Command, usize), ReadError>
     requires first { role_of (left tokens.now at) ≡ Role.Non }
     requires second { role_of (drop 1 (left tokens.now at)) ≡ Role.Additive operator }
     requires shallow { depth ≤ max_depth }
@@ -43,13 +60,25 @@ fn non_minus(alloc: Global, tokens: &[Token<'_>], at: usize, depth: u8, operator
         Additive::Plus => Err(syntax(rest)),
         Additive::Minus => {
             let (name, rest) = name(alloc, tokens, behind(tokens, rest), depth)?;
-            Ok((Command::Non { with_minus: true, name }, rest))
+            Ok((
+                Command::Non {
+                    with_minus: true,
+                    name,
+                },
+                rest,
+            ))
         }
     }
 }
 
 /// `hop E`, `atmark E` and `tomark E`
-pub fn moved(alloc: Global, tokens: &[Token<'_>], at: usize, depth: u8, word: Move) -> Result<(Command, usize), ReadError>
+pub fn moved(
+    alloc: Global,
+    tokens: &[Token<'_>],
+    at: usize,
+    depth: u8,
+    word: Move,
+) -> Result<(Command, usize), ReadError>
     requires first { role_of (left tokens.now at) ≡ Role.Move word }
     requires shallow { depth ≤ max_depth }
     ensures { Gives tokens.now at (wanted.command depth ∷ []) (λ x. spelled (view_command x.0) (left tokens.now x.1)) (λ x. x.1) result }
@@ -59,7 +88,13 @@ pub fn moved(alloc: Global, tokens: &[Token<'_>], at: usize, depth: u8, word: Mo
 }
 
 /// `setmark X`, `set X`, `unset X` and `-> X`
-pub fn named(alloc: Global, tokens: &[Token<'_>], at: usize, depth: u8, word: Naming) -> Result<(Command, usize), ReadError>
+pub fn named(
+    alloc: Global,
+    tokens: &[Token<'_>],
+    at: usize,
+    depth: u8,
+    word: Naming,
+) -> Result<(Command, usize), ReadError>
     requires first { role_of (left tokens.now at) ≡ Role.Naming word }
     requires shallow { depth ≤ max_depth }
     ensures { Gives tokens.now at (wanted.command depth ∷ []) (λ x. spelled (view_command x.0) (left tokens.now x.1)) (λ x. x.1) result }
@@ -69,7 +104,13 @@ pub fn named(alloc: Global, tokens: &[Token<'_>], at: usize, depth: u8, word: Na
 }
 
 /// `<- S`, `<+ S`, `insert S` and `attach S`
-pub fn edited(alloc: Global, tokens: &[Token<'_>], at: usize, depth: u8, word: Edit) -> Result<(Command, usize), ReadError>
+pub fn edited(
+    alloc: Global,
+    tokens: &[Token<'_>],
+    at: usize,
+    depth: u8,
+    word: Edit,
+) -> Result<(Command, usize), ReadError>
     requires first { role_of (left tokens.now at) ≡ Role.Edit word }
     requires shallow { depth ≤ max_depth }
     ensures { Gives tokens.now at (wanted.command depth ∷ []) (λ x. spelled (view_command x.0) (left tokens.now x.1)) (λ x. x.1) result }
@@ -79,7 +120,12 @@ pub fn edited(alloc: Global, tokens: &[Token<'_>], at: usize, depth: u8, word: E
 }
 
 /// `$ X = E`, `$ X == E`, `$ ( E1 == E2 )` and their like
-pub fn dollar(alloc: Global, tokens: &[Token<'_>], at: usize, depth: u8) -> Result<(Command, usize), ReadError>
+pub fn dollar(
+    alloc: Global,
+    tokens: &[Token<'_>],
+    at: usize,
+    depth: u8,
+) -> Result<(Command, usize), ReadError>
     requires first { role_of (left tokens.now at) ≡ Role.Dollar }
     requires shallow { depth ≤ max_depth }
     ensures { Gives tokens.now at (wanted.command depth ∷ []) (λ x. spelled (view_command x.0) (left tokens.now x.1)) (λ x. x.1) result }
@@ -93,7 +139,12 @@ pub fn dollar(alloc: Global, tokens: &[Token<'_>], at: usize, depth: u8) -> Resu
 }
 
 /// `$ X = E` and its like. With no operator behind the name the fault is at the `$`.
-fn assigned(alloc: Global, tokens: &[Token<'_>], at: usize, depth: u8) -> Result<(Command, usize), ReadError>
+fn assigned(
+    alloc: Global,
+    tokens: &[Token<'_>],
+    at: usize,
+    depth: u8,
+) -> Result<(Command, usize), ReadError>
     requires first { role_of (left tokens.now at) ≡ Role.Dollar }
     requires second { role_of (drop 1 (left tokens.now at)) ≡ Role.Name }
     requires shallow { depth ≤ max_depth }
@@ -116,7 +167,12 @@ fn assigned(alloc: Global, tokens: &[Token<'_>], at: usize, depth: u8) -> Result
 }
 
 /// `$ ( E1 == E2 )` and its like
-fn values_compared(alloc: Global, tokens: &[Token<'_>], at: usize, depth: u8) -> Result<(Command, usize), ReadError>
+fn values_compared(
+    alloc: Global,
+    tokens: &[Token<'_>],
+    at: usize,
+    depth: u8,
+) -> Result<(Command, usize), ReadError>
     requires first { role_of (left tokens.now at) ≡ Role.Dollar }
     requires second { role_of (drop 1 (left tokens.now at)) ≡ Role.Open }
     requires shallow { depth ≤ max_depth }

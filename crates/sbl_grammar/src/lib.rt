@@ -17,6 +17,7 @@ mod tree;
 pub use reading::{one_part, one_tree, parse};
 pub use role::Role;
 pub use tree::{
-    Added, Additive, Among, Argument, Assignment, Base, Command, Comparison, Constant, Count, DeclarationKind, Edit, Entry, Expression, Factor, Group,
-    Item, Joined, Joiner, Literal, Move, Multiplicative, Naming, Plain, Prefix, Product, Row, Scaled, Simple, Term,
+    Added, Additive, Among, Argument, Assignment, Base, Command, Comparison, Constant, Count,
+    DeclarationKind, Edit, Entry, Expression, Factor, Group, Item, Joined, Joiner, Literal, Move,
+    Multiplicative, Naming, Plain, Prefix, Product, Row, Scaled, Simple, Term,
 };

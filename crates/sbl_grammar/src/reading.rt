@@ -35,9 +35,15 @@ fn told(tokens: &[Token<'_>], end: usize, error: ReadError) -> ScriptFault
     match error {
         ReadError::Memory => ScriptFault::OutOfMemory,
         ReadError::Fault(fault) => match fault {
-            Fault::Syntax(at) => ScriptFault::Syntax { place: place(tokens, at, end) },
-            Fault::TooDeep(at) => ScriptFault::TooDeep { place: place(tokens, at, end) },
-            Fault::OutOfProfile(at) => ScriptFault::OutOfProfile { place: place(tokens, at, end) },
+            Fault::Syntax(at) => ScriptFault::Syntax {
+                place: place(tokens, at, end),
+            },
+            Fault::TooDeep(at) => ScriptFault::TooDeep {
+                place: place(tokens, at, end),
+            },
+            Fault::OutOfProfile(at) => ScriptFault::OutOfProfile {
+                place: place(tokens, at, end),
+            },
         },
     }
 }
@@ -74,12 +80,10 @@ fn all_items(alloc: Global, tokens: &[Token<'_>]) -> Result<Vec<Item>, ReadError
 /// Two trees with the same tokens are one.
 pub fn one_tree()
     ensures { (t u : List trees.Item) → written t ≡ written u → t ≡ u }
-{
-}
+{}
 
 /// A token and the part that it plays in the grammar determine one another.
 pub fn one_part()
     ensures there { (x : Lexeme) → lexeme_as (terminal_of x) ≡ x }
     ensures back { (x : Terminal) → terminal_of (lexeme_as x) ≡ x }
-{
-}
+{}

@@ -1,6 +1,9 @@
 //! The part that a token plays in the grammar.
 
-use crate::tree::{Additive, Assignment, Base, Comparison, Constant, Count, DeclarationKind, Edit, Joiner, Move, Multiplicative, Naming, Prefix, Simple};
+use crate::tree::{
+    Additive, Assignment, Base, Comparison, Constant, Count, DeclarationKind, Edit, Joiner, Move,
+    Multiplicative, Naming, Prefix, Simple,
+};
 
 /// What may come at one place of the grammar, without its text or its value.
 #[derive(Clone, Copy, Debug, PartialEq, Eq)]

@@ -42,7 +42,11 @@ pub fn begins_item(role: Role) -> bool
     ensures { result ≡ spec.begins_item role }
 {
     match role {
-        Role::Declares(_) | Role::StringEscapes | Role::StringDef | Role::Define | Role::BackwardMode => true,
+        Role::Declares(_)
+        | Role::StringEscapes
+        | Role::StringDef
+        | Role::Define
+        | Role::BackwardMode => true,
         _ => false,
     }
 }

@@ -50,7 +50,12 @@ pub fn for_word(tokens: &[Token<'_>], at: usize, depth: u8) -> Result<usize, Rea
 }
 
 /// A name.
-pub fn name(alloc: Global, tokens: &[Token<'_>], at: usize, depth: u8) -> Result<(String, usize), ReadError>
+pub fn name(
+    alloc: Global,
+    tokens: &[Token<'_>],
+    at: usize,
+    depth: u8,
+) -> Result<(String, usize), ReadError>
     requires { depth ≤ max_depth }
     ensures { Gives tokens.now at (wanted.name depth ∷ []) (λ x. t.name (string_bytes x.0) ∷ left tokens.now x.1) (λ x. x.1) result }
 {
@@ -61,19 +66,31 @@ pub fn name(alloc: Global, tokens: &[Token<'_>], at: usize, depth: u8) -> Result
 }
 
 /// A literal or a name.
-pub fn argument(alloc: Global, tokens: &[Token<'_>], at: usize, depth: u8) -> Result<(Argument, usize), ReadError>
+pub fn argument(
+    alloc: Global,
+    tokens: &[Token<'_>],
+    at: usize,
+    depth: u8,
+) -> Result<(Argument, usize), ReadError>
     requires { depth ≤ max_depth }
     ensures { Gives tokens.now at (wanted.argument depth ∷ []) (λ x. argument_terminal (view_argument x.0) ∷ left tokens.now x.1) (λ x. x.1) result }
 {
     match role(tokens, at) {
-        Role::Literal => Ok((Argument::Literal(literal(alloc, tokens, at)?), behind(tokens, at))),
+        Role::Literal => Ok((
+            Argument::Literal(literal(alloc, tokens, at)?),
+            behind(tokens, at),
+        )),
         Role::Name => Ok((Argument::Name(text(alloc, tokens, at)?), behind(tokens, at))),
         _ => Err(syntax(at)),
     }
 }
 
 /// A sign that compares two numbers.
-pub fn comparison(tokens: &[Token<'_>], at: usize, depth: u8) -> Result<(Comparison, usize), ReadError>
+pub fn comparison(
+    tokens: &[Token<'_>],
+    at: usize,
+    depth: u8,
+) -> Result<(Comparison, usize), ReadError>
     requires { depth ≤ max_depth }
     ensures { Gives tokens.now at (wanted.comparison depth ∷ []) (λ x. t.compares x.0 ∷ left tokens.now x.1) (λ x. x.1) result }
 {

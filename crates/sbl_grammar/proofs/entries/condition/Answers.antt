@@ -30,7 +30,7 @@ use Rattle.sbl_grammar.proofs.Views as views
 use Rattle.sbl_grammar.proofs.entries.condition.Goals as goal
 
 pub returns-in_ok-text-in-Name-clause-gives : goal.returns-in_ok-text-in-Name-clause-gives
-returns-in_ok-text-in-Name-clause-gives c = 
+returns-in_ok-text-in-Name-clause-gives c =
     let first : (left c.args.tokens.now c.args.at) ≡ (t.name (string_bytes c.in_ok-text-in-Name.field-0)) ∷ drop 1 (left c.args.tokens.now c.args.at) = d.as_name (drop c.args.at c.args.tokens.now) (sym c.role.ensures ∙ c.in-Name.is) ∙ ap (λ (n : List ℕ). t.name n ∷ drop 1 (left c.args.tokens.now c.args.at)) (sym c.in_ok-text-in-Name.ensures) in
     (d.headed (left c.args.tokens.now c.args.at) (left c.args.tokens.now c.behind.result) (t.name (string_bytes c.in_ok-text-in-Name.field-0)) first c.behind.ensures, λ k. d.took (left c.args.tokens.now c.args.at) (left c.args.tokens.now c.behind.result) (t.name (string_bytes c.in_ok-text-in-Name.field-0)) (s.condition c.args.depth ∷ k) k c.args.depth first c.behind.ensures refl (omega arith))
 

@@ -30,7 +30,7 @@ use Rattle.sbl_grammar.proofs.Views as views
 use Rattle.sbl_grammar.proofs.entries.entries.Goals as goal
 
 pub loop-entries-preserved : goal.loop-entries-preserved
-loop-entries-preserved c = 
+loop-entries-preserved c =
     let first : (left c.args.tokens.now c.loop-entries.rest) ≡ (t.literal (first_literal (drop c.loop-entries.rest c.args.tokens.now))) ∷ drop 1 (left c.args.tokens.now c.loop-entries.rest) = d.as_literal (drop c.loop-entries.rest c.args.tokens.now) (sym c.role.ensures ∙ c.in-Literal.is) in
     let last : trees.Entry = view.view_entry c.in_ok-entry.entry in
     let more : map view.view_entry c.push.new.self.items ≡ map view.view_entry c.loop-entries.entries.items ++ last ∷ [] = ap (λ (xs : List Entry). map view.view_entry xs) c.in_ok-push.ensures.items ∙ map_push view.view_entry c.loop-entries.entries.items _ in

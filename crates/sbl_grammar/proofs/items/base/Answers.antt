@@ -35,12 +35,12 @@ pub behind-requires : goal.behind-requires
 behind-requires c = d.some_first (left c.args.tokens.now c.args.at) _ (sym c.role.ensures ∙ c.in-Base.is) (λ e. cc)
 
 pub returns-in-Base-clause-spelled : goal.returns-in-Base-clause-spelled
-returns-in-Base-clause-spelled c = 
+returns-in-Base-clause-spelled c =
     let first : (left c.args.tokens.now c.args.at) ≡ (t.base c.in-Base.base) ∷ drop 1 (left c.args.tokens.now c.args.at) = d.as_terminal (left c.args.tokens.now c.args.at) (t.base c.in-Base.base) refl (sym c.role.ensures ∙ c.in-Base.is) in
     d.headed (left c.args.tokens.now c.args.at) (left c.args.tokens.now c.behind.result) (t.base c.in-Base.base) first c.behind.ensures
 
 pub returns-in-Base-clause-faults : goal.returns-in-Base-clause-faults
-returns-in-Base-clause-faults c = 
+returns-in-Base-clause-faults c =
     let first : (left c.args.tokens.now c.args.at) ≡ (t.base c.in-Base.base) ∷ drop 1 (left c.args.tokens.now c.args.at) = d.as_terminal (left c.args.tokens.now c.args.at) (t.base c.in-Base.base) refl (sym c.role.ensures ∙ c.in-Base.is) in
     λ k. d.took (left c.args.tokens.now c.args.at) (left c.args.tokens.now c.behind.result) (t.base c.in-Base.base) (s.base ∷ k) k 0 first c.behind.ensures refl (omega arith)
 

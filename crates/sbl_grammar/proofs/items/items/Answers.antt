@@ -32,13 +32,13 @@ use Rattle.sbl_grammar.proofs.Views as views
 use Rattle.sbl_grammar.proofs.items.items.Goals as goal
 
 pub returns-in_err-item : goal.returns-in_err-item
-returns-in_err-item c = 
+returns-in_err-item c =
     let begun : begins_item (role_of (left c.args.tokens.now c.loop-alloc.rest)) ≡ true = sym (c.begins_item.ensures ∙ ap (λ (r : Role). begins_item r) c.role.ensures) ∙ c.loop-alloc-test.true in
     let p = err_from_is_err_and c.from_residual.result c.from_residual.ensures.1 in
     rw (p.1, p.2) (λ k. d.fails_along c.args.tokens.now c.in_err-item.field-0.0 (fault (left c.args.tokens.now c.args.at) (s.items ∷ k)) _ (c.loop-alloc.invariant.faults k ∙ d.item_first (left c.args.tokens.now c.loop-alloc.rest) k begun) (c.in_err-item.ensures (s.items ∷ k)))
 
 pub loop-alloc-preserved : goal.loop-alloc-preserved
-loop-alloc-preserved c = 
+loop-alloc-preserved c =
     let begun : begins_item (role_of (left c.args.tokens.now c.loop-alloc.rest)) ≡ true = sym (c.begins_item.ensures ∙ ap (λ (r : Role). begins_item r) c.role.ensures) ∙ c.loop-alloc-test.true in
     let last : trees.Item = view.view_item c.in_ok-item.item in
     let more : map view.view_item c.push.new.self.items ≡ map view.view_item c.loop-alloc.items.items ++ last ∷ [] = ap (λ (xs : List Item). map view.view_item xs) c.in_ok-push.ensures.items ∙ map_push view.view_item c.loop-alloc.items.items _ in

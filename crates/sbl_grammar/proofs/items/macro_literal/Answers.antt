@@ -32,7 +32,7 @@ use Rattle.sbl_grammar.proofs.Views as views
 use Rattle.sbl_grammar.proofs.items.macro_literal.Goals as goal
 
 pub returns-in_ok-literal-in-Literal : goal.returns-in_ok-literal-in-Literal
-returns-in_ok-literal-in-Literal c = 
+returns-in_ok-literal-in-Literal c =
     let first : (left c.args.tokens.now c.args.at) ≡ (t.literal (view.view_literal c.in_ok-literal-in-Literal.field-0)) ∷ drop 1 (left c.args.tokens.now c.args.at) = d.as_literal (drop c.args.at c.args.tokens.now) (sym c.role.ensures ∙ c.in-Literal.is) ∙ ap (λ (q : t.Quoted). t.literal q ∷ drop 1 (left c.args.tokens.now c.args.at)) (sym c.in_ok-literal-in-Literal.ensures) in
     (d.headed (left c.args.tokens.now c.args.at) (left c.args.tokens.now c.behind.result) (t.literal (view.view_literal c.in_ok-literal-in-Literal.field-0)) first c.behind.ensures, λ k. d.took (left c.args.tokens.now c.args.at) (left c.args.tokens.now c.behind.result) (t.literal (view.view_literal c.in_ok-literal-in-Literal.field-0)) (s.literal ∷ k) k 0 first c.behind.ensures refl (omega arith))
 

@@ -32,7 +32,7 @@ use Rattle.sbl_grammar.proofs.Views as views
 use Rattle.sbl_grammar.proofs.items.macro_name.Goals as goal
 
 pub returns-in_ok-text-in-MacroName : goal.returns-in_ok-text-in-MacroName
-returns-in_ok-text-in-MacroName c = 
+returns-in_ok-text-in-MacroName c =
     let first : (left c.args.tokens.now c.args.at) ≡ (t.macro_name (string_bytes c.in_ok-text-in-MacroName.field-0)) ∷ drop 1 (left c.args.tokens.now c.args.at) = d.as_macro (drop c.args.at c.args.tokens.now) (sym c.role.ensures ∙ c.in-MacroName.is) ∙ ap (λ (n : List ℕ). t.macro_name n ∷ drop 1 (left c.args.tokens.now c.args.at)) (sym c.in_ok-text-in-MacroName.ensures) in
     (d.headed (left c.args.tokens.now c.args.at) (left c.args.tokens.now c.behind.result) (t.macro_name (string_bytes c.in_ok-text-in-MacroName.field-0)) first c.behind.ensures, λ k. d.took (left c.args.tokens.now c.args.at) (left c.args.tokens.now c.behind.result) (t.macro_name (string_bytes c.in_ok-text-in-MacroName.field-0)) (s.macro ∷ k) k 0 first c.behind.ensures refl (omega arith))
 

@@ -35,7 +35,7 @@ pub behind-rest-requires : goal.behind-rest-requires
 behind-rest-requires c = d.some_first (left c.args.tokens.now c.loop-names.rest) _ (sym c.role.ensures ∙ c.in-Name.is) (λ e. cc)
 
 pub loop-names-preserved : goal.loop-names-preserved
-loop-names-preserved c = 
+loop-names-preserved c =
     let first : (left c.args.tokens.now c.loop-names.rest) ≡ (t.name (string_bytes c.in_ok-text.field-0)) ∷ drop 1 (left c.args.tokens.now c.loop-names.rest) = d.as_name (drop c.loop-names.rest c.args.tokens.now) (sym c.role.ensures ∙ c.in-Name.is) ∙ ap (λ (n : List ℕ). t.name n ∷ drop 1 (left c.args.tokens.now c.loop-names.rest)) (sym c.in_ok-text.ensures) in
     let last : List ℕ = string_bytes c.in_ok-text.field-0 in
     let more : map string_bytes c.push.new.self.items ≡ map string_bytes c.loop-names.names.items ++ last ∷ [] = rw c.in_ok-push.ensures.items (map_push _ c.loop-names.names.items c.in_ok-text.field-0) in

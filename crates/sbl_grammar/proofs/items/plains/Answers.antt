@@ -32,13 +32,13 @@ use Rattle.sbl_grammar.proofs.Views as views
 use Rattle.sbl_grammar.proofs.items.plains.Goals as goal
 
 pub returns-in_err-plain : goal.returns-in_err-plain
-returns-in_err-plain c = 
+returns-in_err-plain c =
     let begun : begins_plain (role_of (left c.args.tokens.now c.loop-alloc.rest)) ≡ true = sym (c.begins_plain.ensures ∙ ap (λ (r : Role). begins_plain r) c.role.ensures) ∙ c.loop-alloc-test.true in
     let p = err_from_is_err_and c.from_residual.result c.from_residual.ensures.1 in
     rw (p.1, p.2) (λ k. d.fails_along c.args.tokens.now c.in_err-plain.field-0.0 (fault (left c.args.tokens.now c.args.at) (s.plains ∷ k)) _ (c.loop-alloc.invariant.faults k ∙ d.plain_first (left c.args.tokens.now c.loop-alloc.rest) k begun) (c.in_err-plain.ensures (s.plains ∷ k)))
 
 pub loop-alloc-preserved : goal.loop-alloc-preserved
-loop-alloc-preserved c = 
+loop-alloc-preserved c =
     let begun : begins_plain (role_of (left c.args.tokens.now c.loop-alloc.rest)) ≡ true = sym (c.begins_plain.ensures ∙ ap (λ (r : Role). begins_plain r) c.role.ensures) ∙ c.loop-alloc-test.true in
     let last : trees.Plain = view.view_plain c.in_ok-plain.plain in
     let more : map view.view_plain c.push.new.self.items ≡ map view.view_plain c.loop-alloc.plains.items ++ last ∷ [] = ap (λ (xs : List Plain). map view.view_plain xs) c.in_ok-push.ensures.items ∙ map_push view.view_plain c.loop-alloc.plains.items _ in

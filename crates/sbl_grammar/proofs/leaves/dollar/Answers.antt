@@ -39,6 +39,6 @@ pub values_compared-requires-clause-second : goal.values_compared-requires-claus
 values_compared-requires-clause-second c = ap role_of (sym c.behind-rest.ensures) ∙ sym c.role.ensures ∙ c.in-Open.is
 
 pub returns-in_default : goal.returns-in_default
-returns-in_default c = 
+returns-in_default c =
     let first : (left c.args.tokens.now c.args.at) ≡ t.dollar ∷ drop 1 (left c.args.tokens.now c.args.at) = d.as_terminal (left c.args.tokens.now c.args.at) t.dollar refl c.requires.first in
     rw c.syntax.ensures (λ k. d.took (left c.args.tokens.now c.args.at) (left c.args.tokens.now c.behind-rest.result) t.dollar (s.command c.args.depth ∷ k) (s.subject c.args.depth ∷ k) c.args.depth first c.behind-rest.ensures refl (omega arith) ∙ d.refused_subject (left c.args.tokens.now c.behind-rest.result) c.args.depth k (λ e. c.in_default.not-Name (c.role.ensures ∙ e)) (λ e. c.in_default.not-Open (c.role.ensures ∙ e)))
