@@ -1,0 +1,7 @@
+//! Snowball scripts that have passed all checks.
+#![tactic(auto)]
+
+mod marking;
+mod marks;
+
+pub use marks::{Mark, Mode, Notice, Place, Use};
