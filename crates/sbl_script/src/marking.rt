@@ -1,7 +1,8 @@
 //! The marks of a script, in text order.
 
-ghost use Rattle.std.specs.Prelude.{◌≡◌, ◌∷◌, ◌++◌, length, map, OnOk, string_bytes};
-ghost use Rattle.sbl_grammar.specs.View.{view_argument, view_expression, view_factor, view_product, view_sums, view_scales, view_entry, view_command, view_rows, view_others, view_starter, view_among, view_groups, view_row, view_term, view_name};
+ghost use Rattle.std.specs.Prelude.{◌≡◌, List, map, OnOk};
+ghost use Rattle.sbl_grammar.specs.View.{view_argument, view_expression, view_factor, view_product, view_sums, view_scales, view_entry, view_command, view_rows, view_others, view_starter, view_among, view_groups, view_row, view_term};
+ghost use Rattle.sbl_grammar.specs.Tree as trees;
 ghost use Rattle.sbl_script.specs.Marks as spec;
 ghost use Rattle.sbl_script.specs.MarkView.{view_notice, view_marks};
 
@@ -77,4 +78,181 @@ fn mark_factor<'a>(factor: &'a Factor, place: Place, marks: &mut Vec<Mark<'a>>) 
         Factor::LenOf(string) => mark_string(string, place, marks),
         Factor::Number(_) | Factor::Constant(_) => Ok(()),
     }
+}
+
+fn mark_simple(simple: Simple, place: Place, marks: &mut Vec<Mark>) -> Result<(), AllocError>
+    ensures { OnOk result (view_marks marks.new.items ≡ spec.marked_simple simple place (view_marks marks.old.items)) }
+{
+    match simple {
+        Simple::Substring => put(Notice::Substring, place, marks),
+        _ => Ok(()),
+    }
+}
+
+fn mark_prefix(prefix: Prefix, place: Place, marks: &mut Vec<Mark>) -> Result<(), AllocError>
+    ensures { OnOk result (view_marks marks.new.items ≡ spec.marked_prefix prefix place (view_marks marks.old.items)) }
+{
+    match prefix {
+        Prefix::Backwards => put(Notice::Backwards, place, marks),
+        _ => Ok(()),
+    }
+}
+
+/// The place of a command behind a prefix.
+fn place_behind(prefix: Prefix, place: Place) -> Place
+    ensures { result ≡ spec.place_behind prefix place }
+{
+    match prefix {
+        Prefix::Backwards => Place {
+            item: place.item,
+            mode: Mode::Backward,
+        },
+        _ => place,
+    }
+}
+
+fn use_of(naming: Naming) -> Use
+    ensures { result ≡ spec.use_of naming }
+{
+    match naming {
+        Naming::SetMark => Use::Integer,
+        Naming::Set | Naming::Unset => Use::Boolean,
+        Naming::Arrow => Use::String,
+    }
+}
+
+fn mark_entry<'a>(entry: &'a Entry, owner: usize, place: Place, marks: &mut Vec<Mark<'a>>) -> Result<(), AllocError>
+    ensures { OnOk result (view_marks marks.new.items ≡ spec.marked_entry (view_entry entry.now) owner place (view_marks marks.old.items)) }
+{
+    put(Notice::String(owner, entry.string.value.as_slice()), place, marks)?;
+    match &entry.condition {
+        None => Ok(()),
+        Some(name) => put(Notice::Uses(Use::Condition, name.as_str()), place, marks),
+    }
+}
+
+fn mark_entries<'a>(entries: &'a Vec<Entry>, owner: usize, place: Place, marks: &mut Vec<Mark<'a>>) -> Result<(), AllocError>
+    ensures { OnOk result (view_marks marks.new.items ≡ spec.marked_entries (map view_entry entries.now.items) owner place (view_marks marks.old.items)) }
+{
+    for entry in entries {
+        mark_entry(entry, owner, place, marks)?;
+    }
+    Ok(())
+}
+
+fn has_starter(among: &Among) -> bool
+    ensures { result ≡ spec.has_starter (view_among among.now).0 }
+{
+    among.starter.is_some()
+}
+
+fn is_empty(among: &Among) -> bool
+    ensures { result ≡ spec.is_empty (view_among among.now).1 }
+{
+    has_none(&among.groups, &among.bare)
+}
+
+fn has_none(groups: &[Group], bare: &[Entry]) -> bool
+    ensures { result ≡ spec.is_empty (view_groups groups.now (map view_entry bare.now)) }
+{
+    groups.is_empty() && bare.is_empty()
+}
+
+/// The marks of a command.
+#[cycle(commands)]
+fn mark_command<'a>(command: &'a Command, place: Place, marks: &mut Vec<Mark<'a>>) -> Result<(), AllocError>
+    ensures { OnOk result (view_marks marks.new.items ≡ spec.marked (view_command command.now) place (view_marks marks.old.items)) }
+{
+    match command {
+        Command::Bracket(rows) => mark_rows(rows, place, marks),
+        Command::Simple(simple) => mark_simple(*simple, place, marks),
+        Command::Literal(_) => Ok(()),
+        Command::Name(name) => put(Notice::Uses(Use::Command, name.as_str()), place, marks),
+        Command::Non { with_minus: _, name } => put(Notice::Uses(Use::Excluded, name.as_str()), place, marks),
+        Command::Prefixed(prefix, inner) => {
+            mark_prefix(*prefix, place, marks)?;
+            mark_command(inner, place_behind(*prefix, place), marks)
+        }
+        Command::Counted(_, number, inner) => {
+            mark_expression(number, place, marks)?;
+            mark_command(inner, place, marks)
+        }
+        Command::Move(_, number) => mark_expression(number, place, marks),
+        Command::Named(naming, name) => put(Notice::Uses(use_of(*naming), name.as_str()), place, marks),
+        Command::Edit(_, string) => mark_string(string, place, marks),
+        Command::SetLimit(first, second) => {
+            mark_command(first, place, marks)?;
+            mark_command(second, place, marks)
+        }
+        Command::Assign(name, _, number) | Command::Compare(name, _, number) => {
+            put(Notice::Uses(Use::Integer, name.as_str()), place, marks)?;
+            mark_expression(number, place, marks)
+        }
+        Command::CompareValues(first, _, second) => {
+            mark_expression(first, place, marks)?;
+            mark_expression(second, place, marks)
+        }
+        Command::Among(among) => mark_among(among, place, marks),
+    }
+}
+
+#[cycle(commands)]
+fn mark_rows<'a>(rows: &'a Vec<Row>, place: Place, marks: &mut Vec<Mark<'a>>) -> Result<(), AllocError>
+    ensures { OnOk result (view_marks marks.new.items ≡ spec.marked_rows (view_rows rows.now.items) place (view_marks marks.old.items)) }
+{
+    for row in rows {
+        mark_row(row, place, marks)?;
+    }
+    Ok(())
+}
+
+#[cycle(commands)]
+fn mark_row<'a>(row: &'a Row, place: Place, marks: &mut Vec<Mark<'a>>) -> Result<(), AllocError>
+    ensures { OnOk result (view_marks marks.new.items ≡ spec.marked_others (view_row row.now).1 place (spec.marked (view_row row.now).0 place (view_marks marks.old.items))) }
+{
+    mark_command(&row.first, place, marks)?;
+    mark_others(&row.others, place, marks)
+}
+
+#[cycle(commands)]
+fn mark_others<'a>(others: &'a Vec<Joined>, place: Place, marks: &mut Vec<Mark<'a>>) -> Result<(), AllocError>
+    ensures { OnOk result (view_marks marks.new.items ≡ spec.marked_others (view_others others.now.items) place (view_marks marks.old.items)) }
+{
+    for joined in others {
+        mark_command(&joined.command, place, marks)?;
+    }
+    Ok(())
+}
+
+/// The marks of an among, of its starter, and then string by string and group by group.
+#[cycle(commands)]
+fn mark_among<'a>(among: &'a Among, place: Place, marks: &mut Vec<Mark<'a>>) -> Result<(), AllocError>
+    ensures { OnOk result (view_marks marks.new.items ≡ spec.marked (trees.chosen (view_among among.now).0 (view_among among.now).1) place (view_marks marks.old.items)) }
+{
+    let owner = marks.len();
+    let notice = Notice::Among {
+        has_starter: has_starter(among),
+        is_empty: is_empty(among),
+    };
+    put(notice, place, marks)?;
+    if let Some(rows) = &among.starter {
+        mark_rows(rows, place, marks)?;
+        put(Notice::RegionEnd, place, marks)?;
+    }
+    mark_groups(&among.groups, owner, place, marks)?;
+    mark_entries(&among.bare, owner, place, marks)
+}
+
+#[cycle(commands)]
+fn mark_groups<'a>(groups: &'a Vec<Group>, owner: usize, place: Place, marks: &mut Vec<Mark<'a>>) -> Result<(), AllocError>
+    ensures { OnOk result ((bare : List trees.Entry) →
+        spec.marked_entries bare owner place (view_marks marks.new.items) ≡ spec.marked_groups (view_groups groups.now.items bare) owner place (view_marks marks.old.items)) }
+{
+    for group in groups {
+        mark_entry(&group.first, owner, place, marks)?;
+        mark_entries(&group.others, owner, place, marks)?;
+        mark_rows(&group.rows, place, marks)?;
+        put(Notice::RegionEnd, place, marks)?;
+    }
+    Ok(())
 }
