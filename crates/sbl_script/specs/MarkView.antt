@@ -1,10 +1,10 @@
 -- A mark without where its names lie in memory.
-use Rattle.std.specs.Prelude.{◌≡◌, ◌++◌, ℕ, List, map, Result, OnOk}
-use Rattle.sbl_grammar.specs.Tree as trees
+use Rattle.std.specs.Prelude.{List, map}
 use Rattle.sbl_grammar.specs.View.{view_plain}
 use Rattle.sbl_script.specs.declared.marks.Notice.{Notice}
 use Rattle.sbl_script.specs.declared.marks.Notice.TheVariants as notices
 use Rattle.sbl_script.specs.declared.marks.Mark.{Mark}
+use Rattle.sbl_script.specs.declared.marks.Stated.{Stated}
 use Rattle.sbl_script.specs.Marks as spec
 
 abbrev pub view_notice : Notice → spec.Notice
@@ -23,3 +23,6 @@ view_mark m = record { place = m.place; notice = view_notice m.notice }
 
 abbrev pub view_marks : List Mark → List spec.Mark
 view_marks ms = map view_mark ms
+
+abbrev pub view_stated : Stated → spec.Stated
+view_stated s = record { mode = s.mode; plain = view_plain s.plain.now }

@@ -168,14 +168,16 @@ pub record Stated : Type 0 where
   pub mode : Mode
   pub plain : Plain
 
-abbrev pub stated_in : Mode → List Plain → List Stated
-stated_in m ps = map (λ (x : Plain). record { mode = m; plain = x }) ps
+-- items of this mode, behind those so far
+abbrev pub stated_in : Mode → List Plain → List Stated → List Stated
+stated_in m [] sofar = sofar
+stated_in m (x ∷ xs) sofar = stated_in m xs (sofar ++ (record { mode = m; plain = x }) ∷ [])
 
--- the items in text order, those of a backwardmode in its place
-abbrev pub stated : List Item → List Stated
-stated [] = []
-stated (plain x ∷ is) = record { mode = Forward; plain = x } ∷ stated is
-stated (backward ps ∷ is) = stated_in Backward ps ++ stated is
+-- the items in text order, those of a backwardmode in its place, behind those so far
+abbrev pub stated : List Item → List Stated → List Stated
+stated [] sofar = sofar
+stated (plain x ∷ is) sofar = stated is (sofar ++ (record { mode = Forward; plain = x }) ∷ [])
+stated (backward xs ∷ is) sofar = stated is (stated_in Backward xs sofar)
 
 -- the marks of some items, of which the first has this number
 abbrev pub marked_items : List Stated → ℕ → List Mark → List Mark
@@ -184,4 +186,4 @@ marked_items (x ∷ xs) n sofar = marked_items xs (n + 1) (marked_plain x.plain 
 
 -- the marks of a script, its items counted from 1
 abbrev pub marks_of : List Item → List Mark
-marks_of items = marked_items (stated items) 1 []
+marks_of items = marked_items (stated items []) 1 []

@@ -1,16 +1,17 @@
 //! The marks of a script, in text order.
 
-ghost use Rattle.std.specs.Prelude.{◌≡◌, List, map, OnOk};
-ghost use Rattle.sbl_grammar.specs.View.{view_argument, view_expression, view_factor, view_product, view_sums, view_scales, view_entry, view_command, view_rows, view_others, view_starter, view_among, view_groups, view_row, view_term};
+ghost use Rattle.std.specs.Prelude.{◌≡◌, [], ◌∷◌, List, map, OnOk, IfOk, string_bytes};
+ghost use Rattle.sbl_grammar.specs.View.{view_argument, view_expression, view_factor, view_product, view_sums, view_scales, view_entry, view_command, view_rows, view_others, view_starter, view_among, view_groups, view_row, view_term, view_plain, view_items};
 ghost use Rattle.sbl_grammar.specs.Tree as trees;
 ghost use Rattle.sbl_script.specs.Marks as spec;
-ghost use Rattle.sbl_script.specs.MarkView.{view_notice, view_marks};
+ghost use Rattle.sbl_script.specs.MarkView.{view_notice, view_marks, view_stated};
 
-use crate::marks::{Mark, Mode, Notice, Place, Use};
+use crate::marks::{Mark, Mode, Notice, Place, Stated, Use};
 use sbl_grammar::{
-    Added, Among, Argument, Command, DeclarationKind, Entry, Expression, Factor, Group, Joined, Naming, Prefix, Product, Row, Scaled, Simple, Term,
+    Added, Among, Argument, Command, DeclarationKind, Entry, Expression, Factor, Group, Item, Joined, Naming, Plain, Prefix, Product, Row,
+    Scaled, Simple, Term,
 };
-use std::alloc::AllocError;
+use std::alloc::{AllocError, Global};
 
 /// Puts a mark behind the others.
 fn put<'a>(notice: Notice<'a>, place: Place, marks: &mut Vec<Mark<'a>>) -> Result<(), AllocError>
@@ -255,4 +256,109 @@ fn mark_groups<'a>(groups: &'a Vec<Group>, owner: usize, place: Place, marks: &m
         put(Notice::RegionEnd, place, marks)?;
     }
     Ok(())
+}
+
+fn mark_names<'a>(kind: DeclarationKind, names: &'a Vec<String>, place: Place, marks: &mut Vec<Mark<'a>>) -> Result<(), AllocError>
+    ensures { OnOk result (view_marks marks.new.items ≡ spec.marked_names kind (map string_bytes names.now.items) place (view_marks marks.old.items)) }
+{
+    for name in names {
+        put(Notice::Declares(kind, name.as_str()), place, marks)?;
+    }
+    Ok(())
+}
+
+fn mark_term<'a>(argument: &'a Argument, place: Place, marks: &mut Vec<Mark<'a>>) -> Result<(), AllocError>
+    ensures { OnOk result (view_marks marks.new.items ≡ spec.marked_term (view_argument argument.now) place (view_marks marks.old.items)) }
+{
+    match argument {
+        Argument::Literal(_) => Ok(()),
+        Argument::Name(name) => put(Notice::Uses(Use::Term, name.as_str()), place, marks),
+    }
+}
+
+fn mark_terms<'a>(terms: &'a Vec<Term>, place: Place, marks: &mut Vec<Mark<'a>>) -> Result<(), AllocError>
+    ensures { OnOk result (view_marks marks.new.items ≡ spec.marked_terms (map view_term terms.now.items) place (view_marks marks.old.items)) }
+{
+    for term in terms {
+        mark_term(&term.argument, place, marks)?;
+    }
+    Ok(())
+}
+
+fn mark_plain<'a>(plain: &'a Plain, place: Place, marks: &mut Vec<Mark<'a>>) -> Result<(), AllocError>
+    ensures { OnOk result (view_marks marks.new.items ≡ spec.marked_plain (view_plain plain.now) place (view_marks marks.old.items)) }
+{
+    match plain {
+        Plain::Declaration(kind, names) => mark_names(*kind, names, place, marks),
+        Plain::StringEscapes(_, _) => Ok(()),
+        Plain::StringDef {
+            name: _,
+            base: _,
+            value: _,
+        } => Ok(()),
+        Plain::Routine { name, body } => {
+            put(Notice::DefinesRoutine(name.as_str()), place, marks)?;
+            mark_row(body, place, marks)?;
+            put(Notice::RegionEnd, place, marks)
+        }
+        Plain::Grouping { name, first, others } => {
+            put(Notice::DefinesGrouping(name.as_str()), place, marks)?;
+            mark_term(first, place, marks)?;
+            mark_terms(others, place, marks)
+        }
+    }
+}
+
+fn state_in<'a>(mode: Mode, plains: &'a Vec<Plain>, stated: &mut Vec<Stated<'a>>) -> Result<(), AllocError>
+    ensures { OnOk result (map view_stated stated.new.items ≡ spec.stated_in mode (map view_plain plains.now.items) (map view_stated stated.old.items)) }
+{
+    for plain in plains {
+        stated.push(Stated { mode, plain })?;
+    }
+    Ok(())
+}
+
+/// The items in text order, those of a `backwardmode` in its place.
+fn state<'a>(alloc: Global, items: &'a [Item]) -> Result<Vec<Stated<'a>>, AllocError>
+    ensures { IfOk result (λ all. map view_stated all.items ≡ spec.stated (view_items items.now) []) }
+{
+    let mut all = Vec::new(alloc);
+    for item in items {
+        match item {
+            Item::Plain(plain) => state_in_forward(plain, &mut all)?,
+            Item::BackwardMode(plains) => state_in(Mode::Backward, plains, &mut all)?,
+        }
+    }
+    Ok(all)
+}
+
+fn state_in_forward<'a>(plain: &'a Plain, stated: &mut Vec<Stated<'a>>) -> Result<(), AllocError>
+    ensures { OnOk result (map view_stated stated.new.items ≡ spec.stated_in Mode.Forward (view_plain plain.now ∷ []) (map view_stated stated.old.items)) }
+{
+    stated.push(Stated {
+        mode: Mode::Forward,
+        plain,
+    })?;
+    Ok(())
+}
+
+fn mark_stated<'a>(stated: &[Stated<'a>], marks: &mut Vec<Mark<'a>>) -> Result<(), AllocError>
+    ensures { OnOk result (view_marks marks.new.items ≡ spec.marked_items (map view_stated stated.now) 1 (view_marks marks.old.items)) }
+{
+    let mut item = 0;
+    for one in stated {
+        item += 1;
+        mark_plain(one.plain, Place { item, mode: one.mode }, marks)?;
+    }
+    Ok(())
+}
+
+/// The marks of a script, its items counted from 1.
+pub fn marks_of<'a>(alloc: Global, items: &'a [Item]) -> Result<Vec<Mark<'a>>, AllocError>
+    ensures { IfOk result (λ marks. view_marks marks.items ≡ spec.marks_of (view_items items.now)) }
+{
+    let stated = state(alloc, items)?;
+    let mut marks = Vec::new(alloc);
+    mark_stated(&stated, &mut marks)?;
+    Ok(marks)
 }

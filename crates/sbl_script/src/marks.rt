@@ -1,6 +1,6 @@
 //! What the checks look at in a script.
 
-use sbl_grammar::DeclarationKind;
+use sbl_grammar::{DeclarationKind, Plain};
 
 /// Which way a command goes through the text.
 #[derive(Clone, Copy, Debug, PartialEq, Eq)]
@@ -70,4 +70,11 @@ pub enum Notice<'a> {
 pub struct Mark<'a> {
     pub place: Place,
     pub notice: Notice<'a>,
+}
+
+/// An item with the mode in which it stands.
+#[derive(Clone, Copy)]
+pub struct Stated<'a> {
+    pub mode: Mode,
+    pub plain: &'a Plain,
 }
