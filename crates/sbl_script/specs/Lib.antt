@@ -1,2 +1,4 @@
 pub mod Marks
+pub mod Checks
 pub mod MarkView
+pub mod Met

@@ -1,6 +1,7 @@
 //! Snowball scripts that have passed all checks.
 #![tactic(auto)]
 
+mod checks;
 mod marking;
 mod marks;
 

@@ -1,0 +1,37 @@
+-- What the code has met among some marks.
+use Rattle.std.specs.Prelude.{◌≡◌, ℕ, Bool, false, List, Option, Some, None, Result, Ok, Err, ◌⊎◌}
+use Rattle.std.specs.Ordering.{nat_cmp, ordering_then}
+use Rattle.std.specs.Cmp.Lexicographic.{slice_cmp}
+use Rattle.std.specs.BTreeMap.{BTreeMap, get_by}
+use Rattle.std.specs.BTreeSet.{BTreeSet, contains_by}
+use denote.Ref.{Bor}
+use Rattle.sbl_text.specs.declared.fault.ScriptFault.{ScriptFault}
+use Rattle.sbl_text.specs.declared.fault.ScriptFault.TheVariants as fault
+use Rattle.sbl_grammar.specs.declared.tree.DeclarationKind.{DeclarationKind}
+use Rattle.sbl_script.specs.declared.marks.Place.{Place}
+use Rattle.sbl_script.specs.declared.checks.Met.{Met}
+use Rattle.sbl_script.specs.Marks.{Mark}
+use Rattle.sbl_script.specs.Checks.{kind_of, definition_of, has_text, is_awaited}
+
+-- what a map with names has at a name
+abbrev pub at_name : {X : Type 0} → BTreeMap (Bor (List ℕ)) X → List ℕ → Option X
+at_name m n = get_by (λ k. slice_cmp nat_cmp n k.now) m
+
+-- a set of strings has this string of this among
+abbrev pub has_pair : BTreeSet (ℕ × Bor (List ℕ)) → ℕ → List ℕ → Bool
+has_pair s owner text = contains_by (λ k. ordering_then (nat_cmp owner k.0) (slice_cmp nat_cmp text k.1.now)) s
+
+-- where each name is defined first
+abbrev pub HasPlaces : BTreeMap (Bor (List ℕ)) Place → List Mark → Type 0
+HasPlaces m ms = (n : List ℕ) → at_name m n ≡ definition_of n ms
+
+-- the kinds of the names, the strings of the amongs, and whether a substring waits
+pub record HasMet (met : Met) (ms : List Mark) : Type 0 where
+  pub kinds : (n : List ℕ) → at_name met.kinds n ≡ kind_of n ms
+  pub strings : (owner : ℕ) (text : List ℕ) → has_pair met.strings owner text ≡ has_text owner text ms
+  pub waits : met.waits ≡ is_awaited ms false
+
+-- the fault that is answered is this, want of memory aside
+abbrev pub Finds : {X : Type 0} → Result X ScriptFault → Option ScriptFault → Type 0
+Finds (Ok x) found = found ≡ None
+Finds (Err e) found = (e ≡ fault.OutOfMemory) ⊎ (found ≡ Some e)
