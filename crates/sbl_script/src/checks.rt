@@ -169,6 +169,18 @@ pub struct Met<'a> {
     pub waits: bool,
 }
 
+fn kind_of<'a>(met: &Met<'a>, name: &'a str) -> Option<DeclarationKind>
+    ensures { result ≡ at_name met.now.kinds name.now }
+{
+    met.kinds.get(name).copied()
+}
+
+fn definition_of<'a>(places: &BTreeMap<&'a str, Place>, name: &'a str) -> Option<Place>
+    ensures { result ≡ at_name places.now name.now }
+{
+    places.get(name).copied()
+}
+
 /// The fault of a mark, with the marks behind it, with the places of the definitions, and with what was met before.
 fn fault_at<'a>(mark: &Mark<'a>, after: &[Mark<'a>], places: &BTreeMap<&'a str, Place>, met: &Met<'a>) -> Option<ScriptFault>
     ensures { (all before : List PlainMark) → HasPlaces places.now all → HasMet met.now before → result ≡ spec.fault_at all before (view_mark mark.now) (view_marks after.now) }
@@ -177,9 +189,9 @@ fn fault_at<'a>(mark: &Mark<'a>, after: &[Mark<'a>], places: &BTreeMap<&'a str, 
     let item = place.item;
     match mark.notice {
         Notice::Declares(_, name) => fault_if(met.kinds.contains_key(name), ScriptFault::DeclaredTwice { item }),
-        Notice::DefinesRoutine(name) => fault_of_definition(item, false, met.kinds.get(name).copied(), places.get(name).copied()),
-        Notice::DefinesGrouping(name) => fault_of_definition(item, true, met.kinds.get(name).copied(), places.get(name).copied()),
-        Notice::Uses(how, name) => fault_of_use(place, how, met.kinds.get(name).copied(), places.get(name).copied()),
+        Notice::DefinesRoutine(name) => fault_of_definition(item, false, kind_of(met, name), definition_of(places, name)),
+        Notice::DefinesGrouping(name) => fault_of_definition(item, true, kind_of(met, name), definition_of(places, name)),
+        Notice::Uses(how, name) => fault_of_use(place, how, kind_of(met, name), definition_of(places, name)),
         Notice::Substring => fault_if(!is_followed(place.mode, after), ScriptFault::Substring { item }),
         Notice::Among {
             has_starter,
