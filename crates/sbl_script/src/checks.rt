@@ -1,13 +1,17 @@
 //! What is asked of a script beside its grammar.
 
-ghost use Rattle.std.specs.Prelude.{◌≡◌, ◌∷◌, [], ◌++◌, List, not, is_some, ◌&&◌, IfOk, OnOk, if◌then◌else◌, Some, None, ◌==◌};
+ghost use Rattle.std.specs.Prelude.{◌≡◌, ℕ, ◌∷◌, [], ◌++◌, List, not, is_some, ◌||◌, nat_eq, ◌&&◌, IfOk, OnOk, if◌then◌else◌, Some, None, ◌==◌};
 ghost use Rattle.sbl_script.specs.Checks as spec;
 ghost use Rattle.sbl_script.specs.Marks.{Mark as PlainMark, marks_of as spec_marks};
 ghost use Rattle.sbl_script.specs.MarkView.{view_notice, view_mark, view_marks};
-ghost use Rattle.sbl_script.specs.Met.{at_name, has_pair, HasPlaces, HasMet, Finds};
+ghost use Rattle.sbl_script.specs.Met.{at_name, has_pair, HasPlaces, HasMet, Notes, Finds};
+ghost use Rattle.std.specs.Option.{option_or};
+ghost use Rattle.sbl_grammar.specs.View.{view_items};
+ghost use Rattle.std.specs.Str.{bytes_eq};
 
 use crate::marks::{Mark, Mode, Notice, Place, Use};
-use sbl_grammar::DeclarationKind;
+use crate::marking::marks_of;
+use sbl_grammar::{DeclarationKind, Item};
 use sbl_text::ScriptFault;
 use std::alloc::{AllocError, Global};
 use std::collections::{BTreeMap, BTreeSet};
@@ -200,5 +204,111 @@ fn fault_at<'a>(mark: &Mark<'a>, after: &[Mark<'a>], places: &BTreeMap<&'a str, 
         Notice::String(owner, text) => fault_if(met.strings.contains(&(owner, text)), ScriptFault::RepeatedString { item }),
         Notice::Backwards => fault_if(is_mode(Mode::Backward, place.mode), ScriptFault::NestedBackwards { item }),
         Notice::RegionEnd => None,
+    }
+}
+
+/// Keeps a value for a name that has none.
+fn keep_first<'a, T: Copy>(map: &mut BTreeMap<&'a str, T>, name: &'a str, value: T) -> Result<(), AllocError>
+    ensures { OnOk result ((n : List ℕ) → at_name map.new n ≡ option_or (at_name map.old n) (if bytes_eq n name.now then Some value else None)) }
+{
+    if !map.contains_key(name) {
+        map.insert(name, value)?;
+    }
+    Ok(())
+}
+
+/// Keeps a string of an among.
+fn keep_string<'a>(strings: &mut BTreeSet<(usize, &'a [char])>, owner: usize, text: &'a [char]) -> Result<(), AllocError>
+    ensures { OnOk result ((o : ℕ) (t : List ℕ) → has_pair strings.new o t ≡ (has_pair strings.old o t || (nat_eq o owner && bytes_eq t text.now))) }
+{
+    strings.insert((owner, text))?;
+    Ok(())
+}
+
+/// Notes what a mark says besides what was met.
+fn note<'a>(mark: &Mark<'a>, met: &mut Met<'a>) -> Result<(), AllocError>
+    ensures { OnOk result (Notes met.old met.new (view_notice mark.now.notice)) }
+{
+    match mark.notice {
+        Notice::Declares(kind, name) => keep_first(&mut met.kinds, name, kind)?,
+        Notice::String(owner, text) => keep_string(&mut met.strings, owner, text)?,
+        Notice::Substring => met.waits = true,
+        Notice::RegionEnd => met.waits = false,
+        Notice::Among {
+            has_starter: _,
+            is_empty: _,
+        } => met.waits = false,
+        _ => {}
+    }
+    Ok(())
+}
+
+/// Notes where a mark defines a name.
+fn note_definition<'a>(mark: &Mark<'a>, places: &mut BTreeMap<&'a str, Place>) -> Result<(), AllocError>
+    ensures { OnOk result ((n : List ℕ) → at_name places.new n ≡ option_or (at_name places.old n) (spec.defined_at n (view_mark mark.now))) }
+{
+    match mark.notice {
+        Notice::DefinesRoutine(name) | Notice::DefinesGrouping(name) => keep_first(places, name, mark.place),
+        _ => Ok(()),
+    }
+}
+
+/// Where each name is defined first.
+fn places_of<'a>(alloc: Global, marks: &[Mark<'a>]) -> Result<BTreeMap<&'a str, Place>, AllocError>
+    ensures { IfOk result (λ places. HasPlaces places (view_marks marks.now)) }
+{
+    let mut places = BTreeMap::new(alloc);
+    for mark in marks {
+        note_definition(mark, &mut places)?;
+    }
+    Ok(places)
+}
+
+/// Nothing is met yet.
+fn met_nothing<'a>(alloc: Global) -> Met<'a>
+    ensures { HasMet result [] }
+{
+    Met {
+        kinds: BTreeMap::new(alloc),
+        strings: BTreeSet::new(alloc),
+        waits: false,
+    }
+}
+
+/// The checks of all marks, in their order.
+fn check_marks<'a>(marks: &[Mark<'a>], places: &BTreeMap<&'a str, Place>, met: &mut Met<'a>) -> Result<(), ScriptFault>
+    requires places { HasPlaces places.now (view_marks marks.now) }
+    requires met { HasMet met.old [] }
+    ensures fault { Finds result (spec.fault_behind (view_marks marks.now) [] (view_marks marks.now)) }
+    ensures met { OnOk result (HasMet met.new (view_marks marks.now)) }
+{
+    for index in 0..marks.len() {
+        let mark = &marks[index];
+        if let Some(fault) = fault_at(mark, &marks[index + 1..], places, met) {
+            return Err(fault);
+        }
+        note(mark, met)?;
+    }
+    Ok(())
+}
+
+/// All checks of a script, whose external is asked for: the first fault in text order.
+pub fn check(alloc: Global, items: &[Item], external: &str) -> Result<(), ScriptFault>
+    ensures { Finds result (spec.fault_of (view_items items.now) external.now) }
+{
+    let marks = marks_of(alloc, items)?;
+    let places = places_of(alloc, &marks)?;
+    let mut met = met_nothing(alloc);
+    check_marks(&marks, &places, &mut met)?;
+    check_external(kind_of(&met, external), definition_of(&places, external))
+}
+
+/// The external is declared as such, and defined in forward mode.
+fn check_external(kind: Option<DeclarationKind>, definition: Option<Place>) -> Result<(), ScriptFault>
+    ensures { Finds result (if spec.is_external kind && spec.is_defined_in Mode.Forward definition then None else Some ScriptFault.NoExternal) }
+{
+    match (kind, definition) {
+        (Some(DeclarationKind::Externals), Some(place)) if is_mode(Mode::Forward, place.mode) => Ok(()),
+        _ => Err(ScriptFault::NoExternal),
     }
 }
