@@ -1,6 +1,6 @@
 //! What is asked of a script beside its grammar.
 
-ghost use Rattle.std.specs.Prelude.{◌≡◌, ℕ, ◌∷◌, [], ◌++◌, List, not, is_some, ◌||◌, nat_eq, ◌&&◌, IfOk, OnOk, if◌then◌else◌, Some, None, ◌==◌};
+ghost use Rattle.std.specs.Prelude.{◌≡◌, ℕ, ◌∷◌, [], ◌++◌, List, not, is_some, ◌||◌, ◌+◌, ◌<◌, length, drop, nat_eq, ◌&&◌, IfOk, OnOk, if◌then◌else◌, Some, None, ◌==◌};
 ghost use Rattle.sbl_script.specs.Checks as spec;
 ghost use Rattle.sbl_script.specs.Marks.{Mark as PlainMark, marks_of as spec_marks};
 ghost use Rattle.sbl_script.specs.MarkView.{view_notice, view_mark, view_marks};
@@ -275,6 +275,14 @@ fn met_nothing<'a>(alloc: Global) -> Met<'a>
     }
 }
 
+/// The marks behind one.
+fn behind<'a, 'b>(marks: &'b [Mark<'a>], index: usize) -> &'b [Mark<'a>]
+    requires { index < length marks.now }
+    ensures { result.now ≡ drop (index + 1) marks.now }
+{
+    &marks[index + 1..]
+}
+
 /// The checks of all marks, in their order.
 fn check_marks<'a>(marks: &[Mark<'a>], places: &BTreeMap<&'a str, Place>, met: &mut Met<'a>) -> Result<(), ScriptFault>
     requires places { HasPlaces places.now (view_marks marks.now) }
@@ -284,7 +292,7 @@ fn check_marks<'a>(marks: &[Mark<'a>], places: &BTreeMap<&'a str, Place>, met: &
 {
     for index in 0..marks.len() {
         let mark = &marks[index];
-        if let Some(fault) = fault_at(mark, &marks[index + 1..], places, met) {
+        if let Some(fault) = fault_at(mark, behind(marks, index), places, met) {
             return Err(fault);
         }
         note(mark, met)?;
