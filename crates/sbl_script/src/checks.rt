@@ -173,13 +173,13 @@ pub struct Met<'a> {
     pub waits: bool,
 }
 
-fn kind_of<'a>(met: &Met<'a>, name: &'a str) -> Option<DeclarationKind>
+fn kind_of(met: &Met, name: &str) -> Option<DeclarationKind>
     ensures { result ≡ at_name met.now.kinds name.now }
 {
     met.kinds.get(name).copied()
 }
 
-fn definition_of<'a>(places: &BTreeMap<&'a str, Place>, name: &'a str) -> Option<Place>
+fn definition_of(places: &BTreeMap<&str, Place>, name: &str) -> Option<Place>
     ensures { result ≡ at_name places.now name.now }
 {
     places.get(name).copied()
