@@ -4,5 +4,6 @@
 mod checks;
 mod marking;
 mod marks;
+mod script;
 
 pub use marks::{Mark, Mode, Notice, Place, Use};
