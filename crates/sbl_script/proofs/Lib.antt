@@ -1,3 +1,4 @@
 pub mod Marked
 pub mod Keeping
 pub mod Turns
+pub mod Places

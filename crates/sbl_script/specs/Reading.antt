@@ -92,12 +92,13 @@ pub record IsCheckFault (ts : List Placed) (external : List ℕ) (f : ScriptFaul
   pub tree : IsReadAs (terminals ts) items
   pub is : fault_of items external ≡ Some f
 
--- the tokens are those of no script
-abbrev pub IsTokensFault : List Placed → ℕ → List ℕ → ScriptFault → Type 0
-IsTokensFault ts end external f =
-    ((place : ℕ) × (first_left_out ts ≡ Some place) × (f ≡ fault.OutOfProfile place))
-    ⊎ ((first_left_out ts ≡ None) × (IsGrammarFault ts end f ⊎ IsCheckFault ts external f))
+-- a token is left out, or the tokens are those of no tree
+abbrev pub IsUnread : List Placed → ℕ → ScriptFault → Type 0
+IsUnread ts end f = ((place : ℕ) × (first_left_out ts ≡ Some place) × (f ≡ fault.OutOfProfile place)) ⊎ ((first_left_out ts ≡ None) × IsGrammarFault ts end f)
 
--- the bytes have this fault
+-- the bytes have this fault: as a text, else as tokens, else in a check
 abbrev pub IsFaultOf : List ℕ → List ℕ → ScriptFault → Type 0
-IsFaultOf bytes external f = IsTextFault bytes f ⊎ ((ts : List Placed) × HasTokens bytes ts × IsTokensFault ts (length bytes) external f)
+IsFaultOf bytes external f =
+    IsTextFault bytes f
+    ⊎ ((ts : List Placed) × HasTokens bytes ts × IsUnread ts (length bytes) f)
+    ⊎ ((ts : List Placed) × HasTokens bytes ts × (first_left_out ts ≡ None) × IsCheckFault ts external f)

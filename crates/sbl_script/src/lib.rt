@@ -7,3 +7,6 @@ mod marks;
 mod script;
 
 pub use marks::{Mark, Mode, Notice, Place, Use};
+pub use sbl_grammar as grammar;
+pub use sbl_text::ScriptFault;
+pub use script::Script;

@@ -1,6 +1,12 @@
 //! A checked script.
 
-ghost use Rattle.std.specs.Prelude.{◌≡◌, ◌⊎◌, ◌-◌, drop, length, map, IfOk, IfErr};
+ghost use Rattle.std.specs.Prelude.{◌≡◌, ◌⊎◌, ◌-◌, ◌≤◌, None, Some, drop, length, map, IfOk, IfErr};
+ghost use Rattle.std.specs.Str.{IsUtf8};
+ghost use Rattle.sbl_grammar.specs.Gives.{IsFaultOf as IsGrammarFault};
+ghost use Rattle.sbl_grammar.specs.Reading.{IsReadAs};
+ghost use Rattle.sbl_grammar.specs.Terminal.{terminals_of};
+ghost use Rattle.sbl_grammar.specs.View.{view_items};
+ghost use Rattle.sbl_script.specs.Checks.{WellDeclared, fault_of};
 ghost use Rattle.sbl_text.specs.Lexemes.{lexeme_of};
 ghost use Rattle.sbl_text.specs.Tokens.{placed_of};
 ghost use Rattle.sbl_script.specs.Reading as spec;
@@ -64,4 +70,129 @@ fn place_of(tokens: &[Token], left: usize, end: usize) -> usize
     ensures { result ≡ spec.place_of end (map placed_of (drop (length tokens.now - left) tokens.now)) }
 {
     first_place(&tokens[tokens.len().saturating_sub(left)..], end)
+}
+
+/// The fault of tokens that are no tree's, with its place in a text of so many bytes.
+fn grammar_fault(found: Fault, tokens: &[Token], end: usize) -> ScriptFault
+    requires { IsGrammarFault (terminals_of tokens.now) (ReadError.Fault found) }
+    ensures { spec.IsGrammarFault (map placed_of tokens.now) end result }
+{
+    match found {
+        Fault::Syntax(left) => ScriptFault::Syntax {
+            place: place_of(tokens, left, end),
+        },
+        Fault::TooDeep(left) => ScriptFault::TooDeep {
+            place: place_of(tokens, left, end),
+        },
+        Fault::OutOfProfile(left) => ScriptFault::OutOfProfile {
+            place: place_of(tokens, left, end),
+        },
+    }
+}
+
+/// The text of some bytes.
+fn text_of(bytes: &[u8]) -> Result<&str, ScriptFault>
+    ensures ok { IfOk result (λ s. (s.now ≡ bytes.now) × (length bytes.now ≤ spec.max_length) × IsUtf8 bytes.now) }
+    ensures fault { IfErr result (λ f. spec.IsTextFault bytes.now f) }
+{
+    if bytes.len() > MAX_LENGTH {
+        return Err(ScriptFault::ScriptTooLong);
+    }
+    match std::str::from_utf8(bytes) {
+        Ok(text) => Ok(text),
+        Err(_) => Err(ScriptFault::NotUtf8),
+    }
+}
+
+/// The tree of some tokens, in a text of so many bytes.
+fn tree_of(alloc: Global, tokens: &[Token], end: usize) -> Result<Vec<Item>, ScriptFault>
+    ensures offered { IfOk result (λ items. spec.first_left_out (map placed_of tokens.now) ≡ None) }
+    ensures tree { IfOk result (λ items. IsReadAs (spec.terminals (map placed_of tokens.now)) (view_items items.items)) }
+    ensures fault { IfErr result (λ f. (f ≡ ScriptFault.OutOfMemory) ⊎ spec.IsUnread (map placed_of tokens.now) end f) }
+{
+    if let Some(place) = first_left_out(tokens) {
+        return Err(ScriptFault::OutOfProfile { place });
+    }
+    match parse(alloc, tokens) {
+        Ok(items) => Ok(items),
+        Err(ReadError::Memory) => Err(ScriptFault::OutOfMemory),
+        Err(ReadError::Fault(found)) => Err(grammar_fault(found, tokens, end)),
+    }
+}
+
+/// A script that has passed all checks, and the name of the external that is run.
+#[derive(Drop)]
+pub struct Script {
+    items: Vec<Item>,
+    external: String,
+}
+
+impl Model for Script {
+    ghost use Rattle.std.specs.Prelude.{string_bytes};
+    ghost use Rattle.std.specs.Coded.{codes};
+    ghost use Rattle.sbl_grammar.specs.contracts.tree.Item as e;
+    ghost use Rattle.sbl_grammar.specs.View.{view_items};
+    ghost use Rattle.sbl_script.specs.Parsed.{Parsed};
+    ghost use Rattle.sbl_script.specs.Checks.{WellDeclared};
+
+    ghost Value = { Parsed };
+
+    ghost coded = { Prim.hlevel (codes, e.the_row.coded) };
+
+    ghost view = { λ s. record { items = s.items.items; external = string_bytes s.external } };
+
+    ghost invariant = { λ s. WellDeclared (view_items s.items.items) (string_bytes s.external) };
+}
+
+impl Script {
+    ghost use Rattle.sbl_script.specs.Parsed.{tree_of as items_of};
+
+    /// The script of a tree.
+    fn checked(alloc: Global, items: Vec<Item>, external: &str) -> Result<Script, ScriptFault>
+        ensures tree { IfOk result (λ s. items_of s ≡ view_items items.items) }
+        ensures external { IfOk result (λ s. s.external ≡ external.now) }
+        ensures well_declared { IfOk result (λ s. WellDeclared (view_items items.items) external.now) }
+        ensures fault { IfErr result (λ f. (f ≡ ScriptFault.OutOfMemory) ⊎ (fault_of (view_items items.items) external.now ≡ Some f)) }
+    {
+        check(alloc, &items, external)?;
+        let external = String::from_str(alloc, external)?;
+        Ok(Script { items, external })
+    }
+
+    /// The script of a text (UTF-8, at most 1,048,576 bytes), with the external that is run.
+    ///
+    /// Answers the first fault in this order: the text is too long; it is not UTF-8; something in it is no token; a token is
+    /// left out of what is offered here; a token cannot follow those before it or stands too deep; a check fails. Besides
+    /// `OutOfMemory` where memory was refused.
+    pub fn parse(alloc: Global, bytes: &[u8], external: &str) -> Result<Script, ScriptFault>
+        ensures read { IfOk result (λ s. spec.IsScriptOf bytes.now external.now (items_of s)) }
+        ensures external { IfOk result (λ s. s.external ≡ external.now) }
+        ensures fault { IfErr result (λ f. (f ≡ ScriptFault.OutOfMemory) ⊎ spec.IsFaultOf bytes.now external.now f) }
+    {
+        let text = text_of(bytes)?;
+        let found = tokens(alloc, text)?;
+        let items = tree_of(alloc, &found, text.len())?;
+        Script::checked(alloc, items, external)
+    }
+
+    /// The items, in text order.
+    pub fn items(&self) -> &[Item]
+        ensures { result.now ≡ self.now.items }
+    {
+        &self.items
+    }
+
+    /// The name of the external that is run.
+    pub fn external(&self) -> &str
+        ensures { result.now ≡ self.now.external }
+    {
+        self.external.as_str()
+    }
+
+    /// A script is well declared: nothing that uses it checks it again.
+    pub fn is_well_declared(&self)
+        ensures { WellDeclared (items_of self.now) self.now.external }
+    {
+        let _ = &self.external;
+    }
 }
