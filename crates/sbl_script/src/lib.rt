@@ -5,6 +5,8 @@ mod checks;
 mod marking;
 mod marks;
 mod script;
+#[cfg(test)]
+mod tests;
 
 pub use marks::{Mark, Mode, Notice, Place, Use};
 pub use sbl_grammar as grammar;
