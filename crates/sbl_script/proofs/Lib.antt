@@ -2,3 +2,6 @@ pub mod Marked
 pub mod Keeping
 pub mod Turns
 pub mod Places
+pub mod FirstFault
+pub mod Extends
+pub mod Sound

@@ -13,6 +13,7 @@ use Rattle.sbl_script.specs.declared.marks.Mode.TheVariants.{Forward, Backward}
 use Rattle.sbl_script.specs.declared.marks.Use.{Use}
 use Rattle.sbl_script.specs.declared.marks.Use.TheVariants as use_as
 use Rattle.sbl_script.specs.declared.marks.Place.{Place}
+use Rattle.sbl_script.specs.Parsed.{body_in}
 use Rattle.sbl_script.specs.Marks.{Mark, Notice, declares, defines_routine, defines_grouping, uses, substring, among, string, backwards, region_end, marks_of}
 
 -- ---- what marks say of a name
@@ -239,21 +240,17 @@ abbrev pub is_external : Option DeclarationKind → Bool
 is_external (Some kinds.Externals) = true
 is_external _ = false
 
-abbrev pub is_defined_in : Mode → Option Place → Bool
-is_defined_in mode None = false
-is_defined_in mode (Some p) = is_mode mode p.mode
-
 -- the name is declared in `externals` and defined in forward mode
-abbrev pub has_external : List ℕ → List Mark → Bool
-has_external external all = is_external (kind_of external all) && is_defined_in Forward (definition_of external all)
+abbrev pub has_external : List Item → List ℕ → List Mark → Bool
+has_external items external all = is_external (kind_of external all) && is_some (body_in external items)
 
 -- 21: the external that is asked for is not
-abbrev pub fault_of_external : List ℕ → List Mark → Option ScriptFault
-fault_of_external external all = if has_external external all then None else Some fault.NoExternal
+abbrev pub fault_of_external : List Item → List ℕ → List Mark → Option ScriptFault
+fault_of_external items external all = if has_external items external all then None else Some fault.NoExternal
 
 -- the first fault of a script with this external; that of the external comes last
 abbrev pub fault_of : List Item → List ℕ → Option ScriptFault
-fault_of items external = let all = marks_of items in option_or (fault_behind all [] all) (fault_of_external external all)
+fault_of items external = let all = marks_of items in option_or (fault_behind all [] all) (fault_of_external items external all)
 
 -- none of the checks fails
 abbrev pub WellDeclared : List Item → List ℕ → Type 0

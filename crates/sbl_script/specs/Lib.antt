@@ -1,7 +1,9 @@
 pub mod Marks
+pub mod Parsed
 pub mod Checks
+pub mod Laws
 pub mod Groupings
 pub mod Reading
-pub mod Parsed
 pub mod MarkView
 pub mod Met
+pub mod Amongs

@@ -12,6 +12,7 @@ use Rattle.sbl_text.specs.Tokens.{Placed, ArePlaced, IsFirstFault}
 use Rattle.sbl_grammar.specs.Terminal.{Terminal, terminal_of}
 use Rattle.sbl_grammar.specs.Tree.{Item}
 use Rattle.sbl_grammar.specs.Reading.{IsReadAs, IsSyntaxAt, IsTooDeepAt, IsOutOfProfileAt}
+use Rattle.sbl_script.specs.Parsed.{Source}
 use Rattle.sbl_script.specs.Checks.{WellDeclared, fault_of}
 
 -- the most bytes of a script
@@ -53,14 +54,15 @@ first_left_out (t ∷ ts) = if is_left_out t.lexeme then Some t.start else first
 
 -- ---- scripts
 
--- The bytes are read as these items, with this external to be run: they are a text, the tree's tokens are those of the text, none stands
+-- The bytes are read as this script, with this external to be run: they are a text, the tree's tokens are those of the text, none stands
 -- too deep, and the script is well declared.
-pub record IsScriptOf (bytes external : List ℕ) (items : List Item) : Type 0 where
+pub record IsScriptOf (bytes external : List ℕ) (s : Source) : Type 0 where
   pub placed : List Placed
   pub tokens : HasTokens bytes placed
   pub offered : first_left_out placed ≡ None
-  pub tree : IsReadAs (terminals placed) items
-  pub well_declared : WellDeclared items external
+  pub tree : IsReadAs (terminals placed) s.items
+  pub external_is : s.external ≡ external
+  pub well_declared : WellDeclared s.items s.external
 
 -- ---- faults, in the order in which they are looked for
 

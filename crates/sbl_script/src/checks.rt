@@ -10,8 +10,9 @@ ghost use Rattle.sbl_grammar.specs.View.{view_items};
 ghost use Rattle.std.specs.Str.{bytes_eq};
 
 use crate::marks::{Mark, Mode, Notice, Place, Use};
+use crate::bodies::body_in;
 use crate::marking::marks_of;
-use sbl_grammar::{DeclarationKind, Item};
+use sbl_grammar::{DeclarationKind, Item, Row};
 use sbl_text::ScriptFault;
 use std::alloc::{AllocError, Global};
 use std::collections::{BTreeMap, BTreeSet};
@@ -308,15 +309,15 @@ pub fn check(alloc: Global, items: &[Item], external: &str) -> Result<(), Script
     let places = places_of(alloc, &marks)?;
     let mut met = met_nothing(alloc);
     check_marks(&marks, &places, &mut met)?;
-    check_external(kind_of(&met, external), definition_of(&places, external))
+    check_external(kind_of(&met, external), body_in(items, external))
 }
 
-/// The external is declared as such, and defined in forward mode.
-fn check_external(kind: Option<DeclarationKind>, definition: Option<Place>) -> Result<(), ScriptFault>
-    ensures { Finds result (if spec.is_external kind && spec.is_defined_in Mode.Forward definition then None else Some ScriptFault.NoExternal) }
+/// The external is declared as such, and has a body.
+fn check_external(kind: Option<DeclarationKind>, body: Option<&Row>) -> Result<(), ScriptFault>
+    ensures { Finds result (if spec.is_external kind && is_some body.entry then None else Some ScriptFault.NoExternal) }
 {
-    match (kind, definition) {
-        (Some(DeclarationKind::Externals), Some(place)) if is_mode(Mode::Forward, place.mode) => Ok(()),
+    match kind {
+        Some(DeclarationKind::Externals) if body.is_some() => Ok(()),
         _ => Err(ScriptFault::NoExternal),
     }
 }

@@ -1,7 +1,9 @@
 //! Snowball scripts that have passed all checks.
 #![tactic(auto)]
 
+mod bodies;
 mod checks;
+pub mod laws;
 mod marking;
 mod marks;
 mod script;

@@ -11,8 +11,9 @@ ghost use Rattle.sbl_text.specs.Lexemes.{lexeme_of};
 ghost use Rattle.sbl_text.specs.Tokens.{placed_of};
 ghost use Rattle.sbl_script.specs.Reading as spec;
 
+use crate::bodies::body_in;
 use crate::checks::check;
-use sbl_grammar::{Fault, Item, ReadError, parse};
+use sbl_grammar::{Fault, Item, ReadError, Row, parse};
 use sbl_text::{Kind, ScriptFault, Sign, Token, Word, tokens};
 use std::alloc::Global;
 use std::marker::Model;
@@ -145,12 +146,12 @@ impl Model for Script {
 }
 
 impl Script {
-    ghost use Rattle.sbl_script.specs.Parsed.{tree_of as items_of};
+    ghost use Rattle.sbl_script.specs.Parsed.{source_of, body_of};
+    ghost use Rattle.sbl_grammar.specs.View.{view_row};
 
     /// The script of a tree.
     fn checked(alloc: Global, items: Vec<Item>, external: &str) -> Result<Script, ScriptFault>
-        ensures tree { IfOk result (λ s. items_of s ≡ view_items items.items) }
-        ensures external { IfOk result (λ s. s.external ≡ external.now) }
+        ensures tree { IfOk result (λ s. source_of s ≡ record { items = view_items items.items; external = external.now }) }
         ensures well_declared { IfOk result (λ s. WellDeclared (view_items items.items) external.now) }
         ensures fault { IfErr result (λ f. (f ≡ ScriptFault.OutOfMemory) ⊎ (fault_of (view_items items.items) external.now ≡ Some f)) }
     {
@@ -165,8 +166,7 @@ impl Script {
     /// left out of what is offered here; a token cannot follow those before it or stands too deep; a check fails. Besides
     /// `OutOfMemory` where memory was refused.
     pub fn parse(alloc: Global, bytes: &[u8], external: &str) -> Result<Script, ScriptFault>
-        ensures read { IfOk result (λ s. spec.IsScriptOf bytes.now external.now (items_of s)) }
-        ensures external { IfOk result (λ s. s.external ≡ external.now) }
+        ensures script { IfOk result (λ s. spec.IsScriptOf bytes.now external.now (source_of s)) }
         ensures fault { IfErr result (λ f. (f ≡ ScriptFault.OutOfMemory) ⊎ spec.IsFaultOf bytes.now external.now f) }
     {
         let text = text_of(bytes)?;
@@ -179,7 +179,7 @@ impl Script {
     pub fn items(&self) -> &[Item]
         ensures { result.now ≡ self.now.items }
     {
-        &self.items
+        self.items.as_slice()
     }
 
     /// The name of the external that is run.
@@ -189,9 +189,19 @@ impl Script {
         self.external.as_str()
     }
 
+    /// The body of the external that is run.
+    pub fn body(&self) -> &Row
+        ensures { body_of (source_of self.now) ≡ Some (view_row result.now) }
+    {
+        match body_in(&self.items, self.external.as_str()) {
+            Some(body) => body,
+            None => unreachable!(),
+        }
+    }
+
     /// A script is well declared: nothing that uses it checks it again.
     pub fn is_well_declared(&self)
-        ensures { WellDeclared (items_of self.now) self.now.external }
+        ensures { WellDeclared (source_of self.now).items (source_of self.now).external }
     {
         let _ = &self.external;
     }
