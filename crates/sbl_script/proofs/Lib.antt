@@ -5,3 +5,4 @@ pub mod Places
 pub mod FirstFault
 pub mod Extends
 pub mod Sound
+pub mod Resolving

@@ -3,8 +3,12 @@ use Rattle.std.specs.Prelude.{◌≡◌, ◌⊎◌, ℕ, Bool, true, false, List
 use Rattle.sbl_text.specs.declared.fault.ScriptFault.{ScriptFault}
 use Rattle.sbl_text.specs.declared.fault.ScriptFault.TheVariants as fault
 use Rattle.sbl_grammar.specs.Tree.{Item}
-use Rattle.sbl_script.specs.Marks.{Mark, marks_of}
-use Rattle.sbl_script.specs.Checks.{fault_at, fault_of, has_external, WellDeclared}
+use Rattle.sbl_grammar.specs.declared.tree.DeclarationKind.{DeclarationKind}
+use Rattle.sbl_script.specs.declared.marks.Mode.{Mode}
+use Rattle.sbl_script.specs.declared.marks.Place.{Place}
+use Rattle.sbl_script.specs.declared.marks.Use.{Use}
+use Rattle.sbl_script.specs.Marks.{Mark, uses, substring, marks_of}
+use Rattle.sbl_script.specs.Checks.{kind_of, definition_of, may_be, needs_definition, is_routine, is_mode, is_followed, fault_at, fault_of, has_external, WellDeclared}
 
 -- no check fails at any mark
 abbrev pub EachPasses : List Mark → Type 0
@@ -27,3 +31,21 @@ WellDeclaredPasses = (items : List Item) (external : List ℕ) → WellDeclared 
 abbrev pub FaultIsFirst : Type 0
 FaultIsFirst = (items : List Item) (external : List ℕ) (f : ScriptFault) → fault_of items external ≡ Some f →
     IsFirst (marks_of items) f ⊎ (EachPasses (marks_of items) × (has_external items external (marks_of items) ≡ false) × (f ≡ fault.NoExternal))
+
+-- the name, used so in a command of this mode, is declared and may be; where it stands for what is defined, it is; a routine in this mode
+pub record Resolves (all : List Mark) (u : Use) (n : List ℕ) (mode : Mode) : Type 0 where
+  pub kind : DeclarationKind
+  pub declared : kind_of n all ≡ Some kind
+  pub allowed : may_be u kind ≡ true
+  pub defined : needs_definition kind ≡ true → (p : Place) × (definition_of n all ≡ Some p)
+  pub same_mode : is_routine kind ≡ true → (p : Place) → definition_of n all ≡ Some p → is_mode mode p.mode ≡ true
+
+-- each name that is used in a script that is well declared resolves
+abbrev pub NamesResolve : Type 0
+NamesResolve = (items : List Item) (external : List ℕ) → WellDeclared items external → (before after : List Mark) (p : Place) (u : Use) (n : List ℕ)
+    → marks_of items ≡ before ++ (record { place = p; notice = uses u n }) ∷ after → Resolves (marks_of items) u n p.mode
+
+-- each substring in a script that is well declared has its among
+abbrev pub SubstringsArePaired : Type 0
+SubstringsArePaired = (items : List Item) (external : List ℕ) → WellDeclared items external → (before after : List Mark) (p : Place)
+    → marks_of items ≡ before ++ (record { place = p; notice = substring }) ∷ after → is_followed p.mode after ≡ true

@@ -1,10 +1,8 @@
 //! A checked script.
 
-ghost use Rattle.std.specs.Prelude.{◌≡◌, ◌⊎◌, ◌-◌, ◌≤◌, None, Some, drop, length, map, IfOk, IfErr};
+ghost use Rattle.std.specs.Prelude.{◌≡◌, ◌⊎◌, ◌≤◌, None, Some, length, map, IfOk, IfErr};
 ghost use Rattle.std.specs.Str.{IsUtf8};
-ghost use Rattle.sbl_grammar.specs.Gives.{IsFaultOf as IsGrammarFault};
 ghost use Rattle.sbl_grammar.specs.Reading.{IsReadAs};
-ghost use Rattle.sbl_grammar.specs.Terminal.{terminals_of};
 ghost use Rattle.sbl_grammar.specs.View.{view_items};
 ghost use Rattle.sbl_script.specs.Checks.{WellDeclared, fault_of};
 ghost use Rattle.sbl_text.specs.Lexemes.{lexeme_of};
@@ -13,7 +11,7 @@ ghost use Rattle.sbl_script.specs.Reading as spec;
 
 use crate::bodies::body_in;
 use crate::checks::check;
-use sbl_grammar::{Fault, Item, ReadError, Row, parse};
+use sbl_grammar::{Item, Row, parse};
 use sbl_text::{Kind, ScriptFault, Sign, Token, Word, tokens};
 use std::alloc::Global;
 use std::marker::Model;
@@ -56,41 +54,6 @@ fn first_left_out(tokens: &[Token]) -> Option<usize>
     None
 }
 
-/// Where the first of some tokens stands; the text's length where there is none.
-fn first_place(tokens: &[Token], end: usize) -> usize
-    ensures { result ≡ spec.place_of end (map placed_of tokens.now) }
-{
-    match tokens.first() {
-        Some(token) => token.start,
-        None => end,
-    }
-}
-
-/// Where the token stands from which so many tokens are left.
-fn place_of(tokens: &[Token], left: usize, end: usize) -> usize
-    ensures { result ≡ spec.place_of end (map placed_of (drop (length tokens.now - left) tokens.now)) }
-{
-    first_place(&tokens[tokens.len().saturating_sub(left)..], end)
-}
-
-/// The fault of tokens that are no tree's, with its place in a text of so many bytes.
-fn grammar_fault(found: Fault, tokens: &[Token], end: usize) -> ScriptFault
-    requires { IsGrammarFault (terminals_of tokens.now) (ReadError.Fault found) }
-    ensures { spec.IsGrammarFault (map placed_of tokens.now) end result }
-{
-    match found {
-        Fault::Syntax(left) => ScriptFault::Syntax {
-            place: place_of(tokens, left, end),
-        },
-        Fault::TooDeep(left) => ScriptFault::TooDeep {
-            place: place_of(tokens, left, end),
-        },
-        Fault::OutOfProfile(left) => ScriptFault::OutOfProfile {
-            place: place_of(tokens, left, end),
-        },
-    }
-}
-
 /// The text of some bytes.
 fn text_of(bytes: &[u8]) -> Result<&str, ScriptFault>
     ensures ok { IfOk result (λ s. (s.now ≡ bytes.now) × (length bytes.now ≤ spec.max_length) × IsUtf8 bytes.now) }
@@ -114,11 +77,7 @@ fn tree_of(alloc: Global, tokens: &[Token], end: usize) -> Result<Vec<Item>, Scr
     if let Some(place) = first_left_out(tokens) {
         return Err(ScriptFault::OutOfProfile { place });
     }
-    match parse(alloc, tokens) {
-        Ok(items) => Ok(items),
-        Err(ReadError::Memory) => Err(ScriptFault::OutOfMemory),
-        Err(ReadError::Fault(found)) => Err(grammar_fault(found, tokens, end)),
-    }
+    parse(alloc, tokens, end)
 }
 
 /// A script that has passed all checks, and the name of the external that is run.
