@@ -31,8 +31,8 @@ passes all done (m ∷ after) e (y ∷ b) c x parts =
     let same : m ≡ y = cc in
     let rest : after ≡ b ++ x ∷ c = cc in
     subst (λ (z : Mark). fault_at all (done ++ z ∷ b) x c ≡ None) same
-        (subst (λ (r : List Mark). fault_at all r x c ≡ None) (append_assoc done (m ∷ []) b)
-            (passes all (done ++ m ∷ []) after (none_second (fault_at all done m after) (fault_behind all (done ++ m ∷ []) after) e) b c x rest))
+    (subst (λ (r : List Mark). fault_at all r x c ≡ None) (append_assoc done (m ∷ []) b)
+    (passes all (done ++ m ∷ []) after (none_second (fault_at all done m after) (fault_behind all (done ++ m ∷ []) after) e) b c x rest))
 
 -- the first fault of the rest
 record FirstFrom (all done rest : List Mark) (f : ScriptFault) : Type 0 where
@@ -53,7 +53,7 @@ first all done (m ∷ after) f e = go (fault_at all done m after) refl e (first 
     after = after;
     parts = refl;
     fault = rw append-nil (is ∙ e);
-    none_before = λ b c x parts. absurd (nothing b c x parts)
+    none_before = λ b c x parts. absurd (nothing b c x parts);
   }
 
   earlier : fault_at all done m after ≡ None → (r : FirstFrom all (done ++ m ∷ []) after f) → (b c : List Mark) (x : Mark) → m ∷ r.before ≡ b ++ x ∷ c → fault_at all (done ++ b) x (c ++ r.mark ∷ r.after) ≡ None
@@ -61,12 +61,12 @@ first all done (m ∷ after) f e = go (fault_at all done m after) refl e (first 
       let same : m ≡ x = cc in
       let rest : r.before ≡ c = cc in
       rw append-nil (subst (λ (y : Mark). fault_at all done y (c ++ r.mark ∷ r.after) ≡ None) same
-          (subst (λ (k : List Mark). fault_at all done m (k ++ r.mark ∷ r.after) ≡ None) rest (subst (λ (k : List Mark). fault_at all done m k ≡ None) r.parts none)))
+      (subst (λ (k : List Mark). fault_at all done m (k ++ r.mark ∷ r.after) ≡ None) rest (subst (λ (k : List Mark). fault_at all done m k ≡ None) r.parts none)))
   earlier none r (y ∷ b) c x parts =
       let same : m ≡ y = cc in
       let rest : r.before ≡ b ++ x ∷ c = cc in
       subst (λ (z : Mark). fault_at all (done ++ z ∷ b) x (c ++ r.mark ∷ r.after) ≡ None) same
-          (subst (λ (k : List Mark). fault_at all k x (c ++ r.mark ∷ r.after) ≡ None) (append_assoc done (m ∷ []) b) (r.none_before b c x rest))
+      (subst (λ (k : List Mark). fault_at all k x (c ++ r.mark ∷ r.after) ≡ None) (append_assoc done (m ∷ []) b) (r.none_before b c x rest))
 
   there : fault_at all done m after ≡ None → FirstFrom all (done ++ m ∷ []) after f → FirstFrom all done (m ∷ after) f
   there none r = record {
@@ -75,7 +75,7 @@ first all done (m ∷ after) f e = go (fault_at all done m after) refl e (first 
     after = r.after;
     parts = ap (λ (k : List Mark). m ∷ k) r.parts;
     fault = subst (λ (k : List Mark). fault_at all k r.mark r.after ≡ Some f) (append_assoc done (m ∷ []) r.before) r.fault;
-    none_before = earlier none r
+    none_before = earlier none r;
   }
 
   go : (o : Option ScriptFault) → fault_at all done m after ≡ o → option_or o (fault_behind all (done ++ m ∷ []) after) ≡ Some f

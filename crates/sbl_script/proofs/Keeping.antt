@@ -44,15 +44,15 @@ pub kept_first : {X : Type 0} (old new : tree.BTreeMap (Bor (List ℕ)) X) (name
     → tree.UpdatesBy order (λ k. slice_cmp nat_cmp name k.now) old new (Some w) → (n : List ℕ) → at_name new n ≡ option_or (at_name old n) (if bytes_eq n name then Some w else None)
 kept_first {X} old new name w lacks changed n =
     btree_map_updates_str name old new (Some w) changed n
-        ∙ ap (λ (b : Bool). cond b (Some w) (at_name old n)) (IsEquivalence.symm nat_list_eq_equiv name n)
-        ∙ go (bytes_eq n name) refl where
-  by_value : (o : Option X) → is_some o ≡ false → Some w ≡ option_or o (Some w)
-  by_value (Some x) e = absurd cc
-  by_value None e = refl
+    ∙ ap (λ (b : Bool). cond b (Some w) (at_name old n)) (IsEquivalence.symm nat_list_eq_equiv name n)
+    ∙ go (bytes_eq n name) refl where
+      by_value : (o : Option X) → is_some o ≡ false → Some w ≡ option_or o (Some w)
+      by_value (Some x) e = absurd cc
+      by_value None e = refl
 
-  go : (b : Bool) → bytes_eq n name ≡ b → cond b (Some w) (at_name old n) ≡ option_or (at_name old n) (cond b (Some w) None)
-  go true e = by_value (at_name old n) (subst (λ (x : List ℕ). is_some (at_name old x) ≡ false) (sym (same n name e)) lacks)
-  go false e = none_more (at_name old n)
+      go : (b : Bool) → bytes_eq n name ≡ b → cond b (Some w) (at_name old n) ≡ option_or (at_name old n) (cond b (Some w) None)
+      go true e = by_value (at_name old n) (subst (λ (x : List ℕ). is_some (at_name old x) ≡ false) (sym (same n name e)) lacks)
+      go false e = none_more (at_name old n)
 
 abbrev pub pair_order : ℕ × Bor (List ℕ) → ℕ × Bor (List ℕ) → Ordering
 pair_order x y = ordering_then (nat_cmp x.0 y.0) (slice_cmp nat_cmp x.1.now y.1.now)
@@ -72,8 +72,8 @@ numbers x y = grind (arith, nat_tests)
 tied : (x o : ℕ) (v t : List ℕ) → is_eq (ordering_then (nat_cmp x o) (slice_cmp nat_cmp v t)) ≡ (nat_eq o x && bytes_eq t v)
 tied x o v t =
     both (nat_cmp x o) (slice_cmp nat_cmp v t)
-        ∙ ap (λ (b : Bool). b && is_eq (slice_cmp nat_cmp v t)) (numbers x o)
-        ∙ ap (λ (b : Bool). nat_eq o x && b) (is_eq-slice_cmp v t ∙ IsEquivalence.symm nat_list_eq_equiv v t)
+    ∙ ap (λ (b : Bool). b && is_eq (slice_cmp nat_cmp v t)) (numbers x o)
+    ∙ ap (λ (b : Bool). nat_eq o x && b) (is_eq-slice_cmp v t ∙ IsEquivalence.symm nat_list_eq_equiv v t)
 
 either : (a b : Bool) → cond a true b ≡ (b || a)
 either true true = refl
@@ -86,5 +86,5 @@ pub kept_string : (old new : sorted.BTreeSet (ℕ × Bor (List ℕ))) (key : ℕ
     → (o : ℕ) (t : List ℕ) → has_pair new o t ≡ (has_pair old o t || (nat_eq o key.0 && bytes_eq t key.1.now))
 kept_string old new key changed o t =
     changed.0 (o, at t)
-        ∙ ap (λ (b : Bool). cond b true (has_pair old o t)) (tied key.0 o key.1.now t)
-        ∙ either (nat_eq o key.0 && bytes_eq t key.1.now) (has_pair old o t)
+    ∙ ap (λ (b : Bool). cond b true (has_pair old o t)) (tied key.0 o key.1.now t)
+    ∙ either (nat_eq o key.0 && bytes_eq t key.1.now) (has_pair old o t)

@@ -32,19 +32,19 @@ told ts end (fault.Syntax place) (n, is, h) = record {
   before = map placed_of (take n ts);
   rest = map placed_of (drop n ts);
   parts = cut ts n;
-  is = inl (moved IsSyntaxAt ts n h, ap fault.Syntax (is ∙ place_same (drop n ts) end))
+  is = inl (moved IsSyntaxAt ts n h, ap fault.Syntax (is ∙ place_same (drop n ts) end));
 }
 told ts end (fault.TooDeep place) (n, is, h) = record {
   before = map placed_of (take n ts);
   rest = map placed_of (drop n ts);
   parts = cut ts n;
-  is = inr (inl (moved IsTooDeepAt ts n h, ap fault.TooDeep (is ∙ place_same (drop n ts) end)))
+  is = inr (inl (moved IsTooDeepAt ts n h, ap fault.TooDeep (is ∙ place_same (drop n ts) end)));
 }
 told ts end (fault.OutOfProfile place) (n, is, h) = record {
   before = map placed_of (take n ts);
   rest = map placed_of (drop n ts);
   parts = cut ts n;
-  is = inr (inr (moved IsOutOfProfileAt ts n h, ap fault.OutOfProfile (is ∙ place_same (drop n ts) end)))
+  is = inr (inr (moved IsOutOfProfileAt ts n h, ap fault.OutOfProfile (is ∙ place_same (drop n ts) end)));
 }
 told ts end _ h = absurd h
 

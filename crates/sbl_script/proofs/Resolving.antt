@@ -63,7 +63,7 @@ resolved all p u n k is e =
       declared = is;
       allowed = not_false (may_be u k) (test_fails (not (may_be u k)) (fault.WrongKind p.item) lacking e);
       defined = has_place u p.item k d (test_fails (lacks_definition u p.item (Some k) d) (fault.Undefined p.item) other behind_kind);
-      same_mode = of_mode (is_routine k) p.mode d (test_fails (is_routine k && is_in_other p.mode d) (fault.WrongMode p.item) None behind_lacks)
+      same_mode = of_mode (is_routine k) p.mode d (test_fails (is_routine k && is_in_other p.mode d) (fault.WrongMode p.item) None behind_lacks);
     }
 
 used : (all before after : List Mark) (p : Place) (u : Use) (n : List ℕ) (o : Option DeclarationKind) → kind_of n before ≡ o
@@ -79,4 +79,4 @@ names_resolve items external e before after p u n parts =
 pub substrings_are_paired : SubstringsArePaired
 substrings_are_paired items external e before after p parts =
     not_false (is_followed p.mode after)
-        (test_fails (not (is_followed p.mode after)) (fault.Substring p.item) None ((first.well_declared_passes items external e).0 before after (record { place = p; notice = substring }) parts))
+    (test_fails (not (is_followed p.mode after)) (fault.Substring p.item) None ((first.well_declared_passes items external e).0 before after (record { place = p; notice = substring }) parts))

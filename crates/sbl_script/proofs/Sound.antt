@@ -57,8 +57,8 @@ kept_more : (o : ℕ) (s t : List Mark) (texts : List (List ℕ)) → Extends s 
 kept_more o s t texts e k = record {
   differ = k.differ;
   marks = λ q h.
-    subst (λ (x : List Mark). has_text o q x ≡ true) (sym e.is)
-      (list_any-append (λ (m : Mark). is_text_of o q m.notice) s e.more ∙ or_true (has_text o q s) (has_text o q e.more) (k.marks q h))
+      subst (λ (x : List Mark). has_text o q x ≡ true) (sym e.is)
+      (list_any-append (λ (m : Mark). is_text_of o q m.notice) s e.more ∙ or_true (has_text o q s) (has_text o q e.more) (k.marks q h));
 }
 
 is_false : (b : Bool) → (b ≡ true → true ≡ false) → b ≡ false
@@ -89,8 +89,8 @@ kept_string : (o : ℕ) (s : List Mark) (texts : List (List ℕ)) (t : List ℕ)
 kept_string o s texts t p new k = record {
   differ = IsDistinct-push nat_list_eq_equiv texts t k.differ (is_false (list_any (bytes_eq t) texts) (λ h. sym (k.marks t h) ∙ new));
   marks = λ q h.
-    list_any-append (λ (m : Mark). is_text_of o q m.notice) s ((record { place = p; notice = string o t }) ∷ [])
-      ∙ or_moves (list_any (bytes_eq q) texts) (bytes_eq q t) (has_text o q s) (nat_eq o o && bytes_eq q t) (sym (list_any-append (bytes_eq q) texts (t ∷ [])) ∙ h) (k.marks q) (own o (bytes_eq q t))
+      list_any-append (λ (m : Mark). is_text_of o q m.notice) s ((record { place = p; notice = string o t }) ∷ [])
+      ∙ or_moves (list_any (bytes_eq q) texts) (bytes_eq q t) (has_text o q s) (nat_eq o o && bytes_eq q t) (sym (list_any-append (bytes_eq q) texts (t ∷ [])) ∙ h) (k.marks q) (own o (bytes_eq q t));
 }
 
 kept_entry : (all : List Mark) (e : Entry) (o : ℕ) (p : Place) (s : List Mark) (texts : List (List ℕ)) → Passing all → Extends (marked_entry e o p s) all → Kept o s texts
@@ -98,14 +98,14 @@ kept_entry : (all : List Mark) (e : Entry) (o : ℕ) (p : Place) (s : List Mark)
 kept_entry all (entry q c) o p s texts passing e k =
     let here = at_mark all s (record { place = p; notice = string o q.value }) passing (then_ (condition_more c p (put (string o q.value) p s)) e) in
     kept_more o (put (string o q.value) p s) (marked_condition c p (put (string o q.value) p s)) (texts ++ q.value ∷ []) (condition_more c p (put (string o q.value) p s))
-        (kept_string o s texts q.value p (string_new all s here.0 p o q.value here.1) k)
+    (kept_string o s texts q.value p (string_new all s here.0 p o q.value here.1) k)
 
 kept_entries : (all : List Mark) (es : List Entry) (o : ℕ) (p : Place) (s : List Mark) (texts : List (List ℕ)) → Passing all → Extends (marked_entries es o p s) all → Kept o s texts
     → Kept o (marked_entries es o p s) (texts ++ map text_of es)
 kept_entries all [] o p s texts passing e k = subst (λ (ts : List (List ℕ)). Kept o s ts) (sym (append-nil texts)) k
 kept_entries all (x ∷ es) o p s texts passing e k =
     subst (λ (ts : List (List ℕ)). Kept o (marked_entries es o p (marked_entry x o p s)) ts) (append_assoc texts (text_of x ∷ []) (map text_of es))
-        (kept_entries all es o p (marked_entry x o p s) (texts ++ text_of x ∷ []) passing e (kept_entry all x o p s texts passing (then_ (entries_more es o p (marked_entry x o p s)) e) k))
+    (kept_entries all es o p (marked_entry x o p s) (texts ++ text_of x ∷ []) passing e (kept_entry all x o p s texts passing (then_ (entries_more es o p (marked_entry x o p s)) e) k))
 
 kept_groups : (all : List Mark) (gs : Groups) (o : ℕ) (p : Place) (s : List Mark) (texts : List (List ℕ)) → Passing all → Extends (marked_groups gs o p s) all → Kept o s texts
     → IsDistinct bytes_eq (texts ++ texts_of gs)
@@ -120,8 +120,8 @@ kept_groups all (group x es rs gs) o p s texts passing e k =
     let kb : Kept o b ((texts ++ text_of x ∷ []) ++ map text_of es) = kept_entries all es o p a (texts ++ text_of x ∷ []) passing after_b (kept_entry all x o p s texts passing (then_ (entries_more es o p a) after_b) k) in
     let kd : Kept o d ((texts ++ text_of x ∷ []) ++ map text_of es) = kept_more o b d ((texts ++ text_of x ∷ []) ++ map text_of es) (then_ (rows_more rs p b) (put_more region_end p c)) kb in
     subst (λ (ts : List (List ℕ)). IsDistinct bytes_eq ts)
-        (append_assoc (texts ++ text_of x ∷ []) (map text_of es) (texts_of gs) ∙ append_assoc texts (text_of x ∷ []) (map text_of es ++ texts_of gs))
-        (kept_groups all gs o p d ((texts ++ text_of x ∷ []) ++ map text_of es) passing e kd)
+    (append_assoc (texts ++ text_of x ∷ []) (map text_of es) (texts_of gs) ∙ append_assoc texts (text_of x ∷ []) (map text_of es ++ texts_of gs))
+    (kept_groups all gs o p d ((texts ++ text_of x ∷ []) ++ map text_of es) passing e kd)
 
 none_differ : IsDistinct bytes_eq []
 unfolding IsDistinct
@@ -136,10 +136,10 @@ sound all x gs p s passing e =
     let here = at_mark all s (record { place = p; notice = mark }) passing after_a in
     record {
       strings_differ = kept_groups all gs (length s) p b [] passing e (record { differ = none_differ; marks = λ q h. absurd (none q h) });
-      has_strings = among_full all s here.0 p (has_starter x) (is_empty gs) here.1
+      has_strings = among_full all s here.0 p (has_starter x) (is_empty gs) here.1;
     } where
-  none : (q : List ℕ) → false ≡ true → ⊥
-  none q h = cc
+      none : (q : List ℕ) → false ≡ true → ⊥
+      none q h = cc
 
 -- ---- each among
 

@@ -46,7 +46,7 @@ pub met_more : (old new : Met) (ms : List Mark) (m : Mark) → HasMet old ms →
 met_more old new ms m met notes = record {
   kinds = λ n. notes.kinds n ∙ ap (λ (o : Option DeclarationKind). option_or o (declared_as n m.notice)) (met.kinds n) ∙ sym (kind_of-push n ms m);
   strings = λ o t. notes.strings o t ∙ ap (λ (b : Bool). b || is_text_of o t m.notice) (met.strings o t) ∙ sym (has_text-push o t ms m);
-  waits = notes.waits ∙ ap (waits_after m.notice) met.waits ∙ sym (is_awaited-push ms m false)
+  waits = notes.waits ∙ ap (waits_after m.notice) met.waits ∙ sym (is_awaited-push ms m false);
 }
 
 -- some mark
@@ -68,7 +68,7 @@ pub turn : (all : List Mark) (ms : List marked.Mark) (i : ℕ) → i < length ms
     ≡ option_or (fault_at all (view_marks (take i ms)) (view_mark (mark_in ms i)) (view_marks (drop (i + 1) ms))) (fault_behind all (view_marks (take (i + 1) ms)) (view_marks (drop (i + 1) ms)))
 turn all ms i lt =
     ap (fault_behind all (view_marks (take i ms))) (left ms i lt)
-        ∙ ap (λ (bs : List Mark). option_or (fault_at all (view_marks (take i ms)) (view_mark (mark_in ms i)) (view_marks (drop (i + 1) ms))) (fault_behind all bs (view_marks (drop (i + 1) ms)))) (sym (taken ms i lt))
+    ∙ ap (λ (bs : List Mark). option_or (fault_at all (view_marks (take i ms)) (view_mark (mark_in ms i)) (view_marks (drop (i + 1) ms))) (fault_behind all bs (view_marks (drop (i + 1) ms)))) (sym (taken ms i lt))
 
 -- the mark has this fault
 pub found : (all : List Mark) (ms : List marked.Mark) (i : ℕ) (r : Option ScriptFault) (f : ScriptFault) → i < length ms

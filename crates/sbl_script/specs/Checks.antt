@@ -142,11 +142,11 @@ is_wrong_mode all before mode _ = false
 abbrev pub is_followed : Mode → List Mark → Bool
 is_followed mode [] = false
 is_followed mode (m ∷ ms) = elim m.notice [
-    among has_starter is_empty ↦ is_mode mode m.place.mode
+  | among has_starter is_empty ↦ is_mode mode m.place.mode
   | substring ↦ false
   | region_end ↦ false
   | _ ↦ is_followed mode ms
-  ]
+]
 
 -- 15: a substring with no among of its region behind it, before the region's end or its next substring, or with one of the other mode
 abbrev pub is_unpaired : Mode → Notice → List Mark → Bool

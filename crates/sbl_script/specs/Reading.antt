@@ -84,9 +84,9 @@ pub record IsGrammarFault (ts : List Placed) (end : ℕ) (f : ScriptFault) : Typ
   pub rest : List Placed
   pub parts : ts ≡ before ++ rest
   pub is :
-    (IsSyntaxAt (terminals ts) (terminals rest) × (f ≡ fault.Syntax (place_of end rest)))
-    ⊎ (IsTooDeepAt (terminals ts) (terminals rest) × (f ≡ fault.TooDeep (place_of end rest)))
-    ⊎ (IsOutOfProfileAt (terminals ts) (terminals rest) × (f ≡ fault.OutOfProfile (place_of end rest)))
+      (IsSyntaxAt (terminals ts) (terminals rest) × (f ≡ fault.Syntax (place_of end rest)))
+      ⊎ (IsTooDeepAt (terminals ts) (terminals rest) × (f ≡ fault.TooDeep (place_of end rest)))
+      ⊎ (IsOutOfProfileAt (terminals ts) (terminals rest) × (f ≡ fault.OutOfProfile (place_of end rest)))
 
 -- the tokens are those of this tree, and a check of it fails
 pub record IsCheckFault (ts : List Placed) (external : List ℕ) (f : ScriptFault) : Type 0 where

@@ -11,7 +11,13 @@ pub fn body_in<'a>(items: &'a [Item], name: &str) -> Option<&'a Row>
     ensures { MatchOption result (spec.body_in name.now (view_items items.now) ≡ None) (λ body. spec.body_in name.now (view_items items.now) ≡ Some (view_row body.now)) }
 {
     for item in items {
-        if let Item::Plain(Plain::Routine { name: defined, body }) = item {
+        if let Item::Plain(
+            Plain::Routine {
+                name: defined,
+                body,
+            },
+        ) = item
+        {
             if name == defined.as_str() {
                 return Some(body);
             }

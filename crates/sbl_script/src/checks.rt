@@ -9,9 +9,9 @@ ghost use Rattle.std.specs.Option.{option_or};
 ghost use Rattle.sbl_grammar.specs.View.{view_items};
 ghost use Rattle.std.specs.Str.{bytes_eq};
 
-use crate::marks::{Mark, Mode, Notice, Place, Use};
 use crate::bodies::body_in;
 use crate::marking::marks_of;
+use crate::marks::{Mark, Mode, Notice, Place, Use};
 use sbl_grammar::{DeclarationKind, Item, Row};
 use sbl_text::ScriptFault;
 use std::alloc::{AllocError, Global};
@@ -94,7 +94,12 @@ fn may_define(wants_grouping: bool, kind: DeclarationKind) -> bool
 }
 
 /// The fault of a name in a definition, with what is known of the name.
-fn fault_of_definition(item: usize, wants_grouping: bool, kind: Option<DeclarationKind>, definition: Option<Place>) -> Option<ScriptFault>
+fn fault_of_definition(
+    item: usize,
+    wants_grouping: bool,
+    kind: Option<DeclarationKind>,
+    definition: Option<Place>,
+) -> Option<ScriptFault>
     ensures { result ≡ spec.fault_of_definition item wants_grouping kind definition }
 {
     let Some(kind) = kind else {
@@ -110,7 +115,12 @@ fn fault_of_definition(item: usize, wants_grouping: bool, kind: Option<Declarati
 }
 
 /// The fault of a name that is used, with what is known of the name.
-fn fault_of_use(place: Place, how: Use, kind: Option<DeclarationKind>, definition: Option<Place>) -> Option<ScriptFault>
+fn fault_of_use(
+    place: Place,
+    how: Use,
+    kind: Option<DeclarationKind>,
+    definition: Option<Place>,
+) -> Option<ScriptFault>
     ensures { result ≡ spec.fault_of_use place how kind definition }
 {
     let item = place.item;
@@ -187,29 +197,65 @@ fn definition_of(places: &BTreeMap<&str, Place>, name: &str) -> Option<Place>
 }
 
 /// The fault of a mark, with the marks behind it, with the places of the definitions, and with what was met before.
-fn fault_at<'a>(mark: &Mark<'a>, after: &[Mark<'a>], places: &BTreeMap<&'a str, Place>, met: &Met<'a>) -> Option<ScriptFault>
+fn fault_at<'a>(
+    mark: &Mark<'a>,
+    after: &[Mark<'a>],
+    places: &BTreeMap<&'a str, Place>,
+    met: &Met<'a>,
+) -> Option<ScriptFault>
     ensures { (all before : List PlainMark) → HasPlaces places.now all → HasMet met.now before → result ≡ spec.fault_at all before (view_mark mark.now) (view_marks after.now) }
 {
     let place = mark.place;
     let item = place.item;
     match mark.notice {
-        Notice::Declares(_, name) => fault_if(met.kinds.contains_key(name), ScriptFault::DeclaredTwice { item }),
-        Notice::DefinesRoutine(name) => fault_of_definition(item, false, kind_of(met, name), definition_of(places, name)),
-        Notice::DefinesGrouping(name) => fault_of_definition(item, true, kind_of(met, name), definition_of(places, name)),
-        Notice::Uses(how, name) => fault_of_use(place, how, kind_of(met, name), definition_of(places, name)),
-        Notice::Substring => fault_if(!is_followed(place.mode, after), ScriptFault::Substring { item }),
+        Notice::Declares(_, name) => fault_if(
+            met.kinds.contains_key(name),
+            ScriptFault::DeclaredTwice { item },
+        ),
+        Notice::DefinesRoutine(name) => fault_of_definition(
+            item,
+            false,
+            kind_of(met, name),
+            definition_of(places, name),
+        ),
+        Notice::DefinesGrouping(name) => fault_of_definition(
+            item,
+            true,
+            kind_of(met, name),
+            definition_of(places, name),
+        ),
+        Notice::Uses(how, name) => fault_of_use(
+            place,
+            how,
+            kind_of(met, name),
+            definition_of(places, name),
+        ),
+        Notice::Substring => fault_if(
+            !is_followed(place.mode, after),
+            ScriptFault::Substring { item },
+        ),
         Notice::Among {
             has_starter,
             is_empty,
         } => fault_of_among(item, has_starter && met.waits, is_empty),
-        Notice::String(owner, text) => fault_if(met.strings.contains(&(owner, text)), ScriptFault::RepeatedString { item }),
-        Notice::Backwards => fault_if(is_mode(Mode::Backward, place.mode), ScriptFault::NestedBackwards { item }),
+        Notice::String(owner, text) => fault_if(
+            met.strings.contains(&(owner, text)),
+            ScriptFault::RepeatedString { item },
+        ),
+        Notice::Backwards => fault_if(
+            is_mode(Mode::Backward, place.mode),
+            ScriptFault::NestedBackwards { item },
+        ),
         Notice::RegionEnd => None,
     }
 }
 
 /// Keeps a value for a name that has none.
-fn keep_first<'a, T: Copy>(map: &mut BTreeMap<&'a str, T>, name: &'a str, value: T) -> Result<(), AllocError>
+fn keep_first<'a, T: Copy>(
+    map: &mut BTreeMap<&'a str, T>,
+    name: &'a str,
+    value: T,
+) -> Result<(), AllocError>
     ensures { OnOk result ((n : List ℕ) → at_name map.new n ≡ option_or (at_name map.old n) (if bytes_eq n name.now then Some value else None)) }
 {
     if !map.contains_key(name) {
@@ -219,7 +265,11 @@ fn keep_first<'a, T: Copy>(map: &mut BTreeMap<&'a str, T>, name: &'a str, value:
 }
 
 /// Keeps a string of an among.
-fn keep_string<'a>(strings: &mut BTreeSet<(usize, &'a [char])>, owner: usize, text: &'a [char]) -> Result<(), AllocError>
+fn keep_string<'a>(
+    strings: &mut BTreeSet<(usize, &'a [char])>,
+    owner: usize,
+    text: &'a [char],
+) -> Result<(), AllocError>
     ensures { OnOk result ((o : ℕ) (t : List ℕ) → has_pair strings.new o t ≡ (has_pair strings.old o t || (nat_eq o owner && bytes_eq t text.now))) }
 {
     strings.insert((owner, text))?;
@@ -245,11 +295,16 @@ fn note<'a>(mark: &Mark<'a>, met: &mut Met<'a>) -> Result<(), AllocError>
 }
 
 /// Notes where a mark defines a name.
-fn note_definition<'a>(mark: &Mark<'a>, places: &mut BTreeMap<&'a str, Place>) -> Result<(), AllocError>
+fn note_definition<'a>(
+    mark: &Mark<'a>,
+    places: &mut BTreeMap<&'a str, Place>,
+) -> Result<(), AllocError>
     ensures { OnOk result ((n : List ℕ) → at_name places.new n ≡ option_or (at_name places.old n) (spec.defined_at n (view_mark mark.now))) }
 {
     match mark.notice {
-        Notice::DefinesRoutine(name) | Notice::DefinesGrouping(name) => keep_first(places, name, mark.place),
+        Notice::DefinesRoutine(name) | Notice::DefinesGrouping(name) => keep_first(
+            places, name, mark.place,
+        ),
         _ => Ok(()),
     }
 }
@@ -285,7 +340,11 @@ fn behind<'a, 'b>(marks: &'b [Mark<'a>], index: usize) -> &'b [Mark<'a>]
 }
 
 /// The checks of all marks, in their order.
-fn check_marks<'a>(marks: &[Mark<'a>], places: &BTreeMap<&'a str, Place>, met: &mut Met<'a>) -> Result<(), ScriptFault>
+fn check_marks<'a>(
+    marks: &[Mark<'a>],
+    places: &BTreeMap<&'a str, Place>,
+    met: &mut Met<'a>,
+) -> Result<(), ScriptFault>
     requires places { HasPlaces places.now (view_marks marks.now) }
     requires met { HasMet met.old [] }
     ensures fault { Finds result (spec.fault_behind (view_marks marks.now) [] (view_marks marks.now)) }

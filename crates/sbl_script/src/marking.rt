@@ -8,8 +8,8 @@ ghost use Rattle.sbl_script.specs.MarkView.{view_notice, view_marks, view_stated
 
 use crate::marks::{Mark, Mode, Notice, Place, Stated, Use};
 use sbl_grammar::{
-    Added, Among, Argument, Command, DeclarationKind, Entry, Expression, Factor, Group, Item, Joined, Naming, Plain, Prefix, Product, Row,
-    Scaled, Simple, Term,
+    Added, Among, Argument, Command, DeclarationKind, Entry, Expression, Factor, Group, Item,
+    Joined, Naming, Plain, Prefix, Product, Row, Scaled, Simple, Term,
 };
 use std::alloc::{AllocError, Global};
 
@@ -22,7 +22,11 @@ fn put<'a>(notice: Notice<'a>, place: Place, marks: &mut Vec<Mark<'a>>) -> Resul
 }
 
 /// The marks of a string that may be named.
-fn mark_string<'a>(string: &'a Argument, place: Place, marks: &mut Vec<Mark<'a>>) -> Result<(), AllocError>
+fn mark_string<'a>(
+    string: &'a Argument,
+    place: Place,
+    marks: &mut Vec<Mark<'a>>,
+) -> Result<(), AllocError>
     ensures { OnOk result (view_marks marks.new.items ≡ spec.marked_string (view_argument string.now) place (view_marks marks.old.items)) }
 {
     match string {
@@ -33,7 +37,11 @@ fn mark_string<'a>(string: &'a Argument, place: Place, marks: &mut Vec<Mark<'a>>
 
 /// The marks of an arithmetic expression.
 #[cycle(arithmetic)]
-fn mark_expression<'a>(expression: &'a Expression, place: Place, marks: &mut Vec<Mark<'a>>) -> Result<(), AllocError>
+fn mark_expression<'a>(
+    expression: &'a Expression,
+    place: Place,
+    marks: &mut Vec<Mark<'a>>,
+) -> Result<(), AllocError>
     ensures { OnOk result (view_marks marks.new.items ≡ spec.marked_expression (view_expression expression.now) place (view_marks marks.old.items)) }
 {
     mark_product(&expression.first, place, marks)?;
@@ -41,7 +49,11 @@ fn mark_expression<'a>(expression: &'a Expression, place: Place, marks: &mut Vec
 }
 
 #[cycle(arithmetic)]
-fn mark_sums<'a>(others: &'a Vec<Added>, place: Place, marks: &mut Vec<Mark<'a>>) -> Result<(), AllocError>
+fn mark_sums<'a>(
+    others: &'a Vec<Added>,
+    place: Place,
+    marks: &mut Vec<Mark<'a>>,
+) -> Result<(), AllocError>
     ensures { OnOk result (view_marks marks.new.items ≡ spec.marked_sums (view_sums others.now.items) place (view_marks marks.old.items)) }
 {
     for added in others {
@@ -51,7 +63,11 @@ fn mark_sums<'a>(others: &'a Vec<Added>, place: Place, marks: &mut Vec<Mark<'a>>
 }
 
 #[cycle(arithmetic)]
-fn mark_product<'a>(product: &'a Product, place: Place, marks: &mut Vec<Mark<'a>>) -> Result<(), AllocError>
+fn mark_product<'a>(
+    product: &'a Product,
+    place: Place,
+    marks: &mut Vec<Mark<'a>>,
+) -> Result<(), AllocError>
     ensures { OnOk result (view_marks marks.new.items ≡ spec.marked_product (view_product product.now) place (view_marks marks.old.items)) }
 {
     mark_factor(&product.first, place, marks)?;
@@ -59,7 +75,11 @@ fn mark_product<'a>(product: &'a Product, place: Place, marks: &mut Vec<Mark<'a>
 }
 
 #[cycle(arithmetic)]
-fn mark_scales<'a>(others: &'a Vec<Scaled>, place: Place, marks: &mut Vec<Mark<'a>>) -> Result<(), AllocError>
+fn mark_scales<'a>(
+    others: &'a Vec<Scaled>,
+    place: Place,
+    marks: &mut Vec<Mark<'a>>,
+) -> Result<(), AllocError>
     ensures { OnOk result (view_marks marks.new.items ≡ spec.marked_scales (view_scales others.now.items) place (view_marks marks.old.items)) }
 {
     for scaled in others {
@@ -69,7 +89,11 @@ fn mark_scales<'a>(others: &'a Vec<Scaled>, place: Place, marks: &mut Vec<Mark<'
 }
 
 #[cycle(arithmetic)]
-fn mark_factor<'a>(factor: &'a Factor, place: Place, marks: &mut Vec<Mark<'a>>) -> Result<(), AllocError>
+fn mark_factor<'a>(
+    factor: &'a Factor,
+    place: Place,
+    marks: &mut Vec<Mark<'a>>,
+) -> Result<(), AllocError>
     ensures { OnOk result (view_marks marks.new.items ≡ spec.marked_factor (view_factor factor.now) place (view_marks marks.old.items)) }
 {
     match factor {
@@ -122,17 +146,31 @@ fn use_of(naming: Naming) -> Use
     }
 }
 
-fn mark_entry<'a>(entry: &'a Entry, owner: usize, place: Place, marks: &mut Vec<Mark<'a>>) -> Result<(), AllocError>
+fn mark_entry<'a>(
+    entry: &'a Entry,
+    owner: usize,
+    place: Place,
+    marks: &mut Vec<Mark<'a>>,
+) -> Result<(), AllocError>
     ensures { OnOk result (view_marks marks.new.items ≡ spec.marked_entry (view_entry entry.now) owner place (view_marks marks.old.items)) }
 {
-    put(Notice::String(owner, entry.string.value.as_slice()), place, marks)?;
+    put(
+        Notice::String(owner, entry.string.value.as_slice()),
+        place,
+        marks,
+    )?;
     match &entry.condition {
         None => Ok(()),
         Some(name) => put(Notice::Uses(Use::Condition, name.as_str()), place, marks),
     }
 }
 
-fn mark_entries<'a>(entries: &'a Vec<Entry>, owner: usize, place: Place, marks: &mut Vec<Mark<'a>>) -> Result<(), AllocError>
+fn mark_entries<'a>(
+    entries: &'a Vec<Entry>,
+    owner: usize,
+    place: Place,
+    marks: &mut Vec<Mark<'a>>,
+) -> Result<(), AllocError>
     ensures { OnOk result (view_marks marks.new.items ≡ spec.marked_entries (map view_entry entries.now.items) owner place (view_marks marks.old.items)) }
 {
     for entry in entries {
@@ -161,7 +199,11 @@ fn has_none(groups: &[Group], bare: &[Entry]) -> bool
 
 /// The marks of a command.
 #[cycle(commands)]
-fn mark_command<'a>(command: &'a Command, place: Place, marks: &mut Vec<Mark<'a>>) -> Result<(), AllocError>
+fn mark_command<'a>(
+    command: &'a Command,
+    place: Place,
+    marks: &mut Vec<Mark<'a>>,
+) -> Result<(), AllocError>
     ensures { OnOk result (view_marks marks.new.items ≡ spec.marked (view_command command.now) place (view_marks marks.old.items)) }
 {
     match command {
@@ -169,7 +211,10 @@ fn mark_command<'a>(command: &'a Command, place: Place, marks: &mut Vec<Mark<'a>
         Command::Simple(simple) => mark_simple(*simple, place, marks),
         Command::Literal(_) => Ok(()),
         Command::Name(name) => put(Notice::Uses(Use::Command, name.as_str()), place, marks),
-        Command::Non { with_minus: _, name } => put(Notice::Uses(Use::Excluded, name.as_str()), place, marks),
+        Command::Non {
+            with_minus: _,
+            name,
+        } => put(Notice::Uses(Use::Excluded, name.as_str()), place, marks),
         Command::Prefixed(prefix, inner) => {
             mark_prefix(*prefix, place, marks)?;
             mark_command(inner, place_behind(*prefix, place), marks)
@@ -179,7 +224,11 @@ fn mark_command<'a>(command: &'a Command, place: Place, marks: &mut Vec<Mark<'a>
             mark_command(inner, place, marks)
         }
         Command::Move(_, number) => mark_expression(number, place, marks),
-        Command::Named(naming, name) => put(Notice::Uses(use_of(*naming), name.as_str()), place, marks),
+        Command::Named(naming, name) => put(
+            Notice::Uses(use_of(*naming), name.as_str()),
+            place,
+            marks,
+        ),
         Command::Edit(_, string) => mark_string(string, place, marks),
         Command::SetLimit(first, second) => {
             mark_command(first, place, marks)?;
@@ -198,7 +247,11 @@ fn mark_command<'a>(command: &'a Command, place: Place, marks: &mut Vec<Mark<'a>
 }
 
 #[cycle(commands)]
-fn mark_rows<'a>(rows: &'a Vec<Row>, place: Place, marks: &mut Vec<Mark<'a>>) -> Result<(), AllocError>
+fn mark_rows<'a>(
+    rows: &'a Vec<Row>,
+    place: Place,
+    marks: &mut Vec<Mark<'a>>,
+) -> Result<(), AllocError>
     ensures { OnOk result (view_marks marks.new.items ≡ spec.marked_rows (view_rows rows.now.items) place (view_marks marks.old.items)) }
 {
     for row in rows {
@@ -216,7 +269,11 @@ fn mark_row<'a>(row: &'a Row, place: Place, marks: &mut Vec<Mark<'a>>) -> Result
 }
 
 #[cycle(commands)]
-fn mark_others<'a>(others: &'a Vec<Joined>, place: Place, marks: &mut Vec<Mark<'a>>) -> Result<(), AllocError>
+fn mark_others<'a>(
+    others: &'a Vec<Joined>,
+    place: Place,
+    marks: &mut Vec<Mark<'a>>,
+) -> Result<(), AllocError>
     ensures { OnOk result (view_marks marks.new.items ≡ spec.marked_others (view_others others.now.items) place (view_marks marks.old.items)) }
 {
     for joined in others {
@@ -227,7 +284,11 @@ fn mark_others<'a>(others: &'a Vec<Joined>, place: Place, marks: &mut Vec<Mark<'
 
 /// The marks of an among, of its starter, and then string by string and group by group.
 #[cycle(commands)]
-fn mark_among<'a>(among: &'a Among, place: Place, marks: &mut Vec<Mark<'a>>) -> Result<(), AllocError>
+fn mark_among<'a>(
+    among: &'a Among,
+    place: Place,
+    marks: &mut Vec<Mark<'a>>,
+) -> Result<(), AllocError>
     ensures { OnOk result (view_marks marks.new.items ≡ spec.marked (trees.chosen (view_among among.now).0 (view_among among.now).1) place (view_marks marks.old.items)) }
 {
     let owner = marks.len();
@@ -245,7 +306,12 @@ fn mark_among<'a>(among: &'a Among, place: Place, marks: &mut Vec<Mark<'a>>) -> 
 }
 
 #[cycle(commands)]
-fn mark_groups<'a>(groups: &'a Vec<Group>, owner: usize, place: Place, marks: &mut Vec<Mark<'a>>) -> Result<(), AllocError>
+fn mark_groups<'a>(
+    groups: &'a Vec<Group>,
+    owner: usize,
+    place: Place,
+    marks: &mut Vec<Mark<'a>>,
+) -> Result<(), AllocError>
     ensures { OnOk result ((bare : List trees.Entry) →
         spec.marked_entries bare owner place (view_marks marks.new.items) ≡ spec.marked_groups (view_groups groups.now.items bare) owner place (view_marks marks.old.items)) }
 {
@@ -258,7 +324,12 @@ fn mark_groups<'a>(groups: &'a Vec<Group>, owner: usize, place: Place, marks: &m
     Ok(())
 }
 
-fn mark_names<'a>(kind: DeclarationKind, names: &'a Vec<String>, place: Place, marks: &mut Vec<Mark<'a>>) -> Result<(), AllocError>
+fn mark_names<'a>(
+    kind: DeclarationKind,
+    names: &'a Vec<String>,
+    place: Place,
+    marks: &mut Vec<Mark<'a>>,
+) -> Result<(), AllocError>
     ensures { OnOk result (view_marks marks.new.items ≡ spec.marked_names kind (map string_bytes names.now.items) place (view_marks marks.old.items)) }
 {
     for name in names {
@@ -267,7 +338,11 @@ fn mark_names<'a>(kind: DeclarationKind, names: &'a Vec<String>, place: Place, m
     Ok(())
 }
 
-fn mark_term<'a>(argument: &'a Argument, place: Place, marks: &mut Vec<Mark<'a>>) -> Result<(), AllocError>
+fn mark_term<'a>(
+    argument: &'a Argument,
+    place: Place,
+    marks: &mut Vec<Mark<'a>>,
+) -> Result<(), AllocError>
     ensures { OnOk result (view_marks marks.new.items ≡ spec.marked_term (view_argument argument.now) place (view_marks marks.old.items)) }
 {
     match argument {
@@ -276,7 +351,11 @@ fn mark_term<'a>(argument: &'a Argument, place: Place, marks: &mut Vec<Mark<'a>>
     }
 }
 
-fn mark_terms<'a>(terms: &'a Vec<Term>, place: Place, marks: &mut Vec<Mark<'a>>) -> Result<(), AllocError>
+fn mark_terms<'a>(
+    terms: &'a Vec<Term>,
+    place: Place,
+    marks: &mut Vec<Mark<'a>>,
+) -> Result<(), AllocError>
     ensures { OnOk result (view_marks marks.new.items ≡ spec.marked_terms (map view_term terms.now.items) place (view_marks marks.old.items)) }
 {
     for term in terms {
@@ -285,7 +364,11 @@ fn mark_terms<'a>(terms: &'a Vec<Term>, place: Place, marks: &mut Vec<Mark<'a>>)
     Ok(())
 }
 
-fn mark_plain<'a>(plain: &'a Plain, place: Place, marks: &mut Vec<Mark<'a>>) -> Result<(), AllocError>
+fn mark_plain<'a>(
+    plain: &'a Plain,
+    place: Place,
+    marks: &mut Vec<Mark<'a>>,
+) -> Result<(), AllocError>
     ensures { OnOk result (view_marks marks.new.items ≡ spec.marked_plain (view_plain plain.now) place (view_marks marks.old.items)) }
 {
     match plain {
@@ -301,7 +384,11 @@ fn mark_plain<'a>(plain: &'a Plain, place: Place, marks: &mut Vec<Mark<'a>>) -> 
             mark_row(body, place, marks)?;
             put(Notice::RegionEnd, place, marks)
         }
-        Plain::Grouping { name, first, others } => {
+        Plain::Grouping {
+            name,
+            first,
+            others,
+        } => {
             put(Notice::DefinesGrouping(name.as_str()), place, marks)?;
             mark_term(first, place, marks)?;
             mark_terms(others, place, marks)
@@ -309,7 +396,11 @@ fn mark_plain<'a>(plain: &'a Plain, place: Place, marks: &mut Vec<Mark<'a>>) -> 
     }
 }
 
-fn state_in<'a>(mode: Mode, plains: &'a Vec<Plain>, stated: &mut Vec<Stated<'a>>) -> Result<(), AllocError>
+fn state_in<'a>(
+    mode: Mode,
+    plains: &'a Vec<Plain>,
+    stated: &mut Vec<Stated<'a>>,
+) -> Result<(), AllocError>
     ensures { OnOk result (map view_stated stated.new.items ≡ spec.stated_in mode (map view_plain plains.now.items) (map view_stated stated.old.items)) }
 {
     for plain in plains {
@@ -348,7 +439,14 @@ fn mark_stated<'a>(stated: &[Stated<'a>], marks: &mut Vec<Mark<'a>>) -> Result<(
     let mut item = 0;
     for one in stated {
         item += 1;
-        mark_plain(one.plain, Place { item, mode: one.mode }, marks)?;
+        mark_plain(
+            one.plain,
+            Place {
+                item,
+                mode: one.mode,
+            },
+            marks,
+        )?;
     }
     Ok(())
 }

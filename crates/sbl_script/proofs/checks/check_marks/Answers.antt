@@ -19,5 +19,5 @@ loop-index-preserved c =
     let is = rw c.behind.ensures at (c.fault_at.ensures all before c.requires.places c.loop-index.invariant.met) in
     record {
       met = rw (taken c.args.marks.now i c.loop-index-test.true) (met_more c.loop-index.met c.note.new.met before (view_mark (mark_in c.args.marks.now i)) c.loop-index.invariant.met c.in_ok-note.ensures);
-      none = passed all c.args.marks.now i c.fault_at.result c.loop-index-test.true is c.in_default.is ∙ c.loop-index.invariant.none
+      none = passed all c.args.marks.now i c.fault_at.result c.loop-index-test.true is c.in_default.is ∙ c.loop-index.invariant.none;
     }
