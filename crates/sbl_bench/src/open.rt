@@ -1,7 +1,7 @@
 //! Opening a bench.
 
-ghost use Rattle.std.specs.Prelude.{◌≡◌, ◌≤◌, ◌<◌, ◌+◌, ◌^◌, map, length, None, OnOk, IfErr};
-ghost use Rattle.sbl_script.specs.Tree.{Source};
+ghost use Rattle.std.specs.Prelude.{◌≡◌, ◌≤◌, ◌<◌, ◌+◌, ◌^◌, map, length, true, None, OnOk, IfErr};
+ghost use Rattle.sbl_machine.specs.Source.{Source};
 ghost use Rattle.sbl_machine.specs.MachineOf.{IsPlainMachineOf};
 ghost use Rattle.sbl_bench.specs.Vocabulary as vocabulary;
 ghost use Rattle.sbl_bench.specs.Vocabulary.{with_word};
@@ -19,14 +19,16 @@ use std::alloc::Global;
 impl Bench {
     ghost use Rattle.sbl_bench.specs.Kept.{state_of};
     ghost use Rattle.sbl_bench.specs.State.{Opens};
-    ghost use Rattle.sbl_script.specs.Parsed.{source_of};
+    ghost use Rattle.sbl_machine.specs.Source.{source_of};
+    ghost use Rattle.sbl_machine.specs.Runnable.{is_runnable};
 
-    /// The bench of a script and a list of words. The words are taken in order: empty words and repeats are skipped, so that a
+    /// The bench of a script that is runnable (`sbl_machine::runnable` tells) and a list of words. The words are taken in order: empty words and repeats are skipped, so that a
     /// word's first place is kept, and each word of the vocabulary is run once.
     ///
     /// It answers WordTooLong at a word of more than 255 characters, a repeat too, and Full at a new word behind 100,000
     /// others, whichever is met first, and OutOfMemory where a growth is refused. Then there is no bench. (Our own choice.)
     pub fn open(alloc: Global, script: Script, words: Vec<Vec<char>>) -> Result<Bench, EditFault>
+        requires { is_runnable (source_of script) ≡ true }
         ensures { Opens (source_of script) (map (λ w. w.items) words.items) (λ b. state_of b) result }
     {
         let machine = Machine::new(alloc, &script)?;

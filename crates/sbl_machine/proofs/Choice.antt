@@ -8,13 +8,13 @@ use Rattle.std.proofs.lemmas.Bool.{leb-true, leb-false}
 use Rattle.std.proofs.lemmas.List.{length-map, map-append, length-append, append-nil, get_or_append_left, get_or-append-add}
 use Rattle.std.proofs.lemmas.Option.{slice_get_past}
 use Rattle.std.proofs.lemmas.List.Quantifiers.{position-Some}
-use Rattle.sbl_script.specs.Tree.{Quoted, strings_of}
-use Rattle.sbl_script.specs.View.{GroupView, groups_of}
-use Rattle.sbl_script.specs.declared.tree.Mode.TheVariants.{Forward}
+use Rattle.sbl_grammar.specs.Tree as trees
+use Rattle.sbl_grammar.specs.View.{GroupView, groups_of}
+use Rattle.sbl_script.specs.declared.marks.Mode.TheVariants.{Forward}
 use Rattle.sbl_machine.specs.declared.node.Entry.{Entry}
 use Rattle.sbl_machine.specs.Fitting.{below, first, fitting, length_at, onto}
 use Rattle.sbl_machine.specs.Standing.{Standing, Ending, Doing, paid}
-use Rattle.sbl_machine.specs.Run.{command_of, in_turn, values_of}
+use Rattle.sbl_machine.specs.Run.{command_of, in_turn, strings_of, value_of, values_of}
 use Rattle.sbl_machine.specs.Program.{group_does}
 use Rattle.sbl_machine.specs.Numbered.{Pairwise, entry_for, entries_from}
 
@@ -47,7 +47,7 @@ get_back [] ys i = let e : 0 + i ≡ i = omega arith in ap (slice_get ys) e
 get_back (x ∷ xs) ys i = let e : length (x ∷ xs) + i ≡ suc (length xs + i) = omega arith in ap (slice_get ((x ∷ xs) ++ ys)) e ∙ get_back xs ys i
 
 -- what stands beside a string knows its length
-quoted_at : (g : ℕ) (qs : List Quoted) (i : ℕ) → i < length qs → slice_get (map (entry_for g) qs) i ≡ Some (record { group = g; len = length_at (map (λ q. q.value) qs) i })
+quoted_at : (g : ℕ) (qs : List trees.Entry) (i : ℕ) → i < length qs → slice_get (map (entry_for g) qs) i ≡ Some (record { group = g; len = length_at (map value_of qs) i })
 quoted_at g [] i l = absurd (omega (arith, l))
 quoted_at g (q ∷ qs) zero l = refl
 quoted_at g (q ∷ qs) (suc i) l = quoted_at g qs i (omega (arith, l))
@@ -63,9 +63,9 @@ number_at (v ∷ vs) g i = cond (nat_le i (length v.others)) g (number_at vs (g 
 abbrev IsEntry : List Entry → List (List ℕ) → ℕ → ℕ → Type 0
 IsEntry es values i n = slice_get es i ≡ Some (record { group = n; len = length_at values i })
 
-entry_case : (v : GroupView) (vs : List GroupView) (g : ℕ) (bares : List Quoted) (i : ℕ) (b : Bool) → nat_le i (length v.others) ≡ b → i < length (values_of (groups_of (v ∷ vs) bares)) → (i - suc (length v.others) < length (values_of (groups_of vs bares)) → IsEntry (entries_from (g + 1) vs bares) (values_of (groups_of vs bares)) (i - suc (length v.others)) (number_at vs (g + 1) (i - suc (length v.others)))) → IsEntry (entries_from g (v ∷ vs) bares) (values_of (groups_of (v ∷ vs) bares)) i (cond b g (number_at vs (g + 1) (i - suc (length v.others))))
+entry_case : (v : GroupView) (vs : List GroupView) (g : ℕ) (bares : List trees.Entry) (i : ℕ) (b : Bool) → nat_le i (length v.others) ≡ b → i < length (values_of (groups_of (v ∷ vs) bares)) → (i - suc (length v.others) < length (values_of (groups_of vs bares)) → IsEntry (entries_from (g + 1) vs bares) (values_of (groups_of vs bares)) (i - suc (length v.others)) (number_at vs (g + 1) (i - suc (length v.others)))) → IsEntry (entries_from g (v ∷ vs) bares) (values_of (groups_of (v ∷ vs) bares)) i (cond b g (number_at vs (g + 1) (i - suc (length v.others))))
 entry_case v vs g bares i true e l more =
-    let value = λ (q : Quoted). q.value in
+    let value = value_of in
     let qs = v.first ∷ v.others in
     let rest = strings_of (groups_of vs bares) in
     let k : i < length qs = (let n : i ≤ length v.others = leb-true i (length v.others) e in omega (arith, n)) in
@@ -74,7 +74,7 @@ entry_case v vs g bares i true e l more =
     let same : length_at (map value qs) i ≡ length_at (map value (qs ++ rest)) i = sym (ap (λ t. length_at t i) (map-append value qs rest) ∙ ap length (get_or_append_left (map value qs) (map value rest) [] i k3)) in
     get_front (map (entry_for g) qs) (entries_from (g + 1) vs bares) i k2 ∙ quoted_at g qs i k ∙ ap (λ n. Some (record { group = g; len = n })) same
 entry_case v vs g bares i false e l more =
-    let value = λ (q : Quoted). q.value in
+    let value = value_of in
     let qs = v.first ∷ v.others in
     let rest = strings_of (groups_of vs bares) in
     let j = i - suc (length v.others) in
@@ -89,27 +89,27 @@ entry_case v vs g bares i false e l more =
     let same : length_at (map value rest) j ≡ length_at (map value (qs ++ rest)) i = sym (ap (λ t. length_at t i) (map-append value qs rest) ∙ ap (length_at (map value qs ++ map value rest)) i_is2 ∙ ap length (get_or-append-add (map value qs) (map value rest) j [])) in
     ap (slice_get (map (entry_for g) qs ++ entries_from (g + 1) vs bares)) i_is ∙ get_back (map (entry_for g) qs) (entries_from (g + 1) vs bares) j ∙ more k ∙ ap (λ n. Some (record { group = number_at vs (g + 1) j; len = n })) same
 
-pub entry_at : (vs : List GroupView) (g : ℕ) (bares : List Quoted) (i : ℕ) → i < length (values_of (groups_of vs bares)) → IsEntry (entries_from g vs bares) (values_of (groups_of vs bares)) i (number_at vs g i)
-entry_at [] g bares i l = quoted_at g bares i (omega (arith, l, length-map bares (λ (q : Quoted). q.value)))
+pub entry_at : (vs : List GroupView) (g : ℕ) (bares : List trees.Entry) (i : ℕ) → i < length (values_of (groups_of vs bares)) → IsEntry (entries_from g vs bares) (values_of (groups_of vs bares)) i (number_at vs g i)
+entry_at [] g bares i l = quoted_at g bares i (omega (arith, l, length-map bares value_of))
 entry_at (v ∷ vs) g bares i l = entry_case v vs g bares i (nat_le i (length v.others)) refl l (λ k. entry_at vs (g + 1) bares (i - suc (length v.others)) k)
 
 -- ---- and its command
 
 -- a group's command does what its commands do, once a step is paid
 abbrev pub DoesGroup : Doing → GroupView → Type 0
-DoesGroup d v = (s : Standing) → d Forward s ≡ paid (in_turn v.commands) Forward s
+DoesGroup d v = (s : Standing) → d Forward s ≡ paid (in_turn v.rows) Forward s
 
 abbrev command_there : List Doing → ℕ → Standing → Ending
 command_there ds n s = group_does (slice_get ds n) Forward s
 
-command_case : (v : GroupView) (vs : List GroupView) (bares : List Quoted) (done ds : List Doing) (d : Doing) (i : ℕ) (s : Standing) (b : Bool) → DoesGroup d v → command_there (done ++ (d ∷ ds)) (number_at vs (length done + 1) (i - suc (length v.others))) s ≡ command_of (groups_of vs bares) (i - suc (length v.others)) Forward s → command_there (done ++ (d ∷ ds)) (cond b (length done) (number_at vs (length done + 1) (i - suc (length v.others)))) s ≡ cond b (paid (in_turn v.commands) Forward s) (command_of (groups_of vs bares) (i - suc (length v.others)) Forward s)
+command_case : (v : GroupView) (vs : List GroupView) (bares : List trees.Entry) (done ds : List Doing) (d : Doing) (i : ℕ) (s : Standing) (b : Bool) → DoesGroup d v → command_there (done ++ (d ∷ ds)) (number_at vs (length done + 1) (i - suc (length v.others))) s ≡ command_of (groups_of vs bares) (i - suc (length v.others)) Forward s → command_there (done ++ (d ∷ ds)) (cond b (length done) (number_at vs (length done + 1) (i - suc (length v.others)))) s ≡ cond b (paid (in_turn v.rows) Forward s) (command_of (groups_of vs bares) (i - suc (length v.others)) Forward s)
 command_case v vs bares done ds d i s true p more =
     let z : length done ≡ length done + 0 = omega arith in
     let there : slice_get (done ++ (d ∷ ds)) (length done) ≡ Some d = ap (slice_get (done ++ (d ∷ ds))) z ∙ get_back done (d ∷ ds) 0 in
     ap (λ o. group_does o Forward s) there ∙ p s
 command_case v vs bares done ds d i s false p more = more
 
-pub command_at : (vs : List GroupView) (bares : List Quoted) (done ds : List Doing) (i : ℕ) (s : Standing) → Pairwise DoesGroup ds vs → command_there (done ++ ds) (number_at vs (length done) i) s ≡ command_of (groups_of vs bares) i Forward s
+pub command_at : (vs : List GroupView) (bares : List trees.Entry) (done ds : List Doing) (i : ℕ) (s : Standing) → Pairwise DoesGroup ds vs → command_there (done ++ ds) (number_at vs (length done) i) s ≡ command_of (groups_of vs bares) i Forward s
 command_at [] bares done [] i s p =
     let past : length (done ++ []) ≤ length done = (let e : length (done ++ []) ≡ length done = ap length (append-nil done) in omega (arith, e)) in
     ap (λ o. group_does o Forward s) (slice_get_past (done ++ []) (length done) past)

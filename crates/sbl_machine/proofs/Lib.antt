@@ -7,8 +7,8 @@ pub mod Taken
 pub mod Nothing
 pub mod Nodes
 pub mod Groups
-pub mod Views
 pub mod Pairs
+pub mod Views
 pub mod Same
 pub mod Choice
 pub mod AmongSame

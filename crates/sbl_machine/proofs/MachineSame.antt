@@ -6,16 +6,17 @@ use Rattle.sbl_machine.specs.declared.outcome.Ran.{Ran}
 use Rattle.std.specs.Prelude.{slice_get}
 use Rattle.std.proofs.Math.Path.{fun_ext}
 use Rattle.std.proofs.lemmas.Option.{slice_get-map}
-use Rattle.sbl_script.specs.Tree.{Source, Tree, body_of}
-use Rattle.sbl_script.specs.declared.tree.Mode.{Mode}
-use Rattle.sbl_script.specs.declared.tree.Mode.TheVariants.{Forward}
+use Rattle.sbl_grammar.specs.View.{RowView}
+use Rattle.sbl_machine.specs.Source.{Source, body_of}
+use Rattle.sbl_script.specs.declared.marks.Mode.{Mode}
+use Rattle.sbl_script.specs.declared.marks.Mode.TheVariants.{Forward}
 use Rattle.sbl_machine.specs.declared.machine.Machine.{Machine}
 use Rattle.sbl_machine.specs.Listed.{Listed, listed_by, listed_of, listing}
 use Rattle.sbl_machine.specs.Numbered.{listed_in, listed_or}
 use Rattle.sbl_machine.specs.MachineOf.{IsMachineOf}
 use Rattle.sbl_machine.specs.Outcome.{Outcome', outcome_at, outcome_of, run_of, used_at, used_of}
 use Rattle.sbl_machine.specs.Program.{node_does}
-use Rattle.sbl_machine.specs.Run.{body_does, does}
+use Rattle.sbl_machine.specs.Run.{body_does}
 use Rattle.sbl_machine.specs.Standing.{Standing, start}
 
 pub same_listing : (m n : Mode) (es fs : List (List ℕ)) → m ≡ n → es ≡ fs → listing m es ≡ listing n fs
@@ -41,9 +42,9 @@ same_list S entries mode ts all e k =
     ∙ ap or_nothing (sym (slice_get-map (listed_of S entries mode) ts k) ∙ ap (λ ls. slice_get ls k) e ∙ slice_get-map (listing Forward) all k)
     ∙ by_strings (slice_get all k)
 
-pub machine_is : (S : Type 0) (entries : S → List (List ℕ)) (mode : S → Mode) (m : Machine S) (script : Source) (all : List (List (List ℕ))) (t : Tree) → map (listed_of S entries mode) m.tables.tables.items ≡ map (listing Forward) all → ((s : Standing) → node_does (listed_in all) m.body Forward s ≡ does t Forward s) → body_of script ≡ Some t → IsMachineOf S entries mode m script
+pub machine_is : (S : Type 0) (entries : S → List (List ℕ)) (mode : S → Mode) (m : Machine S) (script : Source) (all : List (List (List ℕ))) (body : Option RowView) → map (listed_of S entries mode) m.tables.tables.items ≡ map (listing Forward) all → ((s : Standing) → node_does (listed_in all) m.body Forward s ≡ body_does body Forward s) → body_of script ≡ body → IsMachineOf S entries mode m script
 unfolding IsMachineOf
-machine_is S entries mode m script all t tables body is s =
+machine_is S entries mode m script all b tables body is s =
     let T = λ (k : ℕ). listed_by S entries mode (slice_get m.tables.tables.items k) in
     let same : T ≡ listed_in all = fun_ext (same_list S entries mode m.tables.tables.items all tables) in
     ap (λ l. node_does l m.body Forward s) same ∙ body s ∙ ap (λ o. body_does o Forward s) (sym is)

@@ -1,6 +1,6 @@
 -- What each command of a machine does, by what its parts do.
 use Rattle.std.proofs.Common.{◌≡◌, ℕ, Bool, map, arith, rules, Result, Vec, Global}
-use Rattle.sbl_script.specs.declared.tree.Mode.{Mode}
+use Rattle.sbl_script.specs.declared.marks.Mode.{Mode}
 use Rattle.sbl_machine.specs.declared.halt.Halt.{Halt}
 use Rattle.sbl_machine.specs.declared.node.Entry.{Entry}
 use Rattle.sbl_machine.specs.declared.node.Node.{Node}

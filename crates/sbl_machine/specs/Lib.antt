@@ -4,9 +4,11 @@ pub mod Best
 pub mod Laws
 pub mod Strings
 pub mod Standing
+pub mod Source
 pub mod Run
 pub mod Program
 pub mod Outcome
 pub mod MachineOf
 pub mod Names
 pub mod Numbered
+pub mod Runnable

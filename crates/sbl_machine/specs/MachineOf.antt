@@ -1,8 +1,8 @@
 -- When a machine is that of a script.
 use Rattle.std.specs.Prelude.{◌≡◌, ℕ, List, slice_get}
-use Rattle.sbl_script.specs.declared.tree.Mode.{Mode}
-use Rattle.sbl_script.specs.declared.tree.Mode.TheVariants.{Forward}
-use Rattle.sbl_script.specs.Tree.{Source, body_of}
+use Rattle.sbl_script.specs.declared.marks.Mode.{Mode}
+use Rattle.sbl_script.specs.declared.marks.Mode.TheVariants.{Forward}
+use Rattle.sbl_machine.specs.Source.{Source, body_of}
 use Rattle.sbl_machine.specs.declared.machine.Machine.{Machine}
 use Rattle.sbl_machine.specs.declared.plain.PlainTable.{PlainTable}
 use Rattle.sbl_machine.specs.Listed.{listed_by}

@@ -1,7 +1,7 @@
 -- What the commands of a machine do: the same as a script's, with the strings of an among in a table.
 use Rattle.std.specs.Prelude.{◌≡◌, Result, Ok, Err, ℕ, ◌-◌, ◌≤◌, Bool, true, false, List, [], ◌∷◌, length, nat_lt, Option, Some, None, slice_get, if◌then◌else◌}
-use Rattle.sbl_script.specs.declared.tree.Mode.{Mode}
-use Rattle.sbl_script.specs.declared.tree.Mode.TheVariants.{Forward, Backward}
+use Rattle.sbl_script.specs.declared.marks.Mode.{Mode}
+use Rattle.sbl_script.specs.declared.marks.Mode.TheVariants.{Forward, Backward}
 use Rattle.sbl_machine.specs.declared.halt.Halt.{Halt}
 use Rattle.sbl_machine.specs.declared.halt.Halt.TheVariants as halts
 use Rattle.sbl_machine.specs.declared.node.Node.{Node}

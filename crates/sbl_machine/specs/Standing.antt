@@ -4,8 +4,8 @@ use Rattle.std.specs.List.{starts_with, splice}
 use Rattle.sbl_machine.specs.declared.fault.RunFault.{RunFault}
 use Rattle.sbl_machine.specs.declared.fault.RunFault.TheVariants.{Steps, Slice, Cursor, TooLong}
 use Rattle.sbl_machine.specs.Fitting.{read_as}
-use Rattle.sbl_script.specs.declared.tree.Mode.{Mode}
-use Rattle.sbl_script.specs.declared.tree.Mode.TheVariants.{Forward, Backward}
+use Rattle.sbl_script.specs.declared.marks.Mode.{Mode}
+use Rattle.sbl_script.specs.declared.marks.Mode.TheVariants.{Forward, Backward}
 
 -- where a run stands
 pub record Standing : Type 0 where

@@ -1,8 +1,10 @@
 //! The machine that runs Snowball scripts: what a run does to a word, step by step.
 #![tactic(auto)]
 
+mod body;
 mod copies;
 pub mod fault;
+pub mod forms;
 mod halt;
 pub mod laws;
 pub mod machine;
@@ -17,6 +19,7 @@ mod state;
 mod table;
 
 pub use fault::{RunFault, RunStop};
+pub use forms::runnable;
 pub use machine::Machine;
 pub use meter::Meter;
 pub use outcome::{Outcome, Ran};

@@ -1,9 +1,8 @@
 //! The machine.
 
-ghost use Rattle.std.specs.Prelude.{◌≡◌, ◌≤◌, ◌+◌, length, IfOk, MatchResult, Some, ◌↔◌, Err};
-ghost use Rattle.sbl_script.specs.Tree.{Source, body_of};
-ghost use Rattle.sbl_script.specs.View.{view_command};
-ghost use Rattle.sbl_script.specs.Parsed.{source_of};
+ghost use Rattle.std.specs.Prelude.{◌≡◌, ◌≤◌, ◌+◌, length, true, IfOk, MatchResult, ◌↔◌, Err};
+ghost use Rattle.sbl_machine.specs.Source.{Source, body_of, source_of, view_body};
+ghost use Rattle.sbl_machine.specs.Runnable.{is_runnable};
 ghost use Rattle.sbl_machine.specs.Standing.{Ending};
 ghost use Rattle.sbl_machine.specs.Program.{Follows};
 ghost use Rattle.sbl_machine.specs.Outcome.{outcome_at, outcome_of, run_of, used_at, used_of};
@@ -13,13 +12,15 @@ use crate::fault::{RunFault, RunStop};
 use crate::halt::Halt;
 use crate::meter::Meter;
 use crate::node::Node;
-use crate::numbered::node_of;
+use crate::body::body;
+use crate::numbered::body_node;
 use crate::outcome::{Outcome, Ran};
 use crate::run::run_command;
 use crate::search::AmongSearch;
 use crate::state::State;
 use crate::table::{TableList, tables_of};
-use sbl_script::{Command, Mode, Script};
+use sbl_grammar::Row;
+use sbl_script::{Mode, Script};
 use std::alloc::{AllocError, Global};
 
 /// A script, ready to run.
@@ -30,19 +31,20 @@ pub struct Machine<S> {
 }
 
 impl<S: AmongSearch> Machine<S> {
-    /// The machine of a script. AllocError where a growth was refused.
+    /// The machine of a script that is runnable (`runnable` tells). AllocError where a growth was refused.
     pub fn new(alloc: Global, script: &Script) -> Result<Machine<S>, AllocError>
+        requires { is_runnable (source_of script.now) ≡ true }
         ensures { IfOk result (λ m. IsMachineOf S S.entries S.mode m (source_of script.now)) }
     {
-        Machine::of(alloc, script.body())
+        Machine::of(alloc, body(script))
     }
 
     /// The machine of a body.
-    pub(crate) fn of(alloc: Global, command: &Command) -> Result<Machine<S>, AllocError>
-        ensures { IfOk result (λ m. (script : Source) → body_of script ≡ Some (view_command command.now) → IsMachineOf S S.entries S.mode m script) }
+    pub(crate) fn of(alloc: Global, body: Option<&Row>) -> Result<Machine<S>, AllocError>
+        ensures { IfOk result (λ m. (script : Source) → body_of script ≡ view_body body.entry → IsMachineOf S S.entries S.mode m script) }
     {
         let mut lists = Vec::new(alloc);
-        let body = node_of(alloc, command, &mut lists)?;
+        let body = body_node(alloc, body, &mut lists)?;
         let tables = tables_of(alloc, &lists)?;
         Ok(Machine {
             tables: TableList { tables },

@@ -1,7 +1,7 @@
 //! The tables of a script's amongs, by number.
 
 ghost use Rattle.std.specs.Prelude.{◌≡◌, ◌≤◌, ℕ, IfOk, length, map, slice_get};
-ghost use Rattle.sbl_script.specs.declared.tree.Mode.TheVariants.{Forward};
+ghost use Rattle.sbl_script.specs.declared.marks.Mode.TheVariants.{Forward};
 ghost use Rattle.sbl_machine.specs.Numbered.{texts_of};
 ghost use Rattle.sbl_machine.specs.Fitting.{first};
 ghost use Rattle.sbl_machine.specs.Listed.{Listed, fits_at, listed_by, listed_of, listing};

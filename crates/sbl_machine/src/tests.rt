@@ -6,7 +6,8 @@ use crate::meter::Meter;
 use crate::outcome::Outcome;
 use crate::plain::PlainTable;
 use crate::search::AmongSearch;
-use sbl_script::{Among, Command, Entry, Group, Literal, Mode};
+use sbl_grammar::{Among, Argument, Command, Edit, Entry, Group, Literal, Row, Simple};
+use sbl_script::Mode;
 use std::alloc::{AllocError, Global};
 use std::process::Abort;
 use std::test::Fail;
@@ -28,6 +29,24 @@ fn literal(alloc: Global, text: &str) -> Result<Literal, AllocError> {
     })
 }
 
+/// A row of one command.
+fn alone(alloc: Global, command: Command) -> Row {
+    Row {
+        first: command,
+        others: Vec::new(alloc),
+    }
+}
+
+/// A row of one bracket.
+fn bracket(alloc: Global, rows: Vec<Row>) -> Row {
+    alone(alloc, Command::Bracket(rows))
+}
+
+/// `<-` and a literal.
+fn replace(literal: Literal) -> Command {
+    Command::Edit(Edit::Replace, Argument::Literal(literal))
+}
+
 fn stem(alloc: Global, text: &str) -> Result<Outcome, AllocError> {
     Ok(Outcome::Stem(letters(alloc, text)?))
 }
@@ -36,13 +55,13 @@ fn stem(alloc: Global, text: &str) -> Result<Outcome, AllocError> {
 fn row(
     rt: &impl Abort,
     alloc: Global,
-    body: &Command,
+    body: &Row,
     word: &str,
     limit: u32,
     outcome: &Outcome,
     used: u64,
 ) -> Result<(), Fail> {
-    let machine: Machine<PlainTable> = Machine::of(alloc, body)?;
+    let machine: Machine<PlainTable> = Machine::of(alloc, Some(body))?;
     let mut meter = Meter::new();
     let chars = letters(alloc, word)?;
     assert!(rt; chars.len() <= 255);
@@ -56,11 +75,11 @@ fn row(
 #[test]
 fn replaces(rt: HostRuntime) -> Result<(), Fail> {
     let alloc = rt.alloc();
-    let body = Command::Sequence(vec![in alloc;
-        Command::LeftBracket,
-        Command::Match(literal(alloc, "a")?),
-        Command::RightBracket,
-        Command::Replace(literal(alloc, "bc")?),
+    let body = bracket(alloc, vec![in alloc;
+        alone(alloc, Command::Simple(Simple::LeftBracket)),
+        alone(alloc, Command::Literal(literal(alloc, "a")?)),
+        alone(alloc, Command::Simple(Simple::RightBracket)),
+        alone(alloc, replace(literal(alloc, "bc")?)),
     ]?);
     row(&rt, alloc, &body, "ad", 100_000, &stem(alloc, "bcd")?, 5)?;
     row(&rt, alloc, &body, "da", 100_000, &stem(alloc, "da")?, 3)?;
@@ -79,10 +98,10 @@ fn replaces(rt: HostRuntime) -> Result<(), Fail> {
 #[test]
 fn refuses(rt: HostRuntime) -> Result<(), Fail> {
     let alloc = rt.alloc();
-    let crossed = Command::Sequence(vec![in alloc;
-        Command::Match(literal(alloc, "a")?),
-        Command::LeftBracket,
-        Command::Delete,
+    let crossed = bracket(alloc, vec![in alloc;
+        alone(alloc, Command::Literal(literal(alloc, "a")?)),
+        alone(alloc, Command::Simple(Simple::LeftBracket)),
+        alone(alloc, Command::Simple(Simple::Delete)),
     ]?);
     row(
         &rt,
@@ -97,13 +116,16 @@ fn refuses(rt: HostRuntime) -> Result<(), Fail> {
     for _ in 0..1025 {
         long.push('x')?;
     }
-    let much = Command::Sequence(vec![in alloc;
-        Command::LeftBracket,
-        Command::RightBracket,
-        Command::Replace(Literal {
-            spelling: String::new(alloc),
-            value: long,
-        }),
+    let much = bracket(alloc, vec![in alloc;
+        alone(alloc, Command::Simple(Simple::LeftBracket)),
+        alone(alloc, Command::Simple(Simple::RightBracket)),
+        alone(
+            alloc,
+            replace(Literal {
+                spelling: String::new(alloc),
+                value: long,
+            })
+        ),
     ]?);
     row(
         &rt,
@@ -125,13 +147,18 @@ fn refuses(rt: HostRuntime) -> Result<(), Fail> {
     )
 }
 
-fn group(alloc: Global, text: &str, commands: Vec<Command>) -> Result<Group, AllocError> {
+fn entry(alloc: Global, text: &str) -> Result<Entry, AllocError> {
+    Ok(Entry {
+        string: literal(alloc, text)?,
+        condition: None,
+    })
+}
+
+fn group(alloc: Global, text: &str, rows: Vec<Row>) -> Result<Group, AllocError> {
     Ok(Group {
-        first: Entry {
-            string: literal(alloc, text)?,
-        },
+        first: entry(alloc, text)?,
         others: Vec::new(alloc),
-        commands,
+        rows,
     })
 }
 
@@ -139,21 +166,24 @@ fn group(alloc: Global, text: &str, commands: Vec<Command>) -> Result<Group, All
 fn takes_the_longest(rt: HostRuntime) -> Result<(), Fail> {
     let alloc = rt.alloc();
     let search = Command::Among(Among {
+        starter: None,
         groups: vec![in alloc;
             group(alloc, "a", Vec::new(alloc))?,
             group(
                 alloc,
                 "ab",
-                vec![in alloc; Command::RightBracket, Command::Delete]?
+                vec![in alloc;
+                    alone(alloc, Command::Simple(Simple::RightBracket)),
+                    alone(alloc, Command::Simple(Simple::Delete)),
+                ]?
             )?,
         ]?,
-        bare: vec![in alloc;
-            Entry {
-                string: literal(alloc, "b")?
-            },
-        ]?,
+        bare: vec![in alloc; entry(alloc, "b")?]?,
     });
-    let body = Command::Sequence(vec![in alloc; Command::LeftBracket, search]?);
+    let body = bracket(alloc, vec![in alloc;
+        alone(alloc, Command::Simple(Simple::LeftBracket)),
+        alone(alloc, search),
+    ]?);
     row(&rt, alloc, &body, "abc", 100_000, &stem(alloc, "c")?, 7)?;
     row(&rt, alloc, &body, "acb", 100_000, &stem(alloc, "acb")?, 5)?;
     row(&rt, alloc, &body, "bca", 100_000, &stem(alloc, "bca")?, 4)?;

@@ -1,28 +1,28 @@
 use Rattle.std.proofs.Common.{◌≡◌, length, rules, Some, ap, ◌∙◌, sym, map}
-use Rattle.sbl_script.specs.Tree.{among, sequence}
-use Rattle.sbl_script.specs.View.{groups_of, trees_of, view_command, view_entry, view_group}
-use Rattle.sbl_script.specs.declared.tree.Among.{out-Among}
-use Rattle.sbl_script.specs.declared.tree.Mode.TheVariants.{Forward}
-use Rattle.sbl_machine.specs.Numbered.{DoesAs, DoesAsGroup, entries_from, listed_in, texts_of}
+use Rattle.sbl_grammar.specs.Tree.{bracket, chosen}
+use Rattle.sbl_grammar.specs.View.{groups_of, rows_of, view_among, view_command, view_entry, view_group, view_row}
+use Rattle.sbl_grammar.specs.declared.tree.Among.{out-Among}
+use Rattle.sbl_script.specs.declared.marks.Mode.TheVariants.{Forward}
+use Rattle.sbl_machine.specs.Numbered.{DoesAsGroup, DoesAsRow, entries_from, listed_in, texts_of}
 use Rattle.sbl_machine.specs.Program.{node_does}
 use Rattle.sbl_machine.specs.Run.{does, values_of}
 use Rattle.sbl_machine.proofs.AmongSame.{among_same}
 use Rattle.sbl_machine.proofs.Choice.{DoesGroup}
 use Rattle.sbl_machine.proofs.Listed.{front_behind, listed_there}
 use Rattle.sbl_machine.proofs.Pairs.{front_through, pairs_at, pairs_mapped, pairs_turn}
-use Rattle.sbl_machine.proofs.Same.{sequence_same}
-use Rattle.sbl_machine.proofs.Views.{group_view, groups_view, sequence_view}
+use Rattle.sbl_machine.proofs.Same.{row_same, sequence_same}
+use Rattle.sbl_machine.proofs.Views.{bracket_view, group_view, groups_view}
 use Rattle.sbl_machine.proofs.numbered.+numbered.Goals as goal
 
-pub nodes_of-loop-command-preserved : goal.nodes_of-loop-command-preserved
-nodes_of-loop-command-preserved t c =
-    let inv = c.loop-command.invariant in
+pub nodes_of-loop-row-preserved : goal.nodes_of-loop-row-preserved
+nodes_of-loop-row-preserved t c =
+    let inv = c.loop-row.invariant in
     let first = texts_of c.args.lists.now.items in
-    let old = texts_of c.loop-command.lists.items in
-    let new = texts_of c.node_of.new.lists.items in
-    let grows = c.in_ok-node_of.ensures.grows in (
+    let old = texts_of c.loop-row.lists.items in
+    let new = texts_of c.row_of.new.lists.items in
+    let grows = c.in_ok-row_of.ensures.grows in (
       front_through first old new inv.0 grows,
-      λ all f. pairs_turn (DoesAs all) c.loop-command.nodes.items c.push.new.self.items c.args.commands.now c.loop-command.command-index c.in_ok-node_of.field-0 c.command-item.result c.loop-command-test.true c.command-item.is c.in_ok-push.ensures.items (inv.1 all (front_through old new all grows f)) (c.in_ok-node_of.ensures.same all f),
+      λ all f. pairs_turn (DoesAsRow all) c.loop-row.nodes.items c.push.new.self.items c.args.rows.now c.loop-row.row-index c.in_ok-row_of.field-0 c.row-item.result c.loop-row-test.true c.row-item.is c.in_ok-push.ensures.items (inv.1 all (front_through old new all grows f)) (c.in_ok-row_of.ensures.same all f),
     )
 
 pub bodies_of-loop-group-preserved : goal.bodies_of-loop-group-preserved
@@ -58,16 +58,20 @@ among_of-returns-clause-same t c all f s =
     let listed = listed_there lists new strings all c.len-table.result c.in_ok-push.ensures.items (let k : c.len-table.result ≡ length lists = search rules in k) f ∙ ap Some values in
     let pairs = pairs_at (DoesAsGroup all) c.in_ok-bodies.bodies.items c.deref.result.now parts.groups.items c.deref.ensures.value (c.in_ok-bodies.ensures.same all g) in
     let groups = pairs_mapped (node_does T) view_group (DoesAsGroup all) DoesGroup c.in_ok-bodies.bodies.items parts.groups.items (λ n gr p. p) pairs in
-    among_same all c.len-table.result c.in_ok-entries.entries c.in_ok-bodies.bodies vs bares listed entries groups s ∙ ap (λ gs. does (among gs) Forward s) (sym (groups_view a))
+    among_same (view_among a).0 all c.len-table.result c.in_ok-entries.entries c.in_ok-bodies.bodies vs bares listed entries groups s ∙ ap (λ gs. does (chosen (view_among a).0 gs) Forward s) (sym (groups_view a))
 
 pub body_of-returns-clause-same : goal.body_of-returns-clause-same
 body_of-returns-clause-same t c all f s =
     let g = c.args.group.now in
-    sequence_same all c.in_ok-nodes_of.field-0 c.deref.result.now (c.in_ok-nodes_of.ensures.same all f) s ∙ ap (λ cs. does (sequence (trees_of (map view_command cs))) Forward s) c.deref.ensures.value ∙ ap (λ v. does (sequence v.commands) Forward s) (sym (group_view g))
+    sequence_same all c.in_ok-nodes_of.field-0 c.deref.result.now (c.in_ok-nodes_of.ensures.same all f) s ∙ ap (λ cs. does (bracket (rows_of (map view_row cs))) Forward s) c.deref.ensures.value ∙ ap (λ v. does (bracket v.rows) Forward s) (sym (group_view g))
 
-pub node_of-returns-in_ok-nodes_of-in-Sequence-clause-same :
-    goal.node_of-returns-in_ok-nodes_of-in-Sequence-clause-same
-node_of-returns-in_ok-nodes_of-in-Sequence-clause-same t c all f s =
+pub node_of-returns-in_ok-nodes_of-in-Bracket-clause-same :
+    goal.node_of-returns-in_ok-nodes_of-in-Bracket-clause-same
+node_of-returns-in_ok-nodes_of-in-Bracket-clause-same t c all f s =
     let d = c.deref in
-    let cs = c.in-Sequence.commands in
-    sequence_same all c.in_ok-nodes_of-in-Sequence.field-0 d.result.now (c.in_ok-nodes_of-in-Sequence.ensures.same all f) s ∙ ap (λ cs. does (sequence (trees_of (map view_command cs))) Forward s) d.ensures.value ∙ ap (λ t. does t Forward s) (sym (ap view_command c.in-Sequence.is ∙ sequence_view cs))
+    let cs = c.in-Bracket.rows in
+    sequence_same all c.in_ok-nodes_of-in-Bracket.field-0 d.result.now (c.in_ok-nodes_of-in-Bracket.ensures.same all f) s ∙ ap (λ cs. does (bracket (rows_of (map view_row cs))) Forward s) d.ensures.value ∙ ap (λ t. does t Forward s) (sym (ap view_command c.in-Bracket.is ∙ bracket_view cs))
+
+pub row_of-returns-clause-same : goal.row_of-returns-clause-same
+row_of-returns-clause-same t c =
+    row_same c.node_of.result (texts_of c.node_of.new.lists.items) c.args.row.now c.node_of.ensures.same

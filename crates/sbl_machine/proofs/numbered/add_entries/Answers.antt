@@ -1,6 +1,6 @@
 use Rattle.std.proofs.Common.{◌≤◌, ◌++◌, ◌∷◌, [], length, map, take, refl, ap, ◌∙◌, append_assoc, arith}
-use Rattle.sbl_script.specs.View.{view_entry}
-use Rattle.sbl_script.specs.declared.tree.Entry.{Entry}
+use Rattle.sbl_grammar.specs.View.{view_entry}
+use Rattle.sbl_grammar.specs.declared.tree.Entry.{Entry}
 use Rattle.sbl_machine.specs.Numbered.{entry_for}
 use Rattle.sbl_machine.proofs.Taken.{taken_more, taken_all, map_twice}
 use Rattle.sbl_machine.proofs.numbered.add_entries.Goals as goal

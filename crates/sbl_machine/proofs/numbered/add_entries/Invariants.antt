@@ -1,5 +1,5 @@
 use Rattle.std.proofs.Common.{◌≡◌, ◌++◌, map, take}
-use Rattle.sbl_script.specs.View.{view_entry}
+use Rattle.sbl_grammar.specs.View.{view_entry}
 use Rattle.sbl_machine.specs.Numbered.{entry_for}
 use Rattle.sbl_machine.proofs.numbered.add_entries.Given as goal
 

@@ -1,5 +1,5 @@
 use Rattle.std.proofs.Common.{◌+◌, ◌++◌, ◌∷◌, map, drop, ap, ◌∙◌}
-use Rattle.sbl_script.specs.View.{view_entry, view_group}
+use Rattle.sbl_grammar.specs.View.{view_entry, view_group}
 use Rattle.sbl_machine.specs.Numbered.{entries_from, entry_for}
 use Rattle.sbl_machine.proofs.Taken.{left_first}
 use Rattle.sbl_machine.proofs.Views.{group_view, parts_of}

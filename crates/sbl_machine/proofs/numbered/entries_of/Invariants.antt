@@ -1,5 +1,5 @@
 use Rattle.std.proofs.Common.{◌≡◌, ◌++◌, map, drop}
-use Rattle.sbl_script.specs.View.{view_entry, view_group}
+use Rattle.sbl_grammar.specs.View.{view_entry, view_group}
 use Rattle.sbl_machine.specs.Numbered.{entries_from}
 use Rattle.sbl_machine.proofs.numbered.entries_of.Given as goal
 

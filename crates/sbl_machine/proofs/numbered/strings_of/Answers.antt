@@ -1,6 +1,6 @@
 use Rattle.std.proofs.Common.{◌+◌, ◌++◌, ◌∷◌, map, drop, ap, ◌∙◌, Vec, Global, ℕ}
-use Rattle.sbl_script.specs.View.{groups_of, view_entry, view_group}
-use Rattle.sbl_machine.specs.Run.{values_of}
+use Rattle.sbl_grammar.specs.View.{groups_of, view_entry, view_group}
+use Rattle.sbl_machine.specs.Run.{value_of, values_of}
 use Rattle.sbl_machine.proofs.Taken.{left_first}
 use Rattle.sbl_machine.proofs.Views.{group_view, parts_of}
 use Rattle.sbl_machine.proofs.Groups.{string_turn}
@@ -14,4 +14,4 @@ loop-group-preserved c =
     let bares = map view_entry c.args.bare.now in
     let i = c.loop-group.group-index in
     let x = c.group-item.result in
-    string_turn (map g c.loop-group.strings.items) (map g c.add_string.new.strings.items) (map g c.add_strings.new.strings.items) (drop i vs) (drop (i + 1) vs) (parts_of x) bares (values_of (groups_of vs bares)) (left_first view_group gs i x c.loop-group-test.true c.group-item.is ∙ ap (λ v. v ∷ drop (i + 1) vs) (group_view x)) c.loop-group.invariant c.in_ok-add_string.ensures (c.in_ok-add_strings.ensures ∙ ap (λ es. map g c.add_string.new.strings.items ++ map (λ q. q.value) (map view_entry es)) c.deref.ensures.value)
+    string_turn (map g c.loop-group.strings.items) (map g c.add_string.new.strings.items) (map g c.add_strings.new.strings.items) (drop i vs) (drop (i + 1) vs) (parts_of x) bares (values_of (groups_of vs bares)) (left_first view_group gs i x c.loop-group-test.true c.group-item.is ∙ ap (λ v. v ∷ drop (i + 1) vs) (group_view x)) c.loop-group.invariant c.in_ok-add_string.ensures (c.in_ok-add_strings.ensures ∙ ap (λ es. map g c.add_string.new.strings.items ++ map value_of (map view_entry es)) c.deref.ensures.value)

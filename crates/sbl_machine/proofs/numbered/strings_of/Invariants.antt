@@ -1,5 +1,5 @@
 use Rattle.std.proofs.Common.{◌≡◌, ◌++◌, map, drop}
-use Rattle.sbl_script.specs.View.{groups_of, view_entry, view_group}
+use Rattle.sbl_grammar.specs.View.{groups_of, view_entry, view_group}
 use Rattle.sbl_machine.specs.Run.{values_of}
 use Rattle.sbl_machine.proofs.numbered.strings_of.Given as goal
 

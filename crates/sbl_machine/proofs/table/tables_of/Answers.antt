@@ -1,6 +1,6 @@
 use Rattle.std.proofs.Common.{◌≤◌, ◌++◌, ◌∷◌, [], ℕ, length, map, sym, ap, ◌∙◌, arith, Vec, Global}
 use Rattle.std.proofs.lemmas.List.{map-append}
-use Rattle.sbl_script.specs.declared.tree.Mode.TheVariants.{Forward}
+use Rattle.sbl_script.specs.declared.marks.Mode.TheVariants.{Forward}
 use Rattle.sbl_machine.specs.Listed.{listed_of, listing}
 use Rattle.sbl_machine.proofs.Listed.{text_of}
 use Rattle.sbl_machine.proofs.MachineSame.{same_listing}

@@ -1,5 +1,5 @@
 use Rattle.std.proofs.Common.{◌≡◌, map, take}
-use Rattle.sbl_script.specs.declared.tree.Mode.TheVariants.{Forward}
+use Rattle.sbl_script.specs.declared.marks.Mode.TheVariants.{Forward}
 use Rattle.sbl_machine.specs.Listed.{listed_of, listing}
 use Rattle.sbl_machine.proofs.Listed.{text_of}
 use Rattle.sbl_machine.proofs.table.tables_of.Given as goal

@@ -1,6 +1,6 @@
 use Rattle.std.proofs.Common.{ap, ◌∙◌}
 use Rattle.std.specs.Prelude.{slice_get}
-use Rattle.sbl_script.specs.declared.tree.Mode.TheVariants.{Forward}
+use Rattle.sbl_script.specs.declared.marks.Mode.TheVariants.{Forward}
 use Rattle.sbl_machine.specs.Listed.{listed_by}
 use Rattle.sbl_machine.specs.Outcome.{outcome_at, used_at}
 use Rattle.sbl_machine.specs.Program.{node_does}
