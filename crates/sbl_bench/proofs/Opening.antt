@@ -1,7 +1,7 @@
 -- What the tests of one word, in their order, say of it, and where opening stands between two words.
 use Rattle.std.proofs.Common.{◌≡◌, ◌<◌, ◌≤◌, ◌++◌, ℕ, true, false, List, [], ◌∷◌, length, Some, None, refl, arith}
 use Rattle.std.proofs.lemmas.Bool.{le-ltb, le-leb, lt-leb}
-use Rattle.sbl_machine.specs.Source.{Source}
+use Rattle.sbl_script.specs.Parsed.{Source}
 use Rattle.sbl_bench.specs.declared.fault.EditFault.TheVariants as fault
 use Rattle.sbl_bench.specs.Kept.{Entry, words_in, IsKept}
 use Rattle.sbl_bench.specs.State.{word_fault, opening_fault}

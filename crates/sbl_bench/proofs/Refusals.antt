@@ -2,7 +2,7 @@
 use Rattle.std.proofs.Common.{◌≡◌, ◌≢◌, ◌∙◌, ◌<◌, ◌≤◌, ◌+◌, ◌++◌, ℕ, Bool, true, false, List, [], ◌∷◌, length, Option, Some, None, Result, Ok, Err, OnOk, OnErr, IfErr, nat_eq, refl, sym, ap, subst, arith}
 use Rattle.std.proofs.lemmas.Bool.{le-ltb, le-leb, lt-leb, eqb-true}
 use Rattle.std.proofs.lemmas.List.{length-map}
-use Rattle.sbl_machine.specs.Source.{Source}
+use Rattle.sbl_script.specs.Parsed.{Source}
 use Rattle.sbl_bench.specs.Kept.{Entry, words_in}
 use Rattle.sbl_bench.specs.declared.fault.EditFault.{EditFault}
 use Rattle.sbl_bench.specs.declared.fault.EditFault.TheVariants as fault

@@ -1,7 +1,7 @@
 -- What a bench is, and what opening it and adding a word do.
 use Rattle.std.specs.Prelude.{◌≡◌, ◌≤◌, ℕ, ◌+◌, ◌-◌, ◌^◌, Bool, List, [], ◌∷◌, ◌++◌, length, Option, Some, None, Result, Ok, Err, nat_lt, nat_le, nat_eq, if◌then◌else◌}
 use Rattle.std.specs.Option.{option_or}
-use Rattle.sbl_machine.specs.Source.{Source}
+use Rattle.sbl_script.specs.Parsed.{Source}
 use Rattle.sbl_bench.specs.declared.fault.EditFault.{EditFault}
 use Rattle.sbl_bench.specs.declared.fault.EditFault.TheVariants as fault
 use Rattle.sbl_bench.specs.Vocabulary.{is_word, is_skipped, with_word, vocabulary}

@@ -28,7 +28,7 @@ pub struct Bench {
 impl Model for Bench {
     ghost use Rattle.std.specs.Coded.{codes};
     ghost use Rattle.sbl_grammar.specs.contracts.tree.Item as e;
-    ghost use Rattle.sbl_machine.specs.Source.{source_of};
+    ghost use Rattle.sbl_script.specs.Parsed.{source_of};
     ghost use Rattle.sbl_machine.specs.MachineOf.{IsPlainMachineOf};
     ghost use Rattle.sbl_bench.specs.Kept.{Kept, words_in, IsKept};
 
@@ -43,7 +43,7 @@ impl Model for Bench {
 
 impl Bench {
     ghost use Rattle.std.specs.Option.{option_map};
-    ghost use Rattle.sbl_machine.specs.Source.{source_of};
+    ghost use Rattle.sbl_script.specs.Parsed.{source_of};
     ghost use Rattle.sbl_bench.specs.Rows.{rows_of, view_row};
 
     /// How many words the vocabulary has. Takes no memory.

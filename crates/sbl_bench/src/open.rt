@@ -1,7 +1,7 @@
 //! Opening a bench.
 
 ghost use Rattle.std.specs.Prelude.{◌≡◌, ◌≤◌, ◌<◌, ◌+◌, ◌^◌, map, length, true, None, OnOk, IfErr};
-ghost use Rattle.sbl_machine.specs.Source.{Source};
+ghost use Rattle.sbl_script.specs.Parsed.{Source};
 ghost use Rattle.sbl_machine.specs.MachineOf.{IsPlainMachineOf};
 ghost use Rattle.sbl_bench.specs.Vocabulary as vocabulary;
 ghost use Rattle.sbl_bench.specs.Vocabulary.{with_word};
@@ -19,7 +19,7 @@ use std::alloc::Global;
 impl Bench {
     ghost use Rattle.sbl_bench.specs.Kept.{state_of};
     ghost use Rattle.sbl_bench.specs.State.{Opens};
-    ghost use Rattle.sbl_machine.specs.Source.{source_of};
+    ghost use Rattle.sbl_script.specs.Parsed.{source_of};
     ghost use Rattle.sbl_machine.specs.Runnable.{is_runnable};
 
     /// The bench of a script that is runnable (`sbl_machine::runnable` tells) and a list of words. The words are taken in order: empty words and repeats are skipped, so that a

@@ -7,7 +7,7 @@ use Rattle.std.specs.Prelude.{slice_get}
 use Rattle.std.proofs.Math.Path.{fun_ext}
 use Rattle.std.proofs.lemmas.Option.{slice_get-map}
 use Rattle.sbl_grammar.specs.View.{RowView}
-use Rattle.sbl_machine.specs.Source.{Source, body_of}
+use Rattle.sbl_script.specs.Parsed.{Source, body_of}
 use Rattle.sbl_script.specs.declared.marks.Mode.{Mode}
 use Rattle.sbl_script.specs.declared.marks.Mode.TheVariants.{Forward}
 use Rattle.sbl_machine.specs.declared.machine.Machine.{Machine}

@@ -4,7 +4,6 @@ pub mod Best
 pub mod Laws
 pub mod Strings
 pub mod Standing
-pub mod Source
 pub mod Run
 pub mod Program
 pub mod Outcome

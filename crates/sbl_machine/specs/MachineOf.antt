@@ -2,7 +2,7 @@
 use Rattle.std.specs.Prelude.{◌≡◌, ℕ, List, slice_get}
 use Rattle.sbl_script.specs.declared.marks.Mode.{Mode}
 use Rattle.sbl_script.specs.declared.marks.Mode.TheVariants.{Forward}
-use Rattle.sbl_machine.specs.Source.{Source, body_of}
+use Rattle.sbl_script.specs.Parsed.{Source, body_of}
 use Rattle.sbl_machine.specs.declared.machine.Machine.{Machine}
 use Rattle.sbl_machine.specs.declared.plain.PlainTable.{PlainTable}
 use Rattle.sbl_machine.specs.Listed.{listed_by}

@@ -8,12 +8,12 @@ use Rattle.sbl_grammar.specs.declared.tree.Group.{Group}
 use Rattle.sbl_script.specs.declared.marks.Mode.TheVariants.{Forward}
 use Rattle.sbl_grammar.specs.Tree.{bracket, chosen}
 use Rattle.sbl_grammar.specs.Tree as trees
-use Rattle.sbl_grammar.specs.View.{GroupView, RowView, view_command, view_row, view_among, view_group}
+use Rattle.sbl_grammar.specs.View.{GroupView, view_command, view_row, view_among, view_group}
 use Rattle.sbl_machine.specs.declared.node.Node.{Node}
 use Rattle.sbl_machine.specs.declared.node.Entry.{Entry}
 use Rattle.sbl_machine.specs.Listed.{Listed, listing}
 use Rattle.sbl_machine.specs.Standing.{Standing, Signals, pay, then_on}
-use Rattle.sbl_machine.specs.Run.{body_does, does, value_of}
+use Rattle.sbl_machine.specs.Run.{does, value_of}
 use Rattle.sbl_machine.specs.Program.{node_does}
 
 -- the strings of some amongs
@@ -54,10 +54,6 @@ DoesAs all n c = (s : Standing) → node_does (listed_in all) n Forward s ≡ do
 -- and what the first command of a row does
 abbrev pub DoesAsRow : List (List (List ℕ)) → Node → Row → Type 0
 DoesAsRow all n r = (s : Standing) → node_does (listed_in all) n Forward s ≡ does (view_row r).0 Forward s
-
--- and what a body does
-abbrev pub DoesAsBody : List (List (List ℕ)) → Node → Option RowView → Type 0
-DoesAsBody all n body = (s : Standing) → node_does (listed_in all) n Forward s ≡ body_does body Forward s
 
 -- and what the commands of a group do
 abbrev pub DoesAsGroup : List (List (List ℕ)) → Node → Group → Type 0

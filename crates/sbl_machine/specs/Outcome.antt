@@ -1,7 +1,7 @@
 -- What a run of a script over a word gives, and what it costs.
 use Rattle.std.specs.Prelude.{ℕ, ◌+◌, ◌-◌, List}
 use Rattle.sbl_script.specs.declared.marks.Mode.TheVariants.{Forward}
-use Rattle.sbl_machine.specs.Source.{Source, body_of}
+use Rattle.sbl_script.specs.Parsed.{Source, body_of}
 use Rattle.sbl_machine.specs.declared.fault.RunFault.{RunFault}
 use Rattle.sbl_machine.specs.declared.fault.RunFault.TheVariants as faults
 use Rattle.sbl_machine.specs.declared.outcome.Outcome.{Outcome}

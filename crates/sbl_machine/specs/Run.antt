@@ -68,7 +68,7 @@ abbrev mutual
 abbrev pub does : Tree → Doing
 does c = paid (act c)
 
--- what a body does; where there is none, what an empty bracket does (a script has one: its checks look for it)
+-- what a body does; where there is none, nothing (a script has one: its checks look for it)
 abbrev pub body_does : Option RowView → Doing
-body_does None m s = does (bracket no_rows) m s
+body_does None m s = Signals true s
 body_does (Some r) m s = does r.0 m s

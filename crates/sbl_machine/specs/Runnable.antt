@@ -7,7 +7,7 @@ use Rattle.sbl_grammar.specs.declared.tree.Simple.TheVariants as simples
 use Rattle.sbl_grammar.specs.declared.tree.Edit.{Edit}
 use Rattle.sbl_grammar.specs.declared.tree.Edit.TheVariants as edits
 use Rattle.sbl_grammar.specs.Tree.{Argument, written_out, Entry, entry, Tree, Rows, Others, Groups, bracket, single, quoted, edited, chosen, no_rows, row, no_others, joined, no_starter, bare, group, Plain, routine, Item, plain, backward}
-use Rattle.sbl_machine.specs.Source.{Source}
+use Rattle.sbl_script.specs.Parsed.{Source}
 
 abbrev pub has_no_condition : Entry → Bool
 has_no_condition (entry q None) = true

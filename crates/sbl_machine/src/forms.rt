@@ -4,7 +4,7 @@ ghost use Rattle.std.specs.Prelude.{◌≡◌, ◌&&◌, map};
 ghost use Rattle.std.specs.List.{list_all};
 ghost use Rattle.sbl_grammar.specs.View.{view_argument, view_command, view_entry, view_group, view_groups, view_item, view_items, view_others, view_plain, view_row, view_rows, view_among};
 ghost use Rattle.sbl_grammar.specs.Tree as trees;
-ghost use Rattle.sbl_machine.specs.Source.{source_of};
+ghost use Rattle.sbl_script.specs.Parsed.{source_of};
 ghost use Rattle.sbl_machine.specs.Runnable as spec;
 ghost use Rattle.sbl_machine.specs.Runnable.{is_runnable};
 

@@ -1,7 +1,6 @@
 //! The machine that runs Snowball scripts: what a run does to a word, step by step.
 #![tactic(auto)]
 
-mod body;
 mod copies;
 pub mod fault;
 pub mod forms;

@@ -1,7 +1,8 @@
 //! The machine.
 
-ghost use Rattle.std.specs.Prelude.{◌≡◌, ◌≤◌, ◌+◌, length, true, IfOk, MatchResult, ◌↔◌, Err};
-ghost use Rattle.sbl_machine.specs.Source.{Source, body_of, source_of, view_body};
+ghost use Rattle.std.specs.Prelude.{◌≡◌, ◌≤◌, ◌+◌, length, true, IfOk, MatchResult, Some, ◌↔◌, Err};
+ghost use Rattle.sbl_grammar.specs.View.{view_row};
+ghost use Rattle.sbl_script.specs.Parsed.{Source, body_of, source_of};
 ghost use Rattle.sbl_machine.specs.Runnable.{is_runnable};
 ghost use Rattle.sbl_machine.specs.Standing.{Ending};
 ghost use Rattle.sbl_machine.specs.Program.{Follows};
@@ -12,8 +13,7 @@ use crate::fault::{RunFault, RunStop};
 use crate::halt::Halt;
 use crate::meter::Meter;
 use crate::node::Node;
-use crate::body::body;
-use crate::numbered::body_node;
+use crate::numbered::row_of;
 use crate::outcome::{Outcome, Ran};
 use crate::run::run_command;
 use crate::search::AmongSearch;
@@ -36,15 +36,15 @@ impl<S: AmongSearch> Machine<S> {
         requires { is_runnable (source_of script.now) ≡ true }
         ensures { IfOk result (λ m. IsMachineOf S S.entries S.mode m (source_of script.now)) }
     {
-        Machine::of(alloc, body(script))
+        Machine::of(alloc, script.body())
     }
 
     /// The machine of a body.
-    pub(crate) fn of(alloc: Global, body: Option<&Row>) -> Result<Machine<S>, AllocError>
-        ensures { IfOk result (λ m. (script : Source) → body_of script ≡ view_body body.entry → IsMachineOf S S.entries S.mode m script) }
+    pub(crate) fn of(alloc: Global, body: &Row) -> Result<Machine<S>, AllocError>
+        ensures { IfOk result (λ m. (script : Source) → body_of script ≡ Some (view_row body.now) → IsMachineOf S S.entries S.mode m script) }
     {
         let mut lists = Vec::new(alloc);
-        let body = body_node(alloc, body, &mut lists)?;
+        let body = row_of(alloc, body, &mut lists)?;
         let tables = tables_of(alloc, &lists)?;
         Ok(Machine {
             tables: TableList { tables },

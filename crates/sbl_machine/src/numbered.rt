@@ -3,9 +3,8 @@
 ghost use Rattle.std.specs.Prelude.{◌≡◌, ◌++◌, ◌∷◌, [], List, ℕ, length, map, IfOk};
 ghost use Rattle.sbl_grammar.specs.Tree as trees;
 ghost use Rattle.sbl_grammar.specs.View.{groups_of, view_argument, view_entry, view_group};
-ghost use Rattle.sbl_machine.specs.Source.{view_body};
 ghost use Rattle.sbl_machine.specs.Run.{value_of, values_of};
-ghost use Rattle.sbl_machine.specs.Numbered.{DoesAs, DoesAsAmong, DoesAsBody, DoesAsGroup, DoesAsRow, DoesAsTree, DoesNothing, IsFront, Pairwise, entries_from, entry_for, texts_of};
+ghost use Rattle.sbl_machine.specs.Numbered.{DoesAs, DoesAsAmong, DoesAsGroup, DoesAsRow, DoesAsTree, DoesNothing, IsFront, Pairwise, entries_from, entry_for, texts_of};
 
 use crate::copies::copied;
 use crate::node::{Entry, Node};
@@ -100,7 +99,7 @@ fn nodes_of(
 
 /// The first command of a row.
 #[cycle(numbered)]
-fn row_of(
+pub fn row_of(
     alloc: Global,
     row: &Row,
     lists: &mut Vec<Vec<Vec<char>>>,
@@ -161,20 +160,6 @@ fn among_of(
         entries,
         bodies,
     })
-}
-
-/// A machine's body. Where there is none it is an empty bracket.
-pub fn body_node(
-    alloc: Global,
-    body: Option<&Row>,
-    lists: &mut Vec<Vec<Vec<char>>>,
-) -> Result<Node, AllocError>
-    ensures { IfOk result (λ n. (all : List (List (List ℕ))) → IsFront (texts_of lists.new.items) all → DoesAsBody all n (view_body body.entry)) }
-{
-    match body {
-        Some(row) => row_of(alloc, row, lists),
-        None => Ok(nothing(alloc)),
-    }
 }
 
 /// The strings of an among, in text order.

@@ -61,7 +61,7 @@ fn row(
     outcome: &Outcome,
     used: u64,
 ) -> Result<(), Fail> {
-    let machine: Machine<PlainTable> = Machine::of(alloc, Some(body))?;
+    let machine: Machine<PlainTable> = Machine::of(alloc, body)?;
     let mut meter = Meter::new();
     let chars = letters(alloc, word)?;
     assert!(rt; chars.len() <= 255);

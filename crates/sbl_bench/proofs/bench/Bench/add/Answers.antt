@@ -1,6 +1,6 @@
 use Rattle.std.proofs.Common.{rules, ap, subst, ◌≡◌, ◌++◌, List, [], ◌∷◌, ℕ, Err, OnOk}
 use Rattle.std.proofs.lemmas.Result.{err_from_is_err_and, on_ok_weaker, on_err_weaker}
-use Rattle.sbl_machine.specs.Source.{source_of}
+use Rattle.sbl_script.specs.Parsed.{source_of}
 use Rattle.sbl_bench.specs.declared.fault.EditFault.TheVariants.{OutOfMemory}
 use Rattle.sbl_bench.specs.Kept.{Kept, state_of, words_in}
 use Rattle.sbl_bench.specs.State.{Adds}

@@ -1,5 +1,5 @@
 use Rattle.std.proofs.Common.{◌∙◌, List, ap, map}
-use Rattle.sbl_machine.specs.Source.{source_of}
+use Rattle.sbl_script.specs.Parsed.{source_of}
 use Rattle.sbl_bench.specs.Kept.{Entry, Kept}
 use Rattle.sbl_bench.specs.Rows.{rows_of}
 use Rattle.sbl_bench.proofs.Words.{shown, rows_shown}

@@ -1,5 +1,5 @@
 use Rattle.std.proofs.Common.{◌≡◌, ◌++◌, map}
-use Rattle.sbl_machine.specs.Source.{source_of}
+use Rattle.sbl_script.specs.Parsed.{source_of}
 use Rattle.sbl_bench.specs.Rows.{rows_of, view_row}
 use Rattle.sbl_bench.proofs.Words.{shown}
 use Rattle.sbl_bench.proofs.bench.Bench.rows.Given as goal
