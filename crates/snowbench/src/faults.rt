@@ -60,6 +60,9 @@ pub enum LoadFault {
     /// The script is refused.
     #[error(transparent)]
     Script(ScriptFault),
+    /// The script has no fault, but it is not run yet.
+    #[error("76 NotYet")]
+    NotYet,
     /// The vocabulary is refused.
     #[error(transparent)]
     Open(EditFault),

@@ -10,6 +10,7 @@ use crate::faults::{LoadFault, ServeFault};
 use crate::lines::Lines;
 use crate::script_text::ScriptText;
 use sbl_bench::Bench;
+use sbl_machine::runnable;
 use sbl_script::Script;
 use std::alloc::Global;
 
@@ -68,7 +69,7 @@ fn read_words<R: Source + Drop>(lines: &mut Lines<R>) -> Result<Vec<Vec<char>>, 
 /// # Errors
 ///
 /// The script block is read to its end before it is judged: `Read`, `LineTooLong`, and `Cut` where the input ended before
-/// the point. Then the script's faults, `ScriptTooLong` first. All words are read before they are judged: `Read`,
+/// the point. Then the script's faults, `ScriptTooLong` first, and `NotYet` where it has none and is not runnable. All words are read before they are judged: `Read`,
 /// `LineTooLong`, and `NotText` at a line that is not UTF-8. Then the vocabulary's faults, `WordTooLong` and `Full`. A refused
 /// growth is `OutOfMemory`.
 pub fn load<R: Source + Drop>(lines: &mut Lines<R>, external: &str) -> Result<Bench, LoadFault>
@@ -80,6 +81,9 @@ pub fn load<R: Source + Drop>(lines: &mut Lines<R>, external: &str) -> Result<Be
         Ok(script) => script,
         Err(fault) => return Err(LoadFault::Script(fault)),
     };
+    if !runnable(&script) {
+        return Err(LoadFault::NotYet);
+    }
     let words = read_words(lines)?;
     match Bench::open(lines.alloc(), script, words) {
         Ok(bench) => Ok(bench),

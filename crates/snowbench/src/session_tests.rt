@@ -39,9 +39,21 @@ fn after(alloc: Global, script: &[u8], rest: &[u8]) -> Result<Vec<u8>, Fail> {
     Ok(input)
 }
 
+// A script that has no fault and is not run yet.
+const BACKWARDS: &[u8] = b"externals ( stem )
+routines ( tail last sib )
+backwardmode (
+  define sib as ( 'x' or 's' )
+  define tail as ( [substring] among ( 's' (delete) 'es' sib (delete) ) )
+  define last as ( ['e'] delete )
+)
+define stem as ( backwards ( do tail do ( test 'e' last ) ) )
+.
+";
+
 #[test]
 fn sessions(rt: HostRuntime) -> Result<(), Fail> {
-    let rows: [(&[u8], &[u8], &[u8]); 8] = [
+    let rows: [(&[u8], &[u8], &[u8]); 9] = [
         (
             UN,
             b".\nadd undo\nadd redo\nstems\n",
@@ -70,6 +82,11 @@ fn sessions(rt: HostRuntime) -> Result<(), Fail> {
             b"ab,refused,Slice\nb,stem,b\n",
         ),
         (
+            b"stringescapes {}\nstringdef ss hex 'DF'\nexternals ( stem )\ndefine stem as ( '{'}' [ '{ss}' ] delete )\n.\n",
+            b"'\xc3\x9fa\n.\nstems\n",
+            b"'\xc3\x9fa,stem,'a\n",
+        ),
+        (
             b"externals ( stem ) define stem as ( [ among ( 'a' () 'ab' () ) ] delete )\n.\n",
             b"abc\n.\nstems\n",
             b"abc,stem,c\n",
@@ -88,13 +105,24 @@ fn sessions(rt: HostRuntime) -> Result<(), Fail> {
 fn faults_of_loading(rt: HostRuntime) -> Result<(), Fail> {
     let long = vec![in rt.alloc(); b'a'; 65_537]?;
     let word = vec![in rt.alloc(); b'a'; 256]?;
-    let rows: [(&[u8], &[u8], LoadFault); 7] = [
+    let rows: [(&[u8], &[u8], LoadFault); 10] = [
         (
             b"externals ( stem )\n",
             b"",
             LoadFault::Input(ServeFault::Cut),
         ),
         (b"\xff\n.\n", b"", LoadFault::Script(ScriptFault::NotUtf8)),
+        (
+            b"externals ( stem ) define stem as 'ab\n.\n",
+            b"",
+            LoadFault::Script(ScriptFault::UnclosedString { place: 34 }),
+        ),
+        (BACKWARDS, b"\xff", LoadFault::NotYet),
+        (
+            b"externals ( stem ) define stem as ( next stem )\n.\n",
+            long.as_slice(),
+            LoadFault::NotYet,
+        ),
         (
             b"externals ( stem )\n.\n",
             b"\xff",
@@ -177,6 +205,7 @@ fn faults_as_they_are_shown(rt: HostRuntime) -> Result<(), Fail> {
             LoadFault::Script(ScriptFault::ScriptTooLong),
             "24 ScriptTooLong",
         ),
+        (LoadFault::NotYet, "76 NotYet"),
         (LoadFault::Open(EditFault::Full), "44 Full"),
     ];
     for (fault, text) in rows {
