@@ -1,9 +1,8 @@
-use Rattle.std.proofs.Common.{◌≡◌, ◌∙◌, sym, ap, subst, Err, Result}
-use Rattle.sbl_bench.specs.Kept.{Kept, state_of}
+use Rattle.std.proofs.Common.{◌∙◌, sym}
+use Rattle.std.proofs.lemmas.Result.{err_from_is_err_and}
+use Rattle.sbl_bench.specs.Kept.{state_of}
 use Rattle.sbl_script.specs.Parsed.{source_of}
 use Rattle.snowbench.specs.Held.{input_of}
-use Rattle.snowbench.specs.Loaded.{IsLoaded}
-use Rattle.snowbench.specs.declared.faults.LoadFault.{LoadFault}
 use Rattle.snowbench.proofs.LoadFacts.{bench_refused, script_parsed, script_refused, words_refused}
 use Rattle.snowbench.proofs.loading.load.Goals as goal
 
@@ -24,8 +23,8 @@ returns-in_err-words-clause-loaded g c = λ none.
     let fault = c.in_err-words.field-0.0 in
     let new = input_of left c.read_words.new.lines in
     let begins = script_parsed _ _ c.in_ok-text.text c.deref.result.now c.args.external.now c.in-Ok.script (c.in_ok-text.ensures.reads none) c.deref.ensures.value c.in-Ok.ensures.script in
-    let is : Err fault ≡ c.from_residual-in_err-words.result = cc in
-    subst (λ (r : Result Kept LoadFault). IsLoaded (input_of left c.args.lines.now) new c.args.external.now (λ b. state_of b) r) is
+    let p = err_from_is_err_and c.from_residual-in_err-words.result c.from_residual-in_err-words.ensures.1 in
+    rw (p.1, p.2)
     (words_refused (input_of left c.args.lines.now) _ new c.args.external.now (source_of c.in-Ok.script) (λ b. state_of b) fault (begins, sym c.runnable.ensures ∙ c.if-not-runnable.false) (c.in_err-words.ensures.reads (c.in_ok-text.ensures.fault ∙ none)))
 
 pub returns-clause-loaded : goal.returns-clause-loaded
