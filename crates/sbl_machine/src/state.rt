@@ -1,0 +1,213 @@
+//! The state of a run: its text, the places in it, and its variables.
+
+ghost use Rattle.std.specs.Prelude.{◌≡◌, ◌+◌, ◌-◌, ◌<◌, ◌≤◌, ◌^◌, length, IfOk};
+ghost use Rattle.sbl_machine.specs.Fitting.{read_as};
+ghost use Rattle.sbl_machine.specs.Standing.{Standing, pay, at_place, at_difference, to_limit, mark, put_back, step_over, place_after, ahead, room};
+ghost use Rattle.sbl_machine.specs.Moves.{characters};
+ghost use Rattle.sbl_machine.specs.Kept.{Leads};
+
+mod moves;
+mod slices;
+
+use crate::action::StringTerm;
+use crate::fault::{Halt, RunFault};
+use sbl_script::Mode;
+use std::marker::Model;
+
+/// The most characters that the text of a run may have.
+const MOST_CHARS: usize = 1024;
+
+/// Where a run stands.
+#[derive(Drop)]
+pub struct State {
+    text: Vec<char>,
+    cursor: usize,
+    left: usize,
+    beyond: usize,
+    bra: usize,
+    ket: usize,
+    integers: Vec<i32>,
+    booleans: Vec<bool>,
+    strings: Vec<Vec<char>>,
+    choices: Vec<Option<usize>>,
+    steps: u32,
+    // What the next splice is made in.
+    spare: Vec<char>,
+}
+
+impl Model for State {
+    ghost use Rattle.std.specs.Prelude.{map};
+    ghost use Rattle.sbl_machine.specs.Standing.{Standing};
+    ghost use Rattle.sbl_machine.specs.Kept.{IsWithin};
+
+    ghost Value = { Standing };
+
+    ghost view = { λ s. record { text = s.text.items; cursor = s.cursor; left = s.left; beyond = s.beyond; bra = s.bra; ket = s.ket; integers = s.integers.items; booleans = s.booleans.items; strings = map (λ v. v.items) s.strings.items; choices = s.choices.items; steps = s.steps } };
+
+    ghost invariant = { λ s. IsWithin s.text.items s.cursor s.left s.beyond s.bra s.ket };
+}
+
+/// What putting the cursor back needs of a state.
+#[derive(Clone, Copy)]
+pub struct Mark {
+    /// The cursor.
+    pub cursor: usize,
+    /// How many characters stand beyond the limit.
+    pub beyond: usize,
+    /// How many characters the text has.
+    pub length: usize,
+}
+
+impl State {
+    /// Pays a step. `Steps` where none is left.
+    pub fn pay(&mut self) -> Result<(), Halt>
+        ensures { Leads result self.new (pay self.old.steps self.old) }
+    {
+        if self.steps == 0 {
+            return Err(Halt::Refused(RunFault::Steps));
+        }
+        self.steps -= 1;
+        Ok(())
+    }
+
+    // The cursor at a place.
+    fn go_to(&mut self, place: usize) -> Result<(), Halt>
+        ensures { Leads result self.new (at_place place self.old) }
+    {
+        if place > self.text.len() {
+            return Err(Halt::Refused(RunFault::Cursor));
+        }
+        self.cursor = place;
+        Ok(())
+    }
+
+    // The cursor at the place `b` left of `a`.
+    fn go_to_difference(&mut self, a: usize, b: usize) -> Result<(), Halt>
+        ensures { Leads result self.new (at_difference a b self.old) }
+    {
+        if a < b {
+            return Err(Halt::Refused(RunFault::Cursor));
+        }
+        self.go_to(a - b)
+    }
+
+    /// What has to be kept to put the cursor back here.
+    pub fn mark(&self) -> Mark
+        ensures value { result ≡ mark self.now }
+        ensures small { result.cursor + result.beyond + result.length ≤ 4096 }
+    {
+        Mark {
+            cursor: self.cursor,
+            beyond: self.beyond,
+            length: self.text.len(),
+        }
+    }
+
+    /// Puts the cursor back to a mark. `Cursor` where that place is outside the text.
+    pub fn put_back(&mut self, mode: Mode, from: Mark) -> Result<(), Halt>
+        requires { from.cursor + from.beyond + from.length ≤ 4096 }
+        ensures leads { Leads result self.new (put_back mode from self.old) }
+        ensures same_steps { IfOk result (λ _. self.new.steps ≡ self.old.steps) }
+    {
+        match mode {
+            Mode::Forward => self.go_to(from.cursor),
+            Mode::Backward => {
+                let whole = self.text.len() + from.beyond + from.cursor;
+                let part = self.beyond + from.length;
+                self.go_to_difference(whole, part)
+            }
+        }
+    }
+
+    fn step_over(&mut self, mode: Mode, n: usize) -> Result<(), Halt>
+        requires { n < 2 ^ 32 }
+        ensures leads { Leads result self.new (step_over mode n self.old) }
+        ensures same_steps { IfOk result (λ _. self.new.steps ≡ self.old.steps) }
+    {
+        match mode {
+            Mode::Forward => {
+                let place = self.cursor + n;
+                self.go_to(place)
+            }
+            Mode::Backward => {
+                let cursor = self.cursor;
+                self.go_to_difference(cursor, n)
+            }
+        }
+    }
+
+    /// Sets the cursor just after a string of so many characters that begins at a mark. `Cursor` where one of the two
+    /// places is outside the text.
+    pub fn place_after(&mut self, mode: Mode, from: Mark, n: usize) -> Result<(), Halt>
+        requires near { from.cursor + from.beyond + from.length ≤ 4096 }
+        requires small { n < 2 ^ 32 }
+        ensures leads { Leads result self.new (place_after mode from n self.old) }
+        ensures same_steps { IfOk result (λ _. self.new.steps ≡ self.old.steps) }
+    {
+        self.put_back(mode, from)?;
+        self.step_over(mode, n)
+    }
+
+    /// `tolimit`. `Cursor` where the limit is outside the text.
+    pub fn to_limit(&mut self, mode: Mode) -> Result<(), Halt>
+        ensures leads { Leads result self.new (to_limit mode self.old) }
+        ensures same_steps { IfOk result (λ _. self.new.steps ≡ self.old.steps) }
+    {
+        match mode {
+            Mode::Forward => {
+                let length = self.text.len();
+                let beyond = self.beyond;
+                self.go_to_difference(length, beyond)
+            }
+            Mode::Backward => {
+                let left = self.left;
+                self.go_to(left)
+            }
+        }
+    }
+
+    /// The characters of a literal, or of a string variable.
+    pub fn characters<'a>(&'a self, term: &'a StringTerm) -> &'a [char]
+        ensures { result.now ≡ characters term.now self.now }
+    {
+        match term {
+            StringTerm::Literal(string) => string,
+            StringTerm::Variable(number) => match self.strings.get(*number) {
+                None => &[],
+                Some(string) => string,
+            },
+        }
+    }
+
+    // The limit, as far as it is in the text.
+    fn limit(&self) -> usize
+        ensures value { result ≡ length self.now.text - self.now.beyond }
+        ensures within { result ≤ length self.now.text }
+    {
+        self.text.len().saturating_sub(self.beyond)
+    }
+
+    /// What is ahead, as it lies in the text.
+    pub fn part_ahead(&self, mode: Mode) -> &[char]
+        ensures value { read_as mode result.now ≡ ahead mode self.now }
+        ensures len { length result.now ≡ room mode self.now }
+    {
+        match mode {
+            Mode::Forward => {
+                let limit = self.limit();
+                if self.cursor < limit {
+                    &self.text[self.cursor..limit]
+                } else {
+                    &[]
+                }
+            }
+            Mode::Backward => {
+                if self.left < self.cursor {
+                    &self.text[self.left..self.cursor]
+                } else {
+                    &[]
+                }
+            }
+        }
+    }
+}
