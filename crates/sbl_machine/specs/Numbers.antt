@@ -1,5 +1,5 @@
 -- Numbers: what an arithmetic expression is worth, and what is done with it.
-use Rattle.std.specs.Prelude.{ℕ, zero, suc, ℤ, pos, negsuc, ◌+ℤ◌, ◌-ℤ◌, ◌*ℤ◌, neg_ℤ, ◌^◌, Bool, true, not, length, nat_lt, int_lt, int_div, if◌then◌else◌, Result, Ok, Err, Option, Some, None, slice_index_or, slice_set}
+use Rattle.std.specs.Prelude.{ℕ, ℤ, pos, negsuc, ◌+ℤ◌, ◌-ℤ◌, ◌*ℤ◌, neg_ℤ, ◌^◌, Bool, true, not, length, nat_lt, int_lt, int_div, if◌then◌else◌, Result, Ok, Err, Option, Some, None, slice_index_or, slice_set}
 use Rattle.std.specs.Ordering.{int_eq}
 use Rattle.sbl_machine.specs.declared.action.Arithmetic.{Arithmetic}
 use Rattle.sbl_machine.specs.declared.action.Arithmetic.TheOpen.{Arithmetic-F, Number, Integer, Cursor, Limit, Length, LengthOf, Greatest, Least, Negative, Sum, Difference, Product, Quotient}
@@ -26,9 +26,7 @@ fitted (negsuc n) = if nat_lt n (2 ^ 31) then Ok (negsuc n) else Err faults.Inte
 
 -- the quotient, cut towards zero
 abbrev pub divided : ℤ → ℤ → Value
-divided a (pos zero) = Err faults.Divide
-divided a (pos (suc n)) = fitted (int_div a (pos (suc n)))
-divided a (negsuc n) = fitted (int_div a (negsuc n))
+divided x y = if int_eq y (pos 0) then Err faults.Divide else fitted (int_div x y)
 
 -- goes on with a number
 abbrev pub with_value : Value → (ℤ → Value) → Value

@@ -6,7 +6,9 @@ ghost use Rattle.sbl_machine.specs.Standing.{Standing, pay, at_place, at_differe
 ghost use Rattle.sbl_machine.specs.Moves.{characters};
 ghost use Rattle.sbl_machine.specs.Kept.{Leads};
 
+mod actions;
 mod moves;
+mod numbers;
 mod slices;
 
 use crate::action::StringTerm;

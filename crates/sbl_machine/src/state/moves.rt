@@ -4,8 +4,9 @@ ghost use Rattle.std.specs.Prelude.{◌≡◌, ◌≤◌, ◌<◌, ◌^◌, leng
 ghost use Rattle.std.specs.List.{starts_with};
 ghost use Rattle.sbl_machine.specs.Fitting.{read_as};
 ghost use Rattle.sbl_machine.specs.Standing.{Signals, ahead, room, moved};
-ghost use Rattle.sbl_machine.specs.Moves.{match, next_is, one_of, next, hop, at_limit, set_mark, at_mark, to_mark, set_boolean, test_boolean};
+ghost use Rattle.sbl_machine.specs.Moves.{characters, match, next_is, one_of, next, hop, at_limit, set_mark, at_mark, to_mark, set_boolean, test_boolean};
 
+use crate::action::StringTerm;
 use crate::state::State;
 use sbl_script::Mode;
 
@@ -31,14 +32,16 @@ impl State {
         }
     }
 
-    /// Moves over a string that is the front of what is ahead, and answers whether it is.
-    pub fn take_string(&mut self, mode: Mode, string: &[char]) -> bool
-        ensures leads { match string.now mode self.old ≡ Signals result self.new }
+    /// Moves over a literal or what a string variable holds, and answers whether it is the front of what is ahead.
+    pub fn take_term(&mut self, mode: Mode, term: &StringTerm) -> bool
+        ensures leads { match (characters term.now self.old) mode self.old ≡ Signals result self.new }
         ensures same_steps { self.new.steps ≡ self.old.steps }
     {
+        let string = self.characters(term);
         let found = is_front(mode, self.part_ahead(mode), string);
+        let length = string.len();
         if found {
-            self.advance(mode, string.len());
+            self.advance(mode, length);
         }
         found
     }
