@@ -1,5 +1,5 @@
 -- How the code's answers stand for an ending, and what holds of each state.
-use Rattle.std.specs.Prelude.{◌≡◌, ℕ, ◌≤◌, Bool, true, List, length, Result, Ok, Err}
+use Rattle.std.specs.Prelude.{◌≡◌, ℕ, ◌≤◌, Bool, true, false, List, length, Result, Ok, Err}
 use Rattle.sbl_machine.specs.declared.fault.Halt.{Halt}
 use Rattle.sbl_machine.specs.declared.fault.Halt.TheVariants as halts
 use Rattle.sbl_machine.specs.Standing.{Standing, Ending, Signals, Stops}
@@ -15,6 +15,13 @@ abbrev pub Leads : Result (Unit {0}) Halt → Standing → Ending → Type 0
 Leads (Ok u) new e = e ≡ Signals true new
 Leads (Err (halts.Refused fault)) new e = e ≡ Stops fault new
 Leads (Err halts.OutOfMemory) new e = Unit {0}
+
+-- One string of a search: it is taken, or what comes next follows.
+abbrev pub Tried : Result Bool Halt → Standing → Ending → Ending → Type 0
+Tried (Ok true) new e follow = e ≡ Signals true new
+Tried (Ok false) new e follow = e ≡ follow
+Tried (Err (halts.Refused fault)) new e follow = e ≡ Stops fault new
+Tried (Err halts.OutOfMemory) new e follow = Unit {0}
 
 -- the places lie in the text, which is short
 pub record IsWithin (text : List ℕ) (cursor left beyond bra ket : ℕ) : Type 0 where

@@ -1,8 +1,14 @@
 pub mod Names
 pub mod Fitting
+pub mod Best
+pub mod Laws
+pub mod Strings
+pub mod Listed
 pub mod Standing
 pub mod Moves
 pub mod Slices
 pub mod Numbers
 pub mod Actions
+pub mod Search
+pub mod Run
 pub mod Kept

@@ -2,7 +2,15 @@
 #![tactic(auto)]
 
 pub mod action;
+mod copies;
 pub mod fault;
+pub mod laws;
+pub mod node;
+pub mod plain;
+pub mod search;
 pub mod state;
+pub mod table;
 
 pub use fault::{RunFault, RunStop};
+pub use plain::PlainTable;
+pub use search::AmongSearch;

@@ -7,6 +7,7 @@ ghost use Rattle.sbl_machine.specs.Moves.{characters};
 ghost use Rattle.sbl_machine.specs.Kept.{Leads};
 
 mod actions;
+mod control;
 mod moves;
 mod numbers;
 mod slices;
@@ -33,8 +34,9 @@ pub struct State {
     strings: Vec<Vec<char>>,
     choices: Vec<Option<usize>>,
     steps: u32,
-    // What the next splice is made in.
+    // What the next splice is made in, and what the choices of the next calls are kept in.
     spare: Vec<char>,
+    spares: Vec<Vec<Option<usize>>>,
 }
 
 impl Model for State {
@@ -47,6 +49,15 @@ impl Model for State {
     ghost view = { λ s. record { text = s.text.items; cursor = s.cursor; left = s.left; beyond = s.beyond; bra = s.bra; ket = s.ket; integers = s.integers.items; booleans = s.booleans.items; strings = map (λ v. v.items) s.strings.items; choices = s.choices.items; steps = s.steps } };
 
     ghost invariant = { λ s. IsWithin s.text.items s.cursor s.left s.beyond s.bra s.ket };
+}
+
+/// The limits of both directions.
+#[derive(Clone, Copy)]
+pub struct Limits {
+    /// The left limit.
+    pub left: usize,
+    /// How many characters stand beyond the limit.
+    pub beyond: usize,
 }
 
 /// What putting the cursor back needs of a state.
@@ -121,15 +132,18 @@ impl State {
         }
     }
 
+    // The cursor over so many characters, which need not be ahead.
     fn step_over(&mut self, mode: Mode, n: usize) -> Result<(), Halt>
-        requires { n < 2 ^ 32 }
         ensures leads { Leads result self.new (step_over mode n self.old) }
         ensures same_steps { IfOk result (λ _. self.new.steps ≡ self.old.steps) }
     {
         match mode {
             Mode::Forward => {
-                let place = self.cursor + n;
-                self.go_to(place)
+                if n > self.text.len() - self.cursor {
+                    return Err(Halt::Refused(RunFault::Cursor));
+                }
+                self.cursor += n;
+                Ok(())
             }
             Mode::Backward => {
                 let cursor = self.cursor;
@@ -141,8 +155,7 @@ impl State {
     /// Sets the cursor just after a string of so many characters that begins at a mark. `Cursor` where one of the two
     /// places is outside the text.
     pub fn place_after(&mut self, mode: Mode, from: Mark, n: usize) -> Result<(), Halt>
-        requires near { from.cursor + from.beyond + from.length ≤ 4096 }
-        requires small { n < 2 ^ 32 }
+        requires { from.cursor + from.beyond + from.length ≤ 4096 }
         ensures leads { Leads result self.new (place_after mode from n self.old) }
         ensures same_steps { IfOk result (λ _. self.new.steps ≡ self.old.steps) }
     {

@@ -7,10 +7,11 @@ ghost use Rattle.sbl_machine.specs.Moves.{characters};
 ghost use Rattle.sbl_machine.specs.Kept.{Leads};
 
 use crate::action::StringTerm;
+use crate::copies::copied;
 use crate::fault::{Halt, RunFault};
 use crate::state::{MOST_CHARS, State};
 use sbl_script::Mode;
-use std::alloc::{AllocError, Global};
+use std::alloc::AllocError;
 use std::mem;
 
 impl State {
@@ -193,15 +194,6 @@ fn spliced(
     buffer.extend_from_slice(string)?;
     buffer.extend_from_slice(&text[to..])?;
     Ok(buffer)
-}
-
-// A copy of a text.
-fn copied(alloc: Global, text: &[char]) -> Result<Vec<char>, AllocError>
-    ensures { IfOk result (λ v. v.items ≡ text.now) }
-{
-    let mut made = Vec::new(alloc);
-    made.extend_from_slice(text)?;
-    Ok(made)
 }
 
 // Gives a string variable its characters.

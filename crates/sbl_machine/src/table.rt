@@ -1,0 +1,21 @@
+//! The tables of a script's amongs, by number.
+
+ghost use Rattle.std.specs.Prelude.{◌≡◌, ◌≤◌, ◌++◌, ◌∷◌, List, ℕ, length};
+ghost use Rattle.sbl_machine.specs.Fitting.{first};
+ghost use Rattle.sbl_machine.specs.Listed.{Listed, fits_at};
+
+/// Searches of all the amongs of a script.
+pub trait Tables {
+    /// The strings of an among, and the mode that reads them.
+    ghost listed: { Self → ℕ → Listed };
+
+    /// The longest string of an among that fits at a place, up to a bound.
+    fn longest(&self, table: usize, text: &[char], at: usize, bound: usize) -> Option<usize>
+        requires at_in { at ≤ length text.now }
+        requires bound_in { bound ≤ length text.now }
+        ensures { result ≡ first (fits_at (listed self.now table) text.now at bound) };
+
+    /// The longest string below this one that fits wherever this one does.
+    fn next_shorter(&self, table: usize, i: usize) -> Option<usize>
+        ensures { (text : List ℕ) (at bound : ℕ) (before rest : List ℕ) → fits_at (listed self.now table) text at bound ≡ before ++ (i ∷ rest) → result ≡ first rest };
+}
