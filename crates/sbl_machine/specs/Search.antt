@@ -26,7 +26,7 @@ condition_does call (Some i) m s = then_on (pay s.steps s) (call i m)
 -- One string: the cursor goes just after it, and its condition is called. At t it is taken, and the cursor
 -- set just after it again; at f what comes next goes on from the state that the condition left.
 abbrev pub try_one : (ℕ → Doing) → ℕ → Option Entry → Mode → Standing → Standing → (Standing → Ending) → Ending
-try_one call k None m from s next = Signals false s
+try_one call k None m from s next = Signals true s
 try_one call k (Some e) m from s next =
     then_on (place_after m (mark from) e.length s) (λ a.
       after (condition_does call e.condition m a)

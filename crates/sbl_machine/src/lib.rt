@@ -7,6 +7,7 @@ pub mod fault;
 pub mod laws;
 pub mod node;
 pub mod plain;
+pub mod run;
 pub mod search;
 pub mod state;
 pub mod table;

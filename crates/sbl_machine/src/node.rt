@@ -1,5 +1,8 @@
 //! The machine's own tree: names are numbers, and each among has its table and its place among the choices of its routine.
 
+ghost use Rattle.std.specs.Prelude.{◌≡◌, slice_get};
+ghost use Rattle.std.specs.Option.{option_map};
+
 use crate::action::{Action, Arithmetic};
 
 /// A command of a routine's body.
@@ -87,4 +90,13 @@ pub struct Program {
     pub groupings: Vec<Vec<char>>,
     /// The routines.
     pub routines: Vec<Routine>,
+}
+
+impl Program {
+    /// The routine of a number.
+    pub fn routine(&self, number: usize) -> Option<&Routine>
+        ensures { option_map (λ r. r.now) result ≡ slice_get self.now.routines.items number }
+    {
+        self.routines.get(number)
+    }
 }

@@ -9,7 +9,7 @@ ghost use Rattle.sbl_machine.specs.Kept.{Leads};
 mod actions;
 mod control;
 mod moves;
-mod numbers;
+pub mod numbers;
 mod slices;
 
 use crate::action::StringTerm;

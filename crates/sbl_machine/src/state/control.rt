@@ -115,7 +115,7 @@ impl State {
     }
 
     /// Begins a call of a routine that has so many amongs, and answers the caller's choices.
-    pub fn enter(&mut self, amongs: usize) -> Result<Vec<Option<usize>>, Halt>
+    pub fn enter(&mut self, amongs: usize) -> Result<Vec<Option<usize>>, AllocError>
         ensures kept { IfOk result (λ v. v.items ≡ self.old.choices) }
         ensures entered { IfOk result (λ _. self.new ≡ enter amongs self.old) }
     {

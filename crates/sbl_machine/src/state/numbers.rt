@@ -3,6 +3,7 @@
 ghost use Rattle.std.specs.Prelude.{◌≡◌, ◌+◌, ◌≤◌, ◌<◌, ◌^◌, ℤ, pos, ◌+ℤ◌, ◌-ℤ◌, ◌*ℤ◌, neg_ℤ, length, SomeIff, FitsSigned, IfOk};
 ghost use Rattle.std.specs.Int.{w32};
 ghost use Rattle.sbl_machine.specs.Numbers.{value, fitted, divided, limit_value, integer_at, changed, holds, assign, compare, natural};
+ghost use Rattle.sbl_machine.specs.Run.{count_of};
 ghost use Rattle.sbl_machine.specs.Kept.{Leads, Follows};
 
 use crate::action::{Arithmetic, Change, Relation};
@@ -164,5 +165,16 @@ pub fn natural(number: i32) -> Option<usize>
         None
     } else {
         Some(number as usize)
+    }
+}
+
+/// A number of turns: none where it is negative.
+pub fn count_of(number: i32) -> u32
+    ensures { result ≡ count_of number }
+{
+    if number < 0 {
+        0
+    } else {
+        number as u32
     }
 }

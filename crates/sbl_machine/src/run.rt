@@ -1,0 +1,339 @@
+//! Runs commands over a state.
+
+ghost use Rattle.std.specs.Prelude.{◌≡◌, ◌+◌, ◌<◌, ◌≤◌, Bool, false, suc, IfOk, map, slice_get};
+ghost use Rattle.sbl_machine.specs.Kept.{Follows, Tried};
+ghost use Rattle.sbl_machine.specs.Numbers.{value, given};
+ghost use Rattle.sbl_machine.specs.Run.{runs, calls, in_turn, turns, times, count_of, seeks, limited};
+ghost use Rattle.sbl_machine.specs.Search.{choice, group_does, search_all, try_one};
+ghost use Rattle.sbl_machine.specs.Standing.{Standing, Ending, Signals, after, then_on, mark, put_back};
+
+use crate::action::Arithmetic;
+use crate::fault::{Halt, RunFault};
+use crate::node::{Entry, Node, Program};
+use crate::state::numbers::count_of;
+use crate::state::{Mark, State};
+use crate::table::Tables;
+use sbl_script::Mode;
+
+/// Runs a command: its signal, or why it has none.
+#[cycle(run)]
+fn run_command<T: Tables>(
+    tables: &T,
+    program: &Program,
+    levels: u32,
+    mode: Mode,
+    command: &Node,
+    state: &mut State,
+) -> Result<bool, Halt>
+    ensures follows { Follows result state.new (runs (T.listed tables.now) program.now levels command.now mode state.old) }
+    ensures fewer { IfOk result (λ _. state.new.steps < state.old.steps) }
+{
+    state.pay()?;
+    match command {
+        Node::Act(action) => state.act(&program.groupings, mode, action),
+        Node::Sequence(commands) => run_in_turn(tables, program, levels, mode, commands, state),
+        Node::Or(first, second) => {
+            let from = state.mark();
+            if run_command(tables, program, levels, mode, first, state)? {
+                return Ok(true);
+            }
+            state.put_back(mode, from)?;
+            run_command(tables, program, levels, mode, second, state)
+        }
+        Node::And(first, second) => {
+            let from = state.mark();
+            if !run_command(tables, program, levels, mode, first, state)? {
+                return Ok(false);
+            }
+            state.put_back(mode, from)?;
+            run_command(tables, program, levels, mode, second, state)
+        }
+        Node::Not(inner) => {
+            let from = state.mark();
+            if run_command(tables, program, levels, mode, inner, state)? {
+                return Ok(false);
+            }
+            state.put_back(mode, from)?;
+            Ok(true)
+        }
+        Node::Test(inner) => {
+            let from = state.mark();
+            if !run_command(tables, program, levels, mode, inner, state)? {
+                return Ok(false);
+            }
+            state.put_back(mode, from)?;
+            Ok(true)
+        }
+        Node::Try(inner) => {
+            let from = state.mark();
+            if !run_command(tables, program, levels, mode, inner, state)? {
+                state.put_back(mode, from)?;
+            }
+            Ok(true)
+        }
+        Node::Do(inner) => {
+            let from = state.mark();
+            run_command(tables, program, levels, mode, inner, state)?;
+            state.put_back(mode, from)?;
+            Ok(true)
+        }
+        Node::Fail(inner) => {
+            run_command(tables, program, levels, mode, inner, state)?;
+            Ok(false)
+        }
+        Node::Repeat(inner) => run_turns(tables, program, levels, mode, inner, state),
+        Node::Loop(count, inner) => run_times(tables, program, levels, mode, count, inner, state),
+        Node::AtLeast(count, inner) => {
+            if !run_times(tables, program, levels, mode, count, inner, state)? {
+                return Ok(false);
+            }
+            run_turns(tables, program, levels, mode, inner, state)
+        }
+        Node::Goto(inner) => run_seek(tables, program, levels, mode, false, inner, state),
+        Node::GoPast(inner) => run_seek(tables, program, levels, mode, true, inner, state),
+        Node::Backwards(inner) => {
+            state.begin_backwards()?;
+            if !run_command(tables, program, levels, Mode::Backward, inner, state)? {
+                return Ok(false);
+            }
+            state.end_backwards()?;
+            Ok(true)
+        }
+        Node::SetLimit(first, second) => {
+            let from = state.mark();
+            let limits = state.limits();
+            if !run_command(tables, program, levels, mode, first, state)? {
+                return Ok(false);
+            }
+            state.limit_here(mode);
+            state.put_back(mode, from)?;
+            let signal = run_command(tables, program, levels, mode, second, state)?;
+            state.limit_back(mode, limits);
+            Ok(signal)
+        }
+        Node::Call(number) => run_call(tables, program, levels, mode, *number, state),
+        Node::Search {
+            among,
+            table,
+            entries,
+        } => run_search(tables, program, levels, mode, *among, *table, entries, state),
+        Node::Among {
+            among,
+            before,
+            bodies,
+        } => run_among(tables, program, levels, mode, *among, before, bodies, state),
+    }
+}
+
+/// Runs commands in turn, up to the first f.
+#[cycle(run)]
+fn run_in_turn<T: Tables>(
+    tables: &T,
+    program: &Program,
+    levels: u32,
+    mode: Mode,
+    commands: &[Node],
+    state: &mut State,
+) -> Result<bool, Halt>
+    ensures follows { Follows result state.new (in_turn (map (runs (T.listed tables.now) program.now levels) commands.now) mode state.old) }
+    ensures no_more { IfOk result (λ _. state.new.steps ≤ state.old.steps) }
+{
+    for one in commands {
+        if !run_command(tables, program, levels, mode, one, state)? {
+            return Ok(false);
+        }
+    }
+    Ok(true)
+}
+
+/// Runs a command up to its first f, and puts the cursor back to before that.
+#[cycle(run)]
+fn run_turns<T: Tables>(
+    tables: &T,
+    program: &Program,
+    levels: u32,
+    mode: Mode,
+    inner: &Node,
+    state: &mut State,
+) -> Result<bool, Halt>
+    ensures follows { Follows result state.new (turns (suc state.old.steps) (runs (T.listed tables.now) program.now levels inner.now) mode state.old) }
+    ensures no_more { IfOk result (λ _. state.new.steps ≤ state.old.steps) }
+{
+    loop {
+        let from = state.mark();
+        if !run_command(tables, program, levels, mode, inner, state)? {
+            state.put_back(mode, from)?;
+            return Ok(true);
+        }
+    }
+}
+
+/// Runs a command so many times, up to the first f.
+#[cycle(run)]
+fn run_times<T: Tables>(
+    tables: &T,
+    program: &Program,
+    levels: u32,
+    mode: Mode,
+    count: &Arithmetic,
+    inner: &Node,
+    state: &mut State,
+) -> Result<bool, Halt>
+    ensures follows { Follows result state.new (given (value count.now mode state.old) state.old (λ z. times (count_of z) (runs (T.listed tables.now) program.now levels inner.now) mode state.old)) }
+    ensures no_more { IfOk result (λ _. state.new.steps ≤ state.old.steps) }
+{
+    let number = state.value(mode, count).map_err(Halt::Refused)?;
+    let mut left = count_of(number);
+    while 0 < left {
+        if !run_command(tables, program, levels, mode, inner, state)? {
+            return Ok(false);
+        }
+        left -= 1;
+    }
+    Ok(true)
+}
+
+/// Tries a command at the cursor and further on, up to its first t; the cursor stays after its match, or goes before it.
+#[cycle(run)]
+fn run_seek<T: Tables>(
+    tables: &T,
+    program: &Program,
+    levels: u32,
+    mode: Mode,
+    past: bool,
+    inner: &Node,
+    state: &mut State,
+) -> Result<bool, Halt>
+    ensures follows { Follows result state.new (seeks (suc state.old.steps) past (runs (T.listed tables.now) program.now levels inner.now) mode state.old) }
+    ensures no_more { IfOk result (λ _. state.new.steps ≤ state.old.steps) }
+{
+    loop {
+        let from = state.mark();
+        if run_command(tables, program, levels, mode, inner, state)? {
+            if !past {
+                state.put_back(mode, from)?;
+            }
+            return Ok(true);
+        }
+        state.put_back(mode, from)?;
+        if !state.take_next(mode) {
+            return Ok(false);
+        }
+    }
+}
+
+/// Calls a routine, where this many levels are left.
+#[cycle(run)]
+fn run_call<T: Tables>(
+    tables: &T,
+    program: &Program,
+    levels: u32,
+    mode: Mode,
+    number: usize,
+    state: &mut State,
+) -> Result<bool, Halt>
+    ensures follows { Follows result state.new (calls (T.listed tables.now) program.now levels number mode state.old) }
+    ensures no_more { IfOk result (λ _. state.new.steps ≤ state.old.steps) }
+{
+    if levels == 0 {
+        return Err(Halt::Refused(RunFault::Depth));
+    }
+    match program.routine(number) {
+        None => Ok(false),
+        Some(routine) => {
+            let kept = state.enter(routine.amongs)?;
+            let signal = run_command(tables, program, levels - 1, mode, &routine.body, state)?;
+            state.leave(kept);
+            Ok(signal)
+        }
+    }
+}
+
+/// Runs what an among does before its group's command, and then the command of the group that is chosen.
+#[cycle(run)]
+fn run_among<T: Tables>(
+    tables: &T,
+    program: &Program,
+    levels: u32,
+    mode: Mode,
+    among: usize,
+    before: &Vec<Node>,
+    bodies: &Vec<Node>,
+    state: &mut State,
+) -> Result<bool, Halt>
+    ensures follows { Follows result state.new (after (in_turn (map (runs (T.listed tables.now) program.now levels) before.now.items) mode state.old) (λ t. group_does (map (runs (T.listed tables.now) program.now levels) bodies.now.items) (choice among t) mode t) (Signals false)) }
+    ensures no_more { IfOk result (λ _. state.new.steps ≤ state.old.steps) }
+{
+    if !run_in_turn(tables, program, levels, mode, before, state)? {
+        return Ok(false);
+    }
+    let Some(group) = state.choice(among) else {
+        return Ok(false);
+    };
+    match bodies.get(group) {
+        None => Ok(true),
+        Some(body) => run_command(tables, program, levels, mode, body, state),
+    }
+}
+
+/// Tries the strings that fit, the longest first.
+#[cycle(run)]
+fn run_search<T: Tables>(
+    tables: &T,
+    program: &Program,
+    levels: u32,
+    mode: Mode,
+    among: usize,
+    table: usize,
+    entries: &[Entry],
+    state: &mut State,
+) -> Result<bool, Halt>
+    ensures follows { Follows result state.new (search_all (calls (T.listed tables.now) program.now levels) among entries.now (T.listed tables.now table) mode state.old) }
+    ensures no_more { IfOk result (λ _. state.new.steps ≤ state.old.steps) }
+{
+    let from = state.mark();
+    let mut place = tables.longest(table, state.text(), state.place(), state.bound(mode));
+    while let Some(i) = place {
+        match run_try(tables, program, levels, mode, among, from, entries, i, state) {
+            Err(halt) => return Err(halt),
+            Ok(true) => return Ok(true),
+            Ok(false) => {}
+        }
+        place = tables.next_shorter(table, i);
+    }
+    state.choose(among, None);
+    Ok(false)
+}
+
+/// Tries one string, and answers whether it is taken: not where its condition signals f.
+#[cycle(run)]
+fn run_try<T: Tables>(
+    tables: &T,
+    program: &Program,
+    levels: u32,
+    mode: Mode,
+    among: usize,
+    from: Mark,
+    entries: &[Entry],
+    i: usize,
+    state: &mut State,
+) -> Result<bool, Halt>
+    requires { from.cursor + from.beyond + from.length ≤ 4096 }
+    ensures tried { (begun : Standing) (follow : Standing → Ending) → from ≡ mark begun → Tried result state.new (try_one (calls (T.listed tables.now) program.now levels) among (slice_get entries.now i) mode begun state.old follow) (follow state.new) }
+    ensures no_more { IfOk result (λ _. state.new.steps ≤ state.old.steps) }
+    ensures fewer { IfOk result (λ b. b ≡ false → state.new.steps < state.old.steps) }
+{
+    let Some(entry) = entries.get(i).copied() else {
+        return Ok(true);
+    };
+    state.place_after(mode, from, entry.length)?;
+    if let Some(number) = entry.condition {
+        state.pay()?;
+        if !run_call(tables, program, levels, mode, number, state)? {
+            return Ok(false);
+        }
+    }
+    state.place_after(mode, from, entry.length)?;
+    state.choose(among, Some(entry.group));
+    Ok(true)
+}
