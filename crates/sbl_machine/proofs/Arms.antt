@@ -2,8 +2,8 @@
 use Rattle.std.proofs.Common.{◌≡◌, ℕ, ◌-◌, ◌<◌, ◌≤◌, zero, suc, Bool, true, false, List, [], ◌∷◌, Option, Some, None, Result, Ok, Err, refl, sym, ap, ◌∙◌, arith, rules, map, Vec, Box, Global}
 use Rattle.std.specs.Prelude.{slice_get}
 use Rattle.sbl_machine.specs.declared.action.Arithmetic.{Arithmetic}
-use Rattle.sbl_machine.specs.declared.fault.Halt.{Halt}
-use Rattle.sbl_machine.specs.declared.fault.Halt.TheVariants.{OutOfMemory, Refused}
+use Rattle.sbl_machine.specs.declared.halt.Halt.{Halt}
+use Rattle.sbl_machine.specs.declared.halt.Halt.TheVariants.{OutOfMemory, Refused}
 use Rattle.sbl_machine.specs.declared.node.Entry.{Entry}
 use Rattle.sbl_machine.specs.declared.node.Node.{Node}
 use Rattle.sbl_machine.specs.declared.node.Program.{Program}

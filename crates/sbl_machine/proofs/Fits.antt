@@ -1,8 +1,8 @@
 -- The strings that fit.
-use Rattle.std.proofs.Common.{◌≡◌, ℕ, zero, suc, ◌+◌, ◌-◌, ◌<◌, ◌≤◌, Bool, true, false, List, [], ◌∷◌, ◌++◌, length, take, drop, map, reverse, Option, Some, None, refl, sym, ap, ◌∙◌, arith, subst, get_or}
+use Rattle.std.proofs.Common.{◌≡◌, ℕ, zero, suc, ◌+◌, ◌<◌, ◌≤◌, Bool, true, false, List, [], ◌∷◌, ◌++◌, length, take, Option, Some, None, refl, sym, ap, ◌∙◌, arith, get_or}
 use Rattle.std.specs.Prelude.{nat_eq, nat_lt, cond, slice_get}
 use Rattle.std.specs.List.{starts_with, position, position_or_len}
-use Rattle.std.specs.Cmp.Lexicographic.{pointwise, same_text}
+use Rattle.std.specs.Cmp.Lexicographic.{pointwise}
 use Rattle.std.proofs.lemmas.Bool.Decides.{Decides-eqb}
 use Rattle.std.proofs.lemmas.Bool.{ltb-false}
 use Rattle.std.proofs.lemmas.List.Sums.{fails_before_first}
@@ -10,7 +10,6 @@ use Rattle.std.proofs.lemmas.List.{length-take}
 use Rattle.std.proofs.lemmas.List.Quantifiers.{position-Some}
 use Rattle.std.proofs.lemmas.Option.{slice_get-get_or, slice_get_within, get_or_from_slice_get}
 use Rattle.std.proofs.lemmas.Slice.Eq.{slice_eq-Decides}
-use Rattle.std.proofs.lemmas.Grind.{common_steps}
 use Rattle.sbl_machine.specs.Fitting.{below, fitting, first, onto}
 use Rattle.sbl_machine.specs.Best.{IsBest}
 
@@ -22,23 +21,23 @@ test_of_same : (a b : List ℕ) → a ≡ b → pointwise nat_eq a b ≡ true
 test_of_same a b h = (slice_eq-Decides Decides-eqb a b (pointwise nat_eq a b) refl).1 h
 
 -- a front is what its length takes
-front_is : (x w : List ℕ) → starts_with nat_eq x w ≡ true → w ≡ take (length w) x
+pub front_is : (x w : List ℕ) → starts_with nat_eq x w ≡ true → w ≡ take (length w) x
 front_is x w h = same_by_test w (take (length w) x) h
 
-front_length : (x w : List ℕ) → starts_with nat_eq x w ≡ true → length w ≤ length x
+pub front_length : (x w : List ℕ) → starts_with nat_eq x w ≡ true → length w ≤ length x
 front_length x w h = let e : length w ≡ length (take (length w) x) = ap length (front_is x w h) in omega (arith, e, length-take (length w) x)
 
-taken_length : (l : ℕ) (x : List ℕ) → l ≤ length x → length (take l x) ≡ l
+pub taken_length : (l : ℕ) (x : List ℕ) → l ≤ length x → length (take l x) ≡ l
 taken_length l x h = omega (arith, length-take l x)
 
 -- what is taken is a front
-taken_front : (x w : List ℕ) (l : ℕ) → l ≤ length x → w ≡ take l x → starts_with nat_eq x w ≡ true
+pub taken_front : (x w : List ℕ) (l : ℕ) → l ≤ length x → w ≡ take l x → starts_with nat_eq x w ≡ true
 taken_front x w l h e =
     let n : length w ≡ l = ap length e ∙ taken_length l x h in
     test_of_same w (take (length w) x) (e ∙ ap (λ k. take k x) (sym n))
 
 -- a string is at its number, and at no smaller one
-at_number : (strings : List (List ℕ)) (w : List ℕ) (i : ℕ) → position (pointwise nat_eq w) strings ≡ Some i → slice_get strings i ≡ Some w
+pub at_number : (strings : List (List ℕ)) (w : List ℕ) (i : ℕ) → position (pointwise nat_eq w) strings ≡ Some i → slice_get strings i ≡ Some w
 at_number strings w i h =
     let p = position-Some (pointwise nat_eq w) strings i [] h in
     slice_get-get_or strings i [] p.0 ∙ ap Some (sym (same_by_test w (get_or strings i []) p.1))
@@ -56,7 +55,7 @@ not_there : (b : Bool) (p n : ℕ) → nat_lt p n ≡ b → cond b (Some p) None
 not_there true p n t h = let e : Some p ≡ None = h in absurd (let no : ⊥ = cc in no)
 not_there false p n t h = ltb-false p n t
 
-nowhere : (strings : List (List ℕ)) (w : List ℕ) (j : ℕ) → position (pointwise nat_eq w) strings ≡ None → slice_get strings j ≡ Some w → ⊥
+pub nowhere : (strings : List (List ℕ)) (w : List ℕ) (j : ℕ) → position (pointwise nat_eq w) strings ≡ None → slice_get strings j ≡ Some w → ⊥
 nowhere strings w j h e =
     let p = pointwise nat_eq w in
     let q : get_or strings j [] ≡ w = get_or_from_slice_get strings j w [] e in

@@ -1,5 +1,5 @@
 -- The string at a place, as the mode reads it.
-use Rattle.std.proofs.Common.{◌≡◌, ℕ, ◌+◌, ◌<◌, ◌≤◌, List, [], length, map, get_or, sym, ap, ◌∙◌, arith, rules, Vec, Global}
+use Rattle.std.proofs.Common.{◌≡◌, ℕ, ◌<◌, List, [], length, map, get_or, sym, ap, ◌∙◌, arith, rules, Vec, Global}
 use Rattle.std.proofs.lemmas.List.{get_or-map, length-map}
 use Rattle.sbl_script.specs.declared.tree.Mode.{Mode}
 use Rattle.sbl_machine.specs.Fitting.{read_as, read_all}

@@ -1,5 +1,5 @@
 -- The best of the strings so far.
-use Rattle.std.proofs.Common.{◌≡◌, ℕ, zero, suc, ◌+◌, ◌<◌, ◌≤◌, Bool, true, false, List, [], ◌∷◌, ◌++◌, length, take, map, reverse, Option, Some, None, refl, sym, ap, ◌∙◌, arith, ◌⊎◌, inl, inr}
+use Rattle.std.proofs.Common.{◌≡◌, ℕ, zero, suc, ◌+◌, ◌<◌, ◌≤◌, true, List, [], ◌∷◌, ◌++◌, length, take, Option, Some, None, refl, sym, ap, ◌∙◌, arith, ◌⊎◌, inl, inr}
 use Rattle.std.specs.Prelude.{nat_eq, slice_get}
 use Rattle.std.specs.List.{starts_with}
 use Rattle.std.proofs.lemmas.List.{length-reverse, take_more}
@@ -7,7 +7,7 @@ use Rattle.std.proofs.Common.{get_or}
 use Rattle.sbl_script.specs.declared.tree.Mode.{Mode}
 use Rattle.sbl_script.specs.declared.tree.Mode.TheVariants.{Forward, Backward}
 use Rattle.sbl_machine.specs.Fitting.{read_as}
-use Rattle.sbl_machine.specs.Best.{IsBest, LeastIs, BestSoFar}
+use Rattle.sbl_machine.specs.Best.{BestSoFar}
 
 pub read_length : (m : Mode) (w : List ℕ) → length (read_as m w) ≡ length w
 read_length Forward w = refl
@@ -42,28 +42,42 @@ within (s ∷ ss) v (suc j) e = omega (arith, within ss v j e)
 pub best_kept : (ss : List (List ℕ)) (x : List ℕ) (b : ℕ) (best : Option ℕ) (least : ℕ) (w : List ℕ) → BestSoFar ss x b best least → (starts_with nat_eq x w ≡ true → length w < b → length w < least) → BestSoFar (ss ++ (w ∷ [])) x b best least
 best_kept ss x b None least w s few =
     record {
-      is_best = λ j v e f. elim (in_more ss w v j e) [ inl h ↦ s.is_best j v h f | inr h ↦
-          let n : length v ≡ length w = ap length h.1 in
-          let g : starts_with nat_eq x w ≡ true = sym (ap (starts_with nat_eq x) h.1) ∙ f in
-          let z : least ≡ 0 = s.least_is in
-          let k : length w < b → ⊥ = λ q. let m : length w < least = few g q in omega (arith, m, z) in
-          omega (arith, n, k) ];
-      least_is = s.least_is
+      is_best = λ j v e f. elim (in_more ss w v j e) [
+        | inl h ↦ s.is_best j v h f
+        | inr h ↦
+            let n : length v ≡ length w = ap length h.1 in
+            let g : starts_with nat_eq x w ≡ true = sym (ap (starts_with nat_eq x) h.1) ∙ f in
+            let z : least ≡ 0 = s.least_is in
+            let k : length w < b → ⊥ = λ q. let m : length w < least = few g q in omega (arith, m, z) in
+            omega (arith, n, k)
+      ];
+      least_is = s.least_is;
     }
 best_kept ss x b (Some i) least w s few =
     let old = s.is_best in
     let l : least ≡ suc (length old.0) = s.least_is old.0 old.1 in
     record {
-      is_best = (old.0, at_more ss w old.0 i old.1, old.2, old.3,
-        (λ j v e f q. elim (in_more ss w v j e) [ inl h ↦ old.4 j v h f q | inr h ↦
-            let n : length v ≡ length w = ap length h.1 in
-            let g : starts_with nat_eq x w ≡ true = sym (ap (starts_with nat_eq x) h.1) ∙ f in
-            let m : length w < least = few g (omega (arith, n, q)) in
-            omega (arith, m, l, n) ]),
-        (λ j v k e f q. elim (in_more ss w v j e) [ inl h ↦ old.5 j v k h f q | inr h ↦
-            let i_in : i < length ss = within ss old.0 i old.1 in
-            absurd (omega (arith, i_in, h.0, k)) ]));
-      least_is = λ v e. elim (in_more ss w v i e) [ inl h ↦ s.least_is v h | inr h ↦ let i_in : i < length ss = within ss old.0 i old.1 in absurd (omega (arith, i_in, h.0)) ]
+      is_best = (
+        old.0,
+        at_more ss w old.0 i old.1,
+        old.2,
+        old.3,
+        (λ j v e f q. elim (in_more ss w v j e) [
+          | inl h ↦ old.4 j v h f q
+          | inr h ↦
+              let n : length v ≡ length w = ap length h.1 in
+              let g : starts_with nat_eq x w ≡ true = sym (ap (starts_with nat_eq x) h.1) ∙ f in
+              let m : length w < least = few g (omega (arith, n, q)) in
+              omega (arith, m, l, n)
+        ]),
+        (λ j v k e f q. elim (in_more ss w v j e) [
+          | inl h ↦ old.5 j v k h f q
+          | inr h ↦
+              let i_in : i < length ss = within ss old.0 i old.1 in
+              absurd (omega (arith, i_in, h.0, k))
+        ]),
+      );
+      least_is = λ v e. elim (in_more ss w v i e) [ inl h ↦ s.least_is v h | inr h ↦ let i_in : i < length ss = within ss old.0 i old.1 in absurd (omega (arith, i_in, h.0)) ];
     }
 
 smaller_than : (ss : List (List ℕ)) (x : List ℕ) (b : ℕ) (best : Option ℕ) (least : ℕ) (w : List ℕ) → BestSoFar ss x b best least → length w < b → least ≤ length w → (j : ℕ) (v : List ℕ) → slice_get ss j ≡ Some v → starts_with nat_eq x v ≡ true → length v < b → length v < length w
@@ -79,10 +93,15 @@ pub best_taken : (ss : List (List ℕ)) (x : List ℕ) (b : ℕ) (best : Option 
 best_taken ss x b best least w s front short long =
     let smaller : (j : ℕ) (v : List ℕ) → slice_get ss j ≡ Some v → starts_with nat_eq x v ≡ true → length v < b → length v < length w = smaller_than ss x b best least w s short long in
     record {
-      is_best = (w, at_end ss w, front, short,
+      is_best = (
+        w,
+        at_end ss w,
+        front,
+        short,
         (λ j v e f q. elim (in_more ss w v j e) [ inl h ↦ (let m : length v < length w = smaller j v h f q in omega (arith, m)) | inr h ↦ (let n : length v ≡ length w = ap length h.1 in omega (arith, n)) ]),
-        (λ j v k e f q. elim (in_more ss w v j e) [ inl h ↦ smaller j v h f q | inr h ↦ absurd (omega (arith, h.0, k)) ]));
-      least_is = λ v e. elim (in_more ss w v (length ss) e) [ inl h ↦ (let m : length ss < length ss = within ss v (length ss) h in absurd (omega (arith, m))) | inr h ↦ sym (ap (λ t. suc (length t)) h.1) ]
+        (λ j v k e f q. elim (in_more ss w v j e) [ inl h ↦ smaller j v h f q | inr h ↦ absurd (omega (arith, h.0, k)) ]),
+      );
+      least_is = λ v e. elim (in_more ss w v (length ss) e) [ inl h ↦ (let m : length ss < length ss = within ss v (length ss) h in absurd (omega (arith, m))) | inr h ↦ sym (ap (λ t. suc (length t)) h.1) ];
     }
 
 -- the same, for a list one of whose strings comes next

@@ -1,6 +1,6 @@
 -- The strings of an among that fit.
-use Rattle.std.specs.Prelude.{ℕ, zero, suc, ◌+◌, ◌-◌, Bool, true, false, List, [], ◌∷◌, length, map, take, drop, reverse, nat_eq, Option, Some, None, slice_index_or, if◌then◌else◌}
-use Rattle.std.specs.List.{starts_with, position}
+use Rattle.std.specs.Prelude.{ℕ, zero, suc, ◌-◌, List, [], ◌∷◌, length, map, take, drop, reverse, nat_eq, Option, Some, None, slice_index_or}
+use Rattle.std.specs.List.{position}
 use Rattle.std.specs.Cmp.Lexicographic.{pointwise}
 use Rattle.sbl_script.specs.declared.tree.Mode.{Mode}
 use Rattle.sbl_script.specs.declared.tree.Mode.TheVariants.{Forward, Backward}
@@ -22,19 +22,18 @@ ahead_at Backward text at bound = reverse (take (at - bound) (drop bound text))
 abbrev pub length_at : List (List ℕ) → ℕ → ℕ
 length_at strings i = length (slice_index_or strings i [])
 
--- whether the i-th string is the front of x, and has this many characters
-abbrev pub fits : List (List ℕ) → List ℕ → ℕ → Bool
-fits strings x i = starts_with nat_eq x (slice_index_or strings i [])
-
+-- a number, if there is one, before others
 abbrev pub onto : Option ℕ → List ℕ → List ℕ
 onto None is = is
 onto (Some i) is = i ∷ is
 
--- the strings of fewer than b characters that are a front of x, by falling length: of each length at most one is
+-- the numbers of the strings of fewer than b characters that are a front of x, by falling length; of strings that differ
+-- at most one of each length is
 abbrev pub below : List (List ℕ) → List ℕ → ℕ → List ℕ
 below strings x zero = []
 below strings x (suc l) = onto (position (pointwise nat_eq (take l x)) strings) (below strings x l)
 
+-- the numbers of the strings that match, being a front of x, by falling length
 unfoldable pub fitting : List (List ℕ) → List ℕ → List ℕ
 fitting strings x = below strings x (suc (length x))
 

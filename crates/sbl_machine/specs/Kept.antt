@@ -1,7 +1,7 @@
 -- How the code's answers stand for an ending, and what holds of each state.
 use Rattle.std.specs.Prelude.{◌≡◌, ℕ, ◌≤◌, Bool, true, false, List, length, Result, Ok, Err}
-use Rattle.sbl_machine.specs.declared.fault.Halt.{Halt}
-use Rattle.sbl_machine.specs.declared.fault.Halt.TheVariants as halts
+use Rattle.sbl_machine.specs.declared.halt.Halt.{Halt}
+use Rattle.sbl_machine.specs.declared.halt.Halt.TheVariants as halts
 use Rattle.sbl_machine.specs.Standing.{Standing, Ending, Signals, Stops}
 
 -- A command answered this, and left this state, as the definition says; want of memory may come at any place.

@@ -11,4 +11,6 @@ pub mod Numbers
 pub mod Actions
 pub mod Search
 pub mod Run
+pub mod Outcome
+pub mod MachineOf
 pub mod Kept

@@ -4,14 +4,21 @@
 pub mod action;
 mod copies;
 pub mod fault;
+mod halt;
 pub mod laws;
+pub mod machine;
+pub mod meter;
 pub mod node;
+pub mod outcome;
 pub mod plain;
-pub mod run;
+mod run;
 pub mod search;
-pub mod state;
+mod state;
 pub mod table;
 
 pub use fault::{RunFault, RunStop};
+pub use machine::Machine;
+pub use meter::Meter;
+pub use outcome::{Outcome, Ran};
 pub use plain::PlainTable;
 pub use search::AmongSearch;

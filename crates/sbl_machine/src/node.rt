@@ -86,10 +86,18 @@ pub struct Routine {
 /// What the commands of a script refer to by number.
 #[derive(Drop)]
 pub struct Program {
+    /// How many integers there are.
+    pub integers: usize,
+    /// How many booleans there are.
+    pub booleans: usize,
+    /// How many string variables there are.
+    pub strings: usize,
     /// The set of each grouping.
     pub groupings: Vec<Vec<char>>,
     /// The routines.
     pub routines: Vec<Routine>,
+    /// The routine that is run, by its number.
+    pub external: usize,
 }
 
 impl Program {

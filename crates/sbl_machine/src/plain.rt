@@ -59,7 +59,11 @@ impl AmongSearch for PlainTable {
 
     ghost mode = { mode_of };
 
-    fn build(alloc: Global, strings: &[Vec<char>], direction: Mode) -> Result<PlainTable, AllocError> {
+    fn build(
+        alloc: Global,
+        strings: &[Vec<char>],
+        direction: Mode,
+    ) -> Result<PlainTable, AllocError> {
         let mut copies = Vec::new(alloc);
         for string in strings {
             add(alloc, &mut copies, string)?;
@@ -98,20 +102,8 @@ fn ahead(direction: Mode, text: &[char], at: usize, bound: usize) -> &[char]
     ensures { read_as direction result.now ≡ ahead_at direction text.now at bound }
 {
     match direction {
-        Mode::Forward => {
-            if at < bound {
-                &text[at..bound]
-            } else {
-                &[]
-            }
-        }
-        Mode::Backward => {
-            if bound < at {
-                &text[bound..at]
-            } else {
-                &[]
-            }
-        }
+        Mode::Forward => { if at < bound { &text[at..bound] } else { &[] } }
+        Mode::Backward => { if bound < at { &text[bound..at] } else { &[] } }
     }
 }
 

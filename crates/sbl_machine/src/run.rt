@@ -8,7 +8,8 @@ ghost use Rattle.sbl_machine.specs.Search.{choice, group_does, search_all, try_o
 ghost use Rattle.sbl_machine.specs.Standing.{Standing, Ending, Signals, after, then_on, mark, put_back};
 
 use crate::action::Arithmetic;
-use crate::fault::{Halt, RunFault};
+use crate::fault::RunFault;
+use crate::halt::Halt;
 use crate::node::{Entry, Node, Program};
 use crate::state::numbers::count_of;
 use crate::state::{Mark, State};
@@ -224,7 +225,7 @@ fn run_seek<T: Tables>(
 
 /// Calls a routine, where this many levels are left.
 #[cycle(run)]
-fn run_call<T: Tables>(
+pub fn run_call<T: Tables>(
     tables: &T,
     program: &Program,
     levels: u32,

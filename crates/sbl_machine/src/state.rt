@@ -1,10 +1,11 @@
 //! The state of a run: its text, the places in it, and its variables.
 
-ghost use Rattle.std.specs.Prelude.{◌≡◌, ◌+◌, ◌-◌, ◌<◌, ◌≤◌, ◌^◌, length, IfOk};
+ghost use Rattle.std.specs.Prelude.{◌≡◌, ◌+◌, ◌-◌, ◌<◌, ◌≤◌, ◌^◌, [], length, map, replicate, IfOk};
 ghost use Rattle.sbl_machine.specs.Fitting.{read_as};
 ghost use Rattle.sbl_machine.specs.Standing.{Standing, pay, at_place, at_difference, to_limit, mark, put_back, step_over, place_after, ahead, room};
 ghost use Rattle.sbl_machine.specs.Moves.{characters};
 ghost use Rattle.sbl_machine.specs.Kept.{Leads};
+ghost use Rattle.sbl_machine.specs.Outcome.{start};
 
 mod actions;
 mod control;
@@ -13,8 +14,12 @@ pub mod numbers;
 mod slices;
 
 use crate::action::StringTerm;
-use crate::fault::{Halt, RunFault};
+use crate::copies::copied;
+use crate::fault::RunFault;
+use crate::halt::Halt;
+use crate::node::Program;
 use sbl_script::Mode;
+use std::alloc::{AllocError, Global};
 use std::marker::Model;
 
 /// The most characters that the text of a run may have.
@@ -72,6 +77,48 @@ pub struct Mark {
 }
 
 impl State {
+    /// Where a run of a word begins, with so many steps. AllocError where a growth was refused.
+    pub fn start(alloc: Global, program: &Program, word: &[char], steps: u32) -> Result<State, AllocError>
+        requires { length word.now ≤ 255 }
+        ensures { IfOk result (λ s. s ≡ start program.now word.now steps) }
+    {
+        let text = copied(alloc, word)?;
+        let mut integers = Vec::new(alloc);
+        integers.resize(program.integers, 0)?;
+        let mut booleans = Vec::new(alloc);
+        booleans.resize(program.booleans, false)?;
+        let strings = empty_strings(alloc, program.strings)?;
+        Ok(State {
+            text,
+            cursor: 0,
+            left: 0,
+            beyond: 0,
+            bra: 0,
+            ket: 0,
+            integers,
+            booleans,
+            strings,
+            choices: Vec::new(alloc),
+            steps,
+            spare: Vec::new(alloc),
+            spares: Vec::new(alloc),
+        })
+    }
+
+    /// The text, at the end of a run.
+    pub fn into_text(self) -> Vec<char>
+        ensures { result.items ≡ self.text }
+    {
+        self.text
+    }
+
+    /// The steps that are left.
+    pub fn steps(&self) -> u32
+        ensures { result ≡ self.now.steps }
+    {
+        self.steps
+    }
+
     /// Pays a step. `Steps` where none is left.
     pub fn pay(&mut self) -> Result<(), Halt>
         ensures { Leads result self.new (pay self.old.steps self.old) }
@@ -225,4 +272,15 @@ impl State {
             }
         }
     }
+}
+
+// So many empty strings.
+fn empty_strings(alloc: Global, count: usize) -> Result<Vec<Vec<char>>, AllocError>
+    ensures { IfOk result (λ v. map (λ x. x.items) v.items ≡ replicate count []) }
+{
+    let mut strings = Vec::new(alloc);
+    for _i in 0..count {
+        strings.push(Vec::new(alloc))?;
+    }
+    Ok(strings)
 }

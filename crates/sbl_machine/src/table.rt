@@ -1,8 +1,10 @@
 //! The tables of a script's amongs, by number.
 
-ghost use Rattle.std.specs.Prelude.{◌≡◌, ◌≤◌, ◌++◌, ◌∷◌, List, ℕ, length};
+ghost use Rattle.std.specs.Prelude.{◌≡◌, ◌≤◌, ◌++◌, ◌∷◌, List, ℕ, length, slice_get};
 ghost use Rattle.sbl_machine.specs.Fitting.{first};
-ghost use Rattle.sbl_machine.specs.Listed.{Listed, fits_at};
+ghost use Rattle.sbl_machine.specs.Listed.{Listed, fits_at, listed_by};
+
+use crate::search::AmongSearch;
 
 /// Searches of all the amongs of a script.
 pub trait Tables {
@@ -18,4 +20,29 @@ pub trait Tables {
     /// The longest string below this one that fits wherever this one does.
     fn next_shorter(&self, table: usize, i: usize) -> Option<usize>
         ensures { (text : List ℕ) (at bound : ℕ) (before rest : List ℕ) → fits_at (listed self.now table) text at bound ≡ before ++ (i ∷ rest) → result ≡ first rest };
+}
+
+/// One table for each among.
+#[derive(Drop)]
+pub struct TableList<S> {
+    /// The tables, in the order of their amongs.
+    pub tables: Vec<S>,
+}
+
+impl<S: AmongSearch> Tables for TableList<S> {
+    ghost listed = { λ t k. listed_by S S.entries S.mode (slice_get t.tables.items k) };
+
+    fn longest(&self, table: usize, text: &[char], at: usize, bound: usize) -> Option<usize> {
+        match self.tables.get(table) {
+            None => None,
+            Some(search) => search.longest(text, at, bound),
+        }
+    }
+
+    fn next_shorter(&self, table: usize, i: usize) -> Option<usize> {
+        match self.tables.get(table) {
+            None => None,
+            Some(search) => search.next_shorter(i),
+        }
+    }
 }

@@ -6,7 +6,7 @@ ghost use Rattle.sbl_machine.specs.Numbers.{value, natural};
 ghost use Rattle.sbl_machine.specs.Kept.{Follows};
 
 use crate::action::Action;
-use crate::fault::Halt;
+use crate::halt::Halt;
 use crate::state::State;
 use crate::state::numbers::natural;
 use sbl_script::Mode;

@@ -6,7 +6,7 @@ ghost use Rattle.sbl_machine.specs.Kept.{Leads};
 ghost use Rattle.sbl_machine.specs.Run.{limits, limit_here, limit_back, backwards_from, backwards_end, enter};
 ghost use Rattle.sbl_machine.specs.Search.{choose, choice, bound_in};
 
-use crate::fault::Halt;
+use crate::halt::Halt;
 use crate::state::{Limits, State};
 use sbl_script::Mode;
 use std::alloc::AllocError;

@@ -7,7 +7,8 @@ ghost use Rattle.sbl_machine.specs.Run.{count_of};
 ghost use Rattle.sbl_machine.specs.Kept.{Leads, Follows};
 
 use crate::action::{Arithmetic, Change, Relation};
-use crate::fault::{Halt, RunFault};
+use crate::fault::RunFault;
+use crate::halt::Halt;
 use crate::state::State;
 use sbl_script::Mode;
 

@@ -8,7 +8,8 @@ ghost use Rattle.sbl_machine.specs.Kept.{Leads};
 
 use crate::action::StringTerm;
 use crate::copies::copied;
-use crate::fault::{Halt, RunFault};
+use crate::fault::RunFault;
+use crate::halt::Halt;
 use crate::state::{MOST_CHARS, State};
 use sbl_script::Mode;
 use std::alloc::AllocError;

@@ -1,4 +1,4 @@
-use Rattle.std.proofs.Common.{◌≡◌, ◌++◌, ◌∷◌, [], map, ap, ◌∙◌, Vec, Global, ℕ, List}
+use Rattle.std.proofs.Common.{◌++◌, ◌∷◌, [], map, ap, ◌∙◌, Vec, Global, ℕ}
 use Rattle.std.proofs.lemmas.List.{map-append}
 use Rattle.sbl_machine.proofs.plain.add.Goals as goal
 

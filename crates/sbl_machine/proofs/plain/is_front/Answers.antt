@@ -1,4 +1,4 @@
-use Rattle.std.proofs.Common.{◌∙◌, ap}
+use Rattle.std.proofs.Common.{◌∙◌}
 use Rattle.sbl_machine.proofs.Mirror.{ends_with-mirror}
 use Rattle.sbl_machine.proofs.plain.is_front.Goals as goal
 

@@ -1,5 +1,5 @@
-use Rattle.std.proofs.Common.{◌≡◌, ◌+◌, ◌≤◌, suc, length, sym, ap, refl, ◌∙◌, arith}
-use Rattle.sbl_machine.specs.Fitting.{read_as, first, below, fitting}
+use Rattle.std.proofs.Common.{◌+◌, length, ap, refl, ◌∙◌}
+use Rattle.sbl_machine.specs.Fitting.{read_as, first, fitting}
 use Rattle.sbl_machine.specs.Strings.{strings_of}
 use Rattle.sbl_machine.proofs.Fits.{best_fits}
 use Rattle.sbl_machine.proofs.SoFar.{read_length}

@@ -1,6 +1,4 @@
-use Rattle.std.proofs.Common.{◌≡◌, ◌≤◌, ◌<◌, [], length, map, sym, ap, ◌∙◌, arith, rules, Some, get_or}
-use Rattle.std.specs.Prelude.{slice_get}
-use Rattle.std.proofs.lemmas.List.{length-map}
+use Rattle.std.proofs.Common.{◌≡◌, ◌≤◌, ◌<◌, [], length, sym, ap, ◌∙◌, arith, rules, Some, get_or}
 use Rattle.std.proofs.lemmas.Option.{slice_get_past, slice_get-get_or}
 use Rattle.sbl_machine.specs.Fitting.{read_as}
 use Rattle.sbl_machine.specs.Strings.{strings_of}

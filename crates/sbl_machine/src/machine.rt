@@ -1,0 +1,95 @@
+//! The machine.
+
+ghost use Rattle.std.specs.Prelude.{◌≡◌, ◌≤◌, ◌+◌, length, IfOk, MatchResult, ◌↔◌, Err};
+ghost use Rattle.sbl_machine.specs.Kept.{Follows};
+ghost use Rattle.sbl_machine.specs.MachineOf.{machine_ending};
+ghost use Rattle.sbl_machine.specs.Outcome.{outcome_at, outcome_of, used_at};
+ghost use Rattle.sbl_machine.specs.Standing.{Ending};
+
+use crate::fault::{RunFault, RunStop};
+use crate::halt::Halt;
+use crate::meter::Meter;
+use crate::node::Program;
+use crate::outcome::{Outcome, Ran};
+use crate::run::run_call;
+use crate::search::AmongSearch;
+use crate::state::State;
+use crate::table::TableList;
+use sbl_script::Mode;
+use std::alloc::{AllocError, Global};
+
+/// How deep the calls of routines may go, the external counted as one.
+const MOST_LEVELS: u32 = 32;
+
+/// A script, ready to run.
+#[derive(Drop)]
+pub struct Machine<S> {
+    tables: TableList<S>,
+    program: Program,
+}
+
+impl<S: AmongSearch> Machine<S> {
+    /// Runs the script over a word with so many steps. `MeterFull` where the meter counts no further,
+    /// `OutOfMemory` where a growth was refused; the meter is then as before, else it is raised by one.
+    pub fn run(
+        &self,
+        alloc: Global,
+        meter: &mut Meter,
+        word: &[char],
+        limit: u32,
+    ) -> Result<Ran, RunStop>
+        requires { length word.now ≤ 255 }
+        ensures outcome { IfOk result (λ ran. outcome_of ran.outcome ≡ outcome_at (machine_ending S S.entries S.mode self.now word.now limit)) }
+        ensures used { IfOk result (λ ran. ran.used ≡ used_at limit (machine_ending S S.entries S.mode self.now word.now limit)) }
+        ensures counted { MatchResult result (λ _. meter.new ≡ meter.old + 1) (λ _. meter.new ≡ meter.old) }
+        ensures full { (result ≡ Err RunStop.MeterFull) ↔ (meter.old ≡ u64.MAX) }
+    {
+        if meter.is_full() {
+            return Err(RunStop::MeterFull);
+        }
+        let ran = self.ran(alloc, word, limit)?;
+        meter.raise();
+        Ok(ran)
+    }
+
+    /// The run itself.
+    fn ran(&self, alloc: Global, word: &[char], limit: u32) -> Result<Ran, AllocError>
+        requires { length word.now ≤ 255 }
+        ensures outcome { IfOk result (λ ran. outcome_of ran.outcome ≡ outcome_at (machine_ending S S.entries S.mode self.now word.now limit)) }
+        ensures used { IfOk result (λ ran. ran.used ≡ used_at limit (machine_ending S S.entries S.mode self.now word.now limit)) }
+    {
+        let mut state = State::start(alloc, &self.program, word, limit)?;
+        let end = run_call(
+            &self.tables,
+            &self.program,
+            MOST_LEVELS,
+            Mode::Forward,
+            self.program.external,
+            &mut state,
+        );
+        ended(end, limit, state)
+    }
+}
+
+/// What a run gave that ended so. AllocError where it was for want of memory.
+fn ended(end: Result<bool, Halt>, limit: u32, state: State) -> Result<Ran, AllocError>
+    ensures outcome { (e : Ending) → Follows end state e → IfOk result (λ ran. outcome_of ran.outcome ≡ outcome_at e) }
+    ensures used { (e : Ending) → Follows end state e → IfOk result (λ ran. ran.used ≡ used_at limit e) }
+{
+    let paid = u64::from(limit.saturating_sub(state.steps()));
+    match end {
+        Err(Halt::OutOfMemory) => Err(AllocError),
+        Err(Halt::Refused(fault)) => Ok(Ran {
+            outcome: Outcome::Refused(fault),
+            used: if fault == RunFault::Steps {
+                u64::from(limit) + 1
+            } else {
+                paid
+            },
+        }),
+        Ok(_) => Ok(Ran {
+            outcome: Outcome::Stem(state.into_text()),
+            used: paid,
+        }),
+    }
+}

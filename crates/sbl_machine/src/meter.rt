@@ -1,0 +1,52 @@
+//! A count of runs.
+
+ghost use Rattle.std.specs.Prelude.{◌≡◌, ◌+◌, ◌<◌, ◌^◌, IsTrue, false, ◌↔◌};
+
+use std::marker::Model;
+
+/// Counts the runs that were made.
+#[derive(Drop)]
+pub struct Meter {
+    runs: u64,
+}
+
+impl Model for Meter {
+    ghost use Rattle.std.specs.Prelude.{ℕ};
+
+    ghost Value = { ℕ };
+
+    ghost view = { λ m. m.runs };
+}
+
+impl Meter {
+    /// A meter that has counted nothing.
+    pub fn new() -> Meter
+        ensures { result ≡ 0 }
+    {
+        Meter { runs: 0 }
+    }
+
+    /// How many runs were made.
+    pub fn count(&self) -> u64
+        ensures { result ≡ self.now }
+    {
+        self.runs
+    }
+
+    /// Whether it counts no further.
+    pub fn is_full(&self) -> bool
+        ensures at_end { IsTrue result ↔ (self.now ≡ u64.MAX) }
+        ensures room { result ≡ false → self.now < u64.MAX }
+    {
+        self.count() == u64::MAX
+    }
+
+    /// Counts one more run.
+    pub(crate) fn raise(&mut self)
+        requires { self.old < u64.MAX }
+        ensures { self.new ≡ self.old + 1 }
+    {
+        let Meter { runs } = self;
+        *runs += 1;
+    }
+}
