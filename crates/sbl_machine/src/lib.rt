@@ -22,3 +22,6 @@ pub use meter::Meter;
 pub use outcome::{Outcome, Ran};
 pub use plain::PlainTable;
 pub use search::AmongSearch;
+
+#[cfg(test)]
+mod tests;

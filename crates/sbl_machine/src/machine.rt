@@ -29,6 +29,13 @@ pub struct Machine<S> {
 }
 
 impl<S: AmongSearch> Machine<S> {
+    /// A machine of these parts.
+    pub(crate) fn of_parts(tables: TableList<S>, program: Program) -> Machine<S>
+        ensures { result ≡ record { tables = tables; program = program } }
+    {
+        Machine { tables, program }
+    }
+
     /// Runs the script over a word with so many steps. `MeterFull` where the meter counts no further,
     /// `OutOfMemory` where a growth was refused; the meter is then as before, else it is raised by one.
     pub fn run(
