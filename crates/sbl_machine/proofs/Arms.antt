@@ -16,6 +16,7 @@ use Rattle.sbl_machine.specs.Listed.{Listed}
 use Rattle.sbl_machine.specs.Fitting.{first}
 use Rattle.sbl_machine.specs.Moves.{next}
 use Rattle.sbl_machine.specs.Numbers.{value, given}
+use Rattle.sbl_machine.specs.PlanOf.{view_number}
 use Rattle.sbl_machine.specs.Run.{does, turns, times, count_of, seeks, found, calls, runs, leave, enter, body_does}
 use Rattle.sbl_machine.specs.Search.{search_all, tries, try_one}
 use Rattle.sbl_machine.specs.Standing.{Standing, Ending, Doing, Signals, after, then_on, pay, mark, put_back}
@@ -27,10 +28,10 @@ follows_at r new e w p h = rw p h
 pub repeat_does : (T : ℕ → Listed) (sets : List (List ℕ)) (call : ℕ → Doing) (inner : Box Node Global) (m : Mode) (s : Standing) → does T sets call (Repeat inner) m s ≡ then_on (pay s.steps s) (λ q. turns (suc q.steps) (does T sets call inner.value) m q)
 repeat_does T sets call inner m s = first_of (search (rules, the_lemmas), search (rules, the_lemmas, fold_out-Node))
 
-pub loop_does : (T : ℕ → Listed) (sets : List (List ℕ)) (call : ℕ → Doing) (n : Arithmetic) (inner : Box Node Global) (m : Mode) (s : Standing) → does T sets call (Loop n inner) m s ≡ then_on (pay s.steps s) (λ q. given (value n m q) q (λ z. times (count_of z) (does T sets call inner.value) m q))
+pub loop_does : (T : ℕ → Listed) (sets : List (List ℕ)) (call : ℕ → Doing) (n : Arithmetic) (inner : Box Node Global) (m : Mode) (s : Standing) → does T sets call (Loop n inner) m s ≡ then_on (pay s.steps s) (λ q. given (value (view_number n) m q) q (λ z. times (count_of z) (does T sets call inner.value) m q))
 loop_does T sets call n inner m s = first_of (search (rules, the_lemmas), search (rules, the_lemmas, fold_out-Node))
 
-pub atleast_does : (T : ℕ → Listed) (sets : List (List ℕ)) (call : ℕ → Doing) (n : Arithmetic) (inner : Box Node Global) (m : Mode) (s : Standing) → does T sets call (AtLeast n inner) m s ≡ then_on (pay s.steps s) (λ q. after (given (value n m q) q (λ z. times (count_of z) (does T sets call inner.value) m q)) (λ t. turns (suc t.steps) (does T sets call inner.value) m t) (Signals false))
+pub atleast_does : (T : ℕ → Listed) (sets : List (List ℕ)) (call : ℕ → Doing) (n : Arithmetic) (inner : Box Node Global) (m : Mode) (s : Standing) → does T sets call (AtLeast n inner) m s ≡ then_on (pay s.steps s) (λ q. after (given (value (view_number n) m q) q (λ z. times (count_of z) (does T sets call inner.value) m q)) (λ t. turns (suc t.steps) (does T sets call inner.value) m t) (Signals false))
 atleast_does T sets call n inner m s = first_of (search (rules, the_lemmas), search (rules, the_lemmas, fold_out-Node))
 
 pub search_does : (T : ℕ → Listed) (sets : List (List ℕ)) (call : ℕ → Doing) (k table : ℕ) (entries : Vec Entry Global) (m : Mode) (s : Standing) → does T sets call (Search k table entries) m s ≡ then_on (pay s.steps s) (search_all call k entries.items (T table) m)

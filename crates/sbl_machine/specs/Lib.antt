@@ -5,6 +5,8 @@ pub mod Laws
 pub mod Strings
 pub mod Listed
 pub mod Standing
+pub mod Plan
+pub mod PlanOf
 pub mod Moves
 pub mod Slices
 pub mod Numbers

@@ -1,17 +1,16 @@
 -- Moving and testing: what each of these commands does once its step is paid.
 use Rattle.std.specs.Prelude.{ℕ, pos, ◌+◌, Bool, true, false, not, ◌&&◌, List, [], length, nat_lt, nat_le, nat_eq, if◌then◌else◌, Option, Some, None, slice_get, slice_index_or, slice_set}
 use Rattle.std.specs.List.{starts_with, list_any}
-use Rattle.sbl_machine.specs.declared.action.StringTerm.{StringTerm}
-use Rattle.sbl_machine.specs.declared.action.StringTerm.TheVariants.{Literal, Variable}
 use Rattle.sbl_machine.specs.Fitting.{read_as}
+use Rattle.sbl_machine.specs.Plan as plan
 use Rattle.sbl_machine.specs.Standing.{Standing, Ending, Signals, ahead, moved, room}
 use Rattle.sbl_script.specs.declared.tree.Mode.{Mode}
 use Rattle.sbl_script.specs.declared.tree.Mode.TheVariants.{Forward, Backward}
 
 -- the characters of a literal, or of a string variable
-abbrev pub characters : StringTerm → Standing → List ℕ
-characters (Literal cs) s = cs.items
-characters (Variable i) s = slice_index_or s.strings i []
+abbrev pub characters : plan.Text → Standing → List ℕ
+characters (plan.literal cs) s = cs
+characters (plan.variable i) s = slice_index_or s.strings i []
 
 -- a string that is the front of what is ahead is moved over
 abbrev pub match : List ℕ → Mode → Standing → Ending

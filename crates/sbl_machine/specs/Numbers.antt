@@ -1,9 +1,6 @@
 -- Numbers: what an arithmetic expression is worth, and what is done with it.
 use Rattle.std.specs.Prelude.{ℕ, ℤ, pos, negsuc, ◌+ℤ◌, ◌-ℤ◌, ◌*ℤ◌, neg_ℤ, ◌^◌, Bool, true, not, length, nat_lt, int_lt, int_div, if◌then◌else◌, Result, Ok, Err, Option, Some, None, slice_index_or, slice_set}
 use Rattle.std.specs.Ordering.{int_eq}
-use Rattle.sbl_machine.specs.declared.action.Arithmetic.{Arithmetic}
-use Rattle.sbl_machine.specs.declared.action.Arithmetic.TheOpen.{Arithmetic-F, Number, Integer, Cursor, Limit, Length, LengthOf, Greatest, Least, Negative, Sum, Difference, Product, Quotient}
-use Rattle.sbl_machine.specs.declared.action.Arithmetic.TheFolds.{fold-Arithmetic}
 use Rattle.sbl_machine.specs.declared.action.Change.{Change}
 use Rattle.sbl_machine.specs.declared.action.Change.TheVariants.{Becomes, Plus, Minus, Times, Over}
 use Rattle.sbl_machine.specs.declared.action.Relation.{Relation}
@@ -11,6 +8,7 @@ use Rattle.sbl_machine.specs.declared.action.Relation.TheVariants.{Equal, Unequa
 use Rattle.sbl_machine.specs.declared.fault.RunFault.{RunFault}
 use Rattle.sbl_machine.specs.declared.fault.RunFault.TheVariants as faults
 use Rattle.sbl_machine.specs.Moves.{characters}
+use Rattle.sbl_machine.specs.Plan as plan
 use Rattle.sbl_machine.specs.Standing.{Standing, Ending, Signals, Stops}
 use Rattle.sbl_script.specs.declared.tree.Mode.{Mode}
 use Rattle.sbl_script.specs.declared.tree.Mode.TheVariants.{Forward, Backward}
@@ -46,24 +44,21 @@ limit_value Backward s = fitted (pos s.left)
 abbrev pub integer_at : ℕ → Standing → ℤ
 integer_at x s = slice_index_or s.integers x (pos 0)
 
--- what an expression is worth, by what its parts are worth
-abbrev pub worth : Arithmetic-F (Mode → Standing → Value) → Mode → Standing → Value
-worth (Number n) m s = Ok n
-worth (Integer x) m s = Ok (integer_at x s)
-worth Cursor m s = fitted (pos s.cursor)
-worth Limit m s = limit_value m s
-worth Length m s = fitted (pos (length s.text))
-worth (LengthOf t) m s = fitted (pos (length (characters t s)))
-worth Greatest m s = Ok (pos 2147483647)
-worth Least m s = Ok (negsuc 2147483647)
-worth (Negative a) m s = with_value (a.value m s) (λ x. fitted (neg_ℤ x))
-worth (Sum a b) m s = with_both (a.value m s) (b.value m s) (λ x y. fitted (x +ℤ y))
-worth (Difference a b) m s = with_both (a.value m s) (b.value m s) (λ x y. fitted (x -ℤ y))
-worth (Product a b) m s = with_both (a.value m s) (b.value m s) (λ x y. fitted (x *ℤ y))
-worth (Quotient a b) m s = with_both (a.value m s) (b.value m s) divided
-
-abbrev pub value : Arithmetic → Mode → Standing → Value
-value = fold-Arithmetic (Mode → Standing → Value) worth
+-- what an expression is worth
+abbrev pub value : plan.Number → Mode → Standing → Value
+value (plan.number z) m s = Ok z
+value (plan.integer x) m s = Ok (integer_at x s)
+value plan.cursor m s = fitted (pos s.cursor)
+value plan.limit m s = limit_value m s
+value plan.len m s = fitted (pos (length s.text))
+value (plan.lenof t) m s = fitted (pos (length (characters t s)))
+value plan.maxint m s = Ok (pos 2147483647)
+value plan.minint m s = Ok (negsuc 2147483647)
+value (plan.negative a) m s = with_value (value a m s) (λ x. fitted (neg_ℤ x))
+value (plan.sum a b) m s = with_both (value a m s) (value b m s) (λ x y. fitted (x +ℤ y))
+value (plan.difference a b) m s = with_both (value a m s) (value b m s) (λ x y. fitted (x -ℤ y))
+value (plan.product a b) m s = with_both (value a m s) (value b m s) (λ x y. fitted (x *ℤ y))
+value (plan.quotient a b) m s = with_both (value a m s) (value b m s) divided
 
 -- what an integer becomes
 abbrev pub changed : Change → ℤ → ℤ → Value
@@ -87,12 +82,12 @@ given (Ok z) s go = go z
 given (Err fault) s go = Stops fault s
 
 -- `$x = AE` and its like: the expression first
-abbrev pub assign : ℕ → Change → Arithmetic → Mode → Standing → Ending
+abbrev pub assign : ℕ → Change → plan.Number → Mode → Standing → Ending
 assign x change a m s =
     given (with_value (value a m s) (changed change (integer_at x s))) s (λ z. Signals true (record s { integers = slice_set s.integers x z }))
 
 -- a comparison of two expressions
-abbrev pub compare : Arithmetic → Relation → Arithmetic → Mode → Standing → Ending
+abbrev pub compare : plan.Number → Relation → plan.Number → Mode → Standing → Ending
 compare a relation b m s = given (value a m s) s (λ x. given (value b m s) s (λ y. Signals (holds relation x y) s))
 
 -- a number that is no less than zero

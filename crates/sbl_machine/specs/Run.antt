@@ -11,6 +11,7 @@ use Rattle.sbl_machine.specs.Actions.{acts}
 use Rattle.sbl_machine.specs.Listed.{Listed}
 use Rattle.sbl_machine.specs.Moves.{next}
 use Rattle.sbl_machine.specs.Numbers.{value, given}
+use Rattle.sbl_machine.specs.PlanOf.{view_action, view_number}
 use Rattle.sbl_machine.specs.Search.{choice, search_all, group_does}
 use Rattle.sbl_machine.specs.Standing.{Standing, Ending, Signals, Stops, Doing, after, then_on, pay, at_place, to_limit, mark, put_back}
 use Rattle.sbl_script.specs.declared.tree.Mode.{Mode}
@@ -80,7 +81,7 @@ backwards_end s = at_place s.left s
 -- What a command does once its step is paid, by what its parts and its calls do; `tables` are the strings of the
 -- amongs, `sets` the sets of the groupings.
 abbrev pub act : (ℕ → Listed) → List (List ℕ) → (ℕ → Doing) → Node-F Doing → Mode → Standing → Ending
-act tables sets call (Act a) m s = acts sets a m s
+act tables sets call (Act a) m s = acts sets (view_action a) m s
 act tables sets call (Sequence cs) m s = in_turn cs.items m s
 act tables sets call (Or a b) m s = after (a.value m s) (Signals true) (λ f. then_on (put_back m (mark s) f) (b.value m))
 act tables sets call (And a b) m s = after (a.value m s) (λ t. then_on (put_back m (mark s) t) (b.value m)) (Signals false)
@@ -90,9 +91,9 @@ act tables sets call (Try a) m s = after (a.value m s) (Signals true) (put_back 
 act tables sets call (Do a) m s = after (a.value m s) (put_back m (mark s)) (put_back m (mark s))
 act tables sets call (Fail a) m s = after (a.value m s) (Signals false) (Signals false)
 act tables sets call (Repeat a) m s = turns (suc s.steps) a.value m s
-act tables sets call (Loop n a) m s = given (value n m s) s (λ z. times (count_of z) a.value m s)
+act tables sets call (Loop n a) m s = given (value (view_number n) m s) s (λ z. times (count_of z) a.value m s)
 act tables sets call (AtLeast n a) m s =
-    after (given (value n m s) s (λ z. times (count_of z) a.value m s)) (λ t. turns (suc t.steps) a.value m t) (Signals false)
+    after (given (value (view_number n) m s) s (λ z. times (count_of z) a.value m s)) (λ t. turns (suc t.steps) a.value m t) (Signals false)
 act tables sets call (Goto a) m s = seeks (suc s.steps) false a.value m s
 act tables sets call (GoPast a) m s = seeks (suc s.steps) true a.value m s
 act tables sets call (Backwards a) m s =

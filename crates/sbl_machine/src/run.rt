@@ -3,6 +3,7 @@
 ghost use Rattle.std.specs.Prelude.{◌≡◌, ◌+◌, ◌<◌, ◌≤◌, Bool, false, suc, IfOk, map, slice_get};
 ghost use Rattle.sbl_machine.specs.Kept.{Follows, Tried};
 ghost use Rattle.sbl_machine.specs.Numbers.{value, given};
+ghost use Rattle.sbl_machine.specs.PlanOf.{view_number};
 ghost use Rattle.sbl_machine.specs.Run.{runs, calls, in_turn, turns, times, count_of, seeks, limited};
 ghost use Rattle.sbl_machine.specs.Search.{choice, group_does, search_all, try_one};
 ghost use Rattle.sbl_machine.specs.Standing.{Standing, Ending, Signals, after, then_on, mark, put_back};
@@ -180,7 +181,7 @@ fn run_times<T: Tables>(
     inner: &Node,
     state: &mut State,
 ) -> Result<bool, Halt>
-    ensures follows { Follows result state.new (given (value count.now mode state.old) state.old (λ z. times (count_of z) (runs (T.listed tables.now) program.now levels inner.now) mode state.old)) }
+    ensures follows { Follows result state.new (given (value (view_number count.now) mode state.old) state.old (λ z. times (count_of z) (runs (T.listed tables.now) program.now levels inner.now) mode state.old)) }
     ensures no_more { IfOk result (λ _. state.new.steps ≤ state.old.steps) }
 {
     let number = state.value(mode, count).map_err(Halt::Refused)?;

@@ -3,6 +3,7 @@
 ghost use Rattle.std.specs.Prelude.{◌≡◌, ◌+◌, ◌-◌, ◌<◌, ◌≤◌, ◌^◌, [], length, map, replicate, IfOk};
 ghost use Rattle.sbl_machine.specs.Fitting.{read_as};
 ghost use Rattle.sbl_machine.specs.Standing.{Standing, pay, at_place, at_difference, to_limit, mark, put_back, step_over, place_after, ahead, room};
+ghost use Rattle.sbl_machine.specs.PlanOf.{view_text};
 ghost use Rattle.sbl_machine.specs.Moves.{characters};
 ghost use Rattle.sbl_machine.specs.Kept.{Leads};
 ghost use Rattle.sbl_machine.specs.Outcome.{start};
@@ -230,7 +231,7 @@ impl State {
 
     /// The characters of a literal, or of a string variable.
     pub fn characters<'a>(&'a self, term: &'a StringTerm) -> &'a [char]
-        ensures { result.now ≡ characters term.now self.now }
+        ensures { result.now ≡ characters (view_text term.now) self.now }
     {
         match term {
             StringTerm::Literal(string) => string,

@@ -3,6 +3,7 @@
 ghost use Rattle.std.specs.Prelude.{◌≡◌, List, ℕ, [], map, slice_index_or, IfOk};
 ghost use Rattle.sbl_machine.specs.Actions.{acts};
 ghost use Rattle.sbl_machine.specs.Numbers.{value, natural};
+ghost use Rattle.sbl_machine.specs.PlanOf.{view_action};
 ghost use Rattle.sbl_machine.specs.Kept.{Follows};
 
 use crate::action::Action;
@@ -16,7 +17,7 @@ impl State {
     /// a number of it is out of range, where there is no slice for it, where the cursor would leave the text, and where
     /// the text would grow too long. `groupings` holds the set of each grouping.
     pub fn act(&mut self, groupings: &[Vec<char>], mode: Mode, action: &Action) -> Result<bool, Halt>
-        ensures follows { Follows result self.new (acts (map (λ v. v.items) groupings.now) action.now mode self.old) }
+        ensures follows { Follows result self.new (acts (map (λ v. v.items) groupings.now) (view_action action.now) mode self.old) }
         ensures same_steps { IfOk result (λ _. self.new.steps ≡ self.old.steps) }
     {
         match action {

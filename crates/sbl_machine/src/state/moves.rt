@@ -4,6 +4,7 @@ ghost use Rattle.std.specs.Prelude.{◌≡◌, ◌≤◌, ◌<◌, ◌^◌, leng
 ghost use Rattle.std.specs.List.{starts_with};
 ghost use Rattle.sbl_machine.specs.Fitting.{read_as};
 ghost use Rattle.sbl_machine.specs.Standing.{Signals, ahead, room, moved};
+ghost use Rattle.sbl_machine.specs.PlanOf.{view_text};
 ghost use Rattle.sbl_machine.specs.Moves.{characters, match, next_is, one_of, next, hop, at_limit, set_mark, at_mark, to_mark, set_boolean, test_boolean};
 
 use crate::action::StringTerm;
@@ -34,7 +35,7 @@ impl State {
 
     /// Moves over a literal or what a string variable holds, and answers whether it is the front of what is ahead.
     pub fn take_term(&mut self, mode: Mode, term: &StringTerm) -> bool
-        ensures leads { match (characters term.now self.old) mode self.old ≡ Signals result self.new }
+        ensures leads { match (characters (view_text term.now) self.old) mode self.old ≡ Signals result self.new }
         ensures same_steps { self.new.steps ≡ self.old.steps }
     {
         let string = self.characters(term);

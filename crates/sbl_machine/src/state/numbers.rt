@@ -3,6 +3,7 @@
 ghost use Rattle.std.specs.Prelude.{◌≡◌, ◌+◌, ◌≤◌, ◌<◌, ◌^◌, ℤ, pos, ◌+ℤ◌, ◌-ℤ◌, ◌*ℤ◌, neg_ℤ, length, SomeIff, FitsSigned, IfOk};
 ghost use Rattle.std.specs.Int.{w32};
 ghost use Rattle.sbl_machine.specs.Numbers.{value, fitted, divided, limit_value, integer_at, changed, holds, assign, compare, natural};
+ghost use Rattle.sbl_machine.specs.PlanOf.{view_number};
 ghost use Rattle.sbl_machine.specs.Run.{count_of};
 ghost use Rattle.sbl_machine.specs.Kept.{Leads, Follows};
 
@@ -15,7 +16,7 @@ use sbl_script::Mode;
 impl State {
     /// What an expression is worth. `Integer` where a number is out of range, `Divide` where a divisor is zero.
     pub fn value(&self, mode: Mode, expression: &Arithmetic) -> Result<i32, RunFault>
-        ensures { result ≡ value expression.now mode self.now }
+        ensures { result ≡ value (view_number expression.now) mode self.now }
     {
         match expression {
             Arithmetic::Number(number) => Ok(*number),
@@ -79,7 +80,7 @@ impl State {
 
     /// `$x = AE` and its like. Refused where the expression is, and where the new number is out of range.
     pub fn assign(&mut self, mode: Mode, number: usize, change: Change, expression: &Arithmetic) -> Result<(), Halt>
-        ensures leads { Leads result self.new (assign number change expression.now mode self.old) }
+        ensures leads { Leads result self.new (assign number change (view_number expression.now) mode self.old) }
         ensures same_steps { IfOk result (λ _. self.new.steps ≡ self.old.steps) }
     {
         let y = self.value(mode, expression).map_err(Halt::Refused)?;
@@ -92,7 +93,7 @@ impl State {
 
     /// Compares two expressions. Refused where one of them is.
     pub fn compare(&self, mode: Mode, left: &Arithmetic, relation: Relation, right: &Arithmetic) -> Result<bool, Halt>
-        ensures { Follows result self.now (compare left.now relation right.now mode self.now) }
+        ensures { Follows result self.now (compare (view_number left.now) relation (view_number right.now) mode self.now) }
     {
         let x = self.value(mode, left).map_err(Halt::Refused)?;
         let y = self.value(mode, right).map_err(Halt::Refused)?;

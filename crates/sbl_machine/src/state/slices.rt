@@ -3,6 +3,7 @@
 ghost use Rattle.std.specs.Prelude.{◌≡◌, ◌+◌, ◌≤◌, ◌<◌, ◌^◌, [], length, map, slice_set, IfOk};
 ghost use Rattle.std.specs.List.{splice};
 ghost use Rattle.sbl_machine.specs.Slices.{left_bracket, right_bracket, is_slice, shifted, replace, keep, pushed, put_in, insert, attach};
+ghost use Rattle.sbl_machine.specs.PlanOf.{view_text};
 ghost use Rattle.sbl_machine.specs.Moves.{characters};
 ghost use Rattle.sbl_machine.specs.Kept.{Leads};
 
@@ -48,7 +49,7 @@ impl State {
         requires ordered { from ≤ to }
         requires inside { to ≤ length self.old.text }
         ensures same { self.new ≡ self.old }
-        ensures made { IfOk result (λ v. v.items ≡ splice self.old.text from to (characters term.now self.old)) }
+        ensures made { IfOk result (λ v. v.items ≡ splice self.old.text from to (characters (view_text term.now) self.old)) }
     {
         let alloc = *self.text.allocator();
         let buffer = mem::replace(&mut self.spare, Vec::new(alloc));
@@ -74,7 +75,7 @@ impl State {
 
     /// `<- S`: replaces the slice. `Slice` where there is none, `TooLong` where the text would grow too long.
     pub fn replace(&mut self, term: &StringTerm) -> Result<(), Halt>
-        ensures leads { Leads result self.new (replace (characters term.now self.old) self.old) }
+        ensures leads { Leads result self.new (replace (characters (view_text term.now) self.old) self.old) }
         ensures same_steps { IfOk result (λ _. self.new.steps ≡ self.old.steps) }
     {
         if !self.is_slice() {
@@ -108,7 +109,7 @@ impl State {
 
     // Puts a string at the cursor, which ends right of it or left of it.
     fn put_in(&mut self, right: bool, term: &StringTerm) -> Result<(), Halt>
-        ensures leads { Leads result self.new (put_in right (characters term.now self.old) self.old) }
+        ensures leads { Leads result self.new (put_in right (characters (view_text term.now) self.old) self.old) }
         ensures same_steps { IfOk result (λ _. self.new.steps ≡ self.old.steps) }
     {
         if self.cursor + self.beyond > self.text.len() {
@@ -130,7 +131,7 @@ impl State {
 
     /// `insert S` and `<+ S`. `Cursor` where the cursor is beyond the limit, `TooLong` where the text would grow too long.
     pub fn insert(&mut self, mode: Mode, term: &StringTerm) -> Result<(), Halt>
-        ensures leads { Leads result self.new (insert (characters term.now self.old) mode self.old) }
+        ensures leads { Leads result self.new (insert (characters (view_text term.now) self.old) mode self.old) }
         ensures same_steps { IfOk result (λ _. self.new.steps ≡ self.old.steps) }
     {
         match mode {
@@ -141,7 +142,7 @@ impl State {
 
     /// `attach S`; refused as `insert` is.
     pub fn attach(&mut self, mode: Mode, term: &StringTerm) -> Result<(), Halt>
-        ensures leads { Leads result self.new (attach (characters term.now self.old) mode self.old) }
+        ensures leads { Leads result self.new (attach (characters (view_text term.now) self.old) mode self.old) }
         ensures same_steps { IfOk result (λ _. self.new.steps ≡ self.old.steps) }
     {
         match mode {

@@ -5,6 +5,7 @@ use Rattle.sbl_machine.specs.Moves.{next}
 use Rattle.std.proofs.lemmas.Option.{slice_get-map, slice_get_read}
 use Rattle.sbl_machine.proofs.Arms.{follows_at, repeat_does, loop_does, atleast_does, search_does, one_turn, one_try, one_more, halted, called, leave_signals, leave_halts, after_halts}
 use Rattle.sbl_machine.specs.Standing.{Standing, Ending, Signals, after, then_on, mark, put_back}
+use Rattle.sbl_machine.specs.PlanOf.{view_number}
 use Rattle.sbl_machine.specs.Run.{does, runs, calls, sets_of, turns, times, seeks, in_turn, count_of, enter, leave}
 use Rattle.sbl_machine.specs.Numbers.{value, given}
 use Rattle.sbl_machine.specs.Search.{tries, try_one, search_all, bound_in, group_does, command_does, choice}
@@ -33,8 +34,8 @@ run_command-returns-in-Loop-clause-follows g t c =
     let m = c.args.mode in
     let s = c.args.state.now in
     let q = c.pay.new.self in
-    let p = ap (λ n. does T sets call n m s) a.is ∙ loop_does T sets call a.count a.inner m s ∙ ap (λ r. then_on r (λ q. given (value a.count m q) q (λ z. times (count_of z) (does T sets call a.inner.value) m q))) c.in_ok-pay.ensures in
-    follows_at c.run_times.result c.run_times.new.state _ _ (p ∙ ap (λ n. given (value a.count m q) q (λ z. times (count_of z) (does T sets call n) m q)) (sym c.deref-in-Loop.ensures)) c.run_times.ensures.follows
+    let p = ap (λ n. does T sets call n m s) a.is ∙ loop_does T sets call a.count a.inner m s ∙ ap (λ r. then_on r (λ q. given (value (view_number a.count) m q) q (λ z. times (count_of z) (does T sets call a.inner.value) m q))) c.in_ok-pay.ensures in
+    follows_at c.run_times.result c.run_times.new.state _ _ (p ∙ ap (λ n. given (value (view_number a.count) m q) q (λ z. times (count_of z) (does T sets call n) m q)) (sym c.deref-in-Loop.ensures)) c.run_times.ensures.follows
 
 pub run_command-returns-in-Search-clause-follows : goal.run_command-returns-in-Search-clause-follows
 run_command-returns-in-Search-clause-follows g t c =
@@ -61,11 +62,11 @@ run_command-returns-in_err-run_times-in-AtLeast-clause-follows g t c =
     let D = does T sets call in
     let on_t = λ (t : Standing). turns (suc t.steps) (D a.inner.value) m t in
     let on_f = λ (f : Standing). Signals false f in
-    let p = ap (λ n. D n m s) a.is ∙ atleast_does T sets call a.count a.inner m s ∙ ap (λ r. then_on r (λ q. after (given (value a.count m q) q (λ z. times (count_of z) (D a.inner.value) m q)) on_t on_f)) c.in_ok-pay.ensures in
-    let d = ap (λ n. after (given (value a.count m q) q (λ z. times (count_of z) (D n) m q)) on_t on_f) (sym c.deref-in-AtLeast.ensures) in
+    let p = ap (λ n. D n m s) a.is ∙ atleast_does T sets call a.count a.inner m s ∙ ap (λ r. then_on r (λ q. after (given (value (view_number a.count) m q) q (λ z. times (count_of z) (D a.inner.value) m q)) on_t on_f)) c.in_ok-pay.ensures in
+    let d = ap (λ n. after (given (value (view_number a.count) m q) q (λ z. times (count_of z) (D n) m q)) on_t on_f) (sym c.deref-in-AtLeast.ensures) in
     let halt = c.in_err-run_times-in-AtLeast.field-0.0 in
     let r : c.from_residual-in_err-run_times-in-AtLeast.result ≡ Err halt = search rules in
-    let h : Follows (Err halt) new (given (value a.count m q) q (λ z. times (count_of z) (D c.deref-in-AtLeast.result.now) m q)) = search rules in
+    let h : Follows (Err halt) new (given (value (view_number a.count) m q) q (λ z. times (count_of z) (D c.deref-in-AtLeast.result.now) m q)) = search rules in
     rw r (follows_at (Err halt) new _ _ (p ∙ d) (after_halts halt new _ on_t on_f h))
 
 pub run_command-returns-then-not-branch-4-clause-follows : goal.run_command-returns-then-not-branch-4-clause-follows
@@ -79,8 +80,8 @@ run_command-returns-then-not-branch-4-clause-follows g t c =
     let q = c.pay.new.self in
     let D = does T sets call in
     let rest = λ (e : Ending). after e (λ t. turns (suc t.steps) (D a.inner.value) m t) (Signals false) in
-    let p = ap (λ n. D n m s) a.is ∙ atleast_does T sets call a.count a.inner m s ∙ ap (λ r. then_on r (λ q. rest (given (value a.count m q) q (λ z. times (count_of z) (D a.inner.value) m q)))) c.in_ok-pay.ensures in
-    let d = ap (λ n. rest (given (value a.count m q) q (λ z. times (count_of z) (D n) m q))) (sym c.deref-in-AtLeast.ensures) in
+    let p = ap (λ n. D n m s) a.is ∙ atleast_does T sets call a.count a.inner m s ∙ ap (λ r. then_on r (λ q. rest (given (value (view_number a.count) m q) q (λ z. times (count_of z) (D a.inner.value) m q)))) c.in_ok-pay.ensures in
+    let d = ap (λ n. rest (given (value (view_number a.count) m q) q (λ z. times (count_of z) (D n) m q))) (sym c.deref-in-AtLeast.ensures) in
     let b : c.in_ok-run_times-in-AtLeast.field-0 ≡ false = search rules in
     p ∙ d ∙ ap rest (c.in_ok-run_times-in-AtLeast.ensures.follows ∙ ap (λ v. Signals v c.run_times-in-AtLeast.new.state) b)
 
@@ -96,8 +97,8 @@ run_command-returns-else-not-branch-4-clause-follows g t c =
     let u = c.run_times-in-AtLeast.new.state in
     let D = does T sets call in
     let rest = λ (e : Ending). after e (λ t. turns (suc t.steps) (D a.inner.value) m t) (Signals false) in
-    let p = ap (λ n. D n m s) a.is ∙ atleast_does T sets call a.count a.inner m s ∙ ap (λ r. then_on r (λ q. rest (given (value a.count m q) q (λ z. times (count_of z) (D a.inner.value) m q)))) c.in_ok-pay.ensures in
-    let d = ap (λ n. rest (given (value a.count m q) q (λ z. times (count_of z) (D n) m q))) (sym c.deref-in-AtLeast.ensures) in
+    let p = ap (λ n. D n m s) a.is ∙ atleast_does T sets call a.count a.inner m s ∙ ap (λ r. then_on r (λ q. rest (given (value (view_number a.count) m q) q (λ z. times (count_of z) (D a.inner.value) m q)))) c.in_ok-pay.ensures in
+    let d = ap (λ n. rest (given (value (view_number a.count) m q) q (λ z. times (count_of z) (D n) m q))) (sym c.deref-in-AtLeast.ensures) in
     let b : c.in_ok-run_times-in-AtLeast.field-0 ≡ true = search rules in
     let w = p ∙ d ∙ ap rest (c.in_ok-run_times-in-AtLeast.ensures.follows ∙ ap (λ v. Signals v u) b) ∙ ap (λ n. turns (suc u.steps) (D n) m u) (sym c.deref-in-AtLeast-2.ensures) in
     follows_at c.run_turns-in-AtLeast.result c.run_turns-in-AtLeast.new.state _ _ w c.run_turns-in-AtLeast.ensures.follows

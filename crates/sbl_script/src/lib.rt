@@ -1,0 +1,6 @@
+//! Stub.
+#![tactic(auto)]
+
+pub mod tree;
+
+pub use tree::Mode;
