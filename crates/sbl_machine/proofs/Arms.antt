@@ -25,28 +25,28 @@ use Rattle.sbl_script.specs.declared.tree.Mode.{Mode}
 pub follows_at : (r : Result Bool Halt) (new : Standing) (e w : Ending) → e ≡ w → Follows r new w → Follows r new e
 follows_at r new e w p h = rw p h
 
-view_repeat : (T : ℕ → Listed) (inner : Box Node Global) → view_node T (Repeat inner) ≡ plan.repeat (view_node T inner.value)
+pub view_repeat : (T : ℕ → Listed) (inner : Box Node Global) → view_node T (Repeat inner) ≡ plan.repeat (view_node T inner.value)
 view_repeat T inner = first_of (search (rules, the_lemmas), search (rules, the_lemmas, fold_out-Node))
 
-view_loop : (T : ℕ → Listed) (n : Arithmetic) (inner : Box Node Global) → view_node T (Loop n inner) ≡ plan.loop (view_number n) (view_node T inner.value)
+pub view_loop : (T : ℕ → Listed) (n : Arithmetic) (inner : Box Node Global) → view_node T (Loop n inner) ≡ plan.loop (view_number n) (view_node T inner.value)
 view_loop T n inner = first_of (search (rules, the_lemmas), search (rules, the_lemmas, fold_out-Node))
 
-view_atleast : (T : ℕ → Listed) (n : Arithmetic) (inner : Box Node Global) → view_node T (AtLeast n inner) ≡ plan.atleast (view_number n) (view_node T inner.value)
+pub view_atleast : (T : ℕ → Listed) (n : Arithmetic) (inner : Box Node Global) → view_node T (AtLeast n inner) ≡ plan.atleast (view_number n) (view_node T inner.value)
 view_atleast T n inner = first_of (search (rules, the_lemmas), search (rules, the_lemmas, fold_out-Node))
 
-view_search : (T : ℕ → Listed) (k table : ℕ) (entries : Vec Entry Global) → view_node T (Search k table entries) ≡ plan.search k (T table) entries.items
+pub view_search : (T : ℕ → Listed) (k table : ℕ) (entries : Vec Entry Global) → view_node T (Search k table entries) ≡ plan.search k (T table) entries.items
 view_search T k table entries = first_of (search (rules, the_lemmas), search (rules, the_lemmas, fold_out-Node))
 
-view_among : (T : ℕ → Listed) (k : ℕ) (before bodies : Vec Node Global) → view_node T (Among k before bodies) ≡ plan.among k (view_nodes T before.items) (view_nodes T bodies.items)
+pub view_among : (T : ℕ → Listed) (k : ℕ) (before bodies : Vec Node Global) → view_node T (Among k before bodies) ≡ plan.among k (view_nodes T before.items) (view_nodes T bodies.items)
 view_among T k before bodies = first_of (search (rules, the_lemmas), search (rules, the_lemmas, fold_out-Node))
 
-view_sequence : (T : ℕ → Listed) (cs : Vec Node Global) → view_node T (Sequence cs) ≡ plan.sequence (view_nodes T cs.items)
+pub view_sequence : (T : ℕ → Listed) (cs : Vec Node Global) → view_node T (Sequence cs) ≡ plan.sequence (view_nodes T cs.items)
 view_sequence T cs = first_of (search (rules, the_lemmas), search (rules, the_lemmas, fold_out-Node))
 
-view_or : (T : ℕ → Listed) (a b : Box Node Global) → view_node T (Or a b) ≡ plan.either (view_node T a.value) (view_node T b.value)
+pub view_or : (T : ℕ → Listed) (a b : Box Node Global) → view_node T (Or a b) ≡ plan.either (view_node T a.value) (view_node T b.value)
 view_or T a b = first_of (search (rules, the_lemmas), search (rules, the_lemmas, fold_out-Node))
 
-view_and : (T : ℕ → Listed) (a b : Box Node Global) → view_node T (And a b) ≡ plan.both (view_node T a.value) (view_node T b.value)
+pub view_and : (T : ℕ → Listed) (a b : Box Node Global) → view_node T (And a b) ≡ plan.both (view_node T a.value) (view_node T b.value)
 view_and T a b = first_of (search (rules, the_lemmas), search (rules, the_lemmas, fold_out-Node))
 
 view_goto : (T : ℕ → Listed) (inner : Box Node Global) → view_node T (Goto inner) ≡ plan.goto (view_node T inner.value)
@@ -55,7 +55,7 @@ view_goto T inner = first_of (search (rules, the_lemmas), search (rules, the_lem
 view_gopast : (T : ℕ → Listed) (inner : Box Node Global) → view_node T (GoPast inner) ≡ plan.gopast (view_node T inner.value)
 view_gopast T inner = first_of (search (rules, the_lemmas), search (rules, the_lemmas, fold_out-Node))
 
-view_setlimit : (T : ℕ → Listed) (a b : Box Node Global) → view_node T (SetLimit a b) ≡ plan.setlimit (view_node T a.value) (view_node T b.value)
+pub view_setlimit : (T : ℕ → Listed) (a b : Box Node Global) → view_node T (SetLimit a b) ≡ plan.setlimit (view_node T a.value) (view_node T b.value)
 view_setlimit T a b = first_of (search (rules, the_lemmas), search (rules, the_lemmas, fold_out-Node))
 
 pub or_does : (T : ℕ → Listed) (p : plan.Plan) (levels : ℕ) (a b : Box Node Global) (m : Mode) (s : Standing) → runs p levels (view_node T (Or a b)) m s ≡ then_on (pay s.steps s) (λ q. after (runs p levels (view_node T a.value) m q) (Signals true) (λ f. then_on (put_back m (mark q) f) (runs p levels (view_node T b.value) m)))

@@ -1,5 +1,5 @@
 -- The program of a script's tree: names become numbers, and each among gets its number in its routine.
-use Rattle.std.specs.Prelude.{ℕ, zero, suc, ◌+◌, Bool, true, false, List, [], ◌∷◌, ◌++◌, map, length, nat_eq, Option, Some, None, slice_index_or, if◌then◌else◌}
+use Rattle.std.specs.Prelude.{ℕ, zero, suc, ◌+◌, Bool, true, false, List, [], ◌∷◌, ◌++◌, map, length, nat_eq, nat_lt, Option, Some, None, slice_get, slice_index_or, if◌then◌else◌}
 use Rattle.std.specs.List.{list_any}
 use Rattle.std.specs.Cmp.Lexicographic.{pointwise}
 use Rattle.sbl_grammar.specs.declared.tree.DeclarationKind.{DeclarationKind}
@@ -35,7 +35,9 @@ use Rattle.sbl_machine.specs.declared.action.Change.TheVariants as changes
 use Rattle.sbl_machine.specs.declared.action.Relation.{Relation}
 use Rattle.sbl_machine.specs.declared.action.Relation.TheVariants as relations
 use Rattle.sbl_machine.specs.declared.node.Entry.{Entry}
-use Rattle.sbl_machine.specs.Listed.{listing}
+use Rattle.sbl_machine.specs.declared.numbered.Place.{Place}
+use Rattle.sbl_machine.specs.Listed.{Listed, listing}
+use Rattle.sbl_machine.specs.PlanOf.{commands_of}
 use Rattle.sbl_machine.specs.Plan as plan
 use Rattle.sbl_script.specs.declared.tree.Mode.{Mode}
 use Rattle.sbl_script.specs.declared.tree.Mode.TheVariants.{Forward, Backward}
@@ -56,7 +58,7 @@ number [] n = 0
 number (x ∷ names) n = if pointwise nat_eq x n then 0 else suc (number names n)
 
 abbrev pub has : List (List ℕ) → List ℕ → Bool
-has names n = list_any (λ x. pointwise nat_eq x n) names
+has names n = nat_lt (number names n) (length names)
 
 -- a name as a command: a routine, a grouping, a string or a boolean
 abbrev pub named_command : Names → List ℕ → plan.Command
@@ -129,51 +131,58 @@ abbrev pub values : trees.Groups → List (List ℕ)
 values (trees.bare es) = map entry_value es
 values (trees.group e es rs gs) = map entry_value (e ∷ es) ++ values gs
 
--- ---- the amongs of a routine, in the order of their words
+-- ---- the amongs of a routine, in the order of their words, each with the mode in which it stands
+
+-- the mode of a command behind a prefix
+abbrev pub mode_behind : Prefix → Mode → Mode
+mode_behind prefixes.Backwards m = Backward
+mode_behind p m = m
+
+pub record Found : Type 0 where
+  pub mode : Mode
+  pub groups : trees.Groups
 
 abbrev mutual
-  pub amongs : trees.Tree → List trees.Groups
-  amongs (trees.bracket rs) = row_amongs rs
-  amongs (trees.prefixed p c) = amongs c
-  amongs (trees.counted n e c) = amongs c
-  amongs (trees.limited b c) = amongs b ++ amongs c
-  amongs (trees.chosen s gs) = gs ∷ starter_amongs s ++ group_amongs gs
-  amongs (trees.single s) = []
-  amongs (trees.quoted q) = []
-  amongs (trees.called n) = []
-  amongs (trees.excluded w n) = []
-  amongs (trees.moved m e) = []
-  amongs (trees.named x n) = []
-  amongs (trees.edited x a) = []
-  amongs (trees.assigned n o e) = []
-  amongs (trees.compared n o e) = []
-  amongs (trees.values_compared e o f) = []
+  pub amongs : Mode → trees.Tree → List Found
+  amongs m (trees.bracket rs) = row_amongs m rs
+  amongs m (trees.prefixed p c) = amongs (mode_behind p m) c
+  amongs m (trees.counted n e c) = amongs m c
+  amongs m (trees.limited b c) = amongs m b ++ amongs m c
+  amongs m (trees.chosen s gs) = record { mode = m; groups = gs } ∷ starter_amongs m s ++ group_amongs m gs
+  amongs m (trees.single s) = []
+  amongs m (trees.quoted q) = []
+  amongs m (trees.called n) = []
+  amongs m (trees.excluded w n) = []
+  amongs m (trees.moved y e) = []
+  amongs m (trees.named x n) = []
+  amongs m (trees.edited x a) = []
+  amongs m (trees.assigned n o e) = []
+  amongs m (trees.compared n o e) = []
+  amongs m (trees.values_compared e o f) = []
 
-  pub row_amongs : trees.Rows → List trees.Groups
-  row_amongs trees.no_rows = []
-  row_amongs (trees.row c os rs) = amongs c ++ other_amongs os ++ row_amongs rs
+  pub row_amongs : Mode → trees.Rows → List Found
+  row_amongs m trees.no_rows = []
+  row_amongs m (trees.row c os rs) = amongs m c ++ other_amongs m os ++ row_amongs m rs
 
-  pub other_amongs : trees.Others → List trees.Groups
-  other_amongs trees.no_others = []
-  other_amongs (trees.joined j c os) = amongs c ++ other_amongs os
+  pub other_amongs : Mode → trees.Others → List Found
+  other_amongs m trees.no_others = []
+  other_amongs m (trees.joined j c os) = amongs m c ++ other_amongs m os
 
-  pub starter_amongs : trees.Starter → List trees.Groups
-  starter_amongs trees.no_starter = []
-  starter_amongs (trees.starter rs) = row_amongs rs
+  pub starter_amongs : Mode → trees.Starter → List Found
+  starter_amongs m trees.no_starter = []
+  starter_amongs m (trees.starter rs) = row_amongs m rs
 
-  pub group_amongs : trees.Groups → List trees.Groups
-  group_amongs (trees.bare es) = []
-  group_amongs (trees.group e es rs gs) = row_amongs rs ++ group_amongs gs
+  pub group_amongs : Mode → trees.Groups → List Found
+  group_amongs m (trees.bare es) = []
+  group_amongs m (trees.group e es rs gs) = row_amongs m rs ++ group_amongs m gs
 
--- Where a command stands in its routine: how many amongs begin before it, and whether a `substring` of its
--- region waits for the next of them.
-pub record Place : Type 0 where
-  pub before : ℕ
-  pub waits : Bool
+-- a region of its own begins: nothing waits for the next among
+abbrev pub region : Place → Place
+region x = record x { waits = false }
 
--- a region of its own
-abbrev pub region : ℕ → Place
-region n = record { before = n; waits = false }
+-- an among is counted at its word
+abbrev pub counted_one : Place → Place
+counted_one x = record { before = suc x.before; waits = false }
 
 abbrev pub past_simple : Simple → Place → Place
 past_simple simples.Substring x = record x { waits = true }
@@ -194,7 +203,7 @@ abbrev mutual
   past (trees.prefixed p c) x = past c x
   past (trees.counted n e c) x = past c x
   past (trees.limited b c) x = past c (past b x)
-  past (trees.chosen s gs) x = region (suc x.before + length (starter_amongs s) + length (group_amongs gs))
+  past (trees.chosen s gs) x = region (past_groups gs (region (past_starter s (counted_one x))))
   past (trees.quoted q) x = x
   past (trees.called n) x = x
   past (trees.excluded w n) x = x
@@ -213,24 +222,38 @@ abbrev mutual
   past_others trees.no_others x = x
   past_others (trees.joined j c os) x = past_others os (past c x)
 
+  pub past_starter : trees.Starter → Place → Place
+  past_starter trees.no_starter x = x
+  past_starter (trees.starter rs) x = past_rows rs x
+
+  pub past_groups : trees.Groups → Place → Place
+  past_groups (trees.bare es) x = x
+  past_groups (trees.group e es rs gs) x = past_groups gs (region (past_rows rs x))
+
 -- ---- commands
 
--- the search of the k-th of some amongs
-abbrev pub search : Names → List trees.Groups → Mode → ℕ → plan.Command
-search ns all m k =
-    let gs = slice_index_or all k (trees.bare []) in
-    plan.search k (listing m (values gs)) (entries ns 0 gs)
+-- the strings of the k-th of some amongs, and what stands beside them
+abbrev pub found_listing : Option Found → Listed
+found_listing None = listing Forward []
+found_listing (Some f) = listing f.mode (values f.groups)
 
-abbrev pub simple : Names → List trees.Groups → Mode → Place → Simple → plan.Command
-simple ns all m x simples.Substring = search ns all m x.before
-simple ns all m x simples.LeftBracket = plan.act plan.left_bracket
-simple ns all m x simples.RightBracket = plan.act plan.right_bracket
-simple ns all m x simples.Next = plan.act plan.next
-simple ns all m x simples.ToLimit = plan.act plan.tolimit
-simple ns all m x simples.AtLimit = plan.act plan.atlimit
-simple ns all m x simples.Delete = plan.act plan.delete
-simple ns all m x simples.True = plan.act plan.t
-simple ns all m x simples.False = plan.act plan.f
+abbrev pub found_entries : Names → Option Found → List Entry
+found_entries ns None = []
+found_entries ns (Some f) = entries ns 0 f.groups
+
+abbrev pub search : Names → List Found → ℕ → plan.Command
+search ns all k = plan.search k (found_listing (slice_get all k)) (found_entries ns (slice_get all k))
+
+abbrev pub simple : Names → List Found → Place → Simple → plan.Command
+simple ns all x simples.Substring = search ns all x.before
+simple ns all x simples.LeftBracket = plan.act plan.left_bracket
+simple ns all x simples.RightBracket = plan.act plan.right_bracket
+simple ns all x simples.Next = plan.act plan.next
+simple ns all x simples.ToLimit = plan.act plan.tolimit
+simple ns all x simples.AtLimit = plan.act plan.atlimit
+simple ns all x simples.Delete = plan.act plan.delete
+simple ns all x simples.True = plan.act plan.t
+simple ns all x simples.False = plan.act plan.f
 
 abbrev pub prefixed : Prefix → plan.Command → plan.Command
 prefixed prefixes.Not c = plan.not c
@@ -242,11 +265,6 @@ prefixed prefixes.Repeat c = plan.repeat c
 prefixed prefixes.GoTo c = plan.goto c
 prefixed prefixes.GoPast c = plan.gopast c
 prefixed prefixes.Backwards c = plan.backwards c
-
--- the mode of a command behind a prefix
-abbrev pub mode_behind : Prefix → Mode → Mode
-mode_behind prefixes.Backwards m = Backward
-mode_behind p m = m
 
 abbrev pub counted : Count → plan.Number → plan.Command → plan.Command
 counted counts.Loop n c = plan.loop n c
@@ -289,51 +307,58 @@ joined joiners.Or a b = plan.either a b
 joined joiners.And a b = plan.both a b
 
 -- what an among does before its group's command: nothing where a `substring` waits for it
-abbrev pub before_group : Bool → plan.Command → plan.Commands → plan.Commands
-before_group true s starter = plan.no_commands
-before_group false s starter = plan.command s starter
+abbrev pub before_group : Bool → plan.Command → List plan.Command → List plan.Command
+before_group true s starter = []
+before_group false s starter = s ∷ starter
 
 abbrev mutual
-  pub numbered : Names → List trees.Groups → Mode → Place → trees.Tree → plan.Command
-  numbered ns all m x (trees.bracket rs) = plan.sequence (rows ns all m x rs)
-  numbered ns all m x (trees.single s) = simple ns all m x s
-  numbered ns all m x (trees.quoted q) = plan.act (plan.match (plan.literal q.value))
-  numbered ns all m x (trees.called n) = named_command ns n
-  numbered ns all m x (trees.excluded w n) = plan.act (plan.non (number ns.groupings n))
-  numbered ns all m x (trees.prefixed p c) = prefixed p (numbered ns all (mode_behind p m) x c)
-  numbered ns all m x (trees.counted n e c) = counted n (expression ns e) (numbered ns all m x c)
-  numbered ns all m x (trees.moved y e) = plan.act (moved y (expression ns e))
-  numbered ns all m x (trees.named y n) = plan.act (naming ns y n)
-  numbered ns all m x (trees.edited y a) = plan.act (edit y (text ns a))
-  numbered ns all m x (trees.limited b c) = plan.setlimit (numbered ns all m x b) (numbered ns all m (past b x) c)
-  numbered ns all m x (trees.assigned n o e) = plan.act (plan.assign (number ns.integers n) (change o) (expression ns e))
-  numbered ns all m x (trees.compared n o e) = plan.act (plan.compare (plan.integer (number ns.integers n)) (relation o) (expression ns e))
-  numbered ns all m x (trees.values_compared e o f) = plan.act (plan.compare (expression ns e) (relation o) (expression ns f))
-  numbered ns all m x (trees.chosen s gs) =
+  pub numbered : Names → List Found → Place → trees.Tree → plan.Command
+  numbered ns all x (trees.bracket rs) = plan.sequence (commands_of (rows ns all x rs))
+  numbered ns all x (trees.single s) = simple ns all x s
+  numbered ns all x (trees.quoted q) = plan.act (plan.match (plan.literal q.value))
+  numbered ns all x (trees.called n) = named_command ns n
+  numbered ns all x (trees.excluded w n) = plan.act (plan.non (number ns.groupings n))
+  numbered ns all x (trees.prefixed p c) = prefixed p (numbered ns all x c)
+  numbered ns all x (trees.counted n e c) = counted n (expression ns e) (numbered ns all x c)
+  numbered ns all x (trees.moved y e) = plan.act (moved y (expression ns e))
+  numbered ns all x (trees.named y n) = plan.act (naming ns y n)
+  numbered ns all x (trees.edited y a) = plan.act (edit y (text ns a))
+  numbered ns all x (trees.limited b c) = plan.setlimit (numbered ns all x b) (numbered ns all (past b x) c)
+  numbered ns all x (trees.assigned n o e) = plan.act (plan.assign (number ns.integers n) (change o) (expression ns e))
+  numbered ns all x (trees.compared n o e) = plan.act (plan.compare (plan.integer (number ns.integers n)) (relation o) (expression ns e))
+  numbered ns all x (trees.values_compared e o f) = plan.act (plan.compare (expression ns e) (relation o) (expression ns f))
+  numbered ns all x (trees.chosen s gs) =
       plan.among x.before
-        (before_group x.waits (search ns all m x.before) (starter ns all m (region (suc x.before)) s))
-        (groups ns all m (region (suc x.before + length (starter_amongs s))) gs)
+        (commands_of (before_group x.waits (search ns all x.before) (starter ns all (counted_one x) s)))
+        (commands_of (groups ns all (region (past_starter s (counted_one x))) gs))
 
   -- each row is one command, its joiners grouped from the left
-  pub rows : Names → List trees.Groups → Mode → Place → trees.Rows → plan.Commands
-  rows ns all m x trees.no_rows = plan.no_commands
-  rows ns all m x (trees.row c os rs) =
-      plan.command (others ns all m (past c x) os (numbered ns all m x c)) (rows ns all m (past_others os (past c x)) rs)
+  pub rows : Names → List Found → Place → trees.Rows → List plan.Command
+  rows ns all x trees.no_rows = []
+  rows ns all x (trees.row c os rs) =
+      others ns all (past c x) os (numbered ns all x c) ∷ rows ns all (past_others os (past c x)) rs
 
-  pub others : Names → List trees.Groups → Mode → Place → trees.Others → plan.Command → plan.Command
-  others ns all m x trees.no_others a = a
-  others ns all m x (trees.joined j c os) a = others ns all m (past c x) os (joined j a (numbered ns all m x c))
+  pub others : Names → List Found → Place → trees.Others → plan.Command → plan.Command
+  others ns all x trees.no_others a = a
+  others ns all x (trees.joined j c os) a = others ns all (past c x) os (joined j a (numbered ns all x c))
 
   -- the starter's bracket is a command
-  pub starter : Names → List trees.Groups → Mode → Place → trees.Starter → plan.Commands
-  starter ns all m x trees.no_starter = plan.no_commands
-  starter ns all m x (trees.starter rs) = plan.command (plan.sequence (rows ns all m x rs)) plan.no_commands
+  pub starter : Names → List Found → Place → trees.Starter → List plan.Command
+  starter ns all x trees.no_starter = []
+  starter ns all x (trees.starter rs) = plan.sequence (commands_of (rows ns all x rs)) ∷ []
 
   -- each group's bracket is a command, and a region of its own
-  pub groups : Names → List trees.Groups → Mode → Place → trees.Groups → plan.Commands
-  groups ns all m x (trees.bare es) = plan.no_commands
-  groups ns all m x (trees.group e es rs gs) =
-      plan.command (plan.sequence (rows ns all m x rs)) (groups ns all m (region (x.before + length (row_amongs rs))) gs)
+  pub groups : Names → List Found → Place → trees.Groups → List plan.Command
+  groups ns all x (trees.bare es) = []
+  groups ns all x (trees.group e es rs gs) =
+      plan.sequence (commands_of (rows ns all x rs)) ∷ groups ns all (region (past_rows rs x)) gs
+
+-- a row, and the place after it
+abbrev pub row_command : Names → List Found → Place → trees.Tree → trees.Others → plan.Command
+row_command ns all x c os = others ns all (past c x) os (numbered ns all x c)
+
+abbrev pub past_row : trees.Tree → trees.Others → Place → Place
+past_row c os x = past_others os (past c x)
 
 -- ---- items
 
@@ -382,9 +407,10 @@ bodies ((m, trees.grouping n a ts) ∷ ps) = bodies ps
 -- a routine: its amongs are counted from its beginning
 abbrev pub routine : Names → Body → plan.Routine
 routine ns b =
-    let all = amongs b.first ++ other_amongs b.others in
+    let all = amongs b.mode b.first ++ other_amongs b.mode b.others in
+    let x : Place = record { before = 0; waits = false } in
     record {
-      body = others ns all b.mode (past b.first (region 0)) b.others (numbered ns all b.mode (region 0) b.first);
+      body = row_command ns all x b.first b.others;
       amongs = length all
     }
 

@@ -4,6 +4,9 @@ ghost use Rattle.std.specs.Prelude.{◌≡◌, map, string_bytes};
 ghost use Rattle.sbl_machine.specs.Numbered.{number};
 
 mod arithmetic;
+mod commands;
+
+use crate::node::Entry;
 
 /// The names of a script, each kind in text order.
 #[derive(Drop)]
@@ -18,6 +21,24 @@ pub struct Names {
     pub routines: Vec<String>,
     /// The groupings that are defined.
     pub groupings: Vec<String>,
+}
+
+/// Where a command stands in its routine.
+#[derive(Clone, Copy, Debug, PartialEq, Eq)]
+pub struct Place {
+    /// How many amongs begin before it.
+    pub before: usize,
+    /// Whether a `substring` of its region waits for the next of them.
+    pub waits: bool,
+}
+
+/// What is known of an among before its commands are made.
+#[derive(Drop)]
+pub struct Known {
+    /// The number of its table.
+    pub table: usize,
+    /// What stands beside each of its strings.
+    pub entries: Vec<Entry>,
 }
 
 /// The number of a name: the number of names where it is none of them.
