@@ -8,10 +8,12 @@ use Rattle.sbl_machine.specs.Listed.{Listed}
 
 abbrev pub names_view : Names → numbered.Names
 names_view n = record {
-    integers = map string_bytes n.integers.items; booleans = map string_bytes n.booleans.items;
-    strings = map string_bytes n.strings.items; routines = map string_bytes n.routines.items;
-    groupings = map string_bytes n.groupings.items
-  }
+  integers = map string_bytes n.integers.items;
+  booleans = map string_bytes n.booleans.items;
+  strings = map string_bytes n.strings.items;
+  routines = map string_bytes n.routines.items;
+  groupings = map string_bytes n.groupings.items;
+}
 
 -- for each among the number of its table, and what stands beside its strings
 abbrev pub tables_of : List Known → List ℕ

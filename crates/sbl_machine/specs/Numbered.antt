@@ -329,8 +329,8 @@ abbrev mutual
   numbered ns all x (trees.values_compared e o f) = plan.act (plan.compare (expression ns e) (relation o) (expression ns f))
   numbered ns all x (trees.chosen s gs) =
       plan.among x.before
-        (commands_of (before_group x.waits (search ns all x.before) (starter ns all (counted_one x) s)))
-        (commands_of (groups ns all (region (past_starter s (counted_one x))) gs))
+      (commands_of (before_group x.waits (search ns all x.before) (starter ns all (counted_one x) s)))
+      (commands_of (groups ns all (region (past_starter s (counted_one x))) gs))
 
   -- each row is one command, its joiners grouped from the left
   pub rows : Names → List Found → Place → trees.Rows → List plan.Command
@@ -411,7 +411,7 @@ routine ns b =
     let x : Place = record { before = 0; waits = false } in
     record {
       body = row_command ns all x b.first b.others;
-      amongs = length all
+      amongs = length all;
     }
 
 -- the set of a term, by the groupings defined before
@@ -452,12 +452,12 @@ groupings_of ps = sets_from ps (record { names = []; sets = [] })
 
 abbrev pub names_of : List (Mode × trees.Plain) → Names
 names_of ps = record {
-    integers = declared is_integers ps;
-    booleans = declared is_booleans ps;
-    strings = declared is_strings ps;
-    routines = map (λ (b : Body). b.name) (bodies ps);
-    groupings = (groupings_of ps).names
-  }
+  integers = declared is_integers ps;
+  booleans = declared is_booleans ps;
+  strings = declared is_strings ps;
+  routines = map (λ (b : Body). b.name) (bodies ps);
+  groupings = (groupings_of ps).names;
+}
 
 -- the program of a script, by the name of the external that is run
 abbrev pub program : List trees.Item → List ℕ → plan.Plan
@@ -465,8 +465,10 @@ program items external =
     let ps = flat items in
     let ns = names_of ps in
     record {
-      integers = length ns.integers; booleans = length ns.booleans; strings = length ns.strings;
+      integers = length ns.integers;
+      booleans = length ns.booleans;
+      strings = length ns.strings;
       groupings = (groupings_of ps).sets;
       routines = map (routine ns) (bodies ps);
-      external = number ns.routines external
+      external = number ns.routines external;
     }

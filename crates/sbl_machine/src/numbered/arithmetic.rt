@@ -36,7 +36,12 @@ fn constant_of(word: Constant) -> Arithmetic
 }
 
 // Two numbers with a sign between them.
-fn added_of(alloc: Global, operator: Additive, left: Arithmetic, right: Arithmetic) -> Result<Arithmetic, AllocError>
+fn added_of(
+    alloc: Global,
+    operator: Additive,
+    left: Arithmetic,
+    right: Arithmetic,
+) -> Result<Arithmetic, AllocError>
     ensures { IfOk result (λ a. view_number a ≡ added operator (view_number left) (view_number right)) }
 {
     let left = Box::new(alloc, left)?;
@@ -47,7 +52,12 @@ fn added_of(alloc: Global, operator: Additive, left: Arithmetic, right: Arithmet
     }
 }
 
-fn scaled_of(alloc: Global, operator: Multiplicative, left: Arithmetic, right: Arithmetic) -> Result<Arithmetic, AllocError>
+fn scaled_of(
+    alloc: Global,
+    operator: Multiplicative,
+    left: Arithmetic,
+    right: Arithmetic,
+) -> Result<Arithmetic, AllocError>
     ensures { IfOk result (λ a. view_number a ≡ scaled operator (view_number left) (view_number right)) }
 {
     let left = Box::new(alloc, left)?;
@@ -60,7 +70,11 @@ fn scaled_of(alloc: Global, operator: Multiplicative, left: Arithmetic, right: A
 
 /// An expression.
 #[cycle(arithmetic)]
-pub fn expression_of(alloc: Global, names: &Names, tree: &Expression) -> Result<Arithmetic, AllocError>
+pub fn expression_of(
+    alloc: Global,
+    names: &Names,
+    tree: &Expression,
+) -> Result<Arithmetic, AllocError>
     ensures { IfOk result (λ a. view_number a ≡ expression (names_view names.now) (view_expression tree.now)) }
 {
     let mut total = product_of(alloc, names, &tree.first)?;
@@ -88,7 +102,10 @@ fn factor_of(alloc: Global, names: &Names, tree: &Factor) -> Result<Arithmetic, 
     ensures { IfOk result (λ a. view_number a ≡ factor (names_view names.now) (view_factor tree.now)) }
 {
     match tree {
-        Factor::Minus(inner) => Ok(Arithmetic::Negative(Box::new(alloc, factor_of(alloc, names, inner)?)?)),
+        Factor::Minus(inner) => Ok(Arithmetic::Negative(Box::new(
+            alloc,
+            factor_of(alloc, names, inner)?,
+        )?)),
         Factor::Bracket(inner) => expression_of(alloc, names, inner),
         Factor::Number(number) => Ok(Arithmetic::Number(*number)),
         Factor::Name(name) => Ok(Arithmetic::Integer(number_of(&names.integers, name))),

@@ -88,7 +88,12 @@ fn prefixed_of(alloc: Global, prefix: Prefix, inner: Node) -> Result<Node, Alloc
 }
 
 // A command behind a count.
-fn counted_of(alloc: Global, count: Count, times: Arithmetic, inner: Node) -> Result<Node, AllocError>
+fn counted_of(
+    alloc: Global,
+    count: Count,
+    times: Arithmetic,
+    inner: Node,
+) -> Result<Node, AllocError>
     ensures { IfOk result (λ n. (T : ℕ → Listed) → view_node T n ≡ counted count (view_number times) (view_node T inner)) }
 {
     let inner = Box::new(alloc, inner)?;
@@ -168,7 +173,13 @@ fn relation_of(sign: Comparison) -> Relation
 }
 
 // A command of one word.
-fn simple_of(alloc: Global, names: &Names, known: &[Known], word: Simple, place: &mut Place) -> Result<Node, AllocError>
+fn simple_of(
+    alloc: Global,
+    names: &Names,
+    known: &[Known],
+    word: Simple,
+    place: &mut Place,
+) -> Result<Node, AllocError>
     ensures made { IfOk result (λ n. (all : List Found) (T : ℕ → Listed) → IsKnown (names_view names.now) known.now all T → view_node T n ≡ simple (names_view names.now) all place.old word) }
     ensures passed { IfOk result (λ _. place.new ≡ past_simple word place.old) }
 {
