@@ -1,14 +1,13 @@
 -- What a command does, from its step on: the forms that the search leaves.
-use Rattle.std.proofs.Common.{◌≡◌, ℕ, ◌-◌, ◌<◌, ◌≤◌, zero, suc, Bool, true, false, List, [], ◌∷◌, Option, Some, None, Result, Ok, Err, refl, sym, ap, ◌∙◌, arith, rules, map, Vec, Box, Global}
+use Rattle.std.proofs.Common.{◌≡◌, ℕ, ◌-◌, ◌<◌, ◌≤◌, zero, suc, Bool, true, false, List, [], ◌∷◌, Option, Some, None, Result, Ok, Err, refl, sym, ap, ◌∙◌, arith, rules, length, get_or, Vec, Box, Global}
 use Rattle.std.specs.Prelude.{slice_get}
 use Rattle.sbl_machine.specs.declared.action.Arithmetic.{Arithmetic}
 use Rattle.sbl_machine.specs.declared.halt.Halt.{Halt}
 use Rattle.sbl_machine.specs.declared.halt.Halt.TheVariants.{OutOfMemory, Refused}
 use Rattle.sbl_machine.specs.declared.node.Entry.{Entry}
 use Rattle.sbl_machine.specs.declared.node.Node.{Node}
-use Rattle.sbl_machine.specs.declared.node.Program.{Program}
-use Rattle.sbl_machine.specs.declared.node.Routine.{Routine}
-use Rattle.sbl_machine.specs.declared.node.Node.TheVariants.{Repeat, Loop, AtLeast, Search}
+use Rattle.sbl_machine.specs.declared.node.Node.TheVariants.{Or, And, Goto, GoPast, SetLimit, Repeat, Loop, AtLeast, Search, Among, Sequence}
+use Rattle.sbl_machine.specs.declared.state.Limits.{Limits}
 use Rattle.sbl_machine.specs.declared.node.Node.TheFolds.{fold_out-Node}
 use Rattle.sbl_machine.specs.declared.node.Node.TheViews.{the_lemmas}
 use Rattle.sbl_machine.specs.Kept.{Follows, Tried}
@@ -16,26 +15,106 @@ use Rattle.sbl_machine.specs.Listed.{Listed}
 use Rattle.sbl_machine.specs.Fitting.{first}
 use Rattle.sbl_machine.specs.Moves.{next}
 use Rattle.sbl_machine.specs.Numbers.{value, given}
-use Rattle.sbl_machine.specs.PlanOf.{view_number}
-use Rattle.sbl_machine.specs.Run.{does, turns, times, count_of, seeks, found, calls, runs, leave, enter, body_does}
-use Rattle.sbl_machine.specs.Search.{search_all, tries, try_one}
+use Rattle.sbl_machine.specs.PlanOf.{view_node, view_nodes, view_number}
+use Rattle.sbl_machine.specs.Plan as plan
+use Rattle.sbl_machine.specs.Run.{turns, times, count_of, seeks, found, calls, runs, all_run, group_runs, nth_runs, leave, enter, body_does, limits, limited, limit_here, limit_back}
+use Rattle.sbl_machine.specs.Search.{choice, search_all, tries, try_one}
 use Rattle.sbl_machine.specs.Standing.{Standing, Ending, Doing, Signals, after, then_on, pay, mark, put_back}
 use Rattle.sbl_script.specs.declared.tree.Mode.{Mode}
 
 pub follows_at : (r : Result Bool Halt) (new : Standing) (e w : Ending) → e ≡ w → Follows r new w → Follows r new e
 follows_at r new e w p h = rw p h
 
-pub repeat_does : (T : ℕ → Listed) (sets : List (List ℕ)) (call : ℕ → Doing) (inner : Box Node Global) (m : Mode) (s : Standing) → does T sets call (Repeat inner) m s ≡ then_on (pay s.steps s) (λ q. turns (suc q.steps) (does T sets call inner.value) m q)
-repeat_does T sets call inner m s = first_of (search (rules, the_lemmas), search (rules, the_lemmas, fold_out-Node))
+view_repeat : (T : ℕ → Listed) (inner : Box Node Global) → view_node T (Repeat inner) ≡ plan.repeat (view_node T inner.value)
+view_repeat T inner = first_of (search (rules, the_lemmas), search (rules, the_lemmas, fold_out-Node))
 
-pub loop_does : (T : ℕ → Listed) (sets : List (List ℕ)) (call : ℕ → Doing) (n : Arithmetic) (inner : Box Node Global) (m : Mode) (s : Standing) → does T sets call (Loop n inner) m s ≡ then_on (pay s.steps s) (λ q. given (value (view_number n) m q) q (λ z. times (count_of z) (does T sets call inner.value) m q))
-loop_does T sets call n inner m s = first_of (search (rules, the_lemmas), search (rules, the_lemmas, fold_out-Node))
+view_loop : (T : ℕ → Listed) (n : Arithmetic) (inner : Box Node Global) → view_node T (Loop n inner) ≡ plan.loop (view_number n) (view_node T inner.value)
+view_loop T n inner = first_of (search (rules, the_lemmas), search (rules, the_lemmas, fold_out-Node))
 
-pub atleast_does : (T : ℕ → Listed) (sets : List (List ℕ)) (call : ℕ → Doing) (n : Arithmetic) (inner : Box Node Global) (m : Mode) (s : Standing) → does T sets call (AtLeast n inner) m s ≡ then_on (pay s.steps s) (λ q. after (given (value (view_number n) m q) q (λ z. times (count_of z) (does T sets call inner.value) m q)) (λ t. turns (suc t.steps) (does T sets call inner.value) m t) (Signals false))
-atleast_does T sets call n inner m s = first_of (search (rules, the_lemmas), search (rules, the_lemmas, fold_out-Node))
+view_atleast : (T : ℕ → Listed) (n : Arithmetic) (inner : Box Node Global) → view_node T (AtLeast n inner) ≡ plan.atleast (view_number n) (view_node T inner.value)
+view_atleast T n inner = first_of (search (rules, the_lemmas), search (rules, the_lemmas, fold_out-Node))
 
-pub search_does : (T : ℕ → Listed) (sets : List (List ℕ)) (call : ℕ → Doing) (k table : ℕ) (entries : Vec Entry Global) (m : Mode) (s : Standing) → does T sets call (Search k table entries) m s ≡ then_on (pay s.steps s) (search_all call k entries.items (T table) m)
-search_does T sets call k table entries m s = first_of (search (rules, the_lemmas), search (rules, the_lemmas, fold_out-Node))
+view_search : (T : ℕ → Listed) (k table : ℕ) (entries : Vec Entry Global) → view_node T (Search k table entries) ≡ plan.search k (T table) entries.items
+view_search T k table entries = first_of (search (rules, the_lemmas), search (rules, the_lemmas, fold_out-Node))
+
+view_among : (T : ℕ → Listed) (k : ℕ) (before bodies : Vec Node Global) → view_node T (Among k before bodies) ≡ plan.among k (view_nodes T before.items) (view_nodes T bodies.items)
+view_among T k before bodies = first_of (search (rules, the_lemmas), search (rules, the_lemmas, fold_out-Node))
+
+view_sequence : (T : ℕ → Listed) (cs : Vec Node Global) → view_node T (Sequence cs) ≡ plan.sequence (view_nodes T cs.items)
+view_sequence T cs = first_of (search (rules, the_lemmas), search (rules, the_lemmas, fold_out-Node))
+
+view_or : (T : ℕ → Listed) (a b : Box Node Global) → view_node T (Or a b) ≡ plan.either (view_node T a.value) (view_node T b.value)
+view_or T a b = first_of (search (rules, the_lemmas), search (rules, the_lemmas, fold_out-Node))
+
+view_and : (T : ℕ → Listed) (a b : Box Node Global) → view_node T (And a b) ≡ plan.both (view_node T a.value) (view_node T b.value)
+view_and T a b = first_of (search (rules, the_lemmas), search (rules, the_lemmas, fold_out-Node))
+
+view_goto : (T : ℕ → Listed) (inner : Box Node Global) → view_node T (Goto inner) ≡ plan.goto (view_node T inner.value)
+view_goto T inner = first_of (search (rules, the_lemmas), search (rules, the_lemmas, fold_out-Node))
+
+view_gopast : (T : ℕ → Listed) (inner : Box Node Global) → view_node T (GoPast inner) ≡ plan.gopast (view_node T inner.value)
+view_gopast T inner = first_of (search (rules, the_lemmas), search (rules, the_lemmas, fold_out-Node))
+
+view_setlimit : (T : ℕ → Listed) (a b : Box Node Global) → view_node T (SetLimit a b) ≡ plan.setlimit (view_node T a.value) (view_node T b.value)
+view_setlimit T a b = first_of (search (rules, the_lemmas), search (rules, the_lemmas, fold_out-Node))
+
+pub or_does : (T : ℕ → Listed) (p : plan.Plan) (levels : ℕ) (a b : Box Node Global) (m : Mode) (s : Standing) → runs p levels (view_node T (Or a b)) m s ≡ then_on (pay s.steps s) (λ q. after (runs p levels (view_node T a.value) m q) (Signals true) (λ f. then_on (put_back m (mark q) f) (runs p levels (view_node T b.value) m)))
+or_does T p levels a b m s = ap (λ c. runs p levels c m s) (view_or T a b)
+
+pub and_does : (T : ℕ → Listed) (p : plan.Plan) (levels : ℕ) (a b : Box Node Global) (m : Mode) (s : Standing) → runs p levels (view_node T (And a b)) m s ≡ then_on (pay s.steps s) (λ q. after (runs p levels (view_node T a.value) m q) (λ t. then_on (put_back m (mark q) t) (runs p levels (view_node T b.value) m)) (Signals false))
+and_does T p levels a b m s = ap (λ c. runs p levels c m s) (view_and T a b)
+
+pub goto_does : (T : ℕ → Listed) (p : plan.Plan) (levels : ℕ) (inner : Box Node Global) (m : Mode) (s : Standing) → runs p levels (view_node T (Goto inner)) m s ≡ then_on (pay s.steps s) (λ q. seeks (suc q.steps) false (runs p levels (view_node T inner.value)) m q)
+goto_does T p levels inner m s = ap (λ c. runs p levels c m s) (view_goto T inner)
+
+pub gopast_does : (T : ℕ → Listed) (p : plan.Plan) (levels : ℕ) (inner : Box Node Global) (m : Mode) (s : Standing) → runs p levels (view_node T (GoPast inner)) m s ≡ then_on (pay s.steps s) (λ q. seeks (suc q.steps) true (runs p levels (view_node T inner.value)) m q)
+gopast_does T p levels inner m s = ap (λ c. runs p levels c m s) (view_gopast T inner)
+
+pub setlimit_does : (T : ℕ → Listed) (p : plan.Plan) (levels : ℕ) (a b : Box Node Global) (m : Mode) (s : Standing) → runs p levels (view_node T (SetLimit a b)) m s ≡ then_on (pay s.steps s) (λ q. after (runs p levels (view_node T a.value) m q) (λ t. then_on (put_back m (mark q) (limit_here m t)) (λ u. limited m (limits q) (runs p levels (view_node T b.value) m u))) (Signals false))
+setlimit_does T p levels a b m s = ap (λ c. runs p levels c m s) (view_setlimit T a b)
+
+pub limited_signals : (m : Mode) (from : Limits) (e : Ending) (b : Bool) (t : Standing) → e ≡ Signals b t → limited m from e ≡ Signals b (limit_back m from t)
+limited_signals m from e true t p = ap (limited m from) p
+limited_signals m from e false t p = ap (limited m from) p
+
+pub limited_halts : (m : Mode) (from : Limits) (halt : Halt) (new : Standing) (e : Ending) → Follows (Err halt) new e → Follows (Err halt) new (limited m from e)
+limited_halts m from OutOfMemory new e h = tt
+limited_halts m from (Refused fault) new e h = ap (limited m from) h
+
+pub one_time : (l : ℕ) (c : Doing) (m : Mode) (s new : Standing) (w : Ending) → 0 < l → c m s ≡ Signals true new → times l c m s ≡ w → times (l - 1) c m new ≡ w
+one_time zero c m s new w l e h = absurd (omega arith)
+one_time (suc k) c m s new w l e h =
+    let j : suc k - 1 ≡ k = omega arith in
+    ap (λ n. times n c m new) j ∙ sym (ap (λ r. after r (times k c m) (Signals false)) e) ∙ h
+
+pub repeat_does : (T : ℕ → Listed) (p : plan.Plan) (levels : ℕ) (inner : Box Node Global) (m : Mode) (s : Standing) → runs p levels (view_node T (Repeat inner)) m s ≡ then_on (pay s.steps s) (λ q. turns (suc q.steps) (runs p levels (view_node T inner.value)) m q)
+repeat_does T p levels inner m s = ap (λ c. runs p levels c m s) (view_repeat T inner)
+
+pub loop_does : (T : ℕ → Listed) (p : plan.Plan) (levels : ℕ) (n : Arithmetic) (inner : Box Node Global) (m : Mode) (s : Standing) → runs p levels (view_node T (Loop n inner)) m s ≡ then_on (pay s.steps s) (λ q. given (value (view_number n) m q) q (λ z. times (count_of z) (runs p levels (view_node T inner.value)) m q))
+loop_does T p levels n inner m s = ap (λ c. runs p levels c m s) (view_loop T n inner)
+
+pub atleast_does : (T : ℕ → Listed) (p : plan.Plan) (levels : ℕ) (n : Arithmetic) (inner : Box Node Global) (m : Mode) (s : Standing) → runs p levels (view_node T (AtLeast n inner)) m s ≡ then_on (pay s.steps s) (λ q. after (given (value (view_number n) m q) q (λ z. times (count_of z) (runs p levels (view_node T inner.value)) m q)) (λ t. turns (suc t.steps) (runs p levels (view_node T inner.value)) m t) (Signals false))
+atleast_does T p levels n inner m s = ap (λ c. runs p levels c m s) (view_atleast T n inner)
+
+pub search_does : (T : ℕ → Listed) (p : plan.Plan) (levels k table : ℕ) (entries : Vec Entry Global) (m : Mode) (s : Standing) → runs p levels (view_node T (Search k table entries)) m s ≡ then_on (pay s.steps s) (search_all (calls p levels) k entries.items (T table) m)
+search_does T p levels k table entries m s = ap (λ c. runs p levels c m s) (view_search T k table entries)
+
+pub among_does : (T : ℕ → Listed) (p : plan.Plan) (levels k : ℕ) (before bodies : Vec Node Global) (m : Mode) (s : Standing) → runs p levels (view_node T (Among k before bodies)) m s ≡ then_on (pay s.steps s) (λ q. after (all_run p levels (view_nodes T before.items) m q) (λ t. group_runs p levels (view_nodes T bodies.items) (choice k t) m t) (Signals false))
+among_does T p levels k before bodies m s = ap (λ c. runs p levels c m s) (view_among T k before bodies)
+
+pub sequence_does : (T : ℕ → Listed) (p : plan.Plan) (levels : ℕ) (cs : Vec Node Global) (m : Mode) (s : Standing) → runs p levels (view_node T (Sequence cs)) m s ≡ then_on (pay s.steps s) (all_run p levels (view_nodes T cs.items) m)
+sequence_does T p levels cs m s = ap (λ c. runs p levels c m s) (view_sequence T cs)
+
+-- the g-th of some commands
+pub nth_is : (T : ℕ → Listed) (p : plan.Plan) (levels : ℕ) (ns : List Node) (g : ℕ) (n : Node) (m : Mode) (s : Standing) → g < length ns → n ≡ get_or ns g n → nth_runs p levels (view_nodes T ns) g m s ≡ runs p levels (view_node T n) m s
+nth_is T p levels [] g n m s l e = absurd (omega arith)
+nth_is T p levels (x ∷ ns) zero n m s l e = ap (λ c. runs p levels (view_node T c) m s) (sym e)
+nth_is T p levels (x ∷ ns) (suc g) n m s l e = nth_is T p levels ns g n m s (omega arith) e
+
+pub nth_past : (T : ℕ → Listed) (p : plan.Plan) (levels : ℕ) (ns : List Node) (g : ℕ) (m : Mode) (s : Standing) → length ns ≤ g → nth_runs p levels (view_nodes T ns) g m s ≡ Signals true s
+nth_past T p levels [] g m s l = refl
+nth_past T p levels (x ∷ ns) zero m s l = absurd (omega arith)
+nth_past T p levels (x ∷ ns) (suc g) m s l = nth_past T p levels ns g m s (omega arith)
 
 pub one_turn : (n : ℕ) (c : Doing) (m : Mode) (s new : Standing) (w : Ending) → new.steps < s.steps → s.steps ≤ n → c m s ≡ Signals true new → turns (suc n) c m s ≡ w → (k : ℕ) × (new.steps ≤ k) × (turns (suc k) c m new ≡ w)
 one_turn zero c m s new w f l e h = absurd (omega arith)
@@ -59,11 +138,11 @@ halted OutOfMemory new e f w h p = tt
 halted (Refused fault) new e f w h p = sym p ∙ h
 
 -- a call with a level left
-pub called : (T : ℕ → Listed) (p : Program) (n i : ℕ) (m : Mode) (s : Standing) (r : Routine) → 0 < n → slice_get p.routines.items i ≡ Some r → calls T p n i m s ≡ leave s.choices (runs T p (n - 1) r.body m (enter r.amongs s))
-called T p zero i m s r h e = absurd (omega arith)
-called T p (suc n) i m s r h e =
+pub called : (p : plan.Plan) (n i : ℕ) (m : Mode) (s : Standing) (r : plan.Routine) → 0 < n → slice_get p.routines i ≡ Some r → calls p n i m s ≡ leave s.choices (runs p (n - 1) r.body m (enter r.amongs s))
+called p zero i m s r h e = absurd (omega arith)
+called p (suc n) i m s r h e =
     let k : n ≡ suc n - 1 = omega arith in
-    ap (λ o. body_does (runs T p n) o m s) e ∙ ap (λ k. leave s.choices (runs T p k r.body m (enter r.amongs s))) k
+    ap (λ o. body_does (runs p n) o m s) e ∙ ap (λ k. leave s.choices (runs p k r.body m (enter r.amongs s))) k
 
 pub leave_signals : (cs : List (Option ℕ)) (e : Ending) (b : Bool) (t : Standing) → e ≡ Signals b t → leave cs e ≡ Signals b (record t { choices = cs })
 leave_signals cs e true t p = ap (leave cs) p

@@ -1,11 +1,10 @@
 -- What a run over a word gives, and what it costs.
-use Rattle.std.specs.Prelude.{ℕ, pos, false, ◌+◌, ◌-◌, List, [], length, replicate, slice_get}
+use Rattle.std.specs.Prelude.{ℕ, pos, false, ◌+◌, ◌-◌, List, [], length, replicate}
 use Rattle.sbl_machine.specs.declared.fault.RunFault.{RunFault}
 use Rattle.sbl_machine.specs.declared.fault.RunFault.TheVariants as faults
-use Rattle.sbl_machine.specs.declared.node.Program.{Program}
 use Rattle.sbl_machine.specs.declared.outcome.Outcome.{Outcome}
 use Rattle.sbl_machine.specs.declared.outcome.Outcome.TheVariants as code
-use Rattle.sbl_machine.specs.Listed.{Listed}
+use Rattle.sbl_machine.specs.Plan as plan
 use Rattle.sbl_machine.specs.Run.{calls}
 use Rattle.sbl_machine.specs.Standing.{Standing, Ending, Signals, Stops}
 use Rattle.sbl_script.specs.declared.tree.Mode.TheVariants.{Forward}
@@ -21,7 +20,7 @@ outcome_of (code.Stem text) = Stem text.items
 outcome_of (code.Refused fault) = Refused fault
 
 -- where a run of a word begins: integers 0, booleans false, strings empty
-abbrev pub start : Program → List ℕ → ℕ → Standing
+abbrev pub start : plan.Plan → List ℕ → ℕ → Standing
 start p word steps = record {
     text = word; cursor = 0; left = 0; beyond = 0; bra = 0; ket = 0;
     integers = replicate p.integers (pos 0); booleans = replicate p.booleans false; strings = replicate p.strings [];
@@ -29,8 +28,8 @@ start p word steps = record {
   }
 
 -- how a run of a word ends: the external's body runs forwards, on the first of 32 levels
-abbrev pub ending_of : (ℕ → Listed) → Program → List ℕ → ℕ → Ending
-ending_of tables p word limit = calls tables p 32 p.external Forward (start p word limit)
+abbrev pub ending_of : plan.Plan → List ℕ → ℕ → Ending
+ending_of p word limit = calls p 32 p.external Forward (start p word limit)
 
 -- the text as it stands at the end is the stem, whatever the signal
 abbrev pub outcome_at : Ending → Outcome'

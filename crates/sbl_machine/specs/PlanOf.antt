@@ -1,6 +1,5 @@
 -- A machine's parts without where they lie in memory.
-use Rattle.std.specs.Prelude.{ℕ, List, [], ◌∷◌, map, slice_get}
-use Rattle.sbl_script.specs.declared.tree.Mode.{Mode}
+use Rattle.std.specs.Prelude.{ℕ, List, [], ◌∷◌, map}
 use Rattle.sbl_machine.specs.declared.action.StringTerm.{StringTerm}
 use Rattle.sbl_machine.specs.declared.action.StringTerm.TheVariants as terms
 use Rattle.sbl_machine.specs.declared.action.Arithmetic.{Arithmetic}
@@ -9,6 +8,13 @@ use Rattle.sbl_machine.specs.declared.action.Arithmetic.TheOpen as sums
 use Rattle.sbl_machine.specs.declared.action.Arithmetic.TheFolds.{fold-Arithmetic}
 use Rattle.sbl_machine.specs.declared.action.Action.{Action}
 use Rattle.sbl_machine.specs.declared.action.Action.TheVariants as actions
+use Rattle.sbl_machine.specs.declared.node.Node.{Node}
+use Rattle.sbl_machine.specs.declared.node.Node.TheOpen.{Node-F}
+use Rattle.sbl_machine.specs.declared.node.Node.TheOpen as nodes
+use Rattle.sbl_machine.specs.declared.node.Node.TheFolds.{fold-Node}
+use Rattle.sbl_machine.specs.declared.node.Program.{Program}
+use Rattle.sbl_machine.specs.declared.node.Routine.{Routine}
+use Rattle.sbl_machine.specs.Listed.{Listed}
 use Rattle.sbl_machine.specs.Plan as plan
 
 abbrev pub view_text : StringTerm → plan.Text
@@ -59,3 +65,46 @@ view_action (actions.Assign x change a) = plan.assign x change (view_number a)
 view_action (actions.Compare a relation b) = plan.compare (view_number a) relation (view_number b)
 view_action actions.True = plan.t
 view_action actions.False = plan.f
+
+abbrev pub commands_of : List plan.Command → plan.Commands
+commands_of [] = plan.no_commands
+commands_of (c ∷ cs) = plan.command c (commands_of cs)
+
+-- by the strings that each table lists
+abbrev pub node_step : (ℕ → Listed) → Node-F plan.Command → plan.Command
+node_step tables (nodes.Act a) = plan.act (view_action a)
+node_step tables (nodes.Sequence cs) = plan.sequence (commands_of cs.items)
+node_step tables (nodes.Or a b) = plan.either a.value b.value
+node_step tables (nodes.And a b) = plan.both a.value b.value
+node_step tables (nodes.Not a) = plan.not a.value
+node_step tables (nodes.Test a) = plan.test a.value
+node_step tables (nodes.Try a) = plan.try a.value
+node_step tables (nodes.Do a) = plan.do_ a.value
+node_step tables (nodes.Fail a) = plan.fail a.value
+node_step tables (nodes.Repeat a) = plan.repeat a.value
+node_step tables (nodes.Loop n a) = plan.loop (view_number n) a.value
+node_step tables (nodes.AtLeast n a) = plan.atleast (view_number n) a.value
+node_step tables (nodes.Goto a) = plan.goto a.value
+node_step tables (nodes.GoPast a) = plan.gopast a.value
+node_step tables (nodes.Backwards a) = plan.backwards a.value
+node_step tables (nodes.SetLimit a b) = plan.setlimit a.value b.value
+node_step tables (nodes.Call i) = plan.call i
+node_step tables (nodes.Search k table entries) = plan.search k (tables table) entries.items
+node_step tables (nodes.Among k before bodies) = plan.among k (commands_of before.items) (commands_of bodies.items)
+
+abbrev pub view_node : (ℕ → Listed) → Node → plan.Command
+view_node tables = fold-Node plan.Command (node_step tables)
+
+abbrev pub view_nodes : (ℕ → Listed) → List Node → plan.Commands
+view_nodes tables ns = commands_of (map (view_node tables) ns)
+
+abbrev pub view_routine : (ℕ → Listed) → Routine → plan.Routine
+view_routine tables r = record { body = view_node tables r.body; amongs = r.amongs }
+
+abbrev pub plan_of : (ℕ → Listed) → Program → plan.Plan
+plan_of tables p = record {
+    integers = p.integers; booleans = p.booleans; strings = p.strings;
+    groupings = map (λ v. v.items) p.groupings.items;
+    routines = map (view_routine tables) p.routines.items;
+    external = p.external
+  }

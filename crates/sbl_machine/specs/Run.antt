@@ -1,26 +1,15 @@
 -- What a run of a script does: each command by what its parts do.
-use Rattle.std.specs.Prelude.{ℕ, zero, suc, ℤ, pos, negsuc, ◌-◌, Bool, true, false, List, [], ◌∷◌, length, map, Option, Some, None, slice_get, replicate}
+use Rattle.std.specs.Prelude.{ℕ, zero, suc, ℤ, pos, negsuc, ◌-◌, Bool, true, false, List, length, Option, Some, None, slice_get, replicate}
 use Rattle.sbl_machine.specs.declared.fault.RunFault.TheVariants.{Steps, Depth}
-use Rattle.sbl_machine.specs.declared.node.Node.{Node}
-use Rattle.sbl_machine.specs.declared.node.Node.TheOpen.{Node-F, Act, Sequence, Or, And, Not, Test, Try, Do, Fail, Repeat, Loop, AtLeast, Goto, GoPast, Backwards, SetLimit, Call, Search, Among}
-use Rattle.sbl_machine.specs.declared.node.Node.TheFolds.{fold-Node}
-use Rattle.sbl_machine.specs.declared.node.Program.{Program}
-use Rattle.sbl_machine.specs.declared.node.Routine.{Routine}
 use Rattle.sbl_machine.specs.declared.state.Limits.{Limits}
 use Rattle.sbl_machine.specs.Actions.{acts}
-use Rattle.sbl_machine.specs.Listed.{Listed}
 use Rattle.sbl_machine.specs.Moves.{next}
 use Rattle.sbl_machine.specs.Numbers.{value, given}
-use Rattle.sbl_machine.specs.PlanOf.{view_action, view_number}
-use Rattle.sbl_machine.specs.Search.{choice, search_all, group_does}
+use Rattle.sbl_machine.specs.Plan as plan
+use Rattle.sbl_machine.specs.Search.{choice, search_all}
 use Rattle.sbl_machine.specs.Standing.{Standing, Ending, Signals, Stops, Doing, after, then_on, pay, at_place, to_limit, mark, put_back}
 use Rattle.sbl_script.specs.declared.tree.Mode.{Mode}
 use Rattle.sbl_script.specs.declared.tree.Mode.TheVariants.{Forward, Backward}
-
--- in turn, up to the first f
-abbrev pub in_turn : List Doing → Mode → Standing → Ending
-in_turn [] m s = Signals true s
-in_turn (c ∷ cs) m s = after (c m s) (in_turn cs m) (Signals false)
 
 -- At most n turns, up to the first f, after which the cursor is put back to before it. Each turn pays a step
 -- at least, so a run begins at most one turn more than it has steps.
@@ -78,40 +67,68 @@ backwards_from s = to_limit Forward (record s { left = s.cursor })
 abbrev pub backwards_end : Standing → Ending
 backwards_end s = at_place s.left s
 
--- What a command does once its step is paid, by what its parts and its calls do; `tables` are the strings of the
--- amongs, `sets` the sets of the groupings.
-abbrev pub act : (ℕ → Listed) → List (List ℕ) → (ℕ → Doing) → Node-F Doing → Mode → Standing → Ending
-act tables sets call (Act a) m s = acts sets (view_action a) m s
-act tables sets call (Sequence cs) m s = in_turn cs.items m s
-act tables sets call (Or a b) m s = after (a.value m s) (Signals true) (λ f. then_on (put_back m (mark s) f) (b.value m))
-act tables sets call (And a b) m s = after (a.value m s) (λ t. then_on (put_back m (mark s) t) (b.value m)) (Signals false)
-act tables sets call (Not a) m s = after (a.value m s) (Signals false) (put_back m (mark s))
-act tables sets call (Test a) m s = after (a.value m s) (put_back m (mark s)) (Signals false)
-act tables sets call (Try a) m s = after (a.value m s) (Signals true) (put_back m (mark s))
-act tables sets call (Do a) m s = after (a.value m s) (put_back m (mark s)) (put_back m (mark s))
-act tables sets call (Fail a) m s = after (a.value m s) (Signals false) (Signals false)
-act tables sets call (Repeat a) m s = turns (suc s.steps) a.value m s
-act tables sets call (Loop n a) m s = given (value (view_number n) m s) s (λ z. times (count_of z) a.value m s)
-act tables sets call (AtLeast n a) m s =
-    after (given (value (view_number n) m s) s (λ z. times (count_of z) a.value m s)) (λ t. turns (suc t.steps) a.value m t) (Signals false)
-act tables sets call (Goto a) m s = seeks (suc s.steps) false a.value m s
-act tables sets call (GoPast a) m s = seeks (suc s.steps) true a.value m s
-act tables sets call (Backwards a) m s =
-    then_on (backwards_from s) (λ b. after (a.value Backward b) backwards_end (Signals false))
-act tables sets call (SetLimit a b) m s =
-    after (a.value m s) (λ t. then_on (put_back m (mark s) (limit_here m t)) (λ u. limited m (limits s) (b.value m u))) (Signals false)
-act tables sets call (Call i) m s = call i m s
-act tables sets call (Search k table entries) m s = search_all call k entries.items (tables table) m s
-act tables sets call (Among k before bodies) m s =
-    after (in_turn before.items m s) (λ t. group_does bodies.items (choice k t) m t) (Signals false)
+-- goes on with the group that is chosen; f where none is
+abbrev pub chosen : Option ℕ → Standing → (ℕ → Ending) → Ending
+chosen None s go = Signals false s
+chosen (Some g) s go = go g
 
 -- a command pays a step before it does anything
-abbrev pub paid : (ℕ → Listed) → List (List ℕ) → (ℕ → Doing) → Node-F Doing → Doing
-paid tables sets call c m s = then_on (pay s.steps s) (act tables sets call c m)
+abbrev pub paid : Doing → Doing
+paid d m s = then_on (pay s.steps s) (d m)
+
+abbrev mutual
+  -- What a command does once its step is paid, by the sets of the groupings and by what a call of each routine does.
+  pub act : List (List ℕ) → (ℕ → Doing) → plan.Command → Mode → Standing → Ending
+  act sets call (plan.act a) m s = acts sets a m s
+  -- `( C1 C2 .. )`
+  act sets call (plan.sequence cs) m s = in_turn sets call cs m s
+  -- `C1 or C2`, `C1 and C2`
+  act sets call (plan.either a b) m s =
+      after (paid (act sets call a) m s) (Signals true) (λ f. then_on (put_back m (mark s) f) (paid (act sets call b) m))
+  act sets call (plan.both a b) m s =
+      after (paid (act sets call a) m s) (λ t. then_on (put_back m (mark s) t) (paid (act sets call b) m)) (Signals false)
+  act sets call (plan.not a) m s = after (paid (act sets call a) m s) (Signals false) (put_back m (mark s))
+  act sets call (plan.test a) m s = after (paid (act sets call a) m s) (put_back m (mark s)) (Signals false)
+  act sets call (plan.try a) m s = after (paid (act sets call a) m s) (Signals true) (put_back m (mark s))
+  act sets call (plan.do_ a) m s = after (paid (act sets call a) m s) (put_back m (mark s)) (put_back m (mark s))
+  act sets call (plan.fail a) m s = after (paid (act sets call a) m s) (Signals false) (Signals false)
+  act sets call (plan.repeat a) m s = turns (suc s.steps) (paid (act sets call a)) m s
+  act sets call (plan.loop n a) m s = given (value n m s) s (λ z. times (count_of z) (paid (act sets call a)) m s)
+  -- the loop, and then `repeat`, which pays no step of its own
+  act sets call (plan.atleast n a) m s =
+      after (given (value n m s) s (λ z. times (count_of z) (paid (act sets call a)) m s))
+        (λ t. turns (suc t.steps) (paid (act sets call a)) m t) (Signals false)
+  act sets call (plan.goto a) m s = seeks (suc s.steps) false (paid (act sets call a)) m s
+  act sets call (plan.gopast a) m s = seeks (suc s.steps) true (paid (act sets call a)) m s
+  act sets call (plan.backwards a) m s =
+      then_on (backwards_from s) (λ b. after (paid (act sets call a) Backward b) backwards_end (Signals false))
+  -- `setlimit C1 for C2`
+  act sets call (plan.setlimit a b) m s =
+      after (paid (act sets call a) m s)
+        (λ t. then_on (put_back m (mark s) (limit_here m t)) (λ u. limited m (limits s) (paid (act sets call b) m u)))
+        (Signals false)
+  -- a routine's name
+  act sets call (plan.call i) m s = call i m s
+  -- `substring`, or the search that an among makes itself
+  act sets call (plan.search k strings entries) m s = search_all call k entries strings m s
+  -- an among: its search and its starter, if they are its own, and then the command of the group that is chosen
+  act sets call (plan.among k before bodies) m s =
+      after (in_turn sets call before m s) (λ t. chosen (choice k t) t (λ g. nth_does sets call bodies g m t)) (Signals false)
+
+  -- in turn, up to the first f
+  pub in_turn : List (List ℕ) → (ℕ → Doing) → plan.Commands → Mode → Standing → Ending
+  in_turn sets call plan.no_commands m s = Signals true s
+  in_turn sets call (plan.command c cs) m s = after (paid (act sets call c) m s) (in_turn sets call cs m) (Signals false)
+
+  -- the g-th of some commands; t where there is none
+  pub nth_does : List (List ℕ) → (ℕ → Doing) → plan.Commands → ℕ → Mode → Standing → Ending
+  nth_does sets call plan.no_commands g m s = Signals true s
+  nth_does sets call (plan.command c cs) zero m s = paid (act sets call c) m s
+  nth_does sets call (plan.command c cs) (suc g) m s = nth_does sets call cs g m s
 
 -- what a command does
-abbrev pub does : (ℕ → Listed) → List (List ℕ) → (ℕ → Doing) → Node → Doing
-does tables sets call = fold-Node Doing (paid tables sets call)
+abbrev pub does : List (List ℕ) → (ℕ → Doing) → plan.Command → Doing
+does sets call c = paid (act sets call c)
 
 -- a call begins with nothing chosen, and at its return the caller's choices are back
 abbrev pub enter : ℕ → Standing → Standing
@@ -121,18 +138,25 @@ abbrev pub leave : List (Option ℕ) → Ending → Ending
 leave choices e = after e (λ t. Signals true (record t { choices = choices })) (λ f. Signals false (record f { choices = choices }))
 
 -- what a routine does, by what its commands do
-abbrev pub body_does : (Node → Doing) → Option Routine → Doing
+abbrev pub body_does : (plan.Command → Doing) → Option plan.Routine → Doing
 body_does run None m s = Signals false s
 body_does run (Some r) m s = leave s.choices (run r.body m (enter r.amongs s))
 
-abbrev pub sets_of : Program → List (List ℕ)
-sets_of p = map (λ v. v.items) p.groupings.items
-
 -- what a call does where this many levels are left
-abbrev pub calls : (ℕ → Listed) → Program → ℕ → ℕ → Doing
-calls tables p zero i m s = Stops Depth s
-calls tables p (suc n) i m s = body_does (does tables (sets_of p) (calls tables p n)) (slice_get p.routines.items i) m s
+abbrev pub calls : plan.Plan → ℕ → ℕ → Doing
+calls p zero i m s = Stops Depth s
+calls p (suc n) i m s = body_does (does p.groupings (calls p n)) (slice_get p.routines i) m s
 
 -- what a command does in a program, where this many levels are left
-abbrev pub runs : (ℕ → Listed) → Program → ℕ → Node → Doing
-runs tables p levels = does tables (sets_of p) (calls tables p levels)
+abbrev pub runs : plan.Plan → ℕ → plan.Command → Doing
+runs p levels = does p.groupings (calls p levels)
+
+-- the same of commands in turn, and of the g-th of them
+abbrev pub all_run : plan.Plan → ℕ → plan.Commands → Doing
+all_run p levels = in_turn p.groupings (calls p levels)
+
+abbrev pub nth_runs : plan.Plan → ℕ → plan.Commands → ℕ → Doing
+nth_runs p levels = nth_does p.groupings (calls p levels)
+
+abbrev pub group_runs : plan.Plan → ℕ → plan.Commands → Option ℕ → Doing
+group_runs p levels cs g m s = chosen g s (λ k. nth_runs p levels cs k m s)

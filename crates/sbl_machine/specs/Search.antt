@@ -42,13 +42,3 @@ tries call k entries m from (i ∷ is) s =
 -- the strings that fit where the search begins, the longest first
 abbrev pub search_all : (ℕ → Doing) → ℕ → List Entry → Listed → Mode → Standing → Ending
 search_all call k entries strings m s = tries call k entries m s (fits_at strings s.text s.cursor (bound_in m s)) s
-
--- a group's command, or t where it has none
-abbrev pub command_does : Option Doing → Mode → Standing → Ending
-command_does None m s = Signals true s
-command_does (Some d) m s = d m s
-
--- the command of the group that is chosen; f where none is
-abbrev pub group_does : List Doing → Option ℕ → Mode → Standing → Ending
-group_does bodies None m s = Signals false s
-group_does bodies (Some g) m s = command_does (slice_get bodies g) m s

@@ -1,7 +1,9 @@
 //! The machine's own tree: names are numbers, and each among has its table and its place among the choices of its routine.
 
-ghost use Rattle.std.specs.Prelude.{◌≡◌, slice_get};
+ghost use Rattle.std.specs.Prelude.{◌≡◌, ℕ, slice_get};
 ghost use Rattle.std.specs.Option.{option_map};
+ghost use Rattle.sbl_machine.specs.Listed.{Listed};
+ghost use Rattle.sbl_machine.specs.PlanOf.{plan_of, view_routine};
 
 use crate::action::{Action, Arithmetic};
 
@@ -103,7 +105,7 @@ pub struct Program {
 impl Program {
     /// The routine of a number.
     pub fn routine(&self, number: usize) -> Option<&Routine>
-        ensures { option_map (λ r. r.now) result ≡ slice_get self.now.routines.items number }
+        ensures { (tables : ℕ → Listed) → slice_get (plan_of tables self.now).routines number ≡ option_map (λ r. view_routine tables r.now) result }
     {
         self.routines.get(number)
     }

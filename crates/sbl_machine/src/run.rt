@@ -1,11 +1,11 @@
 //! Runs commands over a state.
 
-ghost use Rattle.std.specs.Prelude.{◌≡◌, ◌+◌, ◌<◌, ◌≤◌, Bool, false, suc, IfOk, map, slice_get};
+ghost use Rattle.std.specs.Prelude.{◌≡◌, ◌+◌, ◌<◌, ◌≤◌, Bool, false, suc, IfOk, slice_get};
 ghost use Rattle.sbl_machine.specs.Kept.{Follows, Tried};
 ghost use Rattle.sbl_machine.specs.Numbers.{value, given};
-ghost use Rattle.sbl_machine.specs.PlanOf.{view_number};
-ghost use Rattle.sbl_machine.specs.Run.{runs, calls, in_turn, turns, times, count_of, seeks, limited};
-ghost use Rattle.sbl_machine.specs.Search.{choice, group_does, search_all, try_one};
+ghost use Rattle.sbl_machine.specs.PlanOf.{plan_of, view_node, view_nodes, view_number};
+ghost use Rattle.sbl_machine.specs.Run.{runs, all_run, group_runs, calls, turns, times, count_of, seeks};
+ghost use Rattle.sbl_machine.specs.Search.{choice, search_all, try_one};
 ghost use Rattle.sbl_machine.specs.Standing.{Standing, Ending, Signals, after, then_on, mark, put_back};
 
 use crate::action::Arithmetic;
@@ -27,7 +27,7 @@ fn run_command<T: Tables>(
     command: &Node,
     state: &mut State,
 ) -> Result<bool, Halt>
-    ensures follows { Follows result state.new (runs (T.listed tables.now) program.now levels command.now mode state.old) }
+    ensures follows { Follows result state.new (runs (plan_of (T.listed tables.now) program.now) levels (view_node (T.listed tables.now) command.now) mode state.old) }
     ensures fewer { IfOk result (λ _. state.new.steps < state.old.steps) }
 {
     state.pay()?;
@@ -137,7 +137,7 @@ fn run_in_turn<T: Tables>(
     commands: &[Node],
     state: &mut State,
 ) -> Result<bool, Halt>
-    ensures follows { Follows result state.new (in_turn (map (runs (T.listed tables.now) program.now levels) commands.now) mode state.old) }
+    ensures follows { Follows result state.new (all_run (plan_of (T.listed tables.now) program.now) levels (view_nodes (T.listed tables.now) commands.now) mode state.old) }
     ensures no_more { IfOk result (λ _. state.new.steps ≤ state.old.steps) }
 {
     for one in commands {
@@ -158,7 +158,7 @@ fn run_turns<T: Tables>(
     inner: &Node,
     state: &mut State,
 ) -> Result<bool, Halt>
-    ensures follows { Follows result state.new (turns (suc state.old.steps) (runs (T.listed tables.now) program.now levels inner.now) mode state.old) }
+    ensures follows { Follows result state.new (turns (suc state.old.steps) (runs (plan_of (T.listed tables.now) program.now) levels (view_node (T.listed tables.now) inner.now)) mode state.old) }
     ensures no_more { IfOk result (λ _. state.new.steps ≤ state.old.steps) }
 {
     loop {
@@ -181,7 +181,7 @@ fn run_times<T: Tables>(
     inner: &Node,
     state: &mut State,
 ) -> Result<bool, Halt>
-    ensures follows { Follows result state.new (given (value (view_number count.now) mode state.old) state.old (λ z. times (count_of z) (runs (T.listed tables.now) program.now levels inner.now) mode state.old)) }
+    ensures follows { Follows result state.new (given (value (view_number count.now) mode state.old) state.old (λ z. times (count_of z) (runs (plan_of (T.listed tables.now) program.now) levels (view_node (T.listed tables.now) inner.now)) mode state.old)) }
     ensures no_more { IfOk result (λ _. state.new.steps ≤ state.old.steps) }
 {
     let number = state.value(mode, count).map_err(Halt::Refused)?;
@@ -206,7 +206,7 @@ fn run_seek<T: Tables>(
     inner: &Node,
     state: &mut State,
 ) -> Result<bool, Halt>
-    ensures follows { Follows result state.new (seeks (suc state.old.steps) past (runs (T.listed tables.now) program.now levels inner.now) mode state.old) }
+    ensures follows { Follows result state.new (seeks (suc state.old.steps) past (runs (plan_of (T.listed tables.now) program.now) levels (view_node (T.listed tables.now) inner.now)) mode state.old) }
     ensures no_more { IfOk result (λ _. state.new.steps ≤ state.old.steps) }
 {
     loop {
@@ -234,7 +234,7 @@ pub fn run_call<T: Tables>(
     number: usize,
     state: &mut State,
 ) -> Result<bool, Halt>
-    ensures follows { Follows result state.new (calls (T.listed tables.now) program.now levels number mode state.old) }
+    ensures follows { Follows result state.new (calls (plan_of (T.listed tables.now) program.now) levels number mode state.old) }
     ensures no_more { IfOk result (λ _. state.new.steps ≤ state.old.steps) }
 {
     if levels == 0 {
@@ -263,7 +263,7 @@ fn run_among<T: Tables>(
     bodies: &Vec<Node>,
     state: &mut State,
 ) -> Result<bool, Halt>
-    ensures follows { Follows result state.new (after (in_turn (map (runs (T.listed tables.now) program.now levels) before.now.items) mode state.old) (λ t. group_does (map (runs (T.listed tables.now) program.now levels) bodies.now.items) (choice among t) mode t) (Signals false)) }
+    ensures follows { Follows result state.new (after (all_run (plan_of (T.listed tables.now) program.now) levels (view_nodes (T.listed tables.now) before.now.items) mode state.old) (λ t. group_runs (plan_of (T.listed tables.now) program.now) levels (view_nodes (T.listed tables.now) bodies.now.items) (choice among t) mode t) (Signals false)) }
     ensures no_more { IfOk result (λ _. state.new.steps ≤ state.old.steps) }
 {
     if !run_in_turn(tables, program, levels, mode, before, state)? {
@@ -290,7 +290,7 @@ fn run_search<T: Tables>(
     entries: &[Entry],
     state: &mut State,
 ) -> Result<bool, Halt>
-    ensures follows { Follows result state.new (search_all (calls (T.listed tables.now) program.now levels) among entries.now (T.listed tables.now table) mode state.old) }
+    ensures follows { Follows result state.new (search_all (calls (plan_of (T.listed tables.now) program.now) levels) among entries.now (T.listed tables.now table) mode state.old) }
     ensures no_more { IfOk result (λ _. state.new.steps ≤ state.old.steps) }
 {
     let from = state.mark();
@@ -321,7 +321,7 @@ fn run_try<T: Tables>(
     state: &mut State,
 ) -> Result<bool, Halt>
     requires { from.cursor + from.beyond + from.length ≤ 4096 }
-    ensures tried { (begun : Standing) (follow : Standing → Ending) → from ≡ mark begun → Tried result state.new (try_one (calls (T.listed tables.now) program.now levels) among (slice_get entries.now i) mode begun state.old follow) (follow state.new) }
+    ensures tried { (begun : Standing) (follow : Standing → Ending) → from ≡ mark begun → Tried result state.new (try_one (calls (plan_of (T.listed tables.now) program.now) levels) among (slice_get entries.now i) mode begun state.old follow) (follow state.new) }
     ensures no_more { IfOk result (λ _. state.new.steps ≤ state.old.steps) }
     ensures fewer { IfOk result (λ b. b ≡ false → state.new.steps < state.old.steps) }
 {

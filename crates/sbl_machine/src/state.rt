@@ -1,9 +1,10 @@
 //! The state of a run: its text, the places in it, and its variables.
 
-ghost use Rattle.std.specs.Prelude.{◌≡◌, ◌+◌, ◌-◌, ◌<◌, ◌≤◌, ◌^◌, [], length, map, replicate, IfOk};
+ghost use Rattle.std.specs.Prelude.{◌≡◌, ℕ, ◌+◌, ◌-◌, ◌<◌, ◌≤◌, ◌^◌, [], length, map, replicate, IfOk};
 ghost use Rattle.sbl_machine.specs.Fitting.{read_as};
 ghost use Rattle.sbl_machine.specs.Standing.{Standing, pay, at_place, at_difference, to_limit, mark, put_back, step_over, place_after, ahead, room};
-ghost use Rattle.sbl_machine.specs.PlanOf.{view_text};
+ghost use Rattle.sbl_machine.specs.Listed.{Listed};
+ghost use Rattle.sbl_machine.specs.PlanOf.{plan_of, view_text};
 ghost use Rattle.sbl_machine.specs.Moves.{characters};
 ghost use Rattle.sbl_machine.specs.Kept.{Leads};
 ghost use Rattle.sbl_machine.specs.Outcome.{start};
@@ -81,7 +82,7 @@ impl State {
     /// Where a run of a word begins, with so many steps. AllocError where a growth was refused.
     pub fn start(alloc: Global, program: &Program, word: &[char], steps: u32) -> Result<State, AllocError>
         requires { length word.now ≤ 255 }
-        ensures { IfOk result (λ s. s ≡ start program.now word.now steps) }
+        ensures { (tables : ℕ → Listed) → IfOk result (λ s. s ≡ start (plan_of tables program.now) word.now steps) }
     {
         let text = copied(alloc, word)?;
         let mut integers = Vec::new(alloc);
