@@ -15,4 +15,6 @@ pub mod Search
 pub mod Run
 pub mod Outcome
 pub mod MachineOf
+pub mod Numbered
+pub mod NamesOf
 pub mod Kept

@@ -46,7 +46,7 @@ integer_at x s = slice_index_or s.integers x (pos 0)
 
 -- what an expression is worth
 abbrev pub value : plan.Number → Mode → Standing → Value
-value (plan.number z) m s = Ok z
+value (plan.number n) m s = fitted (pos n)
 value (plan.integer x) m s = Ok (integer_at x s)
 value plan.cursor m s = fitted (pos s.cursor)
 value plan.limit m s = limit_value m s

@@ -22,10 +22,18 @@ outcome_of (code.Refused fault) = Refused fault
 -- where a run of a word begins: integers 0, booleans false, strings empty
 abbrev pub start : plan.Plan → List ℕ → ℕ → Standing
 start p word steps = record {
-    text = word; cursor = 0; left = 0; beyond = 0; bra = 0; ket = 0;
-    integers = replicate p.integers (pos 0); booleans = replicate p.booleans false; strings = replicate p.strings [];
-    choices = []; steps = steps
-  }
+  text = word;
+  cursor = 0;
+  left = 0;
+  beyond = 0;
+  bra = 0;
+  ket = 0;
+  integers = replicate p.integers (pos 0);
+  booleans = replicate p.booleans false;
+  strings = replicate p.strings [];
+  choices = [];
+  steps = steps;
+}
 
 -- how a run of a word ends: the external's body runs forwards, on the first of 32 levels
 abbrev pub ending_of : plan.Plan → List ℕ → ℕ → Ending

@@ -1,5 +1,5 @@
 -- The program of a script: names are numbers, each among knows its strings, and nothing says where it lies in memory.
-use Rattle.std.specs.Prelude.{ℕ, ℤ, List, Option}
+use Rattle.std.specs.Prelude.{ℕ, List}
 use Rattle.sbl_machine.specs.declared.action.Change.{Change}
 use Rattle.sbl_machine.specs.declared.action.Relation.{Relation}
 use Rattle.sbl_machine.specs.declared.node.Entry.{Entry}
@@ -12,7 +12,7 @@ pub data Text : Type 0 where
 
 -- an arithmetic expression
 pub data Number : Type 0 where
-  number : ℤ → Number
+  number : ℕ → Number
   integer : ℕ → Number
   cursor : Number
   limit : Number

@@ -23,7 +23,7 @@ view_text (terms.Variable x) = plan.variable x
 
 -- one level, with the view of each child in its place
 abbrev pub number_step : Arithmetic-F plan.Number → plan.Number
-number_step (sums.Number z) = plan.number z
+number_step (sums.Number n) = plan.number n
 number_step (sums.Integer x) = plan.integer x
 number_step sums.Cursor = plan.cursor
 number_step sums.Limit = plan.limit
@@ -103,8 +103,10 @@ view_routine tables r = record { body = view_node tables r.body; amongs = r.amon
 
 abbrev pub plan_of : (ℕ → Listed) → Program → plan.Plan
 plan_of tables p = record {
-    integers = p.integers; booleans = p.booleans; strings = p.strings;
-    groupings = map (λ v. v.items) p.groupings.items;
-    routines = map (view_routine tables) p.routines.items;
-    external = p.external
-  }
+  integers = p.integers;
+  booleans = p.booleans;
+  strings = p.strings;
+  groupings = map (λ v. v.items) p.groupings.items;
+  routines = map (view_routine tables) p.routines.items;
+  external = p.external;
+}

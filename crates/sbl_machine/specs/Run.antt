@@ -39,7 +39,7 @@ abbrev pub seeks : ℕ → Bool → Doing → Mode → Standing → Ending
 seeks zero past c m s = Stops Steps s
 seeks (suc n) past c m s =
     after (c m s) (found past m s)
-      (λ f. then_on (put_back m (mark s) f) (λ b. after (next m b) (seeks n past c m) (Signals false)))
+    (λ f. then_on (put_back m (mark s) f) (λ b. after (next m b) (seeks n past c m) (Signals false)))
 
 -- the limits of both directions
 abbrev pub limits : Standing → Limits
@@ -97,7 +97,7 @@ abbrev mutual
   -- the loop, and then `repeat`, which pays no step of its own
   act sets call (plan.atleast n a) m s =
       after (given (value n m s) s (λ z. times (count_of z) (paid (act sets call a)) m s))
-        (λ t. turns (suc t.steps) (paid (act sets call a)) m t) (Signals false)
+      (λ t. turns (suc t.steps) (paid (act sets call a)) m t) (Signals false)
   act sets call (plan.goto a) m s = seeks (suc s.steps) false (paid (act sets call a)) m s
   act sets call (plan.gopast a) m s = seeks (suc s.steps) true (paid (act sets call a)) m s
   act sets call (plan.backwards a) m s =
@@ -105,8 +105,8 @@ abbrev mutual
   -- `setlimit C1 for C2`
   act sets call (plan.setlimit a b) m s =
       after (paid (act sets call a) m s)
-        (λ t. then_on (put_back m (mark s) (limit_here m t)) (λ u. limited m (limits s) (paid (act sets call b) m u)))
-        (Signals false)
+      (λ t. then_on (put_back m (mark s) (limit_here m t)) (λ u. limited m (limits s) (paid (act sets call b) m u)))
+      (Signals false)
   -- a routine's name
   act sets call (plan.call i) m s = call i m s
   -- `substring`, or the search that an among makes itself

@@ -29,9 +29,9 @@ abbrev pub try_one : (ℕ → Doing) → ℕ → Option Entry → Mode → Stand
 try_one call k None m from s next = Signals true s
 try_one call k (Some e) m from s next =
     then_on (place_after m (mark from) e.length s) (λ a.
-      after (condition_does call e.condition m a)
-        (λ b. then_on (place_after m (mark from) e.length b) (λ c. Signals true (choose k (Some e.group) c)))
-        next)
+    after (condition_does call e.condition m a)
+    (λ b. then_on (place_after m (mark from) e.length b) (λ c. Signals true (choose k (Some e.group) c)))
+    next)
 
 -- the strings in turn, from the state in which the search began; where none is taken, nothing is chosen
 abbrev pub tries : (ℕ → Doing) → ℕ → List Entry → Mode → Standing → List ℕ → Standing → Ending

@@ -30,7 +30,7 @@ replaced string s =
     record s {
       text = splice s.text s.bra s.ket string;
       cursor = shifted (length string) s.bra s.ket s.cursor;
-      ket = s.bra + length string
+      ket = s.bra + length string;
     }
 
 -- `<- S`; `delete` is `<- ''`
@@ -58,7 +58,7 @@ inserted right string s =
       text = splice s.text s.cursor s.cursor string;
       cursor = if right then s.cursor + length string else s.cursor;
       bra = pushed (length string) s.cursor s.bra;
-      ket = pushed (length string) s.cursor s.ket
+      ket = pushed (length string) s.cursor s.ket;
     }
 
 -- the same, unless the cursor is beyond the limit or the text grows too long

@@ -13,7 +13,7 @@ pub enum StringTerm {
 #[derive(Drop)]
 pub enum Arithmetic {
     /// A number.
-    Number(i32),
+    Number(u32),
     /// An integer variable, by its number.
     Integer(usize),
     /// `cursor`

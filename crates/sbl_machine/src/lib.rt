@@ -9,6 +9,7 @@ pub mod laws;
 pub mod machine;
 pub mod meter;
 pub mod node;
+mod numbered;
 pub mod outcome;
 pub mod plain;
 mod run;

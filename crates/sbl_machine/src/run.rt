@@ -118,7 +118,9 @@ fn run_command<T: Tables>(
             among,
             table,
             entries,
-        } => run_search(tables, program, levels, mode, *among, *table, entries, state),
+        } => run_search(
+            tables, program, levels, mode, *among, *table, entries, state,
+        ),
         Node::Among {
             among,
             before,
@@ -296,7 +298,9 @@ fn run_search<T: Tables>(
     let from = state.mark();
     let mut place = tables.longest(table, state.text(), state.place(), state.bound(mode));
     while let Some(i) = place {
-        match run_try(tables, program, levels, mode, among, from, entries, i, state) {
+        match run_try(
+            tables, program, levels, mode, among, from, entries, i, state,
+        ) {
             Err(halt) => return Err(halt),
             Ok(true) => return Ok(true),
             Ok(false) => {}

@@ -80,7 +80,12 @@ pub struct Mark {
 
 impl State {
     /// Where a run of a word begins, with so many steps. AllocError where a growth was refused.
-    pub fn start(alloc: Global, program: &Program, word: &[char], steps: u32) -> Result<State, AllocError>
+    pub fn start(
+        alloc: Global,
+        program: &Program,
+        word: &[char],
+        steps: u32,
+    ) -> Result<State, AllocError>
         requires { length word.now ≤ 255 }
         ensures { (tables : ℕ → Listed) → IfOk result (λ s. s ≡ start (plan_of tables program.now) word.now steps) }
     {

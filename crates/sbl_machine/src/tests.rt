@@ -108,7 +108,15 @@ fn refuses(
     word: &str,
     fault: RunFault,
 ) -> Result<(), Fail> {
-    ran(rt, alloc, machine, word, 100_000, &Outcome::Refused(fault), 0)
+    ran(
+        rt,
+        alloc,
+        machine,
+        word,
+        100_000,
+        &Outcome::Refused(fault),
+        0,
+    )
 }
 
 #[test]
@@ -118,13 +126,27 @@ fn turns(rt: HostRuntime) -> Result<(), Fail> {
     let endless = alone(alloc, endless)?;
     let steps = Outcome::Refused(RunFault::Steps);
     ran(&rt, alloc, &endless, "a", 100_000, &steps, 100_001)?;
-    let twice = Node::Loop(Arithmetic::Number(2), boxed(alloc, Node::Act(Action::Next))?);
+    let twice = Node::Loop(
+        Arithmetic::Number(2),
+        boxed(alloc, Node::Act(Action::Next))?,
+    );
     let twice = alone(alloc, twice)?;
     stems(&rt, alloc, &twice, "ab", "ab", 3)?;
     stems(&rt, alloc, &twice, "a", "a", 3)?;
-    ran(&rt, alloc, &twice, "ab", 3, &Outcome::Stem(letters(alloc, "ab")?), 3)?;
+    ran(
+        &rt,
+        alloc,
+        &twice,
+        "ab",
+        3,
+        &Outcome::Stem(letters(alloc, "ab")?),
+        3,
+    )?;
     ran(&rt, alloc, &twice, "ab", 2, &steps, 3)?;
-    let once = Node::AtLeast(Arithmetic::Number(1), boxed(alloc, Node::Act(Action::Next))?);
+    let once = Node::AtLeast(
+        Arithmetic::Number(1),
+        boxed(alloc, Node::Act(Action::Next))?,
+    );
     stems(&rt, alloc, &alone(alloc, once)?, "ab", "ab", 4)?;
     let itself = alone(alloc, Node::Call(0))?;
     refuses(&rt, alloc, &itself, "a", RunFault::Depth)
@@ -157,10 +179,7 @@ fn slices(rt: HostRuntime) -> Result<(), Fail> {
         ]?),
     )?;
     stems(&rt, alloc, &kept, "ab", "aba", 7)?;
-    let grows = Node::Repeat(boxed(
-        alloc,
-        Node::Act(Action::Insert(literal(alloc, "aa")?)),
-    )?);
+    let grows = Node::Repeat(boxed(alloc, Node::Act(Action::Insert(literal(alloc, "aa")?)))?);
     refuses(&rt, alloc, &alone(alloc, grows)?, "a", RunFault::TooLong)
 }
 
@@ -208,7 +227,10 @@ fn numbers(rt: HostRuntime) -> Result<(), Fail> {
         Box::new(alloc, Arithmetic::Number(1)).map_err(AllocError::from)?,
         Box::new(alloc, Arithmetic::Number(0)).map_err(AllocError::from)?,
     );
-    let none = alone(alloc, Node::Act(Action::Assign(0, Change::Becomes, quotient)))?;
+    let none = alone(
+        alloc,
+        Node::Act(Action::Assign(0, Change::Becomes, quotient)),
+    )?;
     refuses(&rt, alloc, &none, "a", RunFault::Divide)
 }
 
@@ -246,11 +268,13 @@ fn among_with_condition(rt: HostRuntime) -> Result<(), Fail> {
     let alloc = rt.alloc();
     let among = Node::Among {
         among: 0,
-        before: vec![in alloc; Node::Search {
-            among: 0,
-            table: 0,
-            entries: vec![in alloc; entry(None, 0, 1), entry(Some(1), 1, 2)]?,
-        }]?,
+        before: vec![in alloc;
+            Node::Search {
+                among: 0,
+                table: 0,
+                entries: vec![in alloc; entry(None, 0, 1), entry(Some(1), 1, 2)]?,
+            },
+        ]?,
         bodies: vec![in alloc; empty(alloc), empty(alloc)]?,
     };
     let body = Node::Sequence(vec![in alloc;
@@ -272,11 +296,13 @@ fn condition_that_cuts(rt: HostRuntime) -> Result<(), Fail> {
     let alloc = rt.alloc();
     let among = Node::Among {
         among: 0,
-        before: vec![in alloc; Node::Search {
-            among: 0,
-            table: 0,
-            entries: vec![in alloc; entry(Some(1), 0, 2)]?,
-        }]?,
+        before: vec![in alloc;
+            Node::Search {
+                among: 0,
+                table: 0,
+                entries: vec![in alloc; entry(Some(1), 0, 2)]?,
+            },
+        ]?,
         bodies: vec![in alloc; empty(alloc)]?,
     };
     let body = Node::Sequence(vec![in alloc; Node::Act(Action::LeftBracket), among]?);
@@ -323,7 +349,14 @@ fn substring_and_starter(rt: HostRuntime) -> Result<(), Fail> {
         bodies: vec![in alloc; empty(alloc)]?,
     };
     let tables = vec![in alloc; table(alloc, Mode::Forward, &["a"])?]?;
-    stems(&rt, alloc, &machine(alloc, tables, vec![in alloc; body]?)?, "ab", "ab", 5)
+    stems(
+        &rt,
+        alloc,
+        &machine(alloc, tables, vec![in alloc; body]?)?,
+        "ab",
+        "ab",
+        5,
+    )
 }
 
 // The script of `( [substring] among ( 's' (delete) 'es' sib (delete) ) )` and its like, read backwards.
@@ -351,10 +384,12 @@ fn plurals(alloc: Global) -> Result<Machine<PlainTable>, AllocError> {
         Node::Act(Action::RightBracket),
         Node::Act(Action::Delete),
     ]?);
-    let sib = Node::Sequence(vec![in alloc; Node::Or(
-        boxed(alloc, matched(alloc, "x")?)?,
-        boxed(alloc, matched(alloc, "s")?)?,
-    )]?);
+    let sib = Node::Sequence(vec![in alloc;
+        Node::Or(
+            boxed(alloc, matched(alloc, "x")?)?,
+            boxed(alloc, matched(alloc, "s")?)?,
+        ),
+    ]?);
     let both = Node::Sequence(vec![in alloc;
         Node::Test(boxed(alloc, matched(alloc, "e")?)?),
         Node::Call(2),
@@ -377,7 +412,15 @@ fn takes_plurals(rt: HostRuntime) -> Result<(), Fail> {
     stems(&rt, alloc, &made, "s", "", 16)?;
     stems(&rt, alloc, &made, "dog", "dog", 12)?;
     let steps = Outcome::Refused(RunFault::Steps);
-    ran(&rt, alloc, &made, "s", 16, &Outcome::Stem(Vec::new(alloc)), 16)?;
+    ran(
+        &rt,
+        alloc,
+        &made,
+        "s",
+        16,
+        &Outcome::Stem(Vec::new(alloc)),
+        16,
+    )?;
     ran(&rt, alloc, &made, "s", 15, &steps, 16)
 }
 

@@ -16,14 +16,23 @@ impl State {
     /// Does what a command without a command inside it does once its step is paid, and answers its signal. Refused where
     /// a number of it is out of range, where there is no slice for it, where the cursor would leave the text, and where
     /// the text would grow too long. `groupings` holds the set of each grouping.
-    pub fn act(&mut self, groupings: &[Vec<char>], mode: Mode, action: &Action) -> Result<bool, Halt>
+    pub fn act(
+        &mut self,
+        groupings: &[Vec<char>],
+        mode: Mode,
+        action: &Action,
+    ) -> Result<bool, Halt>
         ensures follows { Follows result self.new (acts (map (λ v. v.items) groupings.now) (view_action action.now) mode self.old) }
         ensures same_steps { IfOk result (λ _. self.new.steps ≡ self.old.steps) }
     {
         match action {
             Action::Match(term) => Ok(self.take_term(mode, term)),
             Action::Grouping(number) => Ok(self.take_one(mode, set_of(groupings, *number), true)),
-            Action::NonGrouping(number) => Ok(self.take_one(mode, set_of(groupings, *number), false)),
+            Action::NonGrouping(number) => Ok(self.take_one(
+                mode,
+                set_of(groupings, *number),
+                false,
+            )),
             Action::Next => Ok(self.take_next(mode)),
             Action::Hop(expression) => {
                 let number = self.value(mode, expression).map_err(Halt::Refused)?;

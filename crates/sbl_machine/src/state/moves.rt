@@ -134,7 +134,9 @@ impl State {
             return false;
         };
         let found = match mode {
-            Mode::Forward => self.cursor <= place && place <= self.text.len() && place + self.beyond <= self.text.len(),
+            Mode::Forward => self.cursor <= place
+                && place <= self.text.len()
+                && place + self.beyond <= self.text.len(),
             Mode::Backward => self.left <= place && place <= self.cursor,
         };
         if found {

@@ -19,7 +19,7 @@ impl State {
         ensures { result ≡ value (view_number expression.now) mode self.now }
     {
         match expression {
-            Arithmetic::Number(number) => Ok(*number),
+            Arithmetic::Number(number) => counted(*number as usize),
             Arithmetic::Integer(number) => Ok(self.integer(*number)),
             Arithmetic::Cursor => counted(self.cursor),
             Arithmetic::Limit => self.limit_value(mode),
@@ -79,7 +79,13 @@ impl State {
     }
 
     /// `$x = AE` and its like. Refused where the expression is, and where the new number is out of range.
-    pub fn assign(&mut self, mode: Mode, number: usize, change: Change, expression: &Arithmetic) -> Result<(), Halt>
+    pub fn assign(
+        &mut self,
+        mode: Mode,
+        number: usize,
+        change: Change,
+        expression: &Arithmetic,
+    ) -> Result<(), Halt>
         ensures leads { Leads result self.new (assign number change (view_number expression.now) mode self.old) }
         ensures same_steps { IfOk result (λ _. self.new.steps ≡ self.old.steps) }
     {
@@ -92,7 +98,13 @@ impl State {
     }
 
     /// Compares two expressions. Refused where one of them is.
-    pub fn compare(&self, mode: Mode, left: &Arithmetic, relation: Relation, right: &Arithmetic) -> Result<bool, Halt>
+    pub fn compare(
+        &self,
+        mode: Mode,
+        left: &Arithmetic,
+        relation: Relation,
+        right: &Arithmetic,
+    ) -> Result<bool, Halt>
         ensures { Follows result self.now (compare (view_number left.now) relation (view_number right.now) mode self.now) }
     {
         let x = self.value(mode, left).map_err(Halt::Refused)?;
@@ -174,9 +186,5 @@ pub fn natural(number: i32) -> Option<usize>
 pub fn count_of(number: i32) -> u32
     ensures { result ≡ count_of number }
 {
-    if number < 0 {
-        0
-    } else {
-        number as u32
-    }
+    if number < 0 { 0 } else { number as u32 }
 }

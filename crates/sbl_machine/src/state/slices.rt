@@ -45,7 +45,12 @@ impl State {
     }
 
     // The text with a string in place of a part of it, beside the text.
-    fn spliced(&mut self, from: usize, to: usize, term: &StringTerm) -> Result<Vec<char>, AllocError>
+    fn spliced(
+        &mut self,
+        from: usize,
+        to: usize,
+        term: &StringTerm,
+    ) -> Result<Vec<char>, AllocError>
         requires ordered { from ≤ to }
         requires inside { to ≤ length self.old.text }
         ensures same { self.new ≡ self.old }
@@ -172,11 +177,7 @@ fn push(length: usize, at: usize, place: usize) -> usize
     requires { length + place < 2 ^ 32 }
     ensures { result ≡ pushed length at place }
 {
-    if at <= place {
-        place + length
-    } else {
-        place
-    }
+    if at <= place { place + length } else { place }
 }
 
 // A text with a string in place of a part of it, made in a buffer.

@@ -77,8 +77,8 @@ invariant-run_search-loop-place g l =
     let T = g.T.Tables.listed l.tables in
     let call = calls (plan_of T l.program) l.levels in
     (before : List ℕ) × (rest : List ℕ) × (fits_at (T l.table) l.initial.state.text l.initial.state.cursor (bound_in l.mode l.initial.state) ≡ before ++ rest) × (l.place ≡ first rest) ×
-      (tries call l.among l.entries l.mode l.initial.state rest l.state ≡ search_all call l.among l.entries (T l.table) l.mode l.initial.state) ×
-      (l.state.steps ≤ l.initial.state.steps)
+    (tries call l.among l.entries l.mode l.initial.state rest l.state ≡ search_all call l.among l.entries (T l.table) l.mode l.initial.state) ×
+    (l.state.steps ≤ l.initial.state.steps)
 
 abbrev pub decreases-run_search-loop-place : goal.decreases-run_search-loop-place
 decreases-run_search-loop-place g l = l.state.steps

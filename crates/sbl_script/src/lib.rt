@@ -1,6 +1,0 @@
-//! Stub.
-#![tactic(auto)]
-
-pub mod tree;
-
-pub use tree::Mode;
