@@ -13,8 +13,12 @@ pub mod Numbers
 pub mod Actions
 pub mod Search
 pub mod Run
+pub mod NumberedNames
+pub mod NumberedSets
+pub mod NumberedAmongs
+pub mod NumberedNumbers
+pub mod Numbered
+pub mod NumberedView
 pub mod Outcome
 pub mod MachineOf
-pub mod Numbered
-pub mod NamesOf
 pub mod Kept

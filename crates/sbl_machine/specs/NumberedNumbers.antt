@@ -1,5 +1,4 @@
 -- Strings and arithmetic expressions, with numbers for names.
-use Rattle.std.specs.Prelude.{ℕ, pos, ◌^◌, nat_lt, if◌then◌else◌}
 use Rattle.sbl_grammar.specs.declared.tree.Additive.{Additive}
 use Rattle.sbl_grammar.specs.declared.tree.Additive.TheVariants as additives
 use Rattle.sbl_grammar.specs.declared.tree.Multiplicative.{Multiplicative}
@@ -20,10 +19,6 @@ constant constants.MinInt = plan.minint
 constant constants.Cursor = plan.cursor
 constant constants.Limit = plan.limit
 constant constants.Len = plan.len
-
--- a numeral, of which no script has one above 2147483647
-abbrev pub numeral : ℕ → plan.Number
-numeral n = if nat_lt n (2 ^ 31) then plan.number (pos n) else plan.maxint
 
 abbrev pub added : Additive → plan.Number → plan.Number → plan.Number
 added additives.Plus a b = plan.sum a b
@@ -53,7 +48,7 @@ abbrev mutual
   pub factor : Names → trees.Factor → plan.Number
   factor ns (trees.negated f) = plan.negative (factor ns f)
   factor ns (trees.bracketed e) = expression ns e
-  factor ns (trees.numeral n) = numeral n
+  factor ns (trees.numeral n) = plan.number n
   factor ns (trees.variable n) = plan.integer (number_of ns.integers n)
   factor ns (trees.fixed c) = constant c
   factor ns (trees.length_of a) = plan.lenof (text ns a)

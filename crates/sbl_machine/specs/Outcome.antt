@@ -4,9 +4,11 @@ use Rattle.sbl_machine.specs.declared.fault.RunFault.{RunFault}
 use Rattle.sbl_machine.specs.declared.fault.RunFault.TheVariants as faults
 use Rattle.sbl_machine.specs.declared.outcome.Outcome.{Outcome}
 use Rattle.sbl_machine.specs.declared.outcome.Outcome.TheVariants as code
+use Rattle.sbl_machine.specs.Numbered.{numbered_script}
 use Rattle.sbl_machine.specs.Plan as plan
 use Rattle.sbl_machine.specs.Run.{calls}
 use Rattle.sbl_machine.specs.Standing.{Standing, Ending, Signals, Stops}
+use Rattle.sbl_script.specs.Parsed.{Source}
 use Rattle.sbl_script.specs.declared.tree.Mode.TheVariants.{Forward}
 
 -- a stem, or why there is none
@@ -49,3 +51,10 @@ abbrev pub used_at : ℕ → Ending → ℕ
 used_at limit (Signals b s) = limit - s.steps
 used_at limit (Stops faults.Steps s) = limit + 1
 used_at limit (Stops fault s) = limit - s.steps
+
+-- what a run of a script over a word gives, with so many steps, and what it costs
+unfoldable pub run_of : Source → List ℕ → ℕ → Outcome'
+run_of script word limit = outcome_at (ending_of (numbered_script script) word limit)
+
+unfoldable pub used_of : Source → List ℕ → ℕ → ℕ
+used_of script word limit = used_at limit (ending_of (numbered_script script) word limit)

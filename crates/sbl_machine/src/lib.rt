@@ -9,7 +9,7 @@ pub mod laws;
 pub mod machine;
 pub mod meter;
 pub mod node;
-mod numbered;
+mod numbering;
 pub mod outcome;
 pub mod plain;
 mod run;

@@ -2,20 +2,22 @@
 
 ghost use Rattle.std.specs.Prelude.{◌≡◌, ◌≤◌, ◌+◌, length, IfOk, MatchResult, ◌↔◌, Err};
 ghost use Rattle.sbl_machine.specs.Kept.{Follows};
-ghost use Rattle.sbl_machine.specs.MachineOf.{machine_ending};
-ghost use Rattle.sbl_machine.specs.Outcome.{outcome_at, outcome_of, used_at};
+ghost use Rattle.sbl_machine.specs.MachineOf.{IsMachineOf};
+ghost use Rattle.sbl_machine.specs.Outcome.{outcome_at, outcome_of, run_of, used_at, used_of};
+ghost use Rattle.sbl_script.specs.Parsed.{Source, source_of};
 ghost use Rattle.sbl_machine.specs.Standing.{Ending};
 
 use crate::fault::{RunFault, RunStop};
 use crate::halt::Halt;
 use crate::meter::Meter;
 use crate::node::Program;
+use crate::numbering::program::{Made, numbered, tables_of};
 use crate::outcome::{Outcome, Ran};
 use crate::run::run_call;
 use crate::search::AmongSearch;
 use crate::state::State;
 use crate::table::TableList;
-use sbl_script::Mode;
+use sbl_script::{Mode, Script};
 use std::alloc::{AllocError, Global};
 
 /// How deep the calls of routines may go, the external counted as one.
@@ -36,6 +38,18 @@ impl<S: AmongSearch> Machine<S> {
         Machine { tables, program }
     }
 
+    /// The machine of a script, which owns what it needs of it. AllocError where a growth was refused.
+    pub fn new(alloc: Global, script: &Script) -> Result<Machine<S>, AllocError>
+        ensures { IfOk result (λ m. IsMachineOf S S.entries S.mode m (source_of script.now)) }
+    {
+        let Made { program, amongs } = numbered(alloc, script)?;
+        let tables = tables_of(alloc, &amongs)?;
+        Ok(Machine {
+            tables: TableList { tables },
+            program,
+        })
+    }
+
     /// Runs the script over a word with so many steps. `MeterFull` where the meter counts no further,
     /// `OutOfMemory` where a growth was refused; the meter is then as before, else it is raised by one.
     pub fn run(
@@ -46,8 +60,8 @@ impl<S: AmongSearch> Machine<S> {
         limit: u32,
     ) -> Result<Ran, RunStop>
         requires { length word.now ≤ 255 }
-        ensures outcome { IfOk result (λ ran. outcome_of ran.outcome ≡ outcome_at (machine_ending S S.entries S.mode self.now word.now limit)) }
-        ensures used { IfOk result (λ ran. ran.used ≡ used_at limit (machine_ending S S.entries S.mode self.now word.now limit)) }
+        ensures outcome { (script : Source) → IsMachineOf S S.entries S.mode self.now script → IfOk result (λ ran. outcome_of ran.outcome ≡ run_of script word.now limit) }
+        ensures used { (script : Source) → IsMachineOf S S.entries S.mode self.now script → IfOk result (λ ran. ran.used ≡ used_of script word.now limit) }
         ensures counted { MatchResult result (λ _. meter.new ≡ meter.old + 1) (λ _. meter.new ≡ meter.old) }
         ensures full { (result ≡ Err RunStop.MeterFull) ↔ (meter.old ≡ u64.MAX) }
     {
@@ -62,8 +76,8 @@ impl<S: AmongSearch> Machine<S> {
     /// The run itself.
     fn ran(&self, alloc: Global, word: &[char], limit: u32) -> Result<Ran, AllocError>
         requires { length word.now ≤ 255 }
-        ensures outcome { IfOk result (λ ran. outcome_of ran.outcome ≡ outcome_at (machine_ending S S.entries S.mode self.now word.now limit)) }
-        ensures used { IfOk result (λ ran. ran.used ≡ used_at limit (machine_ending S S.entries S.mode self.now word.now limit)) }
+        ensures outcome { (script : Source) → IsMachineOf S S.entries S.mode self.now script → IfOk result (λ ran. outcome_of ran.outcome ≡ run_of script word.now limit) }
+        ensures used { (script : Source) → IsMachineOf S S.entries S.mode self.now script → IfOk result (λ ran. ran.used ≡ used_of script word.now limit) }
     {
         let mut state = State::start(alloc, &self.program, word, limit)?;
         let end = run_call(

@@ -4,5 +4,5 @@ mod amongs;
 mod commands;
 mod names;
 mod numbers;
-mod program;
+pub mod program;
 mod sets;

@@ -9,7 +9,8 @@ ghost use Rattle.sbl_machine.specs.NumberedView.{view_names, view_placed, view_f
 use crate::copies::copied;
 use crate::node;
 use crate::numbering::names::{Names, Placed, number_of};
-use sbl_script::{Among, Command, Entry, Group, Joined, Mode, Plain, Prefix, Row};
+use sbl_grammar::{Among, Command, Entry, Group, Joined, Plain, Prefix, Row};
+use sbl_script::Mode;
 use std::alloc::{AllocError, Global};
 
 /// An among.

@@ -16,7 +16,7 @@ use crate::node::{Entry, Node};
 use crate::numbering::amongs::Found;
 use crate::numbering::names::{Names, is_one_of, number_of};
 use crate::numbering::numbers::{number_of_expression, text};
-use sbl_script::{
+use sbl_grammar::{
     Among, Argument, Assignment, Command, Comparison, Count, Edit, Expression, Group, Joined,
     Joiner, Literal, Move, Naming, Prefix, Row, Simple,
 };

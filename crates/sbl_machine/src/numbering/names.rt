@@ -5,7 +5,8 @@ ghost use Rattle.sbl_grammar.specs.View.{view_items, view_plain};
 ghost use Rattle.sbl_machine.specs.NumberedNames as spec;
 ghost use Rattle.sbl_machine.specs.NumberedView.{view_names, view_placed};
 
-use sbl_script::{DeclarationKind, Item, Mode, Plain};
+use sbl_grammar::{DeclarationKind, Item, Plain};
+use sbl_script::Mode;
 use std::alloc::{AllocError, Global};
 
 /// An item with the mode in which it stands.

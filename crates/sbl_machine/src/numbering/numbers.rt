@@ -9,7 +9,7 @@ ghost use Rattle.sbl_machine.specs.PlanOf.{view_number, view_text};
 use crate::action::{Arithmetic, StringTerm};
 use crate::copies::copied;
 use crate::numbering::names::{Names, number_of};
-use sbl_script::{
+use sbl_grammar::{
     Added, Additive, Argument, Constant, Expression, Factor, Multiplicative, Product, Scaled,
 };
 use std::alloc::{AllocError, Global};
@@ -33,16 +33,6 @@ fn constant(constant: Constant) -> Arithmetic
         Constant::Cursor => Arithmetic::Cursor,
         Constant::Limit => Arithmetic::Limit,
         Constant::Len => Arithmetic::Length,
-    }
-}
-
-fn numeral(number: u32) -> Arithmetic
-    ensures { view_number result ≡ spec.numeral number }
-{
-    if number < 2_147_483_648 {
-        Arithmetic::Number(number as i32)
-    } else {
-        Arithmetic::Greatest
     }
 }
 
@@ -115,7 +105,7 @@ fn number_of_factor(alloc: Global, names: &Names, factor: &Factor) -> Result<Ari
             Ok(Arithmetic::Negative(Box::new(alloc, inner)?))
         }
         Factor::Bracket(inner) => number_of_expression(alloc, names, inner),
-        Factor::Number(number) => Ok(numeral(*number)),
+        Factor::Number(number) => Ok(Arithmetic::Number(*number)),
         Factor::Name(name) => Ok(Arithmetic::Integer(number_of(&names.integers, name.as_str()))),
         Factor::Constant(word) => Ok(constant(*word)),
         Factor::LenOf(argument) => Ok(Arithmetic::LengthOf(text(alloc, names, argument)?)),

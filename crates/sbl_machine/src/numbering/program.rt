@@ -14,7 +14,8 @@ use crate::numbering::commands::{Place, row_of};
 use crate::numbering::names::{Names, Placed, names_of, number_of, place_all};
 use crate::numbering::sets::sets_of;
 use crate::search::AmongSearch;
-use sbl_script::{Plain, Row, Script};
+use sbl_grammar::{Plain, Row};
+use sbl_script::Script;
 use std::alloc::{AllocError, Global};
 
 // How many amongs are still to come.

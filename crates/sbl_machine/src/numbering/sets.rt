@@ -6,7 +6,7 @@ ghost use Rattle.sbl_machine.specs.NumberedSets as spec;
 ghost use Rattle.sbl_machine.specs.NumberedView.{view_names, view_placed};
 
 use crate::numbering::names::{Names, Placed, number_of};
-use sbl_script::{Additive, Argument, Plain, Term};
+use sbl_grammar::{Additive, Argument, Plain, Term};
 use std::alloc::{AllocError, Global};
 
 // Whether a character is in a set.

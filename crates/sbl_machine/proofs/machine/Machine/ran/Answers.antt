@@ -1,22 +1,24 @@
 use Rattle.std.proofs.Common.{ap, ◌∙◌, ◌≡◌}
 use Rattle.sbl_script.specs.declared.tree.Mode.TheVariants.{Forward}
-use Rattle.sbl_machine.specs.MachineOf.{listed_in, machine_plan, machine_ending}
+use Rattle.sbl_machine.specs.MachineOf.{IsMachineOf, listed_in, machine_plan}
+use Rattle.sbl_machine.specs.Outcome.{ending_of, run_of, used_of}
+use Rattle.sbl_machine.specs.Plan.{Plan}
 use Rattle.sbl_machine.specs.Run.{calls}
 use Rattle.sbl_machine.proofs.Ended.{same_outcome, same_used}
 use Rattle.sbl_machine.proofs.machine.Machine.ran.Goals as goal
 
 pub returns-clause-outcome : goal.returns-clause-outcome
-unfolding machine_ending
-returns-clause-outcome g c =
+unfolding IsMachineOf run_of
+returns-clause-outcome g c script h =
     let m = c.args.self.now in
     let T = listed_in _ g.S.AmongSearch.entries g.S.AmongSearch.mode m in
     let does = calls (machine_plan _ g.S.AmongSearch.entries g.S.AmongSearch.mode m) 32 m.program.external Forward in
-    same_outcome c.ended.result (does c.in_ok-state.state) _ (c.ended.ensures.outcome (does c.in_ok-state.state) c.run_call-end.ensures.follows) (ap does (c.in_ok-state.ensures T))
+    same_outcome c.ended.result (does c.in_ok-state.state) _ (c.ended.ensures.outcome (does c.in_ok-state.state) c.run_call-end.ensures.follows) (ap does (c.in_ok-state.ensures T) ∙ ap (λ (p : Plan). ending_of p c.args.word.now c.args.limit) h)
 
 pub returns-clause-used : goal.returns-clause-used
-unfolding machine_ending
-returns-clause-used g c =
+unfolding IsMachineOf used_of
+returns-clause-used g c script h =
     let m = c.args.self.now in
     let T = listed_in _ g.S.AmongSearch.entries g.S.AmongSearch.mode m in
     let does = calls (machine_plan _ g.S.AmongSearch.entries g.S.AmongSearch.mode m) 32 m.program.external Forward in
-    same_used c.ended.result c.args.limit (does c.in_ok-state.state) _ (c.ended.ensures.used (does c.in_ok-state.state) c.run_call-end.ensures.follows) (ap does (c.in_ok-state.ensures T))
+    same_used c.ended.result c.args.limit (does c.in_ok-state.state) _ (c.ended.ensures.used (does c.in_ok-state.state) c.run_call-end.ensures.follows) (ap does (c.in_ok-state.ensures T) ∙ ap (λ (p : Plan). ending_of p c.args.word.now c.args.limit) h)
