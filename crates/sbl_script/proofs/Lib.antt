@@ -1,9 +1,8 @@
-pub mod Left
-pub mod Starts
-pub mod Views
-pub mod Pushes
+pub mod Marked
+pub mod Keeping
 pub mod Turns
-pub mod Meetings
+pub mod Places
+pub mod FirstFault
+pub mod Extends
 pub mod Sound
-pub mod Declared
-pub mod Unique
+pub mod Resolving

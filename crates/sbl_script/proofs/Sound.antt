@@ -1,158 +1,244 @@
--- The amongs that the checks have passed.
-use Rattle.std.proofs.Common.{◌≡◌, ℕ, ◌+◌, ◌<◌, List, [], ◌∷◌, ◌++◌, length, take, get_or, map, Result, Ok, Err, IfOk, refl, sym, ap, subst, ◌∙◌, append_assoc, append-nil, arith}
+-- The strings of each among of a script that is well declared differ.
+use Rattle.std.proofs.Common.{◌≡◌, ℕ, ◌+◌, Bool, true, false, cond, ◌||◌, ◌&&◌, nat_eq, List, [], ◌∷◌, ◌++◌, Option, Some, None, map, length, refl, sym, ap, subst, ◌∙◌, append_assoc, append-nil}
 use Rattle.std.specs.List.{list_any, IsDistinct}
 use Rattle.std.specs.Str.{bytes_eq}
-use Rattle.std.specs.BTreeSet.{IsEmpty}
-use Rattle.std.specs.BTreeMap.{is_at}
-use Rattle.std.specs.Ordering.{nat_cmp}
-use Rattle.std.specs.Cmp.Lexicographic.{slice_cmp}
-use denote.Ref.{Bor}
-use Rattle.std.specs.Global.{Vec}
-use Rattle.std.proofs.lemmas.List.{take_more, map_push, length-map}
-use Rattle.sbl_script.specs.declared.tree.Command.{Command}
-use Rattle.sbl_script.specs.declared.tree.Command.TheVariants.{Sequence, LeftBracket, RightBracket, Delete, Replace, Match}
-use Rattle.sbl_script.specs.declared.tree.Command.TheVariants as commands
-use Rattle.sbl_script.specs.declared.tree.Command.TheViews.{out-Among, out-Group}
-use Rattle.sbl_script.specs.declared.tree.Command.TheFolds.{fold_out-Among, fold_out-Group}
-use Rattle.sbl_script.specs.declared.tree.Among.{Among}
-use Rattle.sbl_script.specs.declared.tree.Group.{Group}
-use Rattle.sbl_script.specs.declared.tree.Entry.{Entry}
-use Rattle.sbl_script.specs.declared.tree.Literal.{Literal}
-use Rattle.sbl_script.specs.Tree.{Quoted, Tree, Groups, sequence, left_bracket, right_bracket, delete, replace, match, among, strings_of}
-use Rattle.sbl_script.specs.View.{GroupView, view_literal, view_entry, view_command, view_among, view_group, trees_of, groups_of, command_step, among_step, group_step}
-use Rattle.sbl_script.specs.Checks.{IsSound, EachAmong, EachAmongOfTrees, EachAmongOfGroups}
-use Rattle.sbl_script.specs.Met.{Met, Has, Meets, IsGroupMet, AreGroupsMet, EachAmongIn, values_in, values_of, value_of}
-use Rattle.sbl_script.proofs.Views.{view_sequence, view_left, view_right, view_delete, view_replace, view_match, view_search}
-use Rattle.sbl_script.proofs.Meetings.{meets_more}
+use Rattle.std.specs.Cmp.{IsEquivalence}
+use Rattle.std.proofs.lemmas.Cmp.{nat_list_eq_equiv, nat_eq_equiv}
+use Rattle.std.proofs.lemmas.List.Folds.{list_any-append}
+use Rattle.std.proofs.lemmas.Map.Keys.{IsDistinct-push}
+use Rattle.sbl_text.specs.declared.fault.ScriptFault.{ScriptFault}
+use Rattle.sbl_text.specs.declared.fault.ScriptFault.TheVariants as fault
+use Rattle.sbl_grammar.specs.Tree.{Entry, entry, Tree, bracket, single, quoted, called, excluded, prefixed, counted, moved, named, edited, limited, assigned, compared, values_compared, chosen, Rows, no_rows, row, Others, no_others, joined, Starter, no_starter, starter, Groups, bare, group, Plain, declaration, escapes, macro, routine, grouping, Item, plain, backward}
+use Rattle.sbl_script.specs.declared.marks.Mode.{Mode}
+use Rattle.sbl_script.specs.declared.marks.Mode.TheVariants.{Forward, Backward}
+use Rattle.sbl_script.specs.declared.marks.Place.{Place}
+use Rattle.sbl_script.specs.Marks.{Mark, Notice, put, among, string, region_end, defines_routine, marked_expression, marked_prefix, place_behind, marked_condition, marked_entry, marked_entries, has_starter, is_empty, marked, marked_rows, marked_others, marked_starter, marked_groups, marked_plain, Stated, stated_in, stated, marked_items, marks_of}
+use Rattle.sbl_script.specs.Checks.{fault_at, has_text, is_text_of, WellDeclared, is_awaited}
+use Rattle.sbl_script.specs.Laws.{EachPasses}
+use Rattle.sbl_script.specs.Amongs.{text_of, texts_of, IsSound, EachAmong, EachAmongOfRows, EachAmongOfOthers, EachAmongOfStarter, EachAmongOfGroups, EachAmongOfPlain, EachAmongOfPlains, EachAmongOfItems, AmongsAreSound}
+use Rattle.sbl_script.proofs.FirstFault as first
+use Rattle.sbl_script.proofs.Extends.{Extends, same, then_, put_more, expression_more, prefix_more, condition_more, entry_more, entries_more, command_more, rows_more, others_more, starter_more, groups_more, plain_more, items_more}
 
-abbrev Sound : Tree → Type 0
-Sound t = EachAmong IsSound t
+-- a list of marks at which no check fails
+pub record Passing (all : List Mark) : Type 0 where
+  pub each : EachPasses all
 
--- ---- a command
+-- no check fails at a mark behind which the list goes on
+at_mark : (all s : List Mark) (m : Mark) → Passing all → Extends (s ++ m ∷ []) all → (more : List Mark) × (fault_at all s m more ≡ None)
+at_mark all s m passing e = (e.more, passing.each s e.more m (e.is ∙ append_assoc s (m ∷ []) e.more))
 
-sound_as : (c : Command) (t : Tree) → view_command c ≡ t → Sound t → Sound (view_command c)
-sound_as c t e h = subst Sound (sym e) h
+test_fails : (b : Bool) (f : ScriptFault) (rest : Option ScriptFault) → cond b (Some f) rest ≡ None → b ≡ false
+test_fails true f rest e = absurd cc
+test_fails false f rest e = refl
 
-pub sound_left : (c : Command) → c ≡ LeftBracket → Sound (view_command c)
-sound_left c e = sound_as c left_bracket (ap view_command e ∙ view_left) tt
+rest_fails : (b : Bool) (f : ScriptFault) (rest : Option ScriptFault) → cond b (Some f) rest ≡ None → rest ≡ None
+rest_fails true f rest e = absurd cc
+rest_fails false f rest e = e
 
-pub sound_right : (c : Command) → c ≡ RightBracket → Sound (view_command c)
-sound_right c e = sound_as c right_bracket (ap view_command e ∙ view_right) tt
+string_new : (all s more : List Mark) (p : Place) (o : ℕ) (t : List ℕ) → fault_at all s (record { place = p; notice = string o t }) more ≡ None → has_text o t s ≡ false
+string_new all s more p o t e = test_fails (has_text o t s) (fault.RepeatedString p.item) None e
 
-pub sound_delete : (c : Command) → c ≡ Delete → Sound (view_command c)
-sound_delete c e = sound_as c delete (ap view_command e ∙ view_delete) tt
+among_full : (all s more : List Mark) (p : Place) (b empty : Bool) → fault_at all s (record { place = p; notice = among b empty }) more ≡ None → empty ≡ false
+among_full all s more p b empty e =
+    test_fails empty (fault.EmptyAmong p.item) None (rest_fails (b && is_awaited s false) (fault.Starter p.item) (cond empty (Some (fault.EmptyAmong p.item)) None) e)
 
-pub sound_replace : (c : Command) (l : Literal) → c ≡ Replace l → Sound (view_command c)
-sound_replace c l e = sound_as c (replace (view_literal l)) (ap view_command e ∙ view_replace l) tt
+-- ---- the strings so far
 
-pub sound_match : (c : Command) (l : Literal) → c ≡ Match l → Sound (view_command c)
-sound_match c l e = sound_as c (match (view_literal l)) (ap view_command e ∙ view_match l) tt
+-- they differ, and each has its mark among these
+record Kept (o : ℕ) (s : List Mark) (texts : List (List ℕ)) : Type 0 where
+  differ : IsDistinct bytes_eq texts
+  marks : (q : List ℕ) → list_any (bytes_eq q) texts ≡ true → has_text o q s ≡ true
 
-pub sound_sequence : {X E : Type 0} (r : Result X E) (c : Command) (v : Vec Command) (cs : List Command) → c ≡ Sequence v → cs ≡ v.items
-    → IfOk r (λ _. EachAmongOfTrees IsSound (trees_of (map view_command cs))) → IfOk r (λ _. Sound (view_command c))
-sound_sequence r c v cs e is h =
-    let same : sequence (trees_of (map view_command cs)) ≡ view_command c = ap (λ (xs : List Command). sequence (trees_of (map view_command xs))) is ∙ sym (view_sequence v) ∙ ap view_command (sym e) in
-    subst (λ (t : Tree). IfOk r (λ _. Sound t)) same h
+or_true : (a b : Bool) → a ≡ true → (a || b) ≡ true
+or_true true b e = refl
+or_true false b e = absurd cc
 
-pub sound_among : {X E : Type 0} (r : Result X E) (c : Command) (a : Among) → c ≡ commands.Among a → IfOk r (λ _. Sound (among (view_among a))) → IfOk r (λ _. Sound (view_command c))
-sound_among r c a e h = subst (λ (t : Tree). IfOk r (λ _. Sound t)) (sym (ap view_command e ∙ view_search a)) h
+kept_more : (o : ℕ) (s t : List Mark) (texts : List (List ℕ)) → Extends s t → Kept o s texts → Kept o t texts
+kept_more o s t texts e k = record {
+  differ = k.differ;
+  marks = λ q h.
+      subst (λ (x : List Mark). has_text o q x ≡ true) (sym e.is)
+      (list_any-append (λ (m : Mark). is_text_of o q m.notice) s e.more ∙ or_true (has_text o q s) (has_text o q e.more) (k.marks q h));
+}
 
-each_push : (ts : List Tree) (t : Tree) → EachAmongOfTrees IsSound (trees_of ts) → Sound t → EachAmongOfTrees IsSound (trees_of (ts ++ t ∷ []))
-each_push [] t h one = (one, tt)
-each_push (u ∷ ts) t h one = (h.0, each_push ts t h.1 one)
+is_false : (b : Bool) → (b ≡ true → true ≡ false) → b ≡ false
+is_false true f = f refl
+is_false false f = refl
 
--- one turn over commands
-pub commands_next : (cs : List Command) (i : ℕ) (c : Command) → i < length cs → c ≡ get_or cs i c → EachAmongOfTrees IsSound (trees_of (map view_command (take i cs))) → Sound (view_command c)
-    → EachAmongOfTrees IsSound (trees_of (map view_command (take (i + 1) cs)))
-commands_next cs i c lt is so one =
-    let more : take (i + 1) cs ≡ take i cs ++ c ∷ [] = take_more cs i c lt ∙ ap (λ (y : Command). take i cs ++ y ∷ []) (sym is) in
-    let same : map view_command (take i cs) ++ view_command c ∷ [] ≡ map view_command (take (i + 1) cs) = sym (ap (λ (ys : List Command). map view_command ys) more ∙ map_push view_command (take i cs) c) in
-    subst (λ (ts : List Tree). EachAmongOfTrees IsSound (trees_of ts)) same (each_push (map view_command (take i cs)) (view_command c) so one)
+split_or : (a b : Bool) → (a || (b || false)) ≡ true → (a || (b || false)) ≡ (a || b)
+split_or true b e = refl
+split_or false true e = refl
+split_or false false e = refl
 
--- ---- a group
+or_moves : (a b c d : Bool) → (a || (b || false)) ≡ true → (a ≡ true → c ≡ true) → (b ≡ d) → (c || (d || false)) ≡ true
+or_moves a true c d e f g = last c d g where
+  last : (c d : Bool) → true ≡ d → (c || (d || false)) ≡ true
+  last true d g = refl
+  last false true g = refl
+  last false false g = absurd cc
+or_moves true false c d e f g = first_one c (d || false) (f refl) where
+  first_one : (c r : Bool) → c ≡ true → (c || r) ≡ true
+  first_one true r h = refl
+  first_one false r h = absurd cc
+or_moves false false c d e f g = absurd cc
 
-values_same : (es : List Entry) → values_of (map view_entry es) ≡ map value_of es
-values_same [] = refl
-values_same (e ∷ es) = ap (λ (r : List (List ℕ)). value_of e ∷ r) (values_same es)
+own : (o : ℕ) (b : Bool) → b ≡ (nat_eq o o && b)
+own o b = ap (λ (x : Bool). x && b) (sym (IsEquivalence.refl nat_eq_equiv o))
 
-view_out_group : (g : Group) → view_group g ≡ record { first = view_entry (out-Group g).first; others = map view_entry (out-Group g).others.items; commands = trees_of (map view_command (out-Group g).commands.items) }
-view_out_group g = fold_out-Group Tree Groups GroupView command_step among_step group_step g
+kept_string : (o : ℕ) (s : List Mark) (texts : List (List ℕ)) (t : List ℕ) (p : Place) → has_text o t s ≡ false → Kept o s texts → Kept o (put (string o t) p s) (texts ++ t ∷ [])
+kept_string o s texts t p new k = record {
+  differ = IsDistinct-push nat_list_eq_equiv texts t k.differ (is_false (list_any (bytes_eq t) texts) (λ h. sym (k.marks t h) ∙ new));
+  marks = λ q h.
+      list_any-append (λ (m : Mark). is_text_of o q m.notice) s ((record { place = p; notice = string o t }) ∷ [])
+      ∙ or_moves (list_any (bytes_eq q) texts) (bytes_eq q t) (has_text o q s) (nat_eq o o && bytes_eq q t) (sym (list_any-append (bytes_eq q) texts (t ∷ [])) ∙ h) (k.marks q) (own o (bytes_eq q t));
+}
 
-view_out_among : (a : Among) → view_among a ≡ groups_of (map view_group (out-Among a).groups.items) (map view_entry (out-Among a).bare.items)
-view_out_among a = fold_out-Among Tree Groups GroupView command_step among_step group_step a
+kept_entry : (all : List Mark) (e : Entry) (o : ℕ) (p : Place) (s : List Mark) (texts : List (List ℕ)) → Passing all → Extends (marked_entry e o p s) all → Kept o s texts
+    → Kept o (marked_entry e o p s) (texts ++ text_of e ∷ [])
+kept_entry all (entry q c) o p s texts passing e k =
+    let here = at_mark all s (record { place = p; notice = string o q.value }) passing (then_ (condition_more c p (put (string o q.value) p s)) e) in
+    kept_more o (put (string o q.value) p s) (marked_condition c p (put (string o q.value) p s)) (texts ++ q.value ∷ []) (condition_more c p (put (string o q.value) p s))
+    (kept_string o s texts q.value p (string_new all s here.0 p o q.value here.1) k)
 
-pub group_met : {X E : Type 0} (r : Result X E) (g : Group) (first : Entry) (others : List Entry) (inside : List Command) (old mid new : Met)
-    → first ≡ (out-Group g).first → others ≡ (out-Group g).others.items → inside ≡ (out-Group g).commands.items
-    → Meets old mid (value_of first ∷ []) → Meets mid new (map value_of others) → IfOk r (λ _. EachAmongOfTrees IsSound (trees_of (map view_command inside)))
-    → IfOk r (λ _. IsGroupMet old new (view_group g))
-group_met {X} {E} r g first others inside old mid new is_first is_others is_inside one more h =
-    let v : GroupView = record { first = view_entry first; others = map view_entry others; commands = trees_of (map view_command inside) } in
-    let same : v ≡ view_group g = rw (view_out_group g, is_first, is_others, is_inside) refl in
-    let values : value_of first ∷ map value_of others ≡ v.first.value ∷ values_of v.others = ap (λ (r : List (List ℕ)). value_of first ∷ r) (sym (values_same others)) in
-    let met : Meets old new (v.first.value ∷ values_of v.others) = subst (λ (ts : List (List ℕ)). Meets old new ts) values (meets_more old mid new (value_of first ∷ []) (map value_of others) one more) in
-    subst (λ (w : GroupView). IfOk r (λ _. IsGroupMet old new w)) same (go r met h) where
-      go : (r : Result X E) → Meets old new ((view_entry first).value ∷ values_of (map view_entry others)) → IfOk r (λ _. EachAmongOfTrees IsSound (trees_of (map view_command inside)))
-          → IfOk r (λ _. IsGroupMet old new (record { first = view_entry first; others = map view_entry others; commands = trees_of (map view_command inside) }))
-      go (Ok x) met h = (met, h)
-      go (Err e) met h = tt
+kept_entries : (all : List Mark) (es : List Entry) (o : ℕ) (p : Place) (s : List Mark) (texts : List (List ℕ)) → Passing all → Extends (marked_entries es o p s) all → Kept o s texts
+    → Kept o (marked_entries es o p s) (texts ++ map text_of es)
+kept_entries all [] o p s texts passing e k = subst (λ (ts : List (List ℕ)). Kept o s ts) (sym (append-nil texts)) k
+kept_entries all (x ∷ es) o p s texts passing e k =
+    subst (λ (ts : List (List ℕ)). Kept o (marked_entries es o p (marked_entry x o p s)) ts) (append_assoc texts (text_of x ∷ []) (map text_of es))
+    (kept_entries all es o p (marked_entry x o p s) (texts ++ text_of x ∷ []) passing e (kept_entry all x o p s texts passing (then_ (entries_more es o p (marked_entry x o p s)) e) k))
 
-values_push : (gs : List GroupView) (g : GroupView) → values_in (gs ++ g ∷ []) ≡ values_in gs ++ (g.first.value ∷ values_of g.others)
-values_push [] g = append-nil (g.first.value ∷ values_of g.others)
-values_push (h ∷ gs) g = ap (λ (r : List (List ℕ)). (h.first.value ∷ values_of h.others) ++ r) (values_push gs g) ∙ sym (append_assoc (h.first.value ∷ values_of h.others) (values_in gs) (g.first.value ∷ values_of g.others))
+kept_groups : (all : List Mark) (gs : Groups) (o : ℕ) (p : Place) (s : List Mark) (texts : List (List ℕ)) → Passing all → Extends (marked_groups gs o p s) all → Kept o s texts
+    → IsDistinct bytes_eq (texts ++ texts_of gs)
+kept_groups all (bare es) o p s texts passing e k = (kept_entries all es o p s texts passing e k).differ
+kept_groups all (group x es rs gs) o p s texts passing e k =
+    let a = marked_entry x o p s in
+    let b = marked_entries es o p a in
+    let c = marked_rows rs p b in
+    let d = put region_end p c in
+    let after_d : Extends d all = then_ (groups_more gs o p d) e in
+    let after_b : Extends b all = then_ (rows_more rs p b) (then_ (put_more region_end p c) after_d) in
+    let kb : Kept o b ((texts ++ text_of x ∷ []) ++ map text_of es) = kept_entries all es o p a (texts ++ text_of x ∷ []) passing after_b (kept_entry all x o p s texts passing (then_ (entries_more es o p a) after_b) k) in
+    let kd : Kept o d ((texts ++ text_of x ∷ []) ++ map text_of es) = kept_more o b d ((texts ++ text_of x ∷ []) ++ map text_of es) (then_ (rows_more rs p b) (put_more region_end p c)) kb in
+    subst (λ (ts : List (List ℕ)). IsDistinct bytes_eq ts)
+    (append_assoc (texts ++ text_of x ∷ []) (map text_of es) (texts_of gs) ∙ append_assoc texts (text_of x ∷ []) (map text_of es ++ texts_of gs))
+    (kept_groups all gs o p d ((texts ++ text_of x ∷ []) ++ map text_of es) passing e kd)
 
-inside_push : (gs : List GroupView) (g : GroupView) → EachAmongIn gs → EachAmongOfTrees IsSound g.commands → EachAmongIn (gs ++ g ∷ [])
-inside_push [] g h one = (one, tt)
-inside_push (f ∷ gs) g h one = (h.0, inside_push gs g h.1 one)
-
--- one turn over groups
-pub groups_next : (a b c : Met) (gs : List Group) (i : ℕ) (g : Group) → i < length gs → g ≡ get_or gs i g → AreGroupsMet a b (map view_group (take i gs)) → IsGroupMet b c (view_group g)
-    → AreGroupsMet a c (map view_group (take (i + 1) gs))
-groups_next a b c gs i g lt is so one =
-    let more : take (i + 1) gs ≡ take i gs ++ g ∷ [] = take_more gs i g lt ∙ ap (λ (y : Group). take i gs ++ y ∷ []) (sym is) in
-    let views = map view_group (take i gs) in
-    let v = view_group g in
-    let same : views ++ v ∷ [] ≡ map view_group (take (i + 1) gs) = sym (ap (λ (ys : List Group). map view_group ys) more ∙ map_push view_group (take i gs) g) in
-    subst (λ (vs : List GroupView). AreGroupsMet a c vs) same
-    (subst (λ (ts : List (List ℕ)). Meets a c ts) (sym (values_push views v)) (meets_more a b c (values_in views) (v.first.value ∷ values_of v.others) so.0 one.0), inside_push views v so.1 one.1)
-
--- ---- an among
-
-strings_values : (gs : List GroupView) (qs : List Quoted) → values_of (strings_of (groups_of gs qs)) ≡ values_in gs ++ values_of qs
-strings_values [] qs = refl
-strings_values (g ∷ gs) qs =
-    ap (λ (r : List (List ℕ)). g.first.value ∷ r) (values_append g.others (strings_of (groups_of gs qs)) ∙ ap (λ (r : List (List ℕ)). values_of g.others ++ r) (strings_values gs qs)
-    ∙ sym (append_assoc (values_of g.others) (values_in gs) (values_of qs))) where
-      values_append : (xs ys : List Quoted) → values_of (xs ++ ys) ≡ values_of xs ++ values_of ys
-      values_append [] ys = refl
-      values_append (x ∷ xs) ys = ap (λ (r : List (List ℕ)). x.value ∷ r) (values_append xs ys)
-
-inside_all : (gs : List GroupView) (qs : List Quoted) → EachAmongIn gs → EachAmongOfGroups IsSound (groups_of gs qs)
-inside_all [] qs h = tt
-inside_all (g ∷ gs) qs h = (h.0, inside_all gs qs h.1)
-
-some_string : (gs : List GroupView) (qs : List Quoted) → 0 < length gs + length qs → 0 < length (strings_of (groups_of gs qs))
-some_string [] qs lt = omega (arith, lt)
-some_string (g ∷ gs) qs lt = omega arith
-
-pub has_none : (m : Met) → IsEmpty m → Has m []
-has_none m e q = ap (λ (ks : List (Bor (List ℕ))). list_any (is_at (λ k. slice_cmp nat_cmp q k.now)) ks) e
-
-pub none_differ : IsDistinct bytes_eq []
+none_differ : IsDistinct bytes_eq []
 unfolding IsDistinct
 none_differ = tt
 
-pub among_sound : {X E : Type 0} (r : Result X E) (a : Among) (gs : List Group) (es : List Entry) (m0 m1 m2 : Met) → IsEmpty m0 → gs ≡ (out-Among a).groups.items → es ≡ (out-Among a).bare.items
-    → 0 < length gs + length es → AreGroupsMet m0 m1 (map view_group gs) → IfOk r (λ _. Meets m1 m2 (map value_of es)) → IfOk r (λ _. Sound (among (view_among a)))
-among_sound {X} {E} r a gs es m0 m1 m2 none is_groups is_bare some met h =
-    let same : groups_of (map view_group gs) (map view_entry es) ≡ view_among a = rw (view_out_among a, is_groups, is_bare) refl in
-    subst (λ (g : Groups). IfOk r (λ _. Sound (among g))) same (go r h) where
-      go : (r : Result X E) → IfOk r (λ _. Meets m1 m2 (map value_of es)) → IfOk r (λ _. Sound (among (groups_of (map view_group gs) (map view_entry es))))
-      go (Err e) h = tt
-      go (Ok x) h =
-          let vs = map view_group gs in
-          let qs = map view_entry es in
-          let all = meets_more m0 m1 m2 (values_in vs) (map value_of es) met.0 h in
-          let differ : IsDistinct bytes_eq (values_in vs ++ map value_of es) = (all [] (has_none m0 none) none_differ).1 in
-          let values : values_in vs ++ map value_of es ≡ values_of (strings_of (groups_of vs qs)) = ap (λ (r : List (List ℕ)). values_in vs ++ r) (sym (values_same es)) ∙ sym (strings_values vs qs) in
-          let lengths : 0 < length vs + length qs = omega (arith, some, length-map gs view_group, length-map es view_entry) in
-          (record { strings_differ = subst (λ (ts : List (List ℕ)). IsDistinct bytes_eq ts) values differ; has_strings = some_string vs qs lengths }, inside_all vs qs met.1)
+sound : (all : List Mark) (x : Starter) (gs : Groups) (p : Place) (s : List Mark) → Passing all → Extends (marked (chosen x gs) p s) all → IsSound gs
+sound all x gs p s passing e =
+    let mark = among (has_starter x) (is_empty gs) in
+    let a = put mark p s in
+    let b = marked_starter x p a in
+    let after_a : Extends a all = then_ (starter_more x p a) (then_ (groups_more gs (length s) p b) e) in
+    let here = at_mark all s (record { place = p; notice = mark }) passing after_a in
+    record {
+      strings_differ = kept_groups all gs (length s) p b [] passing e (record { differ = none_differ; marks = λ q h. absurd (none q h) });
+      has_strings = among_full all s here.0 p (has_starter x) (is_empty gs) here.1;
+    } where
+      none : (q : List ℕ) → false ≡ true → ⊥
+      none q h = cc
+
+-- ---- each among
+
+mutual
+  each_command : (all : List Mark) (t : Tree) (p : Place) (s : List Mark) → Passing all → Extends (marked t p s) all → EachAmong IsSound t
+  each_command all (bracket rs) p s passing e = each_rows all rs p s passing e
+  each_command all (single x) p s passing e = tt
+  each_command all (quoted q) p s passing e = tt
+  each_command all (called n) p s passing e = tt
+  each_command all (excluded m n) p s passing e = tt
+  each_command all (prefixed x c) p s passing e = each_command all c (place_behind x p) (marked_prefix x p s) passing e
+  each_command all (counted n k c) p s passing e = each_command all c p (marked_expression k p s) passing e
+  each_command all (moved m k) p s passing e = tt
+  each_command all (named x n) p s passing e = tt
+  each_command all (edited x a) p s passing e = tt
+  each_command all (limited b c) p s passing e = (each_command all b p s passing (then_ (command_more c p (marked b p s)) e), each_command all c p (marked b p s) passing e)
+  each_command all (assigned n o k) p s passing e = tt
+  each_command all (compared n o k) p s passing e = tt
+  each_command all (values_compared k o f) p s passing e = tt
+  each_command all (chosen x gs) p s passing e =
+      let a = put (among (has_starter x) (is_empty gs)) p s in
+      let b = marked_starter x p a in
+      (sound all x gs p s passing e, each_starter all x p a passing (then_ (groups_more gs (length s) p b) e), each_group all gs (length s) p b passing e)
+
+  each_rows : (all : List Mark) (rs : Rows) (p : Place) (s : List Mark) → Passing all → Extends (marked_rows rs p s) all → EachAmongOfRows IsSound rs
+  each_rows all no_rows p s passing e = tt
+  each_rows all (row c os rs) p s passing e =
+      let a = marked c p s in
+      let b = marked_others os p a in
+      let after_b : Extends b all = then_ (rows_more rs p b) e in
+      (each_command all c p s passing (then_ (others_more os p a) after_b), each_others all os p a passing after_b, each_rows all rs p b passing e)
+
+  each_others : (all : List Mark) (os : Others) (p : Place) (s : List Mark) → Passing all → Extends (marked_others os p s) all → EachAmongOfOthers IsSound os
+  each_others all no_others p s passing e = tt
+  each_others all (joined j c os) p s passing e =
+      (each_command all c p s passing (then_ (others_more os p (marked c p s)) e), each_others all os p (marked c p s) passing e)
+
+  each_starter : (all : List Mark) (x : Starter) (p : Place) (s : List Mark) → Passing all → Extends (marked_starter x p s) all → EachAmongOfStarter IsSound x
+  each_starter all no_starter p s passing e = tt
+  each_starter all (starter rs) p s passing e = each_rows all rs p s passing (then_ (put_more region_end p (marked_rows rs p s)) e)
+
+  each_group : (all : List Mark) (gs : Groups) (o : ℕ) (p : Place) (s : List Mark) → Passing all → Extends (marked_groups gs o p s) all → EachAmongOfGroups IsSound gs
+  each_group all (bare es) o p s passing e = tt
+  each_group all (group x es rs gs) o p s passing e =
+      let b = marked_entries es o p (marked_entry x o p s) in
+      let c = marked_rows rs p b in
+      let d = put region_end p c in
+      (each_rows all rs p b passing (then_ (put_more region_end p c) (then_ (groups_more gs o p d) e)), each_group all gs o p d passing e)
+
+each_plain : (all : List Mark) (x : Plain) (p : Place) (s : List Mark) → Passing all → Extends (marked_plain x p s) all → EachAmongOfPlain IsSound x
+each_plain all (declaration k ns) p s passing e = tt
+each_plain all (escapes a b) p s passing e = tt
+each_plain all (macro n b q) p s passing e = tt
+each_plain all (routine n c os) p s passing e =
+    let a = put (defines_routine n) p s in
+    let b = marked c p a in
+    let after_os : Extends (marked_others os p b) all = then_ (put_more region_end p (marked_others os p b)) e in
+    (each_command all c p a passing (then_ (others_more os p b) after_os), each_others all os p b passing after_os)
+each_plain all (grouping n a ts) p s passing e = tt
+
+-- ---- of a script
+
+abbrev EachStated : List Stated → Type 0
+EachStated [] = Unit {0}
+EachStated (x ∷ xs) = EachAmongOfPlain IsSound x.plain × EachStated xs
+
+each_stated : (all : List Mark) (xs : List Stated) (n : ℕ) (s : List Mark) → Passing all → Extends (marked_items xs n s) all → EachStated xs
+each_stated all [] n s passing e = tt
+each_stated all (x ∷ xs) n s passing e =
+    let p : Place = record { item = n; mode = x.mode } in
+    (each_plain all x.plain p s passing (then_ (items_more xs (n + 1) (marked_plain x.plain p s)) e), each_stated all xs (n + 1) (marked_plain x.plain p s) passing e)
+
+front_of : (a b : List Stated) → EachStated (a ++ b) → EachStated a
+front_of [] b h = tt
+front_of (x ∷ a) b h = (h.0, front_of a b h.1)
+
+back_of : (a b : List Stated) → EachStated (a ++ b) → EachStated b
+back_of [] b h = h
+back_of (x ∷ a) b h = back_of a b h.1
+
+plains_of : (m : Mode) (xs : List Plain) (done : List Stated) → EachStated (stated_in m xs done) → EachAmongOfPlains IsSound xs × EachStated done
+plains_of m [] done h = (tt, h)
+plains_of m (x ∷ xs) done h =
+    let one : List Stated = (record { mode = m; plain = x }) ∷ [] in
+    let r = plains_of m xs (done ++ one) h in
+    (((back_of done one r.1).0, r.0), front_of done one r.1)
+
+items_of : (is : List Item) (done : List Stated) → EachStated (stated is done) → EachAmongOfItems IsSound is × EachStated done
+items_of [] done h = (tt, h)
+items_of (plain x ∷ is) done h =
+    let one : List Stated = (record { mode = Forward; plain = x }) ∷ [] in
+    let r = items_of is (done ++ one) h in
+    (((back_of done one r.1).0, r.0), front_of done one r.1)
+items_of (backward xs ∷ is) done h =
+    let r = items_of is (stated_in Backward xs done) h in
+    let k = plains_of Backward xs done r.1 in
+    ((k.0, r.0), k.1)
+
+pub amongs_are_sound : AmongsAreSound
+amongs_are_sound items external e =
+    let passing : Passing (marks_of items) = record { each = (first.well_declared_passes items external e).0 } in
+    (items_of items [] (each_stated (marks_of items) (stated items []) 1 [] passing (same (marks_of items)))).0

@@ -1,90 +1,257 @@
--- What is asked of a script beside its grammar. Each condition has the name of the fault that is answered where it fails.
-use Rattle.std.specs.Prelude.{ℕ, ◌<◌, List, [], ◌∷◌, ◌++◌, length, map, IsSome, IsTrue}
-use Rattle.std.specs.List.{list_any, IsDistinct}
+-- What is asked of a script beside its grammar. Each check looks at one mark, at those before it and behind it, and at all of them.
+use Rattle.std.specs.Prelude.{◌≡◌, ℕ, Bool, true, false, not, ◌&&◌, ◌||◌, List, [], ◌∷◌, ◌++◌, Option, Some, None, is_some, nat_eq, nat_lt, if◌then◌else◌}
+use Rattle.std.specs.Option.{option_or}
+use Rattle.std.specs.List.{list_any}
 use Rattle.std.specs.Str.{bytes_eq}
-use Rattle.sbl_script.specs.Tree.{Tree, Trees, Groups, Item, Source, sequence, among, no_trees, tree, bare, group, externals, routine, escapes, macro, body_of, strings_of}
+use Rattle.sbl_text.specs.declared.fault.ScriptFault.{ScriptFault}
+use Rattle.sbl_text.specs.declared.fault.ScriptFault.TheVariants as fault
+use Rattle.sbl_grammar.specs.declared.tree.DeclarationKind.{DeclarationKind}
+use Rattle.sbl_grammar.specs.declared.tree.DeclarationKind.TheVariants as kinds
+use Rattle.sbl_grammar.specs.Tree.{Item}
+use Rattle.sbl_script.specs.declared.marks.Mode.{Mode}
+use Rattle.sbl_script.specs.declared.marks.Mode.TheVariants.{Forward, Backward}
+use Rattle.sbl_script.specs.declared.marks.Use.{Use}
+use Rattle.sbl_script.specs.declared.marks.Use.TheVariants as use_as
+use Rattle.sbl_script.specs.declared.marks.Place.{Place}
+use Rattle.sbl_script.specs.Parsed.{body_in}
+use Rattle.sbl_script.specs.Marks.{Mark, Notice, declares, defines_routine, defines_grouping, uses, substring, among, string, backwards, region_end, marks_of}
 
--- the names that some items declare, in text order; a macro's name is none of them
-abbrev pub declared_in : List Item → List (List ℕ)
-declared_in [] = []
-declared_in (externals names ∷ items) = names ++ declared_in items
-declared_in (routine name body ∷ items) = declared_in items
-declared_in (escapes a b ∷ items) = declared_in items
-declared_in (macro name base value ∷ items) = declared_in items
+-- ---- what marks say of a name
 
--- the names that some items define, in text order
-abbrev pub defined_in : List Item → List (List ℕ)
-defined_in [] = []
-defined_in (externals names ∷ items) = defined_in items
-defined_in (routine name body ∷ items) = name ∷ defined_in items
-defined_in (escapes a b ∷ items) = defined_in items
-defined_in (macro name base value ∷ items) = defined_in items
+abbrev pub declared_as : List ℕ → Notice → Option DeclarationKind
+declared_as n (declares k x) = if bytes_eq n x then Some k else None
+declared_as n _ = None
 
--- one of the names is this
-abbrev pub IsIn : List ℕ → List (List ℕ) → Type 0
-IsIn name names = IsTrue (list_any (bytes_eq name) names)
+-- the kind as which some marks declare the name first
+abbrev pub kind_of : List ℕ → List Mark → Option DeclarationKind
+kind_of n [] = None
+kind_of n (m ∷ ms) = option_or (declared_as n m.notice) (kind_of n ms)
 
--- 9 DeclaredTwice: no name is declared twice
-abbrev pub DeclaredOnce : List Item → Type 0
-DeclaredOnce items = IsDistinct bytes_eq (declared_in items)
+abbrev pub is_definition : List ℕ → Notice → Bool
+is_definition n (defines_routine x) = bytes_eq n x
+is_definition n (defines_grouping x) = bytes_eq n x
+is_definition n _ = false
 
--- 10 Undeclared: each name that is defined is declared by an item before, or is one of these
-abbrev pub DeclaredBefore : List (List ℕ) → List Item → Type 0
-DeclaredBefore names [] = Unit {0}
-DeclaredBefore names (externals more ∷ items) = DeclaredBefore (names ++ more) items
-DeclaredBefore names (routine name body ∷ items) = IsIn name names × DeclaredBefore names items
-DeclaredBefore names (escapes a b ∷ items) = DeclaredBefore names items
-DeclaredBefore names (macro name base value ∷ items) = DeclaredBefore names items
+abbrev pub defined_at : List ℕ → Mark → Option Place
+defined_at n m = if is_definition n m.notice then Some m.place else None
 
--- 12 DefinedTwice: no name is defined twice
-abbrev pub DefinedOnce : List Item → Type 0
-DefinedOnce items = IsDistinct bytes_eq (defined_in items)
+-- where some marks define it first, of whatever kind
+abbrev pub definition_of : List ℕ → List Mark → Option Place
+definition_of n [] = None
+definition_of n (m ∷ ms) = option_or (defined_at n m) (definition_of n ms)
 
--- 17 RepeatedString: the strings of an among differ in their characters
-abbrev pub StringsDiffer : Groups → Type 0
-StringsDiffer gs = IsDistinct bytes_eq (map (λ q. q.value) (strings_of gs))
+-- ---- kinds, places and modes
 
--- 18 EmptyAmong: an among has a string
-abbrev pub HasStrings : Groups → Type 0
-HasStrings gs = 0 < length (strings_of gs)
+abbrev pub is_kind : (DeclarationKind → Bool) → Option DeclarationKind → Bool
+is_kind test None = false
+is_kind test (Some k) = test k
 
--- what is asked of each among
-pub record IsSound (gs : Groups) : Type 0 where
-  pub strings_differ : StringsDiffer gs
-  pub has_strings : HasStrings gs
+abbrev pub is_routine : DeclarationKind → Bool
+is_routine kinds.Routines = true
+is_routine kinds.Externals = true
+is_routine _ = false
 
--- so is each among of a command, those inside an among too
-abbrev mutual
-  pub EachAmong : (Groups → Type 0) → Tree → Type 0
-  EachAmong P (sequence ts) = EachAmongOfTrees P ts
-  EachAmong P (among gs) = P gs × EachAmongOfGroups P gs
-  EachAmong P _ = Unit {0}
+abbrev pub is_grouping : DeclarationKind → Bool
+is_grouping kinds.Groupings = true
+is_grouping _ = false
 
-  pub EachAmongOfTrees : (Groups → Type 0) → Trees → Type 0
-  EachAmongOfTrees P no_trees = Unit {0}
-  EachAmongOfTrees P (tree t ts) = EachAmong P t × EachAmongOfTrees P ts
+abbrev pub is_boolean : DeclarationKind → Bool
+is_boolean kinds.Booleans = true
+is_boolean _ = false
 
-  pub EachAmongOfGroups : (Groups → Type 0) → Groups → Type 0
-  EachAmongOfGroups P (bare ss) = Unit {0}
-  EachAmongOfGroups P (group s ss ts gs) = EachAmongOfTrees P ts × EachAmongOfGroups P gs
+abbrev pub is_integer : DeclarationKind → Bool
+is_integer kinds.Integers = true
+is_integer _ = false
 
--- so is each among of a script
-abbrev pub EachAmongOfItems : (Groups → Type 0) → List Item → Type 0
-EachAmongOfItems P [] = Unit {0}
-EachAmongOfItems P (externals names ∷ items) = EachAmongOfItems P items
-EachAmongOfItems P (routine name body ∷ items) = EachAmong P body × EachAmongOfItems P items
-EachAmongOfItems P (escapes a b ∷ items) = EachAmongOfItems P items
-EachAmongOfItems P (macro name base value ∷ items) = EachAmongOfItems P items
+abbrev pub is_string : DeclarationKind → Bool
+is_string kinds.Strings = true
+is_string _ = false
 
--- 21 NoExternal: the external that is run is declared and defined
-pub record HasExternal (s : Source) : Type 0 where
-  pub declared : IsIn s.external (declared_in s.items)
-  pub defined : IsSome (body_of s)
+-- a name of this kind may be used so
+abbrev pub may_be : Use → DeclarationKind → Bool
+may_be use_as.Command k = not (is_integer k)
+may_be use_as.Condition k = is_routine k
+may_be use_as.Excluded k = is_grouping k
+may_be use_as.Term k = is_grouping k
+may_be use_as.Boolean k = is_boolean k
+may_be use_as.Integer k = is_integer k
+may_be use_as.String k = is_string k
 
--- none of the conditions fails
-pub record WellDeclared (s : Source) : Type 0 where
-  pub declared_once : DeclaredOnce s.items
-  pub declared_before : DeclaredBefore [] s.items
-  pub defined_once : DefinedOnce s.items
-  pub amongs : EachAmongOfItems IsSound s.items
-  pub has_external : HasExternal s
+-- a name of this kind stands for what is defined
+abbrev pub needs_definition : DeclarationKind → Bool
+needs_definition k = is_routine k || is_grouping k
+
+abbrev pub is_mode : Mode → Mode → Bool
+is_mode Forward Forward = true
+is_mode Backward Backward = true
+is_mode _ _ = false
+
+-- there is a definition, in an item before this
+abbrev pub is_earlier : ℕ → Option Place → Bool
+is_earlier item None = false
+is_earlier item (Some p) = nat_lt p.item item
+
+-- there is a definition, in the other mode
+abbrev pub is_in_other : Mode → Option Place → Bool
+is_in_other mode None = false
+is_in_other mode (Some p) = not (is_mode mode p.mode)
+
+-- ---- the checks
+
+-- 9: declared before, of whatever kind
+abbrev pub is_declared_twice : List Mark → Notice → Bool
+is_declared_twice before (declares k n) = is_some (kind_of n before)
+is_declared_twice before _ = false
+
+-- 10: no earlier declaration
+abbrev pub is_undeclared : List Mark → Notice → Bool
+is_undeclared before (defines_routine n) = not (is_some (kind_of n before))
+is_undeclared before (defines_grouping n) = not (is_some (kind_of n before))
+is_undeclared before (uses u n) = not (is_some (kind_of n before))
+is_undeclared before _ = false
+
+-- 11: its kind is not allowed there
+abbrev pub is_wrong_kind : List Mark → Notice → Bool
+is_wrong_kind before (defines_routine n) = not (is_kind is_routine (kind_of n before))
+is_wrong_kind before (defines_grouping n) = not (is_kind is_grouping (kind_of n before))
+is_wrong_kind before (uses u n) = not (is_kind (may_be u) (kind_of n before))
+is_wrong_kind before _ = false
+
+-- 12: defined before
+abbrev pub is_defined_twice : List Mark → ℕ → Notice → Bool
+is_defined_twice all item (defines_routine n) = is_earlier item (definition_of n all)
+is_defined_twice all item (defines_grouping n) = is_earlier item (definition_of n all)
+is_defined_twice all item _ = false
+
+-- a routine or grouping that is defined nowhere; in a grouping's definition: that is not defined earlier
+abbrev pub lacks_definition : Use → ℕ → Option DeclarationKind → Option Place → Bool
+lacks_definition use_as.Term item kind place = not (is_earlier item place)
+lacks_definition _ item kind place = is_kind needs_definition kind && not (is_some place)
+
+-- 13: a use of such
+abbrev pub is_undefined : List Mark → List Mark → ℕ → Notice → Bool
+is_undefined all before item (uses u n) = lacks_definition u item (kind_of n before) (definition_of n all)
+is_undefined all before item _ = false
+
+-- 14: a use of a routine that is defined in the other mode
+abbrev pub is_wrong_mode : List Mark → List Mark → Mode → Notice → Bool
+is_wrong_mode all before mode (uses u n) = is_kind is_routine (kind_of n before) && is_in_other mode (definition_of n all)
+is_wrong_mode all before mode _ = false
+
+-- of the amongs, substrings and ends of regions in some marks the first is an among of this mode
+abbrev pub is_followed : Mode → List Mark → Bool
+is_followed mode [] = false
+is_followed mode (m ∷ ms) = elim m.notice [
+  | among has_starter is_empty ↦ is_mode mode m.place.mode
+  | substring ↦ false
+  | region_end ↦ false
+  | _ ↦ is_followed mode ms
+]
+
+-- 15: a substring with no among of its region behind it, before the region's end or its next substring, or with one of the other mode
+abbrev pub is_unpaired : Mode → Notice → List Mark → Bool
+is_unpaired mode substring after = not (is_followed mode after)
+is_unpaired mode _ after = false
+
+-- a substring waits for its among behind this mark
+abbrev pub waits_after : Notice → Bool → Bool
+waits_after substring waits = true
+waits_after (among has_starter is_empty) waits = false
+waits_after region_end waits = false
+waits_after _ waits = waits
+
+-- a substring waits for its among behind some marks
+abbrev pub is_awaited : List Mark → Bool → Bool
+is_awaited [] waits = waits
+is_awaited (m ∷ ms) waits = is_awaited ms (waits_after m.notice waits)
+
+-- 16: an among that has a starter and is paired with a substring
+abbrev pub is_started_twice : List Mark → Notice → Bool
+is_started_twice before (among has_starter is_empty) = has_starter && is_awaited before false
+is_started_twice before _ = false
+
+-- these characters are a string of this among
+abbrev pub is_text_of : ℕ → List ℕ → Notice → Bool
+is_text_of owner text (string o t) = nat_eq owner o && bytes_eq text t
+is_text_of owner text _ = false
+
+-- some mark says so
+abbrev pub has_text : ℕ → List ℕ → List Mark → Bool
+has_text owner text ms = list_any (λ (m : Mark). is_text_of owner text m.notice) ms
+
+-- 17: its characters are those of an earlier string of this among
+abbrev pub is_repeated : List Mark → Notice → Bool
+is_repeated before (string owner text) = has_text owner text before
+is_repeated before _ = false
+
+-- 18: an among with no string
+abbrev pub is_empty_among : Notice → Bool
+is_empty_among (among has_starter is_empty) = is_empty
+is_empty_among _ = false
+
+-- 19: `backwards` in backward mode
+abbrev pub is_nested : Mode → Notice → Bool
+is_nested mode backwards = is_mode Backward mode
+is_nested mode _ = false
+
+-- the fault of a mark, of several that with the smallest number
+abbrev pub fault_at : List Mark → List Mark → Mark → List Mark → Option ScriptFault
+fault_at all before m after =
+    if is_declared_twice before m.notice then Some (fault.DeclaredTwice m.place.item) else
+    if is_undeclared before m.notice then Some (fault.Undeclared m.place.item) else
+    if is_wrong_kind before m.notice then Some (fault.WrongKind m.place.item) else
+    if is_defined_twice all m.place.item m.notice then Some (fault.DefinedTwice m.place.item) else
+    if is_undefined all before m.place.item m.notice then Some (fault.Undefined m.place.item) else
+    if is_wrong_mode all before m.place.mode m.notice then Some (fault.WrongMode m.place.item) else
+    if is_unpaired m.place.mode m.notice after then Some (fault.Substring m.place.item) else
+    if is_started_twice before m.notice then Some (fault.Starter m.place.item) else
+    if is_repeated before m.notice then Some (fault.RepeatedString m.place.item) else
+    if is_empty_among m.notice then Some (fault.EmptyAmong m.place.item) else
+    if is_nested m.place.mode m.notice then Some (fault.NestedBackwards m.place.item) else
+    None
+
+-- a name of this kind may be defined so
+abbrev pub may_define : Bool → DeclarationKind → Bool
+may_define true k = is_grouping k
+may_define false k = is_routine k
+
+-- the same for a name in a definition, and for a name that is used, with what is known of it
+abbrev pub fault_of_definition : ℕ → Bool → Option DeclarationKind → Option Place → Option ScriptFault
+fault_of_definition item wants_grouping kind place =
+    if not (is_some kind) then Some (fault.Undeclared item) else
+    if not (is_kind (may_define wants_grouping) kind) then Some (fault.WrongKind item) else
+    if is_earlier item place then Some (fault.DefinedTwice item) else
+    None
+
+abbrev pub fault_of_use : Place → Use → Option DeclarationKind → Option Place → Option ScriptFault
+fault_of_use p how kind place =
+    if not (is_some kind) then Some (fault.Undeclared p.item) else
+    if not (is_kind (may_be how) kind) then Some (fault.WrongKind p.item) else
+    if lacks_definition how p.item kind place then Some (fault.Undefined p.item) else
+    if is_kind is_routine kind && is_in_other p.mode place then Some (fault.WrongMode p.item) else
+    None
+
+-- the first fault behind the marks before
+abbrev pub fault_behind : List Mark → List Mark → List Mark → Option ScriptFault
+fault_behind all before [] = None
+fault_behind all before (m ∷ after) = option_or (fault_at all before m after) (fault_behind all (before ++ m ∷ []) after)
+
+abbrev pub is_external : Option DeclarationKind → Bool
+is_external (Some kinds.Externals) = true
+is_external _ = false
+
+-- the name is declared in `externals` and defined in forward mode
+abbrev pub has_external : List Item → List ℕ → List Mark → Bool
+has_external items external all = is_external (kind_of external all) && is_some (body_in external items)
+
+-- 21: the external that is asked for is not
+abbrev pub fault_of_external : List Item → List ℕ → List Mark → Option ScriptFault
+fault_of_external items external all = if has_external items external all then None else Some fault.NoExternal
+
+-- the first fault of a script with this external; that of the external comes last
+abbrev pub fault_of : List Item → List ℕ → Option ScriptFault
+fault_of items external = let all = marks_of items in option_or (fault_behind all [] all) (fault_of_external items external all)
+
+-- none of the checks fails
+abbrev pub WellDeclared : List Item → List ℕ → Type 0
+WellDeclared items external = fault_of items external ≡ None

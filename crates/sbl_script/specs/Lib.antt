@@ -1,11 +1,9 @@
-pub mod Tree
-pub mod View
+pub mod Marks
 pub mod Parsed
-pub mod Written
-pub mod Depth
-pub mod Next
-pub mod Reads
 pub mod Checks
-pub mod Met
-pub mod Reading
 pub mod Laws
+pub mod Groupings
+pub mod Reading
+pub mod MarkView
+pub mod Met
+pub mod Amongs

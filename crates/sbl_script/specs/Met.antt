@@ -1,55 +1,44 @@
--- The names and strings that the checks have met so far.
-use Rattle.std.specs.Prelude.{◌≡◌, ℕ, List, [], ◌∷◌, ◌++◌, map}
-use Rattle.std.specs.List.{list_any, IsDistinct}
-use Rattle.std.specs.Str.{bytes_eq}
-use Rattle.std.specs.Ordering.{nat_cmp}
+-- What the code has met among some marks.
+use Rattle.std.specs.Prelude.{◌≡◌, ℕ, Bool, false, List, Option, Some, None, Result, Ok, Err, ◌⊎◌, ◌||◌}
+use Rattle.std.specs.Ordering.{nat_cmp, ordering_then}
 use Rattle.std.specs.Cmp.Lexicographic.{slice_cmp}
+use Rattle.std.specs.Option.{option_or}
+use Rattle.std.specs.BTreeMap.{BTreeMap, get_by}
 use Rattle.std.specs.BTreeSet.{BTreeSet, contains_by}
 use denote.Ref.{Bor}
-use Rattle.sbl_script.specs.declared.tree.Entry.{Entry}
-use Rattle.sbl_script.specs.Tree.{Item, Quoted}
-use Rattle.sbl_script.specs.View.{GroupView, view_entry}
-use Rattle.sbl_script.specs.Checks.{declared_in, defined_in, DeclaredBefore, EachAmongOfItems, EachAmongOfTrees, IsSound}
+use Rattle.sbl_text.specs.declared.fault.ScriptFault.{ScriptFault}
+use Rattle.sbl_text.specs.declared.fault.ScriptFault.TheVariants as fault
+use Rattle.sbl_grammar.specs.declared.tree.DeclarationKind.{DeclarationKind}
+use Rattle.sbl_script.specs.declared.marks.Place.{Place}
+use Rattle.sbl_script.specs.declared.checks.Met.{Met}
+use Rattle.sbl_script.specs.Marks.{Mark, Notice}
+use Rattle.sbl_script.specs.Checks.{kind_of, definition_of, has_text, is_awaited, declared_as, is_text_of, waits_after}
 
-abbrev pub Met : Type 0
-Met = BTreeSet (Bor (List ℕ))
+-- what a map with names has at a name
+abbrev pub at_name : {X : Type 0} → BTreeMap (Bor (List ℕ)) X → List ℕ → Option X
+at_name m n = get_by (λ k. slice_cmp nat_cmp n k.now) m
 
--- exactly these were met
-abbrev pub Has : Met → List (List ℕ) → Type 0
-Has met texts = (q : List ℕ) → contains_by (λ k. slice_cmp nat_cmp q k.now) met ≡ list_any (bytes_eq q) texts
+-- a set of strings has this string of this among
+abbrev pub has_pair : BTreeSet (ℕ × Bor (List ℕ)) → ℕ → List ℕ → Bool
+has_pair s owner text = contains_by (λ k. ordering_then (nat_cmp owner k.0) (slice_cmp nat_cmp text k.1.now)) s
 
--- these are met too, and all differ
-abbrev pub Meets : Met → Met → List (List ℕ) → Type 0
-Meets old new more = (texts : List (List ℕ)) → Has old texts → IsDistinct bytes_eq texts → Has new (texts ++ more) × IsDistinct bytes_eq (texts ++ more)
+-- where each name is defined first
+abbrev pub HasPlaces : BTreeMap (Bor (List ℕ)) Place → List Mark → Type 0
+HasPlaces m ms = (n : List ℕ) → at_name m n ≡ definition_of n ms
 
-abbrev pub value_of : Entry → List ℕ
-value_of e = (view_entry e).value
+-- the kinds of the names, the strings of the amongs, and whether a substring waits
+pub record HasMet (met : Met) (ms : List Mark) : Type 0 where
+  pub kinds : (n : List ℕ) → at_name met.kinds n ≡ kind_of n ms
+  pub strings : (owner : ℕ) (text : List ℕ) → has_pair met.strings owner text ≡ has_text owner text ms
+  pub waits : met.waits ≡ is_awaited ms false
 
--- the items have passed the checks, with these names met
-pub record Passed (declared defined : Met) (items : List Item) : Type 0 where
-  pub has_declared : Has declared (declared_in items)
-  pub declared_differ : IsDistinct bytes_eq (declared_in items)
-  pub has_defined : Has defined (defined_in items)
-  pub defined_differ : IsDistinct bytes_eq (defined_in items)
-  pub declared_before : DeclaredBefore [] items
-  pub amongs : EachAmongOfItems IsSound items
+-- what is met with this notice besides
+pub record Notes (old new : Met) (notice : Notice) : Type 0 where
+  pub kinds : (n : List ℕ) → at_name new.kinds n ≡ option_or (at_name old.kinds n) (declared_as n notice)
+  pub strings : (owner : ℕ) (text : List ℕ) → has_pair new.strings owner text ≡ (has_pair old.strings owner text || is_text_of owner text notice)
+  pub waits : new.waits ≡ waits_after notice old.waits
 
-abbrev pub values_of : List Quoted → List (List ℕ)
-values_of qs = map (λ q. q.value) qs
-
--- the strings of some groups, in text order
-abbrev pub values_in : List GroupView → List (List ℕ)
-values_in [] = []
-values_in (g ∷ gs) = (g.first.value ∷ values_of g.others) ++ values_in gs
-
-abbrev pub EachAmongIn : List GroupView → Type 0
-EachAmongIn [] = Unit {0}
-EachAmongIn (g ∷ gs) = EachAmongOfTrees IsSound g.commands × EachAmongIn gs
-
--- the group's strings are met too, all differ, and the amongs inside it are sound
-abbrev pub IsGroupMet : Met → Met → GroupView → Type 0
-IsGroupMet old new g = Meets old new (g.first.value ∷ values_of g.others) × EachAmongOfTrees IsSound g.commands
-
--- so are those of some groups
-abbrev pub AreGroupsMet : Met → Met → List GroupView → Type 0
-AreGroupsMet old new gs = Meets old new (values_in gs) × EachAmongIn gs
+-- the fault that is answered is this, want of memory aside
+abbrev pub Finds : {X : Type 0} → Result X ScriptFault → Option ScriptFault → Type 0
+Finds (Ok x) found = found ≡ None
+Finds (Err e) found = (e ≡ fault.OutOfMemory) ⊎ (found ≡ Some e)

@@ -1,25 +1,106 @@
--- What reading a script is.
-use Rattle.std.specs.Prelude.{◌≡◌, ◌≤◌, ℕ, List, length}
+-- What reading a script is, and why bytes are no script.
+use Rattle.std.specs.Prelude.{◌≡◌, ◌⊎◌, ℕ, ◌<◌, ◌≤◌, Bool, true, false, List, [], ◌∷◌, ◌++◌, length, map, Option, Some, None, if◌then◌else◌}
 use Rattle.std.specs.Str.{IsUtf8, chars}
-use Rattle.sbl_text.specs.Lexemes.{Lexeme}
-use Rattle.sbl_text.specs.Tokens.{AreTokens}
-use Rattle.sbl_script.specs.Tree.{Source}
-use Rattle.sbl_script.specs.Written.{written}
-use Rattle.sbl_script.specs.Depth.{HasNoneTooDeep}
-use Rattle.sbl_script.specs.Checks.{WellDeclared}
+use Rattle.sbl_text.specs.declared.fault.ScriptFault.{ScriptFault}
+use Rattle.sbl_text.specs.declared.fault.ScriptFault.TheVariants as fault
+use Rattle.sbl_text.specs.declared.signs.Sign.{Sign}
+use Rattle.sbl_text.specs.declared.signs.Sign.TheVariants as signs
+use Rattle.sbl_text.specs.declared.words.Word.{Word}
+use Rattle.sbl_text.specs.declared.words.Word.TheVariants as words
+use Rattle.sbl_text.specs.Lexemes.{Lexeme, word, sign}
+use Rattle.sbl_text.specs.Tokens.{Placed, ArePlaced, IsFirstFault}
+use Rattle.sbl_grammar.specs.Terminal.{Terminal, terminal_of}
+use Rattle.sbl_grammar.specs.Tree.{Item}
+use Rattle.sbl_grammar.specs.Reading.{IsReadAs, IsSyntaxAt, IsTooDeepAt, IsOutOfProfileAt}
+use Rattle.sbl_script.specs.Parsed.{Source}
+use Rattle.sbl_script.specs.Checks.{WellDeclared, fault_of}
 
 -- the most bytes of a script
 abbrev pub max_length : ℕ
 max_length = 1048576
 
--- The bytes are read as this script, with this external to be run: they are a text, the tree's tokens are the tokens of the text, none
--- of them stands too deep, and the script is well declared.
-pub record IsScriptOf (bytes external : List ℕ) (s : Source) : Type 0 where
-  pub lexemes : List Lexeme
+-- the bytes are a text, not too long, with these tokens
+pub record HasTokens (bytes : List ℕ) (ts : List Placed) : Type 0 where
   pub short : length bytes ≤ max_length
   pub text : IsUtf8 bytes
-  pub cut : AreTokens (chars bytes) lexemes
-  pub tree : written s.items ≡ lexemes
-  pub shallow : HasNoneTooDeep s.items
+  pub cut : ArePlaced (chars bytes) ts
+
+abbrev pub terminals : List Placed → List Terminal
+terminals ts = map (λ (t : Placed). terminal_of t.lexeme) ts
+
+-- ---- tokens of the language that are not offered here
+
+abbrev pub is_left_out_word : Word → Bool
+is_left_out_word words.Get = true
+is_left_out_word words.Reverse = true
+is_left_out_word words.Size = true
+is_left_out_word words.SizeOf = true
+is_left_out_word _ = false
+
+abbrev pub is_left_out_sign : Sign → Bool
+is_left_out_sign signs.EqualsGreater = true
+is_left_out_sign signs.Question = true
+is_left_out_sign _ = false
+
+abbrev pub is_left_out : Lexeme → Bool
+is_left_out (word w) = is_left_out_word w
+is_left_out (sign s) = is_left_out_sign s
+is_left_out _ = false
+
+-- the place of the first of them
+abbrev pub first_left_out : List Placed → Option ℕ
+first_left_out [] = None
+first_left_out (t ∷ ts) = if is_left_out t.lexeme then Some t.start else first_left_out ts
+
+-- ---- scripts
+
+-- The bytes are read as this script, with this external to be run: they are a text, the tree's tokens are those of the text, none stands
+-- too deep, and the script is well declared.
+pub record IsScriptOf (bytes external : List ℕ) (s : Source) : Type 0 where
+  pub placed : List Placed
+  pub tokens : HasTokens bytes placed
+  pub offered : first_left_out placed ≡ None
+  pub tree : IsReadAs (terminals placed) s.items
   pub external_is : s.external ≡ external
-  pub well_declared : WellDeclared s
+  pub well_declared : WellDeclared s.items s.external
+
+-- ---- faults, in the order in which they are looked for
+
+-- the bytes are too long, are no text, or have no tokens
+abbrev pub IsTextFault : List ℕ → ScriptFault → Type 0
+IsTextFault bytes f =
+    ((max_length < length bytes) × (f ≡ fault.ScriptTooLong))
+    ⊎ ((length bytes ≤ max_length) × ¬ (IsUtf8 bytes) × (f ≡ fault.NotUtf8))
+    ⊎ ((length bytes ≤ max_length) × IsUtf8 bytes × IsFirstFault (chars bytes) f)
+
+-- where the first of some tokens stands; the text's length where there is none
+abbrev pub place_of : ℕ → List Placed → ℕ
+place_of end [] = end
+place_of end (t ∷ ts) = t.start
+
+-- the tokens, in a text of that length, are those of no tree, or stand too deep
+pub record IsGrammarFault (ts : List Placed) (end : ℕ) (f : ScriptFault) : Type 0 where
+  pub before : List Placed
+  pub rest : List Placed
+  pub parts : ts ≡ before ++ rest
+  pub is :
+      (IsSyntaxAt (terminals ts) (terminals rest) × (f ≡ fault.Syntax (place_of end rest)))
+      ⊎ (IsTooDeepAt (terminals ts) (terminals rest) × (f ≡ fault.TooDeep (place_of end rest)))
+      ⊎ (IsOutOfProfileAt (terminals ts) (terminals rest) × (f ≡ fault.OutOfProfile (place_of end rest)))
+
+-- the tokens are those of this tree, and a check of it fails
+pub record IsCheckFault (ts : List Placed) (external : List ℕ) (f : ScriptFault) : Type 0 where
+  pub items : List Item
+  pub tree : IsReadAs (terminals ts) items
+  pub is : fault_of items external ≡ Some f
+
+-- a token is left out, or the tokens are those of no tree
+abbrev pub IsUnread : List Placed → ℕ → ScriptFault → Type 0
+IsUnread ts end f = ((place : ℕ) × (first_left_out ts ≡ Some place) × (f ≡ fault.OutOfProfile place)) ⊎ ((first_left_out ts ≡ None) × IsGrammarFault ts end f)
+
+-- the bytes have this fault: as a text, else as tokens, else in a check
+abbrev pub IsFaultOf : List ℕ → List ℕ → ScriptFault → Type 0
+IsFaultOf bytes external f =
+    IsTextFault bytes f
+    ⊎ ((ts : List Placed) × HasTokens bytes ts × IsUnread ts (length bytes) f)
+    ⊎ ((ts : List Placed) × HasTokens bytes ts × (first_left_out ts ≡ None) × IsCheckFault ts external f)

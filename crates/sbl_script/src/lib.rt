@@ -1,14 +1,16 @@
-//! Snowball scripts: their trees, how they are read, and what is asked of them.
+//! Snowball scripts that have passed all checks.
 #![tactic(auto)]
 
+mod bodies;
 mod checks;
-mod cursor;
-mod error;
 pub mod laws;
-mod reading;
-pub mod script;
-pub mod tree;
+mod marking;
+mod marks;
+mod script;
+#[cfg(test)]
+mod tests;
 
+pub use marks::{Mark, Mode, Notice, Place, Use};
+pub use sbl_grammar as grammar;
 pub use sbl_text::ScriptFault;
 pub use script::Script;
-pub use tree::{Among, Base, Command, Entry, Group, Item, Literal, Mode};

@@ -1,56 +1,86 @@
 //! A checked script.
 
-ghost use Rattle.std.specs.Prelude.{◌≡◌, Some, IfOk, option_map};
-ghost use Rattle.sbl_script.specs.Tree.{body_in};
-ghost use Rattle.sbl_script.specs.View.{view_command, view_items};
+ghost use Rattle.std.specs.Prelude.{◌≡◌, ◌⊎◌, ◌≤◌, None, Some, length, map, IfOk, IfErr};
+ghost use Rattle.std.specs.Str.{IsUtf8};
+ghost use Rattle.sbl_grammar.specs.Reading.{IsReadAs};
+ghost use Rattle.sbl_grammar.specs.View.{view_items};
+ghost use Rattle.sbl_script.specs.Checks.{WellDeclared, fault_of};
+ghost use Rattle.sbl_text.specs.Lexemes.{lexeme_of};
+ghost use Rattle.sbl_text.specs.Tokens.{placed_of};
+ghost use Rattle.sbl_script.specs.Reading as spec;
 
+use crate::bodies::body_in;
 use crate::checks::check;
-use crate::error::{Fault, ReadError};
-use crate::reading::items;
-use crate::tree::{Command, Item};
-use sbl_text::{ScriptFault, Token, tokens};
+use sbl_grammar::{Item, Row, parse};
+use sbl_text::{Kind, ScriptFault, Sign, Token, Word, tokens};
 use std::alloc::Global;
 use std::marker::Model;
 
 /// The most bytes of a script (our own choice).
 const MAX_LENGTH: usize = 1_048_576;
 
-/// The fault with its place in the text, of so many bytes.
-fn placed(error: ReadError, tokens: &[Token], length: usize) -> ScriptFault {
-    match error {
-        ReadError::Memory => ScriptFault::OutOfMemory,
-        ReadError::Fault(Fault::Syntax(at)) => ScriptFault::Syntax {
-            place: place(tokens, at, length),
-        },
-        ReadError::Fault(Fault::TooDeep(at)) => ScriptFault::TooDeep {
-            place: place(tokens, at, length),
-        },
-    }
-}
-
-/// Where a token begins in a text of that length; the text's end where it has none.
-fn place(tokens: &[Token], at: usize, length: usize) -> usize {
-    match tokens.get(at) {
-        Some(token) => token.start,
-        None => length,
-    }
-}
-
-/// The body of the first routine of a name.
-fn routine_body<'a>(items: &'a [Item], wanted: &str) -> Option<&'a Command>
-    ensures { option_map (λ c. view_command c.now) result ≡ body_in wanted.now (view_items items.now) }
+fn is_left_out_word(word: Word) -> bool
+    ensures { result ≡ spec.is_left_out_word word }
 {
-    for item in items {
-        if let Item::Routine { name, body } = item {
-            if wanted == name.as_str() {
-                return Some(body);
-            }
+    matches!(word, Word::Get | Word::Reverse | Word::Size | Word::SizeOf)
+}
+
+fn is_left_out_sign(sign: Sign) -> bool
+    ensures { result ≡ spec.is_left_out_sign sign }
+{
+    matches!(sign, Sign::EqualsGreater | Sign::Question)
+}
+
+/// Whether the token is of the language, and not of what is offered here.
+fn is_left_out(token: &Token) -> bool
+    ensures { result ≡ spec.is_left_out (lexeme_of token.now) }
+{
+    match token.kind {
+        Kind::Word(word) => is_left_out_word(word),
+        Kind::Sign(sign) => is_left_out_sign(sign),
+        _ => false,
+    }
+}
+
+/// The place of the first token that is left out.
+fn first_left_out(tokens: &[Token]) -> Option<usize>
+    ensures { result ≡ spec.first_left_out (map placed_of tokens.now) }
+{
+    for token in tokens {
+        if is_left_out(token) {
+            return Some(token.start);
         }
     }
     None
 }
 
-/// A script that has passed all checks, and the name of the external that is run. Contracts see it as `Parsed`.
+/// The text of some bytes.
+fn text_of(bytes: &[u8]) -> Result<&str, ScriptFault>
+    ensures ok { IfOk result (λ s. (s.now ≡ bytes.now) × (length bytes.now ≤ spec.max_length) × IsUtf8 bytes.now) }
+    ensures fault { IfErr result (λ f. spec.IsTextFault bytes.now f) }
+{
+    if bytes.len() > MAX_LENGTH {
+        return Err(ScriptFault::ScriptTooLong);
+    }
+    match std::str::from_utf8(bytes) {
+        Ok(text) => Ok(text),
+        Err(_) => Err(ScriptFault::NotUtf8),
+    }
+}
+
+/// The tree of some tokens, in a text of so many bytes.
+fn tree_of(alloc: Global, tokens: &[Token], end: usize) -> Result<Vec<Item>, ScriptFault>
+    ensures offered { IfOk result (λ items. spec.first_left_out (map placed_of tokens.now) ≡ None) }
+    ensures tree { IfOk result (λ items. IsReadAs (spec.terminals (map placed_of tokens.now)) (view_items items.items)) }
+    ensures fault { IfErr result (λ f. (f ≡ ScriptFault.OutOfMemory) ⊎ spec.IsUnread (map placed_of tokens.now) end f) }
+{
+    if let Some(place) = first_left_out(tokens) {
+        return Err(ScriptFault::OutOfProfile { place });
+    }
+    parse(alloc, tokens, end)
+}
+
+/// A script that has passed all checks, and the name of the external that is run.
 #[derive(Drop)]
 pub struct Script {
     items: Vec<Item>,
@@ -60,8 +90,9 @@ pub struct Script {
 impl Model for Script {
     ghost use Rattle.std.specs.Prelude.{string_bytes};
     ghost use Rattle.std.specs.Coded.{codes};
-    ghost use Rattle.sbl_script.specs.contracts.tree.Item as e;
-    ghost use Rattle.sbl_script.specs.Parsed.{Parsed, source_of};
+    ghost use Rattle.sbl_grammar.specs.contracts.tree.Item as e;
+    ghost use Rattle.sbl_grammar.specs.View.{view_items};
+    ghost use Rattle.sbl_script.specs.Parsed.{Parsed};
     ghost use Rattle.sbl_script.specs.Checks.{WellDeclared};
 
     ghost Value = { Parsed };
@@ -70,50 +101,44 @@ impl Model for Script {
 
     ghost view = { λ s. record { items = s.items.items; external = string_bytes s.external } };
 
-    ghost invariant = { λ s. WellDeclared (source_of record { items = s.items.items; external = string_bytes s.external }) };
+    ghost invariant = { λ s. WellDeclared (view_items s.items.items) (string_bytes s.external) };
 }
 
 impl Script {
-    ghost use Rattle.sbl_script.specs.Reading.{IsScriptOf};
+    ghost use Rattle.sbl_script.specs.Parsed.{source_of, body_of};
+    ghost use Rattle.sbl_grammar.specs.View.{view_row};
 
-    /// The script of a text, with the name of the external that is run.
-    ///
-    /// The grammar is that of the Snowball manual, as far as `tree` holds it; numbers, order and bounds of the faults are
-    /// our own choice. The first of these is answered:
-    /// - `ScriptTooLong`: more than 1,048,576 bytes; `NotUtf8`: the bytes are no text;
-    /// - the first fault of the tokens (`BadCharacter`, `UnclosedString`, `UnclosedComment`, `UnknownEscape`, `BadCode`,
-    ///   `NumberTooLarge`), at its byte;
-    /// - `Syntax`: the token at the byte cannot follow those before it, or at the text's length more is needed;
-    ///   `TooDeep`: the token at the byte stands deeper than 64;
-    /// - in text order, with the number of the item from 1: `DeclaredTwice`, `Undeclared`, `DefinedTwice`, `RepeatedString`
-    ///   (two strings of an among have the same characters), `EmptyAmong`;
-    /// - `NoExternal`: the external is not both declared and defined.
-    ///
-    /// `OutOfMemory` may come in place of any answer but the first two.
-    pub fn parse(alloc: Global, bytes: &[u8], external: &str) -> Result<Script, ScriptFault>
-        ensures { IfOk result (λ s. IsScriptOf bytes.now external.now (source_of s)) }
+    /// The script of a tree.
+    fn checked(alloc: Global, items: Vec<Item>, external: &str) -> Result<Script, ScriptFault>
+        ensures tree { IfOk result (λ s. source_of s ≡ record { items = view_items items.items; external = external.now }) }
+        ensures well_declared { IfOk result (λ s. WellDeclared (view_items items.items) external.now) }
+        ensures fault { IfErr result (λ f. (f ≡ ScriptFault.OutOfMemory) ⊎ (fault_of (view_items items.items) external.now ≡ Some f)) }
     {
-        if bytes.len() > MAX_LENGTH {
-            return Err(ScriptFault::ScriptTooLong);
-        }
-        let Ok(text) = std::str::from_utf8(bytes) else {
-            return Err(ScriptFault::NotUtf8);
-        };
-        let found = tokens(alloc, text)?;
-        let items = match items(alloc, &found) {
-            Ok(items) => items,
-            Err(error) => return Err(placed(error, &found, text.len())),
-        };
         check(alloc, &items, external)?;
         let external = String::from_str(alloc, external)?;
         Ok(Script { items, external })
+    }
+
+    /// The script of a text (UTF-8, at most 1,048,576 bytes), with the external that is run.
+    ///
+    /// Answers the first fault in this order: the text is too long; it is not UTF-8; something in it is no token; a token is
+    /// left out of what is offered here; a token cannot follow those before it or stands too deep; a check fails. Besides
+    /// `OutOfMemory` where memory was refused.
+    pub fn parse(alloc: Global, bytes: &[u8], external: &str) -> Result<Script, ScriptFault>
+        ensures script { IfOk result (λ s. spec.IsScriptOf bytes.now external.now (source_of s)) }
+        ensures fault { IfErr result (λ f. (f ≡ ScriptFault.OutOfMemory) ⊎ spec.IsFaultOf bytes.now external.now f) }
+    {
+        let text = text_of(bytes)?;
+        let found = tokens(alloc, text)?;
+        let items = tree_of(alloc, &found, text.len())?;
+        Script::checked(alloc, items, external)
     }
 
     /// The items, in text order.
     pub fn items(&self) -> &[Item]
         ensures { result.now ≡ self.now.items }
     {
-        &self.items
+        self.items.as_slice()
     }
 
     /// The name of the external that is run.
@@ -123,319 +148,20 @@ impl Script {
         self.external.as_str()
     }
 
-    ghost use Rattle.sbl_script.specs.Checks.{WellDeclared};
-
-    /// Each script has passed all checks. The call does nothing: its contract is the law.
-    pub fn is_well_declared(&self)
-        ensures { WellDeclared (source_of self.now) }
+    /// The body of the external that is run.
+    pub fn body(&self) -> &Row
+        ensures { body_of (source_of self.now) ≡ Some (view_row result.now) }
     {
-        let _ = &self.items;
-    }
-
-    ghost use Rattle.sbl_script.specs.Tree.{body_of};
-    ghost use Rattle.sbl_script.specs.View.{view_command};
-    ghost use Rattle.sbl_script.specs.Parsed.{source_of};
-
-    /// The body of the external that is run: that of its `define`.
-    pub fn body(&self) -> &Command
-        ensures { body_of (source_of self.now) ≡ Some (view_command result.now) }
-    {
-        match routine_body(&self.items, self.external.as_str()) {
+        match body_in(&self.items, self.external.as_str()) {
             Some(body) => body,
             None => unreachable!(),
         }
     }
-}
 
-#[cfg(test)]
-mod tests {
-    use super::*;
-    use crate::tree::Base;
-    use std::process::Abort;
-
-    const FRONT: &str = "externals ( stem ) define stem as ";
-
-    fn parsed(alloc: Global, text: &str) -> Result<Script, ScriptFault> {
-        Script::parse(alloc, text.as_bytes(), "stem")
-    }
-
-    /// The fault of a script whose routine has this body; `None` where it is accepted.
-    fn fault_of(rt: &impl Abort, alloc: Global, body: &str) -> Option<ScriptFault> {
-        let text = format!(in alloc; "{FRONT}{body}").expect(rt, "memory");
-        parsed(alloc, text.as_str()).err()
-    }
-
-    fn repeated(rt: &impl Abort, alloc: Global, part: &str, count: usize) -> String {
-        let mut text = String::new(alloc);
-        for _ in 0..count {
-            text.push_str(part).expect(rt, "memory");
-        }
-        text
-    }
-
-    #[test]
-    fn accepts_the_grammar(rt: HostRuntime) {
-        let alloc = rt.alloc();
-        for body in [
-            "delete",
-            "( [ 'a' ] <- 'bc' )",
-            "among ( 'un' () 're' () )",
-            "( [ among ( 'a' () 'ab' () ) ] delete )",
-            "among ( 'a' 'b' ( delete ) 'c' )",
-            "among ( 'a' ( among ( 'a' 'b' ) ) 'b' )",
-            "among ( 'a' 'b' )",
-            "among ( '' )",
-        ] {
-            assert_eq!(rt; fault_of(&rt, alloc, body), None, "{body}");
-        }
-    }
-
-    #[test]
-    fn answers_each_fault(rt: HostRuntime) {
-        let alloc = rt.alloc();
-        for (text, want) in [
-            ("", ScriptFault::NoExternal),
-            ("externals ( stem )", ScriptFault::NoExternal),
-            (
-                "externals ( stem ) define stem as ",
-                ScriptFault::Syntax { place: 34 },
-            ),
-            (
-                "externals ( stem ) define stem as ( delete delete",
-                ScriptFault::Syntax { place: 49 },
-            ),
-            (
-                "externals ( stem ) define stem as 'a' 'b'",
-                ScriptFault::Syntax { place: 38 },
-            ),
-            (
-                "externals ( stem ) define stem as stem",
-                ScriptFault::Syntax { place: 34 },
-            ),
-            (
-                "externals ( stem ) define stem as next",
-                ScriptFault::Syntax { place: 34 },
-            ),
-            (
-                "externals ( stem ) define stem as <- delete",
-                ScriptFault::Syntax { place: 37 },
-            ),
-            (
-                "externals ( stem ) define stem as among 'a'",
-                ScriptFault::Syntax { place: 40 },
-            ),
-            (
-                "externals ( stem ) define stem as among ( ( delete ) )",
-                ScriptFault::Syntax { place: 42 },
-            ),
-            (
-                "externals ( stem ) define stem as among ( 'a' delete )",
-                ScriptFault::Syntax { place: 46 },
-            ),
-            ("externals stem", ScriptFault::Syntax { place: 10 }),
-            ("define as delete", ScriptFault::Syntax { place: 7 }),
-            ("define stem delete", ScriptFault::Syntax { place: 12 }),
-            ("delete", ScriptFault::Syntax { place: 0 }),
-            (
-                "externals ( stem stem )",
-                ScriptFault::DeclaredTwice { item: 1 },
-            ),
-            (
-                "externals ( stem ) externals ( stem )",
-                ScriptFault::DeclaredTwice { item: 2 },
-            ),
-            (
-                "define stem as delete externals ( stem )",
-                ScriptFault::Undeclared { item: 1 },
-            ),
-            (
-                "externals ( stem ) define step as delete",
-                ScriptFault::Undeclared { item: 2 },
-            ),
-            (
-                "externals ( stem ) define stem as delete define stem as delete",
-                ScriptFault::DefinedTwice { item: 3 },
-            ),
-            (
-                "externals ( stem step ) define step as delete",
-                ScriptFault::NoExternal,
-            ),
-        ] {
-            assert_eq!(rt; parsed(alloc, text).err(), Some(want), "{text}");
-        }
-        for (body, want) in [
-            (
-                "among ( 'a' 'b' ( delete ) 'a' )",
-                ScriptFault::RepeatedString { item: 2 },
-            ),
-            ("among ( 'a' 'a' )", ScriptFault::RepeatedString { item: 2 }),
-            ("among ( )", ScriptFault::EmptyAmong { item: 2 }),
-            (
-                "among ( 'a' ( among ( ) ) 'a' )",
-                ScriptFault::EmptyAmong { item: 2 },
-            ),
-            (
-                "among ( 'a' 'a' ( among ( ) ) )",
-                ScriptFault::RepeatedString { item: 2 },
-            ),
-        ] {
-            assert_eq!(rt; fault_of(&rt, alloc, body), Some(want), "{body}");
-        }
-    }
-
-    #[test]
-    fn accepts_escapes_and_macros(rt: HostRuntime) {
-        let alloc = rt.alloc();
-        for text in [
-            "stringescapes {} externals ( stem ) define stem as '{'}'",
-            "stringescapes [] stringescapes {} externals ( stem ) define stem as '{'}'",
-            "stringdef a 'b' stringdef c hex '64 65' stringdef f decimal '100' externals ( stem ) define stem as delete",
-            // a macro's name is not declared
-            "stringdef stem 'a' externals ( stem ) stringdef stem '' define stem as delete",
-            // the name may be any word
-            "stringdef hex hex 'E4' stringdef delete 'a' externals ( stem ) define stem as delete stringescapes {}",
-        ] {
-            assert_eq!(rt; parsed(alloc, text).err(), None, "{text}");
-        }
-    }
-
-    #[test]
-    fn answers_faults_of_escapes_and_macros(rt: HostRuntime) {
-        let alloc = rt.alloc();
-        for (text, want) in [
-            ("stringdef", ScriptFault::Syntax { place: 9 }),
-            ("stringdef ", ScriptFault::Syntax { place: 10 }),
-            ("stringdef m", ScriptFault::Syntax { place: 11 }),
-            ("stringdef m hex", ScriptFault::Syntax { place: 15 }),
-            (
-                "stringdef m hex hex 'E4'",
-                ScriptFault::Syntax { place: 16 },
-            ),
-            (
-                "stringdef m hex decimal '4'",
-                ScriptFault::Syntax { place: 16 },
-            ),
-            ("stringdef m delete", ScriptFault::Syntax { place: 12 }),
-            ("stringdef m 'a' 'b'", ScriptFault::Syntax { place: 16 }),
-            ("hex 'E4'", ScriptFault::Syntax { place: 0 }),
-            ("stringescapes {} 'a'", ScriptFault::Syntax { place: 17 }),
-            (
-                "externals ( stem ) define stem as ( stringescapes {} )",
-                ScriptFault::Syntax { place: 36 },
-            ),
-            (
-                "externals ( stem ) define stem as ( stringdef m 'a' )",
-                ScriptFault::Syntax { place: 36 },
-            ),
-            (
-                "stringescapes {} stringdef a 'b' externals ( stem stem )",
-                ScriptFault::DeclaredTwice { item: 3 },
-            ),
-            (
-                "stringdef stem '' define stem as delete",
-                ScriptFault::Undeclared { item: 2 },
-            ),
-            (
-                "stringdef a '' externals ( stem ) stringescapes {} define stem as among ( )",
-                ScriptFault::EmptyAmong { item: 4 },
-            ),
-        ] {
-            assert_eq!(rt; parsed(alloc, text).err(), Some(want), "{text}");
-        }
-    }
-
-    #[test]
-    fn keeps_escapes_and_macros(rt: HostRuntime) {
-        let alloc = rt.alloc();
-        let text = "stringescapes {}\nstringdef ss hex 'DF'\nexternals ( stem )\n\
-                    define stem as ( '{'}' [ '{ss}' ] delete )";
-        let script = parsed(alloc, text).expect(&rt, "wanted");
-        assert_eq!(rt; script.items().len(), 4);
-        let Item::StringEscapes { open, close } = &script.items()[0] else {
-            panic!(rt; "no insert characters");
-        };
-        assert_eq!(rt; (*open, *close), ('{', '}'));
-        let Item::StringDef { name, base, value } = &script.items()[1] else {
-            panic!(rt; "no macro");
-        };
-        assert_eq!(rt; name.as_str(), "ss");
-        assert_eq!(rt; *base, Some(Base::Hex));
-        assert_eq!(rt; value.spelling.as_str(), "DF");
-        let Command::Sequence(commands) = script.body() else {
-            panic!(rt; "no commands");
-        };
-        let Some(Command::Match(literal)) = commands.get(2) else {
-            panic!(rt; "no literal");
-        };
-        assert_eq!(rt; literal.spelling.as_str(), "{ss}");
-        assert!(rt; literal.value == vec![in alloc; '\u{df}'].expect(&rt, "wanted"));
-    }
-
-    #[test]
-    fn refuses_what_is_no_text(rt: HostRuntime) {
-        let alloc = rt.alloc();
-        assert_eq!(rt;
-            Script::parse(alloc, b"\xff", "stem").err(),
-            Some(ScriptFault::NotUtf8)
-        );
-        let long = repeated(&rt, alloc, " ", 1_048_577);
-        assert_eq!(rt;
-            parsed(alloc, long.as_str()).err(),
-            Some(ScriptFault::ScriptTooLong)
-        );
-        let blank = repeated(&rt, alloc, " ", 1_048_576);
-        assert_eq!(rt;
-            parsed(alloc, blank.as_str()).err(),
-            Some(ScriptFault::NoExternal)
-        );
-    }
-
-    #[test]
-    fn counts_depth(rt: HostRuntime) {
-        let alloc = rt.alloc();
-        for (count, want) in [(63, None), (64, Some(ScriptFault::TooDeep { place: 98 }))] {
-            let open = repeated(&rt, alloc, "(", count);
-            let close = repeated(&rt, alloc, ")", count);
-            let body = format!(in alloc; "{open}delete{close}").expect(&rt, "wanted");
-            assert_eq!(rt; fault_of(&rt, alloc, body.as_str()), want);
-        }
-        let open = repeated(&rt, alloc, "(", 300_000);
-        assert_eq!(rt;
-            fault_of(&rt, alloc, open.as_str()),
-            Some(ScriptFault::TooDeep { place: 98 })
-        );
-        // an among at depth 63, its bracket at 64, a command in it at 65
-        let open = repeated(&rt, alloc, "(", 62);
-        let body = format!(in alloc; "{open}among('a'(").expect(&rt, "wanted");
-        let place = 106;
-        assert_eq!(rt;
-            fault_of(&rt, alloc, body.as_str()),
-            Some(ScriptFault::Syntax { place })
-        );
-        let body = format!(in alloc; "{open}among('a'(delete").expect(&rt, "wanted");
-        assert_eq!(rt;
-            fault_of(&rt, alloc, body.as_str()),
-            Some(ScriptFault::TooDeep { place })
-        );
-        let body = format!(in alloc; "{open}(among('a'(").expect(&rt, "wanted");
-        assert_eq!(rt;
-            fault_of(&rt, alloc, body.as_str()),
-            Some(ScriptFault::TooDeep { place })
-        );
-    }
-
-    #[test]
-    fn keeps_what_it_read(rt: HostRuntime) {
-        let alloc = rt.alloc();
-        let text = "externals ( step stem ) define step as [ define stem as 'ab'";
-        let script = parsed(alloc, text).expect(&rt, "wanted");
-        script.is_well_declared();
-        assert_eq!(rt; script.external(), "stem");
-        assert_eq!(rt; script.items().len(), 3);
-        let Command::Match(literal) = script.body() else {
-            panic!(rt; "no literal");
-        };
-        assert_eq!(rt; literal.spelling.as_str(), "ab");
-        assert!(rt; literal.value == vec![in alloc; 'a', 'b'].expect(&rt, "wanted"));
+    /// A script is well declared: nothing that uses it checks it again.
+    pub fn is_well_declared(&self)
+        ensures { WellDeclared (source_of self.now).items (source_of self.now).external }
+    {
+        let _ = &self.external;
     }
 }

@@ -1,0 +1,43 @@
+use Rattle.std.proofs.Common.{◌≡◌, ◌≤◌, ◌<◌, ◌∷◌, ◌++◌, ◌+◌, ℕ, Bool, List, [], length, map, string_bytes, drop, true, false, arith, ap, sym, refl, subst, ◌∙◌, Some, None}
+use Rattle.std.proofs.lemmas.List.{map_push}
+use Rattle.std.proofs.lemmas.Result.{err_from_is_err_and}
+use Rattle.sbl_grammar.specs.declared.role.Role.TheVariants as roles
+use Rattle.sbl_grammar.specs.declared.tree.Additive.{Additive}
+use Rattle.sbl_grammar.specs.declared.tree.Added.{Added}
+use Rattle.sbl_grammar.specs.declared.tree.Scaled.{Scaled}
+use Rattle.sbl_grammar.specs.declared.tree.Factor.{Factor}
+use Rattle.sbl_grammar.specs.declared.tree.Expression.{Expression}
+use Rattle.sbl_grammar.specs.declared.tree.Command.{Command}
+use Rattle.sbl_grammar.specs.declared.tree.Row.{Row}
+use Rattle.sbl_grammar.specs.declared.tree.Joined.{Joined}
+use Rattle.sbl_grammar.specs.declared.tree.Group.{Group}
+use Rattle.sbl_grammar.specs.declared.tree.Entry.{Entry}
+use Rattle.sbl_grammar.specs.declared.tree.Term.{Term}
+use Rattle.sbl_grammar.specs.declared.tree.Plain.{Plain}
+use Rattle.sbl_grammar.specs.declared.tree.Item.{Item}
+use Rattle.sbl_grammar.specs.declared.tree.Additive.TheVariants as additives
+use Rattle.sbl_grammar.specs.Terminal.{Terminal, role_of, role_as, left}
+use Rattle.sbl_grammar.specs.Terminal as t
+use Rattle.sbl_grammar.specs.First.{first_text, first_number, first_inserts, first_literal}
+use Rattle.sbl_grammar.specs.Tree as trees
+use Rattle.sbl_grammar.specs.Steps.{max_depth, Stack, fault}
+use Rattle.sbl_grammar.specs.Steps as s
+use Rattle.sbl_grammar.specs.View as view
+use Rattle.sbl_grammar.proofs.Descent as d
+use Rattle.sbl_grammar.proofs.Lengths as lengths
+use Rattle.sbl_grammar.proofs.Turns as turns
+use Rattle.sbl_grammar.proofs.Views as views
+use Rattle.sbl_grammar.proofs.entries.entries.Goals as goal
+
+pub loop-entries-preserved : goal.loop-entries-preserved
+loop-entries-preserved c =
+    let first : (left c.args.tokens.now c.loop-entries.rest) ≡ (t.literal (first_literal (drop c.loop-entries.rest c.args.tokens.now))) ∷ drop 1 (left c.args.tokens.now c.loop-entries.rest) = d.as_literal (drop c.loop-entries.rest c.args.tokens.now) (sym c.role.ensures ∙ c.in-Literal.is) in
+    let last : trees.Entry = view.view_entry c.in_ok-entry.entry in
+    let more : map view.view_entry c.push.new.self.items ≡ map view.view_entry c.loop-entries.entries.items ++ last ∷ [] = ap (λ (xs : List Entry). map view.view_entry xs) c.in_ok-push.ensures.items ∙ map_push view.view_entry c.loop-entries.entries.items _ in
+    record {
+      spelled = c.loop-entries.invariant.spelled ∙ ap (λ (r : List Terminal). trees.spelled_entries (map view.view_entry c.loop-entries.entries.items) r) c.in_ok-entry.ensures.spelled ∙ sym (turns.entries_push (map view.view_entry c.loop-entries.entries.items) last (left c.args.tokens.now c.in_ok-entry.after)) ∙ ap (λ (xs : List trees.Entry). trees.spelled_entries xs (left c.args.tokens.now c.in_ok-entry.after)) (sym more);
+      faults = λ k. c.loop-entries.invariant.faults k ∙ d.goes_on (left c.args.tokens.now c.loop-entries.rest) (t.literal (first_literal (drop c.loop-entries.rest c.args.tokens.now))) (drop 1 (left c.args.tokens.now c.loop-entries.rest)) (s.entries c.args.depth ∷ k) (s.condition c.args.depth ∷ s.entries c.args.depth ∷ k) c.args.depth first refl (omega arith) ∙ c.in_ok-entry.ensures.faults (s.entries c.args.depth ∷ k);
+    }
+
+pub loop-entries-smaller : goal.loop-entries-smaller
+loop-entries-smaller c = subst (λ (r : List Terminal). length (left c.args.tokens.now c.in_ok-entry.after) < length r) (sym c.in_ok-entry.ensures.spelled) (lengths.entry_length (view.view_entry c.in_ok-entry.entry) (left c.args.tokens.now c.in_ok-entry.after))

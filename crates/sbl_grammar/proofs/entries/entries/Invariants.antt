@@ -1,0 +1,15 @@
+use Rattle.std.proofs.Common.{◌≡◌, ◌∷◌, ◌*◌, ◌-◌, ◌+◌, List, [], length, map, string_bytes}
+use Rattle.sbl_grammar.specs.Terminal.{left}
+use Rattle.sbl_grammar.specs.Tree as trees
+use Rattle.sbl_grammar.specs.View as view
+use Rattle.sbl_grammar.specs.Steps as wanted
+use Rattle.sbl_grammar.proofs.entries.entries.Given as goal
+
+abbrev pub invariant-loop-entries : goal.invariant-loop-entries
+invariant-loop-entries l = record {
+  spelled : left l.tokens l.at ≡ trees.spelled_entries (map view.view_entry l.entries.items) (left l.tokens l.rest);
+  faults : (k : wanted.Stack) → wanted.fault (left l.tokens l.at) (wanted.entries l.depth ∷ k) ≡ wanted.fault (left l.tokens l.rest) (wanted.entries l.depth ∷ k);
+}
+
+abbrev pub decreases-loop-entries : goal.decreases-loop-entries
+decreases-loop-entries l = length (left l.tokens l.rest)

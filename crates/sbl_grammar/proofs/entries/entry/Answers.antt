@@ -1,0 +1,42 @@
+use Rattle.std.proofs.Common.{◌≡◌, ◌≤◌, ◌<◌, ◌∷◌, ◌++◌, ◌+◌, ℕ, Bool, List, [], length, map, string_bytes, drop, true, false, arith, ap, sym, refl, subst, ◌∙◌, Some, None}
+use Rattle.std.proofs.lemmas.List.{map_push}
+use Rattle.std.proofs.lemmas.Result.{err_from_is_err_and}
+use Rattle.sbl_grammar.specs.declared.role.Role.TheVariants as roles
+use Rattle.sbl_grammar.specs.declared.tree.Additive.{Additive}
+use Rattle.sbl_grammar.specs.declared.tree.Added.{Added}
+use Rattle.sbl_grammar.specs.declared.tree.Scaled.{Scaled}
+use Rattle.sbl_grammar.specs.declared.tree.Factor.{Factor}
+use Rattle.sbl_grammar.specs.declared.tree.Expression.{Expression}
+use Rattle.sbl_grammar.specs.declared.tree.Command.{Command}
+use Rattle.sbl_grammar.specs.declared.tree.Row.{Row}
+use Rattle.sbl_grammar.specs.declared.tree.Joined.{Joined}
+use Rattle.sbl_grammar.specs.declared.tree.Group.{Group}
+use Rattle.sbl_grammar.specs.declared.tree.Entry.{Entry}
+use Rattle.sbl_grammar.specs.declared.tree.Term.{Term}
+use Rattle.sbl_grammar.specs.declared.tree.Plain.{Plain}
+use Rattle.sbl_grammar.specs.declared.tree.Item.{Item}
+use Rattle.sbl_grammar.specs.declared.tree.Additive.TheVariants as additives
+use Rattle.sbl_grammar.specs.Terminal.{Terminal, role_of, role_as, left}
+use Rattle.sbl_grammar.specs.Terminal as t
+use Rattle.sbl_grammar.specs.First.{first_text, first_number, first_inserts, first_literal}
+use Rattle.sbl_grammar.specs.Tree as trees
+use Rattle.sbl_grammar.specs.Steps.{max_depth, Stack, fault}
+use Rattle.sbl_grammar.specs.Steps as s
+use Rattle.sbl_grammar.specs.View as view
+use Rattle.sbl_grammar.proofs.Descent as d
+use Rattle.sbl_grammar.proofs.Lengths as lengths
+use Rattle.sbl_grammar.proofs.Turns as turns
+use Rattle.sbl_grammar.proofs.Views as views
+use Rattle.sbl_grammar.proofs.entries.entry.Goals as goal
+
+pub behind-requires : goal.behind-requires
+behind-requires c = d.some_first (left c.args.tokens.now c.args.at) _ c.requires.first (λ e. cc)
+
+pub returns-clause-spelled : goal.returns-clause-spelled
+returns-clause-spelled c =
+    d.as_literal (drop c.args.at c.args.tokens.now) c.requires.first ∙ ap (λ (q : t.Quoted). t.literal q ∷ drop 1 (left c.args.tokens.now c.args.at)) (sym c.in_ok-string.ensures)
+    ∙ ap (λ (r : List Terminal). t.literal (view.view_literal c.in_ok-string.string) ∷ r) (sym c.behind.ensures ∙ c.in_ok-condition.ensures.gives.0)
+    ∙ sym (turns.entry_spelled (view.view_literal c.in_ok-string.string) (view.view_name c.in_ok-condition.condition) (left c.args.tokens.now c.in_ok-condition.rest))
+
+pub returns-clause-faults : goal.returns-clause-faults
+returns-clause-faults c = λ k. ap (λ (r : List Terminal). fault r (s.condition c.args.depth ∷ k)) (sym c.behind.ensures) ∙ c.in_ok-condition.ensures.gives.1 k

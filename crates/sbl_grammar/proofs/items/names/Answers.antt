@@ -1,0 +1,48 @@
+use Rattle.std.proofs.Common.{◌≡◌, ◌≤◌, ◌<◌, ◌∷◌, ◌++◌, ◌+◌, ℕ, Bool, List, [], length, map, string_bytes, drop, true, false, arith, ap, sym, refl, subst, ◌∙◌, Some, None}
+use Rattle.std.proofs.lemmas.List.{map_push}
+use Rattle.std.proofs.lemmas.Result.{err_from_is_err_and}
+use Rattle.sbl_grammar.specs.declared.role.Role.TheVariants as roles
+use Rattle.sbl_grammar.specs.declared.tree.Additive.{Additive}
+use Rattle.sbl_grammar.specs.declared.tree.Added.{Added}
+use Rattle.sbl_grammar.specs.declared.tree.Scaled.{Scaled}
+use Rattle.sbl_grammar.specs.declared.tree.Factor.{Factor}
+use Rattle.sbl_grammar.specs.declared.tree.Expression.{Expression}
+use Rattle.sbl_grammar.specs.declared.tree.Command.{Command}
+use Rattle.sbl_grammar.specs.declared.tree.Row.{Row}
+use Rattle.sbl_grammar.specs.declared.tree.Joined.{Joined}
+use Rattle.sbl_grammar.specs.declared.tree.Group.{Group}
+use Rattle.sbl_grammar.specs.declared.tree.Entry.{Entry}
+use Rattle.sbl_grammar.specs.declared.tree.Term.{Term}
+use Rattle.sbl_grammar.specs.declared.tree.Plain.{Plain}
+use Rattle.sbl_grammar.specs.declared.tree.Item.{Item}
+use Rattle.sbl_grammar.specs.declared.tree.Additive.TheVariants as additives
+use Rattle.sbl_grammar.specs.Terminal.{Terminal, role_of, role_as, left}
+use Rattle.sbl_grammar.specs.Terminal as t
+use Rattle.sbl_grammar.specs.declared.role.Role.{Role}
+use Rattle.sbl_grammar.specs.Starts.{begins_plain, begins_item, begins_argument}
+use Rattle.sbl_grammar.specs.First.{first_text, first_number, first_inserts, first_literal}
+use Rattle.sbl_grammar.specs.Tree as trees
+use Rattle.sbl_grammar.specs.Steps.{max_depth, Stack, fault}
+use Rattle.sbl_grammar.specs.Steps as s
+use Rattle.sbl_grammar.specs.View as view
+use Rattle.sbl_grammar.proofs.Descent as d
+use Rattle.sbl_grammar.proofs.Lengths as lengths
+use Rattle.sbl_grammar.proofs.Turns as turns
+use Rattle.sbl_grammar.proofs.Views as views
+use Rattle.sbl_grammar.proofs.items.names.Goals as goal
+
+pub behind-rest-requires : goal.behind-rest-requires
+behind-rest-requires c = d.some_first (left c.args.tokens.now c.loop-names.rest) _ (sym c.role.ensures ∙ c.in-Name.is) (λ e. cc)
+
+pub loop-names-preserved : goal.loop-names-preserved
+loop-names-preserved c =
+    let first : (left c.args.tokens.now c.loop-names.rest) ≡ (t.name (string_bytes c.in_ok-text.field-0)) ∷ drop 1 (left c.args.tokens.now c.loop-names.rest) = d.as_name (drop c.loop-names.rest c.args.tokens.now) (sym c.role.ensures ∙ c.in-Name.is) ∙ ap (λ (n : List ℕ). t.name n ∷ drop 1 (left c.args.tokens.now c.loop-names.rest)) (sym c.in_ok-text.ensures) in
+    let last : List ℕ = string_bytes c.in_ok-text.field-0 in
+    let more : map string_bytes c.push.new.self.items ≡ map string_bytes c.loop-names.names.items ++ last ∷ [] = rw c.in_ok-push.ensures.items (map_push _ c.loop-names.names.items c.in_ok-text.field-0) in
+    record {
+      spelled = c.loop-names.invariant.spelled ∙ ap (λ (r : List Terminal). trees.spelled_names (map string_bytes c.loop-names.names.items) r) (d.headed (left c.args.tokens.now c.loop-names.rest) (left c.args.tokens.now c.behind-rest.result) (t.name (string_bytes c.in_ok-text.field-0)) first c.behind-rest.ensures) ∙ sym (turns.names_push (map string_bytes c.loop-names.names.items) last (left c.args.tokens.now c.behind-rest.result)) ∙ ap (λ (xs : List (List ℕ)). trees.spelled_names xs (left c.args.tokens.now c.behind-rest.result)) (sym more);
+      faults = λ k. c.loop-names.invariant.faults k ∙ d.took (left c.args.tokens.now c.loop-names.rest) (left c.args.tokens.now c.behind-rest.result) (t.name (string_bytes c.in_ok-text.field-0)) (s.names ∷ k) (s.names ∷ k) 0 first c.behind-rest.ensures refl (omega arith);
+    }
+
+pub loop-names-smaller : goal.loop-names-smaller
+loop-names-smaller c = turns.less (left c.args.tokens.now c.loop-names.rest) (left c.args.tokens.now c.behind-rest.result) (d.some_first (left c.args.tokens.now c.loop-names.rest) _ (sym c.role.ensures ∙ c.in-Name.is) (λ e. cc)) c.behind-rest.ensures

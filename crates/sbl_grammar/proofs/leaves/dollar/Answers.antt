@@ -1,0 +1,44 @@
+use Rattle.std.proofs.Common.{◌≡◌, ◌≤◌, ◌<◌, ◌∷◌, ◌++◌, ◌+◌, ℕ, Bool, List, [], length, map, string_bytes, drop, true, false, arith, ap, sym, refl, subst, ◌∙◌, Some, None}
+use Rattle.std.proofs.lemmas.List.{map_push}
+use Rattle.std.proofs.lemmas.Result.{err_from_is_err_and}
+use Rattle.sbl_grammar.specs.declared.role.Role.TheVariants as roles
+use Rattle.sbl_grammar.specs.declared.tree.Additive.{Additive}
+use Rattle.sbl_grammar.specs.declared.tree.Added.{Added}
+use Rattle.sbl_grammar.specs.declared.tree.Scaled.{Scaled}
+use Rattle.sbl_grammar.specs.declared.tree.Factor.{Factor}
+use Rattle.sbl_grammar.specs.declared.tree.Expression.{Expression}
+use Rattle.sbl_grammar.specs.declared.tree.Command.{Command}
+use Rattle.sbl_grammar.specs.declared.tree.Row.{Row}
+use Rattle.sbl_grammar.specs.declared.tree.Joined.{Joined}
+use Rattle.sbl_grammar.specs.declared.tree.Group.{Group}
+use Rattle.sbl_grammar.specs.declared.tree.Entry.{Entry}
+use Rattle.sbl_grammar.specs.declared.tree.Term.{Term}
+use Rattle.sbl_grammar.specs.declared.tree.Plain.{Plain}
+use Rattle.sbl_grammar.specs.declared.tree.Item.{Item}
+use Rattle.sbl_grammar.specs.declared.tree.Additive.TheVariants as additives
+use Rattle.sbl_grammar.specs.Terminal.{Terminal, role_of, role_as, left}
+use Rattle.sbl_grammar.specs.Terminal as t
+use Rattle.sbl_grammar.specs.First.{first_text, first_number, first_inserts, first_literal}
+use Rattle.sbl_grammar.specs.Tree as trees
+use Rattle.sbl_grammar.specs.Steps.{max_depth, Stack, fault}
+use Rattle.sbl_grammar.specs.Steps as s
+use Rattle.sbl_grammar.specs.View as view
+use Rattle.sbl_grammar.proofs.Descent as d
+use Rattle.sbl_grammar.proofs.Lengths as lengths
+use Rattle.sbl_grammar.proofs.Turns as turns
+use Rattle.sbl_grammar.proofs.Views as views
+use Rattle.sbl_grammar.proofs.leaves.dollar.Goals as goal
+
+pub behind-rest-requires : goal.behind-rest-requires
+behind-rest-requires c = d.some_first (left c.args.tokens.now c.args.at) _ (c.requires.first) (λ e. cc)
+
+pub assigned-requires-clause-second : goal.assigned-requires-clause-second
+assigned-requires-clause-second c = ap role_of (sym c.behind-rest.ensures) ∙ sym c.role.ensures ∙ c.in-Name.is
+
+pub values_compared-requires-clause-second : goal.values_compared-requires-clause-second
+values_compared-requires-clause-second c = ap role_of (sym c.behind-rest.ensures) ∙ sym c.role.ensures ∙ c.in-Open.is
+
+pub returns-in_default : goal.returns-in_default
+returns-in_default c =
+    let first : (left c.args.tokens.now c.args.at) ≡ t.dollar ∷ drop 1 (left c.args.tokens.now c.args.at) = d.as_terminal (left c.args.tokens.now c.args.at) t.dollar refl c.requires.first in
+    rw c.syntax.ensures (λ k. d.took (left c.args.tokens.now c.args.at) (left c.args.tokens.now c.behind-rest.result) t.dollar (s.command c.args.depth ∷ k) (s.subject c.args.depth ∷ k) c.args.depth first c.behind-rest.ensures refl (omega arith) ∙ d.refused_subject (left c.args.tokens.now c.behind-rest.result) c.args.depth k (λ e. c.in_default.not-Name (c.role.ensures ∙ e)) (λ e. c.in_default.not-Open (c.role.ensures ∙ e)))

@@ -1,0 +1,46 @@
+use Rattle.std.proofs.Common.{◌≡◌, ◌≤◌, ◌<◌, ◌∷◌, ◌++◌, ◌+◌, ℕ, Bool, List, [], length, map, string_bytes, drop, true, false, arith, ap, sym, refl, subst, ◌∙◌, Some, None}
+use Rattle.std.proofs.lemmas.List.{map_push}
+use Rattle.std.proofs.lemmas.Result.{err_from_is_err_and}
+use Rattle.sbl_grammar.specs.declared.role.Role.TheVariants as roles
+use Rattle.sbl_grammar.specs.declared.tree.Additive.{Additive}
+use Rattle.sbl_grammar.specs.declared.tree.Added.{Added}
+use Rattle.sbl_grammar.specs.declared.tree.Scaled.{Scaled}
+use Rattle.sbl_grammar.specs.declared.tree.Factor.{Factor}
+use Rattle.sbl_grammar.specs.declared.tree.Expression.{Expression}
+use Rattle.sbl_grammar.specs.declared.tree.Command.{Command}
+use Rattle.sbl_grammar.specs.declared.tree.Row.{Row}
+use Rattle.sbl_grammar.specs.declared.tree.Joined.{Joined}
+use Rattle.sbl_grammar.specs.declared.tree.Group.{Group}
+use Rattle.sbl_grammar.specs.declared.tree.Entry.{Entry}
+use Rattle.sbl_grammar.specs.declared.tree.Term.{Term}
+use Rattle.sbl_grammar.specs.declared.tree.Plain.{Plain}
+use Rattle.sbl_grammar.specs.declared.tree.Item.{Item}
+use Rattle.sbl_grammar.specs.declared.tree.Additive.TheVariants as additives
+use Rattle.sbl_grammar.specs.Terminal.{Terminal, role_of, role_as, left}
+use Rattle.sbl_grammar.specs.Terminal as t
+use Rattle.sbl_grammar.specs.First.{first_text, first_number, first_inserts, first_literal}
+use Rattle.sbl_grammar.specs.Tree as trees
+use Rattle.sbl_grammar.specs.Steps.{max_depth, Stack, fault}
+use Rattle.sbl_grammar.specs.Steps as s
+use Rattle.sbl_grammar.specs.View as view
+use Rattle.sbl_grammar.proofs.Descent as d
+use Rattle.sbl_grammar.proofs.Lengths as lengths
+use Rattle.sbl_grammar.proofs.Turns as turns
+use Rattle.sbl_grammar.proofs.Views as views
+use Rattle.sbl_grammar.proofs.leaves.edited.Goals as goal
+
+pub returns-in_err-string : goal.returns-in_err-string
+returns-in_err-string c =
+    let first : (left c.args.tokens.now c.args.at) ≡ (t.edit c.args.word) ∷ drop 1 (left c.args.tokens.now c.args.at) = d.as_terminal (left c.args.tokens.now c.args.at) (t.edit c.args.word) refl c.requires.first in
+    let p = err_from_is_err_and c.from_residual.result c.from_residual.ensures.1 in
+    rw (p.1, p.2) (λ k. d.fails_along c.args.tokens.now c.in_err-string.field-0.0 (fault (left c.args.tokens.now c.args.at) (s.command c.args.depth ∷ k)) _ (d.took (left c.args.tokens.now c.args.at) (left c.args.tokens.now c.behind.result) (t.edit c.args.word) (s.command c.args.depth ∷ k) (s.argument c.args.depth ∷ k) c.args.depth first c.behind.ensures refl (omega arith)) (c.in_err-string.ensures (k)))
+
+pub returns : goal.returns
+returns c =
+    let first : (left c.args.tokens.now c.args.at) ≡ (t.edit c.args.word) ∷ drop 1 (left c.args.tokens.now c.args.at) = d.as_terminal (left c.args.tokens.now c.args.at) (t.edit c.args.word) refl c.requires.first in (
+      d.headed (left c.args.tokens.now c.args.at) (left c.args.tokens.now c.behind.result) (t.edit c.args.word) first c.behind.ensures ∙ ap (λ (r : List Terminal). (t.edit c.args.word) ∷ r) (c.in_ok-string.ensures.0) ∙ ap (λ (x : trees.Tree). trees.spelled x (left c.args.tokens.now c.in_ok-string.rest)) (sym (views.command_Edit c.args.word c.in_ok-string.string)),
+      λ k. d.took (left c.args.tokens.now c.args.at) (left c.args.tokens.now c.behind.result) (t.edit c.args.word) (s.command c.args.depth ∷ k) (s.argument c.args.depth ∷ k) c.args.depth first c.behind.ensures refl (omega arith) ∙ c.in_ok-string.ensures.1 (k),
+    )
+
+pub behind-requires : goal.behind-requires
+behind-requires c = d.some_first (left c.args.tokens.now c.args.at) _ (c.requires.first) (λ e. cc)

@@ -1,0 +1,53 @@
+use Rattle.std.proofs.Common.{◌≡◌, ◌≤◌, ◌<◌, ◌∷◌, ◌++◌, ◌+◌, ℕ, Bool, List, [], length, map, string_bytes, drop, true, false, arith, ap, sym, refl, subst, ◌∙◌, Some, None}
+use Rattle.std.proofs.lemmas.List.{map_push}
+use Rattle.std.proofs.lemmas.Result.{err_from_is_err_and}
+use Rattle.sbl_grammar.specs.declared.role.Role.TheVariants as roles
+use Rattle.sbl_grammar.specs.declared.tree.Additive.{Additive}
+use Rattle.sbl_grammar.specs.declared.tree.Added.{Added}
+use Rattle.sbl_grammar.specs.declared.tree.Scaled.{Scaled}
+use Rattle.sbl_grammar.specs.declared.tree.Factor.{Factor}
+use Rattle.sbl_grammar.specs.declared.tree.Expression.{Expression}
+use Rattle.sbl_grammar.specs.declared.tree.Command.{Command}
+use Rattle.sbl_grammar.specs.declared.tree.Row.{Row}
+use Rattle.sbl_grammar.specs.declared.tree.Joined.{Joined}
+use Rattle.sbl_grammar.specs.declared.tree.Group.{Group}
+use Rattle.sbl_grammar.specs.declared.tree.Entry.{Entry}
+use Rattle.sbl_grammar.specs.declared.tree.Term.{Term}
+use Rattle.sbl_grammar.specs.declared.tree.Plain.{Plain}
+use Rattle.sbl_grammar.specs.declared.tree.Item.{Item}
+use Rattle.sbl_grammar.specs.declared.tree.Additive.TheVariants as additives
+use Rattle.sbl_grammar.specs.Terminal.{Terminal, role_of, role_as, left}
+use Rattle.sbl_grammar.specs.Terminal as t
+use Rattle.sbl_grammar.specs.First.{first_text, first_number, first_inserts, first_literal}
+use Rattle.sbl_grammar.specs.Tree as trees
+use Rattle.sbl_grammar.specs.Steps.{max_depth, Stack, fault}
+use Rattle.sbl_grammar.specs.Steps as s
+use Rattle.sbl_grammar.specs.View as view
+use Rattle.sbl_grammar.proofs.Descent as d
+use Rattle.sbl_grammar.proofs.Lengths as lengths
+use Rattle.sbl_grammar.proofs.Turns as turns
+use Rattle.sbl_grammar.proofs.Views as views
+use Rattle.sbl_grammar.proofs.leaves.non.Goals as goal
+
+pub behind-rest-requires : goal.behind-rest-requires
+behind-rest-requires c = d.some_first (left c.args.tokens.now c.args.at) _ (c.requires.first) (λ e. cc)
+
+pub behind-requires : goal.behind-requires
+behind-requires c = d.some_first (left c.args.tokens.now c.behind-rest.result) _ (sym c.role.ensures ∙ c.in-Name.is) (λ e. cc)
+
+pub non_minus-requires-clause-second : goal.non_minus-requires-clause-second
+non_minus-requires-clause-second c = ap role_of (sym c.behind-rest.ensures) ∙ sym c.role.ensures ∙ c.in-Additive.is
+
+pub returns-in_default : goal.returns-in_default
+returns-in_default c =
+    let first : (left c.args.tokens.now c.args.at) ≡ t.non ∷ drop 1 (left c.args.tokens.now c.args.at) = d.as_terminal (left c.args.tokens.now c.args.at) t.non refl c.requires.first in
+    rw c.syntax.ensures (λ k. d.took (left c.args.tokens.now c.args.at) (left c.args.tokens.now c.behind-rest.result) t.non (s.command c.args.depth ∷ k) (s.excluded c.args.depth ∷ k) c.args.depth first c.behind-rest.ensures refl (omega arith) ∙ d.refused_excluded (left c.args.tokens.now c.behind-rest.result) c.args.depth k (λ o e. c.in_default.not-Additive o (c.role.ensures ∙ e)) (λ e. c.in_default.not-Name (c.role.ensures ∙ e)))
+
+pub returns-in_ok-text-in-Name : goal.returns-in_ok-text-in-Name
+returns-in_ok-text-in-Name c =
+    let first : (left c.args.tokens.now c.args.at) ≡ t.non ∷ drop 1 (left c.args.tokens.now c.args.at) = d.as_terminal (left c.args.tokens.now c.args.at) t.non refl c.requires.first in
+    let text : t.name (string_bytes c.in_ok-text-in-Name.field-0) ≡ t.name (first_text (drop c.behind-rest.result c.args.tokens.now)) = ap (λ (n : List ℕ). t.name n) c.in_ok-text-in-Name.ensures in
+    let second : (left c.args.tokens.now c.behind-rest.result) ≡ t.name (string_bytes c.in_ok-text-in-Name.field-0) ∷ drop 1 (left c.args.tokens.now c.behind-rest.result) = d.as_name (drop c.behind-rest.result c.args.tokens.now) (sym c.role.ensures ∙ c.in-Name.is) ∙ ap (λ (x : Terminal). x ∷ drop 1 (left c.args.tokens.now c.behind-rest.result)) (sym text) in (
+      d.headed (left c.args.tokens.now c.args.at) (left c.args.tokens.now c.behind-rest.result) t.non first c.behind-rest.ensures ∙ ap (λ (r : List Terminal). t.non ∷ r) (d.headed (left c.args.tokens.now c.behind-rest.result) (left c.args.tokens.now c.behind.result) (t.name (string_bytes c.in_ok-text-in-Name.field-0)) second c.behind.ensures) ∙ ap (λ (x : trees.Tree). trees.spelled x (left c.args.tokens.now c.behind.result)) (sym (views.command_Non false c.in_ok-text-in-Name.field-0)),
+      λ k. d.took (left c.args.tokens.now c.args.at) (left c.args.tokens.now c.behind-rest.result) t.non (s.command c.args.depth ∷ k) (s.excluded c.args.depth ∷ k) c.args.depth first c.behind-rest.ensures refl (omega arith) ∙ d.took (left c.args.tokens.now c.behind-rest.result) (left c.args.tokens.now c.behind.result) (t.name (string_bytes c.in_ok-text-in-Name.field-0)) (s.excluded c.args.depth ∷ k) k c.args.depth second c.behind.ensures refl (omega arith),
+    )

@@ -1,0 +1,10 @@
+pub mod Terminal
+pub mod Tree
+pub mod Places
+pub mod View
+pub mod Steps
+pub mod Reading
+pub mod First
+pub mod Starts
+pub mod Gives
+pub mod Told

@@ -1,0 +1,32 @@
+-- The fault of some tokens, at its byte.
+use Rattle.std.specs.Prelude.{◌≡◌, ℕ, List, [], ◌∷◌, drop}
+use Rattle.sbl_text.specs.declared.token.Token.{Token}
+use Rattle.sbl_text.specs.declared.fault.ScriptFault.{ScriptFault}
+use Rattle.sbl_text.specs.declared.fault.ScriptFault.TheVariants as script
+use Rattle.sbl_grammar.specs.declared.error.Fault.TheVariants.{Syntax, TooDeep, OutOfProfile}
+use Rattle.sbl_grammar.specs.declared.error.ReadError.{ReadError}
+use Rattle.sbl_grammar.specs.declared.error.ReadError.TheVariants as errors
+use Rattle.sbl_grammar.specs.Terminal.{terminals_of, left}
+use Rattle.sbl_grammar.specs.Reading.{IsSyntaxAt, IsTooDeepAt, IsOutOfProfileAt}
+
+-- where the first of some tokens begins, or the end
+abbrev pub place_of : List Token → ℕ → ℕ
+place_of [] end = end
+place_of (t ∷ ts) end = t.start
+
+abbrev pub place_at : List Token → ℕ → ℕ → ℕ
+place_at ts at end = place_of (drop at ts) end
+
+-- the fault is that of these tokens, at the byte where it stands
+abbrev pub IsFaultOf : List Token → ℕ → ScriptFault → Type 0
+IsFaultOf ts end (script.Syntax place) = (at : ℕ) × (place ≡ place_at ts at end) × IsSyntaxAt (terminals_of ts) (left ts at)
+IsFaultOf ts end (script.TooDeep place) = (at : ℕ) × (place ≡ place_at ts at end) × IsTooDeepAt (terminals_of ts) (left ts at)
+IsFaultOf ts end (script.OutOfProfile place) = (at : ℕ) × (place ≡ place_at ts at end) × IsOutOfProfileAt (terminals_of ts) (left ts at)
+IsFaultOf ts end _ = ⊥
+
+-- what a reader answers, at its byte
+abbrev pub fault_told : List Token → ℕ → ReadError → ScriptFault
+fault_told ts end errors.Memory = script.OutOfMemory
+fault_told ts end (errors.Fault (Syntax at)) = script.Syntax (place_at ts at end)
+fault_told ts end (errors.Fault (TooDeep at)) = script.TooDeep (place_at ts at end)
+fault_told ts end (errors.Fault (OutOfProfile at)) = script.OutOfProfile (place_at ts at end)

@@ -1,0 +1,23 @@
+//! The grammar of Snowball: trees, the tokens of a tree, and the tree of some tokens.
+#![tactic(auto)]
+
+mod arithmetic;
+mod commands;
+mod cursor;
+mod entries;
+mod error;
+mod items;
+mod leaves;
+mod reading;
+mod role;
+mod starts;
+mod tokens;
+mod tree;
+
+pub use reading::{one_part, one_tree, parse};
+pub use role::Role;
+pub use tree::{
+    Added, Additive, Among, Argument, Assignment, Base, Command, Comparison, Constant, Count,
+    DeclarationKind, Edit, Entry, Expression, Factor, Group, Item, Joined, Joiner, Literal, Move,
+    Multiplicative, Naming, Plain, Prefix, Product, Row, Scaled, Simple, Term,
+};

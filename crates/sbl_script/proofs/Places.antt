@@ -1,0 +1,63 @@
+-- Where the faults of the grammar stand.
+use Rattle.std.proofs.Common.{◌≡◌, ◌⊎◌, ℕ, List, [], ◌∷◌, ◌++◌, None, map, take, drop, refl, sym, ap, subst, ◌∙◌, inl, inr, Result, Ok, Err, IfErr, IfOk}
+use Rattle.std.proofs.lemmas.List.{take-append-drop, map-append}
+use Rattle.sbl_text.specs.declared.fault.ScriptFault.{ScriptFault}
+use Rattle.sbl_text.specs.declared.fault.ScriptFault.TheVariants as fault
+use Rattle.sbl_text.specs.declared.token.Token.{Token}
+use Rattle.sbl_text.specs.Lexemes.{lexeme_of}
+use Rattle.sbl_text.specs.Tokens.{Placed, placed_of}
+use Rattle.sbl_grammar.specs.Terminal.{Terminal, terminal_of, terminals_of, left}
+use Rattle.sbl_grammar.specs.Reading.{IsSyntaxAt, IsTooDeepAt, IsOutOfProfileAt}
+use Rattle.sbl_grammar.specs.Told as grammar
+use Rattle.sbl_script.specs.Reading.{terminals, place_of, IsGrammarFault, IsUnread, first_left_out}
+
+pub terminals_same : (ts : List Token) → terminals_of ts ≡ terminals (map placed_of ts)
+terminals_same [] = refl
+terminals_same (t ∷ ts) = ap (λ (r : List Terminal). terminal_of (lexeme_of t) ∷ r) (terminals_same ts)
+
+place_same : (ts : List Token) (end : ℕ) → grammar.place_of ts end ≡ place_of end (map placed_of ts)
+place_same [] end = refl
+place_same (t ∷ ts) end = refl
+
+cut : (ts : List Token) (n : ℕ) → map placed_of ts ≡ map placed_of (take n ts) ++ map placed_of (drop n ts)
+cut ts n = ap (map placed_of) (sym (take-append-drop n ts)) ∙ map-append placed_of (take n ts) (drop n ts)
+
+moved : (P : List Terminal → List Terminal → Type 0) (ts : List Token) (n : ℕ) → P (terminals_of ts) (left ts n) → P (terminals (map placed_of ts)) (terminals (map placed_of (drop n ts)))
+moved P ts n h =
+    subst (λ (x : List Terminal). P x (terminals (map placed_of (drop n ts)))) (terminals_same ts) (subst (λ (x : List Terminal). P (terminals_of ts) x) (terminals_same (drop n ts)) h)
+
+-- the grammar's fault of some tokens
+pub told : (ts : List Token) (end : ℕ) (f : ScriptFault) → grammar.IsFaultOf ts end f → IsGrammarFault (map placed_of ts) end f
+told ts end (fault.Syntax place) (n, is, h) = record {
+  before = map placed_of (take n ts);
+  rest = map placed_of (drop n ts);
+  parts = cut ts n;
+  is = inl (moved IsSyntaxAt ts n h, ap fault.Syntax (is ∙ place_same (drop n ts) end));
+}
+told ts end (fault.TooDeep place) (n, is, h) = record {
+  before = map placed_of (take n ts);
+  rest = map placed_of (drop n ts);
+  parts = cut ts n;
+  is = inr (inl (moved IsTooDeepAt ts n h, ap fault.TooDeep (is ∙ place_same (drop n ts) end)));
+}
+told ts end (fault.OutOfProfile place) (n, is, h) = record {
+  before = map placed_of (take n ts);
+  rest = map placed_of (drop n ts);
+  parts = cut ts n;
+  is = inr (inr (moved IsOutOfProfileAt ts n h, ap fault.OutOfProfile (is ∙ place_same (drop n ts) end)));
+}
+told ts end _ h = absurd h
+
+pub unread : {X : Type 0} (r : Result X ScriptFault) (ts : List Token) (end : ℕ) → first_left_out (map placed_of ts) ≡ None
+    → IfErr r (λ f. (f ≡ fault.OutOfMemory) ⊎ grammar.IsFaultOf ts end f) → IfErr r (λ f. (f ≡ fault.OutOfMemory) ⊎ IsUnread (map placed_of ts) end f)
+unread (Ok x) ts end offered h = h
+unread (Err f) ts end offered (inl e) = inl e
+unread (Err f) ts end offered (inr h) = inr (inr (offered, told ts end f h))
+
+pub read_as : {X : Type 0} (r : Result X ScriptFault) (P : List Terminal → X → Type 0) (ts : List Token) → IfOk r (λ x. P (terminals_of ts) x) → IfOk r (λ x. P (terminals (map placed_of ts)) x)
+read_as (Ok x) P ts h = subst (λ (t : List Terminal). P t x) (terminals_same ts) h
+read_as (Err f) P ts h = h
+
+pub offered_too : {X : Type 0} (r : Result X ScriptFault) (ts : List Placed) → first_left_out ts ≡ None → IfOk r (λ x. first_left_out ts ≡ None)
+offered_too (Ok x) ts h = h
+offered_too (Err f) ts h = tt

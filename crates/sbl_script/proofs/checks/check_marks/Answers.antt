@@ -1,0 +1,23 @@
+use Rattle.std.proofs.Common.{sym, ◌∙◌, inr, take}
+use Rattle.sbl_script.specs.MarkView.{view_mark, view_marks}
+use Rattle.sbl_script.specs.Met.{HasMet}
+use Rattle.sbl_script.proofs.Turns.{found, passed, met_more, taken, mark_in}
+use Rattle.sbl_script.proofs.checks.check_marks.Goals as goal
+
+pub returns-in-Some-clause-fault : goal.returns-in-Some-clause-fault
+returns-in-Some-clause-fault c =
+    let all = view_marks c.args.marks.now in
+    let before = view_marks (take c.loop-index.index c.args.marks.now) in
+    let is = rw c.behind.ensures at (c.fault_at.ensures all before c.requires.places c.loop-index.invariant.met) in
+    inr (sym c.loop-index.invariant.none ∙ found all c.args.marks.now c.loop-index.index c.fault_at.result c.in-Some.fault c.loop-index-test.true is c.in-Some.is)
+
+pub loop-index-preserved : goal.loop-index-preserved
+loop-index-preserved c =
+    let all = view_marks c.args.marks.now in
+    let i = c.loop-index.index in
+    let before = view_marks (take i c.args.marks.now) in
+    let is = rw c.behind.ensures at (c.fault_at.ensures all before c.requires.places c.loop-index.invariant.met) in
+    record {
+      met = rw (taken c.args.marks.now i c.loop-index-test.true) (met_more c.loop-index.met c.note.new.met before (view_mark (mark_in c.args.marks.now i)) c.loop-index.invariant.met c.in_ok-note.ensures);
+      none = passed all c.args.marks.now i c.fault_at.result c.loop-index-test.true is c.in_default.is ∙ c.loop-index.invariant.none;
+    }

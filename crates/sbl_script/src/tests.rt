@@ -1,0 +1,355 @@
+//! Scripts and their faults.
+
+use crate::Script;
+use sbl_text::ScriptFault;
+use std::alloc::Global;
+use std::process::Abort;
+
+const FRONT: &str = "externals ( stem ) define stem as ";
+
+const SUFFIXES: &str = "externals ( stem )
+routines ( tail last sib )
+backwardmode (
+  define sib as ( 'x' or 's' )
+  define tail as ( [substring] among ( 's' (delete) 'es' sib (delete) ) )
+  define last as ( ['e'] delete )
+)
+define stem as ";
+
+/// The fault of a script; `None` where it is accepted.
+fn fault_of(alloc: Global, text: &str) -> Option<ScriptFault> {
+    Script::parse(alloc, text.as_bytes(), "stem").err()
+}
+
+/// The fault of a script whose external has this body.
+fn fault_in_body(rt: &impl Abort, alloc: Global, body: &str) -> Option<ScriptFault> {
+    let text = format!(in alloc; "{FRONT}{body}").expect(rt, "memory");
+    fault_of(alloc, text.as_str())
+}
+
+fn repeated(rt: &impl Abort, alloc: Global, part: &str, count: usize) -> String {
+    let mut text = String::new(alloc);
+    for _ in 0..count {
+        text.push_str(part).expect(rt, "memory");
+    }
+    text
+}
+
+#[test]
+fn answers_the_fault_of_a_body(rt: HostRuntime) {
+    let item = 2;
+    for (body, want) in [
+        ("( next next", ScriptFault::Syntax { place: 45 }),
+        ("'a' 'b'", ScriptFault::Syntax { place: 38 }),
+        ("( $x 3 )", ScriptFault::OutOfProfile { place: 36 }),
+        ("( get )", ScriptFault::OutOfProfile { place: 36 }),
+        ("nowhere", ScriptFault::Undeclared { item }),
+        ("set stem", ScriptFault::WrongKind { item }),
+        (
+            "next define stem as next",
+            ScriptFault::DefinedTwice { item: 3 },
+        ),
+        ("substring", ScriptFault::Substring { item }),
+        (
+            "( substring among ( ( next ) 'a' ) )",
+            ScriptFault::Starter { item },
+        ),
+        (
+            "among ( 'a' 'b' ( next ) 'a' )",
+            ScriptFault::RepeatedString { item },
+        ),
+        ("among ( )", ScriptFault::EmptyAmong { item }),
+        (
+            "backwards ( backwards next )",
+            ScriptFault::NestedBackwards { item },
+        ),
+    ] {
+        assert_eq!(rt; fault_in_body(&rt, rt.alloc(), body), Some(want), "{body}");
+    }
+}
+
+#[test]
+fn answers_the_fault_of_a_script(rt: HostRuntime) {
+    for (text, want) in [
+        (
+            "externals ( stem ) routines ( stem )",
+            ScriptFault::DeclaredTwice { item: 2 },
+        ),
+        (
+            "routines ( r ) externals ( stem ) define stem as r",
+            ScriptFault::Undefined { item: 3 },
+        ),
+        ("externals ( stem )", ScriptFault::NoExternal),
+        ("", ScriptFault::NoExternal),
+        ("strings ( a a )", ScriptFault::DeclaredTwice { item: 1 }),
+        (
+            "define stem as next externals ( stem )",
+            ScriptFault::Undeclared { item: 1 },
+        ),
+        (
+            "externals ( stem ) define stem as get define",
+            ScriptFault::OutOfProfile { place: 34 },
+        ),
+        (
+            "externals ( ) ) $x 3 size",
+            ScriptFault::OutOfProfile { place: 21 },
+        ),
+        (
+            "externals ( stem ) define stem as $x",
+            ScriptFault::Syntax { place: 36 },
+        ),
+        (
+            "externals ( stem ) define stem as $ 3",
+            ScriptFault::Syntax { place: 36 },
+        ),
+        (
+            "externals ( stem ) routines ( r ) define stem as r define r 'abc'",
+            ScriptFault::WrongKind { item: 4 },
+        ),
+        (
+            "externals ( stem ) routines ( r ) define stem as r",
+            ScriptFault::Undefined { item: 3 },
+        ),
+        (
+            "externals ( stem ) routines ( r ) backwardmode ( define r as next ) define stem as r define r as next",
+            ScriptFault::WrongMode { item: 4 },
+        ),
+        (
+            "externals ( stem ) routines ( r ) define r as next backwardmode ( define r as next ) define stem as r",
+            ScriptFault::DefinedTwice { item: 4 },
+        ),
+        (
+            "externals ( stem ) define stem as r routines ( r ) define r as next",
+            ScriptFault::Undeclared { item: 2 },
+        ),
+        (
+            "groupings ( v ) define v 'a' + v",
+            ScriptFault::Undefined { item: 2 },
+        ),
+        (
+            "groupings ( v w ) define v 'a' + w define w 'b'",
+            ScriptFault::Undefined { item: 2 },
+        ),
+        (
+            "groupings ( v ) externals ( stem ) define stem as non v",
+            ScriptFault::Undefined { item: 3 },
+        ),
+        (
+            "groupings ( v ) define v as next",
+            ScriptFault::WrongKind { item: 2 },
+        ),
+        (
+            "routines ( r ) define r 'a'",
+            ScriptFault::WrongKind { item: 2 },
+        ),
+        (
+            "integers ( x ) externals ( stem ) define stem as x",
+            ScriptFault::WrongKind { item: 3 },
+        ),
+        (
+            "integers ( x ) externals ( stem ) define stem as <- x",
+            ScriptFault::WrongKind { item: 3 },
+        ),
+        (
+            "strings ( s ) externals ( stem ) define stem as $s = 1",
+            ScriptFault::WrongKind { item: 3 },
+        ),
+        (
+            "strings ( s ) externals ( stem ) define stem as hop 1 + lenof t",
+            ScriptFault::Undeclared { item: 3 },
+        ),
+        (
+            "routines ( stem ) define stem as next",
+            ScriptFault::NoExternal,
+        ),
+        (
+            "externals ( stem ) backwardmode ( define stem as next )",
+            ScriptFault::NoExternal,
+        ),
+        (
+            "externals ( stem ) backwardmode ( externals ( stem ) ) get",
+            ScriptFault::OutOfProfile { place: 55 },
+        ),
+        (
+            "externals ( stem ) backwardmode ( integers ( x ) externals ( stem ) )",
+            ScriptFault::DeclaredTwice { item: 3 },
+        ),
+    ] {
+        assert_eq!(rt; fault_of(rt.alloc(), text), Some(want), "{text}");
+    }
+}
+
+#[test]
+fn pairs_each_substring_in_its_region(rt: HostRuntime) {
+    let item = 2;
+    for (body, want) in [
+        ("( substring among ( 'a' ) )", None),
+        ("( substring ( do ( next among ( 'a' ) ) ) )", None),
+        (
+            "( substring substring among ( 'a' ) )",
+            Some(ScriptFault::Substring { item }),
+        ),
+        (
+            "( among ( 'a' ) substring )",
+            Some(ScriptFault::Substring { item }),
+        ),
+        (
+            "( substring backwards among ( 'a' ) )",
+            Some(ScriptFault::Substring { item }),
+        ),
+        (
+            "( substring backwards among ( 'a' ) among ( 'a' ) )",
+            Some(ScriptFault::Substring { item }),
+        ),
+        (
+            "( substring among ( 'a' ( substring ) 'b' ) )",
+            Some(ScriptFault::Substring { item }),
+        ),
+        (
+            "( substring among ( 'a' ( substring among ( 'a' ) ) ) )",
+            None,
+        ),
+        (
+            "among ( ( substring ) 'a' )",
+            Some(ScriptFault::Substring { item }),
+        ),
+        ("among ( ( substring among ( 'a' ) ) 'a' )", None),
+        (
+            "( substring among ( 'a' ( next ) ) among ( ( next ) 'a' ) )",
+            None,
+        ),
+        (
+            "( substring among ( 'a' ( among ( ( next ) 'a' ) ) ) )",
+            None,
+        ),
+        (
+            "( substring among ( ( next ) ) )",
+            Some(ScriptFault::Starter { item }),
+        ),
+        ("among ( ( next ) )", Some(ScriptFault::EmptyAmong { item })),
+    ] {
+        assert_eq!(rt; fault_in_body(&rt, rt.alloc(), body), want, "{body}");
+    }
+}
+
+#[test]
+fn answers_the_first_of_several(rt: HostRuntime) {
+    let item = 2;
+    for (body, want) in [
+        (
+            "( among ( 'a' 'a' ) nowhere )",
+            ScriptFault::RepeatedString { item },
+        ),
+        (
+            "( nowhere among ( 'a' 'a' ) )",
+            ScriptFault::Undeclared { item },
+        ),
+        (
+            "( among ( 'a' ( among ( ) ) 'a' ) )",
+            ScriptFault::EmptyAmong { item },
+        ),
+        (
+            "( among ( 'a' 'a' nowhere ) )",
+            ScriptFault::RepeatedString { item },
+        ),
+        (
+            "( among ( 'a' nowhere 'a' ) )",
+            ScriptFault::Undeclared { item },
+        ),
+        (
+            "( among ( 'a' nowhere ( among ( ) ) ) )",
+            ScriptFault::Undeclared { item },
+        ),
+        ("( substring nowhere )", ScriptFault::Substring { item }),
+        (
+            "backwards backwards nowhere",
+            ScriptFault::NestedBackwards { item },
+        ),
+        (
+            "( set stem ) define stem as next",
+            ScriptFault::WrongKind { item },
+        ),
+    ] {
+        assert_eq!(rt; fault_in_body(&rt, rt.alloc(), body), Some(want), "{body}");
+    }
+}
+
+#[test]
+fn accepts_scripts(rt: HostRuntime) {
+    let alloc = rt.alloc();
+    for body in [
+        "stem",
+        "( among ( 'a' 'b' ( next ) 'c' ) among ( 'a' ) )",
+        "among ( 'a' ( among ( 'a' 'b' ) ) 'b' )",
+        "among ( 'a' stem 'b' stem )",
+        "( 'a' or 'b' and not next )",
+    ] {
+        assert_eq!(rt; fault_in_body(&rt, alloc, body), None, "{body}");
+    }
+    for text in [
+        "groupings ( v w ) externals ( stem ) define v 'ab' define w 'cd' + v - 'a' define stem as ( v non w non - v )",
+        "groupings ( v ) externals ( stem ) define stem as v define v 'ab'",
+        "routines ( r ) externals ( stem other ) define stem as next",
+        "integers ( x ) booleans ( b ) strings ( s ) externals ( stem ) define stem as ( set b b unset b setmark x -> s s $x = x + lenof s <- s )",
+        "routines ( r ) externals ( stem ) backwardmode ( define r as r ) define stem as backwards r",
+    ] {
+        assert_eq!(rt; fault_of(alloc, text), None, "{text}");
+    }
+    for (body, want) in [
+        ("( backwards ( do tail do ( test 'e' last ) ) )", None),
+        ("tail", Some(ScriptFault::WrongMode { item: 6 })),
+    ] {
+        let text = format!(in alloc; "{SUFFIXES}{body}").expect(&rt, "accepted");
+        assert_eq!(rt; fault_of(alloc, text.as_str()), want, "{body}");
+    }
+}
+
+#[test]
+fn counts_depth(rt: HostRuntime) {
+    let alloc = rt.alloc();
+    for (count, want) in [(63, None), (64, Some(ScriptFault::TooDeep { place: 98 }))] {
+        let open = repeated(&rt, alloc, "(", count);
+        let close = repeated(&rt, alloc, ")", count);
+        let body = format!(in alloc; "{open}next{close}").expect(&rt, "accepted");
+        assert_eq!(rt; fault_in_body(&rt, alloc, body.as_str()), want);
+    }
+    let open = repeated(&rt, alloc, "(", 300_000);
+    assert_eq!(rt;
+        fault_in_body(&rt, alloc, open.as_str()),
+        Some(ScriptFault::TooDeep { place: 98 })
+    );
+}
+
+#[test]
+fn refuses_what_is_no_text(rt: HostRuntime) {
+    let alloc = rt.alloc();
+    assert_eq!(rt;
+        Script::parse(alloc, b"\xff", "stem").err(),
+        Some(ScriptFault::NotUtf8)
+    );
+    let long = repeated(&rt, alloc, " ", 1_048_577);
+    assert_eq!(rt;
+        fault_of(alloc, long.as_str()),
+        Some(ScriptFault::ScriptTooLong)
+    );
+    let blank = repeated(&rt, alloc, " ", 1_048_576);
+    assert_eq!(rt;
+        fault_of(alloc, blank.as_str()),
+        Some(ScriptFault::NoExternal)
+    );
+}
+
+#[test]
+fn keeps_what_it_read(rt: HostRuntime) {
+    let alloc = rt.alloc();
+    let script = Script::parse(alloc, b"externals ( stem ) define stem as next", "stem").expect(
+        &rt, "accepted",
+    );
+    assert_eq!(rt; script.external(), "stem");
+    assert_eq!(rt; script.items().len(), 2);
+    script.is_well_declared();
+    assert_eq!(rt;
+        Script::parse(alloc, b"externals ( stem ) define stem as next", "").err(),
+        Some(ScriptFault::NoExternal)
+    );
+}
