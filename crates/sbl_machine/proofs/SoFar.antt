@@ -4,8 +4,8 @@ use Rattle.std.specs.Prelude.{nat_eq, slice_get}
 use Rattle.std.specs.List.{starts_with}
 use Rattle.std.proofs.lemmas.List.{length-reverse, take_more}
 use Rattle.std.proofs.Common.{get_or}
-use Rattle.sbl_script.specs.declared.tree.Mode.{Mode}
-use Rattle.sbl_script.specs.declared.tree.Mode.TheVariants.{Forward, Backward}
+use Rattle.sbl_script.specs.declared.marks.Mode.{Mode}
+use Rattle.sbl_script.specs.declared.marks.Mode.TheVariants.{Forward, Backward}
 use Rattle.sbl_machine.specs.Fitting.{read_as}
 use Rattle.sbl_machine.specs.Best.{BestSoFar}
 

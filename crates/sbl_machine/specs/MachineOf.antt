@@ -1,20 +1,26 @@
 -- When a machine is that of a script.
 use Rattle.std.specs.Prelude.{◌≡◌, ℕ, List, slice_get}
-use Rattle.sbl_script.specs.declared.tree.Mode.{Mode}
-use Rattle.sbl_script.specs.declared.tree.Mode.TheVariants.{Forward}
-use Rattle.sbl_script.specs.Tree.{Source, body_of}
+use Rattle.sbl_script.specs.declared.marks.Mode.{Mode}
 use Rattle.sbl_machine.specs.declared.machine.Machine.{Machine}
+use Rattle.sbl_machine.specs.Listed.{Listed, listed_by}
 use Rattle.sbl_machine.specs.declared.plain.PlainTable.{PlainTable}
-use Rattle.sbl_machine.specs.Listed.{listed_by}
-use Rattle.sbl_machine.specs.Standing.{Standing}
+use Rattle.sbl_machine.specs.Numbered.{numbered_script}
+use Rattle.sbl_machine.specs.Plan.{Plan}
+use Rattle.sbl_machine.specs.PlanOf.{plan_of}
 use Rattle.sbl_machine.specs.Strings.{entries_of, mode_of}
-use Rattle.sbl_machine.specs.Run.{body_does}
-use Rattle.sbl_machine.specs.Program.{node_does}
+use Rattle.sbl_script.specs.Parsed.{Source}
 
--- from every state its program does what the body of the script's external does
+-- the strings of a machine's amongs, by number
+abbrev pub listed_in : (S : Type 0) → (S → List (List ℕ)) → (S → Mode) → Machine S → ℕ → Listed
+listed_in S entries mode m k = listed_by S entries mode (slice_get m.tables.tables.items k)
+
+-- a machine's program
+abbrev pub machine_plan : (S : Type 0) → (S → List (List ℕ)) → (S → Mode) → Machine S → Plan
+machine_plan S entries mode m = plan_of (listed_in S entries mode m) m.program
+
+-- a machine is that of a script when its program is the script's
 unfoldable pub IsMachineOf : (S : Type 0) → (S → List (List ℕ)) → (S → Mode) → Machine S → Source → Type 0
-IsMachineOf S entries mode m script =
-    (s : Standing) → node_does (λ k. listed_by S entries mode (slice_get m.tables.tables.items k)) m.body Forward s ≡ body_does (body_of script) Forward s
+IsMachineOf S entries mode m script = machine_plan S entries mode m ≡ numbered_script script
 
 -- the same of a machine with plain tables
 abbrev pub IsPlainMachineOf : Machine PlainTable → Source → Type 0

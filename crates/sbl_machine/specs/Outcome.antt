@@ -1,13 +1,15 @@
--- What a run of a script over a word gives, and what it costs.
-use Rattle.std.specs.Prelude.{ℕ, ◌+◌, ◌-◌, List}
-use Rattle.sbl_script.specs.declared.tree.Mode.TheVariants.{Forward}
-use Rattle.sbl_script.specs.Tree.{Source, body_of}
+-- What a run over a word gives, and what it costs.
+use Rattle.std.specs.Prelude.{ℕ, pos, false, ◌+◌, ◌-◌, List, [], length, replicate}
 use Rattle.sbl_machine.specs.declared.fault.RunFault.{RunFault}
 use Rattle.sbl_machine.specs.declared.fault.RunFault.TheVariants as faults
 use Rattle.sbl_machine.specs.declared.outcome.Outcome.{Outcome}
 use Rattle.sbl_machine.specs.declared.outcome.Outcome.TheVariants as code
-use Rattle.sbl_machine.specs.Standing.{Ending, Signals, Stops, start}
-use Rattle.sbl_machine.specs.Run.{body_does}
+use Rattle.sbl_machine.specs.Numbered.{numbered_script}
+use Rattle.sbl_machine.specs.Plan as plan
+use Rattle.sbl_machine.specs.Run.{calls}
+use Rattle.sbl_machine.specs.Standing.{Standing, Ending, Signals, Stops}
+use Rattle.sbl_script.specs.Parsed.{Source}
+use Rattle.sbl_script.specs.declared.marks.Mode.TheVariants.{Forward}
 
 -- a stem, or why there is none
 pub data Outcome' : Type 0 where
@@ -18,6 +20,26 @@ pub data Outcome' : Type 0 where
 abbrev pub outcome_of : Outcome → Outcome'
 outcome_of (code.Stem text) = Stem text.items
 outcome_of (code.Refused fault) = Refused fault
+
+-- where a run of a word begins: integers 0, booleans false, strings empty
+abbrev pub start : plan.Plan → List ℕ → ℕ → Standing
+start p word steps = record {
+  text = word;
+  cursor = 0;
+  left = 0;
+  beyond = 0;
+  bra = 0;
+  ket = 0;
+  integers = replicate p.integers (pos 0);
+  booleans = replicate p.booleans false;
+  strings = replicate p.strings [];
+  choices = [];
+  steps = steps;
+}
+
+-- how a run of a word ends: the external's body runs forwards, on the first of 32 levels
+abbrev pub ending_of : plan.Plan → List ℕ → ℕ → Ending
+ending_of p word limit = calls p 32 p.external Forward (start p word limit)
 
 -- the text as it stands at the end is the stem, whatever the signal
 abbrev pub outcome_at : Ending → Outcome'
@@ -30,12 +52,9 @@ used_at limit (Signals b s) = limit - s.steps
 used_at limit (Stops faults.Steps s) = limit + 1
 used_at limit (Stops fault s) = limit - s.steps
 
--- how a run of a word ends: the external's body runs forwards, with so many steps
-abbrev pub ending_of : Source → List ℕ → ℕ → Ending
-ending_of script word limit = body_does (body_of script) Forward (start word limit)
-
+-- what a run of a script over a word gives, with so many steps, and what it costs
 unfoldable pub run_of : Source → List ℕ → ℕ → Outcome'
-run_of script word limit = outcome_at (ending_of script word limit)
+run_of script word limit = outcome_at (ending_of (numbered_script script) word limit)
 
 unfoldable pub used_of : Source → List ℕ → ℕ → ℕ
-used_of script word limit = used_at limit (ending_of script word limit)
+used_of script word limit = used_at limit (ending_of (numbered_script script) word limit)

@@ -1,49 +1,162 @@
--- What each command of a script does.
-use Rattle.std.specs.Prelude.{ℕ, suc, ◌-◌, List, [], map, length, nat_le, true, false, Option, Some, None, if◌then◌else◌}
-use Rattle.sbl_script.specs.declared.tree.Mode.{Mode}
-use Rattle.sbl_script.specs.Tree.{Tree, Trees, Groups, sequence, delete, among, no_trees, tree, bare, group, strings_of}
-use Rattle.sbl_script.specs.Tree as trees
-use Rattle.sbl_machine.specs.Fitting.{first, fitting, length_at, read_all}
-use Rattle.sbl_machine.specs.Standing.{Standing, Ending, Signals, Doing, after, then_on, pay, paid, step_over, ahead, match, replace, left_bracket, right_bracket}
+-- What a run of a script does: each command by what its parts do.
+use Rattle.std.specs.Prelude.{ℕ, zero, suc, ℤ, pos, negsuc, ◌-◌, Bool, true, false, List, length, Option, Some, None, slice_get, replicate}
+use Rattle.sbl_machine.specs.declared.fault.RunFault.TheVariants.{Steps, Depth}
+use Rattle.sbl_machine.specs.declared.state.Limits.{Limits}
+use Rattle.sbl_machine.specs.Actions.{acts}
+use Rattle.sbl_machine.specs.Moves.{next}
+use Rattle.sbl_machine.specs.Numbers.{value, given}
+use Rattle.sbl_machine.specs.Plan as plan
+use Rattle.sbl_machine.specs.Search.{choice, search_all}
+use Rattle.sbl_machine.specs.Standing.{Standing, Ending, Signals, Stops, Doing, after, then_on, pay, at_place, to_limit, mark, put_back}
+use Rattle.sbl_script.specs.declared.marks.Mode.{Mode}
+use Rattle.sbl_script.specs.declared.marks.Mode.TheVariants.{Forward, Backward}
 
--- the characters of the strings of an among, in text order
-abbrev pub values_of : Groups → List (List ℕ)
-values_of gs = map (λ q. q.value) (strings_of gs)
+-- At most n turns, up to the first f, after which the cursor is put back to before it. Each turn pays a step
+-- at least, so a run begins at most one turn more than it has steps.
+abbrev pub turns : ℕ → Doing → Mode → Standing → Ending
+turns zero c m s = Stops Steps s
+turns (suc n) c m s = after (c m s) (turns n c m) (put_back m (mark s))
 
--- the cursor goes just after the string that was taken, and then its group's command runs; f where none was taken
-abbrev pub taken : List (List ℕ) → (ℕ → Doing) → Option ℕ → Doing
-taken strings command None m s = Signals false s
-taken strings command (Some i) m s = then_on (step_over m (length_at strings i) s) (command i m)
+-- n turns; f at the first f
+abbrev pub times : ℕ → Doing → Mode → Standing → Ending
+times zero c m s = Signals true s
+times (suc n) c m s = after (c m s) (times n c m) (Signals false)
+
+-- a negative count is none
+abbrev pub count_of : ℤ → ℕ
+count_of (pos n) = n
+count_of (negsuc n) = zero
+
+-- where a command that is sought is t, from the state before it and the one after it:
+-- `gopast` leaves the cursor after its match, `goto` puts it back before it
+abbrev pub found : Bool → Mode → Standing → Standing → Ending
+found true m s t = Signals true t
+found false m s t = put_back m (mark s) t
+
+-- Tries at the cursor, and after each f, the cursor put back, one character further on; f where nothing is
+-- ahead any more. Each try pays a step at least.
+abbrev pub seeks : ℕ → Bool → Doing → Mode → Standing → Ending
+seeks zero past c m s = Stops Steps s
+seeks (suc n) past c m s =
+    after (c m s) (found past m s)
+    (λ f. then_on (put_back m (mark s) f) (λ b. after (next m b) (seeks n past c m) (Signals false)))
+
+-- the limits of both directions
+abbrev pub limits : Standing → Limits
+limits s = record { left = s.left; beyond = s.beyond }
+
+-- the cursor becomes the limit of the direction
+abbrev pub limit_here : Mode → Standing → Standing
+limit_here Forward s = record s { beyond = length s.text - s.cursor }
+limit_here Backward s = record s { left = s.cursor }
+
+-- an old limit returns: forwards by its distance from the text's end, backwards as its number
+abbrev pub limit_back : Mode → Limits → Standing → Standing
+limit_back Forward from s = record s { beyond = from.beyond }
+limit_back Backward from s = record s { left = from.left }
+
+-- what was done within a limit, with the old one back whatever it signals
+abbrev pub limited : Mode → Limits → Ending → Ending
+limited m from e = after e (λ t. Signals true (limit_back m from t)) (λ f. Signals false (limit_back m from f))
+
+-- where `backwards` begins: the left limit is the cursor, and the cursor goes to the limit
+abbrev pub backwards_from : Standing → Ending
+backwards_from s = to_limit Forward (record s { left = s.cursor })
+
+-- and where it ends after t
+abbrev pub backwards_end : Standing → Ending
+backwards_end s = at_place s.left s
+
+-- goes on with the group that is chosen; f where none is
+abbrev pub chosen : Option ℕ → Standing → (ℕ → Ending) → Ending
+chosen None s go = Signals false s
+chosen (Some g) s go = go g
+
+-- a command pays a step before it does anything
+abbrev pub paid : Doing → Doing
+paid d m s = then_on (pay s.steps s) (d m)
 
 abbrev mutual
-  -- what a command does once its step is paid
-  pub act : Tree → Mode → Standing → Ending
-  act (sequence cs) m s = in_turn cs m s
-  act trees.left_bracket m s = Signals true (left_bracket m s)
-  act trees.right_bracket m s = Signals true (right_bracket m s)
-  act delete m s = replace [] s
-  act (trees.replace q) m s = replace q.value s
-  act (trees.match q) m s = match q.value m s
-  -- the search pays a step of its own; of the strings that match, the longest is taken
-  act (among gs) m s =
-      then_on (pay s) (λ p. taken (values_of gs) (command_of gs) (first (fitting (read_all m (values_of gs)) (ahead m p))) m p)
+  -- What a command does once its step is paid, by the sets of the groupings and by what a call of each routine does.
+  pub act : List (List ℕ) → (ℕ → Doing) → plan.Command → Mode → Standing → Ending
+  act sets call (plan.act a) m s = acts sets a m s
+  -- `( C1 C2 .. )`
+  act sets call (plan.sequence cs) m s = in_turn sets call cs m s
+  -- `C1 or C2`, `C1 and C2`
+  act sets call (plan.either a b) m s =
+      after (paid (act sets call a) m s) (Signals true) (λ f. then_on (put_back m (mark s) f) (paid (act sets call b) m))
+  act sets call (plan.both a b) m s =
+      after (paid (act sets call a) m s) (λ t. then_on (put_back m (mark s) t) (paid (act sets call b) m)) (Signals false)
+  act sets call (plan.not a) m s = after (paid (act sets call a) m s) (Signals false) (put_back m (mark s))
+  act sets call (plan.test a) m s = after (paid (act sets call a) m s) (put_back m (mark s)) (Signals false)
+  act sets call (plan.try a) m s = after (paid (act sets call a) m s) (Signals true) (put_back m (mark s))
+  act sets call (plan.do_ a) m s = after (paid (act sets call a) m s) (put_back m (mark s)) (put_back m (mark s))
+  act sets call (plan.fail a) m s = after (paid (act sets call a) m s) (Signals false) (Signals false)
+  act sets call (plan.repeat a) m s = turns (suc s.steps) (paid (act sets call a)) m s
+  act sets call (plan.loop n a) m s = given (value n m s) s (λ z. times (count_of z) (paid (act sets call a)) m s)
+  -- the loop, and then `repeat`, which pays no step of its own
+  act sets call (plan.atleast n a) m s =
+      after (given (value n m s) s (λ z. times (count_of z) (paid (act sets call a)) m s))
+      (λ t. turns (suc t.steps) (paid (act sets call a)) m t) (Signals false)
+  act sets call (plan.goto a) m s = seeks (suc s.steps) false (paid (act sets call a)) m s
+  act sets call (plan.gopast a) m s = seeks (suc s.steps) true (paid (act sets call a)) m s
+  act sets call (plan.backwards a) m s =
+      then_on (backwards_from s) (λ b. after (paid (act sets call a) Backward b) backwards_end (Signals false))
+  -- `setlimit C1 for C2`
+  act sets call (plan.setlimit a b) m s =
+      after (paid (act sets call a) m s)
+      (λ t. then_on (put_back m (mark s) (limit_here m t)) (λ u. limited m (limits s) (paid (act sets call b) m u)))
+      (Signals false)
+  -- a routine's name
+  act sets call (plan.call i) m s = call i m s
+  -- `substring`, or the search that an among makes itself
+  act sets call (plan.search k strings entries) m s = search_all call k entries strings m s
+  -- an among: its search and its starter, if they are its own, and then the command of the group that is chosen
+  act sets call (plan.among k before bodies) m s =
+      after (in_turn sets call before m s) (λ t. chosen (choice k t) t (λ g. nth_does sets call bodies g m t)) (Signals false)
 
-  -- commands in turn, up to the first f
-  pub in_turn : Trees → Mode → Standing → Ending
-  in_turn no_trees m s = Signals true s
-  in_turn (tree c cs) m s = after (paid (act c) m s) (in_turn cs m) (Signals false)
+  -- in turn, up to the first f
+  pub in_turn : List (List ℕ) → (ℕ → Doing) → plan.Commands → Mode → Standing → Ending
+  in_turn sets call plan.no_commands m s = Signals true s
+  in_turn sets call (plan.command c cs) m s = after (paid (act sets call c) m s) (in_turn sets call cs m) (Signals false)
 
-  -- the command of the group in which the i-th string stands; a last group without one signals t
-  pub command_of : Groups → ℕ → Mode → Standing → Ending
-  command_of (bare ss) i m s = Signals true s
-  command_of (group q qs cs gs) i m s =
-      if nat_le i (length qs) then paid (in_turn cs) m s else command_of gs (i - suc (length qs)) m s
+  -- the g-th of some commands; t where there is none
+  pub nth_does : List (List ℕ) → (ℕ → Doing) → plan.Commands → ℕ → Mode → Standing → Ending
+  nth_does sets call plan.no_commands g m s = Signals true s
+  nth_does sets call (plan.command c cs) zero m s = paid (act sets call c) m s
+  nth_does sets call (plan.command c cs) (suc g) m s = nth_does sets call cs g m s
 
 -- what a command does
-abbrev pub does : Tree → Doing
-does c = paid (act c)
+abbrev pub does : List (List ℕ) → (ℕ → Doing) → plan.Command → Doing
+does sets call c = paid (act sets call c)
 
--- what a body does; where there is none, nothing
-abbrev pub body_does : Option Tree → Doing
-body_does None m s = Signals true s
-body_does (Some c) m s = does c m s
+-- a call begins with nothing chosen, and at its return the caller's choices are back
+abbrev pub enter : ℕ → Standing → Standing
+enter n s = record s { choices = replicate n None }
+
+abbrev pub leave : List (Option ℕ) → Ending → Ending
+leave choices e = after e (λ t. Signals true (record t { choices = choices })) (λ f. Signals false (record f { choices = choices }))
+
+-- what a routine does, by what its commands do
+abbrev pub body_does : (plan.Command → Doing) → Option plan.Routine → Doing
+body_does run None m s = Signals false s
+body_does run (Some r) m s = leave s.choices (run r.body m (enter r.amongs s))
+
+-- what a call does where this many levels are left
+abbrev pub calls : plan.Plan → ℕ → ℕ → Doing
+calls p zero i m s = Stops Depth s
+calls p (suc n) i m s = body_does (does p.groupings (calls p n)) (slice_get p.routines i) m s
+
+-- what a command does in a program, where this many levels are left
+abbrev pub runs : plan.Plan → ℕ → plan.Command → Doing
+runs p levels = does p.groupings (calls p levels)
+
+-- the same of commands in turn, and of the g-th of them
+abbrev pub all_run : plan.Plan → ℕ → plan.Commands → Doing
+all_run p levels = in_turn p.groupings (calls p levels)
+
+abbrev pub nth_runs : plan.Plan → ℕ → plan.Commands → ℕ → Doing
+nth_runs p levels = nth_does p.groupings (calls p levels)
+
+abbrev pub group_runs : plan.Plan → ℕ → plan.Commands → Option ℕ → Doing
+group_runs p levels cs g m s = chosen g s (λ k. nth_runs p levels cs k m s)

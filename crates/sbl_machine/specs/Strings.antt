@@ -1,6 +1,6 @@
 -- The strings of a plain table.
 use Rattle.std.specs.Prelude.{ℕ, List, map}
-use Rattle.sbl_script.specs.declared.tree.Mode.{Mode}
+use Rattle.sbl_script.specs.declared.marks.Mode.{Mode}
 use Rattle.sbl_machine.specs.Fitting.{read_all}
 use Rattle.sbl_machine.specs.declared.plain.PlainTable.{PlainTable}
 

@@ -1,20 +1,21 @@
 //! The machine that runs Snowball scripts: what a run does to a word, step by step.
 #![tactic(auto)]
 
+pub mod action;
 mod copies;
 pub mod fault;
 mod halt;
 pub mod laws;
 pub mod machine;
 pub mod meter;
-mod node;
-mod numbered;
+pub mod node;
+mod numbering;
 pub mod outcome;
 pub mod plain;
 mod run;
 pub mod search;
 mod state;
-mod table;
+pub mod table;
 
 pub use fault::{RunFault, RunStop};
 pub use machine::Machine;

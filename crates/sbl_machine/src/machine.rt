@@ -1,59 +1,57 @@
 //! The machine.
 
-ghost use Rattle.std.specs.Prelude.{◌≡◌, ◌≤◌, ◌+◌, length, IfOk, MatchResult, Some, ◌↔◌, Err};
-ghost use Rattle.sbl_script.specs.Tree.{Source, body_of};
-ghost use Rattle.sbl_script.specs.View.{view_command};
-ghost use Rattle.sbl_script.specs.Parsed.{source_of};
-ghost use Rattle.sbl_machine.specs.Standing.{Ending};
-ghost use Rattle.sbl_machine.specs.Program.{Follows};
-ghost use Rattle.sbl_machine.specs.Outcome.{outcome_at, outcome_of, run_of, used_at, used_of};
+ghost use Rattle.std.specs.Prelude.{◌≡◌, ◌≤◌, ◌+◌, length, IfOk, MatchResult, ◌↔◌, Err};
+ghost use Rattle.sbl_machine.specs.Kept.{Follows};
 ghost use Rattle.sbl_machine.specs.MachineOf.{IsMachineOf};
+ghost use Rattle.sbl_machine.specs.Outcome.{outcome_at, outcome_of, run_of, used_at, used_of};
+ghost use Rattle.sbl_script.specs.Parsed.{Source, source_of};
+ghost use Rattle.sbl_machine.specs.Standing.{Ending};
 
 use crate::fault::{RunFault, RunStop};
 use crate::halt::Halt;
 use crate::meter::Meter;
-use crate::node::Node;
-use crate::numbered::node_of;
+use crate::node::Program;
+use crate::numbering::program::{Made, numbered, tables_of};
 use crate::outcome::{Outcome, Ran};
-use crate::run::run_command;
+use crate::run::run_call;
 use crate::search::AmongSearch;
 use crate::state::State;
-use crate::table::{TableList, tables_of};
-use sbl_script::{Command, Mode, Script};
+use crate::table::TableList;
+use sbl_script::{Mode, Script};
 use std::alloc::{AllocError, Global};
+
+/// How deep the calls of routines may go, the external counted as one.
+const MOST_LEVELS: u32 = 32;
 
 /// A script, ready to run.
 #[derive(Drop)]
 pub struct Machine<S> {
     tables: TableList<S>,
-    body: Node,
+    program: Program,
 }
 
 impl<S: AmongSearch> Machine<S> {
+    /// A machine of these parts.
+    pub(crate) fn of_parts(tables: TableList<S>, program: Program) -> Machine<S>
+        ensures { result ≡ record { tables = tables; program = program } }
+    {
+        Machine { tables, program }
+    }
+
     /// The machine of a script, which owns what it needs of it. AllocError where a growth was refused.
     pub fn new(alloc: Global, script: &Script) -> Result<Machine<S>, AllocError>
         ensures { IfOk result (λ m. IsMachineOf S S.entries S.mode m (source_of script.now)) }
     {
-        Machine::of(alloc, script.body())
-    }
-
-    /// The machine of a body.
-    pub(crate) fn of(alloc: Global, command: &Command) -> Result<Machine<S>, AllocError>
-        ensures { IfOk result (λ m. (script : Source) → body_of script ≡ Some (view_command command.now) → IsMachineOf S S.entries S.mode m script) }
-    {
-        let mut lists = Vec::new(alloc);
-        let body = node_of(alloc, command, &mut lists)?;
-        let tables = tables_of(alloc, &lists)?;
+        let Made { program, amongs } = numbered(alloc, script)?;
+        let tables = tables_of(alloc, &amongs)?;
         Ok(Machine {
             tables: TableList { tables },
-            body,
+            program,
         })
     }
 
-    /// Runs the script over a word of at most 255 characters. Each command pays one of `limit` steps (our own choice);
-    /// what it then does is Snowball manual, "Strings" to "Among". A run that is refused is an answer, too.
-    /// `MeterFull` exactly where the meter counts no further, `OutOfMemory` where a growth was refused: the meter is then
-    /// as before, else it is raised by one.
+    /// Runs the script over a word with so many steps. `MeterFull` where the meter counts no further,
+    /// `OutOfMemory` where a growth was refused; the meter is then as before, else it is raised by one.
     pub fn run(
         &self,
         alloc: Global,
@@ -81,8 +79,15 @@ impl<S: AmongSearch> Machine<S> {
         ensures outcome { (script : Source) → IsMachineOf S S.entries S.mode self.now script → IfOk result (λ ran. outcome_of ran.outcome ≡ run_of script word.now limit) }
         ensures used { (script : Source) → IsMachineOf S S.entries S.mode self.now script → IfOk result (λ ran. ran.used ≡ used_of script word.now limit) }
     {
-        let mut state = State::start(alloc, word, limit)?;
-        let end = run_command(&self.tables, Mode::Forward, &self.body, &mut state);
+        let mut state = State::start(alloc, &self.program, word, limit)?;
+        let end = run_call(
+            &self.tables,
+            &self.program,
+            MOST_LEVELS,
+            Mode::Forward,
+            self.program.external,
+            &mut state,
+        );
         ended(end, limit, state)
     }
 }

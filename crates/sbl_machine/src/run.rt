@@ -1,51 +1,131 @@
 //! Runs commands over a state.
 
-ghost use Rattle.std.specs.Prelude.{◌≡◌, ◌<◌, ◌≤◌, IfOk, map, slice_get};
-ghost use Rattle.sbl_machine.specs.Standing.{Standing, Ending, Signals, then_on, pay};
-ghost use Rattle.sbl_machine.specs.Program.{Follows, all_in_turn, entry_does, group_does, node_does, search_does};
+ghost use Rattle.std.specs.Prelude.{◌≡◌, ◌+◌, ◌<◌, ◌≤◌, Bool, false, suc, IfOk, slice_get};
+ghost use Rattle.sbl_machine.specs.Kept.{Follows, Tried};
+ghost use Rattle.sbl_machine.specs.Numbers.{value, given};
+ghost use Rattle.sbl_machine.specs.PlanOf.{plan_of, view_node, view_nodes, view_number};
+ghost use Rattle.sbl_machine.specs.Run.{runs, all_run, group_runs, calls, turns, times, count_of, seeks};
+ghost use Rattle.sbl_machine.specs.Search.{choice, search_all, try_one};
+ghost use Rattle.sbl_machine.specs.Standing.{Standing, Ending, Signals, after, then_on, mark, put_back};
 
+use crate::action::Arithmetic;
+use crate::fault::RunFault;
 use crate::halt::Halt;
-use crate::node::{Entry, Node};
-use crate::state::State;
+use crate::node::{Entry, Node, Program};
+use crate::state::numbers::count_of;
+use crate::state::{Mark, State};
 use crate::table::Tables;
 use sbl_script::Mode;
 
 /// Runs a command: its signal, or why it has none.
 #[cycle(run)]
-pub fn run_command<T: Tables>(
+fn run_command<T: Tables>(
     tables: &T,
+    program: &Program,
+    levels: u32,
     mode: Mode,
     command: &Node,
     state: &mut State,
 ) -> Result<bool, Halt>
-    ensures follows { Follows result state.new (node_does (T.listed tables.now) command.now mode state.old) }
+    ensures follows { Follows result state.new (runs (plan_of (T.listed tables.now) program.now) levels (view_node (T.listed tables.now) command.now) mode state.old) }
     ensures fewer { IfOk result (λ _. state.new.steps < state.old.steps) }
 {
-    state.pay()?; // for itself
+    state.pay()?;
     match command {
-        Node::Sequence(commands) => run_in_turn(tables, mode, commands, state),
-        Node::LeftBracket => {
-            state.left_bracket(mode);
+        Node::Act(action) => state.act(&program.groupings, mode, action),
+        Node::Sequence(commands) => run_in_turn(tables, program, levels, mode, commands, state),
+        Node::Or(first, second) => {
+            let from = state.mark();
+            if run_command(tables, program, levels, mode, first, state)? {
+                return Ok(true);
+            }
+            state.put_back(mode, from)?;
+            run_command(tables, program, levels, mode, second, state)
+        }
+        Node::And(first, second) => {
+            let from = state.mark();
+            if !run_command(tables, program, levels, mode, first, state)? {
+                return Ok(false);
+            }
+            state.put_back(mode, from)?;
+            run_command(tables, program, levels, mode, second, state)
+        }
+        Node::Not(inner) => {
+            let from = state.mark();
+            if run_command(tables, program, levels, mode, inner, state)? {
+                return Ok(false);
+            }
+            state.put_back(mode, from)?;
             Ok(true)
         }
-        Node::RightBracket => {
-            state.right_bracket(mode);
+        Node::Test(inner) => {
+            let from = state.mark();
+            if !run_command(tables, program, levels, mode, inner, state)? {
+                return Ok(false);
+            }
+            state.put_back(mode, from)?;
             Ok(true)
         }
-        Node::Delete => {
-            state.replace(&[])?;
+        Node::Try(inner) => {
+            let from = state.mark();
+            if !run_command(tables, program, levels, mode, inner, state)? {
+                state.put_back(mode, from)?;
+            }
             Ok(true)
         }
-        Node::Replace(string) => {
-            state.replace(string)?;
+        Node::Do(inner) => {
+            let from = state.mark();
+            run_command(tables, program, levels, mode, inner, state)?;
+            state.put_back(mode, from)?;
             Ok(true)
         }
-        Node::Match(string) => Ok(state.take_string(mode, string)),
-        Node::Among {
+        Node::Fail(inner) => {
+            run_command(tables, program, levels, mode, inner, state)?;
+            Ok(false)
+        }
+        Node::Repeat(inner) => run_turns(tables, program, levels, mode, inner, state),
+        Node::Loop(count, inner) => run_times(tables, program, levels, mode, count, inner, state),
+        Node::AtLeast(count, inner) => {
+            if !run_times(tables, program, levels, mode, count, inner, state)? {
+                return Ok(false);
+            }
+            run_turns(tables, program, levels, mode, inner, state)
+        }
+        Node::Goto(inner) => run_seek(tables, program, levels, mode, false, inner, state),
+        Node::GoPast(inner) => run_seek(tables, program, levels, mode, true, inner, state),
+        Node::Backwards(inner) => {
+            state.begin_backwards()?;
+            if !run_command(tables, program, levels, Mode::Backward, inner, state)? {
+                return Ok(false);
+            }
+            state.end_backwards()?;
+            Ok(true)
+        }
+        Node::SetLimit(first, second) => {
+            let from = state.mark();
+            let limits = state.limits();
+            if !run_command(tables, program, levels, mode, first, state)? {
+                return Ok(false);
+            }
+            state.limit_here(mode);
+            state.put_back(mode, from)?;
+            let signal = run_command(tables, program, levels, mode, second, state)?;
+            state.limit_back(mode, limits);
+            Ok(signal)
+        }
+        Node::Call(number) => run_call(tables, program, levels, mode, *number, state),
+        Node::Search {
+            among,
             table,
             entries,
+        } => run_search(
+            tables, program, levels, mode, *among, *table, entries, state,
+        ),
+        Node::Among {
+            among,
+            before,
             bodies,
-        } => run_among(tables, mode, *table, entries, bodies, state),
+        } => run_among(tables, program, levels, mode, *among, before, bodies, state),
     }
 }
 
@@ -53,90 +133,213 @@ pub fn run_command<T: Tables>(
 #[cycle(run)]
 fn run_in_turn<T: Tables>(
     tables: &T,
+    program: &Program,
+    levels: u32,
     mode: Mode,
     commands: &[Node],
     state: &mut State,
 ) -> Result<bool, Halt>
-    ensures follows { Follows result state.new (all_in_turn (map (node_does (T.listed tables.now)) commands.now) mode state.old) }
+    ensures follows { Follows result state.new (all_run (plan_of (T.listed tables.now) program.now) levels (view_nodes (T.listed tables.now) commands.now) mode state.old) }
     ensures no_more { IfOk result (λ _. state.new.steps ≤ state.old.steps) }
 {
     for one in commands {
-        if !run_command(tables, mode, one, state)? {
+        if !run_command(tables, program, levels, mode, one, state)? {
             return Ok(false);
         }
     }
     Ok(true)
 }
 
-/// Pays an among's search, and searches.
+/// Runs a command up to its first f, and puts the cursor back to before that.
+#[cycle(run)]
+fn run_turns<T: Tables>(
+    tables: &T,
+    program: &Program,
+    levels: u32,
+    mode: Mode,
+    inner: &Node,
+    state: &mut State,
+) -> Result<bool, Halt>
+    ensures follows { Follows result state.new (turns (suc state.old.steps) (runs (plan_of (T.listed tables.now) program.now) levels (view_node (T.listed tables.now) inner.now)) mode state.old) }
+    ensures no_more { IfOk result (λ _. state.new.steps ≤ state.old.steps) }
+{
+    loop {
+        let from = state.mark();
+        if !run_command(tables, program, levels, mode, inner, state)? {
+            state.put_back(mode, from)?;
+            return Ok(true);
+        }
+    }
+}
+
+/// Runs a command so many times, up to the first f.
+#[cycle(run)]
+fn run_times<T: Tables>(
+    tables: &T,
+    program: &Program,
+    levels: u32,
+    mode: Mode,
+    count: &Arithmetic,
+    inner: &Node,
+    state: &mut State,
+) -> Result<bool, Halt>
+    ensures follows { Follows result state.new (given (value (view_number count.now) mode state.old) state.old (λ z. times (count_of z) (runs (plan_of (T.listed tables.now) program.now) levels (view_node (T.listed tables.now) inner.now)) mode state.old)) }
+    ensures no_more { IfOk result (λ _. state.new.steps ≤ state.old.steps) }
+{
+    let number = state.value(mode, count).map_err(Halt::Refused)?;
+    let mut left = count_of(number);
+    while 0 < left {
+        if !run_command(tables, program, levels, mode, inner, state)? {
+            return Ok(false);
+        }
+        left -= 1;
+    }
+    Ok(true)
+}
+
+/// Tries a command at the cursor and further on, up to its first t; the cursor stays after its match, or goes before it.
+#[cycle(run)]
+fn run_seek<T: Tables>(
+    tables: &T,
+    program: &Program,
+    levels: u32,
+    mode: Mode,
+    past: bool,
+    inner: &Node,
+    state: &mut State,
+) -> Result<bool, Halt>
+    ensures follows { Follows result state.new (seeks (suc state.old.steps) past (runs (plan_of (T.listed tables.now) program.now) levels (view_node (T.listed tables.now) inner.now)) mode state.old) }
+    ensures no_more { IfOk result (λ _. state.new.steps ≤ state.old.steps) }
+{
+    loop {
+        let from = state.mark();
+        if run_command(tables, program, levels, mode, inner, state)? {
+            if !past {
+                state.put_back(mode, from)?;
+            }
+            return Ok(true);
+        }
+        state.put_back(mode, from)?;
+        if !state.take_next(mode) {
+            return Ok(false);
+        }
+    }
+}
+
+/// Calls a routine, where this many levels are left.
+#[cycle(run)]
+pub fn run_call<T: Tables>(
+    tables: &T,
+    program: &Program,
+    levels: u32,
+    mode: Mode,
+    number: usize,
+    state: &mut State,
+) -> Result<bool, Halt>
+    ensures follows { Follows result state.new (calls (plan_of (T.listed tables.now) program.now) levels number mode state.old) }
+    ensures no_more { IfOk result (λ _. state.new.steps ≤ state.old.steps) }
+{
+    if levels == 0 {
+        return Err(Halt::Refused(RunFault::Depth));
+    }
+    match program.routine(number) {
+        None => Ok(false),
+        Some(routine) => {
+            let kept = state.enter(routine.amongs)?;
+            let signal = run_command(tables, program, levels - 1, mode, &routine.body, state)?;
+            state.leave(kept);
+            Ok(signal)
+        }
+    }
+}
+
+/// Runs what an among does before its group's command, and then the command of the group that is chosen.
 #[cycle(run)]
 fn run_among<T: Tables>(
     tables: &T,
+    program: &Program,
+    levels: u32,
     mode: Mode,
-    table: usize,
-    entries: &Vec<Entry>,
+    among: usize,
+    before: &Vec<Node>,
     bodies: &Vec<Node>,
     state: &mut State,
 ) -> Result<bool, Halt>
-    ensures follows { Follows result state.new (then_on (pay state.old) (search_does (map (node_does (T.listed tables.now)) bodies.now.items) entries.now.items (T.listed tables.now table) mode)) }
+    ensures follows { Follows result state.new (after (all_run (plan_of (T.listed tables.now) program.now) levels (view_nodes (T.listed tables.now) before.now.items) mode state.old) (λ t. group_runs (plan_of (T.listed tables.now) program.now) levels (view_nodes (T.listed tables.now) bodies.now.items) (choice among t) mode t) (Signals false)) }
     ensures no_more { IfOk result (λ _. state.new.steps ≤ state.old.steps) }
 {
-    state.pay()?; // for the search
-    run_search(tables, mode, table, entries, bodies, state)
+    if !run_in_turn(tables, program, levels, mode, before, state)? {
+        return Ok(false);
+    }
+    let Some(group) = state.choice(among) else {
+        return Ok(false);
+    };
+    match bodies.get(group) {
+        None => Ok(true),
+        Some(body) => run_command(tables, program, levels, mode, body, state),
+    }
 }
 
-/// Takes the longest string that fits.
+/// Tries the strings that fit, the longest first.
 #[cycle(run)]
 fn run_search<T: Tables>(
     tables: &T,
+    program: &Program,
+    levels: u32,
     mode: Mode,
+    among: usize,
     table: usize,
     entries: &[Entry],
-    bodies: &[Node],
     state: &mut State,
 ) -> Result<bool, Halt>
-    ensures follows { Follows result state.new (search_does (map (node_does (T.listed tables.now)) bodies.now) entries.now (T.listed tables.now table) mode state.old) }
+    ensures follows { Follows result state.new (search_all (calls (plan_of (T.listed tables.now) program.now) levels) among entries.now (T.listed tables.now table) mode state.old) }
     ensures no_more { IfOk result (λ _. state.new.steps ≤ state.old.steps) }
 {
-    match tables.longest(table, state.text(), state.place(), state.bound(mode)) {
-        None => Ok(false),
-        Some(i) => run_entry(tables, mode, entries.get(i).copied(), bodies, state),
+    let from = state.mark();
+    let mut place = tables.longest(table, state.text(), state.place(), state.bound(mode));
+    while let Some(i) = place {
+        match run_try(
+            tables, program, levels, mode, among, from, entries, i, state,
+        ) {
+            Err(halt) => return Err(halt),
+            Ok(true) => return Ok(true),
+            Ok(false) => {}
+        }
+        place = tables.next_shorter(table, i);
     }
+    state.choose(among, None);
+    Ok(false)
 }
 
-/// Goes over a string, and runs its group's command.
+/// Tries one string, and answers whether it is taken: not where its condition signals f.
 #[cycle(run)]
-fn run_entry<T: Tables>(
+fn run_try<T: Tables>(
     tables: &T,
+    program: &Program,
+    levels: u32,
     mode: Mode,
-    entry: Option<Entry>,
-    bodies: &[Node],
+    among: usize,
+    from: Mark,
+    entries: &[Entry],
+    i: usize,
     state: &mut State,
 ) -> Result<bool, Halt>
-    ensures follows { Follows result state.new (entry_does (map (node_does (T.listed tables.now)) bodies.now) entry mode state.old) }
+    requires { from.cursor + from.beyond + from.length ≤ 4096 }
+    ensures tried { (begun : Standing) (follow : Standing → Ending) → from ≡ mark begun → Tried result state.new (try_one (calls (plan_of (T.listed tables.now) program.now) levels) among (slice_get entries.now i) mode begun state.old follow) (follow state.new) }
     ensures no_more { IfOk result (λ _. state.new.steps ≤ state.old.steps) }
+    ensures fewer { IfOk result (λ b. b ≡ false → state.new.steps < state.old.steps) }
 {
-    let Some(entry) = entry else {
-        return Ok(false);
+    let Some(entry) = entries.get(i).copied() else {
+        return Ok(true);
     };
-    state.step_over(mode, entry.len)?;
-    run_group(tables, mode, bodies, entry.group, state)
-}
-
-/// Runs a group's command, if it has one.
-#[cycle(run)]
-fn run_group<T: Tables>(
-    tables: &T,
-    mode: Mode,
-    bodies: &[Node],
-    group: usize,
-    state: &mut State,
-) -> Result<bool, Halt>
-    ensures follows { Follows result state.new (group_does (slice_get (map (node_does (T.listed tables.now)) bodies.now) group) mode state.old) }
-    ensures no_more { IfOk result (λ _. state.new.steps ≤ state.old.steps) }
-{
-    match bodies.get(group) {
-        None => Ok(true),
-        Some(body) => run_command(tables, mode, body, state),
+    state.place_after(mode, from, entry.length)?;
+    if let Some(number) = entry.condition {
+        state.pay()?;
+        if !run_call(tables, program, levels, mode, number, state)? {
+            return Ok(false);
+        }
     }
+    state.place_after(mode, from, entry.length)?;
+    state.choose(among, Some(entry.group));
+    Ok(true)
 }

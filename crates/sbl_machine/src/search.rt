@@ -2,7 +2,7 @@
 
 ghost use Rattle.std.specs.Prelude.{◌≡◌, ◌++◌, ◌∷◌, ◌≤◌, List, ℕ, length, map, IfOk};
 ghost use Rattle.sbl_machine.specs.Fitting.{ahead_at, first, fitting, read_all};
-ghost use Rattle.sbl_script.specs.declared.tree.Mode.{Mode as ModeOf};
+ghost use Rattle.sbl_script.specs.declared.marks.Mode.{Mode as ModeOf};
 
 use sbl_script::Mode;
 use std::alloc::{AllocError, Global};

@@ -1,14 +1,25 @@
 //! The state of a run: its text, the places in it, and its variables.
 
-ghost use Rattle.std.specs.Prelude.{◌≡◌, ◌+◌, ◌-◌, ◌<◌, ◌≤◌, ◌^◌, length, nat_eq, vec_len, true, IfOk, OnOk, IsTrue};
-ghost use Rattle.std.specs.List.{starts_with, splice};
+ghost use Rattle.std.specs.Prelude.{◌≡◌, ℕ, ◌+◌, ◌-◌, ◌<◌, ◌≤◌, ◌^◌, [], length, map, replicate, IfOk};
 ghost use Rattle.sbl_machine.specs.Fitting.{read_as};
-ghost use Rattle.sbl_machine.specs.Standing.{Standing, Signals, start, pay, step_over, at_place, match, replace, left_bracket, right_bracket, ahead, shifted};
-ghost use Rattle.sbl_machine.specs.Program.{Leads, bound_of, room};
+ghost use Rattle.sbl_machine.specs.Standing.{Standing, pay, at_place, at_difference, to_limit, mark, put_back, step_over, place_after, ahead, room};
+ghost use Rattle.sbl_machine.specs.Listed.{Listed};
+ghost use Rattle.sbl_machine.specs.PlanOf.{plan_of, view_text};
+ghost use Rattle.sbl_machine.specs.Moves.{characters};
+ghost use Rattle.sbl_machine.specs.Kept.{Leads};
+ghost use Rattle.sbl_machine.specs.Outcome.{start};
 
+mod actions;
+mod control;
+mod moves;
+pub mod numbers;
+mod slices;
+
+use crate::action::StringTerm;
 use crate::copies::copied;
 use crate::fault::RunFault;
 use crate::halt::Halt;
+use crate::node::Program;
 use sbl_script::Mode;
 use std::alloc::{AllocError, Global};
 use std::marker::Model;
@@ -21,51 +32,83 @@ const MOST_CHARS: usize = 1024;
 pub struct State {
     text: Vec<char>,
     cursor: usize,
-    limit: usize,
     left: usize,
+    beyond: usize,
     bra: usize,
     ket: usize,
     integers: Vec<i32>,
     booleans: Vec<bool>,
     strings: Vec<Vec<char>>,
-    steps: u32,
-    level: u32,
     choices: Vec<Option<usize>>,
+    steps: u32,
+    // What the next splice is made in, and what the choices of the next calls are kept in.
+    spare: Vec<char>,
+    spares: Vec<Vec<Option<usize>>>,
 }
 
 impl Model for State {
     ghost use Rattle.std.specs.Prelude.{map};
     ghost use Rattle.sbl_machine.specs.Standing.{Standing};
-    ghost use Rattle.sbl_machine.specs.Program.{IsWithin};
+    ghost use Rattle.sbl_machine.specs.Kept.{IsWithin};
 
     ghost Value = { Standing };
 
-    ghost view = { λ s. record { text = s.text.items; cursor = s.cursor; limit = s.limit; left = s.left; bra = s.bra; ket = s.ket; integers = s.integers.items; booleans = s.booleans.items; strings = map (λ v. v.items) s.strings.items; steps = s.steps; level = s.level; choices = s.choices.items } };
+    ghost view = { λ s. record { text = s.text.items; cursor = s.cursor; left = s.left; beyond = s.beyond; bra = s.bra; ket = s.ket; integers = s.integers.items; booleans = s.booleans.items; strings = map (λ v. v.items) s.strings.items; choices = s.choices.items; steps = s.steps } };
 
-    ghost invariant = { λ s. IsWithin record { text = s.text.items; cursor = s.cursor; limit = s.limit; left = s.left; bra = s.bra; ket = s.ket; integers = s.integers.items; booleans = s.booleans.items; strings = map (λ v. v.items) s.strings.items; steps = s.steps; level = s.level; choices = s.choices.items } };
+    ghost invariant = { λ s. IsWithin s.text.items s.cursor s.left s.beyond s.bra s.ket };
+}
+
+/// The limits of both directions.
+#[derive(Clone, Copy)]
+pub struct Limits {
+    /// The left limit.
+    pub left: usize,
+    /// How many characters stand beyond the limit.
+    pub beyond: usize,
+}
+
+/// What putting the cursor back needs of a state.
+#[derive(Clone, Copy)]
+pub struct Mark {
+    /// The cursor.
+    pub cursor: usize,
+    /// How many characters stand beyond the limit.
+    pub beyond: usize,
+    /// How many characters the text has.
+    pub length: usize,
 }
 
 impl State {
     /// Where a run of a word begins, with so many steps. AllocError where a growth was refused.
-    pub fn start(alloc: Global, word: &[char], steps: u32) -> Result<State, AllocError>
+    pub fn start(
+        alloc: Global,
+        program: &Program,
+        word: &[char],
+        steps: u32,
+    ) -> Result<State, AllocError>
         requires { length word.now ≤ 255 }
-        ensures { IfOk result (λ s. s ≡ start word.now steps) }
+        ensures { (tables : ℕ → Listed) → IfOk result (λ s. s ≡ start (plan_of tables program.now) word.now steps) }
     {
         let text = copied(alloc, word)?;
-        let limit = text.len();
+        let mut integers = Vec::new(alloc);
+        integers.resize(program.integers, 0)?;
+        let mut booleans = Vec::new(alloc);
+        booleans.resize(program.booleans, false)?;
+        let strings = empty_strings(alloc, program.strings)?;
         Ok(State {
             text,
             cursor: 0,
-            limit,
             left: 0,
+            beyond: 0,
             bra: 0,
             ket: 0,
-            integers: Vec::new(alloc),
-            booleans: Vec::new(alloc),
-            strings: Vec::new(alloc),
-            steps,
-            level: 0,
+            integers,
+            booleans,
+            strings,
             choices: Vec::new(alloc),
+            steps,
+            spare: Vec::new(alloc),
+            spares: Vec::new(alloc),
         })
     }
 
@@ -83,9 +126,9 @@ impl State {
         self.steps
     }
 
-    /// Pays a step.
+    /// Pays a step. `Steps` where none is left.
     pub fn pay(&mut self) -> Result<(), Halt>
-        ensures { Leads result self.new (pay self.old) }
+        ensures { Leads result self.new (pay self.old.steps self.old) }
     {
         if self.steps == 0 {
             return Err(Halt::Refused(RunFault::Steps));
@@ -94,8 +137,57 @@ impl State {
         Ok(())
     }
 
-    /// Moves the cursor over so many characters. `Cursor` where it would leave the text.
-    pub fn step_over(&mut self, mode: Mode, n: usize) -> Result<(), Halt>
+    // The cursor at a place.
+    fn go_to(&mut self, place: usize) -> Result<(), Halt>
+        ensures { Leads result self.new (at_place place self.old) }
+    {
+        if place > self.text.len() {
+            return Err(Halt::Refused(RunFault::Cursor));
+        }
+        self.cursor = place;
+        Ok(())
+    }
+
+    // The cursor at the place `b` left of `a`.
+    fn go_to_difference(&mut self, a: usize, b: usize) -> Result<(), Halt>
+        ensures { Leads result self.new (at_difference a b self.old) }
+    {
+        if a < b {
+            return Err(Halt::Refused(RunFault::Cursor));
+        }
+        self.go_to(a - b)
+    }
+
+    /// What has to be kept to put the cursor back here.
+    pub fn mark(&self) -> Mark
+        ensures value { result ≡ mark self.now }
+        ensures small { result.cursor + result.beyond + result.length ≤ 4096 }
+    {
+        Mark {
+            cursor: self.cursor,
+            beyond: self.beyond,
+            length: self.text.len(),
+        }
+    }
+
+    /// Puts the cursor back to a mark. `Cursor` where that place is outside the text.
+    pub fn put_back(&mut self, mode: Mode, from: Mark) -> Result<(), Halt>
+        requires { from.cursor + from.beyond + from.length ≤ 4096 }
+        ensures leads { Leads result self.new (put_back mode from self.old) }
+        ensures same_steps { IfOk result (λ _. self.new.steps ≡ self.old.steps) }
+    {
+        match mode {
+            Mode::Forward => self.go_to(from.cursor),
+            Mode::Backward => {
+                let whole = self.text.len() + from.beyond + from.cursor;
+                let part = self.beyond + from.length;
+                self.go_to_difference(whole, part)
+            }
+        }
+    }
+
+    // The cursor over so many characters, which need not be ahead.
+    fn step_over(&mut self, mode: Mode, n: usize) -> Result<(), Halt>
         ensures leads { Leads result self.new (step_over mode n self.old) }
         ensures same_steps { IfOk result (λ _. self.new.steps ≡ self.old.steps) }
     {
@@ -108,65 +200,60 @@ impl State {
                 Ok(())
             }
             Mode::Backward => {
-                if self.cursor < n {
-                    return Err(Halt::Refused(RunFault::Cursor));
-                }
-                self.cursor -= n;
-                Ok(())
+                let cursor = self.cursor;
+                self.go_to_difference(cursor, n)
             }
         }
     }
 
-    /// `[`
-    pub fn left_bracket(&mut self, mode: Mode)
-        ensures { self.new ≡ left_bracket mode self.old }
+    /// Sets the cursor just after a string of so many characters that begins at a mark. `Cursor` where one of the two
+    /// places is outside the text.
+    pub fn place_after(&mut self, mode: Mode, from: Mark, n: usize) -> Result<(), Halt>
+        requires { from.cursor + from.beyond + from.length ≤ 4096 }
+        ensures leads { Leads result self.new (place_after mode from n self.old) }
+        ensures same_steps { IfOk result (λ _. self.new.steps ≡ self.old.steps) }
+    {
+        self.put_back(mode, from)?;
+        self.step_over(mode, n)
+    }
+
+    /// `tolimit`. `Cursor` where the limit is outside the text.
+    pub fn to_limit(&mut self, mode: Mode) -> Result<(), Halt>
+        ensures leads { Leads result self.new (to_limit mode self.old) }
+        ensures same_steps { IfOk result (λ _. self.new.steps ≡ self.old.steps) }
     {
         match mode {
-            Mode::Forward => self.bra = self.cursor,
-            Mode::Backward => self.ket = self.cursor,
-        }
-    }
-
-    /// `]`
-    pub fn right_bracket(&mut self, mode: Mode)
-        ensures { self.new ≡ right_bracket mode self.old }
-    {
-        match mode {
-            Mode::Forward => self.ket = self.cursor,
-            Mode::Backward => self.bra = self.cursor,
-        }
-    }
-
-    /// The text.
-    pub fn text(&self) -> &[char]
-        ensures { result.now ≡ self.now.text }
-    {
-        &self.text
-    }
-
-    /// The cursor.
-    pub fn place(&self) -> usize
-        ensures value { result ≡ self.now.cursor }
-        ensures within { result ≤ length self.now.text }
-    {
-        self.cursor
-    }
-
-    /// The end of what is ahead.
-    pub fn bound(&self, mode: Mode) -> usize
-        ensures value { result ≡ bound_of mode self.now }
-        ensures within { result ≤ length self.now.text }
-    {
-        match mode {
-            Mode::Forward => self.limit,
+            Mode::Forward => {
+                let length = self.text.len();
+                let beyond = self.beyond;
+                self.go_to_difference(length, beyond)
+            }
             Mode::Backward => {
-                if self.left < self.text.len() {
-                    self.left
-                } else {
-                    self.text.len()
-                }
+                let left = self.left;
+                self.go_to(left)
             }
         }
+    }
+
+    /// The characters of a literal, or of a string variable.
+    pub fn characters<'a>(&'a self, term: &'a StringTerm) -> &'a [char]
+        ensures { result.now ≡ characters (view_text term.now) self.now }
+    {
+        match term {
+            StringTerm::Literal(string) => string,
+            StringTerm::Variable(number) => match self.strings.get(*number) {
+                None => &[],
+                Some(string) => string,
+            },
+        }
+    }
+
+    // The limit, as far as it is in the text.
+    fn limit(&self) -> usize
+        ensures value { result ≡ length self.now.text - self.now.beyond }
+        ensures within { result ≤ length self.now.text }
+    {
+        self.text.len().saturating_sub(self.beyond)
     }
 
     /// What is ahead, as it lies in the text.
@@ -176,8 +263,9 @@ impl State {
     {
         match mode {
             Mode::Forward => {
-                if self.cursor < self.limit {
-                    &self.text[self.cursor..self.limit]
+                let limit = self.limit();
+                if self.cursor < limit {
+                    &self.text[self.cursor..limit]
                 } else {
                     &[]
                 }
@@ -191,82 +279,15 @@ impl State {
             }
         }
     }
-
-    /// A literal.
-    pub fn take_string(&mut self, mode: Mode, string: &[char]) -> bool
-        ensures { match string.now mode self.old ≡ Signals result self.new }
-    {
-        let found = is_front(mode, self.part_ahead(mode), string);
-        if found {
-            match mode {
-                Mode::Forward => self.cursor += string.len(),
-                Mode::Backward => self.cursor -= string.len(),
-            }
-        }
-        found
-    }
-
-    /// Replaces the slice.
-    pub fn replace(&mut self, string: &[char]) -> Result<(), Halt>
-        ensures { Leads result self.new (replace string.now self.old) }
-    {
-        if self.bra > self.ket || self.ket > self.limit {
-            return Err(Halt::Refused(RunFault::Slice));
-        }
-        let gone = self.ket - self.bra;
-        if string.len() > MOST_CHARS || self.text.len() + string.len() - gone > MOST_CHARS {
-            return Err(Halt::Refused(RunFault::TooLong));
-        }
-        let alloc = *self.text.allocator();
-        self.text = spliced(alloc, &self.text, self.bra, self.ket, string)?;
-        self.limit = self.limit + string.len() - gone;
-        self.cursor = shift(self.cursor, self.bra, self.ket, string.len());
-        self.ket = self.bra + string.len();
-        Ok(())
-    }
 }
 
-// Whether a string is the front of what the mode reads of a part of the text.
-fn is_front(mode: Mode, part: &[char], string: &[char]) -> bool
-    ensures value { result ≡ starts_with nat_eq (read_as mode part.now) (read_as mode string.now) }
-    ensures bound { IsTrue result → length string.now ≤ length part.now }
+// So many empty strings.
+fn empty_strings(alloc: Global, count: usize) -> Result<Vec<Vec<char>>, AllocError>
+    ensures { IfOk result (λ v. map (λ x. x.items) v.items ≡ replicate count []) }
 {
-    match mode {
-        Mode::Forward => part.starts_with(string),
-        Mode::Backward => part.ends_with(string),
+    let mut strings = Vec::new(alloc);
+    for _i in 0..count {
+        strings.push(Vec::new(alloc))?;
     }
-}
-
-// A cursor after a replacement of a slice by so many characters.
-fn shift(cursor: usize, bra: usize, ket: usize, len: usize) -> usize
-    requires small { cursor + len < 2 ^ 32 }
-    requires ordered { bra ≤ ket }
-    ensures { result ≡ shifted len bra ket cursor }
-{
-    if ket <= cursor {
-        cursor + len - (ket - bra)
-    } else if bra < cursor {
-        bra
-    } else {
-        cursor
-    }
-}
-
-// A text with a string in place of a part of it.
-fn spliced(
-    alloc: Global,
-    text: &[char],
-    from: usize,
-    to: usize,
-    string: &[char],
-) -> Result<Vec<char>, AllocError>
-    requires ordered { from ≤ to }
-    requires inside { to ≤ length text.now }
-    ensures { IfOk result (λ v. v.items ≡ splice text.now from to string.now) }
-{
-    let mut made = Vec::new(alloc);
-    made.extend_from_slice(&text[..from])?;
-    made.extend_from_slice(string)?;
-    made.extend_from_slice(&text[to..])?;
-    Ok(made)
+    Ok(strings)
 }

@@ -1,14 +1,10 @@
 //! The tables of a script's amongs, by number.
 
-ghost use Rattle.std.specs.Prelude.{◌≡◌, ◌≤◌, ℕ, IfOk, length, map, slice_get};
-ghost use Rattle.sbl_script.specs.declared.tree.Mode.TheVariants.{Forward};
-ghost use Rattle.sbl_machine.specs.Numbered.{texts_of};
+ghost use Rattle.std.specs.Prelude.{◌≡◌, ◌≤◌, ◌++◌, ◌∷◌, List, ℕ, length, slice_get};
 ghost use Rattle.sbl_machine.specs.Fitting.{first};
-ghost use Rattle.sbl_machine.specs.Listed.{Listed, fits_at, listed_by, listed_of, listing};
+ghost use Rattle.sbl_machine.specs.Listed.{Listed, fits_at, listed_by};
 
 use crate::search::AmongSearch;
-use sbl_script::Mode;
-use std::alloc::{AllocError, Global};
 
 /// Searches of all the amongs of a script.
 pub trait Tables {
@@ -20,6 +16,10 @@ pub trait Tables {
         requires at_in { at ≤ length text.now }
         requires bound_in { bound ≤ length text.now }
         ensures { result ≡ first (fits_at (listed self.now table) text.now at bound) };
+
+    /// The longest string below this one that fits wherever this one does.
+    fn next_shorter(&self, table: usize, i: usize) -> Option<usize>
+        ensures { (text : List ℕ) (at bound : ℕ) (before rest : List ℕ) → fits_at (listed self.now table) text at bound ≡ before ++ (i ∷ rest) → result ≡ first rest };
 }
 
 /// One table for each among.
@@ -38,18 +38,11 @@ impl<S: AmongSearch> Tables for TableList<S> {
             Some(search) => search.longest(text, at, bound),
         }
     }
-}
 
-/// A table for each of these lists of strings, which it reads forwards. AllocError where a growth was refused.
-pub fn tables_of<S: AmongSearch>(
-    alloc: Global,
-    lists: &[Vec<Vec<char>>],
-) -> Result<Vec<S>, AllocError>
-    ensures { IfOk result (λ ts. map (listed_of S S.entries S.mode) ts.items ≡ map (listing Forward) (texts_of lists.now)) }
-{
-    let mut tables = Vec::new(alloc);
-    for list in lists {
-        tables.push(S::build(alloc, list, Mode::Forward)?)?;
+    fn next_shorter(&self, table: usize, i: usize) -> Option<usize> {
+        match self.tables.get(table) {
+            None => None,
+            Some(search) => search.next_shorter(i),
+        }
     }
-    Ok(tables)
 }

@@ -1,12 +1,15 @@
 //! Worked rows.
 
+use crate::action::{Action, Arithmetic, Change, StringTerm};
 use crate::fault::{RunFault, RunStop};
 use crate::machine::Machine;
 use crate::meter::Meter;
+use crate::node::{Entry, Node, Program, Routine};
 use crate::outcome::Outcome;
 use crate::plain::PlainTable;
 use crate::search::AmongSearch;
-use sbl_script::{Among, Command, Entry, Group, Literal, Mode, Script};
+use crate::table::TableList;
+use sbl_script::Mode;
 use std::alloc::{AllocError, Global};
 use std::process::Abort;
 use std::test::Fail;
@@ -19,165 +22,422 @@ fn letters(alloc: Global, text: &str) -> Result<Vec<char>, AllocError> {
     Ok(chars)
 }
 
-fn literal(alloc: Global, text: &str) -> Result<Literal, AllocError> {
-    let mut spelling = String::new(alloc);
-    spelling.push_str(text)?;
-    Ok(Literal {
-        spelling,
-        value: letters(alloc, text)?,
-    })
+fn literal(alloc: Global, text: &str) -> Result<StringTerm, AllocError> {
+    Ok(StringTerm::Literal(letters(alloc, text)?))
 }
 
-fn stem(alloc: Global, text: &str) -> Result<Outcome, AllocError> {
-    Ok(Outcome::Stem(letters(alloc, text)?))
+fn matched(alloc: Global, text: &str) -> Result<Node, AllocError> {
+    Ok(Node::Act(Action::Match(literal(alloc, text)?)))
 }
 
-/// Runs a body over a word, and compares what it gives.
-fn row(
+fn boxed(alloc: Global, node: Node) -> Result<Box<Node>, AllocError> {
+    Box::new(alloc, node).map_err(AllocError::from)
+}
+
+fn table(alloc: Global, mode: Mode, strings: &[&str]) -> Result<PlainTable, AllocError> {
+    let mut all = Vec::new(alloc);
+    for string in strings {
+        all.push(letters(alloc, string)?)?;
+    }
+    PlainTable::build(alloc, &all, mode)
+}
+
+fn machine(
+    alloc: Global,
+    tables: Vec<PlainTable>,
+    bodies: Vec<Node>,
+) -> Result<Machine<PlainTable>, AllocError> {
+    let mut routines = Vec::new(alloc);
+    for body in bodies {
+        routines.push(Routine { body, amongs: 2 })?;
+    }
+    Ok(Machine::of_parts(
+        TableList { tables },
+        Program {
+            integers: 2,
+            booleans: 2,
+            strings: 2,
+            groupings: Vec::new(alloc),
+            routines,
+            external: 0,
+        },
+    ))
+}
+
+fn alone(alloc: Global, body: Node) -> Result<Machine<PlainTable>, AllocError> {
+    machine(alloc, Vec::new(alloc), vec![in alloc; body]?)
+}
+
+fn ran(
     rt: &impl Abort,
     alloc: Global,
-    body: &Command,
+    machine: &Machine<PlainTable>,
     word: &str,
     limit: u32,
     outcome: &Outcome,
     used: u64,
 ) -> Result<(), Fail> {
-    let machine: Machine<PlainTable> = Machine::of(alloc, body)?;
     let mut meter = Meter::new();
     let chars = letters(alloc, word)?;
     assert!(rt; chars.len() <= 255);
     let ran = machine.run(alloc, &mut meter, &chars, limit)?;
     assert_eq!(rt; &ran.outcome, outcome, "{word} at {limit}");
-    assert_eq!(rt; ran.used, used, "{word} at {limit}");
+    if used > 0 {
+        assert_eq!(rt; ran.used, used, "{word} at {limit}");
+    }
     assert_eq!(rt; meter.count(), 1);
     Ok(())
 }
 
+fn stems(
+    rt: &impl Abort,
+    alloc: Global,
+    machine: &Machine<PlainTable>,
+    word: &str,
+    stem: &str,
+    used: u64,
+) -> Result<(), Fail> {
+    let outcome = Outcome::Stem(letters(alloc, stem)?);
+    ran(rt, alloc, machine, word, 100_000, &outcome, used)
+}
+
+fn refuses(
+    rt: &impl Abort,
+    alloc: Global,
+    machine: &Machine<PlainTable>,
+    word: &str,
+    fault: RunFault,
+) -> Result<(), Fail> {
+    ran(
+        rt,
+        alloc,
+        machine,
+        word,
+        100_000,
+        &Outcome::Refused(fault),
+        0,
+    )
+}
+
 #[test]
-fn replaces(rt: HostRuntime) -> Result<(), Fail> {
+fn turns(rt: HostRuntime) -> Result<(), Fail> {
     let alloc = rt.alloc();
-    let body = Command::Sequence(vec![in alloc;
-        Command::LeftBracket,
-        Command::Match(literal(alloc, "a")?),
-        Command::RightBracket,
-        Command::Replace(literal(alloc, "bc")?),
-    ]?);
-    row(&rt, alloc, &body, "ad", 100_000, &stem(alloc, "bcd")?, 5)?;
-    row(&rt, alloc, &body, "da", 100_000, &stem(alloc, "da")?, 3)?;
-    row(&rt, alloc, &body, "ad", 5, &stem(alloc, "bcd")?, 5)?;
-    row(
+    let endless = Node::Repeat(boxed(alloc, Node::Act(Action::True))?);
+    let endless = alone(alloc, endless)?;
+    let steps = Outcome::Refused(RunFault::Steps);
+    ran(&rt, alloc, &endless, "a", 100_000, &steps, 100_001)?;
+    let twice = Node::Loop(
+        Arithmetic::Number(2),
+        boxed(alloc, Node::Act(Action::Next))?,
+    );
+    let twice = alone(alloc, twice)?;
+    stems(&rt, alloc, &twice, "ab", "ab", 3)?;
+    stems(&rt, alloc, &twice, "a", "a", 3)?;
+    ran(
         &rt,
         alloc,
-        &body,
-        "ad",
-        4,
-        &Outcome::Refused(RunFault::Steps),
+        &twice,
+        "ab",
+        3,
+        &Outcome::Stem(letters(alloc, "ab")?),
+        3,
+    )?;
+    ran(&rt, alloc, &twice, "ab", 2, &steps, 3)?;
+    let once = Node::AtLeast(
+        Arithmetic::Number(1),
+        boxed(alloc, Node::Act(Action::Next))?,
+    );
+    stems(&rt, alloc, &alone(alloc, once)?, "ab", "ab", 4)?;
+    let itself = alone(alloc, Node::Call(0))?;
+    refuses(&rt, alloc, &itself, "a", RunFault::Depth)
+}
+
+#[test]
+fn slices(rt: HostRuntime) -> Result<(), Fail> {
+    let alloc = rt.alloc();
+    let crossed = alone(
+        alloc,
+        Node::Sequence(vec![in alloc;
+            Node::Act(Action::Next),
+            Node::Act(Action::RightBracket),
+            Node::Act(Action::ToLimit),
+            Node::Act(Action::LeftBracket),
+            Node::Act(Action::Delete),
+        ]?),
+    )?;
+    refuses(&rt, alloc, &crossed, "ab", RunFault::Slice)?;
+    stems(&rt, alloc, &crossed, "a", "a", 6)?;
+    let kept = alone(
+        alloc,
+        Node::Sequence(vec![in alloc;
+            Node::Act(Action::LeftBracket),
+            Node::Act(Action::Next),
+            Node::Act(Action::RightBracket),
+            Node::Act(Action::Keep(0)),
+            Node::Act(Action::ToLimit),
+            Node::Act(Action::Insert(StringTerm::Variable(0))),
+        ]?),
+    )?;
+    stems(&rt, alloc, &kept, "ab", "aba", 7)?;
+    let grows = Node::Repeat(boxed(alloc, Node::Act(Action::Insert(literal(alloc, "aa")?)))?);
+    refuses(&rt, alloc, &alone(alloc, grows)?, "a", RunFault::TooLong)
+}
+
+#[test]
+fn limits(rt: HostRuntime) -> Result<(), Fail> {
+    let alloc = rt.alloc();
+    let inner = Node::Sequence(vec![in alloc;
+        Node::Act(Action::LeftBracket),
+        Node::GoPast(boxed(alloc, matched(alloc, "b")?)?),
+        Node::Act(Action::RightBracket),
+        Node::Act(Action::Delete),
+    ]?);
+    let limited = Node::SetLimit(
+        boxed(alloc, Node::Act(Action::Hop(Arithmetic::Number(2))))?,
+        boxed(alloc, inner)?,
+    );
+    let body = Node::Sequence(vec![in alloc; limited]?);
+    let back = alone(alloc, Node::Backwards(boxed(alloc, body)?))?;
+    stems(&rt, alloc, &back, "abbd", "ab", 0)?;
+    stems(&rt, alloc, &back, "abcd", "abcd", 0)?;
+    let body = Node::Sequence(vec![in alloc;
+        Node::Act(Action::LeftBracket),
+        Node::Act(Action::Next),
+        Node::Act(Action::Next),
+        Node::Act(Action::RightBracket),
+        Node::Do(boxed(alloc, Node::Act(Action::Delete))?),
+    ]?);
+    let back = alone(alloc, Node::Backwards(boxed(alloc, body)?))?;
+    refuses(&rt, alloc, &back, "ab", RunFault::Cursor)?;
+    stems(&rt, alloc, &back, "a", "a", 0)
+}
+
+#[test]
+fn numbers(rt: HostRuntime) -> Result<(), Fail> {
+    let alloc = rt.alloc();
+    let over = alone(
+        alloc,
+        Node::Sequence(vec![in alloc;
+            Node::Act(Action::Assign(0, Change::Becomes, Arithmetic::Greatest)),
+            Node::Act(Action::Assign(0, Change::Plus, Arithmetic::Number(1))),
+        ]?),
+    )?;
+    refuses(&rt, alloc, &over, "a", RunFault::Integer)?;
+    let quotient = Arithmetic::Quotient(
+        Box::new(alloc, Arithmetic::Number(1)).map_err(AllocError::from)?,
+        Box::new(alloc, Arithmetic::Number(0)).map_err(AllocError::from)?,
+    );
+    let none = alone(
+        alloc,
+        Node::Act(Action::Assign(0, Change::Becomes, quotient)),
+    )?;
+    refuses(&rt, alloc, &none, "a", RunFault::Divide)
+}
+
+#[test]
+fn seeks(rt: HostRuntime) -> Result<(), Fail> {
+    let alloc = rt.alloc();
+    let cut = alone(
+        alloc,
+        Node::Sequence(vec![in alloc;
+            Node::Goto(boxed(alloc, matched(alloc, "b")?)?),
+            Node::Act(Action::LeftBracket),
+            Node::Act(Action::ToLimit),
+            Node::Act(Action::RightBracket),
+            Node::Act(Action::Delete),
+        ]?),
+    )?;
+    stems(&rt, alloc, &cut, "abc", "a", 8)?;
+    stems(&rt, alloc, &cut, "acd", "acd", 6)
+}
+
+fn entry(condition: Option<usize>, group: usize, length: usize) -> Entry {
+    Entry {
+        condition,
+        group,
+        length,
+    }
+}
+
+fn empty(alloc: Global) -> Node {
+    Node::Sequence(Vec::new(alloc))
+}
+
+#[test]
+fn among_with_condition(rt: HostRuntime) -> Result<(), Fail> {
+    let alloc = rt.alloc();
+    let among = Node::Among {
+        among: 0,
+        before: vec![in alloc;
+            Node::Search {
+                among: 0,
+                table: 0,
+                entries: vec![in alloc; entry(None, 0, 1), entry(Some(1), 1, 2)]?,
+            },
+        ]?,
+        bodies: vec![in alloc; empty(alloc), empty(alloc)]?,
+    };
+    let body = Node::Sequence(vec![in alloc;
+        Node::Act(Action::LeftBracket),
+        among,
+        Node::Act(Action::RightBracket),
+        Node::Act(Action::Delete),
+    ]?);
+    let tables = vec![in alloc; table(alloc, Mode::Forward, &["a", "ab"])?]?;
+    let made = machine(alloc, tables, vec![in alloc; body, matched(alloc, "x")?]?)?;
+    stems(&rt, alloc, &made, "abx", "x", 9)?;
+    stems(&rt, alloc, &made, "aby", "by", 9)?;
+    stems(&rt, alloc, &made, "ab", "b", 9)?;
+    stems(&rt, alloc, &made, "b", "b", 4)
+}
+
+#[test]
+fn condition_that_cuts(rt: HostRuntime) -> Result<(), Fail> {
+    let alloc = rt.alloc();
+    let among = Node::Among {
+        among: 0,
+        before: vec![in alloc;
+            Node::Search {
+                among: 0,
+                table: 0,
+                entries: vec![in alloc; entry(Some(1), 0, 2)]?,
+            },
+        ]?,
+        bodies: vec![in alloc; empty(alloc)]?,
+    };
+    let body = Node::Sequence(vec![in alloc; Node::Act(Action::LeftBracket), among]?);
+    let cuts = Node::Sequence(vec![in alloc;
+        Node::Act(Action::RightBracket),
+        Node::Act(Action::Delete),
+    ]?);
+    let tables = vec![in alloc; table(alloc, Mode::Forward, &["ab"])?]?;
+    let made = machine(alloc, tables, vec![in alloc; body, cuts]?)?;
+    stems(&rt, alloc, &made, "abab", "ab", 0)?;
+    refuses(&rt, alloc, &made, "ab", RunFault::Cursor)
+}
+
+#[test]
+fn substring_and_starter(rt: HostRuntime) -> Result<(), Fail> {
+    let alloc = rt.alloc();
+    let tried = Node::Try(boxed(
+        alloc,
+        Node::Search {
+            among: 0,
+            table: 0,
+            entries: vec![in alloc; entry(None, 0, 1)]?,
+        },
+    )?);
+    let chosen = Node::Among {
+        among: 0,
+        before: Vec::new(alloc),
+        bodies: vec![in alloc; empty(alloc)]?,
+    };
+    let tables = vec![in alloc; table(alloc, Mode::Forward, &["a"])?]?;
+    let body = Node::Sequence(vec![in alloc; tried, chosen]?);
+    let made = machine(alloc, tables, vec![in alloc; body]?)?;
+    stems(&rt, alloc, &made, "b", "b", 4)?;
+    stems(&rt, alloc, &made, "a", "a", 5)?;
+    let search = Node::Search {
+        among: 0,
+        table: 0,
+        entries: vec![in alloc; entry(None, 0, 1)]?,
+    };
+    let starter = Node::Sequence(vec![in alloc; Node::Act(Action::Next)]?);
+    let body = Node::Among {
+        among: 0,
+        before: vec![in alloc; search, starter]?,
+        bodies: vec![in alloc; empty(alloc)]?,
+    };
+    let tables = vec![in alloc; table(alloc, Mode::Forward, &["a"])?]?;
+    stems(
+        &rt,
+        alloc,
+        &machine(alloc, tables, vec![in alloc; body]?)?,
+        "ab",
+        "ab",
         5,
     )
 }
 
-#[test]
-fn refuses(rt: HostRuntime) -> Result<(), Fail> {
-    let alloc = rt.alloc();
-    let crossed = Command::Sequence(vec![in alloc;
-        Command::Match(literal(alloc, "a")?),
-        Command::LeftBracket,
-        Command::Delete,
-    ]?);
-    row(
-        &rt,
-        alloc,
-        &crossed,
-        "ab",
-        100_000,
-        &Outcome::Refused(RunFault::Slice),
-        4,
-    )?;
-    let mut long = Vec::new(alloc);
-    for _ in 0..1025 {
-        long.push('x')?;
-    }
-    let much = Command::Sequence(vec![in alloc;
-        Command::LeftBracket,
-        Command::RightBracket,
-        Command::Replace(Literal {
-            spelling: String::new(alloc),
-            value: long,
-        }),
-    ]?);
-    row(
-        &rt,
-        alloc,
-        &much,
-        "ab",
-        100_000,
-        &Outcome::Refused(RunFault::TooLong),
-        4,
-    )?;
-    row(
-        &rt,
-        alloc,
-        &much,
-        "",
-        100_000,
-        &Outcome::Refused(RunFault::TooLong),
-        4,
-    )
-}
-
-fn group(alloc: Global, text: &str, commands: Vec<Command>) -> Result<Group, AllocError> {
-    Ok(Group {
-        first: Entry {
-            string: literal(alloc, text)?,
+// The script of `( [substring] among ( 's' (delete) 'es' sib (delete) ) )` and its like, read backwards.
+fn plurals(alloc: Global) -> Result<Machine<PlainTable>, AllocError> {
+    let tail = Node::Sequence(vec![in alloc;
+        Node::Act(Action::LeftBracket),
+        Node::Search {
+            among: 0,
+            table: 0,
+            entries: vec![in alloc; entry(None, 0, 1), entry(Some(3), 1, 2)]?,
         },
-        others: Vec::new(alloc),
-        commands,
-    })
+        Node::Act(Action::RightBracket),
+        Node::Among {
+            among: 0,
+            before: Vec::new(alloc),
+            bodies: vec![in alloc;
+                Node::Sequence(vec![in alloc; Node::Act(Action::Delete)]?),
+                Node::Sequence(vec![in alloc; Node::Act(Action::Delete)]?),
+            ]?,
+        },
+    ]?);
+    let last = Node::Sequence(vec![in alloc;
+        Node::Act(Action::LeftBracket),
+        matched(alloc, "e")?,
+        Node::Act(Action::RightBracket),
+        Node::Act(Action::Delete),
+    ]?);
+    let sib = Node::Sequence(vec![in alloc;
+        Node::Or(
+            boxed(alloc, matched(alloc, "x")?)?,
+            boxed(alloc, matched(alloc, "s")?)?,
+        ),
+    ]?);
+    let both = Node::Sequence(vec![in alloc;
+        Node::Test(boxed(alloc, matched(alloc, "e")?)?),
+        Node::Call(2),
+    ]?);
+    let body = Node::Sequence(vec![in alloc;
+        Node::Do(boxed(alloc, Node::Call(1))?),
+        Node::Do(boxed(alloc, both)?),
+    ]?);
+    let stem = Node::Sequence(vec![in alloc; Node::Backwards(boxed(alloc, body)?)]?);
+    let tables = vec![in alloc; table(alloc, Mode::Backward, &["s", "es"])?]?;
+    machine(alloc, tables, vec![in alloc; stem, tail, last, sib]?)
 }
 
 #[test]
-fn takes_the_longest(rt: HostRuntime) -> Result<(), Fail> {
+fn takes_plurals(rt: HostRuntime) -> Result<(), Fail> {
     let alloc = rt.alloc();
-    let search = Command::Among(Among {
-        groups: vec![in alloc;
-            group(alloc, "a", Vec::new(alloc))?,
-            group(
-                alloc,
-                "ab",
-                vec![in alloc; Command::RightBracket, Command::Delete]?
-            )?,
-        ]?,
-        bare: vec![in alloc;
-            Entry {
-                string: literal(alloc, "b")?
-            },
-        ]?,
-    });
-    let body = Command::Sequence(vec![in alloc; Command::LeftBracket, search]?);
-    row(&rt, alloc, &body, "abc", 100_000, &stem(alloc, "c")?, 7)?;
-    row(&rt, alloc, &body, "acb", 100_000, &stem(alloc, "acb")?, 5)?;
-    row(&rt, alloc, &body, "bca", 100_000, &stem(alloc, "bca")?, 4)?;
-    row(&rt, alloc, &body, "c", 100_000, &stem(alloc, "c")?, 4)
+    let made = plurals(alloc)?;
+    stems(&rt, alloc, &made, "boxes", "box", 0)?;
+    stems(&rt, alloc, &made, "cakes", "cak", 0)?;
+    stems(&rt, alloc, &made, "s", "", 16)?;
+    stems(&rt, alloc, &made, "dog", "dog", 12)?;
+    let steps = Outcome::Refused(RunFault::Steps);
+    ran(
+        &rt,
+        alloc,
+        &made,
+        "s",
+        16,
+        &Outcome::Stem(Vec::new(alloc)),
+        16,
+    )?;
+    ran(&rt, alloc, &made, "s", 15, &steps, 16)
 }
 
 #[test]
 fn searches(rt: HostRuntime) -> Result<(), Fail> {
     let alloc = rt.alloc();
-    let entries = vec![in alloc;
-        letters(alloc, "a")?,
-        letters(alloc, "abc")?,
-        letters(alloc, "ab")?,
-    ]?;
-    let forwards = PlainTable::build(alloc, &entries, Mode::Forward)?;
+    let forwards = table(alloc, Mode::Forward, &["a", "abc", "ab"])?;
     let text = ['a', 'b', 'd'];
     assert_eq!(rt; forwards.longest(&text, 0, 3), Some(2));
+    assert_eq!(rt; forwards.next_shorter(1), Some(2));
     assert_eq!(rt; forwards.next_shorter(2), Some(0));
     assert_eq!(rt; forwards.next_shorter(0), None);
-    let endings = vec![in alloc; letters(alloc, "s")?, letters(alloc, "es")?]?;
-    let backwards = PlainTable::build(alloc, &endings, Mode::Backward)?;
+    let backwards = table(alloc, Mode::Backward, &["s", "es"])?;
     let word = ['b', 'o', 'x', 'e', 's'];
     assert_eq!(rt; backwards.longest(&word, 5, 0), Some(1));
     assert_eq!(rt; backwards.longest(&word, 5, 4), Some(0));
+    assert_eq!(rt; backwards.next_shorter(1), Some(0));
     Ok(())
 }
 
@@ -201,45 +461,4 @@ fn says_faults(rt: HostRuntime) -> Result<(), Fail> {
         "50 MeterFull"
     );
     Ok(())
-}
-
-/// Reads a script, and runs it over a word.
-fn script_row(
-    rt: &impl Abort,
-    alloc: Global,
-    text: &str,
-    word: &str,
-    outcome: &Outcome,
-    used: u64,
-) -> Result<(), Fail> {
-    let script = Script::parse(alloc, text.as_bytes(), "stem")?;
-    let machine: Machine<PlainTable> = Machine::new(alloc, &script)?;
-    let mut meter = Meter::new();
-    let chars = letters(alloc, word)?;
-    assert!(rt; chars.len() <= 255);
-    let ran = machine.run(alloc, &mut meter, &chars, 100_000)?;
-    assert_eq!(rt; &ran.outcome, outcome, "{word}");
-    assert_eq!(rt; ran.used, used, "{word}");
-    Ok(())
-}
-
-#[test]
-fn runs_scripts(rt: HostRuntime) -> Result<(), Fail> {
-    let alloc = rt.alloc();
-    let replaces = "externals ( stem ) define stem as ( [ 'a' ] <- 'bc' )";
-    script_row(&rt, alloc, replaces, "ad", &stem(alloc, "bcd")?, 5)?;
-    script_row(&rt, alloc, replaces, "da", &stem(alloc, "da")?, 3)?;
-    let crossed = "externals ( stem ) define stem as ( 'a' [ delete )";
-    script_row(
-        &rt,
-        alloc,
-        crossed,
-        "ab",
-        &Outcome::Refused(RunFault::Slice),
-        4,
-    )?;
-    let prefixes = "externals ( stem ) define stem as ( [ among ( 'un' () 're' () ) ] delete )";
-    script_row(&rt, alloc, prefixes, "undo", &stem(alloc, "do")?, 7)?;
-    script_row(&rt, alloc, prefixes, "redo", &stem(alloc, "do")?, 7)?;
-    script_row(&rt, alloc, prefixes, "do", &stem(alloc, "do")?, 4)
 }

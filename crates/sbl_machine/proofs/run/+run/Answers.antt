@@ -1,15 +1,399 @@
-use Rattle.std.proofs.Common.{ap, ◌∙◌, map}
-use Rattle.sbl_machine.specs.Standing.{then_on, pay}
-use Rattle.sbl_machine.specs.Program.{node_does, search_does}
-use Rattle.sbl_machine.proofs.Nodes.{among_does, follows_at}
+use Rattle.std.proofs.Common.{◌≡◌, ℕ, suc, true, false, Bool, Some, Option, Result, Ok, Err, option_map, refl, length, get_or, ◌<◌, List, [], ◌∷◌, ◌++◌, ◌≤◌, map, sym, ap, ◌∙◌, arith, rules, append_assoc, Bor}
+use Rattle.std.specs.Prelude.{slice_get, ◌-◌}
+use Rattle.sbl_machine.specs.Kept.{Follows}
+use Rattle.sbl_machine.specs.Moves.{next}
+use Rattle.sbl_machine.proofs.Arms.{follows_at, repeat_does, loop_does, atleast_does, or_does, and_does, goto_does, gopast_does, setlimit_does, limited_signals, limited_halts, one_time, search_does, among_does, nth_is, nth_past, one_turn, one_try, one_more, halted, called, leave_signals, leave_halts, after_halts}
+use Rattle.sbl_machine.specs.Standing.{Standing, Ending, Signals, after, then_on, mark, put_back}
+use Rattle.sbl_machine.specs.declared.node.Node.{Node}
+use Rattle.sbl_machine.specs.declared.node.Routine.{Routine}
+use Rattle.sbl_machine.specs.PlanOf.{plan_of, view_node, view_nodes, view_number, view_routine}
+use Rattle.sbl_machine.specs.Run.{runs, all_run, group_runs, nth_runs, calls, turns, times, seeks, count_of, enter, leave, limits, limited, limit_here, limit_back}
+use Rattle.sbl_machine.specs.Numbers.{value, given}
+use Rattle.sbl_machine.specs.Search.{tries, try_one, search_all, bound_in, choice}
+use Rattle.sbl_machine.specs.Listed.{fits_at}
+use Rattle.sbl_machine.specs.Fitting.{first}
 use Rattle.sbl_machine.proofs.run.+run.Goals as goal
+
+pub run_command-returns-in-Repeat-clause-follows : goal.run_command-returns-in-Repeat-clause-follows
+run_command-returns-in-Repeat-clause-follows g t c =
+    let T = g.T.Tables.listed c.args.tables.now in
+    let P = plan_of T c.args.program.now in
+    let levels = c.args.levels in
+    let D = λ (n : Node). runs P levels (view_node T n) in
+    let a = c.in-Repeat in
+    let m = c.args.mode in
+    let s = c.args.state.now in
+    let q = c.pay.new.self in
+    let p = ap (λ n. D n m s) a.is ∙ repeat_does T P levels a.inner m s ∙ ap (λ r. then_on r (λ q. turns (suc q.steps) (D a.inner.value) m q)) c.in_ok-pay.ensures in
+    follows_at c.run_turns.result c.run_turns.new.state _ _ (p ∙ ap (λ n. turns (suc q.steps) (D n) m q) (sym c.deref-in-Repeat.ensures)) c.run_turns.ensures.follows
+
+pub run_command-returns-in-Loop-clause-follows : goal.run_command-returns-in-Loop-clause-follows
+run_command-returns-in-Loop-clause-follows g t c =
+    let T = g.T.Tables.listed c.args.tables.now in
+    let P = plan_of T c.args.program.now in
+    let levels = c.args.levels in
+    let D = λ (n : Node). runs P levels (view_node T n) in
+    let a = c.in-Loop in
+    let m = c.args.mode in
+    let s = c.args.state.now in
+    let q = c.pay.new.self in
+    let p = ap (λ n. D n m s) a.is ∙ loop_does T P levels a.count a.inner m s ∙ ap (λ r. then_on r (λ q. given (value (view_number a.count) m q) q (λ z. times (count_of z) (D a.inner.value) m q))) c.in_ok-pay.ensures in
+    follows_at c.run_times.result c.run_times.new.state _ _ (p ∙ ap (λ n. given (value (view_number a.count) m q) q (λ z. times (count_of z) (D n) m q)) (sym c.deref-in-Loop.ensures)) c.run_times.ensures.follows
+
+pub run_command-returns-in-Search-clause-follows : goal.run_command-returns-in-Search-clause-follows
+run_command-returns-in-Search-clause-follows g t c =
+    let T = g.T.Tables.listed c.args.tables.now in
+    let P = plan_of T c.args.program.now in
+    let levels = c.args.levels in
+    let D = λ (n : Node). runs P levels (view_node T n) in
+    let a = c.in-Search in
+    let m = c.args.mode in
+    let s = c.args.state.now in
+    let q = c.pay.new.self in
+    let p = ap (λ n. D n m s) a.is ∙ search_does T P levels a.among a.table a.entries m s ∙ ap (λ r. then_on r (search_all (calls P levels) a.among a.entries.items (T a.table) m)) c.in_ok-pay.ensures in
+    follows_at c.run_search.result c.run_search.new.state _ _ (p ∙ ap (λ es. search_all (calls P levels) a.among es (T a.table) m q) (sym c.deref-in-Search.ensures.value)) c.run_search.ensures.follows
+
+pub run_command-returns-in_err-run_times-in-AtLeast-clause-follows : goal.run_command-returns-in_err-run_times-in-AtLeast-clause-follows
+run_command-returns-in_err-run_times-in-AtLeast-clause-follows g t c =
+    let T = g.T.Tables.listed c.args.tables.now in
+    let P = plan_of T c.args.program.now in
+    let levels = c.args.levels in
+    let D = λ (n : Node). runs P levels (view_node T n) in
+    let m = c.args.mode in
+    let s = c.args.state.now in
+    let a = c.in-AtLeast in
+    let q = c.pay.new.self in
+    let new = c.run_times-in-AtLeast.new.state in
+    let on_t = λ (t : Standing). turns (suc t.steps) (D a.inner.value) m t in
+    let on_f = λ (f : Standing). Signals false f in
+    let p = ap (λ n. D n m s) a.is ∙ atleast_does T P levels a.count a.inner m s ∙ ap (λ r. then_on r (λ q. after (given (value (view_number a.count) m q) q (λ z. times (count_of z) (D a.inner.value) m q)) on_t on_f)) c.in_ok-pay.ensures in
+    let d = ap (λ n. after (given (value (view_number a.count) m q) q (λ z. times (count_of z) (D n) m q)) on_t on_f) (sym c.deref-in-AtLeast.ensures) in
+    let halt = c.in_err-run_times-in-AtLeast.field-0.0 in
+    let r : c.from_residual-in_err-run_times-in-AtLeast.result ≡ Err halt = search rules in
+    let h : Follows (Err halt) new (given (value (view_number a.count) m q) q (λ z. times (count_of z) (D c.deref-in-AtLeast.result.now) m q)) = search rules in
+    rw r (follows_at (Err halt) new _ _ (p ∙ d) (after_halts halt new _ on_t on_f h))
+
+pub run_command-returns-then-not-branch-4-clause-follows : goal.run_command-returns-then-not-branch-4-clause-follows
+run_command-returns-then-not-branch-4-clause-follows g t c =
+    let T = g.T.Tables.listed c.args.tables.now in
+    let P = plan_of T c.args.program.now in
+    let levels = c.args.levels in
+    let D = λ (n : Node). runs P levels (view_node T n) in
+    let a = c.in-AtLeast in
+    let m = c.args.mode in
+    let s = c.args.state.now in
+    let q = c.pay.new.self in
+    let rest = λ (e : Ending). after e (λ t. turns (suc t.steps) (D a.inner.value) m t) (Signals false) in
+    let p = ap (λ n. D n m s) a.is ∙ atleast_does T P levels a.count a.inner m s ∙ ap (λ r. then_on r (λ q. rest (given (value (view_number a.count) m q) q (λ z. times (count_of z) (D a.inner.value) m q)))) c.in_ok-pay.ensures in
+    let d = ap (λ n. rest (given (value (view_number a.count) m q) q (λ z. times (count_of z) (D n) m q))) (sym c.deref-in-AtLeast.ensures) in
+    let b : c.in_ok-run_times-in-AtLeast.field-0 ≡ false = search rules in
+    p ∙ d ∙ ap rest (c.in_ok-run_times-in-AtLeast.ensures.follows ∙ ap (λ v. Signals v c.run_times-in-AtLeast.new.state) b)
+
+pub run_command-returns-else-not-branch-4-clause-follows : goal.run_command-returns-else-not-branch-4-clause-follows
+run_command-returns-else-not-branch-4-clause-follows g t c =
+    let T = g.T.Tables.listed c.args.tables.now in
+    let P = plan_of T c.args.program.now in
+    let levels = c.args.levels in
+    let D = λ (n : Node). runs P levels (view_node T n) in
+    let a = c.in-AtLeast in
+    let m = c.args.mode in
+    let s = c.args.state.now in
+    let q = c.pay.new.self in
+    let u = c.run_times-in-AtLeast.new.state in
+    let rest = λ (e : Ending). after e (λ t. turns (suc t.steps) (D a.inner.value) m t) (Signals false) in
+    let p = ap (λ n. D n m s) a.is ∙ atleast_does T P levels a.count a.inner m s ∙ ap (λ r. then_on r (λ q. rest (given (value (view_number a.count) m q) q (λ z. times (count_of z) (D a.inner.value) m q)))) c.in_ok-pay.ensures in
+    let d = ap (λ n. rest (given (value (view_number a.count) m q) q (λ z. times (count_of z) (D n) m q))) (sym c.deref-in-AtLeast.ensures) in
+    let b : c.in_ok-run_times-in-AtLeast.field-0 ≡ true = search rules in
+    let w = p ∙ d ∙ ap rest (c.in_ok-run_times-in-AtLeast.ensures.follows ∙ ap (λ v. Signals v u) b) ∙ ap (λ n. turns (suc u.steps) (D n) m u) (sym c.deref-in-AtLeast-2.ensures) in
+    follows_at c.run_turns-in-AtLeast.result c.run_turns-in-AtLeast.new.state _ _ w c.run_turns-in-AtLeast.ensures.follows
+
+pub run_among-returns-in-Some-get-clause-follows : goal.run_among-returns-in-Some-get-clause-follows
+run_among-returns-in-Some-get-clause-follows g t c =
+    let T = g.T.Tables.listed c.args.tables.now in
+    let P = plan_of T c.args.program.now in
+    let levels = c.args.levels in
+    let m = c.args.mode in
+    let u = c.run_in_turn.new.state in
+    let bs = c.args.bodies.now.items in
+    let ds = c.deref-2.result.now in
+    let body = c.in-Some-get.body.now in
+    let group = c.in-Some.group in
+    let on_t = λ (t : Standing). group_runs P levels (view_nodes T bs) (choice c.args.among t) m t in
+    let on_f = λ (f : Standing). Signals false f in
+    let b : c.in_ok-run_in_turn.field-0 ≡ true = search rules in
+    let l : group < length ds = search rules in
+    let r : body ≡ get_or ds group body = search rules in
+    let e = ap (λ xs. nth_runs P levels (view_nodes T xs) group m u) (sym c.deref-2.ensures.value) ∙ nth_is T P levels ds group body m u l r in
+    let p = ap (λ xs. after (all_run P levels (view_nodes T xs) m c.args.state.now) on_t on_f) (sym c.deref.ensures.value) ∙ ap (λ r. after r on_t on_f) (c.in_ok-run_in_turn.ensures.follows ∙ ap (λ v. Signals v u) b) ∙ ap (λ o. group_runs P levels (view_nodes T bs) o m u) (sym c.choice.ensures ∙ c.in-Some.is) ∙ e in
+    follows_at c.run_command.result c.run_command.new.state _ _ p c.run_command.ensures.follows
+
+pub run_search-loop-place-init : goal.run_search-loop-place-init
+run_search-loop-place-init g t c =
+    let T = g.T.Tables.listed c.args.tables.now c.args.table in
+    let s = c.args.state.now in
+    let fits = fits_at T s.text s.cursor (bound_in c.args.mode s) in
+    let e = ap (λ x. first (fits_at T x c.place.result c.bound.result)) c.text.ensures ∙ ap (λ x. first (fits_at T s.text x c.bound.result)) c.place.ensures.value ∙ ap (λ x. first (fits_at T s.text s.cursor x)) c.bound.ensures.value in
+    ([], fits, refl, c.longest-place.ensures ∙ e, refl, omega arith)
+
+pub run_search-loop-place-preserved : goal.run_search-loop-place-preserved
+run_search-loop-place-preserved g t c =
+    let inv = c.loop-place.invariant in
+    let s0 = c.args.state.now in
+    let es = c.args.entries.now in
+    let call = calls (plan_of (g.T.Tables.listed c.args.tables.now) c.args.program.now) c.args.levels in
+    let o = one_more call c.args.among es c.args.mode s0 inv.1 c.in-Some.i c.loop-place.state c.loop-place.place inv.3 c.in-Some.is in
+    let follow = tries call c.args.among es c.args.mode s0 o.0 in
+    let i = c.in-Some.i in
+    let b : c.in-Ok-false.field-0 ≡ false = search rules in
+    let cut = inv.2 ∙ ap (λ r. inv.0 ++ r) o.1 in
+    let steps : c.run_try.new.state.steps ≤ s0.steps = omega (arith, c.in-Ok-false.ensures.no_more, inv.5) in
+    (inv.0 ++ (i ∷ []), o.0, cut ∙ sym (append_assoc inv.0 (i ∷ []) o.0), c.next_shorter-place.ensures s0.text s0.cursor (bound_in c.args.mode s0) inv.0 o.0 cut, sym (rw b at (c.in-Ok-false.ensures.tried s0 follow c.mark-from.ensures.value)) ∙ sym o.2 ∙ inv.4, steps)
+
+pub run_search-returns-in-Err-clause-follows : goal.run_search-returns-in-Err-clause-follows
+run_search-returns-in-Err-clause-follows g t c =
+    let inv = c.loop-place.invariant in
+    let s0 = c.args.state.now in
+    let es = c.args.entries.now in
+    let call = calls (plan_of (g.T.Tables.listed c.args.tables.now) c.args.program.now) c.args.levels in
+    let o = one_more call c.args.among es c.args.mode s0 inv.1 c.in-Some.i c.loop-place.state c.loop-place.place inv.3 c.in-Some.is in
+    let follow = tries call c.args.among es c.args.mode s0 o.0 in
+    halted c.in-Err.halt c.run_try.new.state (try_one call c.args.among (slice_get es c.in-Some.i) c.args.mode s0 c.loop-place.state follow) (follow c.run_try.new.state) _ (c.in-Err.ensures.tried s0 follow c.mark-from.ensures.value) (sym o.2 ∙ inv.4)
+
+pub run_search-returns-in-Ok-true-clause-follows : goal.run_search-returns-in-Ok-true-clause-follows
+run_search-returns-in-Ok-true-clause-follows g t c =
+    let inv = c.loop-place.invariant in
+    let s0 = c.args.state.now in
+    let es = c.args.entries.now in
+    let call = calls (plan_of (g.T.Tables.listed c.args.tables.now) c.args.program.now) c.args.levels in
+    let o = one_more call c.args.among es c.args.mode s0 inv.1 c.in-Some.i c.loop-place.state c.loop-place.place inv.3 c.in-Some.is in
+    let follow = tries call c.args.among es c.args.mode s0 o.0 in
+    let b : c.in-Ok-true.field-0 ≡ true = search rules in
+    sym (sym o.2 ∙ inv.4) ∙ (rw b at (c.in-Ok-true.ensures.tried s0 follow c.mark-from.ensures.value))
+
+pub run_seek-loop-state-preserved : goal.run_seek-loop-state-preserved
+run_seek-loop-state-preserved g t c =
+    let inv = c.loop-state.invariant in
+    let T = g.T.Tables.listed c.args.tables.now in
+    let D = runs (plan_of T c.args.program.now) c.args.levels (view_node T c.args.inner.now) in
+    let m = c.args.mode in
+    let s = c.loop-state.state in
+    let f = c.run_command.new.state in
+    let b = c.put_back-in-loop-state.new.self in
+    let new = c.take_next.new.self in
+    let no : c.in_ok-run_command.field-0 ≡ false = search rules in
+    let e : D m s ≡ Signals false f = c.in_ok-run_command.ensures.follows ∙ ap (λ v. Signals v f) no in
+    let p : put_back m (mark s) f ≡ Signals true b = ap (λ r. put_back m r f) (sym c.mark-from.ensures.value) ∙ c.in_ok-put_back-2.ensures.leads in
+    let yes : c.take_next.result ≡ true = search rules in
+    let x : next m b ≡ Signals true new = c.take_next.ensures.leads ∙ ap (λ v. Signals v new) yes in
+    let same : new.steps ≡ b.steps = c.take_next.ensures.same_steps in
+    let kept : b.steps ≡ f.steps = c.in_ok-put_back-2.ensures.same_steps in
+    let fewer : f.steps < s.steps = c.in_ok-run_command.ensures.fewer in
+    let less : new.steps < s.steps = omega arith in
+    let w = seeks (suc c.args.state.now.steps) c.args.past D m c.args.state.now in
+    let o = one_try inv.0 c.args.past D m s f b new w less inv.1 e p x inv.2 in
+    let steps : new.steps ≤ c.args.state.now.steps = omega (arith, less, inv.3) in
+    (o.0, o.1, o.2, steps)
+
+pub run_turns-loop-state-preserved : goal.run_turns-loop-state-preserved
+run_turns-loop-state-preserved g t c =
+    let inv = c.loop-state.invariant in
+    let T = g.T.Tables.listed c.args.tables.now in
+    let D = runs (plan_of T c.args.program.now) c.args.levels (view_node T c.args.inner.now) in
+    let b : c.in_ok-run_command.field-0 ≡ true = search rules in
+    let e = c.in_ok-run_command.ensures.follows ∙ ap (λ v. Signals v c.run_command.new.state) b in
+    let w = turns (suc c.args.state.now.steps) D c.args.mode c.args.state.now in
+    let o = one_turn inv.0 D c.args.mode c.loop-state.state c.run_command.new.state w c.in_ok-run_command.ensures.fewer inv.1 e inv.2 in
+    let less : c.run_command.new.state.steps < c.loop-state.state.steps = c.in_ok-run_command.ensures.fewer in
+    let steps : c.run_command.new.state.steps ≤ c.args.state.now.steps = omega (arith, less, inv.3) in
+    (o.0, o.1, o.2, steps)
+
+pub run_call-returns-in_err-signal-in-Some-clause-follows : goal.run_call-returns-in_err-signal-in-Some-clause-follows
+run_call-returns-in_err-signal-in-Some-clause-follows g t c =
+    let T = g.T.Tables.listed c.args.tables.now in
+    let p = plan_of T c.args.program.now in
+    let m = c.args.mode in
+    let s = c.args.state.now in
+    let routine = c.in-Some.routine.now in
+    let new = c.run_command.new.state in
+    let some : 0 < c.args.levels = omega (arith, c.if-levels-eq0.false) in
+    let is : slice_get p.routines c.args.number ≡ Some (view_routine T routine) = c.routine.ensures T ∙ ap (option_map (λ (r : Bor Routine). view_routine T r.now)) c.in-Some.is in
+    let q = called p c.args.levels c.args.number m s (view_routine T routine) some is in
+    let body = runs p (c.args.levels - 1) (view_node T routine.body) m (enter routine.amongs s) in
+    let halt = c.in_err-signal-in-Some.field-0.0 in
+    let r : c.from_residual-in_err-signal-in-Some.result ≡ Err halt = search rules in
+    let h : Follows (Err halt) new body = search rules in
+    rw r (follows_at (Err halt) new _ _ q (leave_halts s.choices halt new body h))
+
+pub run_call-returns-in_ok-signal-in-Some-clause-follows : goal.run_call-returns-in_ok-signal-in-Some-clause-follows
+run_call-returns-in_ok-signal-in-Some-clause-follows g t c =
+    let T = g.T.Tables.listed c.args.tables.now in
+    let p = plan_of T c.args.program.now in
+    let m = c.args.mode in
+    let s = c.args.state.now in
+    let routine = c.in-Some.routine.now in
+    let new = c.run_command.new.state in
+    let some : 0 < c.args.levels = omega (arith, c.if-levels-eq0.false) in
+    let is : slice_get p.routines c.args.number ≡ Some (view_routine T routine) = c.routine.ensures T ∙ ap (option_map (λ (r : Bor Routine). view_routine T r.now)) c.in-Some.is in
+    let q = called p c.args.levels c.args.number m s (view_routine T routine) some is in
+    let body = runs p (c.args.levels - 1) (view_node T routine.body) m (enter routine.amongs s) in
+    let b = c.in_ok-signal-in-Some.signal in
+    let h : body ≡ Signals b new = search rules in
+    let kept : c.in_ok-kept-in-Some.kept.items ≡ s.choices = c.in_ok-kept-in-Some.ensures.kept in
+    q ∙ leave_signals s.choices body b new h ∙ ap (λ cs. Signals b (record new { choices = cs })) (sym kept) ∙ ap (Signals b) (sym c.leave.ensures)
+
+pub run_command-returns-in_ok-put_back-in-Or-clause-follows : goal.run_command-returns-in_ok-put_back-in-Or-clause-follows
+run_command-returns-in_ok-put_back-in-Or-clause-follows g t c =
+    let T = g.T.Tables.listed c.args.tables.now in
+    let P = plan_of T c.args.program.now in
+    let levels = c.args.levels in
+    let D = λ (n : Node). runs P levels (view_node T n) in
+    let m = c.args.mode in
+    let s = c.args.state.now in
+    let q = c.pay.new.self in
+    let a = c.in-Or in
+    let u = c.run_command.new.state in
+    let w = c.put_back.new.self in
+    let p = ap (λ n. D n m s) a.is ∙ or_does T P levels a.first a.second m s ∙ ap (λ r. then_on r (λ q. after (D a.first.value m q) (Signals true) (λ f. then_on (put_back m (mark q) f) (D a.second.value m)))) c.in_ok-pay.ensures in
+    let b : c.in_ok-run_command-in-Or.field-0 ≡ false = search rules in
+    let e : D a.first.value m q ≡ Signals false u = ap (λ n. D n m q) (sym c.deref-in-Or.ensures) ∙ c.in_ok-run_command-in-Or.ensures.follows ∙ ap (λ v. Signals v u) b in
+    let k : put_back m (mark q) u ≡ Signals true w = ap (λ r. put_back m r u) (sym c.mark-from.ensures.value) ∙ c.in_ok-put_back-in-Or.ensures.leads in
+    let x = p ∙ ap (λ r. after r (Signals true) (λ f. then_on (put_back m (mark q) f) (D a.second.value m))) e ∙ ap (λ r. then_on r (D a.second.value m)) k ∙ ap (λ n. D n m w) (sym c.deref-in-Or-2.ensures) in
+    follows_at c.run_command-in-Or.result c.run_command-in-Or.new.state _ _ x c.run_command-in-Or.ensures.follows
+
+pub run_command-returns-in_ok-put_back-in-And-clause-follows : goal.run_command-returns-in_ok-put_back-in-And-clause-follows
+run_command-returns-in_ok-put_back-in-And-clause-follows g t c =
+    let T = g.T.Tables.listed c.args.tables.now in
+    let P = plan_of T c.args.program.now in
+    let levels = c.args.levels in
+    let D = λ (n : Node). runs P levels (view_node T n) in
+    let m = c.args.mode in
+    let s = c.args.state.now in
+    let q = c.pay.new.self in
+    let a = c.in-And in
+    let u = c.run_command-in-And.new.state in
+    let w = c.put_back-in-And.new.self in
+    let p = ap (λ n. D n m s) a.is ∙ and_does T P levels a.first a.second m s ∙ ap (λ r. then_on r (λ q. after (D a.first.value m q) (λ t. then_on (put_back m (mark q) t) (D a.second.value m)) (Signals false))) c.in_ok-pay.ensures in
+    let b : c.in_ok-run_command-in-And.field-0 ≡ true = search rules in
+    let e : D a.first.value m q ≡ Signals true u = ap (λ n. D n m q) (sym c.deref-in-And.ensures) ∙ c.in_ok-run_command-in-And.ensures.follows ∙ ap (λ v. Signals v u) b in
+    let k : put_back m (mark q) u ≡ Signals true w = ap (λ r. put_back m r u) (sym c.mark-from-in-And.ensures.value) ∙ c.in_ok-put_back-in-And.ensures.leads in
+    let x = p ∙ ap (λ r. after r (λ t. then_on (put_back m (mark q) t) (D a.second.value m)) (Signals false)) e ∙ ap (λ r. then_on r (D a.second.value m)) k ∙ ap (λ n. D n m w) (sym c.deref-in-And-2.ensures) in
+    follows_at c.run_command-in-And-2.result c.run_command-in-And-2.new.state _ _ x c.run_command-in-And-2.ensures.follows
+
+pub run_command-returns-in-Goto-clause-follows : goal.run_command-returns-in-Goto-clause-follows
+run_command-returns-in-Goto-clause-follows g t c =
+    let T = g.T.Tables.listed c.args.tables.now in
+    let P = plan_of T c.args.program.now in
+    let levels = c.args.levels in
+    let D = λ (n : Node). runs P levels (view_node T n) in
+    let m = c.args.mode in
+    let s = c.args.state.now in
+    let q = c.pay.new.self in
+    let a = c.in-Goto in
+    let p = ap (λ n. D n m s) a.is ∙ goto_does T P levels a.inner m s ∙ ap (λ r. then_on r (λ q. seeks (suc q.steps) false (D a.inner.value) m q)) c.in_ok-pay.ensures in
+    follows_at c.run_seek.result c.run_seek.new.state _ _ (p ∙ ap (λ n. seeks (suc q.steps) false (D n) m q) (sym c.deref-in-Goto.ensures)) c.run_seek.ensures.follows
+
+pub run_command-returns-in-GoPast-clause-follows : goal.run_command-returns-in-GoPast-clause-follows
+run_command-returns-in-GoPast-clause-follows g t c =
+    let T = g.T.Tables.listed c.args.tables.now in
+    let P = plan_of T c.args.program.now in
+    let levels = c.args.levels in
+    let D = λ (n : Node). runs P levels (view_node T n) in
+    let m = c.args.mode in
+    let s = c.args.state.now in
+    let q = c.pay.new.self in
+    let a = c.in-GoPast in
+    let p = ap (λ n. D n m s) a.is ∙ gopast_does T P levels a.inner m s ∙ ap (λ r. then_on r (λ q. seeks (suc q.steps) true (D a.inner.value) m q)) c.in_ok-pay.ensures in
+    follows_at c.run_seek-in-GoPast.result c.run_seek-in-GoPast.new.state _ _ (p ∙ ap (λ n. seeks (suc q.steps) true (D n) m q) (sym c.deref-in-GoPast.ensures)) c.run_seek-in-GoPast.ensures.follows
+
+pub run_command-returns-in_ok-signal-in-SetLimit-clause-follows : goal.run_command-returns-in_ok-signal-in-SetLimit-clause-follows
+run_command-returns-in_ok-signal-in-SetLimit-clause-follows g t c =
+    let T = g.T.Tables.listed c.args.tables.now in
+    let P = plan_of T c.args.program.now in
+    let levels = c.args.levels in
+    let D = λ (n : Node). runs P levels (view_node T n) in
+    let m = c.args.mode in
+    let s = c.args.state.now in
+    let q = c.pay.new.self in
+    let a = c.in-SetLimit in
+    let u = c.run_command-in-SetLimit.new.state in
+    let w = c.put_back-in-SetLimit.new.self in
+    let new = c.run_command-in-SetLimit-2.new.state in
+    let go = λ (q : Standing) (t : Standing). then_on (put_back m (mark q) (limit_here m t)) (λ u. limited m (limits q) (D a.second.value m u)) in
+    let p = ap (λ n. D n m s) a.is ∙ setlimit_does T P levels a.first a.second m s ∙ ap (λ r. then_on r (λ q. after (D a.first.value m q) (go q) (Signals false))) c.in_ok-pay.ensures in
+    let b : c.in_ok-run_command-in-SetLimit.field-0 ≡ true = search rules in
+    let e : D a.first.value m q ≡ Signals true u = ap (λ n. D n m q) (sym c.deref-in-SetLimit.ensures) ∙ c.in_ok-run_command-in-SetLimit.ensures.follows ∙ ap (λ v. Signals v u) b in
+    let k : put_back m (mark q) (limit_here m u) ≡ Signals true w = ap (λ r. put_back m r (limit_here m u)) (sym c.mark-from-in-SetLimit.ensures.value) ∙ ap (put_back m c.mark-from-in-SetLimit.result) (sym c.limit_here.ensures) ∙ c.in_ok-put_back-in-SetLimit.ensures.leads in
+    let x = p ∙ ap (λ r. after r (go q) (Signals false)) e ∙ ap (λ r. then_on r (λ u. limited m (limits q) (D a.second.value m u))) k ∙ ap (λ n. limited m (limits q) (D n m w)) (sym c.deref-in-SetLimit-2.ensures) in
+    let second = D c.deref-in-SetLimit-2.result.now m w in
+    let v = c.in_ok-signal-in-SetLimit.signal in
+    let h : second ≡ Signals v new = search rules in
+    x ∙ limited_signals m (limits q) second v new h ∙ ap (λ l. Signals v (limit_back m l new)) (sym c.limits-limits.ensures.value) ∙ ap (Signals v) (sym c.limit_back.ensures)
+
+pub run_command-returns-in_err-signal-in-SetLimit-clause-follows : goal.run_command-returns-in_err-signal-in-SetLimit-clause-follows
+run_command-returns-in_err-signal-in-SetLimit-clause-follows g t c =
+    let T = g.T.Tables.listed c.args.tables.now in
+    let P = plan_of T c.args.program.now in
+    let levels = c.args.levels in
+    let D = λ (n : Node). runs P levels (view_node T n) in
+    let m = c.args.mode in
+    let s = c.args.state.now in
+    let q = c.pay.new.self in
+    let a = c.in-SetLimit in
+    let u = c.run_command-in-SetLimit.new.state in
+    let w = c.put_back-in-SetLimit.new.self in
+    let new = c.run_command-in-SetLimit-2.new.state in
+    let go = λ (q : Standing) (t : Standing). then_on (put_back m (mark q) (limit_here m t)) (λ u. limited m (limits q) (D a.second.value m u)) in
+    let p = ap (λ n. D n m s) a.is ∙ setlimit_does T P levels a.first a.second m s ∙ ap (λ r. then_on r (λ q. after (D a.first.value m q) (go q) (Signals false))) c.in_ok-pay.ensures in
+    let b : c.in_ok-run_command-in-SetLimit.field-0 ≡ true = search rules in
+    let e : D a.first.value m q ≡ Signals true u = ap (λ n. D n m q) (sym c.deref-in-SetLimit.ensures) ∙ c.in_ok-run_command-in-SetLimit.ensures.follows ∙ ap (λ v. Signals v u) b in
+    let k : put_back m (mark q) (limit_here m u) ≡ Signals true w = ap (λ r. put_back m r (limit_here m u)) (sym c.mark-from-in-SetLimit.ensures.value) ∙ ap (put_back m c.mark-from-in-SetLimit.result) (sym c.limit_here.ensures) ∙ c.in_ok-put_back-in-SetLimit.ensures.leads in
+    let x = p ∙ ap (λ r. after r (go q) (Signals false)) e ∙ ap (λ r. then_on r (λ u. limited m (limits q) (D a.second.value m u))) k ∙ ap (λ n. limited m (limits q) (D n m w)) (sym c.deref-in-SetLimit-2.ensures) in
+    let second = D c.deref-in-SetLimit-2.result.now m w in
+    let halt = c.in_err-signal-in-SetLimit.field-0.0 in
+    let r : c.from_residual-in_err-signal-in-SetLimit.result ≡ Err halt = search rules in
+    let h : Follows (Err halt) new second = search rules in
+    rw r (follows_at (Err halt) new _ _ x (limited_halts m (limits q) halt new second h))
 
 pub run_command-returns-in-Among-clause-follows : goal.run_command-returns-in-Among-clause-follows
 run_command-returns-in-Among-clause-follows g t c =
     let T = g.T.Tables.listed c.args.tables.now in
-    let a = c.in-Among in
+    let P = plan_of T c.args.program.now in
+    let levels = c.args.levels in
+    let D = λ (n : Node). runs P levels (view_node T n) in
     let m = c.args.mode in
     let s = c.args.state.now in
-    let search_it = search_does (map (node_does T) a.bodies.items) a.entries.items (T a.table) m in
-    let p = ap (λ n. node_does T n m s) a.is ∙ among_does T a.table a.entries a.bodies m s ∙ ap (λ r. then_on r (λ q. then_on (pay q) search_it)) c.in_ok-pay.ensures in
+    let q = c.pay.new.self in
+    let a = c.in-Among in
+    let p = ap (λ n. D n m s) a.is ∙ among_does T P levels a.among a.before a.bodies m s ∙ ap (λ r. then_on r (λ q. after (all_run P levels (view_nodes T a.before.items) m q) (λ t. group_runs P levels (view_nodes T a.bodies.items) (choice a.among t) m t) (Signals false))) c.in_ok-pay.ensures in
     follows_at c.run_among.result c.run_among.new.state _ _ p c.run_among.ensures.follows
+
+pub run_among-returns-in-None-clause-follows : goal.run_among-returns-in-None-clause-follows
+run_among-returns-in-None-clause-follows g t c =
+    let T = g.T.Tables.listed c.args.tables.now in
+    let P = plan_of T c.args.program.now in
+    let levels = c.args.levels in
+    let m = c.args.mode in
+    let u = c.run_in_turn.new.state in
+    let bs = c.args.bodies.now.items in
+    let ds = c.deref-2.result.now in
+    let group = c.in-Some.group in
+    let on_t = λ (t : Standing). group_runs P levels (view_nodes T bs) (choice c.args.among t) m t in
+    let on_f = λ (f : Standing). Signals false f in
+    let b : c.in_ok-run_in_turn.field-0 ≡ true = search rules in
+    let past : length ds ≤ group = first_of (search rules, omega (arith, c.in-None.ensures.lookup)) in
+    ap (λ xs. after (all_run P levels (view_nodes T xs) m c.args.state.now) on_t on_f) (sym c.deref.ensures.value) ∙ ap (λ r. after r on_t on_f) (c.in_ok-run_in_turn.ensures.follows ∙ ap (λ v. Signals v u) b) ∙ ap (λ o. group_runs P levels (view_nodes T bs) o m u) (sym c.choice.ensures ∙ c.in-Some.is) ∙ ap (λ xs. nth_runs P levels (view_nodes T xs) group m u) (sym c.deref-2.ensures.value) ∙ nth_past T P levels ds group m u past
+
+pub run_times-loop-left-preserved : goal.run_times-loop-left-preserved
+run_times-loop-left-preserved g t c =
+    let inv = c.loop-left.invariant in
+    let T = g.T.Tables.listed c.args.tables.now in
+    let D = runs (plan_of T c.args.program.now) c.args.levels (view_node T c.args.inner.now) in
+    let m = c.args.mode in
+    let s = c.loop-left.state in
+    let new = c.run_command.new.state in
+    let b : c.in_ok-run_command.field-0 ≡ true = search rules in
+    let e : D m s ≡ Signals true new = c.in_ok-run_command.ensures.follows ∙ ap (λ v. Signals v new) b in
+    let some : 0 < c.loop-left.left = omega (arith, c.loop-left-test.true) in
+    let fewer : new.steps < s.steps = c.in_ok-run_command.ensures.fewer in
+    let steps : new.steps ≤ c.args.state.now.steps = omega (arith, fewer, inv.1) in
+    (one_time c.loop-left.left D m s new _ some e inv.0, steps)

@@ -1,0 +1,157 @@
+-- What a command does, from its step on: the forms that the search leaves.
+use Rattle.std.proofs.Common.{◌≡◌, ℕ, ◌-◌, ◌<◌, ◌≤◌, zero, suc, Bool, true, false, List, [], ◌∷◌, Option, Some, None, Result, Ok, Err, refl, sym, ap, ◌∙◌, arith, rules, length, get_or, Vec, Box, Global}
+use Rattle.std.specs.Prelude.{slice_get}
+use Rattle.sbl_machine.specs.declared.action.Arithmetic.{Arithmetic}
+use Rattle.sbl_machine.specs.declared.halt.Halt.{Halt}
+use Rattle.sbl_machine.specs.declared.halt.Halt.TheVariants.{OutOfMemory, Refused}
+use Rattle.sbl_machine.specs.declared.node.Entry.{Entry}
+use Rattle.sbl_machine.specs.declared.node.Node.{Node}
+use Rattle.sbl_machine.specs.declared.node.Node.TheVariants.{Or, And, Goto, GoPast, SetLimit, Repeat, Loop, AtLeast, Search, Among, Sequence}
+use Rattle.sbl_machine.specs.declared.state.Limits.{Limits}
+use Rattle.sbl_machine.specs.declared.node.Node.TheFolds.{fold_out-Node}
+use Rattle.sbl_machine.specs.declared.node.Node.TheViews.{the_lemmas}
+use Rattle.sbl_machine.specs.Kept.{Follows, Tried}
+use Rattle.sbl_machine.specs.Listed.{Listed}
+use Rattle.sbl_machine.specs.Fitting.{first}
+use Rattle.sbl_machine.specs.Moves.{next}
+use Rattle.sbl_machine.specs.Numbers.{value, given}
+use Rattle.sbl_machine.specs.PlanOf.{view_node, view_nodes, view_number}
+use Rattle.sbl_machine.specs.Plan as plan
+use Rattle.sbl_machine.specs.Run.{turns, times, count_of, seeks, found, calls, runs, all_run, group_runs, nth_runs, leave, enter, body_does, limits, limited, limit_here, limit_back}
+use Rattle.sbl_machine.specs.Search.{choice, search_all, tries, try_one}
+use Rattle.sbl_machine.specs.Standing.{Standing, Ending, Doing, Signals, after, then_on, pay, mark, put_back}
+use Rattle.sbl_script.specs.declared.marks.Mode.{Mode}
+
+pub follows_at : (r : Result Bool Halt) (new : Standing) (e w : Ending) → e ≡ w → Follows r new w → Follows r new e
+follows_at r new e w p h = rw p h
+
+view_repeat : (T : ℕ → Listed) (inner : Box Node Global) → view_node T (Repeat inner) ≡ plan.repeat (view_node T inner.value)
+view_repeat T inner = first_of (search (rules, the_lemmas), search (rules, the_lemmas, fold_out-Node))
+
+view_loop : (T : ℕ → Listed) (n : Arithmetic) (inner : Box Node Global) → view_node T (Loop n inner) ≡ plan.loop (view_number n) (view_node T inner.value)
+view_loop T n inner = first_of (search (rules, the_lemmas), search (rules, the_lemmas, fold_out-Node))
+
+view_atleast : (T : ℕ → Listed) (n : Arithmetic) (inner : Box Node Global) → view_node T (AtLeast n inner) ≡ plan.atleast (view_number n) (view_node T inner.value)
+view_atleast T n inner = first_of (search (rules, the_lemmas), search (rules, the_lemmas, fold_out-Node))
+
+view_search : (T : ℕ → Listed) (k table : ℕ) (entries : Vec Entry Global) → view_node T (Search k table entries) ≡ plan.search k (T table) entries.items
+view_search T k table entries = first_of (search (rules, the_lemmas), search (rules, the_lemmas, fold_out-Node))
+
+view_among : (T : ℕ → Listed) (k : ℕ) (before bodies : Vec Node Global) → view_node T (Among k before bodies) ≡ plan.among k (view_nodes T before.items) (view_nodes T bodies.items)
+view_among T k before bodies = first_of (search (rules, the_lemmas), search (rules, the_lemmas, fold_out-Node))
+
+view_sequence : (T : ℕ → Listed) (cs : Vec Node Global) → view_node T (Sequence cs) ≡ plan.sequence (view_nodes T cs.items)
+view_sequence T cs = first_of (search (rules, the_lemmas), search (rules, the_lemmas, fold_out-Node))
+
+view_or : (T : ℕ → Listed) (a b : Box Node Global) → view_node T (Or a b) ≡ plan.either (view_node T a.value) (view_node T b.value)
+view_or T a b = first_of (search (rules, the_lemmas), search (rules, the_lemmas, fold_out-Node))
+
+view_and : (T : ℕ → Listed) (a b : Box Node Global) → view_node T (And a b) ≡ plan.both (view_node T a.value) (view_node T b.value)
+view_and T a b = first_of (search (rules, the_lemmas), search (rules, the_lemmas, fold_out-Node))
+
+view_goto : (T : ℕ → Listed) (inner : Box Node Global) → view_node T (Goto inner) ≡ plan.goto (view_node T inner.value)
+view_goto T inner = first_of (search (rules, the_lemmas), search (rules, the_lemmas, fold_out-Node))
+
+view_gopast : (T : ℕ → Listed) (inner : Box Node Global) → view_node T (GoPast inner) ≡ plan.gopast (view_node T inner.value)
+view_gopast T inner = first_of (search (rules, the_lemmas), search (rules, the_lemmas, fold_out-Node))
+
+view_setlimit : (T : ℕ → Listed) (a b : Box Node Global) → view_node T (SetLimit a b) ≡ plan.setlimit (view_node T a.value) (view_node T b.value)
+view_setlimit T a b = first_of (search (rules, the_lemmas), search (rules, the_lemmas, fold_out-Node))
+
+pub or_does : (T : ℕ → Listed) (p : plan.Plan) (levels : ℕ) (a b : Box Node Global) (m : Mode) (s : Standing) → runs p levels (view_node T (Or a b)) m s ≡ then_on (pay s.steps s) (λ q. after (runs p levels (view_node T a.value) m q) (Signals true) (λ f. then_on (put_back m (mark q) f) (runs p levels (view_node T b.value) m)))
+or_does T p levels a b m s = ap (λ c. runs p levels c m s) (view_or T a b)
+
+pub and_does : (T : ℕ → Listed) (p : plan.Plan) (levels : ℕ) (a b : Box Node Global) (m : Mode) (s : Standing) → runs p levels (view_node T (And a b)) m s ≡ then_on (pay s.steps s) (λ q. after (runs p levels (view_node T a.value) m q) (λ t. then_on (put_back m (mark q) t) (runs p levels (view_node T b.value) m)) (Signals false))
+and_does T p levels a b m s = ap (λ c. runs p levels c m s) (view_and T a b)
+
+pub goto_does : (T : ℕ → Listed) (p : plan.Plan) (levels : ℕ) (inner : Box Node Global) (m : Mode) (s : Standing) → runs p levels (view_node T (Goto inner)) m s ≡ then_on (pay s.steps s) (λ q. seeks (suc q.steps) false (runs p levels (view_node T inner.value)) m q)
+goto_does T p levels inner m s = ap (λ c. runs p levels c m s) (view_goto T inner)
+
+pub gopast_does : (T : ℕ → Listed) (p : plan.Plan) (levels : ℕ) (inner : Box Node Global) (m : Mode) (s : Standing) → runs p levels (view_node T (GoPast inner)) m s ≡ then_on (pay s.steps s) (λ q. seeks (suc q.steps) true (runs p levels (view_node T inner.value)) m q)
+gopast_does T p levels inner m s = ap (λ c. runs p levels c m s) (view_gopast T inner)
+
+pub setlimit_does : (T : ℕ → Listed) (p : plan.Plan) (levels : ℕ) (a b : Box Node Global) (m : Mode) (s : Standing) → runs p levels (view_node T (SetLimit a b)) m s ≡ then_on (pay s.steps s) (λ q. after (runs p levels (view_node T a.value) m q) (λ t. then_on (put_back m (mark q) (limit_here m t)) (λ u. limited m (limits q) (runs p levels (view_node T b.value) m u))) (Signals false))
+setlimit_does T p levels a b m s = ap (λ c. runs p levels c m s) (view_setlimit T a b)
+
+pub limited_signals : (m : Mode) (from : Limits) (e : Ending) (b : Bool) (t : Standing) → e ≡ Signals b t → limited m from e ≡ Signals b (limit_back m from t)
+limited_signals m from e true t p = ap (limited m from) p
+limited_signals m from e false t p = ap (limited m from) p
+
+pub limited_halts : (m : Mode) (from : Limits) (halt : Halt) (new : Standing) (e : Ending) → Follows (Err halt) new e → Follows (Err halt) new (limited m from e)
+limited_halts m from OutOfMemory new e h = tt
+limited_halts m from (Refused fault) new e h = ap (limited m from) h
+
+pub one_time : (l : ℕ) (c : Doing) (m : Mode) (s new : Standing) (w : Ending) → 0 < l → c m s ≡ Signals true new → times l c m s ≡ w → times (l - 1) c m new ≡ w
+one_time zero c m s new w l e h = absurd (omega arith)
+one_time (suc k) c m s new w l e h =
+    let j : suc k - 1 ≡ k = omega arith in
+    ap (λ n. times n c m new) j ∙ sym (ap (λ r. after r (times k c m) (Signals false)) e) ∙ h
+
+pub repeat_does : (T : ℕ → Listed) (p : plan.Plan) (levels : ℕ) (inner : Box Node Global) (m : Mode) (s : Standing) → runs p levels (view_node T (Repeat inner)) m s ≡ then_on (pay s.steps s) (λ q. turns (suc q.steps) (runs p levels (view_node T inner.value)) m q)
+repeat_does T p levels inner m s = ap (λ c. runs p levels c m s) (view_repeat T inner)
+
+pub loop_does : (T : ℕ → Listed) (p : plan.Plan) (levels : ℕ) (n : Arithmetic) (inner : Box Node Global) (m : Mode) (s : Standing) → runs p levels (view_node T (Loop n inner)) m s ≡ then_on (pay s.steps s) (λ q. given (value (view_number n) m q) q (λ z. times (count_of z) (runs p levels (view_node T inner.value)) m q))
+loop_does T p levels n inner m s = ap (λ c. runs p levels c m s) (view_loop T n inner)
+
+pub atleast_does : (T : ℕ → Listed) (p : plan.Plan) (levels : ℕ) (n : Arithmetic) (inner : Box Node Global) (m : Mode) (s : Standing) → runs p levels (view_node T (AtLeast n inner)) m s ≡ then_on (pay s.steps s) (λ q. after (given (value (view_number n) m q) q (λ z. times (count_of z) (runs p levels (view_node T inner.value)) m q)) (λ t. turns (suc t.steps) (runs p levels (view_node T inner.value)) m t) (Signals false))
+atleast_does T p levels n inner m s = ap (λ c. runs p levels c m s) (view_atleast T n inner)
+
+pub search_does : (T : ℕ → Listed) (p : plan.Plan) (levels k table : ℕ) (entries : Vec Entry Global) (m : Mode) (s : Standing) → runs p levels (view_node T (Search k table entries)) m s ≡ then_on (pay s.steps s) (search_all (calls p levels) k entries.items (T table) m)
+search_does T p levels k table entries m s = ap (λ c. runs p levels c m s) (view_search T k table entries)
+
+pub among_does : (T : ℕ → Listed) (p : plan.Plan) (levels k : ℕ) (before bodies : Vec Node Global) (m : Mode) (s : Standing) → runs p levels (view_node T (Among k before bodies)) m s ≡ then_on (pay s.steps s) (λ q. after (all_run p levels (view_nodes T before.items) m q) (λ t. group_runs p levels (view_nodes T bodies.items) (choice k t) m t) (Signals false))
+among_does T p levels k before bodies m s = ap (λ c. runs p levels c m s) (view_among T k before bodies)
+
+pub sequence_does : (T : ℕ → Listed) (p : plan.Plan) (levels : ℕ) (cs : Vec Node Global) (m : Mode) (s : Standing) → runs p levels (view_node T (Sequence cs)) m s ≡ then_on (pay s.steps s) (all_run p levels (view_nodes T cs.items) m)
+sequence_does T p levels cs m s = ap (λ c. runs p levels c m s) (view_sequence T cs)
+
+-- the g-th of some commands
+pub nth_is : (T : ℕ → Listed) (p : plan.Plan) (levels : ℕ) (ns : List Node) (g : ℕ) (n : Node) (m : Mode) (s : Standing) → g < length ns → n ≡ get_or ns g n → nth_runs p levels (view_nodes T ns) g m s ≡ runs p levels (view_node T n) m s
+nth_is T p levels [] g n m s l e = absurd (omega arith)
+nth_is T p levels (x ∷ ns) zero n m s l e = ap (λ c. runs p levels (view_node T c) m s) (sym e)
+nth_is T p levels (x ∷ ns) (suc g) n m s l e = nth_is T p levels ns g n m s (omega arith) e
+
+pub nth_past : (T : ℕ → Listed) (p : plan.Plan) (levels : ℕ) (ns : List Node) (g : ℕ) (m : Mode) (s : Standing) → length ns ≤ g → nth_runs p levels (view_nodes T ns) g m s ≡ Signals true s
+nth_past T p levels [] g m s l = refl
+nth_past T p levels (x ∷ ns) zero m s l = absurd (omega arith)
+nth_past T p levels (x ∷ ns) (suc g) m s l = nth_past T p levels ns g m s (omega arith)
+
+pub one_turn : (n : ℕ) (c : Doing) (m : Mode) (s new : Standing) (w : Ending) → new.steps < s.steps → s.steps ≤ n → c m s ≡ Signals true new → turns (suc n) c m s ≡ w → (k : ℕ) × (new.steps ≤ k) × (turns (suc k) c m new ≡ w)
+one_turn zero c m s new w f l e h = absurd (omega arith)
+one_turn (suc k) c m s new w f l e h = (k, omega arith, sym (ap (λ r. after r (turns (suc k) c m) (put_back m (mark s))) e) ∙ h)
+
+pub one_try : (n : ℕ) (past : Bool) (c : Doing) (m : Mode) (s f b new : Standing) (w : Ending) → new.steps < s.steps → s.steps ≤ n → c m s ≡ Signals false f → put_back m (mark s) f ≡ Signals true b → next m b ≡ Signals true new → seeks (suc n) past c m s ≡ w → (k : ℕ) × (new.steps ≤ k) × (seeks (suc k) past c m new ≡ w)
+one_try zero past c m s f b new w less l e p x h = absurd (omega arith)
+one_try (suc k) past c m s f b new w less l e p x h =
+    let go = λ (b : Standing). after (next m b) (seeks (suc k) past c m) (Signals false) in
+    (k, omega arith, sym (ap (λ r. after r (found past m s) (λ f. then_on (put_back m (mark s) f) go)) e ∙ ap (λ r. then_on r go) p ∙ ap (λ r. after r (seeks (suc k) past c m) (Signals false)) x) ∙ h)
+
+pub one_more : (call : ℕ → Doing) (a : ℕ) (es : List Entry) (m : Mode) (from : Standing) (rest : List ℕ) (i : ℕ) (s : Standing) (place : Option ℕ) → place ≡ first rest → place ≡ Some i → (js : List ℕ) × (rest ≡ i ∷ js) × (tries call a es m from rest s ≡ try_one call a (slice_get es i) m from s (tries call a es m from js))
+one_more call a es m from [] i s place p q = let e : Some i ≡ None = sym q ∙ p in absurd (let no : ⊥ = cc in no)
+one_more call a es m from (j ∷ js) i s place p q =
+    let e : Some i ≡ Some j = sym q ∙ p in
+    let same : i ≡ j = cc in
+    (js, ap (λ k. k ∷ js) (sym same), ap (λ k. try_one call a (slice_get es k) m from s (tries call a es m from js)) (sym same))
+
+pub halted : (halt : Halt) (new : Standing) (e f w : Ending) → Tried (Err halt) new e f → e ≡ w → Follows (Err halt) new w
+halted OutOfMemory new e f w h p = tt
+halted (Refused fault) new e f w h p = sym p ∙ h
+
+-- a call with a level left
+pub called : (p : plan.Plan) (n i : ℕ) (m : Mode) (s : Standing) (r : plan.Routine) → 0 < n → slice_get p.routines i ≡ Some r → calls p n i m s ≡ leave s.choices (runs p (n - 1) r.body m (enter r.amongs s))
+called p zero i m s r h e = absurd (omega arith)
+called p (suc n) i m s r h e =
+    let k : n ≡ suc n - 1 = omega arith in
+    ap (λ o. body_does (runs p n) o m s) e ∙ ap (λ k. leave s.choices (runs p k r.body m (enter r.amongs s))) k
+
+pub leave_signals : (cs : List (Option ℕ)) (e : Ending) (b : Bool) (t : Standing) → e ≡ Signals b t → leave cs e ≡ Signals b (record t { choices = cs })
+leave_signals cs e true t p = ap (leave cs) p
+leave_signals cs e false t p = ap (leave cs) p
+
+pub leave_halts : (cs : List (Option ℕ)) (halt : Halt) (new : Standing) (e : Ending) → Follows (Err halt) new e → Follows (Err halt) new (leave cs e)
+leave_halts cs OutOfMemory new e h = tt
+leave_halts cs (Refused fault) new e h = ap (leave cs) h
+
+pub after_halts : (halt : Halt) (new : Standing) (e : Ending) (on_t on_f : Standing → Ending) → Follows (Err halt) new e → Follows (Err halt) new (after e on_t on_f)
+after_halts OutOfMemory new e on_t on_f h = tt
+after_halts (Refused fault) new e on_t on_f h = ap (λ r. after r on_t on_f) h

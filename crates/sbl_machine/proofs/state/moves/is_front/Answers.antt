@@ -1,0 +1,9 @@
+use Rattle.std.proofs.Common.{◌∙◌, ap}
+use Rattle.std.specs.Prelude.{nat_eq}
+use Rattle.std.specs.List.{starts_with}
+use Rattle.sbl_machine.specs.Fitting.{read_as}
+use Rattle.sbl_machine.proofs.Mirror.{ends_with-mirror}
+use Rattle.sbl_machine.proofs.state.moves.is_front.Goals as goal
+
+pub returns-in-Backward-clause-value : goal.returns-in-Backward-clause-value
+returns-in-Backward-clause-value c = rw c.in-Backward.is (c.ends_with.ensures.value ∙ ends_with-mirror c.args.part.now c.args.string.now)

@@ -1,0 +1,8 @@
+//! The program of a script: names become numbers, each `substring` is tied to its among, groupings become sets.
+
+mod amongs;
+mod commands;
+mod names;
+mod numbers;
+pub mod program;
+mod sets;

@@ -1,0 +1,134 @@
+//! The program of a script.
+
+ghost use Rattle.std.specs.Prelude.{◌≡◌, ◌∷◌, ◌++◌, [], List, map, length, OnOk, IfOk};
+ghost use Rattle.sbl_grammar.specs.View.{view_items, view_plain, view_row};
+ghost use Rattle.sbl_machine.specs.Listed.{listed_of};
+ghost use Rattle.sbl_machine.specs.Numbered as spec;
+ghost use Rattle.sbl_machine.specs.NumberedView.{listing_found, strings_at, view_found, view_names, view_place, view_placed};
+ghost use Rattle.sbl_machine.specs.PlanOf.{plan_of, view_routine};
+ghost use Rattle.sbl_script.specs.Parsed.{source_of};
+
+use crate::node::{Program, Routine};
+use crate::numbering::amongs::{Found, amongs_of};
+use crate::numbering::commands::{Place, row_of};
+use crate::numbering::names::{Names, Placed, names_of, number_of, place_all};
+use crate::numbering::sets::sets_of;
+use crate::search::AmongSearch;
+use sbl_grammar::{Plain, Row};
+use sbl_script::Script;
+use std::alloc::{AllocError, Global};
+
+// How many amongs are still to come.
+fn left_of(amongs: &Vec<Found>, place: Place) -> usize
+    ensures { result ≡ length (view_place amongs.now.items place).coming }
+{
+    amongs.len().saturating_sub(place.next)
+}
+
+fn routine_of(
+    alloc: Global,
+    names: &Names,
+    amongs: &Vec<Found>,
+    body: &Row,
+    place: &mut Place,
+) -> Result<Routine, AllocError>
+    ensures made { IfOk result (λ r. view_routine (strings_at amongs.now.items) r ≡ spec.routine_of (view_names names.now) (view_row body.now).0 (view_row body.now).1 (view_place amongs.now.items place.old)) }
+    ensures behind { OnOk result (view_place amongs.now.items place.new ≡ spec.past_others (view_row body.now).1 (spec.past (view_row body.now).0 (view_place amongs.now.items place.old))) }
+{
+    let before = left_of(amongs, *place);
+    let body = row_of(alloc, names, amongs, body, place)?;
+    let after = left_of(amongs, *place);
+    Ok(Routine {
+        body,
+        amongs: before.saturating_sub(after),
+    })
+}
+
+fn add_routine(
+    alloc: Global,
+    names: &Names,
+    amongs: &Vec<Found>,
+    plain: &Plain,
+    place: &mut Place,
+    routines: &mut Vec<Routine>,
+) -> Result<(), AllocError>
+    ensures made { OnOk result (map (view_routine (strings_at amongs.now.items)) routines.new.items ≡ spec.with_routine (view_names names.now) (view_plain plain.now) (view_place amongs.now.items place.old) (map (view_routine (strings_at amongs.now.items)) routines.old.items)) }
+    ensures behind { OnOk result (view_place amongs.now.items place.new ≡ spec.past_plain (view_plain plain.now) (view_place amongs.now.items place.old)) }
+{
+    if let Plain::Routine { name: _, body } = plain {
+        let routine = routine_of(alloc, names, amongs, body, place)?;
+        routines.push(routine)?;
+    }
+    Ok(())
+}
+
+fn routines_of(
+    alloc: Global,
+    names: &Names,
+    items: &[Placed],
+    amongs: &Vec<Found>,
+) -> Result<Vec<Routine>, AllocError>
+    ensures { IfOk result (λ v. map (view_routine (strings_at amongs.now.items)) v.items ≡ spec.routines_behind (view_names names.now) (map view_placed items.now) (view_place amongs.now.items (record { next = 0; waits = false })) []) }
+{
+    let mut place = Place {
+        next: 0,
+        waits: false,
+    };
+    let mut routines = Vec::new(alloc);
+    for item in items {
+        add_routine(alloc, names, amongs, item.plain, &mut place, &mut routines)?;
+    }
+    Ok(routines)
+}
+
+fn program_by(
+    alloc: Global,
+    names: &Names,
+    items: &[Placed],
+    amongs: &Vec<Found>,
+    external: &str,
+) -> Result<Program, AllocError>
+    ensures { IfOk result (λ p. plan_of (strings_at amongs.now.items) p ≡ spec.plan_by (view_names names.now) (map view_placed items.now) (map view_found amongs.now.items) external.now) }
+{
+    let groupings = sets_of(alloc, names, items)?;
+    let routines = routines_of(alloc, names, items, amongs)?;
+    Ok(Program {
+        integers: names.integers.len(),
+        booleans: names.booleans.len(),
+        strings: names.strings.len(),
+        groupings,
+        routines,
+        external: number_of(&names.routines, external),
+    })
+}
+
+/// A program, and the amongs whose strings its tables are to list.
+#[derive(Drop)]
+pub struct Made {
+    /// The program.
+    pub program: Program,
+    /// The amongs, in the order of the tables.
+    pub amongs: Vec<Found>,
+}
+
+/// The program of a script. AllocError where a growth was refused.
+pub fn numbered(alloc: Global, script: &Script) -> Result<Made, AllocError>
+    ensures { IfOk result (λ n. plan_of (strings_at n.amongs.items) n.program ≡ spec.numbered_script (source_of script.now)) }
+{
+    let items = place_all(alloc, script.items())?;
+    let names = names_of(alloc, &items)?;
+    let amongs = amongs_of(alloc, &names, &items)?;
+    let program = program_by(alloc, &names, &items, &amongs, script.external())?;
+    Ok(Made { program, amongs })
+}
+
+/// A table for each among. AllocError where a growth was refused.
+pub fn tables_of<S: AmongSearch>(alloc: Global, amongs: &[Found]) -> Result<Vec<S>, AllocError>
+    ensures { IfOk result (λ ts. map (listed_of S S.entries S.mode) ts.items ≡ map listing_found amongs.now) }
+{
+    let mut tables = Vec::new(alloc);
+    for among in amongs {
+        tables.push(S::build(alloc, &among.strings, among.mode)?)?;
+    }
+    Ok(tables)
+}
