@@ -62,13 +62,13 @@ placed_one k bytes ts us h g = k.places (chars bytes) ts us h.cut g.cut
 
 -- ---- the grammar
 
-told : grammar.Wrong → ℕ → ScriptFault
+abbrev told : grammar.Wrong → ℕ → ScriptFault
 told grammar.syntax place = fault.Syntax place
 told grammar.too_deep place = fault.TooDeep place
 told grammar.out_of_profile place = fault.OutOfProfile place
 
 -- what is wrong, and where
-Found : List Placed → ℕ → List Placed → ScriptFault → Type 0
+abbrev Found : List Placed → ℕ → List Placed → ScriptFault → Type 0
 Found ts end rest f = (w : grammar.Wrong) × grammar.IsWrongAt w (terminals ts) (terminals rest) × (f ≡ told w (place_of end rest))
 
 found : (ts : List Placed) (end : ℕ) (f : ScriptFault) (h : IsGrammarFault ts end f) → Found ts end h.rest f
@@ -144,7 +144,9 @@ fault_is_one k bytes external f g (inr (inr a)) (inr (inr b)) =
     check_is_one k b.0 external f g (subst (λ (ts : List Placed). IsCheckFault ts external f) same a.3) b.3
 
 same_source : (s t : Source) → s.items ≡ t.items → s.external ≡ t.external → s ≡ t
-same_source s t a b = cc
+same_source s t a b = ap (λ (i : List Item). with_external i s.external) a ∙ ap (λ (e : List ℕ). with_external t.items e) b where
+  with_external : List Item → List ℕ → Source
+  with_external i e = record { items = i; external = e }
 
 pub script_is_one : Known → (bytes external : List ℕ) (s t : Source) → IsScriptOf bytes external s → IsScriptOf bytes external t → s ≡ t
 script_is_one k bytes external s t h g =

@@ -416,12 +416,7 @@ fn keeps_what_it_read(rt: HostRuntime) {
     assert_eq!(rt; script.body().others.len(), 0);
     for external in ["", "2x", "next", "Stem"] {
         assert_eq!(rt;
-            Script::parse(
-                alloc,
-                b"externals ( stem ) define stem as next",
-                external
-            )
-            .err(),
+            Script::parse(alloc, b"externals ( stem ) define stem as next", external).err(),
             Some(ScriptFault::NoExternal)
         );
     }
