@@ -123,7 +123,7 @@ items_tokens : (xs : List Item) (ps : List Placed) → tokens (placed_items xs p
 items_tokens [] ps = refl
 items_tokens (x ∷ xs) ps = item_tokens x _ ∙ ap (λ (r : Ts). spelled_item x r) (items_tokens xs ps)
 
-places_tokens : (tree : List Item) → tokens (places tree) ≡ written tree
+pub places_tokens : (tree : List Item) → tokens (places tree) ≡ written tree
 places_tokens tree = items_tokens tree []
 
 -- ---- steps are determined by the tokens
@@ -244,7 +244,7 @@ same_depth end x d next q after e same f =
     let g : step end x ≡ goes q.1 after = subst (λ (y : Terminal). step end y ≡ goes q.1 after) same f in
     (same_goes d q.1 next after (sym e ∙ g)).0
 
-none_too_deep : (ps : List Placed) (End : Stack → Type 0) → Shallow ps → Runs ps start End → HasNoneTooDeep (tokens ps)
+pub none_too_deep : (ps : List Placed) (End : Stack → Type 0) → Shallow ps → Runs ps start End → HasNoneTooDeep (tokens ps)
 none_too_deep ps End shallow h b c x parts deep =
     let front = deep.1 in
     let steps = splits front ((x, deep.2) ∷ deep.3) start IsDone (subst (λ (qs : List Placed). Runs qs start IsDone) deep.4 (items_run deep.0)) in

@@ -8,3 +8,4 @@ pub mod First
 pub mod Starts
 pub mod Gives
 pub mod Told
+pub mod Laws

@@ -10,11 +10,15 @@ mod items;
 mod leaves;
 mod reading;
 mod role;
+#[cfg(test)]
+mod scripts;
 mod starts;
+#[cfg(test)]
+mod tests;
 mod tokens;
 mod tree;
 
-pub use reading::{one_part, one_tree, parse};
+pub use reading::{one_fault, one_part, one_tree, parse};
 pub use role::Role;
 pub use tree::{
     Added, Additive, Among, Argument, Assignment, Base, Command, Comparison, Constant, Count,

@@ -9,6 +9,7 @@ ghost use Rattle.sbl_grammar.specs.Reading.{IsReadAs};
 ghost use Rattle.sbl_grammar.specs.View.{view_items};
 ghost use Rattle.sbl_grammar.specs.Told.{IsFaultOf, place_at, fault_told};
 ghost use Rattle.sbl_grammar.specs.Gives.{Fails};
+ghost use Rattle.sbl_grammar.specs.Laws.{FaultIsOne, TreeOrFault};
 ghost use Rattle.sbl_grammar.specs.Steps.{fault};
 ghost use Rattle.sbl_grammar.specs.Steps as wanted;
 
@@ -86,4 +87,10 @@ pub fn one_tree()
 pub fn one_part()
     ensures there { (x : Lexeme) → lexeme_as (terminal_of x) ≡ x }
     ensures back { (x : Terminal) → terminal_of (lexeme_as x) ≡ x }
+{}
+
+/// Some tokens have one fault, in one place, and those of a tree that stands nowhere too deep have none.
+pub fn one_fault()
+    ensures one { FaultIsOne }
+    ensures none { TreeOrFault }
 {}

@@ -7,3 +7,4 @@ pub mod Reading
 pub mod MarkView
 pub mod Met
 pub mod Amongs
+pub mod OneReading

@@ -1,7 +1,24 @@
 //! What is shown of the checks.
 
 ghost use Rattle.sbl_script.specs.Amongs.{AmongsAreSound};
+ghost use Rattle.sbl_script.specs.OneReading.{FaultIsOne, ScriptIsOne, ScriptOrFault};
 ghost use Rattle.sbl_script.specs.Laws.{FaultIsFirst, NamesResolve, SubstringsArePaired, WellDeclaredPasses};
+
+use sbl_grammar::{one_fault, one_tree};
+use sbl_text::laws::{first_fault_is_one, tokens_are_one};
+
+/// Bytes are read as one script, or they have one fault, and never both: `Script::parse` is a function of its bytes and
+/// of the external, want of memory aside.
+pub fn one_reading()
+    ensures script { ScriptIsOne }
+    ensures fault { FaultIsOne }
+    ensures either { ScriptOrFault }
+{
+    tokens_are_one();
+    first_fault_is_one();
+    one_tree();
+    one_fault();
+}
 
 /// In a script that is well declared no check fails at any mark, and its external is declared and defined in forward mode.
 pub fn well_declared_passes()

@@ -8,6 +8,8 @@ mod marking;
 mod marks;
 mod script;
 #[cfg(test)]
+mod scripts;
+#[cfg(test)]
 mod tests;
 
 pub use marks::{Mark, Mode, Notice, Place, Use};

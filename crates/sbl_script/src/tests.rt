@@ -1,20 +1,13 @@
 //! Scripts and their faults.
 
-use crate::Script;
-use sbl_text::ScriptFault;
+use crate::laws::{
+    amongs_are_sound, fault_is_first, names_resolve, one_reading, substrings_are_paired,
+    well_declared_passes,
+};
+use crate::scripts::{FRONT, PORTER, SUFFIXES};
+use crate::{Script, ScriptFault};
 use std::alloc::Global;
 use std::process::Abort;
-
-const FRONT: &str = "externals ( stem ) define stem as ";
-
-const SUFFIXES: &str = "externals ( stem )
-routines ( tail last sib )
-backwardmode (
-  define sib as ( 'x' or 's' )
-  define tail as ( [substring] among ( 's' (delete) 'es' sib (delete) ) )
-  define last as ( ['e'] delete )
-)
-define stem as ";
 
 /// The fault of a script; `None` where it is accepted.
 fn fault_of(alloc: Global, text: &str) -> Option<ScriptFault> {
@@ -167,6 +160,26 @@ fn answers_the_fault_of_a_script(rt: HostRuntime) {
             ScriptFault::NoExternal,
         ),
         (
+            "routines ( r ) externals ( stem ) define stem as r backwardmode ( define r 'abc' )",
+            ScriptFault::WrongMode { item: 3 },
+        ),
+        (
+            "groupings ( v ) define v 'a' define v as next",
+            ScriptFault::WrongKind { item: 3 },
+        ),
+        (
+            "routines ( r ) externals ( stem ) define stem as non r",
+            ScriptFault::WrongKind { item: 3 },
+        ),
+        (
+            "backwardmode ( ) externals ( stem ) define stem as nowhere",
+            ScriptFault::Undeclared { item: 2 },
+        ),
+        (
+            "stringescapes {} externals ( stem ) define stem as among ( 'a' '{U+61}' )",
+            ScriptFault::RepeatedString { item: 3 },
+        ),
+        (
             "externals ( stem ) backwardmode ( externals ( stem ) ) get",
             ScriptFault::OutOfProfile { place: 55 },
         ),
@@ -184,6 +197,7 @@ fn pairs_each_substring_in_its_region(rt: HostRuntime) {
     let item = 2;
     for (body, want) in [
         ("( substring among ( 'a' ) )", None),
+        ("( not substring do among ( 'a' ) )", None),
         ("( substring ( do ( next among ( 'a' ) ) ) )", None),
         (
             "( substring substring among ( 'a' ) )",
@@ -260,6 +274,10 @@ fn answers_the_first_of_several(rt: HostRuntime) {
             "( among ( 'a' nowhere ( among ( ) ) ) )",
             ScriptFault::Undeclared { item },
         ),
+        (
+            "among ( 'a' stem 'a' )",
+            ScriptFault::RepeatedString { item },
+        ),
         ("( substring nowhere )", ScriptFault::Substring { item }),
         (
             "backwards backwards nowhere",
@@ -292,6 +310,7 @@ fn accepts_scripts(rt: HostRuntime) {
         "routines ( r ) externals ( stem other ) define stem as next",
         "integers ( x ) booleans ( b ) strings ( s ) externals ( stem ) define stem as ( set b b unset b setmark x -> s s $x = x + lenof s <- s )",
         "routines ( r ) externals ( stem ) backwardmode ( define r as r ) define stem as backwards r",
+        "stringdef get 'x' externals ( stem ) define stem as among ( 'a' 'A' '{U+61}' )",
     ] {
         assert_eq!(rt; fault_of(alloc, text), None, "{text}");
     }
@@ -299,25 +318,71 @@ fn accepts_scripts(rt: HostRuntime) {
         ("( backwards ( do tail do ( test 'e' last ) ) )", None),
         ("tail", Some(ScriptFault::WrongMode { item: 6 })),
     ] {
-        let text = format!(in alloc; "{SUFFIXES}{body}").expect(&rt, "accepted");
+        let text = format!(in alloc; "{SUFFIXES}{body}").expect(&rt, "memory");
         assert_eq!(rt; fault_of(alloc, text.as_str()), want, "{body}");
+    }
+}
+
+#[test]
+fn refuses_in_an_order(rt: HostRuntime) {
+    for (body, want) in [
+        ("( $x ) get", ScriptFault::OutOfProfile { place: 41 }),
+        ("$x=>3", ScriptFault::OutOfProfile { place: 36 }),
+        ("next ?", ScriptFault::OutOfProfile { place: 39 }),
+        ("( reverse", ScriptFault::OutOfProfile { place: 36 }),
+        (
+            "hop sizeof 'a' get",
+            ScriptFault::OutOfProfile { place: 38 },
+        ),
+        ("size ~", ScriptFault::BadCharacter { place: 39 }),
+        ("( $x 3 ) 'a", ScriptFault::UnclosedString { place: 43 }),
+        ("( $x 3 ) )", ScriptFault::OutOfProfile { place: 36 }),
+        (") $x 3", ScriptFault::Syntax { place: 34 }),
+        ("$x ", ScriptFault::Syntax { place: 37 }),
+        ("nowhere )", ScriptFault::Syntax { place: 42 }),
+    ] {
+        assert_eq!(rt; fault_in_body(&rt, rt.alloc(), body), Some(want), "{body}");
     }
 }
 
 #[test]
 fn counts_depth(rt: HostRuntime) {
     let alloc = rt.alloc();
-    for (count, want) in [(63, None), (64, Some(ScriptFault::TooDeep { place: 98 }))] {
+    for (count, inside, place) in [
+        (63, "next", None),
+        (64, "next", Some(98)),
+        (64, "$x 3", Some(98)),
+        (63, "$( 1 == 1 )", None),
+        (63, "hop ( 1 )", Some(101)),
+        (62, "hop - ( 1 )", Some(102)),
+        (63, "among ( 'a' 'b' stem )", None),
+        (63, "among ( ( ) 'a' )", Some(105)),
+        (63, "among ( 'a' ( ) )", Some(109)),
+        (62, "among ( 'a' ( next ) )", Some(110)),
+    ] {
         let open = repeated(&rt, alloc, "(", count);
         let close = repeated(&rt, alloc, ")", count);
-        let body = format!(in alloc; "{open}next{close}").expect(&rt, "accepted");
-        assert_eq!(rt; fault_in_body(&rt, alloc, body.as_str()), want);
+        let body = format!(in alloc; "{open}{inside}{close}").expect(&rt, "memory");
+        let want = place.map(|place| ScriptFault::TooDeep { place });
+        assert_eq!(rt; fault_in_body(&rt, alloc, body.as_str()), want, "{inside}");
     }
     let open = repeated(&rt, alloc, "(", 300_000);
     assert_eq!(rt;
         fault_in_body(&rt, alloc, open.as_str()),
         Some(ScriptFault::TooDeep { place: 98 })
     );
+}
+
+#[test]
+fn answers_every_front(rt: HostRuntime) {
+    let alloc = rt.alloc();
+    assert_eq!(rt; fault_of(alloc, PORTER), None);
+    let mut front = String::new(alloc);
+    for letter in PORTER.chars() {
+        let fault = fault_of(alloc, front.as_str());
+        assert!(rt; fault != Some(ScriptFault::OutOfMemory), "{front}");
+        front.push(letter).expect(&rt, "memory");
+    }
 }
 
 #[test]
@@ -348,8 +413,21 @@ fn keeps_what_it_read(rt: HostRuntime) {
     assert_eq!(rt; script.external(), "stem");
     assert_eq!(rt; script.items().len(), 2);
     script.is_well_declared();
-    assert_eq!(rt;
-        Script::parse(alloc, b"externals ( stem ) define stem as next", "").err(),
-        Some(ScriptFault::NoExternal)
-    );
+    assert_eq!(rt; script.body().others.len(), 0);
+    for external in ["", "2x", "next", "Stem"] {
+        assert_eq!(rt;
+            Script::parse(alloc, b"externals ( stem ) define stem as next", external).err(),
+            Some(ScriptFault::NoExternal)
+        );
+    }
+}
+
+#[test]
+fn calls_the_laws(_rt: HostRuntime) {
+    one_reading();
+    well_declared_passes();
+    fault_is_first();
+    amongs_are_sound();
+    names_resolve();
+    substrings_are_paired();
 }

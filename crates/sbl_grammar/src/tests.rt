@@ -1,0 +1,213 @@
+//! Worked texts.
+
+use crate::scripts::{PORTER, SUFFIXES};
+use crate::tree::{Command, Item, Plain};
+use crate::{one_fault, one_part, one_tree, parse};
+use sbl_text::{ScriptFault, tokens};
+use std::alloc::{AllocError, Global};
+use std::test::Fail;
+
+/// What stands before a body at byte 34.
+const FRONT: &str = "externals ( stem )\ndefine stem as ";
+
+fn read(alloc: Global, text: &str) -> Result<Vec<Item>, ScriptFault> {
+    let tokens = tokens(alloc, text)?;
+    parse(alloc, &tokens, text.len())
+}
+
+/// The number of items, or the fault.
+fn shown(alloc: Global, text: &str) -> Result<String, AllocError> {
+    match read(alloc, text) {
+        Ok(items) => format!(in alloc; "{}", items.len()),
+        Err(fault) => format!(in alloc; "{fault}"),
+    }
+}
+
+fn after_front(alloc: Global, body: &str) -> Result<String, AllocError> {
+    let mut text = String::from_str(alloc, FRONT)?;
+    text.push_str(body)?;
+    shown(alloc, &text)
+}
+
+/// As many brackets, a command in them, and the brackets closed.
+fn nested(
+    alloc: Global,
+    open: &str,
+    depth: usize,
+    inside: &str,
+    close: &str,
+) -> Result<String, AllocError> {
+    let mut text = String::new(alloc);
+    for _ in 0..depth {
+        text.push_str(open)?;
+    }
+    text.push_str(inside)?;
+    for _ in 0..depth {
+        text.push_str(close)?;
+    }
+    Ok(text)
+}
+
+#[test]
+fn whole_scripts(rt: HostRuntime) -> Result<(), Fail> {
+    assert_eq!(rt; shown(rt.alloc(), SUFFIXES)?.as_str(), "4");
+    assert_eq!(rt; shown(rt.alloc(), PORTER)?.as_str(), "9");
+    assert_eq!(rt; shown(rt.alloc(), "")?.as_str(), "0");
+    assert_eq!(rt; shown(rt.alloc(), "backwardmode ( )")?.as_str(), "1");
+    Ok(())
+}
+
+#[test]
+fn each_form_is_read(rt: HostRuntime) -> Result<(), Fail> {
+    let bodies = [
+        "( )",
+        "next",
+        "non v",
+        "non - v",
+        "next or next and next",
+        "not test try do fail repeat goto gopast backwards next",
+        "loop 2 next",
+        "atleast x - 1 * 2 next",
+        "( hop 2 atmark - x tomark ( x + 1 ) / 2 )",
+        "( setmark x set b unset b -> s )",
+        "( <- 'a' <+ s insert 'a' attach s )",
+        "setlimit tomark x for ( [ delete ] )",
+        "( $x = 1 $x += 1 $x -= 1 $x *= 2 $x /= 2 )",
+        "( $x == 1 $x != 1 $x < 1 $x <= 1 $x > 1 $x >= 1 )",
+        "$( lenof 'a' + len >= lenof s - cursor * limit / maxint + minint )",
+        "among ( )",
+        "among ( ( next ) )",
+        "among ( ( next ) 'a' 'b' r ( delete ) 'c' ( ) 'd' r 'e' )",
+        "( substring next tolimit atlimit true false 'a' )",
+    ];
+    for body in bodies {
+        assert_eq!(rt; after_front(rt.alloc(), body)?.as_str(), "2", "{body}");
+    }
+    assert_eq!(rt;
+        shown(
+            rt.alloc(),
+            "strings ( a b ) integers ( ) define v 'abc' + w - 'x' define w v"
+        )?
+        .as_str(),
+        "4"
+    );
+    Ok(())
+}
+
+#[test]
+fn first_faults(rt: HostRuntime) -> Result<(), Fail> {
+    let rows = [
+        ("( next next", "7 Syntax at 45"),
+        ("'a' 'b'", "7 Syntax at 38"),
+        ("( $x 3 )", "20 OutOfProfile at 36"),
+        ("", "7 Syntax at 34"),
+        ("$x", "7 Syntax at 36"),
+        ("$ 3", "7 Syntax at 36"),
+        ("next or", "7 Syntax at 41"),
+        ("non + v", "7 Syntax at 38"),
+        ("non - 'a'", "7 Syntax at 40"),
+        ("among ( 'a' ( ) b )", "7 Syntax at 50"),
+        ("among ( 'a' b c )", "7 Syntax at 48"),
+        ("setlimit next next", "7 Syntax at 48"),
+        ("loop next", "7 Syntax at 39"),
+        ("hop 1 + * 2", "7 Syntax at 42"),
+        ("$( x + 1 )", "7 Syntax at 43"),
+        ("get", "7 Syntax at 34"),
+    ];
+    for (body, fault) in rows {
+        assert_eq!(rt; after_front(rt.alloc(), body)?.as_str(), fault, "{body}");
+    }
+    let rows = [
+        ("routines r", "7 Syntax at 9"),
+        ("backwardmode ( backwardmode ( ) )", "7 Syntax at 15"),
+        ("define as next", "7 Syntax at 7"),
+        ("define v 'a' + + 'b'", "7 Syntax at 15"),
+        ("define", "7 Syntax at 6"),
+        ("next", "7 Syntax at 0"),
+    ];
+    for (text, fault) in rows {
+        assert_eq!(rt; shown(rt.alloc(), text)?.as_str(), fault, "{text}");
+    }
+    Ok(())
+}
+
+#[test]
+fn depth_is_bounded(rt: HostRuntime) -> Result<(), Fail> {
+    let rows = [
+        ("(", 63, "next", ")", "2"),
+        ("(", 64, "next", ")", "8 TooDeep at 98"),
+        ("(", 64, "", ")", "2"),
+        ("(", 64, "or", ")", "7 Syntax at 98"),
+        ("(", 64, "$x 3", ")", "8 TooDeep at 98"),
+        ("(", 63, "hop ( 1 )", ")", "8 TooDeep at 101"),
+        ("(", 62, "hop ( - 1 )", ")", "8 TooDeep at 102"),
+        ("(", 62, "hop ( 1 )", ")", "2"),
+        ("(", 63, "$( 1 == 1 )", ")", "2"),
+        ("(", 63, "among ( 'a' r ( ) )", ")", "8 TooDeep at 111"),
+        ("(", 62, "among ( 'a' ( next ) )", ")", "8 TooDeep at 110"),
+        ("(", 62, "among ( ( ) 'a' ( ) )", ")", "2"),
+        ("(", 63, "among ( ( ) 'a' )", ")", "8 TooDeep at 105"),
+        ("(", 62, "among ( ( next ) 'a' )", ")", "8 TooDeep at 106"),
+        ("(", 63, "among ( 'a' r 'b' )", ")", "2"),
+        ("not ", 63, "next", "", "2"),
+        ("not ", 64, "next", "", "8 TooDeep at 290"),
+    ];
+    for (open, depth, inside, close, fault) in rows {
+        let body = nested(rt.alloc(), open, depth, inside, close)?;
+        assert_eq!(rt;
+            after_front(rt.alloc(), &body)?.as_str(),
+            fault,
+            "{open} {depth} {inside}"
+        );
+    }
+    let deep = nested(rt.alloc(), "(", 100000, "", "")?;
+    assert_eq!(rt; after_front(rt.alloc(), &deep)?.as_str(), "8 TooDeep at 98");
+    Ok(())
+}
+
+/// Whether the first item's body is a `non` with the minus.
+fn minus_of(items: &[Item]) -> Option<bool> {
+    match items.first() {
+        Some(Item::Plain(Plain::Routine { body, .. })) => match &body.first {
+            Command::Non { with_minus, .. } => Some(*with_minus),
+            _ => None,
+        },
+        _ => None,
+    }
+}
+
+#[test]
+fn signs_are_kept_apart(rt: HostRuntime) -> Result<(), Fail> {
+    assert_eq!(rt;
+        minus_of(&read(rt.alloc(), "define r as non v")?),
+        Some(false)
+    );
+    assert_eq!(rt;
+        minus_of(&read(rt.alloc(), "define r as non - v")?),
+        Some(true)
+    );
+    Ok(())
+}
+
+#[test]
+fn fronts_are_answered(rt: HostRuntime) -> Result<(), Fail> {
+    let mut front = String::new(rt.alloc());
+    for (n, c) in PORTER.chars().enumerate() {
+        front.push(c)?;
+        if n % 45 == 0 {
+            let fault = match read(rt.alloc(), &front) {
+                Ok(_) => None,
+                Err(fault) => Some(fault),
+            };
+            assert!(rt; fault != Some(ScriptFault::OutOfMemory), "{n}");
+        }
+    }
+    Ok(())
+}
+
+#[test]
+fn laws_are_called(_rt: HostRuntime) {
+    one_tree();
+    one_part();
+    one_fault();
+}
