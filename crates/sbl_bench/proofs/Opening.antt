@@ -1,6 +1,6 @@
 -- Where opening stands between two words.
 use Rattle.std.proofs.Common.{◌≡◌, ℕ, List, [], length}
-use Rattle.sbl_script.specs.Tree.{Source}
+use Rattle.sbl_script.specs.Parsed.{Source}
 use Rattle.sbl_bench.specs.Kept.{Entry, words_in, IsKept}
 use Rattle.sbl_bench.specs.State.{opening_fault}
 use Rattle.sbl_bench.specs.Vocabulary.{with_all, vocabulary}

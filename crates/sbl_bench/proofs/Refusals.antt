@@ -1,12 +1,12 @@
 -- What the tests of an addition, in their order, say of its refusal, and what its last step says of its answer.
-use Rattle.std.proofs.Common.{◌≡◌, ◌≢◌, ◌∙◌, ◌<◌, ◌≤◌, ◌+◌, ◌++◌, ℕ, Bool, true, false, List, [], ◌∷◌, length, Option, Some, None, Result, Ok, Err, OnOk, OnErr, IfErr, nat_eq, refl, sym, ap, subst, arith}
+use Rattle.std.proofs.Common.{◌≡◌, ◌≢◌, ◌∙◌, ◌<◌, ◌≤◌, ◌+◌, ◌++◌, ℕ, Bool, true, false, List, [], ◌∷◌, length, None, Result, Ok, Err, OnOk, OnErr, IfErr, nat_eq, refl, sym, ap, subst, arith}
 use Rattle.std.proofs.lemmas.Bool.{le-ltb, lt-leb, eqb-true}
 use Rattle.std.proofs.lemmas.List.{length-map}
-use Rattle.sbl_script.specs.Tree.{Source}
+use Rattle.sbl_script.specs.Parsed.{Source}
 use Rattle.sbl_bench.specs.Kept.{Entry, words_in}
 use Rattle.sbl_bench.specs.declared.fault.EditFault.{EditFault}
 use Rattle.sbl_bench.specs.declared.fault.EditFault.TheVariants as fault
-use Rattle.sbl_bench.specs.State.{State, MayHaveRun, Adds, most_runs, refusal_of_add, or_meter}
+use Rattle.sbl_bench.specs.State.{State, Adds, most_runs, refusal_of_add, or_meter}
 use Rattle.sbl_bench.specs.Stops.{IsStop}
 use Rattle.sbl_bench.specs.Vocabulary.{is_word}
 
@@ -24,14 +24,9 @@ accepted_among script es count word known n some most there new size room =
     accepted (record { script = script; words = words_in es; count = count }) word some most (sym there ∙ new)
     (subst (λ (m : ℕ). m < 100000) (size ∙ sym (length-map es _)) room)
 
--- no run is among the runs that an edit may have made
-no_run : (verdict : Option EditFault) → MayHaveRun verdict 1 0
-no_run None = omega arith
-no_run (Some f) = refl
-
 -- where memory was refused before anything was run
 pub adds_nothing : (s : State) (word : List ℕ) → refusal_of_add s word ≡ None → Adds (Err fault.OutOfMemory) s word s
-adds_nothing s word free = (free, 0, no_run _, ap (λ (n : ℕ). record s { count = n }) (omega arith))
+adds_nothing s word free = (free, refl)
 
 -- the answer of the last step, which runs the word and puts it last
 pub adds : (r : Result (Unit {0}) EditFault) (s : State) (word : List ℕ) (words : List (List ℕ)) (count : ℕ) → refusal_of_add s word ≡ None
@@ -45,8 +40,7 @@ adds (Ok u) s word words count free last counted room _ _ _ =
     has_room false e = rw e refl
     has_room true e = absurd (room (eqb-true s.count most_runs e))
 adds (Err fault.OutOfMemory) s word words count free _ _ _ same uncounted stop =
-    let zero : s.count ≡ s.count + 0 = omega arith in
-    (free, 0, no_run _, λ i. record s { words = same i; count = (uncounted ∙ zero) i })
+    (free, λ i. record s { words = same i; count = uncounted i })
 adds (Err fault.MeterFull) s word words count free _ _ _ same uncounted stop =
     (ap (or_meter s.count) free ∙ rw stop refl, λ i. record s { words = same i; count = uncounted i })
 adds (Err fault.Present) s word words count free _ _ _ same uncounted stop = absurd stop

@@ -6,7 +6,7 @@ use Rattle.std.specs.Str.{bytes_eq}
 use Rattle.std.specs.declared.vec.Vec.{Vec}
 use Rattle.std.specs.declared.alloc.Global.{Global}
 use Rattle.std.specs.Map.{lookup}
-use Rattle.sbl_script.specs.Tree.{Source}
+use Rattle.sbl_script.specs.Parsed.{Source}
 use Rattle.sbl_machine.specs.declared.outcome.Outcome.{Outcome}
 use Rattle.sbl_machine.specs.Outcome.{outcome_of, run_of}
 use Rattle.sbl_bench.specs.declared.fault.EditFault.{EditFault}

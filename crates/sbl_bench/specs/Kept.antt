@@ -2,8 +2,7 @@
 use Rattle.std.specs.Prelude.{◌≡◌, ◌≤◌, ◌<◌, ℕ, List, [], ◌∷◌, map, length, All, ⊤}
 use Rattle.std.specs.declared.vec.Vec.{Vec}
 use Rattle.std.specs.declared.alloc.Global.{Global}
-use Rattle.sbl_script.specs.Parsed.{Parsed, source_of}
-use Rattle.sbl_script.specs.Tree.{Source}
+use Rattle.sbl_script.specs.Parsed.{Parsed, Source, source_of}
 use Rattle.sbl_machine.specs.declared.outcome.Outcome.{Outcome}
 use Rattle.sbl_machine.specs.Outcome.{outcome_of, run_of}
 use Rattle.sbl_bench.specs.Rows.{most_steps}

@@ -1,6 +1,6 @@
 -- The rows: each word with what a fresh run of the script makes of it.
 use Rattle.std.specs.Prelude.{ℕ, List, map}
-use Rattle.sbl_script.specs.Tree.{Source}
+use Rattle.sbl_script.specs.Parsed.{Source}
 use Rattle.sbl_machine.specs.Outcome.{Outcome', outcome_of, run_of}
 use Rattle.sbl_bench.specs.declared.row.Row as declared
 

@@ -1,7 +1,7 @@
 -- What a bench is, and what opening it and adding a word do.
-use Rattle.std.specs.Prelude.{◌≡◌, ◌≤◌, ℕ, ◌+◌, ◌-◌, ◌^◌, Bool, List, [], ◌∷◌, ◌++◌, length, Option, Some, None, Result, Ok, Err, nat_lt, nat_le, nat_eq, if◌then◌else◌}
+use Rattle.std.specs.Prelude.{◌≡◌, ℕ, ◌+◌, ◌-◌, ◌^◌, Bool, List, [], ◌∷◌, ◌++◌, length, Option, Some, None, Result, Ok, Err, nat_lt, nat_le, nat_eq, if◌then◌else◌}
 use Rattle.std.specs.Option.{option_or}
-use Rattle.sbl_script.specs.Tree.{Source}
+use Rattle.sbl_script.specs.Parsed.{Source}
 use Rattle.sbl_bench.specs.declared.fault.EditFault.{EditFault}
 use Rattle.sbl_bench.specs.declared.fault.EditFault.TheVariants as fault
 use Rattle.sbl_bench.specs.Vocabulary.{is_word, is_skipped, with_word, vocabulary}
@@ -75,18 +75,9 @@ verdict_of_add s word = or_meter s.count (refusal_of_add s word)
 abbrev pub added : List ℕ → State → State
 added word s = record s { words = s.words ++ word ∷ []; count = s.count + 1 }
 
--- the same bench after some more runs, whose results were let go
-abbrev pub after_runs : ℕ → State → State
-after_runs n s = record s { count = s.count + n }
-
--- How many runs an edit may have made before its memory was refused: none where its verdict refuses it.
-abbrev pub MayHaveRun : Option EditFault → ℕ → ℕ → Type 0
-MayHaveRun None most n = n ≤ most
-MayHaveRun (Some f) most n = n ≡ 0
-
--- What adding a word answers, and what the bench is after it. Memory may be refused only where the word is not.
+-- What adding a word answers, and what the bench is after it: a word that is not taken changes nothing. Memory may be refused only
+-- where the word is not.
 abbrev pub Adds : Result (Unit {0}) EditFault → State → List ℕ → State → Type 0
 Adds (Ok u) s word t = (verdict_of_add s word ≡ None) × (t ≡ added word s)
-Adds (Err fault.OutOfMemory) s word t =
-    (refusal_of_add s word ≡ None) × (n : ℕ) × MayHaveRun (verdict_of_add s word) 1 n × (t ≡ after_runs n s)
+Adds (Err fault.OutOfMemory) s word t = (refusal_of_add s word ≡ None) × (t ≡ s)
 Adds (Err f) s word t = (verdict_of_add s word ≡ Some f) × (t ≡ s)

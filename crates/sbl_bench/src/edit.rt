@@ -15,7 +15,7 @@ impl Bench {
     /// It answers EmptyWord where the word has no character, WordTooLong where it has more than 255, Present where it is in the
     /// vocabulary and Full where that has 100,000 words, in this order; these take no memory. Then it answers MeterFull
     /// where the count of runs is at its end, and OutOfMemory where a growth is refused. Whatever it answers but `Ok`,
-    /// script, vocabulary and rows are left as they were, and where it is not OutOfMemory the count of runs too. (Our own choice.)
+    /// script, vocabulary, rows and the count of runs are left as they were. (Our own choice.)
     pub fn add(&mut self, word: &[char]) -> Result<(), EditFault>
         ensures { Adds result (state_of self.old) word.now (state_of self.new) }
     {

@@ -4,7 +4,7 @@ use sbl_machine::RunStop;
 use std::alloc::AllocError;
 use thiserror::Error;
 
-/// Why an edit is refused. A refused edit changes nothing, but that the count of runs may have risen where memory was refused.
+/// Why an edit is refused. A refused edit changes nothing.
 /// The numbers and names are our own choice.
 #[derive(Debug, Drop, Clone, Copy, PartialEq, Eq, Error)]
 pub enum EditFault {

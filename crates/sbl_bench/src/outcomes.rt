@@ -1,7 +1,7 @@
 //! The words that a bench keeps, each with its outcome, outside the bench itself.
 
 ghost use Rattle.std.specs.Prelude.{◌≡◌, ◌≢◌, ◌≤◌, ◌<◌, ◌+◌, ◌^◌, ◌++◌, [], ◌∷◌, false, length, OnOk, OnErr, IfErr};
-ghost use Rattle.sbl_script.specs.Tree.{Source};
+ghost use Rattle.sbl_script.specs.Parsed.{Source};
 ghost use Rattle.sbl_machine.specs.MachineOf.{IsPlainMachineOf};
 ghost use Rattle.sbl_bench.specs.Vocabulary.{is_word};
 ghost use Rattle.sbl_bench.specs.Kept.{words_in, IsWord, IsKept};

@@ -2,37 +2,29 @@
 use Rattle.std.proofs.Common.{◌≡◌, ◌∙◌, ◌≤◌, ◌<◌, ℕ, Bool, true, false, List, [], ◌∷◌, length, take, Option, Some, None, Result, Ok, Err, refl, sym, ap, subst, arith, nat_lt, length-take}
 use Rattle.std.proofs.lemmas.Bool.Decides.{nat_tests}
 use Rattle.std.proofs.lemmas.Grind.{common_steps}
-use Rattle.sbl_bench.specs.State.{State, Adds, MayHaveRun, refusal_of_add, verdict_of_add, or_meter, added, after_runs}
+use Rattle.sbl_bench.specs.State.{State, Adds, refusal_of_add, or_meter, added}
 use Rattle.sbl_bench.specs.declared.fault.EditFault.{EditFault}
 use Rattle.sbl_bench.specs.declared.fault.EditFault.TheVariants as fault
-use Rattle.snowbench.specs.Answers.{answer_to_add, edit_text, memory_first, runs_made, accepted, state_after_add}
+use Rattle.snowbench.specs.Answers.{answer_to_add, edit_text, memory_first, accepted, state_after_add}
 use Rattle.snowbench.specs.Edits.{fault_in}
 
 abbrev pub IsAnswered : Result (Unit {0}) EditFault → State → List ℕ → State → Type 0
-IsAnswered r s word t = (refused : Option ℕ) × (edit_text (fault_in r) ≡ edit_text (answer_to_add s word refused)) × (t ≡ state_after_add s word refused)
+IsAnswered r s word t = (refused : Bool) × (edit_text (fault_in r) ≡ edit_text (answer_to_add s word refused)) × (t ≡ state_after_add s word refused)
 
--- a refusal but that of memory
-by_verdict : (f : EditFault) (s t : State) (word : List ℕ) → verdict_of_add s word ≡ Some f → t ≡ s → IsAnswered (Err f) s word t
-by_verdict f s t word verdict same =
-    (None, ap edit_text (sym verdict), same ∙ sym (ap (λ (v : Option EditFault). accepted v (added word s) s) verdict))
-
-runs-made : (v : Option EditFault) (n : ℕ) → MayHaveRun v 1 n → runs_made v n ≡ n
-runs-made None n h = omega arith
-runs-made (Some f) n h = sym h
+-- what is answered says what the bench is after it
+by_answer : (refused : Bool) (r : Result (Unit {0}) EditFault) (s t : State) (word : List ℕ) → answer_to_add s word refused ≡ fault_in r
+    → t ≡ accepted (fault_in r) (added word s) s → IsAnswered r s word t
+by_answer refused r s t word is same =
+    (refused, ap edit_text (sym is), same ∙ sym (ap (λ (v : Option EditFault). accepted v (added word s) s) is))
 
 pub answered : (r : Result (Unit {0}) EditFault) (s t : State) (word : List ℕ) → Adds r s word t → IsAnswered r s word t
-answered (Ok u) s t word h = (None, ap edit_text (sym h.0), h.1 ∙ sym (ap (λ (v : Option EditFault). accepted v (added word s) s) h.0))
-answered (Err fault.OutOfMemory) s t word h = (
-  Some h.1,
-  ap edit_text (sym (ap memory_first h.0)),
-  h.3 ∙ ap (λ (n : ℕ). after_runs n s) (sym (runs-made (verdict_of_add s word) h.1 h.2))
-      ∙ sym (ap (λ (v : Option EditFault). accepted v (after_runs (runs_made (verdict_of_add s word) h.1) s) s) h.0),
-)
-answered (Err fault.Present) s t word h = by_verdict fault.Present s t word h.0 h.1
-answered (Err fault.EmptyWord) s t word h = by_verdict fault.EmptyWord s t word h.0 h.1
-answered (Err fault.WordTooLong) s t word h = by_verdict fault.WordTooLong s t word h.0 h.1
-answered (Err fault.Full) s t word h = by_verdict fault.Full s t word h.0 h.1
-answered (Err fault.MeterFull) s t word h = by_verdict fault.MeterFull s t word h.0 h.1
+answered (Ok u) s t word h = by_answer false (Ok u) s t word h.0 h.1
+answered (Err fault.OutOfMemory) s t word h = by_answer true (Err fault.OutOfMemory) s t word (ap memory_first h.0) h.1
+answered (Err fault.Present) s t word h = by_answer false (Err fault.Present) s t word h.0 h.1
+answered (Err fault.EmptyWord) s t word h = by_answer false (Err fault.EmptyWord) s t word h.0 h.1
+answered (Err fault.WordTooLong) s t word h = by_answer false (Err fault.WordTooLong) s t word h.0 h.1
+answered (Err fault.Full) s t word h = by_answer false (Err fault.Full) s t word h.0 h.1
+answered (Err fault.MeterFull) s t word h = by_answer false (Err fault.MeterFull) s t word h.0 h.1
 
 -- a word of more than 255 characters is refused for that
 too_long : (s : State) (word : List ℕ) → 255 < length word → refusal_of_add s word ≡ Some fault.WordTooLong

@@ -1,5 +1,5 @@
 -- A session goes on line by line.
-use Rattle.std.proofs.Common.{map, ◌≡◌, ◌∙◌, ◌++◌, ◌≤◌, ℕ, List, [], ◌∷◌, Option, Some, None, Ok, Err, refl, take, sym, ap, subst, append_assoc, arith, length, length-append}
+use Rattle.std.proofs.Common.{map, ◌≡◌, ◌∙◌, ◌++◌, ◌≤◌, ℕ, Bool, List, [], ◌∷◌, Option, Some, None, Ok, Err, refl, take, sym, ap, subst, append_assoc, arith, length, length-append}
 use Rattle.std.proofs.lemmas.List.{append-nil}
 use Rattle.std.specs.Io.KnownBytes.{Appends, IsAtEnd}
 use Rattle.std.proofs.KnownBytes.{Appends-nil, Appends-trans}
@@ -11,7 +11,7 @@ use Rattle.snowbench.specs.Session.{Answered, HalfAnswered, IsSession, SoFar}
 use Rattle.snowbench.specs.declared.faults.ServeFault.TheVariants as fault
 use Rattle.snowbench.proofs.Bytes.{no_lines}
 
-more_answers : (s : State) (done : List (List ℕ)) (line : List ℕ) (m : List (Option ℕ)) (r : Option ℕ) → length m ≡ length done
+more_answers : (s : State) (done : List (List ℕ)) (line : List ℕ) (m : List Bool) (r : Bool) → length m ≡ length done
     → answers s (done ++ line ∷ []) (m ++ r ∷ []) ≡ answers s done m ++ reply_of (state_after_all s done m) line r
 unfolding answers state_after_all
 more_answers s [] line [] r e = append-nil (reply_of s line r)
@@ -21,7 +21,7 @@ more_answers s (l ∷ done) line (q ∷ m) r e =
     ap (λ (x : List ℕ). reply_of s l q ++ x) (more_answers (state_after s l q) done line m r (omega arith))
     ∙ sym (append_assoc (reply_of s l q) (answers (state_after s l q) done m) _)
 
-more_state : (s : State) (done : List (List ℕ)) (line : List ℕ) (m : List (Option ℕ)) (r : Option ℕ) → length m ≡ length done
+more_state : (s : State) (done : List (List ℕ)) (line : List ℕ) (m : List Bool) (r : Bool) → length m ≡ length done
     → state_after_all s (done ++ line ∷ []) (m ++ r ∷ []) ≡ state_after (state_after_all s done m) line r
 unfolding state_after_all
 more_state s [] line [] r e = refl
@@ -42,7 +42,7 @@ session_starts None h s = tt
 session_starts (Some bytes) h s = ([], refl, tt, nothing_yet s h)
 
 -- one more line was answered
-answered-more : (s t u : State) (done : List (List ℕ)) (line : List ℕ) (h i j : Option (List ℕ)) (r : Option ℕ)
+answered-more : (s t u : State) (done : List (List ℕ)) (line : List ℕ) (h i j : Option (List ℕ)) (r : Bool)
     → Answered s done h i t → Appends i j (reply_of t line r) → u ≡ state_after t line r → Answered s (done ++ line ∷ []) h j u
 answered-more s t u done line h i j r so writes next = record {
   m = so.m ++ r ∷ [];
@@ -53,7 +53,7 @@ answered-more s t u done line h i j r so writes next = record {
 }
 
 -- one more line was taken, and a front of its answer was written
-half-more : (s t u : State) (done : List (List ℕ)) (line : List ℕ) (h i j : Option (List ℕ)) (r : Option ℕ) (n : ℕ)
+half-more : (s t u : State) (done : List (List ℕ)) (line : List ℕ) (h i j : Option (List ℕ)) (r : Bool) (n : ℕ)
     → Answered s done h i t → Appends i j (take n (reply_of t line r)) → u ≡ state_after t line r → HalfAnswered s done line h j u
 half-more s t u done line h i j r n so writes next = record {
   m = so.m;
@@ -65,7 +65,7 @@ half-more s t u done line h i j r n so writes next = record {
   state = next ∙ ap (λ (x : State). state_after x line r) so.state;
 }
 
-pub session_goes_on : (a b c h i j : Option (List ℕ)) (s t u : State) (line : List ℕ) (r : Option ℕ)
+pub session_goes_on : (a b c h i j : Option (List ℕ)) (s t u : State) (line : List ℕ) (r : Bool)
     → SoFar a b h i s t → GivesLine b c line → length line ≤ 65536 → Appends i j (reply_of t line r) → u ≡ state_after t line r → SoFar a c h j s u
 session_goes_on None b c h i j s t u line r so gives fits writes next = tt
 session_goes_on (Some bytes) None c h i j s t u line r so gives fits writes next = absurd so
@@ -92,7 +92,7 @@ session_at_read (Some bytes) (Some rest) (Some left) h i s t front so cut =
     (so.0, front, left, refl, cut.1, so.1 ∙ ap (λ (x : List ℕ). so.0 ++ lines_of x) cut.0, so.2, so.3)
 
 -- where an answer was broken off by the writer
-pub session_at_write : (a b c h i j : Option (List ℕ)) (s t u : State) (line : List ℕ) (r : Option ℕ) (n : ℕ)
+pub session_at_write : (a b c h i j : Option (List ℕ)) (s t u : State) (line : List ℕ) (r : Bool) (n : ℕ)
     → SoFar a b h i s t → GivesLine b c line → length line ≤ 65536 → Appends i j (take n (reply_of t line r)) → u ≡ state_after t line r
     → IsSession a c h j s u (Err fault.Write)
 session_at_write None b c h i j s t u line r n so gives fits writes next = tt

@@ -6,9 +6,10 @@ use Rattle.std.specs.declared.vec.Vec.{Vec}
 use Rattle.std.specs.declared.alloc.Global.{Global}
 use Rattle.sbl_bench.specs.State.{State, opened, opening_fault}
 use Rattle.sbl_bench.specs.declared.fault.EditFault.TheVariants as edit
-use Rattle.sbl_script.specs.Reading.{IsScriptOf}
-use Rattle.sbl_script.specs.Tree.{Source}
-use Rattle.sbl_script.specs.declared.ScriptFault.TheVariants as script
+use Rattle.sbl_script.specs.Parsed.{Source}
+use Rattle.sbl_script.specs.Reading.{IsFaultOf, IsScriptOf}
+use Rattle.sbl_text.specs.declared.fault.ScriptFault.{ScriptFault}
+use Rattle.sbl_text.specs.declared.fault.ScriptFault.TheVariants as script
 use Rattle.snowbench.specs.Block.{AllText, ForLines, NoPoint, Took, made_text, most_bytes, point}
 use Rattle.snowbench.specs.Held.{AllFit, HasCause, IsTooLong, fault_of}
 use Rattle.snowbench.specs.LinesOf.{longest_line}
@@ -78,7 +79,12 @@ ReadsWords old new (Err (Input f)) = ⊥
 -- A script block was taken, and is read as this script with this external.
 abbrev pub TookSource : Option (List ℕ) → Option (List ℕ) → List ℕ → Source → Type 0
 TookSource old new external s =
-    (lines : List (List ℕ)) × TookScript old new lines × (length (made_text lines) ≤ most_bytes) × IsScriptOf (made_text lines) external s
+    (lines : List (List ℕ)) × TookScript old new lines × IsScriptOf (made_text lines) external s
+
+-- A script block was taken, and with this external its text has this fault; or memory was refused.
+abbrev pub TookFault : Option (List ℕ) → Option (List ℕ) → List ℕ → ScriptFault → Type 0
+TookFault old new external f =
+    (lines : List (List ℕ)) × TookScript old new lines × ((f ≡ script.OutOfMemory) ⊎ IsFaultOf (made_text lines) external f)
 
 -- An input is a script block that is read as this script with this external, and then these words.
 abbrev pub IsInput : Option (List ℕ) → Option (List ℕ) → List ℕ → Source → List (List ℕ) → Type 0
@@ -92,8 +98,7 @@ abbrev pub IsLoaded : {B : Type 0} → Option (List ℕ) → Option (List ℕ) �
 IsLoaded old new external state (Ok bench) =
     (s : Source) × (words : List (List ℕ)) × IsInput old new external s words
     × (opening_fault [] (map chars words) ≡ None) × (state bench ≡ opened s (map chars words))
-IsLoaded old new external state (Err (Script f)) =
-    (lines : List (List ℕ)) × TookScript old new lines × ((f ≡ script.ScriptTooLong) ⊎ (length (made_text lines) ≤ most_bytes))
+IsLoaded old new external state (Err (Script f)) = TookFault old new external f
 IsLoaded old new external state (Err (Open edit.OutOfMemory)) = ⊤
 IsLoaded old new external state (Err (Open f)) =
     (s : Source) × (words : List (List ℕ)) × IsInput old new external s words × (opening_fault [] (map chars words) ≡ Some f)

@@ -1,5 +1,5 @@
 -- A session: what is written, and what the bench is then, by the bytes of the input.
-use Rattle.std.specs.Prelude.{◌≡◌, ◌⊎◌, ◌++◌, ◌≤◌, ℕ, List, ◌∷◌, Option, Some, None, Result, Ok, Err, ⊤, length, take}
+use Rattle.std.specs.Prelude.{◌≡◌, ◌⊎◌, ◌++◌, ◌≤◌, ℕ, Bool, List, ◌∷◌, Option, Some, None, Result, Ok, Err, ⊤, length, take}
 use Rattle.std.specs.Io.KnownBytes.{Appends}
 use Rattle.sbl_bench.specs.State.{State}
 use Rattle.snowbench.specs.Answers.{answers, reply_of, state_after, state_after_all}
@@ -14,16 +14,16 @@ use Rattle.snowbench.specs.declared.faults.ServeFault.TheVariants as fault
 -- These lines, and no more, were answered: for some list m of refusals of memory, one for each line, the answers to them
 -- were written, and the bench is the one after them.
 pub record Answered (s : State) (lines : List (List ℕ)) (held new_held : Option (List ℕ)) (t : State) : Type 0 where
-  pub m : List (Option ℕ)
+  pub m : List Bool
   pub each : length m ≡ length lines
   pub text : Appends held new_held (answers s lines m)
   pub state : t ≡ state_after_all s lines m
 
 -- A line was taken and its edit made after these lines were answered, and a front of its answer was written.
 pub record HalfAnswered (s : State) (lines : List (List ℕ)) (line : List ℕ) (held new_held : Option (List ℕ)) (t : State) : Type 0 where
-  pub m : List (Option ℕ)
+  pub m : List Bool
   pub each : length m ≡ length lines
-  pub refused : Option ℕ
+  pub refused : Bool
   pub written : ℕ
   pub text : Appends held new_held (answers s lines m ++ take written (reply_of (state_after_all s lines m) line refused))
   pub state : t ≡ state_after (state_after_all s lines m) line refused

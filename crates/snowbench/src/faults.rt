@@ -57,7 +57,7 @@ pub enum LoadFault {
     /// was refused.
     #[error(transparent)]
     Input(ServeFault),
-    /// The script is refused.
+    /// The script is refused: its first fault.
     #[error(transparent)]
     Script(ScriptFault),
     /// The vocabulary is refused.

@@ -72,11 +72,11 @@ fn read_words<R: Source + Drop>(lines: &mut Lines<R>) -> Result<Vec<Vec<char>>, 
 /// # Errors
 ///
 /// The script block is read to its end before it is judged: `Read`, `LineTooLong`, and `Cut` where the input ended before
-/// the point. Then the script's faults, `ScriptTooLong` first. All words are read before they are judged: `Read`,
-/// `LineTooLong`, and `NotText` at a line that is not UTF-8. Then the vocabulary's faults, `WordTooLong` and `Full`. A refused
-/// growth is `OutOfMemory`. After `Cut` the lines stand at the end of input, and after `NotText` behind the line that is no
-/// text. `Read` and `LineTooLong` are remembered: the lines answer them again, and so does every later `load`, which then
-/// takes nothing.
+/// the point. Then the first fault of the script, with its place or item; no word is read then. All words are read before they
+/// are judged: `Read`, `LineTooLong`, and `NotText` at a line that is not UTF-8. Then the vocabulary's faults, `WordTooLong`
+/// and `Full`. A refused growth is `OutOfMemory`. After `Cut` the lines stand at the end of input, after a fault of the script
+/// behind the point of its block, and after `NotText` behind the line that is no text. `Read` and `LineTooLong` are
+/// remembered: the lines answer them again, and so does every later `load`, which then takes nothing.
 pub fn load<R: Source + Drop>(lines: &mut Lines<R>, external: &str) -> Result<Bench, LoadFault>
     ensures loaded { fault_of lines.old ≡ None → IsLoaded (input_of R.left lines.old) (input_of R.left lines.new) external.now (λ b. state_of b) result }
     ensures why { IfErr result (λ fault. HasReason R.failures R.interruptions R.reads lines.old lines.new fault) }

@@ -1,5 +1,5 @@
 //! A session: each line is answered before the next is read.
-ghost use Rattle.std.specs.Prelude.{◌≡◌, ◌≤◌, ℕ, Option, [], None, Some, Err, IfOk, OnOk, take};
+ghost use Rattle.std.specs.Prelude.{◌≡◌, ◌≤◌, ℕ, Bool, [], None, Some, Err, IfOk, OnOk, take};
 ghost use Rattle.std.specs.Str.{chars};
 ghost use Rattle.std.specs.Io.KnownBytes.{IsAtEnd, Keeps};
 ghost use Rattle.sbl_bench.specs.Kept.{state_of};
@@ -43,7 +43,7 @@ fn first_characters(word: &str, room: &mut [char; MOST_LOOKED_AT]) -> usize
 /// Adds a word, and gives the answer. A word that is too long is so by its first characters already; so none of its memory
 /// is refused before the edit itself.
 fn add_word(bench: &mut Bench, word: &str) -> &'static str
-    ensures { (refused : Option ℕ) × (result.now ≡ spec.edit_text (spec.answer_to_add (state_of bench.old) (chars word.now) refused))
+    ensures { (refused : Bool) × (result.now ≡ spec.edit_text (spec.answer_to_add (state_of bench.old) (chars word.now) refused))
         × (state_of bench.new ≡ spec.state_after_add (state_of bench.old) (chars word.now) refused) }
 {
     let mut room = ['\0'; MOST_LOOKED_AT];
@@ -61,7 +61,7 @@ fn stems_text(alloc: Global, bench: &Bench) -> Result<Vec<u8>, AllocError>
 
 /// Makes the edit or the report that a line asks for, and gives the answer.
 fn answer(alloc: Global, bench: &mut Bench, line: &[u8]) -> Reply
-    ensures { (refused : Option ℕ) × IsReply result (spec.reply_of (state_of bench.old) line.now refused)
+    ensures { (refused : Bool) × IsReply result (spec.reply_of (state_of bench.old) line.now refused)
         × (state_of bench.new ≡ spec.state_after (state_of bench.old) line.now refused) }
 {
     match command_of(line) {

@@ -39,6 +39,18 @@ fn after(alloc: Global, script: &[u8], rest: &[u8]) -> Result<Vec<u8>, Fail> {
     Ok(input)
 }
 
+/// Takes plural endings off, in backward mode.
+const BACKWARDS: &[u8] = b"externals ( stem )
+routines ( tail last sib )
+backwardmode (
+  define sib as ( 'x' or 's' )
+  define tail as ( [substring] among ( 's' (delete) 'es' sib (delete) ) )
+  define last as ( ['e'] delete )
+)
+define stem as ( backwards ( do tail do ( test 'e' last ) ) )
+.
+";
+
 #[test]
 fn sessions(rt: HostRuntime) -> Result<(), Fail> {
     let rows: [(&[u8], &[u8], &[u8]); 8] = [
@@ -85,16 +97,73 @@ fn sessions(rt: HostRuntime) -> Result<(), Fail> {
 }
 
 #[test]
+fn a_session_in_backward_mode(rt: HostRuntime) -> Result<(), Fail> {
+    let words = b"cats\nboxes\ncakes\ncake\ndog\n.\nadd s\nstems\n";
+    let input = after(rt.alloc(), BACKWARDS, words.as_slice())?;
+    let ended = session(rt.alloc(), input.as_slice(), 0, 0)?;
+    let text = b"ok\ncats,stem,cat\nboxes,stem,box\ncakes,stem,cak\ncake,stem,cak\ndog,stem,dog\ns,stem,\n";
+    assert!(rt; ended.ending == Ok(()));
+    assert!(rt; ended.text.as_slice() == text.as_slice(), "{:?}", ended.text);
+    Ok(())
+}
+
+#[test]
+fn refused_runs_are_rows(rt: HostRuntime) -> Result<(), Fail> {
+    let rows: [(&[u8], &[u8]); 7] = [
+        (b"define stem as repeat true\n.\n", b"ab,refused,Steps\n"),
+        (b"define stem as stem\n.\n", b"ab,refused,Depth\n"),
+        (
+            b"define stem as ( next ] tolimit [ delete )\n.\n",
+            b"ab,refused,Slice\n",
+        ),
+        (
+            b"define stem as backwards ( [ next next ] do delete )\n.\n",
+            b"ab,refused,Cursor\n",
+        ),
+        (
+            b"integers ( x ) define stem as ( $x = maxint $x += 1 )\n.\n",
+            b"ab,refused,Integer\n",
+        ),
+        (
+            b"integers ( x ) define stem as ( $x = 1 / 0 )\n.\n",
+            b"ab,refused,Divide\n",
+        ),
+        (
+            b"define stem as repeat <+ 'aa'\n.\n",
+            b"ab,refused,TooLong\n",
+        ),
+    ];
+    for (body, text) in rows {
+        let script = after(rt.alloc(), b"externals ( stem ) ", body)?;
+        let input = after(rt.alloc(), script.as_slice(), b"ab\n.\nstems\n")?;
+        let ended = session(rt.alloc(), input.as_slice(), 0, 0)?;
+        assert!(rt; ended.ending == Ok(()));
+        assert!(rt; ended.text.as_slice() == text, "{:?}", ended.text);
+    }
+    Ok(())
+}
+
+#[test]
 fn faults_of_loading(rt: HostRuntime) -> Result<(), Fail> {
     let long = vec![in rt.alloc(); b'a'; 65_537]?;
     let word = vec![in rt.alloc(); b'a'; 256]?;
-    let rows: [(&[u8], &[u8], LoadFault); 7] = [
+    let rows: [(&[u8], &[u8], LoadFault); 9] = [
         (
             b"externals ( stem )\n",
             b"",
             LoadFault::Input(ServeFault::Cut),
         ),
         (b"\xff\n.\n", b"", LoadFault::Script(ScriptFault::NotUtf8)),
+        (
+            b"externals ( stem ) define stem as 'ab\n.\n",
+            b"",
+            LoadFault::Script(ScriptFault::UnclosedString { place: 34 }),
+        ),
+        (
+            b"externals ( stem ) define stem as among ( )\n.\n",
+            long.as_slice(),
+            LoadFault::Script(ScriptFault::EmptyAmong { item: 2 }),
+        ),
         (
             b"externals ( stem )\n.\n",
             b"\xff",
@@ -172,6 +241,14 @@ fn faults_as_they_are_shown(rt: HostRuntime) -> Result<(), Fail> {
         (
             LoadFault::Script(ScriptFault::ScriptTooLong),
             "24 ScriptTooLong",
+        ),
+        (
+            LoadFault::Script(ScriptFault::UnclosedString { place: 34 }),
+            "2 UnclosedString at 34",
+        ),
+        (
+            LoadFault::Script(ScriptFault::WrongMode { item: 6 }),
+            "14 WrongMode in item 6",
         ),
         (LoadFault::Open(EditFault::Full), "44 Full"),
     ];
