@@ -1,10 +1,11 @@
-# Prints a valid script of one kind, of `most` bytes at most. Kinds:
+# Prints a script of one kind, of `most` bytes at most, in which nothing is wrong. Kinds:
 #   names       routines, each declared, defined and called by the next
 #   strings     one among of many strings that begin alike
 #   conditions  one among of many strings with conditions
 #   amongs      many small amongs, each paired with a substring
 #   groupings   groupings, each made from the one before
 #   arithmetic  integers in expressions
+# Where `external` is 1 it has the external `stem`; otherwise it is refused when everything else was checked.
 
 function put(text) {
   if (size + length(text) + length(end) > most) return 0
@@ -24,12 +25,11 @@ function item(n, before) {
 }
 
 BEGIN {
-  put("externals ( stem )\n")
   if (kind == "strings" || kind == "conditions") {
-    put("routines ( r ) define r as next define stem as among (\n")
+    put("routines ( r all ) define r as next define all as among (\n")
     end = ")\n"
-  } else
-    end = "define stem as next\n"
+  }
+  if (external) end = end "externals ( stem ) define stem as next\n"
   while (put(item(n + 1, n ? n : 1))) n++
   printf "%s", end
 }
