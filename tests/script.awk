@@ -1,0 +1,35 @@
+# Prints a script of one kind, of `most` bytes at most, in which nothing is wrong. Kinds:
+#   names       routines, each declared, defined and called by the next
+#   strings     one among of many strings that begin alike
+#   conditions  one among of many strings with conditions
+#   amongs      many small amongs, each paired with a substring
+#   groupings   groupings, each made from the one before
+#   arithmetic  integers in expressions
+# Where `external` is 1 it has the external `stem`; otherwise it is refused when everything else was checked.
+
+function put(text) {
+  if (size + length(text) + length(end) > most) return 0
+  printf "%s", text
+  size += length(text)
+  return 1
+}
+
+function item(n, before) {
+  if (kind == "names") return "routines ( routine_" n " ) define routine_" n " as ( next or routine_" before " )\n"
+  if (kind == "strings") return "'aaaaaaaaaaaaaaaaaaaaaaaaaaaaaaaaaaaaaaa" n "'\n"
+  if (kind == "conditions") return "'a" n "' r 'b" n "' r ( next )\n"
+  if (kind == "amongs") return "routines ( a" n " ) define a" n " as ( [substring] next among ( 's' 'es' (delete) ) )\n"
+  if (kind == "groupings") return "groupings ( g" n " ) define g" n " 'a'" (n > 1 ? " + g" before : "") "\n"
+  if (kind == "arithmetic") return "integers ( x" n " ) routines ( a" n " ) define a" n " as $x" n " = ( x" n " + 7 ) * - x" before "\n"
+  exit 1
+}
+
+BEGIN {
+  if (kind == "strings" || kind == "conditions") {
+    put("routines ( r all ) define r as next define all as among (\n")
+    end = ")\n"
+  }
+  if (external) end = end "externals ( stem ) define stem as next\n"
+  while (put(item(n + 1, n ? n : 1))) n++
+  printf "%s", end
+}
