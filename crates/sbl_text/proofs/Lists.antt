@@ -10,7 +10,9 @@ use Rattle.sbl_text.specs.declared.fault.ScriptFault.TheVariants as fault
 use Rattle.sbl_text.specs.declared.token.Token.{Token}
 use Rattle.sbl_text.specs.Literals.{byte_length}
 use Rattle.sbl_text.specs.Pieces.{Has, IsPiece, Gap, AreGaps, AfterGaps}
-use Rattle.sbl_text.specs.Lexemes.{Lexeme, lexeme_of}
+use Rattle.std.specs.List.{All}
+use Rattle.std.proofs.lemmas.List.Elements.{All-append, All-cons, All-nil}
+use Rattle.sbl_text.specs.Lexemes.{Lexeme, lexeme_of, SaysFitting}
 use Rattle.sbl_text.specs.States.{State, start, setting_of, after}
 use Rattle.sbl_text.specs.Tokens.{Says, HasValue, Piece, MaySay, after_piece, AreCut, and_more, said, AreTokens, Placed, placed_of, put_placed, placed_from, ArePlaced, IsFirstFault, Stops, IsAt, Comes, IsNext}
 
@@ -118,6 +120,9 @@ with_next source s from u rest t ts b h =
     let c = h.0 in
     subst (λ (v : State). SoFar source v rest (ts ++ t ∷ [])) (sym h.2)
     (one_more source s (c.1 ++ rest) c.1 rest c.0 c.2 t ts (over_gaps source s from (c.1 ++ rest) ts b c.4) refl c.3 c.5 (c.6, h.1) c.7)
+
+pub next_fits : (source : List ℕ) (s : State) (from : List ℕ) (u : State) (rest : List ℕ) (t : Token) (ts : List Token) → All SaysFitting ts → IsNext source s from u rest (Ok (Some t)) → All SaysFitting (ts ++ t ∷ [])
+next_fits source s from u rest t ts all h = let c = h.0 in All-append SaysFitting ts (t ∷ []) all (All-cons SaysFitting t [] c.8 (All-nil SaysFitting))
 
 pub all_tokens : (source : List ℕ) (s : State) (from : List ℕ) (u : State) (rest : List ℕ) (ts : List Token) → SoFar source s from ts → IsNext source s from u rest (Ok None) → AreTokens source (map lexeme_of ts)
 all_tokens source s from u rest ts b h = let r = over_gaps source s from [] ts b h.0.0 in (r.0, s, r.1, h.0.1, r.2)

@@ -17,7 +17,7 @@ use Rattle.sbl_text.specs.Words.{word_of}
 use Rattle.sbl_text.specs.Escapes.{InForce, opens, closes}
 use Rattle.sbl_text.specs.Literals.{byte_length, Means, FirstWrong, is_closed}
 use Rattle.sbl_text.specs.Pieces.{is_inner, Setting, setting, IsPiece, NoPiece, Gap, AreGaps, AfterGaps, Piece_at}
-use Rattle.sbl_text.specs.Lexemes.{Lexeme, word, sign, name, number, literal, inserts, macro_name, lexeme_of}
+use Rattle.sbl_text.specs.Lexemes.{Lexeme, word, sign, name, number, literal, inserts, macro_name, lexeme_of, SaysFitting}
 use Rattle.sbl_text.specs.States.{State, Defining, setting_of, settled, value_for, defined_by}
 use Rattle.sbl_text.specs.Tokens.{digits_value, number_of, word_or_name, Told, LacksValue, MayEnd, IsRefused, fault_at, pair_fault, IsFault, Stops, IsAt, Comes, IsNext}
 
@@ -74,8 +74,8 @@ comes_end s source from at g e m = (subst (AfterGaps (setting_of s) from) e g, m
 pub comes : (s : State) (source from at rest text : List ℕ) (k : Shape) (t : Token) → (before : List ℕ) × (source ≡ before ++ at) → ((x : List ℕ) → source ≡ x ++ at → t.start ≡ byte_length x)
     → ((x : List ℕ) → source ≡ x ++ rest → t.end ≡ byte_length x)
     → AfterGaps (setting_of s) from at → Piece_at (setting_of s) k at rest → ((x : List ℕ) → at ≡ x ++ rest → text ≡ x) → ((x : List ℕ) → at ≡ x ++ rest → t.text.now ≡ encode_utf8_all x)
-    → Told s k text (lexeme_of t) → Comes source s from rest (Some t)
-comes s source from at rest text k t b p q g c same bytes told = (
+    → Told s k text (lexeme_of t) → SaysFitting t → Comes source s from rest (Some t)
+comes s source from at rest text k t b p q g c same bytes told fitting = (
   b.0,
   c.0,
   k,
@@ -88,6 +88,7 @@ comes s source from at rest text k t b p q g c same bytes told = (
     p b.0 b.1,
     q (b.0 ++ c.0) (b.1 ∙ ap (λ (y : List ℕ). b.0 ++ y) c.1 ∙ sym (append_assoc b.0 c.0 rest)) ∙ ap length (encodes-append b.0 c.0) ∙ length-append (encode_utf8_all b.0) (encode_utf8_all c.0),
   ),
+  fitting,
 )
 
 -- what is left after it ends the text

@@ -1,5 +1,5 @@
 -- A token without its place.
-use Rattle.std.specs.Prelude.{ℕ, List, []}
+use Rattle.std.specs.Prelude.{◌≡◌, ℕ, Bool, true, false, List, []}
 use Rattle.sbl_text.specs.declared.signs.Sign.{Sign}
 use Rattle.sbl_text.specs.declared.words.Word.{Word}
 use Rattle.sbl_text.specs.declared.token.Kind.{Kind}
@@ -43,6 +43,21 @@ lexeme_by kind.Number text v = number (number_in v)
 lexeme_by kind.Literal text v = literal (spelling_in v) (characters_in v)
 lexeme_by kind.Inserts text v = inserts (inserts_in v).0 (inserts_in v).1
 lexeme_by kind.MacroName text v = macro_name text
+
+-- numbers, literals and insert characters say theirs, and no other kind says anything
+abbrev pub fits : Kind → Value → Bool
+fits kind.Number (value.Number n) = true
+fits kind.Number v = false
+fits kind.Literal (value.Literal spelling characters) = true
+fits kind.Literal v = false
+fits kind.Inserts (value.Inserts a b) = true
+fits kind.Inserts v = false
+fits k value.None = true
+fits k v = false
+
+-- a token's value is that of its kind
+abbrev pub SaysFitting : Token → Type 0
+SaysFitting t = fits t.kind t.value ≡ true
 
 abbrev pub lexeme_of : Token → Lexeme
 lexeme_of t = lexeme_by t.kind t.text.now t.value

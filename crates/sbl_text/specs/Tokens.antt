@@ -15,7 +15,7 @@ use Rattle.sbl_text.specs.declared.pieces.Wanted.TheVariants as wanted
 use Rattle.sbl_text.specs.Pieces.{IsPiece, NoPiece, AfterGaps, is_gap}
 use Rattle.sbl_text.specs.States.{State, start, setting_of, value_for, after}
 use Rattle.sbl_text.specs.Literals.{byte_length, Means, FirstWrong}
-use Rattle.sbl_text.specs.Lexemes.{Lexeme, word, sign, name, number, literal, inserts, macro_name, lexeme_of}
+use Rattle.sbl_text.specs.Lexemes.{Lexeme, word, sign, name, number, literal, inserts, macro_name, lexeme_of, SaysFitting}
 
 -- the number that digits write, after digits that write n
 abbrev pub digits_value : ℕ → List ℕ → ℕ
@@ -181,7 +181,7 @@ abbrev pub Comes : List ℕ → State → List ℕ → List ℕ → Option Token
 Comes text s from rest None = AfterGaps (setting_of s) from [] × MayEnd s × (rest ≡ [])
 Comes text s from rest (Some token) =
     (before : List ℕ) × (x : List ℕ) × (k : Shape) × (text ≡ before ++ (x ++ rest)) × AfterGaps (setting_of s) from (x ++ rest) × IsPiece (setting_of s) k x rest
-    × Told s k x (lexeme_of token) × IsAt before x token
+    × Told s k x (lexeme_of token) × IsAt before x token × SaysFitting token
 
 -- The token that comes next, or the end, or a fault. What is set then is t.
 abbrev pub IsNext : List ℕ → State → List ℕ → State → List ℕ → Result (Option Token) ScriptFault → Type 0

@@ -5,7 +5,8 @@ ghost use Rattle.std.specs.Str.{chars};
 ghost use Rattle.sbl_text.specs.Pieces as pieces;
 ghost use Rattle.sbl_text.specs.Tokens as spec;
 ghost use Rattle.sbl_text.specs.Tokens.{Reading};
-ghost use Rattle.sbl_text.specs.Lexemes.{lexeme_of};
+ghost use Rattle.std.specs.List.{All};
+ghost use Rattle.sbl_text.specs.Lexemes.{lexeme_of, SaysFitting};
 ghost use Rattle.sbl_text.specs.States.{setting_of};
 
 use crate::escapes::Escapes;
@@ -138,6 +139,7 @@ impl<'a> Lexer<'a> {
 /// Answers the first fault where something that is no token stands (Snowball manual, "The language"; places and
 /// numbers are our own choice), and `OutOfMemory` where memory was refused.
 pub fn tokens<'a>(alloc: Global, text: &'a str) -> Result<Vec<Token<'a>>, ScriptFault>
+    ensures fitting { IfOk result (λ ts. All SaysFitting ts.items) }
     ensures all { IfOk result (λ ts. spec.AreTokens (chars text.now) (map lexeme_of ts.items)) }
     ensures placed { IfOk result (λ ts. spec.ArePlaced (chars text.now) (map spec.placed_of ts.items)) }
     ensures fault { IfErr result (λ f. (f ≡ ScriptFault.OutOfMemory) ⊎ spec.IsFirstFault (chars text.now) f) }

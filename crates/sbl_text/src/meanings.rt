@@ -4,7 +4,7 @@ ghost use Rattle.std.specs.Prelude.{◌+◌, ◌^◌, length, ◌≡◌, ◌≤�
 ghost use Rattle.std.specs.Str.{chars};
 ghost use Rattle.sbl_text.specs.Pieces as pieces;
 ghost use Rattle.sbl_text.specs.Tokens as spec;
-ghost use Rattle.sbl_text.specs.Lexemes.{lexeme_by};
+ghost use Rattle.sbl_text.specs.Lexemes.{fits, lexeme_by};
 ghost use Rattle.sbl_text.specs.States as states;
 
 use crate::fault::ScriptFault;
@@ -44,7 +44,7 @@ fn literal<'a>(
 ) -> Result<Value<'a>, ScriptFault>
     requires has { pieces.Has state.now.escapes.inserts Shape.Literal (chars text.now) }
     requires room { place + length text.now < 2 ^ 64 }
-    ensures { MatchResult result (λ v. spec.Told state.now Shape.Literal (chars text.now) (lexeme_by Kind.Literal text.now v)) (λ f. (f ≡ ScriptFault.OutOfMemory) ⊎ spec.IsRefused state.now Shape.Literal (chars text.now) place f) }
+    ensures { MatchResult result (λ v. spec.Told state.now Shape.Literal (chars text.now) (lexeme_by Kind.Literal text.now v) × (fits Kind.Literal v ≡ true)) (λ f. (f ≡ ScriptFault.OutOfMemory) ⊎ spec.IsRefused state.now Shape.Literal (chars text.now) place f) }
 {
     let spelling = between_quotes(text);
     let letters: Vec<char> = spelling.chars().collect(alloc)?;
@@ -55,7 +55,8 @@ fn literal<'a>(
 }
 
 fn word(state: &State<'_>, text: &str) -> Kind
-    ensures { (v : Value) → spec.Told state.now Shape.Word (chars text.now) (lexeme_by result text.now v) }
+    ensures told { (v : Value) → spec.Told state.now Shape.Word (chars text.now) (lexeme_by result text.now v) }
+    ensures fits { fits result Value.None ≡ true }
 {
     match word_of(text) {
         Some(word) => Kind::Word(word),
@@ -65,7 +66,8 @@ fn word(state: &State<'_>, text: &str) -> Kind
 
 fn sign(state: &State<'_>, text: &str) -> Kind
     requires { pieces.Has None Shape.Sign (chars text.now) }
-    ensures { (v : Value) → spec.Told state.now Shape.Sign (chars text.now) (lexeme_by result text.now v) }
+    ensures told { (v : Value) → spec.Told state.now Shape.Sign (chars text.now) (lexeme_by result text.now v) }
+    ensures fits { fits result Value.None ≡ true }
 {
     match sign_of(text) {
         Some(sign) => Kind::Sign(sign),
@@ -75,7 +77,8 @@ fn sign(state: &State<'_>, text: &str) -> Kind
 
 /// The name of a macro is told by its text.
 fn macro_name(text: &str) -> Kind
-    ensures { (s : states.State) (v : Value) → spec.Told s Shape.MacroName (chars text.now) (lexeme_by result text.now v) }
+    ensures told { (s : states.State) (v : Value) → spec.Told s Shape.MacroName (chars text.now) (lexeme_by result text.now v) }
+    ensures fits { fits result Value.None ≡ true }
 {
     Kind::MacroName
 }
@@ -83,7 +86,8 @@ fn macro_name(text: &str) -> Kind
 /// The two insert characters.
 fn pair<'a>(text: &str) -> Value<'a>
     requires { pieces.Has None Shape.Inserts (chars text.now) }
-    ensures { (s : states.State) → spec.Told s Shape.Inserts (chars text.now) (lexeme_by Kind.Inserts text.now result) }
+    ensures told { (s : states.State) → spec.Told s Shape.Inserts (chars text.now) (lexeme_by Kind.Inserts text.now result) }
+    ensures fits { fits Kind.Inserts result ≡ true }
 {
     if let Some((a, rest)) = split_first(text) {
         if let Some((b, _)) = split_first(rest) {
@@ -104,7 +108,7 @@ pub fn meaning<'a>(
     requires token { pieces.is_gap shape ≡ false }
     requires has { pieces.Has state.now.escapes.inserts shape (chars text.now) }
     requires room { place + length text.now < 2 ^ 64 }
-    ensures { MatchResult result (λ p. spec.Told state.now shape (chars text.now) (lexeme_by p.0 text.now p.1)) (λ f. (f ≡ ScriptFault.OutOfMemory) ⊎ spec.IsRefused state.now shape (chars text.now) place f) }
+    ensures { MatchResult result (λ p. spec.Told state.now shape (chars text.now) (lexeme_by p.0 text.now p.1) × (fits p.0 p.1 ≡ true)) (λ f. (f ≡ ScriptFault.OutOfMemory) ⊎ spec.IsRefused state.now shape (chars text.now) place f) }
 {
     match shape {
         Shape::Number => match number(text) {

@@ -42,4 +42,4 @@ returns-in_ok-kind-in-Some c =
     let cut = rw c.in-Some.is at c.cut_after.ensures.next in
     comes c.args.state.now (chars c.args.source.now) (chars c.args.from.now) (chars c.cut_after.result.0.now) (chars c.in-Some.rest.now) (chars c.front_before-text.result.now) c.in-Some.shape
     record { kind = c.in_ok-kind-in-Some.kind; text = c.front_before-text.result; start = c.place_of-start.result; end = c.place_of-end.result; value = c.in_ok-kind-in-Some.value }
-    before c.place_of-start.ensures.place c.place_of-end.ensures.place c.cut_after.ensures.gaps cut.1 c.front_before-text.ensures.characters c.front_before-text.ensures.bytes c.in_ok-kind-in-Some.ensures
+    before c.place_of-start.ensures.place c.place_of-end.ensures.place c.cut_after.ensures.gaps cut.1 c.front_before-text.ensures.characters c.front_before-text.ensures.bytes c.in_ok-kind-in-Some.ensures.0 c.in_ok-kind-in-Some.ensures.1

@@ -1,8 +1,10 @@
 use Rattle.std.proofs.Common.{◌∙◌, ℕ, List, Some, None, Ok, Err, subst, sym}
 use Rattle.std.specs.Str.{chars}
 use Rattle.std.proofs.lemmas.Result.{err_from_is_err_and}
+use Rattle.std.specs.List.{All}
+use Rattle.sbl_text.specs.Lexemes.{SaysFitting}
 use Rattle.sbl_text.specs.Tokens.{IsNext}
-use Rattle.sbl_text.proofs.Lists.{SoFar, with_next, all_tokens, all_placed, first_of_all, next_shorter}
+use Rattle.sbl_text.proofs.Lists.{SoFar, with_next, all_tokens, all_placed, first_of_all, next_fits, next_shorter}
 use Rattle.sbl_text.proofs.lexer.tokens.Goals as goal
 
 pub returns-in_err-token-clause-fault : goal.returns-in_err-token-clause-fault
@@ -21,6 +23,9 @@ loop-tokens-preserved c = (
   subst (SoFar (chars c.args.text.now) c.next.new.self.state c.next.new.self.rest) (sym c.in_ok-push.ensures.items)
       (with_next (chars c.args.text.now) c.loop-tokens.lexer.state c.loop-tokens.lexer.rest c.next.new.self.state c.next.new.self.rest c.in-Some.token c.loop-tokens.tokens.items c.loop-tokens.invariant.1
       (subst (λ (s : List ℕ). IsNext s c.loop-tokens.lexer.state c.loop-tokens.lexer.rest c.next.new.self.state c.next.new.self.rest (Ok (Some c.in-Some.token))) c.loop-tokens.invariant.0 (rw c.in-Some.is at c.in_ok-token.ensures.next))),
+  subst (All SaysFitting) (sym c.in_ok-push.ensures.items)
+      (next_fits c.loop-tokens.lexer.text c.loop-tokens.lexer.state c.loop-tokens.lexer.rest c.next.new.self.state c.next.new.self.rest c.in-Some.token c.loop-tokens.tokens.items c.loop-tokens.invariant.2
+      (rw c.in-Some.is at c.in_ok-token.ensures.next)),
 )
 
 pub returns-clause-all : goal.returns-clause-all

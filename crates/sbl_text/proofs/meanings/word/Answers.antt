@@ -5,8 +5,8 @@ use Rattle.std.proofs.lemmas.Str.{encodes-chars}
 use Rattle.sbl_text.proofs.Nexts.{named}
 use Rattle.sbl_text.proofs.meanings.word.Goals as goal
 
-pub returns-in-Some : goal.returns-in-Some
-returns-in-Some c = λ v. named c.args.text.now (encode_utf8_all (chars c.args.text.now)) (Some c.in-Some.word) (encodes-chars c.args.text.now c.utf8.text) (sym c.word_of.ensures ∙ c.in-Some.is)
+pub returns-in-Some-clause-told : goal.returns-in-Some-clause-told
+returns-in-Some-clause-told c = λ v. named c.args.text.now (encode_utf8_all (chars c.args.text.now)) (Some c.in-Some.word) (encodes-chars c.args.text.now c.utf8.text) (sym c.word_of.ensures ∙ c.in-Some.is)
 
-pub returns-in-None : goal.returns-in-None
-returns-in-None c = λ v. named c.args.text.now (encode_utf8_all (chars c.args.text.now)) None (encodes-chars c.args.text.now c.utf8.text) (sym c.word_of.ensures ∙ c.in-None.is)
+pub returns-in-None-clause-told : goal.returns-in-None-clause-told
+returns-in-None-clause-told c = λ v. named c.args.text.now (encode_utf8_all (chars c.args.text.now)) None (encodes-chars c.args.text.now c.utf8.text) (sym c.word_of.ensures ∙ c.in-None.is)
