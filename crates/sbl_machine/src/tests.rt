@@ -1,5 +1,12 @@
 //! Worked rows.
 
+mod amongs;
+mod arithmetic;
+mod control;
+mod edits;
+mod porter;
+mod scripts;
+
 use crate::action::{Action, Arithmetic, Change, StringTerm};
 use crate::fault::{RunFault, RunStop};
 use crate::machine::Machine;

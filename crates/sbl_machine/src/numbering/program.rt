@@ -1,6 +1,6 @@
 //! The program of a script.
 
-ghost use Rattle.std.specs.Prelude.{◌≡◌, ◌∷◌, ◌++◌, [], List, map, length, OnOk, IfOk};
+ghost use Rattle.std.specs.Prelude.{◌≡◌, [], false, map, length, OnOk, IfOk};
 ghost use Rattle.sbl_grammar.specs.View.{view_items, view_plain, view_row};
 ghost use Rattle.sbl_machine.specs.Listed.{listed_of};
 ghost use Rattle.sbl_machine.specs.Numbered as spec;
