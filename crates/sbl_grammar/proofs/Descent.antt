@@ -1,8 +1,7 @@
 -- One step of the reading, from what comes first.
-use Rattle.std.proofs.Common.{◌≡◌, ℕ, ◌+◌, ◌<◌, ◌≤◌, Bool, true, false, List, [], ◌∷◌, ◌++◌, length, drop, map, Option, Some, None, refl, sym, ap, subst, ◌∙◌, arith, cond}
+use Rattle.std.proofs.Common.{◌≡◌, ℕ, ◌+◌, ◌<◌, ◌≤◌, Bool, true, false, List, [], ◌∷◌, length, drop, Option, Some, None, refl, sym, ap, subst, ◌∙◌, arith, cond}
 use Rattle.std.specs.Prelude.{nat_lt}
 use Rattle.std.proofs.lemmas.Bool.{lt-ltb, le-ltb}
-use Rattle.std.proofs.lemmas.List.{length-map}
 use Rattle.sbl_text.specs.declared.words.Word.{Word}
 use Rattle.sbl_text.specs.declared.words.Word.TheVariants as w
 use Rattle.sbl_text.specs.declared.signs.Sign.{Sign}
@@ -11,12 +10,10 @@ use Rattle.sbl_text.specs.declared.token.Kind.{Kind}
 use Rattle.sbl_text.specs.declared.token.Kind.TheVariants as kinds
 use Rattle.sbl_text.specs.declared.token.Value.{Value}
 use Rattle.sbl_text.specs.declared.token.Token.{Token}
-use Rattle.sbl_text.specs.Lexemes.{lexeme_of, lexeme_by, number_in, inserts_in}
+use Rattle.sbl_text.specs.Lexemes.{lexeme_by, number_in, inserts_in}
 use Rattle.sbl_grammar.specs.declared.role.Role.{Role}
 use Rattle.sbl_grammar.specs.declared.role.Role.TheVariants as roles
-use Rattle.sbl_grammar.specs.declared.error.Fault.TheVariants.{Syntax}
 use Rattle.sbl_grammar.specs.declared.error.ReadError.{ReadError}
-use Rattle.sbl_grammar.specs.declared.error.ReadError.TheVariants as errors
 use Rattle.sbl_grammar.specs.declared.tree.Additive.TheVariants as additives
 use Rattle.sbl_grammar.specs.declared.tree.DeclarationKind.{DeclarationKind}
 use Rattle.sbl_grammar.specs.declared.tree.Base.{Base}

@@ -2,9 +2,7 @@
 use Rattle.std.proofs.Common.{◌≡◌, refl}
 use Rattle.sbl_text.specs.Lexemes.{Lexeme, word, sign}
 use Rattle.sbl_text.specs.Lexemes as lexemes
-use Rattle.sbl_text.specs.declared.words.Word.{Word}
 use Rattle.sbl_text.specs.declared.words.Word.TheVariants as w
-use Rattle.sbl_text.specs.declared.signs.Sign.{Sign}
 use Rattle.sbl_text.specs.declared.signs.Sign.TheVariants as g
 use Rattle.sbl_grammar.specs.declared.tree.DeclarationKind.TheVariants as declarations
 use Rattle.sbl_grammar.specs.declared.tree.Base.TheVariants as bases

@@ -1,7 +1,6 @@
 -- Two trees with the same tokens are one.
-use Rattle.std.proofs.Common.{◌≡◌, ℕ, Bool, true, false, List, [], ◌∷◌, Option, Some, None, refl, sym, ap, subst, ◌∙◌}
+use Rattle.std.proofs.Common.{◌≡◌, ℕ, Bool, true, false, List, [], ◌∷◌, Option, Some, None, refl, sym, ap}
 use Rattle.sbl_grammar.specs.declared.tree.Base.{Base}
-use Rattle.sbl_grammar.specs.declared.tree.Additive.TheVariants as additives
 use Rattle.sbl_grammar.specs.Terminal.{Terminal, Quoted}
 use Rattle.sbl_grammar.specs.Terminal as t
 use Rattle.sbl_grammar.specs.Tree.{Argument, written_out, by_name, Expression, expression, Sums, no_sums, sum, Product, product, Scales, no_scales, scale, Factor, negated, bracketed, numeral, variable, fixed, length_of, Entry, entry, Tree, bracket, single, quoted, called, excluded, prefixed, counted, moved, named, edited, limited, assigned, compared, values_compared, chosen, Rows, no_rows, row, Others, no_others, joined, Starter, no_starter, starter, Groups, bare, group, Term, term, Plain, declaration, escapes, macro, routine, grouping, Item, plain, backward, argument_terminal, spelled_expression, spelled_sums, spelled_product, spelled_scales, spelled_factor, spelled_entry, spelled_entries, spelled, spelled_rows, spelled_others, spelled_starter, spelled_groups, spelled_names, spelled_base, spelled_terms, spelled_plain, spelled_plains, spelled_item, spelled_items, written}

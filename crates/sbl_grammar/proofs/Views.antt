@@ -1,5 +1,5 @@
 -- The view of each variant.
-use Rattle.std.proofs.Common.{◌≡◌, ℕ, Bool, List, map, Option, Some, None, string_bytes, refl, sym, ap, ◌∙◌}
+use Rattle.std.proofs.Common.{◌≡◌, ℕ, Bool, map, Option, Some, None, string_bytes, sym, ap, ◌∙◌}
 use Rattle.std.specs.Prelude.{String}
 use Rattle.std.specs.Global.{Global, Vec, Box}
 use Rattle.sbl_grammar.specs.declared.tree.Simple.{Simple}
@@ -24,7 +24,7 @@ use Rattle.sbl_grammar.specs.declared.tree.Factor.TheViews.{roll-Added, roll-Exp
 use Rattle.sbl_grammar.specs.declared.tree.Factor.TheFolds.{fold-roll-Factor, fold-roll-Added, fold-roll-Expression, fold-roll-Product, fold-roll-Scaled}
 use Rattle.sbl_grammar.specs.declared.tree.Command.{Command}
 use Rattle.sbl_grammar.specs.declared.tree.Command.TheVariants as commands
-use Rattle.sbl_grammar.specs.declared.tree.Command.TheOpen.{Command-F, Among-F, Group-F, Joined-F, Row-F}
+use Rattle.sbl_grammar.specs.declared.tree.Command.TheOpen.{Command-F, Group-F, Joined-F, Row-F}
 use Rattle.sbl_grammar.specs.declared.tree.Command.TheViews.{roll-Among, roll-Group, roll-Joined, roll-Row}
 use Rattle.sbl_grammar.specs.declared.tree.Command.TheFolds.{fold-roll-Command, fold-roll-Among, fold-roll-Group, fold-roll-Joined, fold-roll-Row}
 use Rattle.sbl_grammar.specs.declared.tree.Among.{Among}

@@ -1,5 +1,5 @@
 -- What a reader of the code answers.
-use Rattle.std.specs.Prelude.{◌≡◌, ℕ, List, ◌++◌, drop, Option, Some, None, Result, Ok, Err}
+use Rattle.std.specs.Prelude.{◌≡◌, ℕ, List, ◌++◌, drop, Option, Some, Result, Ok, Err}
 use Rattle.sbl_text.specs.declared.token.Token.{Token}
 use Rattle.sbl_grammar.specs.declared.error.Fault.TheVariants.{Syntax, TooDeep, OutOfProfile}
 use Rattle.sbl_grammar.specs.declared.error.ReadError.{ReadError}

@@ -1,5 +1,5 @@
 -- What reading is: a condition on all trees.
-use Rattle.std.specs.Prelude.{◌≡◌, ℕ, ◌<◌, ◌≤◌, List, [], ◌∷◌, ◌++◌, map}
+use Rattle.std.specs.Prelude.{◌≡◌, ℕ, ◌<◌, ◌≤◌, List, [], ◌∷◌, ◌++◌}
 use Rattle.std.specs.List.{AllByRecursion}
 use Rattle.sbl_grammar.specs.Terminal.{Terminal, dollar, name}
 use Rattle.sbl_grammar.specs.Tree.{Item, written}

@@ -1,5 +1,5 @@
 -- The trees of the grammar, and the tokens of each.
-use Rattle.std.specs.Prelude.{ℕ, Bool, true, false, ◌+◌, List, [], ◌∷◌, map, Option, Some, None}
+use Rattle.std.specs.Prelude.{ℕ, Bool, true, false, List, [], ◌∷◌, map, Option, Some, None}
 use Rattle.sbl_text.specs.Lexemes.{Lexeme}
 use Rattle.sbl_grammar.specs.declared.tree.DeclarationKind.{DeclarationKind}
 use Rattle.sbl_grammar.specs.declared.tree.Base.{Base}

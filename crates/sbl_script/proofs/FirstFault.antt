@@ -1,11 +1,11 @@
 -- The first of the faults of some marks.
-use Rattle.std.proofs.Common.{◌≡◌, ◌⊎◌, ℕ, Bool, true, false, cond, List, [], ◌∷◌, ◌++◌, Option, Some, None, refl, sym, ap, subst, ◌∙◌, inl, inr, append_assoc, append-nil}
+use Rattle.std.proofs.Common.{◌≡◌, ◌⊎◌, ℕ, Bool, true, false, cond, List, [], ◌∷◌, ◌++◌, Option, Some, None, refl, ap, subst, ◌∙◌, inl, inr, append_assoc, append-nil}
 use Rattle.std.specs.Option.{option_or}
 use Rattle.sbl_text.specs.declared.fault.ScriptFault.{ScriptFault}
 use Rattle.sbl_text.specs.declared.fault.ScriptFault.TheVariants as fault
 use Rattle.sbl_grammar.specs.Tree.{Item}
 use Rattle.sbl_script.specs.Marks.{Mark, marks_of}
-use Rattle.sbl_script.specs.Checks.{fault_at, fault_behind, fault_of_external, fault_of, has_external, WellDeclared}
+use Rattle.sbl_script.specs.Checks.{fault_at, fault_behind, fault_of_external, has_external}
 use Rattle.sbl_script.specs.Laws.{EachPasses, IsFirst, WellDeclaredPasses, FaultIsFirst}
 
 none_first : {X : Type 0} (a b : Option X) → option_or a b ≡ None → a ≡ None

@@ -1,5 +1,5 @@
 -- Marks of the parts of an among.
-use Rattle.std.proofs.Common.{◌≡◌, ℕ, Bool, true, false, nat_eq, List, [], ◌∷◌, length, map, refl, sym, ◌∙◌}
+use Rattle.std.proofs.Common.{◌≡◌, Bool, false, nat_eq, List, [], ◌∷◌, length}
 use Rattle.sbl_grammar.specs.declared.tree.Group.{Group}
 use Rattle.sbl_grammar.specs.Tree as trees
 use Rattle.sbl_grammar.specs.View.{view_groups}

@@ -1,14 +1,13 @@
 -- Bytes are read as one script, or have one fault.
-use Rattle.std.proofs.Common.{◌≡◌, ◌⊎◌, ℕ, ◌+◌, ◌<◌, ◌≤◌, List, [], ◌∷◌, ◌++◌, length, map, Option, Some, None, refl, sym, ap, subst, ◌∙◌, inl, inr, arith, length-append}
+use Rattle.std.proofs.Common.{◌≡◌, ◌⊎◌, ℕ, ◌+◌, List, [], ◌∷◌, ◌++◌, length, map, Option, Some, None, refl, sym, ap, subst, ◌∙◌, inl, inr, arith, length-append}
 use Rattle.std.proofs.lemmas.List.{length-map}
-use Rattle.std.specs.Str.{IsUtf8, chars}
+use Rattle.std.specs.Str.{chars}
 use Rattle.sbl_text.specs.declared.fault.ScriptFault.{ScriptFault}
 use Rattle.sbl_text.specs.declared.fault.ScriptFault.TheVariants as fault
 use Rattle.sbl_text.specs.Lexemes.{Lexeme}
 use Rattle.sbl_text.specs.Literals.{byte_length}
-use Rattle.sbl_text.specs.Tokens.{Piece, Placed, AreTokens, ArePlaced, IsFirstFault, and_more, said, put_placed, placed_from}
+use Rattle.sbl_text.specs.Tokens.{Piece, Placed, AreTokens, ArePlaced, and_more, said, put_placed, placed_from}
 use Rattle.sbl_text.specs.Laws.{PlacesAreOne, FirstFaultIsOne, TokensOrFault}
-use Rattle.sbl_grammar.specs.Terminal.{Terminal, terminal_of}
 use Rattle.sbl_grammar.specs.Tree.{Item, written}
 use Rattle.sbl_grammar.specs.Reading.{IsReadAs, IsSyntaxAt, IsTooDeepAt, IsOutOfProfileAt}
 use Rattle.sbl_grammar.specs.Laws as grammar

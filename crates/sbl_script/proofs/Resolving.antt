@@ -1,5 +1,5 @@
 -- Names resolve, and substrings are paired.
-use Rattle.std.proofs.Common.{◌≡◌, ℕ, Bool, true, false, not, cond, ◌||◌, ◌&&◌, List, [], ◌∷◌, ◌++◌, Option, Some, None, is_some, refl, sym, ap, subst, ◌∙◌}
+use Rattle.std.proofs.Common.{◌≡◌, ℕ, Bool, true, false, not, cond, ◌&&◌, List, [], ◌∷◌, ◌++◌, Option, Some, None, refl, ap, subst, ◌∙◌}
 use Rattle.std.specs.Option.{option_or}
 use Rattle.sbl_text.specs.declared.fault.ScriptFault.{ScriptFault}
 use Rattle.sbl_text.specs.declared.fault.ScriptFault.TheVariants as fault
@@ -9,7 +9,7 @@ use Rattle.sbl_script.specs.declared.marks.Place.{Place}
 use Rattle.sbl_script.specs.declared.marks.Use.{Use}
 use Rattle.sbl_script.specs.declared.marks.Use.TheVariants as use_as
 use Rattle.sbl_script.specs.Marks.{Mark, uses, substring, marks_of}
-use Rattle.sbl_script.specs.Checks.{declared_as, kind_of, definition_of, may_be, needs_definition, is_kind, is_routine, is_mode, is_in_other, is_followed, lacks_definition, fault_of_use, fault_at, WellDeclared}
+use Rattle.sbl_script.specs.Checks.{declared_as, kind_of, definition_of, may_be, needs_definition, is_routine, is_mode, is_in_other, is_followed, lacks_definition, fault_of_use}
 use Rattle.sbl_script.specs.Laws.{Resolves, NamesResolve, SubstringsArePaired}
 use Rattle.sbl_script.proofs.FirstFault as first
 

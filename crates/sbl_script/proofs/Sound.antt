@@ -12,12 +12,12 @@ use Rattle.sbl_grammar.specs.Tree.{Entry, entry, Tree, bracket, single, quoted, 
 use Rattle.sbl_script.specs.declared.marks.Mode.{Mode}
 use Rattle.sbl_script.specs.declared.marks.Mode.TheVariants.{Forward, Backward}
 use Rattle.sbl_script.specs.declared.marks.Place.{Place}
-use Rattle.sbl_script.specs.Marks.{Mark, Notice, put, among, string, region_end, defines_routine, marked_expression, marked_prefix, place_behind, marked_condition, marked_entry, marked_entries, has_starter, is_empty, marked, marked_rows, marked_others, marked_starter, marked_groups, marked_plain, Stated, stated_in, stated, marked_items, marks_of}
-use Rattle.sbl_script.specs.Checks.{fault_at, has_text, is_text_of, WellDeclared, is_awaited}
+use Rattle.sbl_script.specs.Marks.{Mark, put, among, string, region_end, defines_routine, marked_expression, marked_prefix, place_behind, marked_condition, marked_entry, marked_entries, has_starter, is_empty, marked, marked_rows, marked_others, marked_starter, marked_groups, marked_plain, Stated, stated_in, stated, marked_items, marks_of}
+use Rattle.sbl_script.specs.Checks.{fault_at, has_text, is_text_of, is_awaited}
 use Rattle.sbl_script.specs.Laws.{EachPasses}
 use Rattle.sbl_script.specs.Amongs.{text_of, texts_of, IsSound, EachAmong, EachAmongOfRows, EachAmongOfOthers, EachAmongOfStarter, EachAmongOfGroups, EachAmongOfPlain, EachAmongOfPlains, EachAmongOfItems, AmongsAreSound}
 use Rattle.sbl_script.proofs.FirstFault as first
-use Rattle.sbl_script.proofs.Extends.{Extends, same, then_, put_more, expression_more, prefix_more, condition_more, entry_more, entries_more, command_more, rows_more, others_more, starter_more, groups_more, plain_more, items_more}
+use Rattle.sbl_script.proofs.Extends.{Extends, same, then_, put_more, condition_more, entries_more, command_more, rows_more, others_more, starter_more, groups_more, items_more}
 
 -- a list of marks at which no check fails
 pub record Passing (all : List Mark) : Type 0 where

@@ -1,7 +1,6 @@
 -- One turn of the loop over the marks.
-use Rattle.std.proofs.Common.{◌≡◌, ℕ, ◌+◌, ◌<◌, Bool, true, false, ◌||◌, ◌⊎◌, List, [], ◌∷◌, ◌++◌, Option, Some, None, map, length, take, drop, get_or, refl, sym, ap, ◌∙◌, inr, add-one}
+use Rattle.std.proofs.Common.{◌≡◌, ℕ, ◌+◌, ◌<◌, Bool, true, false, ◌||◌, List, [], ◌∷◌, ◌++◌, Option, Some, None, length, take, drop, get_or, refl, sym, ap, ◌∙◌, add-one}
 use Rattle.std.specs.Option.{option_or}
-use Rattle.std.specs.List.{list_any}
 use Rattle.std.proofs.Math.Seq.{drop-cons}
 use Rattle.std.proofs.lemmas.List.{take_more, map_push}
 use Rattle.std.proofs.lemmas.List.Folds.{list_any-append}
@@ -14,7 +13,7 @@ use Rattle.sbl_script.specs.declared.marks.Mode.TheVariants.{Forward}
 use Rattle.sbl_script.specs.declared.marks.Notice.TheVariants as notices
 use Rattle.sbl_script.specs.Marks.{Mark}
 use Rattle.sbl_script.specs.Checks.{kind_of, declared_as, has_text, is_text_of, is_awaited, waits_after, fault_at, fault_behind}
-use Rattle.sbl_script.specs.Met.{at_name, has_pair, HasMet, Notes}
+use Rattle.sbl_script.specs.Met.{HasMet, Notes}
 use Rattle.sbl_script.specs.MarkView.{view_mark, view_marks}
 
 or_none : {X : Type 0} (o : Option X) → option_or o None ≡ o

@@ -1,9 +1,9 @@
 -- What holds of each among of a script that is well declared.
-use Rattle.std.specs.Prelude.{◌≡◌, ℕ, Bool, false, List, [], ◌∷◌, ◌++◌, map}
+use Rattle.std.specs.Prelude.{◌≡◌, ℕ, false, List, [], ◌∷◌, ◌++◌, map}
 use Rattle.std.specs.List.{IsDistinct}
 use Rattle.std.specs.Str.{bytes_eq}
-use Rattle.sbl_grammar.specs.Tree.{Entry, entry, Tree, bracket, single, quoted, called, excluded, prefixed, counted, moved, named, edited, limited, assigned, compared, values_compared, chosen, Rows, no_rows, row, Others, no_others, joined, Starter, no_starter, starter, Groups, bare, group, Plain, declaration, escapes, macro, routine, grouping, Item, plain, backward}
-use Rattle.sbl_script.specs.Marks.{is_empty, Stated}
+use Rattle.sbl_grammar.specs.Tree.{Entry, entry, Tree, bracket, prefixed, counted, limited, chosen, Rows, no_rows, row, Others, no_others, joined, Starter, no_starter, starter, Groups, bare, group, Plain, routine, Item, plain, backward}
+use Rattle.sbl_script.specs.Marks.{is_empty}
 use Rattle.sbl_script.specs.Checks.{WellDeclared}
 
 -- the characters of a string

@@ -4,7 +4,7 @@ use Rattle.std.specs.List.{list_any}
 use Rattle.std.specs.Str.{bytes_eq}
 use Rattle.sbl_grammar.specs.declared.tree.Additive.{Additive}
 use Rattle.sbl_grammar.specs.declared.tree.Additive.TheVariants as additives
-use Rattle.sbl_grammar.specs.Tree.{Argument, written_out, by_name, Term, term, Plain, declaration, escapes, macro, routine, grouping, Item}
+use Rattle.sbl_grammar.specs.Tree.{Argument, written_out, by_name, Term, term, Plain, grouping, Item}
 use Rattle.sbl_script.specs.Marks.{Stated, stated}
 
 -- whether a character is in it

@@ -1,5 +1,5 @@
 -- What the checks look at: the marks of a script, in text order.
-use Rattle.std.specs.Prelude.{ℕ, ◌+◌, Bool, true, false, List, [], ◌∷◌, ◌++◌, map, length, Option, Some, None}
+use Rattle.std.specs.Prelude.{ℕ, ◌+◌, Bool, true, false, List, [], ◌∷◌, ◌++◌, length, Option, Some, None}
 use Rattle.sbl_grammar.specs.declared.tree.DeclarationKind.{DeclarationKind}
 use Rattle.sbl_grammar.specs.declared.tree.Simple.{Simple}
 use Rattle.sbl_grammar.specs.declared.tree.Simple.TheVariants as simples

@@ -8,7 +8,6 @@ use Rattle.std.specs.BTreeSet.{BTreeSet, contains_by}
 use denote.Ref.{Bor}
 use Rattle.sbl_text.specs.declared.fault.ScriptFault.{ScriptFault}
 use Rattle.sbl_text.specs.declared.fault.ScriptFault.TheVariants as fault
-use Rattle.sbl_grammar.specs.declared.tree.DeclarationKind.{DeclarationKind}
 use Rattle.sbl_script.specs.declared.marks.Place.{Place}
 use Rattle.sbl_script.specs.declared.checks.Met.{Met}
 use Rattle.sbl_script.specs.Marks.{Mark, Notice}

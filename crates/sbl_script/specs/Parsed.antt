@@ -2,7 +2,7 @@
 use Rattle.std.specs.Prelude.{ℕ, List, [], ◌∷◌, Option, Some, None, if◌then◌else◌}
 use Rattle.std.specs.Str.{bytes_eq}
 use Rattle.sbl_grammar.specs.declared.tree.Item as declared
-use Rattle.sbl_grammar.specs.Tree.{Item, Tree, Others, plain, backward, routine}
+use Rattle.sbl_grammar.specs.Tree.{Item, plain, routine}
 use Rattle.sbl_grammar.specs.View.{RowView, view_items}
 
 pub record Parsed : Type 0 where

@@ -1,4 +1,4 @@
-use Rattle.std.proofs.Common.{◌≡◌, ◌∷◌, ◌*◌, ◌-◌, ◌+◌, List, [], length, map, string_bytes}
+use Rattle.std.proofs.Common.{◌≡◌, ◌∷◌, length}
 use Rattle.sbl_grammar.specs.Terminal.{left}
 use Rattle.sbl_grammar.specs.Tree as trees
 use Rattle.sbl_grammar.specs.View as view

@@ -1,4 +1,4 @@
-use Rattle.std.proofs.Common.{◌≡◌, ◌<◌, ◌≤◌, List, [], length, arith, ◌∙◌}
+use Rattle.std.proofs.Common.{[], arith, ◌∙◌}
 use Rattle.std.proofs.lemmas.Result.{err_from_is_err_and}
 use Rattle.sbl_grammar.specs.View.{view_items}
 use Rattle.sbl_grammar.proofs.Whole.{some_left, read_whole}

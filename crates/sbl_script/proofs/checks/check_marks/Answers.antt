@@ -1,6 +1,5 @@
 use Rattle.std.proofs.Common.{sym, ◌∙◌, inr, take}
 use Rattle.sbl_script.specs.MarkView.{view_mark, view_marks}
-use Rattle.sbl_script.specs.Met.{HasMet}
 use Rattle.sbl_script.proofs.Turns.{found, passed, met_more, taken, mark_in}
 use Rattle.sbl_script.proofs.checks.check_marks.Goals as goal
 

@@ -1,4 +1,4 @@
-use Rattle.std.proofs.Common.{◌≡◌, ℕ, List, [], drop, take}
+use Rattle.std.proofs.Common.{◌≡◌, [], drop, take}
 use Rattle.sbl_script.specs.Checks.{fault_behind}
 use Rattle.sbl_script.specs.Met.{HasMet}
 use Rattle.sbl_script.specs.MarkView.{view_marks}

@@ -1,5 +1,5 @@
 use Rattle.std.proofs.Common.{sym, ◌∙◌}
-use Rattle.sbl_script.proofs.Keeping.{kept_first, kept_already}
+use Rattle.sbl_script.proofs.Keeping.{kept_first}
 use Rattle.sbl_script.proofs.checks.keep_first.Goals as goal
 
 pub returns-in_ok-insert : goal.returns-in_ok-insert
