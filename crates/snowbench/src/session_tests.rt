@@ -101,9 +101,14 @@ fn a_session_in_backward_mode(rt: HostRuntime) -> Result<(), Fail> {
     let words = b"cats\nboxes\ncakes\ncake\ndog\n.\nadd s\nstems\n";
     let input = after(rt.alloc(), BACKWARDS, words.as_slice())?;
     let ended = session(rt.alloc(), input.as_slice(), 0, 0)?;
-    let text = b"ok\ncats,stem,cat\nboxes,stem,box\ncakes,stem,cak\ncake,stem,cak\ndog,stem,dog\ns,stem,\n";
+    let text =
+        b"ok\ncats,stem,cat\nboxes,stem,box\ncakes,stem,cak\ncake,stem,cak\ndog,stem,dog\ns,stem,\n";
     assert!(rt; ended.ending == Ok(()));
-    assert!(rt; ended.text.as_slice() == text.as_slice(), "{:?}", ended.text);
+    assert!(rt;
+        ended.text.as_slice() == text.as_slice(),
+        "{:?}",
+        ended.text
+    );
     Ok(())
 }
 

@@ -26,7 +26,7 @@ loop-lines-preserved-in_ok-write_reply g c = record {
       subst (λ (x : List ℕ). GivesLine (input_of left c.loop-lines.lines) (input_of left c.next_line.new.self) x) is (c.in_ok-next_line.ensures.more c.if-branch.true) in
       let fits : length line ≤ 65536 = subst (λ (x : List ℕ). length x ≤ 65536) is (c.in_ok-next_line.ensures.fits c.if-branch.true) in
       let writes : Appends (held c.loop-lines.writer) (held c.write_reply.new.writer) (reply_of (state_of c.loop-lines.bench) line c.answer-reply.ensures.0) =
-      c.in_ok-write_reply.ensures.all _ c.answer-reply.ensures.1 in
+      c.in_ok-write_reply.ensures.all (reply_of (state_of c.loop-lines.bench) line c.answer-reply.ensures.0) c.answer-reply.ensures.1 in
       session_goes_on _ (input_of left c.loop-lines.lines) _ _ (held c.loop-lines.writer) _ _ (state_of c.loop-lines.bench) _ line c.answer-reply.ensures.0
       c.loop-lines.invariant.session gives fits writes c.answer-reply.ensures.2;
   fault = c.in_ok-next_line.ensures.ready.1 ∙ sym c.in_ok-next_line.ensures.ready.0 ∙ c.loop-lines.invariant.fault;
@@ -48,7 +48,7 @@ loop-lines-preserved g c = record {
       subst (λ (x : List ℕ). GivesLine (input_of left c.loop-lines.lines) (input_of left c.next_line.new.self) x) is (c.in_ok-next_line.ensures.more c.if-branch.true) in
       let fits : length line ≤ 65536 = subst (λ (x : List ℕ). length x ≤ 65536) is (c.in_ok-next_line.ensures.fits c.if-branch.true) in
       let writes : Appends (held c.loop-lines.writer) (held c.write_reply.new.writer) (reply_of (state_of c.loop-lines.bench) line c.answer-reply.ensures.0) =
-      c.in_ok-write_reply.ensures.all _ c.answer-reply.ensures.1 in
+      c.in_ok-write_reply.ensures.all (reply_of (state_of c.loop-lines.bench) line c.answer-reply.ensures.0) c.answer-reply.ensures.1 in
       session_goes_on _ (input_of left c.loop-lines.lines) _ _ (held c.loop-lines.writer) _ _ (state_of c.loop-lines.bench) _ line c.answer-reply.ensures.0
       c.loop-lines.invariant.session gives fits writes c.answer-reply.ensures.2;
   fault = c.in_ok-next_line.ensures.ready.1 ∙ sym c.in_ok-next_line.ensures.ready.0 ∙ c.loop-lines.invariant.fault;
