@@ -2,7 +2,6 @@ pub mod Marks
 pub mod Parsed
 pub mod Checks
 pub mod Laws
-pub mod Groupings
 pub mod Reading
 pub mod MarkView
 pub mod Met
