@@ -17,9 +17,12 @@ view_placed p = record { mode = p.mode; plain = view_plain p.plain.now }
 
 abbrev pub view_names : Names → names.Names
 view_names n = record {
-    strings = map string_bytes n.strings.items; integers = map string_bytes n.integers.items; booleans = map string_bytes n.booleans.items;
-    groupings = map string_bytes n.groupings.items; routines = map string_bytes n.routines.items
-  }
+  strings = map string_bytes n.strings.items;
+  integers = map string_bytes n.integers.items;
+  booleans = map string_bytes n.booleans.items;
+  groupings = map string_bytes n.groupings.items;
+  routines = map string_bytes n.routines.items;
+}
 
 -- the characters of some strings
 abbrev pub texts : List (Vec ℕ Global) → List (List ℕ)

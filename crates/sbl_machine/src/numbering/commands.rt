@@ -85,7 +85,12 @@ fn inside(amongs: &Vec<Found>, place: Place) -> Place
     }
 }
 
-fn simple(alloc: Global, amongs: &Vec<Found>, word: Simple, place: &mut Place) -> Result<Node, AllocError>
+fn simple(
+    alloc: Global,
+    amongs: &Vec<Found>,
+    word: Simple,
+    place: &mut Place,
+) -> Result<Node, AllocError>
     ensures made { IfOk result (λ n. view_node (strings_at amongs.now.items) n ≡ spec.simple word (view_place amongs.now.items place.old)) }
     ensures behind { OnOk result (view_place amongs.now.items place.new ≡ spec.past_simple word (view_place amongs.now.items place.old)) }
 {
@@ -121,7 +126,12 @@ fn name_alone(names: &Names, _amongs: &Vec<Found>, name: &str) -> Node
     }
 }
 
-fn behind_prefix(alloc: Global, _amongs: &Vec<Found>, prefix: Prefix, inner: Node) -> Result<Node, AllocError>
+fn behind_prefix(
+    alloc: Global,
+    _amongs: &Vec<Found>,
+    prefix: Prefix,
+    inner: Node,
+) -> Result<Node, AllocError>
     ensures { IfOk result (λ n. view_node (strings_at _amongs.now.items) n ≡ spec.behind_prefix prefix (view_node (strings_at _amongs.now.items) inner)) }
 {
     let inner = Box::new(alloc, inner)?;
@@ -138,7 +148,13 @@ fn behind_prefix(alloc: Global, _amongs: &Vec<Found>, prefix: Prefix, inner: Nod
     })
 }
 
-fn behind_count(alloc: Global, _amongs: &Vec<Found>, count: Count, number: Arithmetic, inner: Node) -> Result<Node, AllocError>
+fn behind_count(
+    alloc: Global,
+    _amongs: &Vec<Found>,
+    count: Count,
+    number: Arithmetic,
+    inner: Node,
+) -> Result<Node, AllocError>
     ensures { IfOk result (λ n. view_node (strings_at _amongs.now.items) n ≡ spec.behind_count count (view_number number) (view_node (strings_at _amongs.now.items) inner)) }
 {
     let inner = Box::new(alloc, inner)?;
@@ -204,7 +220,13 @@ fn relation_of(comparison: Comparison) -> Relation
     }
 }
 
-fn join(alloc: Global, _amongs: &Vec<Found>, joiner: Joiner, first: Node, second: Node) -> Result<Node, AllocError>
+fn join(
+    alloc: Global,
+    _amongs: &Vec<Found>,
+    joiner: Joiner,
+    first: Node,
+    second: Node,
+) -> Result<Node, AllocError>
     ensures { IfOk result (λ n. view_node (strings_at _amongs.now.items) n ≡ spec.join joiner (view_node (strings_at _amongs.now.items) first) (view_node (strings_at _amongs.now.items) second)) }
 {
     let first = Box::new(alloc, first)?;
@@ -215,7 +237,12 @@ fn join(alloc: Global, _amongs: &Vec<Found>, joiner: Joiner, first: Node, second
     })
 }
 
-fn set_limit(alloc: Global, _amongs: &Vec<Found>, first: Node, second: Node) -> Result<Node, AllocError>
+fn set_limit(
+    alloc: Global,
+    _amongs: &Vec<Found>,
+    first: Node,
+    second: Node,
+) -> Result<Node, AllocError>
     ensures { IfOk result (λ n. view_node (strings_at _amongs.now.items) n ≡ plan.setlimit (view_node (strings_at _amongs.now.items) first) (view_node (strings_at _amongs.now.items) second)) }
 {
     let first = Box::new(alloc, first)?;
@@ -229,19 +256,35 @@ fn literal(alloc: Global, literal: &Literal) -> Result<Action, AllocError>
     Ok(Action::Match(StringTerm::Literal(copied(alloc, &literal.value)?)))
 }
 
-fn move_to(alloc: Global, names: &Names, movement: Move, number: &Expression) -> Result<Action, AllocError>
+fn move_to(
+    alloc: Global,
+    names: &Names,
+    movement: Move,
+    number: &Expression,
+) -> Result<Action, AllocError>
     ensures { IfOk result (λ a. view_action a ≡ spec.move movement (spec_expression (view_names names.now) (view_expression number.now))) }
 {
     Ok(moved(movement, number_of_expression(alloc, names, number)?))
 }
 
-fn edit_text(alloc: Global, names: &Names, edit: Edit, string: &Argument) -> Result<Action, AllocError>
+fn edit_text(
+    alloc: Global,
+    names: &Names,
+    edit: Edit,
+    string: &Argument,
+) -> Result<Action, AllocError>
     ensures { IfOk result (λ a. view_action a ≡ spec.edit edit (spec_text (view_names names.now) (view_argument string.now))) }
 {
     Ok(edited(edit, text(alloc, names, string)?))
 }
 
-fn assign(alloc: Global, names: &Names, name: &str, assignment: Assignment, number: &Expression) -> Result<Action, AllocError>
+fn assign(
+    alloc: Global,
+    names: &Names,
+    name: &str,
+    assignment: Assignment,
+    number: &Expression,
+) -> Result<Action, AllocError>
     ensures { IfOk result (λ a. view_action a ≡ plan.assign (spec_number_of (view_names names.now).integers name.now) (spec.change_of assignment) (spec_expression (view_names names.now) (view_expression number.now))) }
 {
     Ok(Action::Assign(
@@ -251,7 +294,13 @@ fn assign(alloc: Global, names: &Names, name: &str, assignment: Assignment, numb
     ))
 }
 
-fn compare(alloc: Global, names: &Names, name: &str, comparison: Comparison, number: &Expression) -> Result<Action, AllocError>
+fn compare(
+    alloc: Global,
+    names: &Names,
+    name: &str,
+    comparison: Comparison,
+    number: &Expression,
+) -> Result<Action, AllocError>
     ensures { IfOk result (λ a. view_action a ≡ plan.compare (plan.integer (spec_number_of (view_names names.now).integers name.now)) (spec.relation_of comparison) (spec_expression (view_names names.now) (view_expression number.now))) }
 {
     Ok(Action::Compare(
@@ -261,7 +310,13 @@ fn compare(alloc: Global, names: &Names, name: &str, comparison: Comparison, num
     ))
 }
 
-fn compare_values(alloc: Global, names: &Names, first: &Expression, comparison: Comparison, second: &Expression) -> Result<Action, AllocError>
+fn compare_values(
+    alloc: Global,
+    names: &Names,
+    first: &Expression,
+    comparison: Comparison,
+    second: &Expression,
+) -> Result<Action, AllocError>
     ensures { IfOk result (λ a. view_action a ≡ plan.compare (spec_expression (view_names names.now) (view_expression first.now)) (spec.relation_of comparison) (spec_expression (view_names names.now) (view_expression second.now))) }
 {
     Ok(Action::Compare(

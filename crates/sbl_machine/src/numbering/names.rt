@@ -35,7 +35,11 @@ pub struct Names {
 }
 
 // Items of this mode, behind those so far.
-fn place_in<'a>(mode: Mode, plains: &'a Vec<Plain>, all: &mut Vec<Placed<'a>>) -> Result<(), AllocError>
+fn place_in<'a>(
+    mode: Mode,
+    plains: &'a Vec<Plain>,
+    all: &mut Vec<Placed<'a>>,
+) -> Result<(), AllocError>
     ensures { OnOk result (map view_placed all.new.items ≡ spec.placed_in mode (map view_plain plains.now.items) (map view_placed all.old.items)) }
 {
     for plain in plains {
@@ -85,14 +89,21 @@ fn add_names(alloc: Global, more: &Vec<String>, names: &mut Vec<String>) -> Resu
     Ok(())
 }
 
-fn declare(alloc: Global, kind: DeclarationKind, more: &Vec<String>, names: &mut Names) -> Result<(), AllocError>
+fn declare(
+    alloc: Global,
+    kind: DeclarationKind,
+    more: &Vec<String>,
+    names: &mut Names,
+) -> Result<(), AllocError>
     ensures { OnOk result (view_names names.new ≡ spec.declaring kind (map string_bytes more.now.items) (view_names names.old)) }
 {
     match kind {
         DeclarationKind::Strings => add_names(alloc, more, &mut names.strings),
         DeclarationKind::Integers => add_names(alloc, more, &mut names.integers),
         DeclarationKind::Booleans => add_names(alloc, more, &mut names.booleans),
-        DeclarationKind::Routines | DeclarationKind::Externals | DeclarationKind::Groupings => Ok(()),
+        DeclarationKind::Routines | DeclarationKind::Externals | DeclarationKind::Groupings => Ok(
+            (),
+        ),
     }
 }
 

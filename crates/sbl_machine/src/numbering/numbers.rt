@@ -36,7 +36,12 @@ fn constant(constant: Constant) -> Arithmetic
     }
 }
 
-fn add(alloc: Global, operator: Additive, a: Arithmetic, b: Arithmetic) -> Result<Arithmetic, AllocError>
+fn add(
+    alloc: Global,
+    operator: Additive,
+    a: Arithmetic,
+    b: Arithmetic,
+) -> Result<Arithmetic, AllocError>
     ensures { IfOk result (λ x. view_number x ≡ spec.added operator (view_number a) (view_number b)) }
 {
     match operator {
@@ -45,7 +50,12 @@ fn add(alloc: Global, operator: Additive, a: Arithmetic, b: Arithmetic) -> Resul
     }
 }
 
-fn scale(alloc: Global, operator: Multiplicative, a: Arithmetic, b: Arithmetic) -> Result<Arithmetic, AllocError>
+fn scale(
+    alloc: Global,
+    operator: Multiplicative,
+    a: Arithmetic,
+    b: Arithmetic,
+) -> Result<Arithmetic, AllocError>
     ensures { IfOk result (λ x. view_number x ≡ spec.scaled operator (view_number a) (view_number b)) }
 {
     match operator {
@@ -56,7 +66,11 @@ fn scale(alloc: Global, operator: Multiplicative, a: Arithmetic, b: Arithmetic) 
 
 /// An expression.
 #[cycle(arithmetic)]
-pub fn number_of_expression(alloc: Global, names: &Names, expression: &Expression) -> Result<Arithmetic, AllocError>
+pub fn number_of_expression(
+    alloc: Global,
+    names: &Names,
+    expression: &Expression,
+) -> Result<Arithmetic, AllocError>
     ensures { IfOk result (λ x. view_number x ≡ spec.expression (view_names names.now) (view_expression expression.now)) }
 {
     let first = number_of_product(alloc, names, &expression.first)?;
@@ -64,7 +78,12 @@ pub fn number_of_expression(alloc: Global, names: &Names, expression: &Expressio
 }
 
 #[cycle(arithmetic)]
-fn with_sums(alloc: Global, names: &Names, others: &Vec<Added>, first: Arithmetic) -> Result<Arithmetic, AllocError>
+fn with_sums(
+    alloc: Global,
+    names: &Names,
+    others: &Vec<Added>,
+    first: Arithmetic,
+) -> Result<Arithmetic, AllocError>
     ensures { IfOk result (λ x. view_number x ≡ spec.with_sums (view_names names.now) (view_sums others.now.items) (view_number first)) }
 {
     let mut total = first;
@@ -76,7 +95,11 @@ fn with_sums(alloc: Global, names: &Names, others: &Vec<Added>, first: Arithmeti
 }
 
 #[cycle(arithmetic)]
-fn number_of_product(alloc: Global, names: &Names, product: &Product) -> Result<Arithmetic, AllocError>
+fn number_of_product(
+    alloc: Global,
+    names: &Names,
+    product: &Product,
+) -> Result<Arithmetic, AllocError>
     ensures { IfOk result (λ x. view_number x ≡ spec.product (view_names names.now) (view_product product.now)) }
 {
     let first = number_of_factor(alloc, names, &product.first)?;
@@ -84,7 +107,12 @@ fn number_of_product(alloc: Global, names: &Names, product: &Product) -> Result<
 }
 
 #[cycle(arithmetic)]
-fn with_scales(alloc: Global, names: &Names, others: &Vec<Scaled>, first: Arithmetic) -> Result<Arithmetic, AllocError>
+fn with_scales(
+    alloc: Global,
+    names: &Names,
+    others: &Vec<Scaled>,
+    first: Arithmetic,
+) -> Result<Arithmetic, AllocError>
     ensures { IfOk result (λ x. view_number x ≡ spec.with_scales (view_names names.now) (view_scales others.now.items) (view_number first)) }
 {
     let mut total = first;

@@ -41,7 +41,12 @@ fn lessen(alloc: Global, set: &[char], less: &[char]) -> Result<Vec<char>, Alloc
     Ok(left)
 }
 
-fn combine(alloc: Global, operator: Additive, set: Vec<char>, term: &[char]) -> Result<Vec<char>, AllocError>
+fn combine(
+    alloc: Global,
+    operator: Additive,
+    set: Vec<char>,
+    term: &[char],
+) -> Result<Vec<char>, AllocError>
     ensures { IfOk result (λ v. v.items ≡ spec.combined operator set.items term.now) }
 {
     match operator {
@@ -80,12 +85,22 @@ fn set_of(
     let mut set = Vec::new(alloc);
     unite(&mut set, characters_of(names, sets, first))?;
     for term in others {
-        set = combine(alloc, term.operator, set, characters_of(names, sets, &term.argument))?;
+        set = combine(
+            alloc,
+            term.operator,
+            set,
+            characters_of(names, sets, &term.argument),
+        )?;
     }
     Ok(set)
 }
 
-fn add_set(alloc: Global, names: &Names, plain: &Plain, sets: &mut Vec<Vec<char>>) -> Result<(), AllocError>
+fn add_set(
+    alloc: Global,
+    names: &Names,
+    plain: &Plain,
+    sets: &mut Vec<Vec<char>>,
+) -> Result<(), AllocError>
     ensures { OnOk result (map (λ x. x.items) sets.new.items ≡ spec.with_set (view_names names.now) (view_plain plain.now) (map (λ x. x.items) sets.old.items)) }
 {
     if let Plain::Grouping {

@@ -18,10 +18,12 @@ literal_value-requires-clause-room c =
 
 pub returns-in-Ok : goal.returns-in-Ok
 returns-in-Ok c =
-    let items : c.in_ok-letters.letters.items ≡ chars c.between_quotes-spelling.result.now = search (rules, chars_from_encodes) in
-    (told_literal c.args.state.now c.escapes.result.now (chars c.args.text.now) c.between_quotes-spelling.result.now c.deref.result.now c.requires.has.0 c.in-Ok.value.items c.escapes.ensures c.requires.has.1
-    (c.between_quotes-spelling.ensures.bytes c.requires.has.0 c.requires.has.1)
-    (c.deref.ensures.value ∙ items ∙ c.between_quotes-spelling.ensures.characters c.requires.has.0 c.requires.has.1) c.in-Ok.ensures, refl)
+    let items : c.in_ok-letters.letters.items ≡ chars c.between_quotes-spelling.result.now = search (rules, chars_from_encodes) in (
+      told_literal c.args.state.now c.escapes.result.now (chars c.args.text.now) c.between_quotes-spelling.result.now c.deref.result.now c.requires.has.0 c.in-Ok.value.items c.escapes.ensures c.requires.has.1
+          (c.between_quotes-spelling.ensures.bytes c.requires.has.0 c.requires.has.1)
+          (c.deref.ensures.value ∙ items ∙ c.between_quotes-spelling.ensures.characters c.requires.has.0 c.requires.has.1) c.in-Ok.ensures,
+      refl,
+    )
 
 pub returns : goal.returns
 returns c =
