@@ -31,13 +31,6 @@ pub struct Machine<S> {
 }
 
 impl<S: AmongSearch> Machine<S> {
-    /// A machine of these parts.
-    pub(crate) fn of_parts(tables: TableList<S>, program: Program) -> Machine<S>
-        ensures { result ≡ record { tables = tables; program = program } }
-    {
-        Machine { tables, program }
-    }
-
     /// The machine of a script, which owns what it needs of it. AllocError where a growth was refused.
     pub fn new(alloc: Global, script: &Script) -> Result<Machine<S>, AllocError>
         ensures { IfOk result (λ m. IsMachineOf S S.entries S.mode m (source_of script.now)) }
