@@ -1,4 +1,4 @@
-// A search that looks at each string.
+//! A search that looks at each string.
 
 ghost use Rattle.std.specs.Prelude.{◌≡◌, ◌≤◌, ◌++◌, ◌∷◌, [], List, ℕ, IfOk, map, nat_eq, length};
 ghost use Rattle.std.specs.List.{starts_with};

@@ -33,7 +33,9 @@ pub enum Use {
 /// Where something stands: in which item (counted from 1, a `backwardmode` not being counted, but its items), and in which mode.
 #[derive(Clone, Copy, Debug, PartialEq, Eq)]
 pub struct Place {
+    /// The number of the item.
     pub item: usize,
+    /// The mode.
     pub mode: Mode,
 }
 
@@ -68,13 +70,17 @@ pub enum Notice<'a> {
 /// One thing that the checks look at.
 #[derive(Clone, Copy)]
 pub struct Mark<'a> {
+    /// Where it stands.
     pub place: Place,
+    /// What it is.
     pub notice: Notice<'a>,
 }
 
 /// An item with the mode in which it stands.
 #[derive(Clone, Copy)]
 pub struct Stated<'a> {
+    /// The mode in which it stands.
     pub mode: Mode,
+    /// The item.
     pub plain: &'a Plain,
 }

@@ -23,6 +23,7 @@ fn is_white(c: char) -> bool
     ('\t' <= c && c <= '\r') || (c == ' ' || c == '\u{feff}')
 }
 
+/// Whether a character is in a class.
 pub fn is_in(class: Class, c: char) -> bool
     ensures { result ≡ spec.is_in class c }
 {

@@ -29,8 +29,13 @@ pub enum Value<'a> {
     None,
     /// The number that the digits write, at most 2147483647.
     Number(u32),
-    /// What stands between the quotes, and the characters that it means.
-    Literal { spelling: &'a str, value: Vec<char> },
+    /// Of a literal.
+    Literal {
+        /// What stands between the quotes.
+        spelling: &'a str,
+        /// The characters that it means.
+        value: Vec<char>,
+    },
     /// The two insert characters.
     Inserts(char, char),
 }
