@@ -194,7 +194,7 @@ abbrev mutual
   numbered ns (values_compared e o f) p = plan.act (plan.compare (expression ns e) (relation_of o) (expression ns f))
   numbered ns (chosen s gs) p =
       plan.among (next_of p.coming).number (commands_of (search_first p (numbered_starter ns s (inside p))))
-        (commands_of (numbered_groups ns gs (past_starter s (inside p)) []))
+      (commands_of (numbered_groups ns gs (past_starter s (inside p)) []))
 
   -- the rows of a bracket, behind the commands so far
   pub numbered_rows : Names → trees.Rows → Place → List plan.Command → List plan.Command
@@ -221,9 +221,9 @@ abbrev mutual
 
 abbrev pub routine_of : Names → trees.Tree → trees.Others → Place → plan.Routine
 routine_of ns c os p = record {
-    body = numbered_others ns os (past c p) (numbered ns c p);
-    amongs = length p.coming - length (past_others os (past c p)).coming
-  }
+  body = numbered_others ns os (past c p) (numbered ns c p);
+  amongs = length p.coming - length (past_others os (past c p)).coming;
+}
 
 abbrev pub past_plain : trees.Plain → Place → Place
 past_plain (routine n c os) p = past_others os (past c p)
@@ -249,11 +249,13 @@ routines_behind ns (x ∷ xs) p sofar = routines_behind ns xs (past_plain x.plai
 -- by its names, its items and its amongs
 abbrev pub plan_by : Names → List Placed → List Found → List ℕ → plan.Plan
 plan_by ns items amongs external = record {
-    integers = length ns.integers; booleans = length ns.booleans; strings = length ns.strings;
-    groupings = sets_behind ns items [];
-    routines = routines_behind ns items (record { coming = amongs; waits = false }) [];
-    external = number_of ns.routines external
-  }
+  integers = length ns.integers;
+  booleans = length ns.booleans;
+  strings = length ns.strings;
+  groupings = sets_behind ns items [];
+  routines = routines_behind ns items (record { coming = amongs; waits = false }) [];
+  external = number_of ns.routines external;
+}
 
 abbrev pub plan_with : Names → List Placed → List ℕ → plan.Plan
 plan_with ns items external = plan_by ns items (found_behind ns items []) external

@@ -3,6 +3,7 @@ use Rattle.std.specs.Prelude.{ℕ, List, [], map, drop, string_bytes, Vec, Optio
 use Rattle.std.specs.Global.{Global}
 use Rattle.sbl_grammar.specs.View.{view_plain}
 use Rattle.sbl_machine.specs.declared.numbering.amongs.Found.{Found}
+use Rattle.sbl_machine.specs.declared.numbering.names.Lists.{Lists}
 use Rattle.sbl_machine.specs.declared.numbering.names.Names.{Names}
 use Rattle.sbl_machine.specs.declared.numbering.names.Placed.{Placed}
 use Rattle.sbl_machine.specs.Listed.{Listed, listing}
@@ -17,9 +18,21 @@ view_placed p = record { mode = p.mode; plain = view_plain p.plain.now }
 
 abbrev pub view_names : Names → names.Names
 view_names n = record {
-    strings = map string_bytes n.strings.items; integers = map string_bytes n.integers.items; booleans = map string_bytes n.booleans.items;
-    groupings = map string_bytes n.groupings.items; routines = map string_bytes n.routines.items
-  }
+  strings = n.strings;
+  integers = n.integers;
+  booleans = n.booleans;
+  groupings = n.groupings;
+  routines = n.routines;
+}
+
+abbrev pub view_lists : Lists → names.Names
+view_lists n = record {
+  strings = map string_bytes n.strings.items;
+  integers = map string_bytes n.integers.items;
+  booleans = map string_bytes n.booleans.items;
+  groupings = map string_bytes n.groupings.items;
+  routines = map string_bytes n.routines.items;
+}
 
 -- the characters of some strings
 abbrev pub texts : List (Vec ℕ Global) → List (List ℕ)

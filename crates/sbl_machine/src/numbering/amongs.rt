@@ -8,7 +8,7 @@ ghost use Rattle.sbl_machine.specs.NumberedView.{view_names, view_placed, view_f
 
 use crate::copies::copied;
 use crate::node;
-use crate::numbering::names::{Names, Placed, number_of};
+use crate::numbering::names::{Names, Placed};
 use sbl_grammar::{Among, Command, Entry, Group, Joined, Plain, Prefix, Row};
 use sbl_script::Mode;
 use std::alloc::{AllocError, Global};
@@ -33,7 +33,11 @@ fn add_string(alloc: Global, entry: &Entry, strings: &mut Vec<Vec<char>>) -> Res
     Ok(())
 }
 
-fn add_strings(alloc: Global, entries: &Vec<Entry>, strings: &mut Vec<Vec<char>>) -> Result<(), AllocError>
+fn add_strings(
+    alloc: Global,
+    entries: &Vec<Entry>,
+    strings: &mut Vec<Vec<char>>,
+) -> Result<(), AllocError>
     ensures { OnOk result (texts strings.new.items ≡ spec.strings_in (map view_entry entries.now.items) (texts strings.old.items)) }
 {
     for entry in entries {
@@ -42,7 +46,11 @@ fn add_strings(alloc: Global, entries: &Vec<Entry>, strings: &mut Vec<Vec<char>>
     Ok(())
 }
 
-fn add_group_strings(alloc: Global, groups: &Vec<Group>, strings: &mut Vec<Vec<char>>) -> Result<(), AllocError>
+fn add_group_strings(
+    alloc: Global,
+    groups: &Vec<Group>,
+    strings: &mut Vec<Vec<char>>,
+) -> Result<(), AllocError>
     ensures { OnOk result ((bare : List trees.Entry) → spec.strings_in bare (texts strings.new.items) ≡ spec.strings_behind (view_groups groups.now.items bare) (texts strings.old.items)) }
 {
     for group in groups {
@@ -52,7 +60,11 @@ fn add_group_strings(alloc: Global, groups: &Vec<Group>, strings: &mut Vec<Vec<c
     Ok(())
 }
 
-fn strings_of(alloc: Global, groups: &Vec<Group>, bare: &Vec<Entry>) -> Result<Vec<Vec<char>>, AllocError>
+fn strings_of(
+    alloc: Global,
+    groups: &Vec<Group>,
+    bare: &Vec<Entry>,
+) -> Result<Vec<Vec<char>>, AllocError>
     ensures { IfOk result (λ v. texts v.items ≡ spec.strings_behind (view_groups groups.now.items (map view_entry bare.now.items)) []) }
 {
     let mut strings = Vec::new(alloc);
@@ -66,11 +78,16 @@ fn condition_of(names: &Names, condition: &Option<String>) -> Option<usize>
 {
     match condition {
         None => None,
-        Some(name) => Some(number_of(&names.routines, name.as_str())),
+        Some(name) => Some(names.routines.number_of(name.as_str())),
     }
 }
 
-fn add_entry(names: &Names, group: usize, entry: &Entry, entries: &mut Vec<node::Entry>) -> Result<(), AllocError>
+fn add_entry(
+    names: &Names,
+    group: usize,
+    entry: &Entry,
+    entries: &mut Vec<node::Entry>,
+) -> Result<(), AllocError>
     ensures { OnOk result (entries.new.items ≡ spec.entries_in (view_names names.now) group (view_entry entry.now ∷ []) entries.old.items) }
 {
     entries.push(node::Entry {
@@ -81,7 +98,12 @@ fn add_entry(names: &Names, group: usize, entry: &Entry, entries: &mut Vec<node:
     Ok(())
 }
 
-fn add_entries(names: &Names, group: usize, more: &Vec<Entry>, entries: &mut Vec<node::Entry>) -> Result<(), AllocError>
+fn add_entries(
+    names: &Names,
+    group: usize,
+    more: &Vec<Entry>,
+    entries: &mut Vec<node::Entry>,
+) -> Result<(), AllocError>
     ensures { OnOk result (entries.new.items ≡ spec.entries_in (view_names names.now) group (map view_entry more.now.items) entries.old.items) }
 {
     for entry in more {
@@ -90,7 +112,11 @@ fn add_entries(names: &Names, group: usize, more: &Vec<Entry>, entries: &mut Vec
     Ok(())
 }
 
-fn add_group_entries(names: &Names, groups: &Vec<Group>, entries: &mut Vec<node::Entry>) -> Result<(), AllocError>
+fn add_group_entries(
+    names: &Names,
+    groups: &Vec<Group>,
+    entries: &mut Vec<node::Entry>,
+) -> Result<(), AllocError>
     ensures { OnOk result ((bare : List trees.Entry) → spec.entries_in (view_names names.now) (length groups.now.items) bare entries.new.items ≡ spec.entries_behind (view_names names.now) 0 (view_groups groups.now.items bare) entries.old.items) }
 {
     for (number, group) in groups.iter().enumerate() {
@@ -100,7 +126,12 @@ fn add_group_entries(names: &Names, groups: &Vec<Group>, entries: &mut Vec<node:
     Ok(())
 }
 
-fn entries_of(alloc: Global, names: &Names, groups: &Vec<Group>, bare: &Vec<Entry>) -> Result<Vec<node::Entry>, AllocError>
+fn entries_of(
+    alloc: Global,
+    names: &Names,
+    groups: &Vec<Group>,
+    bare: &Vec<Entry>,
+) -> Result<Vec<node::Entry>, AllocError>
     ensures { IfOk result (λ v. v.items ≡ spec.entries_behind (view_names names.now) 0 (view_groups groups.now.items (map view_entry bare.now.items)) []) }
 {
     let mut entries = Vec::new(alloc);

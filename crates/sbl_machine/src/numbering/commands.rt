@@ -1,25 +1,22 @@
 //! Commands, with numbers for names.
 
-ghost use Rattle.std.specs.Prelude.{◌≡◌, ◌∷◌, ◌++◌, [], List, map, length, OnOk, IfOk, string_bytes};
-ghost use Rattle.sbl_grammar.specs.View.{view_argument, view_command, view_rows, view_row, view_others, view_among, view_starter, view_groups, view_expression, view_literal};
+ghost use Rattle.std.specs.Prelude.{◌≡◌, [], List, map, OnOk, IfOk};
+ghost use Rattle.sbl_grammar.specs.View.{view_command, view_rows, view_row, view_others, view_among, view_groups};
 ghost use Rattle.sbl_grammar.specs.Tree as trees;
 ghost use Rattle.sbl_machine.specs.Numbered as spec;
 ghost use Rattle.sbl_machine.specs.NumberedView.{view_names, view_place, strings_at};
-ghost use Rattle.sbl_machine.specs.NumberedNames.{number_of as spec_number_of};
-ghost use Rattle.sbl_machine.specs.NumberedNumbers.{expression as spec_expression, text as spec_text};
 ghost use Rattle.sbl_machine.specs.Plan as plan;
-ghost use Rattle.sbl_machine.specs.PlanOf.{view_action, view_node, view_number, view_text, commands_of};
+ghost use Rattle.sbl_machine.specs.PlanOf.{view_node, view_number};
 
-use crate::action::{Action, Arithmetic, Change, Relation, StringTerm};
-use crate::copies::copied;
+use crate::action::{Action, Arithmetic, StringTerm};
 use crate::node::{Entry, Node};
-use crate::numbering::amongs::Found;
-use crate::numbering::names::{Names, is_one_of, number_of};
-use crate::numbering::numbers::{number_of_expression, text};
-use sbl_grammar::{
-    Among, Argument, Assignment, Command, Comparison, Count, Edit, Expression, Group, Joined,
-    Joiner, Literal, Move, Naming, Prefix, Row, Simple,
+use crate::numbering::actions::{
+    assign, change_named, compare, compare_values, edit_text, literal, move_to,
 };
+use crate::numbering::amongs::Found;
+use crate::numbering::names::Names;
+use crate::numbering::numbers::number_of_expression;
+use sbl_grammar::{Among, Command, Count, Group, Joined, Joiner, Prefix, Row, Simple};
 use std::alloc::{AllocError, Global};
 
 /// Where a command stands.
@@ -85,7 +82,12 @@ fn inside(amongs: &Vec<Found>, place: Place) -> Place
     }
 }
 
-fn simple(alloc: Global, amongs: &Vec<Found>, word: Simple, place: &mut Place) -> Result<Node, AllocError>
+fn simple(
+    alloc: Global,
+    amongs: &Vec<Found>,
+    word: Simple,
+    place: &mut Place,
+) -> Result<Node, AllocError>
     ensures made { IfOk result (λ n. view_node (strings_at amongs.now.items) n ≡ spec.simple word (view_place amongs.now.items place.old)) }
     ensures behind { OnOk result (view_place amongs.now.items place.new ≡ spec.past_simple word (view_place amongs.now.items place.old)) }
 {
@@ -110,18 +112,23 @@ fn simple(alloc: Global, amongs: &Vec<Found>, word: Simple, place: &mut Place) -
 fn name_alone(names: &Names, _amongs: &Vec<Found>, name: &str) -> Node
     ensures { view_node (strings_at _amongs.now.items) result ≡ spec.name_alone (view_names names.now) name.now }
 {
-    if is_one_of(&names.strings, name) {
-        Node::Act(Action::Match(StringTerm::Variable(number_of(&names.strings, name))))
-    } else if is_one_of(&names.booleans, name) {
-        Node::Act(Action::Boolean(number_of(&names.booleans, name)))
-    } else if is_one_of(&names.groupings, name) {
-        Node::Act(Action::Grouping(number_of(&names.groupings, name)))
+    if names.strings.has(name) {
+        Node::Act(Action::Match(StringTerm::Variable(names.strings.number_of(name))))
+    } else if names.booleans.has(name) {
+        Node::Act(Action::Boolean(names.booleans.number_of(name)))
+    } else if names.groupings.has(name) {
+        Node::Act(Action::Grouping(names.groupings.number_of(name)))
     } else {
-        Node::Call(number_of(&names.routines, name))
+        Node::Call(names.routines.number_of(name))
     }
 }
 
-fn behind_prefix(alloc: Global, _amongs: &Vec<Found>, prefix: Prefix, inner: Node) -> Result<Node, AllocError>
+fn behind_prefix(
+    alloc: Global,
+    _amongs: &Vec<Found>,
+    prefix: Prefix,
+    inner: Node,
+) -> Result<Node, AllocError>
     ensures { IfOk result (λ n. view_node (strings_at _amongs.now.items) n ≡ spec.behind_prefix prefix (view_node (strings_at _amongs.now.items) inner)) }
 {
     let inner = Box::new(alloc, inner)?;
@@ -138,7 +145,13 @@ fn behind_prefix(alloc: Global, _amongs: &Vec<Found>, prefix: Prefix, inner: Nod
     })
 }
 
-fn behind_count(alloc: Global, _amongs: &Vec<Found>, count: Count, number: Arithmetic, inner: Node) -> Result<Node, AllocError>
+fn behind_count(
+    alloc: Global,
+    _amongs: &Vec<Found>,
+    count: Count,
+    number: Arithmetic,
+    inner: Node,
+) -> Result<Node, AllocError>
     ensures { IfOk result (λ n. view_node (strings_at _amongs.now.items) n ≡ spec.behind_count count (view_number number) (view_node (strings_at _amongs.now.items) inner)) }
 {
     let inner = Box::new(alloc, inner)?;
@@ -148,63 +161,13 @@ fn behind_count(alloc: Global, _amongs: &Vec<Found>, count: Count, number: Arith
     })
 }
 
-fn moved(movement: Move, number: Arithmetic) -> Action
-    ensures { view_action result ≡ spec.move movement (view_number number) }
-{
-    match movement {
-        Move::Hop => Action::Hop(number),
-        Move::AtMark => Action::AtMark(number),
-        Move::ToMark => Action::ToMark(number),
-    }
-}
-
-fn change_named(names: &Names, naming: Naming, name: &str) -> Action
-    ensures { view_action result ≡ spec.change_named (view_names names.now) naming name.now }
-{
-    match naming {
-        Naming::SetMark => Action::SetMark(number_of(&names.integers, name)),
-        Naming::Set => Action::Set(number_of(&names.booleans, name)),
-        Naming::Unset => Action::Unset(number_of(&names.booleans, name)),
-        Naming::Arrow => Action::Keep(number_of(&names.strings, name)),
-    }
-}
-
-fn edited(edit: Edit, string: StringTerm) -> Action
-    ensures { view_action result ≡ spec.edit edit (view_text string) }
-{
-    match edit {
-        Edit::Replace => Action::Replace(string),
-        Edit::InsertSign | Edit::Insert => Action::Insert(string),
-        Edit::Attach => Action::Attach(string),
-    }
-}
-
-fn change_of(assignment: Assignment) -> Change
-    ensures { result ≡ spec.change_of assignment }
-{
-    match assignment {
-        Assignment::Equals => Change::Becomes,
-        Assignment::Plus => Change::Plus,
-        Assignment::Minus => Change::Minus,
-        Assignment::Times => Change::Times,
-        Assignment::Over => Change::Over,
-    }
-}
-
-fn relation_of(comparison: Comparison) -> Relation
-    ensures { result ≡ spec.relation_of comparison }
-{
-    match comparison {
-        Comparison::Same => Relation::Equal,
-        Comparison::Differs => Relation::Unequal,
-        Comparison::Less => Relation::Less,
-        Comparison::AtMost => Relation::LessOrEqual,
-        Comparison::Greater => Relation::Greater,
-        Comparison::AtLeast => Relation::GreaterOrEqual,
-    }
-}
-
-fn join(alloc: Global, _amongs: &Vec<Found>, joiner: Joiner, first: Node, second: Node) -> Result<Node, AllocError>
+fn join(
+    alloc: Global,
+    _amongs: &Vec<Found>,
+    joiner: Joiner,
+    first: Node,
+    second: Node,
+) -> Result<Node, AllocError>
     ensures { IfOk result (λ n. view_node (strings_at _amongs.now.items) n ≡ spec.join joiner (view_node (strings_at _amongs.now.items) first) (view_node (strings_at _amongs.now.items) second)) }
 {
     let first = Box::new(alloc, first)?;
@@ -215,60 +178,17 @@ fn join(alloc: Global, _amongs: &Vec<Found>, joiner: Joiner, first: Node, second
     })
 }
 
-fn set_limit(alloc: Global, _amongs: &Vec<Found>, first: Node, second: Node) -> Result<Node, AllocError>
+fn set_limit(
+    alloc: Global,
+    _amongs: &Vec<Found>,
+    first: Node,
+    second: Node,
+) -> Result<Node, AllocError>
     ensures { IfOk result (λ n. view_node (strings_at _amongs.now.items) n ≡ plan.setlimit (view_node (strings_at _amongs.now.items) first) (view_node (strings_at _amongs.now.items) second)) }
 {
     let first = Box::new(alloc, first)?;
     let second = Box::new(alloc, second)?;
     Ok(Node::SetLimit(first, second))
-}
-
-fn literal(alloc: Global, literal: &Literal) -> Result<Action, AllocError>
-    ensures { IfOk result (λ a. view_action a ≡ plan.match (plan.literal (view_literal literal.now).value)) }
-{
-    Ok(Action::Match(StringTerm::Literal(copied(alloc, &literal.value)?)))
-}
-
-fn move_to(alloc: Global, names: &Names, movement: Move, number: &Expression) -> Result<Action, AllocError>
-    ensures { IfOk result (λ a. view_action a ≡ spec.move movement (spec_expression (view_names names.now) (view_expression number.now))) }
-{
-    Ok(moved(movement, number_of_expression(alloc, names, number)?))
-}
-
-fn edit_text(alloc: Global, names: &Names, edit: Edit, string: &Argument) -> Result<Action, AllocError>
-    ensures { IfOk result (λ a. view_action a ≡ spec.edit edit (spec_text (view_names names.now) (view_argument string.now))) }
-{
-    Ok(edited(edit, text(alloc, names, string)?))
-}
-
-fn assign(alloc: Global, names: &Names, name: &str, assignment: Assignment, number: &Expression) -> Result<Action, AllocError>
-    ensures { IfOk result (λ a. view_action a ≡ plan.assign (spec_number_of (view_names names.now).integers name.now) (spec.change_of assignment) (spec_expression (view_names names.now) (view_expression number.now))) }
-{
-    Ok(Action::Assign(
-        number_of(&names.integers, name),
-        change_of(assignment),
-        number_of_expression(alloc, names, number)?,
-    ))
-}
-
-fn compare(alloc: Global, names: &Names, name: &str, comparison: Comparison, number: &Expression) -> Result<Action, AllocError>
-    ensures { IfOk result (λ a. view_action a ≡ plan.compare (plan.integer (spec_number_of (view_names names.now).integers name.now)) (spec.relation_of comparison) (spec_expression (view_names names.now) (view_expression number.now))) }
-{
-    Ok(Action::Compare(
-        Arithmetic::Integer(number_of(&names.integers, name)),
-        relation_of(comparison),
-        number_of_expression(alloc, names, number)?,
-    ))
-}
-
-fn compare_values(alloc: Global, names: &Names, first: &Expression, comparison: Comparison, second: &Expression) -> Result<Action, AllocError>
-    ensures { IfOk result (λ a. view_action a ≡ plan.compare (spec_expression (view_names names.now) (view_expression first.now)) (spec.relation_of comparison) (spec_expression (view_names names.now) (view_expression second.now))) }
-{
-    Ok(Action::Compare(
-        number_of_expression(alloc, names, first)?,
-        relation_of(comparison),
-        number_of_expression(alloc, names, second)?,
-    ))
 }
 
 /// A command, and the place behind it.
@@ -291,7 +211,7 @@ fn node_of(
         Command::Non {
             with_minus: _,
             name,
-        } => Ok(Node::Act(Action::NonGrouping(number_of(&names.groupings, name.as_str())))),
+        } => Ok(Node::Act(Action::NonGrouping(names.groupings.number_of(name.as_str())))),
         Command::Prefixed(prefix, inner) => {
             let inner = node_of(alloc, names, amongs, inner, place)?;
             behind_prefix(alloc, amongs, *prefix, inner)

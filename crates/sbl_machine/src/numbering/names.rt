@@ -1,10 +1,11 @@
 //! The names of a script by kind, and the number of each.
 
-ghost use Rattle.std.specs.Prelude.{◌≡◌, ◌∷◌, ◌++◌, [], List, map, length, nat_lt, OnOk, IfOk, string_bytes};
+ghost use Rattle.std.specs.Prelude.{◌≡◌, ◌∷◌, ◌++◌, [], map, OnOk, IfOk, string_bytes};
 ghost use Rattle.sbl_grammar.specs.View.{view_items, view_plain};
 ghost use Rattle.sbl_machine.specs.NumberedNames as spec;
-ghost use Rattle.sbl_machine.specs.NumberedView.{view_names, view_placed};
+ghost use Rattle.sbl_machine.specs.NumberedView.{view_lists, view_names, view_placed};
 
+use crate::numbering::kind::Kind;
 use sbl_grammar::{DeclarationKind, Item, Plain};
 use sbl_script::Mode;
 use std::alloc::{AllocError, Global};
@@ -23,19 +24,33 @@ pub struct Placed<'a> {
 #[derive(Drop)]
 pub struct Names {
     /// The string variables.
-    pub strings: Vec<String>,
+    pub strings: Kind,
     /// The integers.
-    pub integers: Vec<String>,
+    pub integers: Kind,
     /// The booleans.
-    pub booleans: Vec<String>,
+    pub booleans: Kind,
     /// The groupings.
-    pub groupings: Vec<String>,
+    pub groupings: Kind,
     /// The routines.
-    pub routines: Vec<String>,
+    pub routines: Kind,
+}
+
+/// The same, as they are collected.
+#[derive(Drop)]
+pub struct Lists {
+    strings: Vec<String>,
+    integers: Vec<String>,
+    booleans: Vec<String>,
+    groupings: Vec<String>,
+    routines: Vec<String>,
 }
 
 // Items of this mode, behind those so far.
-fn place_in<'a>(mode: Mode, plains: &'a Vec<Plain>, all: &mut Vec<Placed<'a>>) -> Result<(), AllocError>
+fn place_in<'a>(
+    mode: Mode,
+    plains: &'a Vec<Plain>,
+    all: &mut Vec<Placed<'a>>,
+) -> Result<(), AllocError>
     ensures { OnOk result (map view_placed all.new.items ≡ spec.placed_in mode (map view_plain plains.now.items) (map view_placed all.old.items)) }
 {
     for plain in plains {
@@ -85,28 +100,35 @@ fn add_names(alloc: Global, more: &Vec<String>, names: &mut Vec<String>) -> Resu
     Ok(())
 }
 
-fn declare(alloc: Global, kind: DeclarationKind, more: &Vec<String>, names: &mut Names) -> Result<(), AllocError>
-    ensures { OnOk result (view_names names.new ≡ spec.declaring kind (map string_bytes more.now.items) (view_names names.old)) }
+fn declare(
+    alloc: Global,
+    kind: DeclarationKind,
+    more: &Vec<String>,
+    lists: &mut Lists,
+) -> Result<(), AllocError>
+    ensures { OnOk result (view_lists lists.new ≡ spec.declaring kind (map string_bytes more.now.items) (view_lists lists.old)) }
 {
     match kind {
-        DeclarationKind::Strings => add_names(alloc, more, &mut names.strings),
-        DeclarationKind::Integers => add_names(alloc, more, &mut names.integers),
-        DeclarationKind::Booleans => add_names(alloc, more, &mut names.booleans),
-        DeclarationKind::Routines | DeclarationKind::Externals | DeclarationKind::Groupings => Ok(()),
+        DeclarationKind::Strings => add_names(alloc, more, &mut lists.strings),
+        DeclarationKind::Integers => add_names(alloc, more, &mut lists.integers),
+        DeclarationKind::Booleans => add_names(alloc, more, &mut lists.booleans),
+        DeclarationKind::Routines | DeclarationKind::Externals | DeclarationKind::Groupings => Ok(
+            (),
+        ),
     }
 }
 
-fn name_item(alloc: Global, plain: &Plain, names: &mut Names) -> Result<(), AllocError>
-    ensures { OnOk result (view_names names.new ≡ spec.naming (view_plain plain.now) (view_names names.old)) }
+fn name_item(alloc: Global, plain: &Plain, lists: &mut Lists) -> Result<(), AllocError>
+    ensures { OnOk result (view_lists lists.new ≡ spec.naming (view_plain plain.now) (view_lists lists.old)) }
 {
     match plain {
-        Plain::Declaration(kind, more) => declare(alloc, *kind, more, names),
-        Plain::Routine { name, body: _ } => add_name(alloc, name.as_str(), &mut names.routines),
+        Plain::Declaration(kind, more) => declare(alloc, *kind, more, lists),
+        Plain::Routine { name, body: _ } => add_name(alloc, name.as_str(), &mut lists.routines),
         Plain::Grouping {
             name,
             first: _,
             others: _,
-        } => add_name(alloc, name.as_str(), &mut names.groupings),
+        } => add_name(alloc, name.as_str(), &mut lists.groupings),
         Plain::StringEscapes(_, _) => Ok(()),
         Plain::StringDef {
             name: _,
@@ -116,11 +138,10 @@ fn name_item(alloc: Global, plain: &Plain, names: &mut Names) -> Result<(), Allo
     }
 }
 
-/// The names of a script.
-pub fn names_of(alloc: Global, items: &[Placed]) -> Result<Names, AllocError>
-    ensures { IfOk result (λ names. view_names names ≡ spec.names_behind (map view_placed items.now) spec.no_names) }
+fn lists_of(alloc: Global, items: &[Placed]) -> Result<Lists, AllocError>
+    ensures { IfOk result (λ lists. view_lists lists ≡ spec.names_behind (map view_placed items.now) spec.no_names) }
 {
-    let mut names = Names {
+    let mut lists = Lists {
         strings: Vec::new(alloc),
         integers: Vec::new(alloc),
         booleans: Vec::new(alloc),
@@ -128,26 +149,27 @@ pub fn names_of(alloc: Global, items: &[Placed]) -> Result<Names, AllocError>
         routines: Vec::new(alloc),
     };
     for item in items {
-        name_item(alloc, item.plain, &mut names)?;
+        name_item(alloc, item.plain, &mut lists)?;
     }
-    Ok(names)
+    Ok(lists)
 }
 
-/// The number of a name; how many there are, where it is not one of them.
-pub fn number_of(names: &Vec<String>, name: &str) -> usize
-    ensures { result ≡ spec.number_of (map string_bytes names.now.items) name.now }
+/// The names of a script.
+pub fn names_of(alloc: Global, items: &[Placed]) -> Result<Names, AllocError>
+    ensures { IfOk result (λ names. view_names names ≡ spec.names_behind (map view_placed items.now) spec.no_names) }
 {
-    for (number, other) in names.iter().enumerate() {
-        if other.as_str() == name {
-            return number;
-        }
-    }
-    names.len()
-}
-
-/// Whether a name is one of these.
-pub fn is_one_of(names: &Vec<String>, name: &str) -> bool
-    ensures { result ≡ spec.is_one_of (map string_bytes names.now.items) name.now }
-{
-    number_of(names, name) < names.len()
+    let Lists {
+        strings,
+        integers,
+        booleans,
+        groupings,
+        routines,
+    } = lists_of(alloc, items)?;
+    Ok(Names {
+        strings: Kind::of(alloc, strings)?,
+        integers: Kind::of(alloc, integers)?,
+        booleans: Kind::of(alloc, booleans)?,
+        groupings: Kind::of(alloc, groupings)?,
+        routines: Kind::of(alloc, routines)?,
+    })
 }

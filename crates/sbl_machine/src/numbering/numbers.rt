@@ -8,7 +8,7 @@ ghost use Rattle.sbl_machine.specs.PlanOf.{view_number, view_text};
 
 use crate::action::{Arithmetic, StringTerm};
 use crate::copies::copied;
-use crate::numbering::names::{Names, number_of};
+use crate::numbering::names::Names;
 use sbl_grammar::{
     Added, Additive, Argument, Constant, Expression, Factor, Multiplicative, Product, Scaled,
 };
@@ -20,7 +20,7 @@ pub fn text(alloc: Global, names: &Names, argument: &Argument) -> Result<StringT
 {
     match argument {
         Argument::Literal(literal) => Ok(StringTerm::Literal(copied(alloc, &literal.value)?)),
-        Argument::Name(name) => Ok(StringTerm::Variable(number_of(&names.strings, name.as_str()))),
+        Argument::Name(name) => Ok(StringTerm::Variable(names.strings.number_of(name.as_str()))),
     }
 }
 
@@ -36,7 +36,12 @@ fn constant(constant: Constant) -> Arithmetic
     }
 }
 
-fn add(alloc: Global, operator: Additive, a: Arithmetic, b: Arithmetic) -> Result<Arithmetic, AllocError>
+fn add(
+    alloc: Global,
+    operator: Additive,
+    a: Arithmetic,
+    b: Arithmetic,
+) -> Result<Arithmetic, AllocError>
     ensures { IfOk result (λ x. view_number x ≡ spec.added operator (view_number a) (view_number b)) }
 {
     match operator {
@@ -45,7 +50,12 @@ fn add(alloc: Global, operator: Additive, a: Arithmetic, b: Arithmetic) -> Resul
     }
 }
 
-fn scale(alloc: Global, operator: Multiplicative, a: Arithmetic, b: Arithmetic) -> Result<Arithmetic, AllocError>
+fn scale(
+    alloc: Global,
+    operator: Multiplicative,
+    a: Arithmetic,
+    b: Arithmetic,
+) -> Result<Arithmetic, AllocError>
     ensures { IfOk result (λ x. view_number x ≡ spec.scaled operator (view_number a) (view_number b)) }
 {
     match operator {
@@ -56,7 +66,11 @@ fn scale(alloc: Global, operator: Multiplicative, a: Arithmetic, b: Arithmetic) 
 
 /// An expression.
 #[cycle(arithmetic)]
-pub fn number_of_expression(alloc: Global, names: &Names, expression: &Expression) -> Result<Arithmetic, AllocError>
+pub fn number_of_expression(
+    alloc: Global,
+    names: &Names,
+    expression: &Expression,
+) -> Result<Arithmetic, AllocError>
     ensures { IfOk result (λ x. view_number x ≡ spec.expression (view_names names.now) (view_expression expression.now)) }
 {
     let first = number_of_product(alloc, names, &expression.first)?;
@@ -64,7 +78,12 @@ pub fn number_of_expression(alloc: Global, names: &Names, expression: &Expressio
 }
 
 #[cycle(arithmetic)]
-fn with_sums(alloc: Global, names: &Names, others: &Vec<Added>, first: Arithmetic) -> Result<Arithmetic, AllocError>
+fn with_sums(
+    alloc: Global,
+    names: &Names,
+    others: &Vec<Added>,
+    first: Arithmetic,
+) -> Result<Arithmetic, AllocError>
     ensures { IfOk result (λ x. view_number x ≡ spec.with_sums (view_names names.now) (view_sums others.now.items) (view_number first)) }
 {
     let mut total = first;
@@ -76,7 +95,11 @@ fn with_sums(alloc: Global, names: &Names, others: &Vec<Added>, first: Arithmeti
 }
 
 #[cycle(arithmetic)]
-fn number_of_product(alloc: Global, names: &Names, product: &Product) -> Result<Arithmetic, AllocError>
+fn number_of_product(
+    alloc: Global,
+    names: &Names,
+    product: &Product,
+) -> Result<Arithmetic, AllocError>
     ensures { IfOk result (λ x. view_number x ≡ spec.product (view_names names.now) (view_product product.now)) }
 {
     let first = number_of_factor(alloc, names, &product.first)?;
@@ -84,7 +107,12 @@ fn number_of_product(alloc: Global, names: &Names, product: &Product) -> Result<
 }
 
 #[cycle(arithmetic)]
-fn with_scales(alloc: Global, names: &Names, others: &Vec<Scaled>, first: Arithmetic) -> Result<Arithmetic, AllocError>
+fn with_scales(
+    alloc: Global,
+    names: &Names,
+    others: &Vec<Scaled>,
+    first: Arithmetic,
+) -> Result<Arithmetic, AllocError>
     ensures { IfOk result (λ x. view_number x ≡ spec.with_scales (view_names names.now) (view_scales others.now.items) (view_number first)) }
 {
     let mut total = first;
@@ -106,7 +134,7 @@ fn number_of_factor(alloc: Global, names: &Names, factor: &Factor) -> Result<Ari
         }
         Factor::Bracket(inner) => number_of_expression(alloc, names, inner),
         Factor::Number(number) => Ok(Arithmetic::Number(*number)),
-        Factor::Name(name) => Ok(Arithmetic::Integer(number_of(&names.integers, name.as_str()))),
+        Factor::Name(name) => Ok(Arithmetic::Integer(names.integers.number_of(name.as_str()))),
         Factor::Constant(word) => Ok(constant(*word)),
         Factor::LenOf(argument) => Ok(Arithmetic::LengthOf(text(alloc, names, argument)?)),
     }

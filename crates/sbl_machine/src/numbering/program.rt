@@ -11,7 +11,7 @@ ghost use Rattle.sbl_script.specs.Parsed.{source_of};
 use crate::node::{Program, Routine};
 use crate::numbering::amongs::{Found, amongs_of};
 use crate::numbering::commands::{Place, row_of};
-use crate::numbering::names::{Names, Placed, names_of, number_of, place_all};
+use crate::numbering::names::{Names, Placed, names_of, place_all};
 use crate::numbering::sets::sets_of;
 use crate::search::AmongSearch;
 use sbl_grammar::{Plain, Row};
@@ -98,7 +98,7 @@ fn program_by(
         strings: names.strings.len(),
         groupings,
         routines,
-        external: number_of(&names.routines, external),
+        external: names.routines.number_of(external),
     })
 }
 

@@ -5,7 +5,7 @@ ghost use Rattle.sbl_grammar.specs.View.{view_argument, view_plain, view_term};
 ghost use Rattle.sbl_machine.specs.NumberedSets as spec;
 ghost use Rattle.sbl_machine.specs.NumberedView.{view_names, view_placed};
 
-use crate::numbering::names::{Names, Placed, number_of};
+use crate::numbering::names::{Names, Placed};
 use sbl_grammar::{Additive, Argument, Plain, Term};
 use std::alloc::{AllocError, Global};
 
@@ -41,7 +41,12 @@ fn lessen(alloc: Global, set: &[char], less: &[char]) -> Result<Vec<char>, Alloc
     Ok(left)
 }
 
-fn combine(alloc: Global, operator: Additive, set: Vec<char>, term: &[char]) -> Result<Vec<char>, AllocError>
+fn combine(
+    alloc: Global,
+    operator: Additive,
+    set: Vec<char>,
+    term: &[char],
+) -> Result<Vec<char>, AllocError>
     ensures { IfOk result (λ v. v.items ≡ spec.combined operator set.items term.now) }
 {
     match operator {
@@ -60,7 +65,7 @@ fn characters_of<'a>(names: &Names, sets: &'a Vec<Vec<char>>, argument: &'a Argu
 {
     match argument {
         Argument::Literal(literal) => literal.value.as_slice(),
-        Argument::Name(name) => match sets.get(number_of(&names.groupings, name.as_str())) {
+        Argument::Name(name) => match sets.get(names.groupings.number_of(name.as_str())) {
             None => &[],
             Some(set) => set.as_slice(),
         },
@@ -80,12 +85,22 @@ fn set_of(
     let mut set = Vec::new(alloc);
     unite(&mut set, characters_of(names, sets, first))?;
     for term in others {
-        set = combine(alloc, term.operator, set, characters_of(names, sets, &term.argument))?;
+        set = combine(
+            alloc,
+            term.operator,
+            set,
+            characters_of(names, sets, &term.argument),
+        )?;
     }
     Ok(set)
 }
 
-fn add_set(alloc: Global, names: &Names, plain: &Plain, sets: &mut Vec<Vec<char>>) -> Result<(), AllocError>
+fn add_set(
+    alloc: Global,
+    names: &Names,
+    plain: &Plain,
+    sets: &mut Vec<Vec<char>>,
+) -> Result<(), AllocError>
     ensures { OnOk result (map (λ x. x.items) sets.new.items ≡ spec.with_set (view_names names.now) (view_plain plain.now) (map (λ x. x.items) sets.old.items)) }
 {
     if let Plain::Grouping {

@@ -35,7 +35,13 @@ fn takes_the_longest(rt: HostRuntime) -> Result<(), Fail> {
         &rt,
         alloc,
         "among ( 'a' 'b' ( <+ '1' ) 'c' ( <+ '2' ) 'd' )",
-        &[("az", Ok("a1z"), 4), ("bz", Ok("b1z"), 4), ("cz", Ok("c2z"), 4), ("dz", Ok("dz"), 2), ("z", Ok("z"), 2)],
+        &[
+            ("az", Ok("a1z"), 4),
+            ("bz", Ok("b1z"), 4),
+            ("cz", Ok("c2z"), 4),
+            ("dz", Ok("dz"), 2),
+            ("z", Ok("z"), 2),
+        ],
     )
 }
 
@@ -48,7 +54,11 @@ fn conditions_go_on(rt: HostRuntime) -> Result<(), Fail> {
         alloc,
         "integers ( n ) externals ( stem ) routines ( c ) define c as ( $n += 1 $n == 2 )
         define stem as among ( 'a' c ( <+ '1' ) 'ab' c ( <+ '2' ) 'abc' c ( <+ '3' ) )",
-        &[("abc", Ok("ab2c"), 0), ("ab", Ok("a1b"), 0), ("a", Ok("a"), 0)],
+        &[
+            ("abc", Ok("ab2c"), 0),
+            ("ab", Ok("a1b"), 0),
+            ("a", Ok("a"), 0),
+        ],
     )?;
     runs(
         &rt,
@@ -82,7 +92,12 @@ fn searches_before_the_among(rt: HostRuntime) -> Result<(), Fail> {
         "( try substring among ( 'a' ) )",
         &[("b", Ok("b"), 4), ("a", Ok("a"), 4)],
     )?;
-    body_runs(&rt, alloc, "among ( ( next ) 'a' () )", &[("ab", Ok("ab"), 5), ("a", Ok("a"), 4)])?;
+    body_runs(
+        &rt,
+        alloc,
+        "among ( ( next ) 'a' () )",
+        &[("ab", Ok("ab"), 5), ("a", Ok("a"), 4)],
+    )?;
     runs_with(
         &rt,
         alloc,
@@ -137,6 +152,10 @@ fn choices_last(rt: HostRuntime) -> Result<(), Fail> {
         &rt,
         alloc,
         "( substring among ( 'a' ( among ( 'b' ( <+ '1' ) 'c' ( <+ '2' ) ) ) 'd' ( <+ '3' ) ) among ( 'e' ( <+ '4' ) ) )",
-        &[("abe", Ok("ab1e4"), 0), ("ace", Ok("ac2e4"), 0), ("de", Ok("d3e4"), 0)],
+        &[
+            ("abe", Ok("ab1e4"), 0),
+            ("ace", Ok("ac2e4"), 0),
+            ("de", Ok("d3e4"), 0),
+        ],
     )
 }

@@ -43,8 +43,20 @@ fn computes(rt: HostRuntime) -> Result<(), Fail> {
         let body = format!(in alloc; "next $x = {value} $x == {want} [ tolimit ] delete")?;
         gives(&rt, alloc, body.as_str(), "abc", Ok("a"))?;
     }
-    gives(&rt, alloc, "next backwards ( $x = limit ) $x == 1 [ tolimit ] delete", "abc", Ok("a"))?;
-    gives(&rt, alloc, "setlimit hop 2 for ( $x = limit $y = len ) $( x + y == 5 ) delete [ next ] delete", "abc", Ok("bc"))
+    gives(
+        &rt,
+        alloc,
+        "next backwards ( $x = limit ) $x == 1 [ tolimit ] delete",
+        "abc",
+        Ok("a"),
+    )?;
+    gives(
+        &rt,
+        alloc,
+        "setlimit hop 2 for ( $x = limit $y = len ) $( x + y == 5 ) delete [ next ] delete",
+        "abc",
+        Ok("bc"),
+    )
 }
 
 #[test]

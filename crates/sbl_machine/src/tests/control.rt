@@ -15,7 +15,12 @@ fn turns_of_a_script(rt: HostRuntime) -> Result<(), Fail> {
     runs_with(&rt, alloc, 3, twice, &[("ab", Ok("ab"), 3)])?;
     runs_with(&rt, alloc, 2, twice, &[("ab", steps, 3)])?;
     body_runs(&rt, alloc, "loop -1 next", &[("ab", Ok("ab"), 1)])?;
-    body_runs(&rt, alloc, "( atleast 3 next <+ 'x' )", &[("ab", Ok("ab"), 5)])?;
+    body_runs(
+        &rt,
+        alloc,
+        "( atleast 3 next <+ 'x' )",
+        &[("ab", Ok("ab"), 5)],
+    )?;
     // the turns that follow pay no step of their own
     body_runs(&rt, alloc, "atleast 1 next", &[("ab", Ok("ab"), 4)])
 }
@@ -141,10 +146,22 @@ fn sets_limits(rt: HostRuntime) -> Result<(), Fail> {
             Ok("abcd"),
         ),
         // the old limit is back at f
-        ("( try setlimit next for false [ tolimit ] delete )", "ab", Ok("")),
-        ("( setlimit 'z' for next [ tolimit ] delete )", "ab", Ok("ab")),
+        (
+            "( try setlimit next for false [ tolimit ] delete )",
+            "ab",
+            Ok(""),
+        ),
+        (
+            "( setlimit 'z' for next [ tolimit ] delete )",
+            "ab",
+            Ok("ab"),
+        ),
         // and keeps its distance from the end of the text
-        ("( setlimit next for insert 'xy' [ tolimit ] delete )", "ab", Ok("xy")),
+        (
+            "( setlimit next for insert 'xy' [ tolimit ] delete )",
+            "ab",
+            Ok("xy"),
+        ),
         // a cursor beyond the limit: nothing is ahead
         (
             "( [ next ] setlimit delete for ( atlimit '' hop 0 tolimit insert 'x' ) )",

@@ -20,7 +20,12 @@ fn slices_of_a_script(rt: HostRuntime) -> Result<(), Fail> {
         &[("ab", Ok("aba"), 7)],
     )?;
     // a slice that was set forwards is used backwards
-    body_runs(&rt, alloc, "( [ next ] backwards delete )", &[("ab", Ok("b"), 6)])?;
+    body_runs(
+        &rt,
+        alloc,
+        "( [ next ] backwards delete )",
+        &[("ab", Ok("b"), 6)],
+    )?;
     // it may not go past the limit
     body_runs(
         &rt,
@@ -82,10 +87,16 @@ fn bounds_the_text(rt: HostRuntime) -> Result<(), Fail> {
     for (body, want) in [
         ("repeat <+ 'aa'", Err(RunFault::TooLong)),
         ("( next [ tolimit loop 511 <+ 'aa' ] delete )", Ok("a")),
-        ("( next [ tolimit loop 512 <+ 'aa' ] delete )", Err(RunFault::TooLong)),
+        (
+            "( next [ tolimit loop 512 <+ 'aa' ] delete )",
+            Err(RunFault::TooLong),
+        ),
         ("( loop 511 <+ 'aa' <- 'b' )", Err(RunFault::TooLong)),
         // the slice and the cursor are asked first
-        ("( tolimit loop 511 <+ 'aa' [ <- 'b' )", Err(RunFault::Slice)),
+        (
+            "( tolimit loop 511 <+ 'aa' [ <- 'b' )",
+            Err(RunFault::Slice),
+        ),
         (
             "( [ next ] test ( tolimit loop 511 <+ 'aa' ) setlimit delete for insert 'xx' )",
             Err(RunFault::Cursor),

@@ -86,8 +86,20 @@ fn takes_suffixes(rt: HostRuntime) -> Result<(), Fail> {
     )?;
     runs_with(&rt, alloc, 16, SUFFIXES, &[("s", Ok(""), 16)])?;
     runs_with(&rt, alloc, 15, SUFFIXES, &[("s", steps, 16)])?;
-    runs_with(&rt, alloc, 12, SUFFIXES, &[("s", steps, 13), ("dog", Ok("dog"), 12)])?;
-    runs_with(&rt, alloc, 11, SUFFIXES, &[("s", steps, 12), ("dog", steps, 12)])
+    runs_with(
+        &rt,
+        alloc,
+        12,
+        SUFFIXES,
+        &[("s", steps, 13), ("dog", Ok("dog"), 12)],
+    )?;
+    runs_with(
+        &rt,
+        alloc,
+        11,
+        SUFFIXES,
+        &[("s", steps, 12), ("dog", steps, 12)],
+    )
 }
 
 #[test]
@@ -123,10 +135,26 @@ fn escapes_and_fronts(rt: HostRuntime) -> Result<(), Fail> {
 fn groupings(rt: HostRuntime) -> Result<(), Fail> {
     let alloc = rt.alloc();
     for (v, w, rows) in [
-        ("'ae'", "v + 'y'", [("xyb", Ok("b"), 0), ("ab", Ok("b"), 0), ("xb", Ok("xb"), 0)]),
-        ("'ae'", "v + 'b'", [("xyb", Ok("xyb"), 0), ("ab", Ok("b"), 0), ("xb", Ok(""), 0)]),
-        ("'x'", "v + 'b'", [("xyb", Ok("yb"), 0), ("ab", Ok("ab"), 0), ("xb", Ok(""), 0)]),
-        ("'xa'", "v - 'x' + 'b' - 'b'", [("xyb", Ok("yb"), 0), ("ab", Ok("b"), 0), ("xb", Ok("b"), 0)]),
+        (
+            "'ae'",
+            "v + 'y'",
+            [("xyb", Ok("b"), 0), ("ab", Ok("b"), 0), ("xb", Ok("xb"), 0)],
+        ),
+        (
+            "'ae'",
+            "v + 'b'",
+            [("xyb", Ok("xyb"), 0), ("ab", Ok("b"), 0), ("xb", Ok(""), 0)],
+        ),
+        (
+            "'x'",
+            "v + 'b'",
+            [("xyb", Ok("yb"), 0), ("ab", Ok("ab"), 0), ("xb", Ok(""), 0)],
+        ),
+        (
+            "'xa'",
+            "v - 'x' + 'b' - 'b'",
+            [("xyb", Ok("yb"), 0), ("ab", Ok("b"), 0), ("xb", Ok("b"), 0)],
+        ),
     ] {
         let script = format!(in alloc;
             "groupings ( v w ) externals ( stem ) define v {v} define w {w} define stem as ( [ ( 'x' w ) or v ] delete )"
