@@ -1,18 +1,18 @@
 -- Where a word stands in a map's entries, and what the entries are once one more is put last.
-use Rattle.std.proofs.Common.{◌≡◌, ◌∙◌, ◌<◌, ◌++◌, ℕ, Bool, true, false, List, [], ◌∷◌, length, Option, Some, None, Result, Ok, Err, OnOk, OnErr, is_some, All, refl, sym, ap, subst, arith, map}
+use Rattle.std.proofs.Common.{◌≡◌, ◌∙◌, ◌<◌, ◌≤◌, ◌++◌, ℕ, Bool, true, false, List, [], ◌∷◌, length, Option, Some, None, Result, Ok, Err, OnOk, OnErr, is_some, All, refl, sym, ap, subst, arith, map}
 use Rattle.std.proofs.lemmas.List.{length-append}
-use Rattle.std.proofs.lemmas.List.Elements.{All-push}
+use Rattle.std.proofs.lemmas.List.Elements.{All-push, All-head, All-tail, All-cons}
 use Rattle.std.specs.Str.{bytes_eq}
 use Rattle.std.specs.declared.vec.Vec.{Vec}
 use Rattle.std.specs.declared.alloc.Global.{Global}
-use Rattle.std.specs.Map.{lookup}
+use Rattle.std.specs.Map.{lookup, remove_entry}
 use Rattle.sbl_script.specs.Parsed.{Source}
 use Rattle.sbl_machine.specs.declared.outcome.Outcome.{Outcome}
 use Rattle.sbl_machine.specs.Outcome.{outcome_of, run_of}
 use Rattle.sbl_bench.specs.declared.fault.EditFault.{EditFault}
 use Rattle.sbl_bench.specs.Kept.{Entry, words_in, AreFresh, IsWord, IsKept}
 use Rattle.sbl_bench.specs.Rows.{Row, rows_of, most_steps}
-use Rattle.sbl_bench.specs.Vocabulary.{is_word}
+use Rattle.sbl_bench.specs.Vocabulary.{is_word, without}
 
 abbrev pub is_key : List ℕ → Vec ℕ Global → Bool
 is_key word k = bytes_eq word k.items
@@ -66,3 +66,45 @@ pub kept_either : (script : Source) (es new : List Entry) (r : Result (Unit {0})
     → OnOk r (IsKept script new) → OnErr r (new ≡ es) → IsKept script new
 kept_either script es new (Ok u) kept more same = more
 kept_either script es new (Err f) kept more same = subst (IsKept script) (sym same) kept
+
+-- ---- a word that is taken out
+
+pub words-remove : (word : List ℕ) (es : List Entry) → words_in (remove_entry (is_key word) es) ≡ without word (words_in es)
+words-remove word [] = refl
+words-remove word (e ∷ es) = by (is_key word e.0) refl (words-remove word es)
+  where
+    by : (b : Bool) → is_key word e.0 ≡ b → words_in (remove_entry (is_key word) es) ≡ without word (words_in es)
+        → words_in (remove_entry (is_key word) (e ∷ es)) ≡ without word (words_in (e ∷ es))
+    by true h rest = rw h refl
+    by false h rest = rw h (ap (λ (ws : List (List ℕ)). e.0.items ∷ ws) rest)
+
+fresh-remove : (script : Source) (word : List ℕ) (es : List Entry) → AreFresh script es → AreFresh script (remove_entry (is_key word) es)
+fresh-remove script word [] h = tt
+fresh-remove script word (e ∷ es) h = by (is_key word e.0) refl (fresh-remove script word es h.1)
+  where
+    by : (b : Bool) → is_key word e.0 ≡ b → AreFresh script (remove_entry (is_key word) es) → AreFresh script (remove_entry (is_key word) (e ∷ es))
+    by true k rest = rw k h.1
+    by false k rest = rw k (h.0, rest)
+
+all-without : (P : List ℕ → Type 0) (word : List ℕ) (ws : List (List ℕ)) → All P ws → All P (without word ws)
+all-without P word [] h = h
+all-without P word (w ∷ ws) h = by (bytes_eq word w) refl (all-without P word ws (All-tail P w ws h))
+  where
+    by : (b : Bool) → bytes_eq word w ≡ b → All P (without word ws) → All P (without word (w ∷ ws))
+    by true k rest = rw k (All-tail P w ws h)
+    by false k rest = rw k (All-cons P w (without word ws) (All-head P w ws h) rest)
+
+short-remove : (word : List ℕ) (es : List Entry) → length (remove_entry (is_key word) es) ≤ length es
+short-remove word [] = omega arith
+short-remove word (e ∷ es) = by (is_key word e.0) refl (short-remove word es)
+  where
+    by : (b : Bool) → is_key word e.0 ≡ b → length (remove_entry (is_key word) es) ≤ length es → length (remove_entry (is_key word) (e ∷ es)) ≤ length (e ∷ es)
+    by true k rest = rw k (omega arith)
+    by false k rest = rw k (omega (arith, rest))
+
+pub kept-remove : (script : Source) (word : List ℕ) (es : List Entry) → IsKept script es → IsKept script (remove_entry (is_key word) es)
+kept-remove script word es h = record {
+  fresh = fresh-remove script word es h.fresh;
+  sound = subst (All IsWord) (sym (words-remove word es)) (all-without IsWord word (words_in es) h.sound);
+  room = omega (arith, h.room, short-remove word es);
+}

@@ -1,5 +1,9 @@
 pub mod Vocabulary
 pub mod Rows
 pub mod State
+pub mod Edits
 pub mod Kept
+pub mod Pairs
 pub mod Stops
+pub mod Classes
+pub mod Changes

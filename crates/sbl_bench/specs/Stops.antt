@@ -1,5 +1,5 @@
 -- Why a word that is not refused is not taken all the same.
-use Rattle.std.specs.Prelude.{◌≡◌, ℕ}
+use Rattle.std.specs.Prelude.{◌≡◌, ◌≤◌, ◌+◌, ℕ}
 use Rattle.sbl_machine.specs.declared.fault.RunStop.{RunStop}
 use Rattle.sbl_machine.specs.declared.fault.RunStop.TheVariants as stop
 use Rattle.sbl_bench.specs.declared.fault.EditFault.{EditFault}
@@ -11,8 +11,8 @@ abbrev pub fault_of_stop : RunStop → EditFault
 fault_of_stop stop.OutOfMemory = fault.OutOfMemory
 fault_of_stop stop.MeterFull = fault.MeterFull
 
--- memory was refused, or the meter is full
-abbrev pub IsStop : EditFault → ℕ → Type 0
-IsStop fault.OutOfMemory count = Unit {0}
-IsStop fault.MeterFull count = count ≡ most_runs
-IsStop f count = ⊥
+-- memory was refused, and at most so many runs were made, or the meter is full
+abbrev pub IsStop : ℕ → EditFault → ℕ → ℕ → Type 0
+IsStop most fault.OutOfMemory count new_count = (n : ℕ) × (n ≤ most) × (new_count ≡ count + n)
+IsStop most fault.MeterFull count new_count = (count ≡ most_runs) × (new_count ≡ count)
+IsStop most f count new_count = ⊥

@@ -24,3 +24,8 @@ with_all words (w ∷ ws) = with_all (with_word words w) ws
 -- the first vocabulary of a list of words: empty words and repeats are skipped, a word's first place is kept
 abbrev pub vocabulary : List (List ℕ) → List (List ℕ)
 vocabulary words = with_all [] words
+
+-- the words without this one, the gap closed
+abbrev pub without : List ℕ → List (List ℕ) → List (List ℕ)
+without word [] = []
+without word (w ∷ words) = if bytes_eq word w then words else w ∷ without word words

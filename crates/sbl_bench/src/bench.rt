@@ -4,9 +4,10 @@ ghost use Rattle.std.specs.Prelude.{◌≡◌, ◌≤◌, ◌+◌, ◌^◌, ◌�
 
 use crate::row::Row;
 use indexmap::IndexMap;
-use sbl_machine::{Machine, Meter, Outcome, PlainTable};
+use sbl_machine::{Machine, Meter, Outcome, Table};
 use sbl_script::Script;
 use std::alloc::{AllocError, Global};
+use std::collections::BTreeSet;
 use std::marker::Model;
 
 /// The most characters of a word (our own choice).
@@ -20,8 +21,10 @@ pub const MOST_WORDS: usize = 100_000;
 pub struct Bench {
     pub(crate) alloc: Global,
     pub(crate) script: Script,
-    pub(crate) machine: Machine<PlainTable>,
+    pub(crate) machine: Machine<Table>,
     pub(crate) outcomes: IndexMap<Vec<char>, Outcome>,
+    // each word that has a stem, behind it
+    pub(crate) pairs: BTreeSet<(Vec<char>, Vec<char>)>,
     pub(crate) meter: Meter,
 }
 
@@ -29,8 +32,9 @@ impl Model for Bench {
     ghost use Rattle.std.specs.Coded.{codes};
     ghost use Rattle.sbl_grammar.specs.contracts.tree.Item as e;
     ghost use Rattle.sbl_script.specs.Parsed.{source_of};
-    ghost use Rattle.sbl_machine.specs.MachineOf.{IsPlainMachineOf};
+    ghost use Rattle.sbl_machine.specs.MachineOf.{IsLinkedMachineOf};
     ghost use Rattle.sbl_bench.specs.Kept.{Kept, words_in, IsKept};
+    ghost use Rattle.sbl_bench.specs.Pairs.{ArePaired};
 
     ghost Value = { Kept };
 
@@ -38,7 +42,7 @@ impl Model for Bench {
 
     ghost view = { λ b. record { script = b.script; words = words_in b.outcomes.entries; count = b.meter } };
 
-    ghost invariant = { λ b. IsPlainMachineOf b.machine (source_of b.script) × IsKept (source_of b.script) b.outcomes.entries };
+    ghost invariant = { λ b. IsLinkedMachineOf b.machine (source_of b.script) × IsKept (source_of b.script) b.outcomes.entries × ArePaired b.outcomes.entries b.pairs };
 }
 
 impl Bench {

@@ -3,21 +3,27 @@
 ghost use Rattle.std.specs.Prelude.{◌≡◌, ◌≤◌, ◌<◌, ◌+◌, ◌^◌};
 
 use crate::bench::{Bench, MOST_CHARACTERS, MOST_WORDS};
+use crate::change::{changes_of, make_changes};
 use crate::fault::EditFault;
 use crate::outcomes::{has_word, put_last};
+use crate::pairs::remove_pair;
+use sbl_machine::Machine;
+use sbl_script::Script;
 
 impl Bench {
     ghost use Rattle.sbl_bench.specs.Kept.{state_of};
-    ghost use Rattle.sbl_bench.specs.State.{Adds};
+    ghost use Rattle.sbl_bench.specs.Edits.{Edits, Add, Remove, Replace};
+    ghost use Rattle.sbl_script.specs.Parsed.{source_of};
 
     /// Puts a word last in the vocabulary and runs it once.
     ///
     /// It answers EmptyWord where the word has no character, WordTooLong where it has more than 255, Present where it is in the
     /// vocabulary and Full where that has 100,000 words, in this order; these take no memory. Then it answers MeterFull
     /// where the count of runs is at its end, and OutOfMemory where a growth is refused. Whatever it answers but `Ok`,
-    /// script, vocabulary, rows and the count of runs are left as they were. (Our own choice.)
+    /// script, vocabulary, rows and classes are left as they were, and the count of runs too, but that it may be one higher
+    /// at OutOfMemory. (Our own choice.)
     pub fn add(&mut self, word: &[char]) -> Result<(), EditFault>
-        ensures { Adds result (state_of self.old) word.now (state_of self.new) }
+        ensures { Edits result (state_of self.old) (Add word.now) (state_of self.new) }
     {
         if word.is_empty() {
             return Err(EditFault::EmptyWord);
@@ -31,13 +37,46 @@ impl Bench {
         if self.outcomes.len() >= MOST_WORDS {
             return Err(EditFault::Full);
         }
+        if self.meter.is_full() {
+            return Err(EditFault::MeterFull);
+        }
         let word = Vec::from_slice(self.alloc, word)?;
         put_last(
             self.alloc,
             &self.machine,
             &mut self.meter,
             &mut self.outcomes,
+            &mut self.pairs,
             word,
         )
+    }
+    /// Takes a word out of the vocabulary and closes the gap. It answers Absent where the word is not there, and then changes
+    /// nothing. Takes no memory.
+    pub fn remove(&mut self, word: &[char]) -> Result<(), EditFault>
+        ensures { Edits result (state_of self.old) (Remove word.now) (state_of self.new) }
+    {
+        let Some((key, outcome)) = self.outcomes.shift_remove_entry(word) else {
+            return Err(EditFault::Absent);
+        };
+        remove_pair(&mut self.pairs, key, outcome);
+        Ok(())
+    }
+    /// Puts another script in the place of the current one, and runs every word once.
+    ///
+    /// It answers MeterFull where fewer counts of runs are left than there are words; that takes no memory. Then it answers
+    /// OutOfMemory where a growth is refused. Whatever it answers but `Ok`, script, vocabulary, rows and classes are left as they
+    /// were, and the count of runs too, but that it may be higher at OutOfMemory, by at most the number of words. (Our own choice.)
+    pub(crate) fn replace_script(&mut self, script: Script) -> Result<(), EditFault>
+        ensures { Edits result (state_of self.old) (Replace (source_of script)) (state_of self.new) }
+    {
+        if u64::MAX - self.meter.count() < self.outcomes.len() as u64 {
+            return Err(EditFault::MeterFull);
+        }
+        let machine = Machine::new(self.alloc, &script)?;
+        let changes = changes_of(self.alloc, &machine, &mut self.meter, &self.outcomes)?;
+        make_changes(self.alloc, &mut self.outcomes, &mut self.pairs, changes)?;
+        self.machine = machine;
+        self.script = script;
+        Ok(())
     }
 }

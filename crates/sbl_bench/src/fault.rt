@@ -4,13 +4,16 @@ use sbl_machine::RunStop;
 use std::alloc::AllocError;
 use thiserror::Error;
 
-/// Why an edit is refused. A refused edit changes nothing.
+/// Why an edit is refused. A refused edit changes nothing; only the count of runs may have risen, and only at `OutOfMemory`.
 /// The numbers and names are our own choice.
 #[derive(Debug, Drop, Clone, Copy, PartialEq, Eq, Error)]
 pub enum EditFault {
     /// The word is in the vocabulary.
     #[error("40 Present")]
     Present,
+    /// The word is not in the vocabulary.
+    #[error("41 Absent")]
+    Absent,
     /// The word has no character.
     #[error("42 EmptyWord")]
     EmptyWord,

@@ -5,14 +5,18 @@
 #![tactic(auto)]
 
 pub mod bench;
+pub mod change;
+pub mod class;
 pub mod edit;
 pub mod fault;
 pub mod open;
 pub mod outcomes;
+pub mod pairs;
 pub mod row;
 #[cfg(test)]
 mod tests;
 
 pub use bench::Bench;
+pub use class::Class;
 pub use fault::EditFault;
 pub use row::Row;

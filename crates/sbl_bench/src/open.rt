@@ -2,19 +2,21 @@
 
 ghost use Rattle.std.specs.Prelude.{◌≡◌, ◌≤◌, ◌<◌, ◌+◌, ◌^◌, map, length, None, OnOk, IfErr};
 ghost use Rattle.sbl_script.specs.Parsed.{Source};
-ghost use Rattle.sbl_machine.specs.MachineOf.{IsPlainMachineOf};
+ghost use Rattle.sbl_machine.specs.MachineOf.{IsLinkedMachineOf};
 ghost use Rattle.sbl_bench.specs.Vocabulary as vocabulary;
 ghost use Rattle.sbl_bench.specs.Vocabulary.{with_word};
 ghost use Rattle.sbl_bench.specs.State.{word_fault, IsFaultOrMemory};
 ghost use Rattle.sbl_bench.specs.Kept.{words_in, IsKept};
+ghost use Rattle.sbl_bench.specs.Pairs.{ArePaired};
 
 use crate::bench::{Bench, MOST_CHARACTERS, MOST_WORDS};
 use crate::fault::EditFault;
 use crate::outcomes::{has_word, put_last};
 use indexmap::IndexMap;
-use sbl_machine::{Machine, Meter, Outcome, PlainTable};
+use sbl_machine::{Machine, Meter, Outcome, Table};
 use sbl_script::Script;
 use std::alloc::Global;
+use std::collections::BTreeSet;
 
 impl Bench {
     ghost use Rattle.sbl_bench.specs.Kept.{state_of};
@@ -32,14 +34,16 @@ impl Bench {
         let machine = Machine::new(alloc, &script)?;
         let mut meter = Meter::new();
         let mut outcomes = IndexMap::new(alloc);
+        let mut pairs = BTreeSet::new(alloc);
         for word in words {
-            take_word(alloc, &machine, &mut meter, &mut outcomes, word)?;
+            take_word(alloc, &machine, &mut meter, &mut outcomes, &mut pairs, word)?;
         }
         Ok(Bench {
             alloc,
             script,
             machine,
             outcomes,
+            pairs,
             meter,
         })
     }
@@ -56,15 +60,17 @@ fn is_skipped(outcomes: &IndexMap<Vec<char>, Outcome>, word: &[char]) -> bool
 /// or OutOfMemory as `Bench::open` does.
 fn take_word(
     alloc: Global,
-    machine: &Machine<PlainTable>,
+    machine: &Machine<Table>,
     meter: &mut Meter,
     outcomes: &mut IndexMap<Vec<char>, Outcome>,
+    pairs: &mut BTreeSet<(Vec<char>, Vec<char>)>,
     word: Vec<char>,
 ) -> Result<(), EditFault>
     requires counted { meter.old ≡ length outcomes.old.entries }
     requires room { length outcomes.old.entries ≤ 100000 }
     ensures words { OnOk result (words_in outcomes.new.entries ≡ with_word (words_in outcomes.old.entries) word.items) }
-    ensures kept { OnOk result ((s : Source) → IsPlainMachineOf machine.now s → IsKept s outcomes.old.entries → IsKept s outcomes.new.entries) }
+    ensures kept { OnOk result ((s : Source) → IsLinkedMachineOf machine.now s → IsKept s outcomes.old.entries → IsKept s outcomes.new.entries) }
+    ensures paired { ArePaired outcomes.old.entries pairs.old → ArePaired outcomes.new.entries pairs.new }
     ensures counted { OnOk result (meter.new ≡ length outcomes.new.entries) }
     ensures ok { OnOk result (word_fault (words_in outcomes.old.entries) word.items ≡ None) }
     ensures fault { IfErr result (λ f. IsFaultOrMemory (word_fault (words_in outcomes.old.entries) word.items) f) }
@@ -78,5 +84,5 @@ fn take_word(
     if outcomes.len() >= MOST_WORDS {
         return Err(EditFault::Full);
     }
-    put_last(alloc, machine, meter, outcomes, word)
+    put_last(alloc, machine, meter, outcomes, pairs, word)
 }

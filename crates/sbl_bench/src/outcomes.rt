@@ -1,20 +1,22 @@
 //! The words that a bench keeps, each with its outcome, outside the bench itself.
 
-ghost use Rattle.std.specs.Prelude.{◌≡◌, ◌≢◌, ◌≤◌, ◌<◌, ◌+◌, ◌^◌, ◌++◌, [], ◌∷◌, false, length, OnOk, OnErr, IfErr};
+ghost use Rattle.std.specs.Prelude.{◌≡◌, ◌≤◌, ◌<◌, ◌+◌, ◌^◌, ◌++◌, [], ◌∷◌, false, length, OnOk, OnErr, IfErr};
 ghost use Rattle.sbl_script.specs.Parsed.{Source};
-ghost use Rattle.sbl_machine.specs.MachineOf.{IsPlainMachineOf};
+ghost use Rattle.sbl_machine.specs.MachineOf.{IsLinkedMachineOf};
 ghost use Rattle.sbl_bench.specs.Vocabulary.{is_word};
 ghost use Rattle.sbl_bench.specs.Kept.{words_in, IsWord, IsKept};
-ghost use Rattle.sbl_bench.specs.State.{most_runs};
+ghost use Rattle.sbl_bench.specs.Pairs.{ArePaired};
 ghost use Rattle.sbl_bench.specs.Stops.{IsStop};
 
 use crate::fault::EditFault;
+use crate::pairs::insert_pair;
 use indexmap::IndexMap;
-use sbl_machine::{Machine, Meter, Outcome, PlainTable};
+use sbl_machine::{Machine, Meter, Outcome, Table};
 use std::alloc::Global;
+use std::collections::BTreeSet;
 
 /// The most steps of a run (our own choice).
-const MOST_STEPS: u32 = 100_000;
+pub(crate) const MOST_STEPS: u32 = 100_000;
 
 /// Whether the word is one of those that are kept. Takes no memory.
 pub(crate) fn has_word(outcomes: &IndexMap<Vec<char>, Outcome>, word: &[char]) -> bool
@@ -23,28 +25,30 @@ pub(crate) fn has_word(outcomes: &IndexMap<Vec<char>, Outcome>, word: &[char]) -
     outcomes.contains_key(word)
 }
 
-/// Runs a new word once and puts it last, with its outcome. It answers OutOfMemory where a growth is refused and MeterFull
-/// where no run can be counted any more; then the words, the outcomes and the count are left as they were.
+/// Runs a new word once and puts it last, with its outcome and its pair. It answers OutOfMemory where a growth is refused and
+/// MeterFull where no run can be counted any more; then the words, the outcomes and the pairs are left as they were, and at
+/// MeterFull the count.
 pub(crate) fn put_last(
     alloc: Global,
-    machine: &Machine<PlainTable>,
+    machine: &Machine<Table>,
     meter: &mut Meter,
     outcomes: &mut IndexMap<Vec<char>, Outcome>,
+    pairs: &mut BTreeSet<(Vec<char>, Vec<char>)>,
     word: Vec<char>,
 ) -> Result<(), EditFault>
     requires sound { IsWord word.items }
     requires new { is_word word.items (words_in outcomes.old.entries) ≡ false }
     requires room { length outcomes.old.entries < 100000 }
     ensures words { OnOk result (words_in outcomes.new.entries ≡ words_in outcomes.old.entries ++ word.items ∷ []) }
-    ensures kept { OnOk result ((s : Source) → IsPlainMachineOf machine.now s → IsKept s outcomes.old.entries → IsKept s outcomes.new.entries) }
+    ensures kept { OnOk result ((s : Source) → IsLinkedMachineOf machine.now s → IsKept s outcomes.old.entries → IsKept s outcomes.new.entries) }
     ensures counted { OnOk result (meter.new ≡ meter.old + 1) }
     ensures err { OnErr result (outcomes.new.entries ≡ outcomes.old.entries) }
-    ensures uncounted { OnErr result (meter.new ≡ meter.old) }
-    ensures room { OnOk result (meter.old ≢ most_runs) }
-    ensures stop { IfErr result (λ f. IsStop f meter.old) }
+    ensures paired { ArePaired outcomes.old.entries pairs.old → ArePaired outcomes.new.entries pairs.new }
+    ensures stop { IfErr result (λ f. IsStop 1 f meter.old meter.new) }
 {
     outcomes.reserve(1)?;
     let ran = machine.run(alloc, meter, word.as_slice(), MOST_STEPS)?;
+    insert_pair(alloc, pairs, word.as_slice(), &ran.outcome)?;
     outcomes.insert(word, ran.outcome).unwrap();
     Ok(())
 }

@@ -345,6 +345,15 @@ refused_for [] d k n0 = refl
 refused_for (t.for_ ∷ ts) d k n0 = absurd (n0 refl)
 refused_for (_ ∷ ts) d k n0 = refl
 
+pub refused_among : (ts : Ts) (d : ℕ) (k : Stack) → (role_of ts ≡ roles.Among → ⊥) → fault ts (s.among d ∷ k) ≡ Some (syntax ts)
+refused_among [] d k n0 = refl
+refused_among (t.among ∷ ts) d k n0 = absurd (n0 refl)
+refused_among (_ ∷ ts) d k n0 = refl
+
+-- where an among comes, it may stand for any command
+pub among_first : (ts : Ts) (d : ℕ) (k : Stack) → role_of ts ≡ roles.Among → fault ts (s.command d ∷ k) ≡ fault ts (s.among d ∷ k)
+among_first ts d k e = let f = as_terminal ts t.among refl e in ap (λ (r : Ts). fault r (s.command d ∷ k)) f ∙ ap (λ (r : Ts). fault r (s.among d ∷ k)) (sym f)
+
 pub refused_excluded : (ts : Ts) (d : ℕ) (k : Stack) → ((o : Additive) → role_of ts ≡ roles.Additive o → ⊥) → (role_of ts ≡ roles.Name → ⊥) → fault ts (s.excluded d ∷ k) ≡ Some (syntax ts)
 refused_excluded [] d k n0 n1 = refl
 refused_excluded ((t.additive o) ∷ ts) d k n0 n1 = absurd (n0 o refl)

@@ -13,8 +13,10 @@ use Rattle.sbl_grammar.specs.Places.{Placed, placed_expression, placed_sums, pla
 use Rattle.sbl_grammar.specs.Steps.{Stack, Step, goes, stuck, unassigned, is_done, step, Fault, syntax, too_deep, no_operator, fault, after_step, max_depth}
 use Rattle.sbl_grammar.specs.Steps as s
 use Rattle.sbl_grammar.specs.Reading.{IsFront, IsTooDeep, HasNoneTooDeep, IsReadAs, CannotFollow, LacksOperator, StopsAt, IsSyntaxAt, IsTooDeepAt, IsOutOfProfileAt}
-use Rattle.sbl_grammar.proofs.Runs.{Runs, IsDone, items_run}
-use Rattle.sbl_grammar.proofs.Viable.{front_of}
+use Rattle.sbl_grammar.specs.Texts.{Text, TreeOf, places_in, tokens_of, first_stack}
+use Rattle.sbl_grammar.specs.Texts as texts
+use Rattle.sbl_grammar.proofs.Runs.{Runs, IsDone, text_runs}
+use Rattle.sbl_grammar.proofs.Viable.{runs_made}
 use Rattle.sbl_grammar.proofs.Operators.{came, wants}
 
 abbrev Ts : Type 0
@@ -57,7 +59,7 @@ entries_tokens [] d ps = refl
 entries_tokens (x ∷ xs) d ps = entry_tokens x d _ ∙ ap (λ (r : Ts). spelled_entry x r) (entries_tokens xs d ps)
 
 mutual
-  tree_tokens : (c : Tree) (d : ℕ) (ps : List Placed) → tokens (placed c d ps) ≡ spelled c (tokens ps)
+  pub tree_tokens : (c : Tree) (d : ℕ) (ps : List Placed) → tokens (placed c d ps) ≡ spelled c (tokens ps)
   tree_tokens (bracket rs) d ps = cons t.open_ (rows_tokens rs (d + 1) _)
   tree_tokens (single x) d ps = refl
   tree_tokens (quoted q) d ps = refl
@@ -100,7 +102,7 @@ base_tokens : (b : Option Base) (ps : List Placed) → tokens (placed_base b ps)
 base_tokens None ps = refl
 base_tokens (Some b) ps = refl
 
-terms_tokens : (xs : List Term) (ps : List Placed) → tokens (placed_terms xs ps) ≡ spelled_terms xs (tokens ps)
+pub terms_tokens : (xs : List Term) (ps : List Placed) → tokens (placed_terms xs ps) ≡ spelled_terms xs (tokens ps)
 terms_tokens [] ps = refl
 terms_tokens (term o a ∷ xs) ps = cons (t.additive o) (cons (argument_terminal a) (terms_tokens xs ps))
 
@@ -125,6 +127,22 @@ items_tokens (x ∷ xs) ps = item_tokens x _ ∙ ap (λ (r : Ts). spelled_item x
 
 pub places_tokens : (tree : List Item) → tokens (places tree) ≡ written tree
 places_tokens tree = items_tokens tree []
+
+pub body_tokens : (c : Tree) (os : Others) → tokens (placed c 1 (placed_others os 1 [])) ≡ spelled c (spelled_others os [])
+body_tokens c os = tree_tokens c 1 _ ∙ ap (λ (r : Ts). spelled c r) (others_tokens os 1 [])
+
+-- what was passed is the front of a tree's tokens
+front_of : (w : Text) (ps : List Placed) (End : Stack → Type 0) → Runs ps (first_stack w) End → IsFront w (tokens ps)
+front_of texts.script ps End h = let m = runs_made ps _ End h in (m.1.0, m.0, places_tokens m.1.0 ∙ sym (m.1.2 ∙ ap (λ (r : Ts). spelled_items m.1.0 r) m.1.3))
+front_of texts.body ps End h =
+    let m = runs_made ps _ End h in
+    ((m.1.0, m.1.3.0), m.0, body_tokens m.1.0 m.1.3.0 ∙ sym (m.1.2 ∙ ap (λ (r : Ts). spelled m.1.0 r) (m.1.3.2 ∙ ap (λ (r : Ts). spelled_others m.1.3.0 r) m.1.3.3)))
+front_of texts.terms ps End h =
+    let m = runs_made ps _ End h in
+    ((m.1.0, m.1.3.0), m.0, cons (argument_terminal m.1.0) (terms_tokens m.1.3.0 []) ∙ sym (m.1.2 ∙ cons (argument_terminal m.1.0) (m.1.3.2 ∙ ap (λ (r : Ts). spelled_terms m.1.3.0 r) m.1.3.3)))
+front_of (texts.among d) ps End h =
+    let m = runs_made ps _ End h in
+    ((m.1.0, m.1.1), m.0, tree_tokens (chosen m.1.0 m.1.1) d [] ∙ sym (m.1.3 ∙ ap (λ (r : Ts). spelled (chosen m.1.0 m.1.1) r) m.1.4))
 
 -- ---- steps are determined by the tokens
 
@@ -227,9 +245,6 @@ passes (x ∷ ts) k e = go (step k x) refl e (λ next. passes ts next) where
 
 -- ---- the laws
 
-abbrev start : Stack
-start = s.items ∷ []
-
 shallow_at : (front : List Placed) (q : Placed) (qs : List Placed) → Shallow (front ++ q ∷ qs) → q.1 ≤ max_depth
 shallow_at [] q qs h = h.0
 shallow_at (p ∷ front) q qs h = shallow_at front q qs h.1
@@ -244,11 +259,11 @@ same_depth end x d next q after e same f =
     let g : step end x ≡ goes q.1 after = subst (λ (y : Terminal). step end y ≡ goes q.1 after) same f in
     (same_goes d q.1 next after (sym e ∙ g)).0
 
-pub none_too_deep : (ps : List Placed) (End : Stack → Type 0) → Shallow ps → Runs ps start End → HasNoneTooDeep (tokens ps)
-none_too_deep ps End shallow h b c x parts deep =
+pub none_too_deep : (w : Text) (ps : List Placed) (End : Stack → Type 0) → Shallow ps → Runs ps (first_stack w) End → HasNoneTooDeep w (tokens ps)
+none_too_deep w ps End shallow h b c x parts deep =
     let front = deep.1 in
-    let steps = splits front ((x, deep.2) ∷ deep.3) start IsDone (subst (λ (qs : List Placed). Runs qs start IsDone) deep.4 (items_run deep.0)) in
-    let m = meets front ps (x ∷ c) start (λ end. Runs ((x, deep.2) ∷ deep.3) end IsDone) End (parts ∙ ap (λ (r : List Terminal). r ++ x ∷ c) (sym deep.5)) steps h in
+    let steps = splits front ((x, deep.2) ∷ deep.3) (first_stack w) IsDone (subst (λ (qs : List Placed). Runs qs (first_stack w) IsDone) deep.4 (text_runs w deep.0)) in
+    let m = meets front ps (x ∷ c) (first_stack w) (λ end. Runs ((x, deep.2) ∷ deep.3) end IsDone) End (parts ∙ ap (λ (r : List Terminal). r ++ x ∷ c) (sym deep.5)) steps h in
     go m.0 m.1 m.2 m.3 m.4 m.5 where
       go : (end : Stack) (rest : List Placed) → Runs ((x, deep.2) ∷ deep.3) end IsDone → Runs rest end End → tokens rest ≡ x ∷ c → ps ≡ deep.1 ++ rest → ⊥
       go end [] first other is whole = absurd cc
@@ -259,18 +274,18 @@ none_too_deep ps End shallow h b c x parts deep =
           let high = deep.6 in
           omega (arith, depth, low, high)
 
-no_end : (ps : List Placed) → Runs ps start (λ end. Stuck end []) → (tree : List Item) → written tree ≡ tokens ps → ⊥
-no_end ps h tree is =
-    let m = meets ps (places tree) [] start (λ end. Stuck end []) IsDone (places_tokens tree ∙ is ∙ sym (append-nil (tokens ps))) h (items_run tree) in
+no_end : (w : Text) (ps : List Placed) → Runs ps (first_stack w) (λ end. Stuck end []) → (tree : TreeOf w) → tokens_of w tree ≡ tokens ps → ⊥
+no_end w ps h tree is =
+    let m = meets ps (places_in w tree) [] (first_stack w) (λ end. Stuck end []) IsDone (is ∙ sym (append-nil (tokens ps))) h (text_runs w tree) in
     go m.0 m.1 m.2 m.3 m.4 where
       go : (end : Stack) (rest : List Placed) → is_done end ≡ false → Runs rest end IsDone → tokens rest ≡ [] → ⊥
       go end [] stuck_so goes_so same = cc
       go end (q ∷ qs) stuck_so goes_so same = cc
 
 -- a token that takes no step cannot follow
-no_next : (ps : List Placed) (x : Terminal) (b : Step) → ((d : ℕ) (n : Stack) → goes d n ≡ b → ⊥) → Runs ps start (λ end. step end x ≡ b) → IsFront (tokens ps ++ x ∷ []) → ⊥
-no_next ps x b never h front =
-    let m = meets ps (places front.0) (x ∷ front.1) start (λ end. step end x ≡ b) IsDone (places_tokens front.0 ∙ front.2 ∙ append_assoc (tokens ps) (x ∷ []) front.1) h (items_run front.0) in
+no_next : (w : Text) (ps : List Placed) (x : Terminal) (b : Step) → ((d : ℕ) (n : Stack) → goes d n ≡ b → ⊥) → Runs ps (first_stack w) (λ end. step end x ≡ b) → IsFront w (tokens ps ++ x ∷ []) → ⊥
+no_next w ps x b never h front =
+    let m = meets ps (places_in w front.0) (x ∷ front.1) (first_stack w) (λ end. step end x ≡ b) IsDone (front.2 ∙ append_assoc (tokens ps) (x ∷ []) front.1) h (text_runs w front.0) in
     go m.0 m.1 m.2 m.3 m.4 where
       go : (end : Stack) (rest : List Placed) → step end x ≡ b → Runs rest end IsDone → tokens rest ≡ x ∷ front.1 → ⊥
       go end [] at goes_so is = cc
@@ -279,30 +294,30 @@ no_next ps x b never h front =
           let other : step end x ≡ goes q.1 goes_so.0 = subst (λ (y : Terminal). step end y ≡ goes q.1 goes_so.0) same goes_so.1 in
           never q.1 goes_so.0 (sym other ∙ at)
 
-cannot_follow : (ps : List Placed) (place : List Terminal) → Runs ps start (λ end. Stuck end place) → CannotFollow (tokens ps) place
-cannot_follow ps [] h = no_end ps h
-cannot_follow ps (x ∷ more) h = no_next ps x stuck (λ d n e. cc) h
+cannot_follow : (w : Text) (ps : List Placed) (place : List Terminal) → Runs ps (first_stack w) (λ end. Stuck end place) → CannotFollow w (tokens ps) place
+cannot_follow w ps [] h = no_end w ps h
+cannot_follow w ps (x ∷ more) h = no_next w ps x stuck (λ d n e. cc) h
 
-pub is_read : (all : List Terminal) (tree : List Item) → all ≡ written tree → fault all start ≡ None → IsReadAs all tree
-is_read all tree e h =
-    let p = passes all start h in
-    let m = meets p.0 (places tree) [] start IsDone IsDone (places_tokens tree ∙ sym e ∙ p.1 ∙ sym (append-nil (tokens p.0))) p.3 (items_run tree) in
-    let same : places tree ≡ p.0 = m.5 ∙ ap (λ (r : List Placed). p.0 ++ r) (no_tokens m.1 m.4) ∙ append-nil p.0 in
+pub is_read : (w : Text) (all : List Terminal) (tree : TreeOf w) → all ≡ tokens_of w tree → fault all (first_stack w) ≡ None → IsReadAs w all tree
+is_read w all tree e h =
+    let p = passes all (first_stack w) h in
+    let m = meets p.0 (places_in w tree) [] (first_stack w) IsDone IsDone (sym e ∙ p.1 ∙ sym (append-nil (tokens p.0))) p.3 (text_runs w tree) in
+    let same : places_in w tree ≡ p.0 = m.5 ∙ ap (λ (r : List Placed). p.0 ++ r) (no_tokens m.1 m.4) ∙ append-nil p.0 in
     (sym e, subst (λ (r : List Placed). Shallow r) (sym same) p.2)
 
-lacks_none : (ps : List Placed) (place : List Terminal) → Runs ps start (λ end. Stuck end place) → LacksOperator (tokens ps) place → ⊥
-lacks_none ps [] h w = w
-lacks_none ps (x ∷ more) h w = wants w.0 w.1 ps start x w.2 h
+lacks_none : (w : Text) (ps : List Placed) (place : List Terminal) → Runs ps (first_stack w) (λ end. Stuck end place) → LacksOperator (tokens ps) place → ⊥
+lacks_none w ps [] h o = o
+lacks_none w ps (x ∷ more) h o = wants o.0 o.1 ps (first_stack w) x o.2 h
 
-pub is_syntax : (all place : List Terminal) → fault all start ≡ Some (syntax place) → IsSyntaxAt all place
-is_syntax all place e =
-    let h = halts all start (syntax place) e in
-    let steps : Runs h.0 start (λ end. Stuck end place) = subst (λ (r : List Terminal). Runs h.0 start (λ end. Stuck end r)) (sym h.3) h.5 in
+pub is_syntax : (w : Text) (all place : List Terminal) → fault all (first_stack w) ≡ Some (syntax place) → IsSyntaxAt w all place
+is_syntax w all place e =
+    let h = halts all (first_stack w) (syntax place) e in
+    let steps : Runs h.0 (first_stack w) (λ end. Stuck end place) = subst (λ (r : List Terminal). Runs h.0 (first_stack w) (λ end. Stuck end r)) (sym h.3) h.5 in
     record {
       before = tokens h.0;
       parts = h.2 ∙ ap (λ (r : List Terminal). tokens h.0 ++ r) (sym h.3);
-      stops = record { front = front_of h.0 _ steps; shallow = none_too_deep h.0 _ h.4 steps; stops = cannot_follow h.0 place steps };
-      other = lacks_none h.0 place steps;
+      stops = record { front = front_of w h.0 _ steps; shallow = none_too_deep w h.0 _ h.4 steps; stops = cannot_follow w h.0 place steps };
+      other = lacks_none w h.0 place steps;
     }
 
 -- where the steps end
@@ -310,52 +325,52 @@ ends : (ps : List Placed) (k : Stack) (End : Stack → Type 0) → Runs ps k End
 ends [] k End h = (k, h, refl)
 ends (p ∷ ps) k End h = let m = ends ps h.0 End h.2 in (m.0, m.1, (h.0, h.1, m.2))
 
-too_deep_next : (ps : List Placed) (x : Terminal) (more : List Terminal) → Runs ps start (λ end. Sinks end (x ∷ more)) → IsTooDeep (tokens ps) x
-too_deep_next ps x more h =
-    let at = ends ps start _ h in
+too_deep_next : (w : Text) (ps : List Placed) (x : Terminal) (more : List Terminal) → Runs ps (first_stack w) (λ end. Sinks end (x ∷ more)) → IsTooDeep w (tokens ps) x
+too_deep_next w ps x more h =
+    let at = ends ps (first_stack w) _ h in
     let sinks = at.1 in
     let d = sinks.0 in
     let next = sinks.1 in
     let any : Stack → Type 0 = λ _. Unit {0} in
-    let on = joins ps ((x, d) ∷ []) start (λ e. e ≡ at.0) any (λ e is. (next, subst (λ (k : Stack). step k x ≡ goes d next) (sym is) sinks.2, tt)) at.2 in
-    let front = front_of (ps ++ (x, d) ∷ []) any on in
-    let m = meets (ps ++ (x, d) ∷ []) (places front.0) front.1 start any IsDone (places_tokens front.0 ∙ front.2) on (items_run front.0) in
+    let on = joins ps ((x, d) ∷ []) (first_stack w) (λ e. e ≡ at.0) any (λ e is. (next, subst (λ (k : Stack). step k x ≡ goes d next) (sym is) sinks.2, tt)) at.2 in
+    let front = front_of w (ps ++ (x, d) ∷ []) any on in
+    let m = meets (ps ++ (x, d) ∷ []) (places_in w front.0) front.1 (first_stack w) any IsDone (front.2) on (text_runs w front.0) in
     (front.0, ps, d, m.1, m.5 ∙ append_assoc ps ((x, d) ∷ []) m.1, refl, sinks.3)
 
 no_runs : (ps : List Placed) (k : Stack) → Runs ps k (λ _. ⊥) → ⊥
 no_runs [] k h = h
 no_runs (p ∷ ps) k h = no_runs ps h.0 h.2
 
-pub is_too_deep : (all place : List Terminal) → fault all start ≡ Some (too_deep place) → IsTooDeepAt all place
-is_too_deep all place e =
-    let h = halts all start (too_deep place) e in
-    go place h.0 (h.2 ∙ ap (λ (r : List Terminal). tokens h.0 ++ r) (sym h.3)) h.4 (subst (λ (r : List Terminal). Runs h.0 start (λ end. Sinks end r)) (sym h.3) h.5) where
-      go : (rest : List Terminal) (ps : List Placed) → all ≡ tokens ps ++ rest → Shallow ps → Runs ps start (λ end. Sinks end rest) → IsTooDeepAt all rest
-      go [] ps parts low steps = absurd (no_runs ps start steps)
+pub is_too_deep : (w : Text) (all place : List Terminal) → fault all (first_stack w) ≡ Some (too_deep place) → IsTooDeepAt w all place
+is_too_deep w all place e =
+    let h = halts all (first_stack w) (too_deep place) e in
+    go place h.0 (h.2 ∙ ap (λ (r : List Terminal). tokens h.0 ++ r) (sym h.3)) h.4 (subst (λ (r : List Terminal). Runs h.0 (first_stack w) (λ end. Sinks end r)) (sym h.3) h.5) where
+      go : (rest : List Terminal) (ps : List Placed) → all ≡ tokens ps ++ rest → Shallow ps → Runs ps (first_stack w) (λ end. Sinks end rest) → IsTooDeepAt w all rest
+      go [] ps parts low steps = absurd (no_runs ps (first_stack w) steps)
       go (x ∷ more) ps parts low steps = record {
         before = tokens ps;
         first = x;
         more = more;
         is = refl;
         parts = parts;
-        shallow = none_too_deep ps _ low steps;
-        deep = too_deep_next ps x more steps;
+        shallow = none_too_deep w ps _ low steps;
+        deep = too_deep_next w ps x more steps;
       }
 
 -- the place is that of the `$`, two tokens before
-pub is_out_of_profile : (all place : List Terminal) → fault all start ≡ Some (no_operator place) → (n : List ℕ) × IsOutOfProfileAt all (t.dollar ∷ t.name n ∷ place)
-is_out_of_profile all place e =
-    let h = halts all start (no_operator place) e in
-    go place h.0 (h.2 ∙ ap (λ (r : List Terminal). tokens h.0 ++ r) (sym h.3)) h.4 (subst (λ (r : List Terminal). Runs h.0 start (λ end. Lacks end r)) (sym h.3) h.5) where
-      go : (rest : List Terminal) (ps : List Placed) → all ≡ tokens ps ++ rest → Shallow ps → Runs ps start (λ end. Lacks end rest) → (n : List ℕ) × IsOutOfProfileAt all (t.dollar ∷ t.name n ∷ rest)
-      go [] ps parts low steps = absurd (no_runs ps start steps)
+pub is_out_of_profile : (w : Text) (all place : List Terminal) → fault all (first_stack w) ≡ Some (no_operator place) → (n : List ℕ) × IsOutOfProfileAt w all (t.dollar ∷ t.name n ∷ place)
+is_out_of_profile w all place e =
+    let h = halts all (first_stack w) (no_operator place) e in
+    go place h.0 (h.2 ∙ ap (λ (r : List Terminal). tokens h.0 ++ r) (sym h.3)) h.4 (subst (λ (r : List Terminal). Runs h.0 (first_stack w) (λ end. Lacks end r)) (sym h.3) h.5) where
+      go : (rest : List Terminal) (ps : List Placed) → all ≡ tokens ps ++ rest → Shallow ps → Runs ps (first_stack w) (λ end. Lacks end rest) → (n : List ℕ) × IsOutOfProfileAt w all (t.dollar ∷ t.name n ∷ rest)
+      go [] ps parts low steps = absurd (no_runs ps (first_stack w) steps)
       go (x ∷ more) ps parts low steps =
-          let at = came ps x steps in
+          let at = came w ps x steps in
           let qs = at.0 in
           let n = at.2 in
           let two : List Terminal = t.dollar ∷ t.name n ∷ [] in
           let same : tokens ps ≡ tokens qs ++ two = ap (λ (r : List Placed). tokens r) at.4 ∙ map-append (λ p. p.0) qs ((t.dollar, at.1) ∷ (t.name n, at.3) ∷ []) in
-          let stops : StopsAt (tokens ps) (x ∷ more) = record { front = front_of ps _ steps; shallow = none_too_deep ps _ low steps; stops = no_next ps x unassigned (λ d m e. cc) steps } in (
+          let stops : StopsAt w (tokens ps) (x ∷ more) = record { front = front_of w ps _ steps; shallow = none_too_deep w ps _ low steps; stops = no_next w ps x unassigned (λ d m e. cc) steps } in (
             n,
             record {
               before = tokens qs;
@@ -364,6 +379,6 @@ is_out_of_profile all place e =
               more = more;
               is = refl;
               parts = parts ∙ ap (λ (r : List Terminal). r ++ x ∷ more) same ∙ append_assoc (tokens qs) two (x ∷ more);
-              stops = subst (λ (r : List Terminal). StopsAt r (x ∷ more)) same stops;
+              stops = subst (λ (r : List Terminal). StopsAt w r (x ∷ more)) same stops;
             },
           )

@@ -3,12 +3,12 @@ use Rattle.std.proofs.Common.{◌≡◌, ◌⊎◌, inl, inr, ℕ, List, [], ◌
 use Rattle.std.proofs.lemmas.List.{append-nil, map-append}
 use Rattle.sbl_grammar.specs.Terminal.{Terminal}
 use Rattle.sbl_grammar.specs.Terminal as t
-use Rattle.sbl_grammar.specs.Tree.{Item, written}
-use Rattle.sbl_grammar.specs.Places.{Placed, places, tokens}
+use Rattle.sbl_grammar.specs.Texts.{Text, TreeOf, places_in, tokens_of}
+use Rattle.sbl_grammar.specs.Places.{Placed, tokens}
 use Rattle.sbl_grammar.specs.Reading.{IsFront, IsTooDeep, HasNoneTooDeep, IsReadAs, CannotFollow, LacksOperator, StopsAt, IsSyntaxAt, IsTooDeepAt, IsOutOfProfileAt}
 use Rattle.sbl_grammar.specs.Laws.{Wrong, syntax, too_deep, out_of_profile, IsWrongAt}
-use Rattle.sbl_grammar.proofs.Runs.{IsDone, items_run}
-use Rattle.sbl_grammar.proofs.Faults.{places_tokens, none_too_deep}
+use Rattle.sbl_grammar.proofs.Runs.{IsDone, text_runs}
+use Rattle.sbl_grammar.proofs.Faults.{none_too_deep}
 
 abbrev Ts : Type 0
 Ts = List Terminal
@@ -50,57 +50,57 @@ cuts (x ∷ p) r (y ∷ q) s e = go (cuts p r q s (same_tail x y (p ++ r) (q ++ 
 -- ---- fronts
 
 -- the front of a front is a front
-front_of_front : (p : Ts) (x : Terminal) (c : Ts) → IsFront (p ++ x ∷ c) → IsFront (p ++ x ∷ [])
-front_of_front p x c h = (h.0, c ++ h.1, h.2 ∙ append_assoc p (x ∷ c) h.1 ∙ sym (append_assoc p (x ∷ []) (c ++ h.1)))
+front_of_front : (k : Text) (p : Ts) (x : Terminal) (c : Ts) → IsFront k (p ++ x ∷ c) → IsFront k (p ++ x ∷ [])
+front_of_front k p x c h = (h.0, c ++ h.1, h.2 ∙ append_assoc p (x ∷ c) h.1 ∙ sym (append_assoc p (x ∷ []) (c ++ h.1)))
 
 -- a token that stands too deep may stand there
-deep_front : (p : Ts) (x : Terminal) → IsTooDeep p x → IsFront (p ++ x ∷ [])
-deep_front p x h =
+deep_front : (k : Text) (p : Ts) (x : Terminal) → IsTooDeep k p x → IsFront k (p ++ x ∷ [])
+deep_front k p x h =
     let rest : Ts = tokens h.3 in
-    let whole : written h.0 ≡ tokens h.1 ++ x ∷ rest = sym (places_tokens h.0) ∙ ap (λ (r : List Placed). tokens r) h.4 ∙ map-append (λ q. q.0) h.1 ((x, h.2) ∷ h.3) in
+    let whole : tokens_of k h.0 ≡ tokens h.1 ++ x ∷ rest = ap (λ (r : List Placed). tokens r) h.4 ∙ map-append (λ q. q.0) h.1 ((x, h.2) ∷ h.3) in
     (h.0, rest, whole ∙ ap (λ (r : Ts). r ++ x ∷ rest) h.5 ∙ sym (append_assoc p (x ∷ []) rest))
 
 -- what cannot follow is no front
-no_front : (p r : Ts) (x : Terminal) (c : Ts) → CannotFollow p r → r ≡ x ∷ c → IsFront (p ++ x ∷ []) → ⊥
-no_front p [] x c h e front = absurd cc
-no_front p (y ∷ r) x c h e front = h (subst (λ (z : Terminal). IsFront (p ++ z ∷ [])) (sym (same_head y x r c e)) front)
+no_front : (k : Text) (p r : Ts) (x : Terminal) (c : Ts) → CannotFollow k p r → r ≡ x ∷ c → IsFront k (p ++ x ∷ []) → ⊥
+no_front k p [] x c h e front = absurd cc
+no_front k p (y ∷ r) x c h e front = h (subst (λ (z : Terminal). IsFront k (p ++ z ∷ [])) (sym (same_head y x r c e)) front)
 
 -- ---- two faults of the same tokens
 
 -- nothing stops before a front ends
-stops_before : (p r q s : Ts) → StopsAt p r → IsFront q → IsBefore p r q s → ⊥
-stops_before p r q s h front b = no_front p r b.0 (b.1 ++ s) h.stops b.3 (front_of_front p b.0 b.1 (subst (λ (z : Ts). IsFront z) b.2 front))
+stops_before : (k : Text) (p r q s : Ts) → StopsAt k p r → IsFront k q → IsBefore p r q s → ⊥
+stops_before k p r q s h front b = no_front k p r b.0 (b.1 ++ s) h.stops b.3 (front_of_front k p b.0 b.1 (subst (λ (z : Ts). IsFront k z) b.2 front))
 
-both_stop : (p r q s : Ts) → p ++ r ≡ q ++ s → StopsAt p r → StopsAt q s → (p ≡ q) × (r ≡ s)
-both_stop p r q s e h g = go (cuts p r q s e) where
+both_stop : (k : Text) (p r q s : Ts) → p ++ r ≡ q ++ s → StopsAt k p r → StopsAt k q s → (p ≡ q) × (r ≡ s)
+both_stop k p r q s e h g = go (cuts p r q s e) where
   go : Cuts p r q s → (p ≡ q) × (r ≡ s)
   go (inl same) = same
-  go (inr (inl b)) = absurd (stops_before p r q s h g.front b)
-  go (inr (inr b)) = absurd (stops_before q s p r g h.front b)
+  go (inr (inl b)) = absurd (stops_before k p r q s h g.front b)
+  go (inr (inr b)) = absurd (stops_before k q s p r g h.front b)
 
 -- none is too deep before
-not_before : (p r q : Ts) (x : Terminal) (more : Ts) → HasNoneTooDeep p → IsTooDeep q x → IsBefore q (x ∷ more) p r → ⊥
-not_before p r q x more h deep b = h q b.1 x (b.2 ∙ ap (λ (z : Terminal). q ++ z ∷ b.1) (sym (same_head x b.0 more (b.1 ++ r) b.3))) deep
+not_before : (k : Text) (p r q : Ts) (x : Terminal) (more : Ts) → HasNoneTooDeep k p → IsTooDeep k q x → IsBefore q (x ∷ more) p r → ⊥
+not_before k p r q x more h deep b = h q b.1 x (b.2 ∙ ap (λ (z : Terminal). q ++ z ∷ b.1) (sym (same_head x b.0 more (b.1 ++ r) b.3))) deep
 
 -- a front that one more token makes longer
-stops_at_deep : (p r q : Ts) (x : Terminal) (more : Ts) → p ++ r ≡ q ++ x ∷ more → StopsAt p r → IsTooDeep q x → ⊥
-stops_at_deep p r q x more e h deep = go (cuts p r q (x ∷ more) e) where
-  front : IsFront (q ++ x ∷ [])
-  front = deep_front q x deep
+stops_at_deep : (k : Text) (p r q : Ts) (x : Terminal) (more : Ts) → p ++ r ≡ q ++ x ∷ more → StopsAt k p r → IsTooDeep k q x → ⊥
+stops_at_deep k p r q x more e h deep = go (cuts p r q (x ∷ more) e) where
+  front : IsFront k (q ++ x ∷ [])
+  front = deep_front k q x deep
 
   go : Cuts p r q (x ∷ more) → ⊥
-  go (inl same) = no_front p r x more h.stops same.1 (subst (λ (z : Ts). IsFront (z ++ x ∷ [])) (sym same.0) front)
+  go (inl same) = no_front k p r x more h.stops same.1 (subst (λ (z : Ts). IsFront k (z ++ x ∷ [])) (sym same.0) front)
   go (inr (inl b)) =
       let longer : q ++ x ∷ [] ≡ p ++ b.0 ∷ (b.1 ++ x ∷ []) = ap (λ (z : Ts). z ++ x ∷ []) b.2 ∙ append_assoc p (b.0 ∷ b.1) (x ∷ []) in
-      no_front p r b.0 (b.1 ++ x ∷ more) h.stops b.3 (front_of_front p b.0 (b.1 ++ x ∷ []) (subst (λ (z : Ts). IsFront z) longer front))
-  go (inr (inr b)) = not_before p r q x more h.shallow deep b
+      no_front k p r b.0 (b.1 ++ x ∷ more) h.stops b.3 (front_of_front k p b.0 (b.1 ++ x ∷ []) (subst (λ (z : Ts). IsFront k z) longer front))
+  go (inr (inr b)) = not_before k p r q x more h.shallow deep b
 
-both_deep : (p : Ts) (x : Terminal) (m q : Ts) (y : Terminal) (n : Ts) → p ++ x ∷ m ≡ q ++ y ∷ n → HasNoneTooDeep p → IsTooDeep p x → HasNoneTooDeep q → IsTooDeep q y → x ∷ m ≡ y ∷ n
-both_deep p x m q y n e hp dp hq dq = go (cuts p (x ∷ m) q (y ∷ n) e) where
+both_deep : (k : Text) (p : Ts) (x : Terminal) (m q : Ts) (y : Terminal) (n : Ts) → p ++ x ∷ m ≡ q ++ y ∷ n → HasNoneTooDeep k p → IsTooDeep k p x → HasNoneTooDeep k q → IsTooDeep k q y → x ∷ m ≡ y ∷ n
+both_deep k p x m q y n e hp dp hq dq = go (cuts p (x ∷ m) q (y ∷ n) e) where
   go : Cuts p (x ∷ m) q (y ∷ n) → x ∷ m ≡ y ∷ n
   go (inl same) = same.1
-  go (inr (inl b)) = absurd (not_before q (y ∷ n) p x m hq dp b)
-  go (inr (inr b)) = absurd (not_before p (x ∷ m) q y n hp dq b)
+  go (inr (inl b)) = absurd (not_before k q (y ∷ n) p x m hq dp b)
+  go (inr (inr b)) = absurd (not_before k p (x ∷ m) q y n hp dq b)
 
 -- ---- each two
 
@@ -108,37 +108,37 @@ both_deep p x m q y n e hp dp hq dq = go (cuts p (x ∷ m) q (y ∷ n) e) where
 abbrev subject : List ℕ → Ts
 subject n = t.dollar ∷ t.name n ∷ []
 
-profile_parts : (all r : Ts) (h : IsOutOfProfileAt all r) → all ≡ (h.before ++ subject h.subject) ++ h.bad ∷ h.more
-profile_parts all r h = h.parts ∙ ap (λ (z : Ts). h.before ++ z) h.is ∙ sym (append_assoc h.before (subject h.subject) (h.bad ∷ h.more))
+profile_parts : (k : Text) (all r : Ts) (h : IsOutOfProfileAt k all r) → all ≡ (h.before ++ subject h.subject) ++ h.bad ∷ h.more
+profile_parts k all r h = h.parts ∙ ap (λ (z : Ts). h.before ++ z) h.is ∙ sym (append_assoc h.before (subject h.subject) (h.bad ∷ h.more))
 
-deep_parts : (all r : Ts) (h : IsTooDeepAt all r) → all ≡ h.before ++ h.first ∷ h.more
-deep_parts all r h = h.parts ∙ ap (λ (z : Ts). h.before ++ z) h.is
+deep_parts : (k : Text) (all r : Ts) (h : IsTooDeepAt k all r) → all ≡ h.before ++ h.first ∷ h.more
+deep_parts k all r h = h.parts ∙ ap (λ (z : Ts). h.before ++ z) h.is
 
-two_syntax : (all r s : Ts) → IsSyntaxAt all r → IsSyntaxAt all s → r ≡ s
-two_syntax all r s h g = (both_stop h.before r g.before s (sym h.parts ∙ g.parts) h.stops g.stops).1
+two_syntax : (k : Text) (all r s : Ts) → IsSyntaxAt k all r → IsSyntaxAt k all s → r ≡ s
+two_syntax k all r s h g = (both_stop k h.before r g.before s (sym h.parts ∙ g.parts) h.stops g.stops).1
 
-syntax_deep : (all r s : Ts) → IsSyntaxAt all r → IsTooDeepAt all s → ⊥
-syntax_deep all r s h g = stops_at_deep h.before r g.before g.first g.more (sym h.parts ∙ deep_parts all s g) h.stops g.deep
+syntax_deep : (k : Text) (all r s : Ts) → IsSyntaxAt k all r → IsTooDeepAt k all s → ⊥
+syntax_deep k all r s h g = stops_at_deep k h.before r g.before g.first g.more (sym h.parts ∙ deep_parts k all s g) h.stops g.deep
 
 wants_one : (p r f : Ts) (n : List ℕ) (x : Terminal) (more : Ts) → r ≡ x ∷ more → p ≡ f ++ subject n → LacksOperator p r
 wants_one p [] f n x more e same = absurd cc
 wants_one p (y ∷ r) f n x more e same = (f, n, same)
 
-syntax_profile : (all r s : Ts) → IsSyntaxAt all r → IsOutOfProfileAt all s → ⊥
-syntax_profile all r s h g =
-    let same = both_stop h.before r (g.before ++ subject g.subject) (g.bad ∷ g.more) (sym h.parts ∙ profile_parts all s g) h.stops g.stops in
+syntax_profile : (k : Text) (all r s : Ts) → IsSyntaxAt k all r → IsOutOfProfileAt k all s → ⊥
+syntax_profile k all r s h g =
+    let same = both_stop k h.before r (g.before ++ subject g.subject) (g.bad ∷ g.more) (sym h.parts ∙ profile_parts k all s g) h.stops g.stops in
     h.other (wants_one h.before r g.before g.subject g.bad g.more same.1 same.0)
 
-two_deep : (all r s : Ts) → IsTooDeepAt all r → IsTooDeepAt all s → r ≡ s
-two_deep all r s h g = h.is ∙ both_deep h.before h.first h.more g.before g.first g.more (sym (deep_parts all r h) ∙ deep_parts all s g) h.shallow h.deep g.shallow g.deep ∙ sym g.is
+two_deep : (k : Text) (all r s : Ts) → IsTooDeepAt k all r → IsTooDeepAt k all s → r ≡ s
+two_deep k all r s h g = h.is ∙ both_deep k h.before h.first h.more g.before g.first g.more (sym (deep_parts k all r h) ∙ deep_parts k all s g) h.shallow h.deep g.shallow g.deep ∙ sym g.is
 
-profile_deep : (all r s : Ts) → IsOutOfProfileAt all r → IsTooDeepAt all s → ⊥
-profile_deep all r s h g =
-    stops_at_deep (h.before ++ subject h.subject) (h.bad ∷ h.more) g.before g.first g.more (sym (profile_parts all r h) ∙ deep_parts all s g) h.stops g.deep
+profile_deep : (k : Text) (all r s : Ts) → IsOutOfProfileAt k all r → IsTooDeepAt k all s → ⊥
+profile_deep k all r s h g =
+    stops_at_deep k (h.before ++ subject h.subject) (h.bad ∷ h.more) g.before g.first g.more (sym (profile_parts k all r h) ∙ deep_parts k all s g) h.stops g.deep
 
-two_profile : (all r s : Ts) → IsOutOfProfileAt all r → IsOutOfProfileAt all s → r ≡ s
-two_profile all r s h g =
-    let same = both_stop (h.before ++ subject h.subject) (h.bad ∷ h.more) (g.before ++ subject g.subject) (g.bad ∷ g.more) (sym (profile_parts all r h) ∙ profile_parts all s g) h.stops g.stops in
+two_profile : (k : Text) (all r s : Ts) → IsOutOfProfileAt k all r → IsOutOfProfileAt k all s → r ≡ s
+two_profile k all r s h g =
+    let same = both_stop k (h.before ++ subject h.subject) (h.bad ∷ h.more) (g.before ++ subject g.subject) (g.bad ∷ g.more) (sym (profile_parts k all r h) ∙ profile_parts k all s g) h.stops g.stops in
     h.is ∙ same_ends h.before g.before (t.name h.subject) (t.name g.subject) (h.bad ∷ h.more) (g.bad ∷ g.more) same.0 same.1 ∙ sym g.is where
       ends : (p q : Ts) (a b c d : Terminal) → p ++ a ∷ b ∷ [] ≡ q ++ c ∷ d ∷ [] → b ≡ d
       ends [] [] a b c d e = cc
@@ -149,29 +149,29 @@ two_profile all r s h g =
       same_ends : (p q : Ts) (a b : Terminal) (m n : Ts) → p ++ t.dollar ∷ a ∷ [] ≡ q ++ t.dollar ∷ b ∷ [] → m ≡ n → t.dollar ∷ a ∷ m ≡ t.dollar ∷ b ∷ n
       same_ends p q a b m n e f = cons t.dollar (joined a b m n (ends p q t.dollar a t.dollar b e) f)
 
-pub fault_is_one : (all r s : Ts) (v w : Wrong) → IsWrongAt v all r → IsWrongAt w all s → (v ≡ w) × (r ≡ s)
-fault_is_one all r s syntax syntax h g = (refl, two_syntax all r s h g)
-fault_is_one all r s syntax too_deep h g = absurd (syntax_deep all r s h g)
-fault_is_one all r s syntax out_of_profile h g = absurd (syntax_profile all r s h g)
-fault_is_one all r s too_deep syntax h g = absurd (syntax_deep all s r g h)
-fault_is_one all r s too_deep too_deep h g = (refl, two_deep all r s h g)
-fault_is_one all r s too_deep out_of_profile h g = absurd (profile_deep all s r g h)
-fault_is_one all r s out_of_profile syntax h g = absurd (syntax_profile all s r g h)
-fault_is_one all r s out_of_profile too_deep h g = absurd (profile_deep all r s h g)
-fault_is_one all r s out_of_profile out_of_profile h g = (refl, two_profile all r s h g)
+pub fault_is_one : (k : Text) (all r s : Ts) (v w : Wrong) → IsWrongAt k v all r → IsWrongAt k w all s → (v ≡ w) × (r ≡ s)
+fault_is_one k all r s syntax syntax h g = (refl, two_syntax k all r s h g)
+fault_is_one k all r s syntax too_deep h g = absurd (syntax_deep k all r s h g)
+fault_is_one k all r s syntax out_of_profile h g = absurd (syntax_profile k all r s h g)
+fault_is_one k all r s too_deep syntax h g = absurd (syntax_deep k all s r g h)
+fault_is_one k all r s too_deep too_deep h g = (refl, two_deep k all r s h g)
+fault_is_one k all r s too_deep out_of_profile h g = absurd (profile_deep k all s r g h)
+fault_is_one k all r s out_of_profile syntax h g = absurd (syntax_profile k all s r g h)
+fault_is_one k all r s out_of_profile too_deep h g = absurd (profile_deep k all r s h g)
+fault_is_one k all r s out_of_profile out_of_profile h g = (refl, two_profile k all r s h g)
 
 -- ---- a tree has none
 
-no_stop : (p r : Ts) (tree : List Item) → written tree ≡ p ++ r → StopsAt p r → ⊥
-no_stop p r tree e h = go r e h.stops where
-  go : (r : Ts) → written tree ≡ p ++ r → CannotFollow p r → ⊥
+no_stop : (k : Text) (p r : Ts) (tree : TreeOf k) → tokens_of k tree ≡ p ++ r → StopsAt k p r → ⊥
+no_stop k p r tree e h = go r e h.stops where
+  go : (r : Ts) → tokens_of k tree ≡ p ++ r → CannotFollow k p r → ⊥
   go [] e stops = stops tree (e ∙ append-nil p)
   go (x ∷ more) e stops = stops (tree, more, e ∙ sym (append_assoc p (x ∷ []) more))
 
-no_deep : (p : Ts) (x : Terminal) (more : Ts) (tree : List Item) → IsReadAs (p ++ x ∷ more) tree → IsTooDeep p x → ⊥
-no_deep p x more tree h deep = none_too_deep (places tree) IsDone h.1 (items_run tree) p more x (places_tokens tree ∙ h.0) deep
+no_deep : (k : Text) (p : Ts) (x : Terminal) (more : Ts) (tree : TreeOf k) → IsReadAs k (p ++ x ∷ more) tree → IsTooDeep k p x → ⊥
+no_deep k p x more tree h deep = none_too_deep k (places_in k tree) IsDone h.1 (text_runs k tree) p more x h.0 deep
 
-pub tree_or_fault : (all rest : Ts) (tree : List Item) (w : Wrong) → IsReadAs all tree → IsWrongAt w all rest → ⊥
-tree_or_fault all rest tree syntax h g = no_stop g.before rest tree (h.0 ∙ g.parts) g.stops
-tree_or_fault all rest tree too_deep h g = no_deep g.before g.first g.more tree (subst (λ (z : Ts). IsReadAs z tree) (deep_parts all rest g) h) g.deep
-tree_or_fault all rest tree out_of_profile h g = no_stop (g.before ++ subject g.subject) (g.bad ∷ g.more) tree (h.0 ∙ profile_parts all rest g) g.stops
+pub tree_or_fault : (k : Text) (all rest : Ts) (tree : TreeOf k) (w : Wrong) → IsReadAs k all tree → IsWrongAt k w all rest → ⊥
+tree_or_fault k all rest tree syntax h g = no_stop k g.before rest tree (h.0 ∙ g.parts) g.stops
+tree_or_fault k all rest tree too_deep h g = no_deep k g.before g.first g.more tree (subst (λ (z : Ts). IsReadAs k z tree) (deep_parts k all rest g) h) g.deep
+tree_or_fault k all rest tree out_of_profile h g = no_stop k (g.before ++ subject g.subject) (g.bad ∷ g.more) tree (h.0 ∙ profile_parts k all rest g) g.stops

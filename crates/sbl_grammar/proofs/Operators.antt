@@ -5,8 +5,10 @@ use Rattle.sbl_grammar.specs.declared.tree.Additive.TheVariants as additives
 use Rattle.sbl_grammar.specs.Terminal.{Terminal}
 use Rattle.sbl_grammar.specs.Terminal as t
 use Rattle.sbl_grammar.specs.Places.{Placed, tokens}
-use Rattle.sbl_grammar.specs.Steps.{Symbol, Stack, Step, goes, stuck, unassigned, is_optional, behind, behind_opening, behind_closing, behind_name, behind_argument, behind_for, behind_excluded, behind_comparison, behind_factor, behind_scales, behind_sums, behind_command, behind_others, behind_starter, behind_groups, behind_entries, behind_inserts, behind_macro, behind_base, behind_literal, behind_definition, behind_terms, behind_names, behind_plain, behind_item, or_else, step}
+use Rattle.sbl_grammar.specs.Steps.{Symbol, Stack, Step, goes, stuck, unassigned, is_optional, behind, behind_opening, behind_closing, behind_name, behind_argument, behind_for, behind_excluded, behind_comparison, behind_factor, behind_scales, behind_sums, behind_command, behind_among, behind_others, behind_starter, behind_groups, behind_entries, behind_inserts, behind_macro, behind_base, behind_literal, behind_definition, behind_terms, behind_names, behind_plain, behind_item, or_else, step}
 use Rattle.sbl_grammar.specs.Steps as s
+use Rattle.sbl_grammar.specs.Texts.{Text, first_stack}
+use Rattle.sbl_grammar.specs.Texts as texts
 use Rattle.sbl_grammar.proofs.Runs.{Runs}
 
 -- what stands at the top alone
@@ -150,6 +152,10 @@ item_kept t.define k h = inl h
 item_kept t.backward_mode k h = inl h
 item_kept _ k h = tt
 
+among_kept : (d : ℕ) (x : Terminal) (k : Stack) → clear k ≡ true → Kept x (behind_among d x k)
+among_kept d t.among k h = inl h
+among_kept d _ k h = tt
+
 behind_kept : (y : Symbol) (x : Terminal) (k : Stack) → is_clear y ≡ true → clear k ≡ true → Kept x (behind y x k)
 behind_kept (s.opening d) x k c h = opening_kept d x k h
 behind_kept (s.closing d) x k c h = closing_kept d x k h
@@ -170,6 +176,7 @@ behind_kept (s.starter d) x k c h = starter_kept d x k h
 behind_kept (s.groups d) x k c h = groups_kept d x k h
 behind_kept (s.entries d) x k c h = entries_kept d x k h
 behind_kept (s.condition d) x k c h = name_kept d x k h
+behind_kept (s.among d) x k c h = among_kept d x k h
 behind_kept s.inserts x k c h = inserts_kept x k h
 behind_kept s.macro x k c h = macro_kept x k h
 behind_kept s.base x k c h = base_kept x k h
@@ -256,8 +263,14 @@ mutual
       further p (q ∷ r ∷ ps) (further q (r ∷ ps) (further r ps (from_clear ps h.0 x (operator_step e r.1 r.0 k h.0 c h.1) h.2)))
 
 -- an operator is wanted: `$` and a name came last
-pub came : (ps : List Placed) (x : Terminal) → Runs ps (s.items ∷ []) (λ end. step end x ≡ unassigned) → EndsSo ps
-came ps x h = from_clear ps (s.items ∷ []) x refl h
+first_clear : (w : Text) → clear (first_stack w) ≡ true
+first_clear texts.script = refl
+first_clear texts.body = refl
+first_clear texts.terms = refl
+first_clear (texts.among d) = refl
+
+pub came : (w : Text) (ps : List Placed) (x : Terminal) → Runs ps (first_stack w) (λ end. step end x ≡ unassigned) → EndsSo ps
+came w ps x h = from_clear ps (first_stack w) x (first_clear w) h
 
 -- ---- and the other way round
 
@@ -282,6 +295,7 @@ dollar_step (s.starter e ∷ k) d next h = dollar_step k d next h
 dollar_step (s.groups e ∷ k) d next h = dollar_step k d next h
 dollar_step (s.entries e ∷ k) d next h = dollar_step k d next h
 dollar_step (s.condition e ∷ k) d next h = dollar_step k d next h
+dollar_step (s.among e ∷ k) d next h = absurd cc
 dollar_step (s.inserts ∷ k) d next h = absurd cc
 dollar_step (s.macro ∷ k) d next h = absurd cc
 dollar_step (s.base ∷ k) d next h = dollar_step k d next h

@@ -8,6 +8,8 @@ use Rattle.sbl_grammar.specs.Tree.{Argument, written_out, by_name, Expression, e
 use Rattle.sbl_grammar.specs.Places.{Placed, placed_expression, placed_sums, placed_product, placed_scales, placed_factor, placed_entry, placed_entries, placed, placed_rows, placed_others, placed_starter, placed_groups, placed_names, placed_base, placed_terms, placed_plain, placed_plains, placed_item, placed_items, places}
 use Rattle.sbl_grammar.specs.Steps.{Symbol, Stack, Step, goes, stuck, unassigned, is_optional, is_done, behind, behind_sums, behind_scales, behind_others, behind_terms, behind_plain, behind_item, or_else, step}
 use Rattle.sbl_grammar.specs.Steps as s
+use Rattle.sbl_grammar.specs.Texts.{Text, TreeOf, places_in, first_stack}
+use Rattle.sbl_grammar.specs.Texts as texts
 
 -- over tokens at their depths, from one stack to an end
 abbrev pub Runs : List Placed → Stack → (Stack → Type 0) → Type 0
@@ -534,3 +536,22 @@ items_run [] = refl
 items_run (x ∷ xs) =
     let calm = items_calm xs in
     as_items (placed_item x (places xs)) [] (item_runs x (places xs) (s.items ∷ []) calm.0 calm.1 (items_run xs))
+
+-- ---- each text, from its first stack
+
+nothing_calm : Calm []
+nothing_calm = record { plus = refl; times = refl }
+
+pub text_runs : (w : Text) (x : TreeOf w) → Passes (places_in w x) (first_stack w)
+text_runs texts.script xs = items_run xs
+text_runs texts.body b = tree_runs b.0 1 (placed_others b.1 1 []) (s.others 1 ∷ []) (others_calm b.1 1 [] nothing_calm) (others_runs b.1 1 [] [] nothing_calm refl refl)
+text_runs texts.terms x = argument_runs x.0 0 (placed_terms x.1 []) (s.terms ∷ []) (terms_runs x.1 [] [] nothing_calm refl)
+text_runs (texts.among d) a = (
+  s.opening d ∷ s.starter d ∷ s.groups d ∷ s.closing d ∷ [],
+  refl,
+  (
+    s.starter d ∷ s.groups d ∷ s.closing d ∷ [],
+    refl,
+    starter_runs a.0 d (placed_groups a.1 d ((t.close_, d) ∷ [])) (s.groups d ∷ s.closing d ∷ []) (groups_refuse a.1 d [] (s.groups d ∷ s.closing d ∷ [])) (groups_runs a.1 d [] [] refl),
+  ),
+)

@@ -527,3 +527,22 @@ one_tree (x ∷ xs) (y ∷ ys) e =
     let n = one_tree xs ys m.1 in
     let heads : x ≡ y = m.0 in
     cc
+
+-- so it is for the other texts
+none_ends : EndsRow []
+none_ends = record { ends = record { adds_not = refl; multiplies_not = refl }; joins_not = refl }
+
+pub one_body : (c u : Tree) (os ps : Others) → spelled c (spelled_others os []) ≡ spelled u (spelled_others ps []) → (c ≡ u) × (os ≡ ps)
+one_body c u os ps e =
+    let m = same_tree c u (spelled_others os []) (spelled_others ps []) (others_end os [] none_ends.ends) (others_end ps [] none_ends.ends) e in
+    (m.0, (same_others os ps [] [] none_ends none_ends m.1).0)
+
+pub one_row_of_terms : (p q : Argument) (xs ys : List Term) → argument_terminal p ∷ spelled_terms xs [] ≡ argument_terminal q ∷ spelled_terms ys [] → (p ≡ q) × (xs ≡ ys)
+one_row_of_terms p q xs ys e =
+    let heads : argument_terminal p ≡ argument_terminal q = cc in
+    (same_argument p q heads, (same_terms xs ys [] [] refl refl (tail _ _ _ _ e)).0)
+
+pub one_among : (x y : Starter) (gs hs : Groups) → spelled (chosen x gs) [] ≡ spelled (chosen y hs) [] → (x ≡ y) × (gs ≡ hs)
+one_among x y gs hs e = go (same_tree (chosen x gs) (chosen y hs) [] [] none_ends.ends none_ends.ends e).0 where
+  go : chosen x gs ≡ chosen y hs → (x ≡ y) × (gs ≡ hs)
+  go f = let a : x ≡ y = cc in let b : gs ≡ hs = cc in (a, b)

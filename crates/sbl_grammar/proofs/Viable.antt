@@ -10,9 +10,8 @@ use Rattle.sbl_grammar.specs.Terminal.{Terminal, Quoted}
 use Rattle.sbl_grammar.specs.Terminal as t
 use Rattle.sbl_grammar.specs.Tree.{Argument, written_out, by_name, Expression, expression, Sums, no_sums, sum, product, Scales, no_scales, scale, Factor, negated, bracketed, numeral, variable, fixed, length_of, Entry, entry, Tree, bracket, single, quoted, called, excluded, prefixed, counted, moved, named, edited, limited, assigned, compared, values_compared, chosen, Rows, no_rows, row, Others, no_others, joined, Starter, no_starter, starter, Groups, bare, group, Term, term, Plain, declaration, escapes, macro, routine, grouping, Item, plain, backward, argument_terminal, spelled_expression, spelled_sums, spelled_scales, spelled_factor, spelled_entry, spelled, spelled_rows, spelled_others, spelled_starter, spelled_groups, spelled_names, spelled_base, spelled_terms, spelled_plain, spelled_plains, spelled_item, spelled_items}
 use Rattle.sbl_grammar.specs.Places.{Placed, tokens}
-use Rattle.sbl_grammar.specs.Steps.{Symbol, Stack, Step, goes, stuck, unassigned, is_optional, behind, behind_opening, behind_closing, behind_name, behind_argument, behind_for, behind_excluded, behind_subject, behind_operator, behind_comparison, behind_factor, behind_scales, behind_sums, behind_command, behind_others, behind_starter, behind_groups, behind_entries, behind_inserts, behind_macro, behind_base, behind_literal, behind_definition, behind_terms, behind_names, behind_plain, behind_item, or_else, step}
+use Rattle.sbl_grammar.specs.Steps.{Symbol, Stack, Step, goes, stuck, unassigned, is_optional, behind, behind_opening, behind_closing, behind_name, behind_argument, behind_for, behind_excluded, behind_subject, behind_operator, behind_comparison, behind_factor, behind_scales, behind_sums, behind_command, behind_among, behind_others, behind_starter, behind_groups, behind_entries, behind_inserts, behind_macro, behind_base, behind_literal, behind_definition, behind_terms, behind_names, behind_plain, behind_item, or_else, step}
 use Rattle.sbl_grammar.specs.Steps as s
-use Rattle.sbl_grammar.specs.Reading.{IsFront}
 use Rattle.sbl_grammar.proofs.Runs.{Runs}
 
 abbrev Ts : Type 0
@@ -39,6 +38,7 @@ MakesOne (s.starter d) More ts = (x : Starter) × (rest : List Terminal) × (ts 
 MakesOne (s.groups d) More ts = (gs : Groups) × (rest : List Terminal) × (ts ≡ spelled_groups gs rest) × More rest
 MakesOne (s.entries d) More ts = (f : Entry → Groups) × (rest : List Terminal) × ((x : Entry) → spelled_entry x ts ≡ spelled_groups (f x) rest) × More rest
 MakesOne (s.condition d) More ts = (c : Option (List ℕ)) × (rest : List Terminal) × ((q : Quoted) → t.literal q ∷ ts ≡ spelled_entry (entry q c) rest) × More rest
+MakesOne (s.among d) More ts = (x : Starter) × (gs : Groups) × (rest : List Terminal) × (ts ≡ spelled (chosen x gs) rest) × More rest
 MakesOne s.inserts More ts = (a : ℕ) × (b : ℕ) × (rest : List Terminal) × (ts ≡ t.inserts a b ∷ rest) × More rest
 MakesOne s.macro More ts = (n : List ℕ) × (rest : List Terminal) × (ts ≡ t.macro_name n ∷ rest) × More rest
 MakesOne s.base More ts = (b : Option Base) × (rest : List Terminal) × (ts ≡ spelled_base b rest) × More rest
@@ -178,6 +178,16 @@ command_made d t.among k = λ ts m. (
 )
 command_made d _ k = tt
 
+among_made : (d : ℕ) (x : Terminal) (k : Stack) → Assembles (s.among d ∷ k) x (behind_among d x k)
+among_made d t.among k = λ ts m. (
+  m.2.0,
+  m.2.3.0,
+  m.2.3.3.0,
+  cons t.among (m.1 ∙ cons t.open_ (m.2.2 ∙ ap (λ (r : Ts). spelled_starter m.2.0 r) (m.2.3.2 ∙ ap (λ (r : Ts). spelled_groups m.2.3.0 r) m.2.3.3.1))),
+  m.2.3.3.2,
+)
+among_made d _ k = tt
+
 others_made : (d : ℕ) (x : Terminal) (k : Stack) → Assembles (s.others d ∷ k) x (behind_others d x k)
 others_made d (t.joiner j) k = λ ts m. (joined j m.0 m.3.0, m.3.1, cons (t.joiner j) (m.2 ∙ ap (λ (r : Ts). spelled m.0 r) m.3.2), m.3.3)
 others_made d _ k = tt
@@ -303,6 +313,7 @@ behind_made (s.starter d) x k = starter_made d x k
 behind_made (s.groups d) x k = groups_made d x k
 behind_made (s.entries d) x k = entries_made d x k
 behind_made (s.condition d) x k = condition_made d x k
+behind_made (s.among d) x k = among_made d x k
 behind_made s.inserts x k = inserts_made x k
 behind_made s.macro x k = macro_made x k
 behind_made s.base x k = base_made x k
@@ -368,6 +379,7 @@ complete (s.starter d ∷ k) = let m = complete k in (m.0, (no_starter, m.0, ref
 complete (s.groups d ∷ k) = let m = complete k in (m.0, (bare [], m.0, refl, m.1))
 complete (s.entries d ∷ k) = let m = complete k in (m.0, (λ x. bare (x ∷ []), m.0, λ x. refl, m.1))
 complete (s.condition d ∷ k) = let m = complete k in (m.0, (None, m.0, λ q. refl, m.1))
+complete (s.among d ∷ k) = let m = complete k in (t.among ∷ t.open_ ∷ t.close_ ∷ m.0, (no_starter, bare [], m.0, refl, m.1))
 complete (s.inserts ∷ k) = let m = complete k in (t.inserts 0 0 ∷ m.0, (0, 0, m.0, refl, m.1))
 complete (s.macro ∷ k) = let m = complete k in (t.macro_name [] ∷ m.0, ([], m.0, refl, m.1))
 complete (s.base ∷ k) = let m = complete k in (m.0, (None, m.0, refl, m.1))
@@ -380,9 +392,6 @@ complete (s.plains ∷ k) = let m = complete k in (m.0, ([], m.0, refl, m.1))
 complete (s.item ∷ k) = let m = complete k in (t.string_escapes ∷ t.inserts 0 0 ∷ m.0, (plain (escapes 0 0), m.0, refl, m.1))
 complete (s.items ∷ k) = let m = complete k in (m.0, ([], m.0, refl, m.1))
 
-runs_made : (ps : List Placed) (k : Stack) (End : Stack → Type 0) → Runs ps k End → (rest : List Terminal) × Makes k (tokens ps ++ rest)
+pub runs_made : (ps : List Placed) (k : Stack) (End : Stack → Type 0) → Runs ps k End → (rest : List Terminal) × Makes k (tokens ps ++ rest)
 runs_made [] k End h = complete k
 runs_made (p ∷ ps) k End h = let m = runs_made ps h.0 End h.2 in (m.0, step_made k h.0 p.0 p.1 (tokens ps ++ m.0) h.1 m.1)
-
-pub front_of : (ps : List Placed) (End : Stack → Type 0) → Runs ps (s.items ∷ []) End → IsFront (tokens ps)
-front_of ps End h = let m = runs_made ps _ End h in (m.1.0, m.0, sym (m.1.2 ∙ ap (λ (r : Ts). spelled_items m.1.0 r) m.1.3))

@@ -25,8 +25,8 @@ use Rattle.sbl_grammar.specs.declared.tree.Factor.TheFolds.{fold-roll-Factor, fo
 use Rattle.sbl_grammar.specs.declared.tree.Command.{Command}
 use Rattle.sbl_grammar.specs.declared.tree.Command.TheVariants as commands
 use Rattle.sbl_grammar.specs.declared.tree.Command.TheOpen.{Command-F, Group-F, Joined-F, Row-F}
-use Rattle.sbl_grammar.specs.declared.tree.Command.TheViews.{roll-Among, roll-Group, roll-Joined, roll-Row}
-use Rattle.sbl_grammar.specs.declared.tree.Command.TheFolds.{fold-roll-Command, fold-roll-Among, fold-roll-Group, fold-roll-Joined, fold-roll-Row}
+use Rattle.sbl_grammar.specs.declared.tree.Command.TheViews.{roll-Among, roll-Group, roll-Joined, roll-Row, out-Among, out-Group}
+use Rattle.sbl_grammar.specs.declared.tree.Command.TheFolds.{fold-roll-Command, fold-roll-Among, fold-roll-Group, fold-roll-Joined, fold-roll-Row, fold_out-Among, fold_out-Group, fold_out-Joined}
 use Rattle.sbl_grammar.specs.declared.tree.Among.{Among}
 use Rattle.sbl_grammar.specs.declared.tree.Group.{Group}
 use Rattle.sbl_grammar.specs.declared.tree.Joined.{Joined}
@@ -123,3 +123,16 @@ view_of_joined r = fold-roll-Joined trees.Tree AmongView GroupView JoinedView Ro
 
 pub view_of_row : (r : Row-F Command Among Group Joined Row) → view_row (roll-Row r) ≡ (view_command r.first, view_others r.others.items)
 view_of_row r = fold-roll-Row trees.Tree AmongView GroupView JoinedView RowView command_step among_step group_step joined_step row_step r
+
+-- the view of what was not built here
+pub seen_joined : (j : Joined) → view_joined j ≡ (j.joiner, view_command j.command)
+seen_joined j = fold_out-Joined trees.Tree AmongView GroupView JoinedView RowView command_step among_step group_step joined_step row_step j
+
+pub seen_group : (g : Group) → view_group g ≡ record { first = view_entry (out-Group g).first; others = map view_entry (out-Group g).others.items; rows = view_rows (out-Group g).rows.items }
+seen_group g = fold_out-Group trees.Tree AmongView GroupView JoinedView RowView command_step among_step group_step joined_step row_step g
+
+pub seen_unstarted : (a : Among) → (out-Among a).starter ≡ None → view_among a ≡ (trees.no_starter, view_groups (out-Among a).groups.items (map view_entry (out-Among a).bare.items))
+seen_unstarted a h = rw h at (fold_out-Among trees.Tree AmongView GroupView JoinedView RowView command_step among_step group_step joined_step row_step a)
+
+pub seen_started : (a : Among) (v : Vec Row) → (out-Among a).starter ≡ Some v → view_among a ≡ (trees.starter (view_rows v.items), view_groups (out-Among a).groups.items (map view_entry (out-Among a).bare.items))
+seen_started a v h = rw h at (fold_out-Among trees.Tree AmongView GroupView JoinedView RowView command_step among_step group_step joined_step row_step a)

@@ -9,12 +9,15 @@ use Rattle.sbl_grammar.specs.declared.error.ReadError.TheVariants as errors
 use Rattle.sbl_grammar.specs.Terminal.{Terminal, terminal_of, terminals_of, left}
 use Rattle.sbl_grammar.specs.Terminal as t
 use Rattle.sbl_text.specs.Lexemes.{lexeme_of}
-use Rattle.sbl_grammar.specs.Tree.{Item, spelled_items}
+use Rattle.sbl_grammar.specs.Tree.{Item, Tree, Others, Starter, Groups, chosen, Argument, Term, argument_terminal, spelled, spelled_terms, spelled_others, spelled_items}
+use Rattle.sbl_grammar.specs.Texts.{Text, TreeOf, tokens_of, first_stack}
+use Rattle.sbl_grammar.specs.Texts as texts
 use Rattle.sbl_grammar.specs.Steps.{Stack, items, fault, syntax, no_operator}
+use Rattle.sbl_grammar.specs.Steps as s
 use Rattle.sbl_grammar.specs.Reading.{IsReadAs, IsOutOfProfileAt}
 use Rattle.sbl_grammar.specs.Gives.{Fails}
 use Rattle.sbl_grammar.specs.Told.{IsFaultOf, fault_told}
-use Rattle.sbl_grammar.proofs.Faults.{is_read, is_syntax, is_too_deep, is_out_of_profile}
+use Rattle.sbl_grammar.proofs.Faults.{is_read, is_syntax, is_too_deep, is_out_of_profile, places_tokens, body_tokens, tree_tokens, terms_tokens}
 
 abbrev Ts : Type 0
 Ts = List Terminal
@@ -38,10 +41,10 @@ no_more (x ∷ l) le = absurd (omega arith)
 pub none_left : (ts : List Token) (at : ℕ) → length ts ≤ at → left ts at ≡ []
 none_left ts at le = no_more (left ts at) (omega (arith, left_length ts at, length-drop at ts))
 
-pub read_whole : (ts : List Token) (at : ℕ) (tree : List Item) → length ts ≤ at → (terminals_of ts ≡ spelled_items tree (left ts at)) × ((k : Stack) → fault (terminals_of ts) (items ∷ k) ≡ fault (left ts at) k) → IsReadAs (terminals_of ts) tree
+pub read_whole : (ts : List Token) (at : ℕ) (tree : List Item) → length ts ≤ at → (terminals_of ts ≡ spelled_items tree (left ts at)) × ((k : Stack) → fault (terminals_of ts) (items ∷ k) ≡ fault (left ts at) k) → IsReadAs texts.script (terminals_of ts) tree
 read_whole ts at tree le h =
     let none = none_left ts at le in
-    is_read (terminals_of ts) tree (h.0 ∙ ap (λ (r : Ts). spelled_items tree r) none) (h.1 [] ∙ ap (λ (r : Ts). fault r []) none)
+    is_read texts.script (terminals_of ts) tree (h.0 ∙ ap (λ (r : Ts). spelled_items tree r) none ∙ sym (places_tokens tree)) (h.1 [] ∙ ap (λ (r : Ts). fault r []) none)
 
 -- ---- the `$` stands two tokens before
 
@@ -61,21 +64,36 @@ two_more [] x more e = absurd cc
 two_more (a ∷ []) x more e = absurd cc
 two_more (a ∷ b ∷ s) x more e = omega arith
 
-out_of_profile : (ts : List Token) (at : ℕ) → fault (terminals_of ts) (items ∷ []) ≡ Some (no_operator (drop 2 (left ts at))) → IsOutOfProfileAt (terminals_of ts) (left ts at)
-out_of_profile ts at h =
-    let found = is_out_of_profile (terminals_of ts) (drop 2 (left ts at)) h in
+out_of_profile : (w : Text) (ts : List Token) (at : ℕ) → fault (terminals_of ts) (first_stack w) ≡ Some (no_operator (drop 2 (left ts at))) → IsOutOfProfileAt w (terminals_of ts) (left ts at)
+out_of_profile w ts at h =
+    let found = is_out_of_profile w (terminals_of ts) (drop 2 (left ts at)) h in
     let n = found.0 in
     let stands = found.1 in
     let tail : drop 2 (left ts at) ≡ stands.bad ∷ stands.more = tail_of (drop 2 (left ts at)) n stands.subject stands.bad stands.more stands.is in
     let front = front_left ts at in
     let lengths : length (left ts at) ≡ length (t.dollar ∷ t.name n ∷ drop 2 (left ts at)) = omega (arith, two_more (left ts at) stands.bad stands.more tail) in
     let same : left ts at ≡ t.dollar ∷ t.name n ∷ drop 2 (left ts at) = same_end front.0 stands.before (left ts at) (t.dollar ∷ t.name n ∷ drop 2 (left ts at)) (sym front.1 ∙ stands.parts) lengths in
-    subst (λ (r : Ts). IsOutOfProfileAt (terminals_of ts) r) (sym same) stands where
+    subst (λ (r : Ts). IsOutOfProfileAt w (terminals_of ts) r) (sym same) stands where
       tail_of : (place : Ts) (n m : List ℕ) (x : Terminal) (more : Ts) → t.dollar ∷ t.name n ∷ place ≡ t.dollar ∷ t.name m ∷ x ∷ more → place ≡ x ∷ more
       tail_of place n m x more e = cc
 
-pub fault_of : (ts : List Token) (end : ℕ) (e : ReadError) → Fails ts e (fault (terminals_of ts) (items ∷ [])) → (fault_told ts end e ≡ script.OutOfMemory) ⊎ IsFaultOf ts end (fault_told ts end e)
-fault_of ts end errors.Memory h = inl refl
-fault_of ts end (errors.Fault (Syntax at)) h = inr (at, refl, is_syntax (terminals_of ts) (left ts at) h)
-fault_of ts end (errors.Fault (TooDeep at)) h = inr (at, refl, is_too_deep (terminals_of ts) (left ts at) h)
-fault_of ts end (errors.Fault (OutOfProfile at)) h = inr (at, refl, out_of_profile ts at h)
+pub fault_of : (w : Text) (ts : List Token) (end : ℕ) (e : ReadError) → Fails ts e (fault (terminals_of ts) (first_stack w)) → (fault_told ts end e ≡ script.OutOfMemory) ⊎ IsFaultOf w ts end (fault_told ts end e)
+fault_of w ts end errors.Memory h = inl refl
+fault_of w ts end (errors.Fault (Syntax at)) h = inr (at, refl, is_syntax w (terminals_of ts) (left ts at) h)
+fault_of w ts end (errors.Fault (TooDeep at)) h = inr (at, refl, is_too_deep w (terminals_of ts) (left ts at) h)
+fault_of w ts end (errors.Fault (OutOfProfile at)) h = inr (at, refl, out_of_profile w ts at h)
+
+pub read_body : (ts : List Token) (at : ℕ) (b : Tree × Others) → length ts ≤ at → terminals_of ts ≡ spelled b.0 (spelled_others b.1 (left ts at)) → ((k : Stack) → fault (terminals_of ts) (s.command 1 ∷ s.others 1 ∷ k) ≡ fault (left ts at) k) → IsReadAs texts.body (terminals_of ts) b
+read_body ts at b le h g =
+    let none = none_left ts at le in
+    is_read texts.body (terminals_of ts) b (h ∙ ap (λ (r : Ts). spelled b.0 (spelled_others b.1 r)) none ∙ sym (body_tokens b.0 b.1)) (g [] ∙ ap (λ (r : Ts). fault r []) none)
+
+pub read_among : (ts : List Token) (at d : ℕ) (a : Starter × Groups) → length ts ≤ at → terminals_of ts ≡ spelled (chosen a.0 a.1) (left ts at) → ((k : Stack) → fault (terminals_of ts) (s.among d ∷ k) ≡ fault (left ts at) k) → IsReadAs (texts.among d) (terminals_of ts) a
+read_among ts at d a le h g =
+    let none = none_left ts at le in
+    is_read (texts.among d) (terminals_of ts) a (h ∙ ap (λ (r : Ts). spelled (chosen a.0 a.1) r) none ∙ sym (tree_tokens (chosen a.0 a.1) d [])) (g [] ∙ ap (λ (r : Ts). fault r []) none)
+
+pub read_terms : (ts : List Token) (at : ℕ) (x : Argument × List Term) → length ts ≤ at → terminals_of ts ≡ argument_terminal x.0 ∷ spelled_terms x.1 (left ts at) → ((k : Stack) → fault (terminals_of ts) (s.argument 0 ∷ s.terms ∷ k) ≡ fault (left ts at) k) → IsReadAs texts.terms (terminals_of ts) x
+read_terms ts at x le h g =
+    let none = none_left ts at le in
+    is_read texts.terms (terminals_of ts) x (h ∙ ap (λ (r : Ts). argument_terminal x.0 ∷ spelled_terms x.1 r) none ∙ sym (ap (λ (r : Ts). argument_terminal x.0 ∷ r) (terms_tokens x.1 []))) (g [] ∙ ap (λ (r : Ts). fault r []) none)

@@ -2,7 +2,9 @@ pub mod Terminal
 pub mod Tree
 pub mod Places
 pub mod View
+pub mod Amongs
 pub mod Steps
+pub mod Texts
 pub mod Reading
 pub mod First
 pub mod Starts

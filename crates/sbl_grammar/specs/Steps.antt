@@ -7,7 +7,7 @@ use Rattle.sbl_grammar.specs.Terminal as t
 -- what is wanted, with the depth of what holds it
 pub data Symbol : Type 0 where
   opening closing name argument command others rows for_ excluded subject operator comparison : ℕ → Symbol
-  factor scales sums starter groups entries condition : ℕ → Symbol
+  factor scales sums starter groups entries condition among : ℕ → Symbol
   inserts macro base literal definition terms names plain plains item items : Symbol
 
 abbrev pub Stack : Type 0
@@ -115,6 +115,10 @@ behind_command d t.dollar k = goes d (subject d ∷ k)
 behind_command d t.among k = goes d (opening d ∷ starter d ∷ groups d ∷ closing d ∷ k)
 behind_command d _ k = stuck
 
+abbrev pub behind_among : ℕ → Terminal → Stack → Step
+behind_among d t.among k = goes d (opening d ∷ starter d ∷ groups d ∷ closing d ∷ k)
+behind_among d _ k = stuck
+
 abbrev pub behind_others : ℕ → Terminal → Stack → Step
 behind_others d (t.joiner j) k = goes d (command d ∷ others d ∷ k)
 behind_others d _ k = stuck
@@ -197,6 +201,7 @@ behind (starter d) x k = behind_starter d x k
 behind (groups d) x k = behind_groups d x k
 behind (entries d) x k = behind_entries d x k
 behind (condition d) x k = behind_name d x k
+behind (among d) x k = behind_among d x k
 behind inserts x k = behind_inserts x k
 behind macro x k = behind_macro x k
 behind base x k = behind_base x k

@@ -7,6 +7,7 @@ use Rattle.sbl_grammar.specs.declared.error.Fault.TheVariants.{Syntax, TooDeep, 
 use Rattle.sbl_grammar.specs.declared.error.ReadError.{ReadError}
 use Rattle.sbl_grammar.specs.declared.error.ReadError.TheVariants as errors
 use Rattle.sbl_grammar.specs.Terminal.{terminals_of, left}
+use Rattle.sbl_grammar.specs.Texts.{Text}
 use Rattle.sbl_grammar.specs.Reading.{IsSyntaxAt, IsTooDeepAt, IsOutOfProfileAt}
 
 -- where the first of some tokens begins, or the end
@@ -18,11 +19,11 @@ abbrev pub place_at : List Token → ℕ → ℕ → ℕ
 place_at ts at end = place_of (drop at ts) end
 
 -- the fault is that of these tokens, at the byte where it stands
-abbrev pub IsFaultOf : List Token → ℕ → ScriptFault → Type 0
-IsFaultOf ts end (script.Syntax place) = (at : ℕ) × (place ≡ place_at ts at end) × IsSyntaxAt (terminals_of ts) (left ts at)
-IsFaultOf ts end (script.TooDeep place) = (at : ℕ) × (place ≡ place_at ts at end) × IsTooDeepAt (terminals_of ts) (left ts at)
-IsFaultOf ts end (script.OutOfProfile place) = (at : ℕ) × (place ≡ place_at ts at end) × IsOutOfProfileAt (terminals_of ts) (left ts at)
-IsFaultOf ts end _ = ⊥
+abbrev pub IsFaultOf : Text → List Token → ℕ → ScriptFault → Type 0
+IsFaultOf t ts end (script.Syntax place) = (at : ℕ) × (place ≡ place_at ts at end) × IsSyntaxAt t (terminals_of ts) (left ts at)
+IsFaultOf t ts end (script.TooDeep place) = (at : ℕ) × (place ≡ place_at ts at end) × IsTooDeepAt t (terminals_of ts) (left ts at)
+IsFaultOf t ts end (script.OutOfProfile place) = (at : ℕ) × (place ≡ place_at ts at end) × IsOutOfProfileAt t (terminals_of ts) (left ts at)
+IsFaultOf t ts end _ = ⊥
 
 -- what a reader answers, at its byte
 abbrev pub fault_told : List Token → ℕ → ReadError → ScriptFault

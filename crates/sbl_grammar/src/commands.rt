@@ -5,8 +5,8 @@ ghost use Rattle.sbl_grammar.specs.Terminal.{role_of, left};
 ghost use Rattle.sbl_grammar.specs.Terminal as t;
 ghost use Rattle.sbl_grammar.specs.Steps as wanted;
 ghost use Rattle.sbl_grammar.specs.Steps.{max_depth};
-ghost use Rattle.sbl_grammar.specs.Tree.{spelled, spelled_rows, spelled_others, spelled_starter, spelled_groups};
-ghost use Rattle.sbl_grammar.specs.View.{view_command, view_rows, view_others, view_starter, view_groups, view_entry};
+ghost use Rattle.sbl_grammar.specs.Tree.{chosen, spelled, spelled_rows, spelled_others, spelled_starter, spelled_groups};
+ghost use Rattle.sbl_grammar.specs.View.{view_among, view_command, view_rows, view_others, view_starter, view_groups, view_entry};
 ghost use Rattle.sbl_grammar.specs.Gives.{Gives};
 ghost use Rattle.std.specs.Prelude.{map};
 
@@ -57,7 +57,10 @@ pub fn command(
         Role::Edit(word) => edited(alloc, tokens, at, depth, word),
         Role::SetLimit => set_limit(alloc, tokens, at, depth),
         Role::Dollar => dollar(alloc, tokens, at, depth),
-        Role::Among => among(alloc, tokens, at, depth),
+        Role::Among => {
+            let (among, rest) = among(alloc, tokens, at, depth)?;
+            Ok((Command::Among(among), rest))
+        }
         _ => Err(syntax(at)),
     }
 }
@@ -139,26 +142,26 @@ fn set_limit(
 
 /// `among ( .. )`
 #[cycle(commands)]
-fn among(
+pub fn among(
     alloc: Global,
     tokens: &[Token<'_>],
     at: usize,
     depth: u8,
-) -> Result<(Command, usize), ReadError>
+) -> Result<(Among, usize), ReadError>
     requires first { role_of (left tokens.now at) ≡ Role.Among }
     requires shallow { depth ≤ max_depth }
-    ensures { Gives tokens.now at (wanted.command depth ∷ []) (λ x. spelled (view_command x.0) (left tokens.now x.1)) (λ x. x.1) result }
+    ensures { Gives tokens.now at (wanted.among depth ∷ []) (λ x. spelled (chosen (view_among x.0).0 (view_among x.0).1) (left tokens.now x.1)) (λ x. x.1) result }
 {
     let inside = open(tokens, behind(tokens, at), depth)?;
     let (starter, rest) = starter(alloc, tokens, inside, depth)?;
     let ((groups, bare), rest) = groups(alloc, tokens, rest, depth)?;
     let rest = close(tokens, rest, depth)?;
     Ok((
-        Command::Among(Among {
+        Among {
             starter,
             groups,
             bare,
-        }),
+        },
         rest,
     ))
 }

@@ -4,8 +4,8 @@ ghost use Rattle.std.specs.Prelude.{◌≡◌, ◌≤◌, ◌∷◌, [], map, st
 ghost use Rattle.sbl_grammar.specs.Terminal.{role_of, left};
 ghost use Rattle.sbl_grammar.specs.Terminal as t;
 ghost use Rattle.sbl_grammar.specs.Steps as wanted;
-ghost use Rattle.sbl_grammar.specs.Tree.{argument_terminal, spelled_names, spelled_base, spelled_terms, spelled_plain, spelled_plains, spelled_item, spelled_items};
-ghost use Rattle.sbl_grammar.specs.View.{view_argument, view_literal, view_term, view_plain, view_item, view_items};
+ghost use Rattle.sbl_grammar.specs.Tree.{argument_terminal, spelled, spelled_others, spelled_names, spelled_base, spelled_terms, spelled_plain, spelled_plains, spelled_item, spelled_items};
+ghost use Rattle.sbl_grammar.specs.View.{view_argument, view_literal, view_term, view_plain, view_row, view_item, view_items};
 ghost use Rattle.sbl_grammar.specs.Gives.{Gives};
 
 use crate::commands::{command, others};
@@ -32,7 +32,11 @@ fn names(alloc: Global, tokens: &[Token<'_>], at: usize) -> Result<(Vec<String>,
 }
 
 /// Further terms of a grouping, as many as come.
-fn terms(alloc: Global, tokens: &[Token<'_>], at: usize) -> Result<(Vec<Term>, usize), ReadError>
+pub fn terms(
+    alloc: Global,
+    tokens: &[Token<'_>],
+    at: usize,
+) -> Result<(Vec<Term>, usize), ReadError>
     ensures { Gives tokens.now at (wanted.terms ∷ []) (λ x. spelled_terms (map view_term x.0.items) (left tokens.now x.1)) (λ x. x.1) result }
 {
     let mut terms = Vec::new(alloc);
@@ -137,6 +141,15 @@ pub fn grouping_terms(
     let (first, rest) = argument(alloc, tokens, at, 0)?;
     let (others, rest) = terms(alloc, tokens, rest)?;
     Ok(((first, others), rest))
+}
+
+/// The body of a routine.
+pub fn row(alloc: Global, tokens: &[Token<'_>], at: usize) -> Result<(Row, usize), ReadError>
+    ensures { Gives tokens.now at (wanted.command 1 ∷ wanted.others 1 ∷ []) (λ x. spelled (view_row x.0).0 (spelled_others (view_row x.0).1 (left tokens.now x.1))) (λ x. x.1) result }
+{
+    let (first, rest) = command(alloc, tokens, at, 1)?;
+    let (others, rest) = others(alloc, tokens, rest, 1)?;
+    Ok((Row { first, others }, rest))
 }
 
 /// `define NAME as R` and `define NAME T1 + T2 ..`

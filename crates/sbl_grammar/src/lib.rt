@@ -1,8 +1,10 @@
 //! The grammar of Snowball: trees, the tokens of a tree, and the tree of some tokens.
 #![tactic(auto)]
 
+mod amongs;
 mod arithmetic;
 mod commands;
+mod copies;
 mod cursor;
 mod entries;
 mod error;
@@ -18,7 +20,9 @@ mod tests;
 mod tokens;
 mod tree;
 
-pub use reading::{one_fault, one_part, one_tree, parse};
+pub use amongs::put_in_place;
+pub use copies::{copy_among, copy_name, copy_plain, copy_row};
+pub use reading::{one_fault, one_part, one_tree, parse, parse_among, parse_body, parse_terms};
 pub use role::Role;
 pub use tree::{
     Added, Additive, Among, Argument, Assignment, Base, Command, Comparison, Constant, Count,

@@ -1,21 +1,27 @@
 //! The tree of some tokens.
 
-ghost use Rattle.std.specs.Prelude.{◌≡◌, ◌⊎◌, ◌∷◌, [], List, IfOk, IfErr};
+ghost use Rattle.std.specs.Prelude.{◌≡◌, ◌⊎◌, ◌≤◌, ◌∷◌, [], List, IfOk, IfErr, map};
 ghost use Rattle.sbl_text.specs.Lexemes.{Lexeme};
 ghost use Rattle.sbl_grammar.specs.Terminal.{Terminal, terminals_of, terminal_of, lexeme_as};
 ghost use Rattle.sbl_grammar.specs.Tree as trees;
 ghost use Rattle.sbl_grammar.specs.Tree.{written};
+ghost use Rattle.sbl_grammar.specs.Texts.{script, body, first_stack};
+ghost use Rattle.sbl_grammar.specs.Texts as texts;
 ghost use Rattle.sbl_grammar.specs.Reading.{IsReadAs};
-ghost use Rattle.sbl_grammar.specs.View.{view_items};
+ghost use Rattle.sbl_grammar.specs.View.{view_among, view_argument, view_items, view_row, view_term};
 ghost use Rattle.sbl_grammar.specs.Told.{IsFaultOf, place_at, fault_told};
 ghost use Rattle.sbl_grammar.specs.Gives.{Fails};
-ghost use Rattle.sbl_grammar.specs.Laws.{FaultIsOne, TreeOrFault};
-ghost use Rattle.sbl_grammar.specs.Steps.{fault};
+ghost use Rattle.sbl_grammar.specs.Laws.{FaultIsOne, PlacesAreWritten, TreeOrFault, TreesAreOne};
+ghost use Rattle.sbl_grammar.specs.Steps.{fault, max_depth};
 ghost use Rattle.sbl_grammar.specs.Steps as wanted;
 
+use crate::commands::among;
+use crate::cursor::role;
 use crate::error::{Fault, ReadError, syntax};
-use crate::items::items;
-use crate::tree::Item;
+use crate::items::{items, row, terms};
+use crate::role::Role;
+use crate::tokens::argument;
+use crate::tree::{Among, Argument, Item, Row, Term};
 use sbl_text::{ScriptFault, Token};
 use std::alloc::Global;
 
@@ -57,8 +63,8 @@ fn told(tokens: &[Token<'_>], end: usize, error: ReadError) -> ScriptFault
 /// * `OutOfProfile` at a `$` whose name has no operator behind it (our own choice);
 /// * `OutOfMemory` where memory was refused.
 pub fn parse(alloc: Global, tokens: &[Token<'_>], end: usize) -> Result<Vec<Item>, ScriptFault>
-    ensures read { IfOk result (λ items. IsReadAs (terminals_of tokens.now) (view_items items.items)) }
-    ensures fault { IfErr result (λ f. (f ≡ ScriptFault.OutOfMemory) ⊎ IsFaultOf tokens.now end f) }
+    ensures read { IfOk result (λ items. IsReadAs script (terminals_of tokens.now) (view_items items.items)) }
+    ensures fault { IfErr result (λ f. (f ≡ ScriptFault.OutOfMemory) ⊎ IsFaultOf script tokens.now end f) }
 {
     match all_items(alloc, tokens) {
         Ok(items) => Ok(items),
@@ -68,7 +74,7 @@ pub fn parse(alloc: Global, tokens: &[Token<'_>], end: usize) -> Result<Vec<Item
 
 /// All tokens, as items.
 fn all_items(alloc: Global, tokens: &[Token<'_>]) -> Result<Vec<Item>, ReadError>
-    ensures read { IfOk result (λ items. IsReadAs (terminals_of tokens.now) (view_items items.items)) }
+    ensures read { IfOk result (λ items. IsReadAs script (terminals_of tokens.now) (view_items items.items)) }
     ensures fault { IfErr result (λ e. Fails tokens.now e (fault (terminals_of tokens.now) (wanted.items ∷ []))) }
 {
     let (found, rest) = items(alloc, tokens, 0)?;
@@ -78,9 +84,105 @@ fn all_items(alloc: Global, tokens: &[Token<'_>]) -> Result<Vec<Item>, ReadError
     Ok(found)
 }
 
-/// Two trees with the same tokens are one.
+/// The body of a routine, of all the tokens of a text that is to stand in its place. `end` is the text's length in bytes.
+///
+/// Errors as those of `parse`, of which the first from the left is answered.
+pub fn parse_body(alloc: Global, tokens: &[Token<'_>], end: usize) -> Result<Row, ScriptFault>
+    ensures read { IfOk result (λ r. IsReadAs body (terminals_of tokens.now) (view_row r)) }
+    ensures fault { IfErr result (λ f. (f ≡ ScriptFault.OutOfMemory) ⊎ IsFaultOf body tokens.now end f) }
+{
+    match whole_body(alloc, tokens) {
+        Ok(row) => Ok(row),
+        Err(error) => Err(told(tokens, end, error)),
+    }
+}
+
+/// All tokens, as the body of a routine.
+fn whole_body(alloc: Global, tokens: &[Token<'_>]) -> Result<Row, ReadError>
+    ensures read { IfOk result (λ r. IsReadAs body (terminals_of tokens.now) (view_row r)) }
+    ensures fault { IfErr result (λ e. Fails tokens.now e (fault (terminals_of tokens.now) (first_stack body))) }
+{
+    let (found, rest) = row(alloc, tokens, 0)?;
+    if rest < tokens.len() {
+        return Err(syntax(rest));
+    }
+    Ok(found)
+}
+
+/// An among, of all the tokens of a text that is to stand in the place of one, at `depth`. `end` is the text's length in
+/// bytes.
+///
+/// Errors as those of `parse`, of which the first from the left is answered.
+pub fn parse_among(
+    alloc: Global,
+    tokens: &[Token<'_>],
+    end: usize,
+    depth: u8,
+) -> Result<Among, ScriptFault>
+    requires { depth ≤ max_depth }
+    ensures read { IfOk result (λ a. IsReadAs (texts.among depth) (terminals_of tokens.now) (view_among a)) }
+    ensures fault { IfErr result (λ f. (f ≡ ScriptFault.OutOfMemory) ⊎ IsFaultOf (texts.among depth) tokens.now end f) }
+{
+    match whole_among(alloc, tokens, depth) {
+        Ok(among) => Ok(among),
+        Err(error) => Err(told(tokens, end, error)),
+    }
+}
+
+/// All tokens, as an among at `depth`.
+fn whole_among(alloc: Global, tokens: &[Token<'_>], depth: u8) -> Result<Among, ReadError>
+    requires { depth ≤ max_depth }
+    ensures read { IfOk result (λ a. IsReadAs (texts.among depth) (terminals_of tokens.now) (view_among a)) }
+    ensures fault { IfErr result (λ e. Fails tokens.now e (fault (terminals_of tokens.now) (first_stack (texts.among depth)))) }
+{
+    match role(tokens, 0) {
+        Role::Among => {
+            let (found, rest) = among(alloc, tokens, 0, depth)?;
+            if rest < tokens.len() {
+                return Err(syntax(rest));
+            }
+            Ok(found)
+        }
+        _ => Err(syntax(0)),
+    }
+}
+
+/// The terms of a grouping, the first and those after it, of all the tokens of a text that is to stand in their place.
+/// `end` is the text's length in bytes.
+///
+/// Errors as those of `parse`, of which the first from the left is answered.
+pub fn parse_terms(
+    alloc: Global,
+    tokens: &[Token<'_>],
+    end: usize,
+) -> Result<(Argument, Vec<Term>), ScriptFault>
+    ensures read { IfOk result (λ x. IsReadAs texts.terms (terminals_of tokens.now) (view_argument x.0, map view_term x.1.items)) }
+    ensures fault { IfErr result (λ f. (f ≡ ScriptFault.OutOfMemory) ⊎ IsFaultOf texts.terms tokens.now end f) }
+{
+    match whole_terms(alloc, tokens) {
+        Ok(terms) => Ok(terms),
+        Err(error) => Err(told(tokens, end, error)),
+    }
+}
+
+/// All tokens, as the terms of a grouping.
+fn whole_terms(alloc: Global, tokens: &[Token<'_>]) -> Result<(Argument, Vec<Term>), ReadError>
+    ensures read { IfOk result (λ x. IsReadAs texts.terms (terminals_of tokens.now) (view_argument x.0, map view_term x.1.items)) }
+    ensures fault { IfErr result (λ e. Fails tokens.now e (fault (terminals_of tokens.now) (first_stack texts.terms))) }
+{
+    let (first, rest) = argument(alloc, tokens, 0, 0)?;
+    let (others, rest) = terms(alloc, tokens, rest)?;
+    if rest < tokens.len() {
+        return Err(syntax(rest));
+    }
+    Ok((first, others))
+}
+
+/// Two trees with the same tokens are one; so it is for the trees of each text that may stand for a part of a script.
 pub fn one_tree()
-    ensures { (t u : List trees.Item) → written t ≡ written u → t ≡ u }
+    ensures script { (t u : List trees.Item) → written t ≡ written u → t ≡ u }
+    ensures text { TreesAreOne }
+    ensures places { PlacesAreWritten }
 {}
 
 /// A token and the part that it plays in the grammar determine one another.

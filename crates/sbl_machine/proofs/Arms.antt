@@ -1,26 +1,49 @@
 -- What a command does, from its step on: the forms that the search leaves.
-use Rattle.std.proofs.Common.{◌≡◌, ℕ, ◌-◌, ◌<◌, ◌≤◌, zero, suc, Bool, true, false, List, [], ◌∷◌, Option, Some, None, Result, Ok, Err, refl, sym, ap, ◌∙◌, arith, rules, length, get_or, Vec, Box, Global}
-use Rattle.std.specs.Prelude.{slice_get}
+use Rattle.std.proofs.Common.{◌≡◌, ℕ, ◌+◌, ◌-◌, ◌<◌, ◌≤◌, zero, suc, Bool, true, false, List, [], ◌∷◌, Option, Some, None, Result, Err, refl, sym, ap, ◌∙◌, arith, rules, length, get_or, Vec, Box, Global}
+use Rattle.std.specs.Prelude.{slice_get, drop}
+use Rattle.std.proofs.lemmas.List.{drop_more}
 use Rattle.sbl_machine.specs.declared.action.Arithmetic.{Arithmetic}
+use Rattle.sbl_machine.specs.declared.fault.RunFault.{RunFault}
 use Rattle.sbl_machine.specs.declared.halt.Halt.{Halt}
-use Rattle.sbl_machine.specs.declared.halt.Halt.TheVariants.{OutOfMemory, Refused}
 use Rattle.sbl_machine.specs.declared.node.Entry.{Entry}
 use Rattle.sbl_machine.specs.declared.node.Node.{Node}
-use Rattle.sbl_machine.specs.declared.node.Node.TheVariants.{Or, And, Goto, GoPast, SetLimit, Repeat, Loop, AtLeast, Search, Among, Sequence}
+use Rattle.sbl_machine.specs.declared.node.Node.TheVariants.{Or, And, Not, Test, Try, Do, Fail, Backwards, Goto, GoPast, SetLimit, Repeat, Loop, AtLeast, Search, Among, Sequence}
 use Rattle.sbl_machine.specs.declared.state.Limits.{Limits}
 use Rattle.sbl_machine.specs.declared.node.Node.TheFolds.{fold_out-Node}
 use Rattle.sbl_machine.specs.declared.node.Node.TheViews.{the_lemmas}
-use Rattle.sbl_machine.specs.Kept.{Follows, Tried}
+use Rattle.sbl_machine.specs.Halts.{fault_of}
+use Rattle.sbl_machine.specs.Kept.{Follows, Halts, Tried}
 use Rattle.sbl_machine.specs.Listed.{Listed}
 use Rattle.sbl_machine.specs.Fitting.{first}
 use Rattle.sbl_machine.specs.Moves.{next}
 use Rattle.sbl_machine.specs.Numbers.{value, given}
 use Rattle.sbl_machine.specs.PlanOf.{view_node, view_nodes, view_number}
 use Rattle.sbl_machine.specs.Plan as plan
-use Rattle.sbl_machine.specs.Run.{turns, times, count_of, seeks, found, calls, runs, all_run, group_runs, nth_runs, leave, enter, body_does, limits, limited, limit_here, limit_back}
+use Rattle.sbl_machine.specs.Run.{turns, times, count_of, seeks, found, backwards_from, backwards_end, calls, runs, all_run, group_runs, nth_runs, leave, enter, body_does, limits, limited, limit_here, limit_back}
 use Rattle.sbl_machine.specs.Search.{choice, search_all, tries, try_one}
-use Rattle.sbl_machine.specs.Standing.{Standing, Ending, Doing, Signals, after, then_on, pay, mark, put_back}
+use Rattle.sbl_machine.specs.Standing.{Standing, Ending, Doing, Signals, Stops, after, then_on, pay, mark, put_back}
 use Rattle.sbl_script.specs.declared.marks.Mode.{Mode}
+use Rattle.sbl_script.specs.declared.marks.Mode.TheVariants.{Backward}
+
+-- an early end, through what leaves it as it is
+passed : (o : Option RunFault) (new : Standing) (e : Ending) (f : Ending → Ending) → ((fault : RunFault) → f (Stops fault new) ≡ Stops fault new) → Halts o new e → Halts o new (f e)
+passed None new e f same h = tt
+passed (Some fault) new e f same h = ap f h ∙ same fault
+
+-- an early end, fault by fault
+by_fault_of : (o : Option RunFault) (new : Standing) (e : Ending) → ((fault : RunFault) → o ≡ Some fault → e ≡ Stops fault new) → Halts o new e
+by_fault_of None new e h = tt
+by_fault_of (Some fault) new e h = h fault refl
+
+pub by_fault : (halt : Halt) (new : Standing) (e : Ending) → ((fault : RunFault) → fault_of halt ≡ Some fault → e ≡ Stops fault new) → Follows (Err halt) new e
+by_fault halt new e h = by_fault_of (fault_of halt) new e h
+
+stops_of : (o : Option RunFault) (new : Standing) (e : Ending) (fault : RunFault) → o ≡ Some fault → Halts o new e → e ≡ Stops fault new
+stops_of None new e fault is h = let no : ⊥ = cc in absurd no
+stops_of (Some f) new e fault is h = let same : f ≡ fault = cc in h ∙ ap (λ (k : RunFault). Stops k new) same
+
+pub stops_at : (halt : Halt) (new : Standing) (e : Ending) (fault : RunFault) → fault_of halt ≡ Some fault → Follows (Err halt) new e → e ≡ Stops fault new
+stops_at halt new e fault is h = stops_of (fault_of halt) new e fault is h
 
 pub follows_at : (r : Result Bool Halt) (new : Standing) (e w : Ending) → e ≡ w → Follows r new w → Follows r new e
 follows_at r new e w p h = rw p h
@@ -78,8 +101,7 @@ limited_signals m from e true t p = ap (limited m from) p
 limited_signals m from e false t p = ap (limited m from) p
 
 pub limited_halts : (m : Mode) (from : Limits) (halt : Halt) (new : Standing) (e : Ending) → Follows (Err halt) new e → Follows (Err halt) new (limited m from e)
-limited_halts m from OutOfMemory new e h = tt
-limited_halts m from (Refused fault) new e h = ap (limited m from) h
+limited_halts m from halt new e h = passed (fault_of halt) new e (limited m from) (λ fault. refl) h
 
 pub one_time : (l : ℕ) (c : Doing) (m : Mode) (s new : Standing) (w : Ending) → 0 < l → c m s ≡ Signals true new → times l c m s ≡ w → times (l - 1) c m new ≡ w
 one_time zero c m s new w l e h = absurd (omega arith)
@@ -134,8 +156,7 @@ one_more call a es m from (j ∷ js) i s place p q =
     (js, ap (λ k. k ∷ js) (sym same), ap (λ k. try_one call a (slice_get es k) m from s (tries call a es m from js)) (sym same))
 
 pub halted : (halt : Halt) (new : Standing) (e f w : Ending) → Tried (Err halt) new e f → e ≡ w → Follows (Err halt) new w
-halted OutOfMemory new e f w h p = tt
-halted (Refused fault) new e f w h p = sym p ∙ h
+halted halt new e f w h p = follows_at (Err halt) new w e (sym p) h
 
 -- a call with a level left
 pub called : (p : plan.Plan) (n i : ℕ) (m : Mode) (s : Standing) (r : plan.Routine) → 0 < n → slice_get p.routines i ≡ Some r → calls p n i m s ≡ leave s.choices (runs p (n - 1) r.body m (enter r.amongs s))
@@ -149,9 +170,57 @@ leave_signals cs e true t p = ap (leave cs) p
 leave_signals cs e false t p = ap (leave cs) p
 
 pub leave_halts : (cs : List (Option ℕ)) (halt : Halt) (new : Standing) (e : Ending) → Follows (Err halt) new e → Follows (Err halt) new (leave cs e)
-leave_halts cs OutOfMemory new e h = tt
-leave_halts cs (Refused fault) new e h = ap (leave cs) h
+leave_halts cs halt new e h = passed (fault_of halt) new e (leave cs) (λ fault. refl) h
 
 pub after_halts : (halt : Halt) (new : Standing) (e : Ending) (on_t on_f : Standing → Ending) → Follows (Err halt) new e → Follows (Err halt) new (after e on_t on_f)
-after_halts OutOfMemory new e on_t on_f h = tt
-after_halts (Refused fault) new e on_t on_f h = ap (λ r. after r on_t on_f) h
+after_halts halt new e on_t on_f h = passed (fault_of halt) new e (λ r. after r on_t on_f) (λ fault. refl) h
+
+-- a command whose signal is not looked at
+pub either_way : (b : Bool) (u : Standing) (go : Standing → Ending) → after (Signals b u) go go ≡ go u
+either_way true u go = refl
+either_way false u go = refl
+
+-- the i-th of some commands, and then those that follow it
+pub turn_is : (T : ℕ → Listed) (p : plan.Plan) (levels : ℕ) (cs : List Node) (i : ℕ) (x : Node) (m : Mode) (s : Standing) → i < length cs → x ≡ get_or cs i x → all_run p levels (view_nodes T (drop i cs)) m s ≡ after (runs p levels (view_node T x) m s) (all_run p levels (view_nodes T (drop (i + 1) cs)) m) (Signals false)
+turn_is T p levels cs i x m s l e = ap (λ ns. all_run p levels (view_nodes T ns) m s) (drop_more cs i x l ∙ ap (λ y. y ∷ drop (i + 1) cs) (sym e))
+
+-- a turn that is refused
+pub time_stops : (l : ℕ) (c : Doing) (m : Mode) (s new : Standing) (fault : RunFault) → 0 < l → c m s ≡ Stops fault new → times l c m s ≡ Stops fault new
+time_stops zero c m s new fault l e = absurd (omega arith)
+time_stops (suc k) c m s new fault l e = ap (λ r. after r (times k c m) (Signals false)) e
+
+view_not : (T : ℕ → Listed) (inner : Box Node Global) → view_node T (Not inner) ≡ plan.not (view_node T inner.value)
+view_not T inner = first_of (search (rules, the_lemmas), search (rules, the_lemmas, fold_out-Node))
+
+pub not_does : (T : ℕ → Listed) (p : plan.Plan) (levels : ℕ) (inner : Box Node Global) (m : Mode) (s : Standing) → runs p levels (view_node T (Not inner)) m s ≡ then_on (pay s.steps s) (λ q. after (runs p levels (view_node T inner.value) m q) (Signals false) (put_back m (mark q)))
+not_does T p levels inner m s = ap (λ c. runs p levels c m s) (view_not T inner)
+
+view_test : (T : ℕ → Listed) (inner : Box Node Global) → view_node T (Test inner) ≡ plan.test (view_node T inner.value)
+view_test T inner = first_of (search (rules, the_lemmas), search (rules, the_lemmas, fold_out-Node))
+
+pub test_does : (T : ℕ → Listed) (p : plan.Plan) (levels : ℕ) (inner : Box Node Global) (m : Mode) (s : Standing) → runs p levels (view_node T (Test inner)) m s ≡ then_on (pay s.steps s) (λ q. after (runs p levels (view_node T inner.value) m q) (put_back m (mark q)) (Signals false))
+test_does T p levels inner m s = ap (λ c. runs p levels c m s) (view_test T inner)
+
+view_try : (T : ℕ → Listed) (inner : Box Node Global) → view_node T (Try inner) ≡ plan.try (view_node T inner.value)
+view_try T inner = first_of (search (rules, the_lemmas), search (rules, the_lemmas, fold_out-Node))
+
+pub try_does : (T : ℕ → Listed) (p : plan.Plan) (levels : ℕ) (inner : Box Node Global) (m : Mode) (s : Standing) → runs p levels (view_node T (Try inner)) m s ≡ then_on (pay s.steps s) (λ q. after (runs p levels (view_node T inner.value) m q) (Signals true) (put_back m (mark q)))
+try_does T p levels inner m s = ap (λ c. runs p levels c m s) (view_try T inner)
+
+view_do : (T : ℕ → Listed) (inner : Box Node Global) → view_node T (Do inner) ≡ plan.do_ (view_node T inner.value)
+view_do T inner = first_of (search (rules, the_lemmas), search (rules, the_lemmas, fold_out-Node))
+
+pub do_does : (T : ℕ → Listed) (p : plan.Plan) (levels : ℕ) (inner : Box Node Global) (m : Mode) (s : Standing) → runs p levels (view_node T (Do inner)) m s ≡ then_on (pay s.steps s) (λ q. after (runs p levels (view_node T inner.value) m q) (put_back m (mark q)) (put_back m (mark q)))
+do_does T p levels inner m s = ap (λ c. runs p levels c m s) (view_do T inner)
+
+view_fail : (T : ℕ → Listed) (inner : Box Node Global) → view_node T (Fail inner) ≡ plan.fail (view_node T inner.value)
+view_fail T inner = first_of (search (rules, the_lemmas), search (rules, the_lemmas, fold_out-Node))
+
+pub fail_does : (T : ℕ → Listed) (p : plan.Plan) (levels : ℕ) (inner : Box Node Global) (m : Mode) (s : Standing) → runs p levels (view_node T (Fail inner)) m s ≡ then_on (pay s.steps s) (λ q. after (runs p levels (view_node T inner.value) m q) (Signals false) (Signals false))
+fail_does T p levels inner m s = ap (λ c. runs p levels c m s) (view_fail T inner)
+
+view_backwards : (T : ℕ → Listed) (inner : Box Node Global) → view_node T (Backwards inner) ≡ plan.backwards (view_node T inner.value)
+view_backwards T inner = first_of (search (rules, the_lemmas), search (rules, the_lemmas, fold_out-Node))
+
+pub backwards_does : (T : ℕ → Listed) (p : plan.Plan) (levels : ℕ) (inner : Box Node Global) (m : Mode) (s : Standing) → runs p levels (view_node T (Backwards inner)) m s ≡ then_on (pay s.steps s) (λ q. then_on (backwards_from q) (λ b. after (runs p levels (view_node T inner.value) Backward b) backwards_end (Signals false)))
+backwards_does T p levels inner m s = ap (λ c. runs p levels c m s) (view_backwards T inner)

@@ -66,7 +66,7 @@ nowhere strings w j h e =
 some_none : (i : ℕ) → Some i ≡ None → ⊥
 some_none i e = cc
 
-some_text : (v w : List ℕ) → Some v ≡ Some w → v ≡ w
+pub some_text : (v w : List ℕ) → Some v ≡ Some w → v ≡ w
 some_text v w e = cc
 
 -- one length of `below`
@@ -103,7 +103,7 @@ best_is_first strings x (suc l) r h best =
     one_length strings x l (position (pointwise nat_eq (take l x)) strings) r refl (omega arith) best (λ b. best_is_first strings x l r (omega arith) b)
 
 -- up to a length that the text takes, the strings that fit are those that fit the text so far
-take_take : (l m : ℕ) (x : List ℕ) → l ≤ m → take l (take m x) ≡ take l x
+pub take_take : (l m : ℕ) (x : List ℕ) → l ≤ m → take l (take m x) ≡ take l x
 take_take zero m x h = refl
 take_take (suc l) zero x h = absurd (omega arith)
 take_take (suc l) (suc m) [] h = refl

@@ -3,11 +3,11 @@ use Rattle.std.specs.Prelude.{◌≡◌, ℕ, List, slice_get}
 use Rattle.sbl_script.specs.declared.marks.Mode.{Mode}
 use Rattle.sbl_machine.specs.declared.machine.Machine.{Machine}
 use Rattle.sbl_machine.specs.Listed.{Listed, listed_by}
-use Rattle.sbl_machine.specs.declared.plain.PlainTable.{PlainTable}
+use Rattle.sbl_machine.specs.declared.linked.LinkedTable.{LinkedTable}
 use Rattle.sbl_machine.specs.Numbered.{numbered_script}
 use Rattle.sbl_machine.specs.Plan.{Plan}
 use Rattle.sbl_machine.specs.PlanOf.{plan_of}
-use Rattle.sbl_machine.specs.Strings.{entries_of, mode_of}
+use Rattle.sbl_machine.specs.LinkedStrings.{entries_of, mode_of}
 use Rattle.sbl_script.specs.Parsed.{Source}
 
 -- the strings of a machine's amongs, by number
@@ -22,6 +22,6 @@ machine_plan S entries mode m = plan_of (listed_in S entries mode m) m.program
 unfoldable pub IsMachineOf : (S : Type 0) → (S → List (List ℕ)) → (S → Mode) → Machine S → Source → Type 0
 IsMachineOf S entries mode m script = machine_plan S entries mode m ≡ numbered_script script
 
--- the same of a machine with plain tables
-abbrev pub IsPlainMachineOf : Machine PlainTable → Source → Type 0
-IsPlainMachineOf m script = IsMachineOf PlainTable entries_of mode_of m script
+-- the same of a machine with linked tables
+abbrev pub IsLinkedMachineOf : Machine LinkedTable → Source → Type 0
+IsLinkedMachineOf m script = IsMachineOf LinkedTable entries_of mode_of m script

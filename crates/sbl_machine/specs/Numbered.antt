@@ -1,5 +1,5 @@
 -- The program of a script: numbers for names, each `substring` tied to its among, groupings as sets.
-use Rattle.std.specs.Prelude.{ℕ, ◌-◌, Bool, true, false, List, [], ◌∷◌, ◌++◌, length, drop, if◌then◌else◌}
+use Rattle.std.specs.Prelude.{ℕ, ◌-◌, nat_lt, Bool, true, false, List, [], ◌∷◌, ◌++◌, length, drop, if◌then◌else◌}
 use Rattle.sbl_grammar.specs.declared.tree.Joiner.{Joiner}
 use Rattle.sbl_grammar.specs.declared.tree.Joiner.TheVariants.{Or, And}
 use Rattle.sbl_grammar.specs.declared.tree.Simple.{Simple}
@@ -34,9 +34,11 @@ use Rattle.sbl_machine.specs.NumberedSets.{sets_behind}
 use Rattle.sbl_machine.specs.Plan as plan
 use Rattle.sbl_machine.specs.PlanOf.{commands_of}
 
--- where a command stands: the amongs whose words are still to come, and whether a `substring` waits for the next of them
+-- Where a command stands: the amongs whose words are still to come, how many of them stand behind its region, and whether
+-- a `substring` waits for the next of them. A routine's body, a group's bracket and a starter are a region each.
 pub record Place : Type 0 where
   pub coming : List Found
+  pub behind : ℕ
   pub waits : Bool
 
 -- the next among
@@ -46,7 +48,11 @@ next_of (f ∷ fs) = f
 
 -- inside an among, behind its word
 abbrev pub inside : Place → Place
-inside p = record { coming = drop 1 p.coming; waits = false }
+inside p = record p { coming = drop 1 p.coming; waits = false }
+
+-- where nothing waits: at a region's beginning, and behind an among
+abbrev pub closed : Place → Place
+closed p = record p { waits = false }
 
 -- ---- the place behind a command
 
@@ -77,7 +83,7 @@ abbrev mutual
   past (assigned n o e) p = p
   past (compared n o e) p = p
   past (values_compared e o f) p = p
-  past (chosen s gs) p = past_groups gs (past_starter s (inside p))
+  past (chosen s gs) p = closed (past_groups gs (past_starter s (inside p)))
 
   pub past_rows : trees.Rows → Place → Place
   past_rows no_rows p = p
@@ -93,7 +99,15 @@ abbrev mutual
 
   pub past_groups : trees.Groups → Place → Place
   past_groups (bare es) p = p
-  past_groups (group e es rs gs) p = past_groups gs (past_rows rs p)
+  past_groups (group e es rs gs) p = past_groups gs (past_rows rs (closed p))
+
+-- at the beginning of a region, behind which a place is
+abbrev pub begun : Place → Place → Place
+begun p q = record { coming = p.coming; behind = length q.coming; waits = false }
+
+-- inside a bracket that is a region of its own
+abbrev pub region : trees.Rows → Place → Place
+region rs p = begun p (past_rows rs (closed p))
 
 -- ---- commands
 
@@ -101,10 +115,14 @@ abbrev mutual
 abbrev pub search_next : Place → plan.Command
 search_next p = plan.search (next_of p.coming).number (next_of p.coming).strings (next_of p.coming).entries
 
+-- that of a `substring`: f where its region has none ahead
+abbrev pub search_ahead : Place → plan.Command
+search_ahead p = if nat_lt p.behind (length p.coming) then search_next p else plan.act plan.f
+
 abbrev pub simple : Simple → Place → plan.Command
 simple simples.LeftBracket p = plan.act plan.left_bracket
 simple simples.RightBracket p = plan.act plan.right_bracket
-simple simples.Substring p = search_next p
+simple simples.Substring p = search_ahead p
 simple simples.Next p = plan.act plan.next
 simple simples.ToLimit p = plan.act plan.tolimit
 simple simples.AtLimit p = plan.act plan.atlimit
@@ -172,13 +190,13 @@ abbrev pub join : Joiner → plan.Command → plan.Command → plan.Command
 join Or c d = plan.either c d
 join And c d = plan.both c d
 
--- an among makes its search itself, unless a `substring` waits for it
+-- an among makes its search itself, and then comes its starter, unless a `substring` waits for it
 abbrev pub search_first : Place → List plan.Command → List plan.Command
-search_first p cs = if p.waits then cs else search_next p ∷ cs
+search_first p cs = if p.waits then [] else search_next p ∷ cs
 
 abbrev mutual
   pub numbered : Names → trees.Tree → Place → plan.Command
-  numbered ns (bracket rs) p = plan.sequence (commands_of (numbered_rows ns rs p []))
+  numbered ns (bracket rs) p = plan.sequence (commands_of (numbered_rows ns rs p))
   numbered ns (single s) p = simple s p
   numbered ns (quoted q) p = plan.act (plan.match (plan.literal q.value))
   numbered ns (called n) p = name_alone ns n
@@ -194,13 +212,12 @@ abbrev mutual
   numbered ns (values_compared e o f) p = plan.act (plan.compare (expression ns e) (relation_of o) (expression ns f))
   numbered ns (chosen s gs) p =
       plan.among (next_of p.coming).number (commands_of (search_first p (numbered_starter ns s (inside p))))
-      (commands_of (numbered_groups ns gs (past_starter s (inside p)) []))
+      (commands_of (numbered_groups ns gs (past_starter s (inside p))))
 
-  -- the rows of a bracket, behind the commands so far
-  pub numbered_rows : Names → trees.Rows → Place → List plan.Command → List plan.Command
-  numbered_rows ns no_rows p sofar = sofar
-  numbered_rows ns (row c os rs) p sofar =
-      numbered_rows ns rs (past_others os (past c p)) (sofar ++ numbered_others ns os (past c p) (numbered ns c p) ∷ [])
+  -- the rows of a bracket
+  pub numbered_rows : Names → trees.Rows → Place → List plan.Command
+  numbered_rows ns no_rows p = []
+  numbered_rows ns (row c os rs) p = numbered_others ns os (past c p) (numbered ns c p) ∷ numbered_rows ns rs (past_others os (past c p))
 
   -- commands joined from the left to the one so far
   pub numbered_others : Names → trees.Others → Place → plan.Command → plan.Command
@@ -209,24 +226,31 @@ abbrev mutual
 
   pub numbered_starter : Names → trees.Starter → Place → List plan.Command
   numbered_starter ns no_starter p = []
-  numbered_starter ns (starter rs) p = plan.sequence (commands_of (numbered_rows ns rs p [])) ∷ []
+  numbered_starter ns (starter rs) p = plan.sequence (commands_of (numbered_rows ns rs (region rs p))) ∷ []
 
-  -- the brackets of the groups, behind the commands so far; a last group may have none
-  pub numbered_groups : Names → trees.Groups → Place → List plan.Command → List plan.Command
-  numbered_groups ns (bare es) p sofar = sofar
-  numbered_groups ns (group e es rs gs) p sofar =
-      numbered_groups ns gs (past_rows rs p) (sofar ++ plan.sequence (commands_of (numbered_rows ns rs p [])) ∷ [])
+  -- the brackets of the groups; a last group may have none
+  pub numbered_groups : Names → trees.Groups → Place → List plan.Command
+  numbered_groups ns (bare es) p = []
+  numbered_groups ns (group e es rs gs) p =
+      plan.sequence (commands_of (numbered_rows ns rs (region rs p))) ∷ numbered_groups ns gs (past_rows rs (closed p))
 
 -- ---- routines
 
+-- behind a body, and at its beginning
+abbrev pub past_body : trees.Tree → trees.Others → Place → Place
+past_body c os p = past_others os (past c (closed p))
+
+abbrev pub body_begun : trees.Tree → trees.Others → Place → Place
+body_begun c os p = begun p (past_body c os p)
+
 abbrev pub routine_of : Names → trees.Tree → trees.Others → Place → plan.Routine
 routine_of ns c os p = record {
-  body = numbered_others ns os (past c p) (numbered ns c p);
-  amongs = length p.coming - length (past_others os (past c p)).coming;
+  body = numbered_others ns os (past c (body_begun c os p)) (numbered ns c (body_begun c os p));
+  amongs = length p.coming - length (past_body c os p).coming;
 }
 
 abbrev pub past_plain : trees.Plain → Place → Place
-past_plain (routine n c os) p = past_others os (past c p)
+past_plain (routine n c os) p = past_body c os p
 past_plain (declaration k xs) p = p
 past_plain (escapes a b) p = p
 past_plain (macro n b q) p = p
@@ -253,7 +277,7 @@ plan_by ns items amongs external = record {
   booleans = length ns.booleans;
   strings = length ns.strings;
   groupings = sets_behind ns items [];
-  routines = routines_behind ns items (record { coming = amongs; waits = false }) [];
+  routines = routines_behind ns items (record { coming = amongs; behind = 0; waits = false }) [];
   external = number_of ns.routines external;
 }
 

@@ -1,14 +1,12 @@
 -- The amongs of a script in the order of their words `among`: the number of each in its routine, its strings and the mode of the place, and what stands beside each string.
 use Rattle.std.specs.Prelude.{ℕ, ◌+◌, ◌-◌, List, [], ◌∷◌, ◌++◌, length, Option, Some, None}
-use Rattle.sbl_grammar.specs.declared.tree.Prefix.{Prefix}
-use Rattle.sbl_grammar.specs.declared.tree.Prefix.TheVariants as prefixes
 use Rattle.sbl_grammar.specs.Tree as trees
 use Rattle.sbl_grammar.specs.Tree.{bracket, single, quoted, called, excluded, prefixed, counted, moved, named, edited, limited, assigned, compared, values_compared, chosen, no_rows, row, no_others, joined, no_starter, starter, bare, group, declaration, escapes, macro, routine, grouping}
 use Rattle.sbl_script.specs.declared.marks.Mode.{Mode}
-use Rattle.sbl_script.specs.declared.marks.Mode.TheVariants.{Backward}
 use Rattle.sbl_machine.specs.declared.node.Entry.{Entry}
 use Rattle.sbl_machine.specs.Listed.{Listed, listing}
 use Rattle.sbl_machine.specs.NumberedNames.{Names, Placed, number_of}
+use Rattle.sbl_machine.specs.Regions.{mode_behind}
 
 pub record Found : Type 0 where
   pub number : ℕ
@@ -47,18 +45,6 @@ entries_behind ns g (group e es rs gs) sofar = entries_behind ns (g + 1) gs (ent
 abbrev pub found_of : Names → ℕ → Mode → trees.Groups → List Found → Found
 found_of ns first m gs sofar =
     record { number = length sofar - first; strings = listing m (strings_behind gs []); entries = entries_behind ns 0 gs [] }
-
--- the mode of a command behind a prefix
-abbrev pub mode_behind : Prefix → Mode → Mode
-mode_behind prefixes.Backwards m = Backward
-mode_behind prefixes.Not m = m
-mode_behind prefixes.Test m = m
-mode_behind prefixes.Try m = m
-mode_behind prefixes.Do m = m
-mode_behind prefixes.Fail m = m
-mode_behind prefixes.Repeat m = m
-mode_behind prefixes.GoTo m = m
-mode_behind prefixes.GoPast m = m
 
 abbrev mutual
   -- the amongs of a command

@@ -4,13 +4,9 @@ use Rattle.std.specs.Str.{bytes_eq}
 use Rattle.sbl_grammar.specs.declared.tree.DeclarationKind.{DeclarationKind}
 use Rattle.sbl_grammar.specs.declared.tree.DeclarationKind.TheVariants as kinds
 use Rattle.sbl_grammar.specs.Tree.{Item, Plain, declaration, escapes, macro, routine, grouping, plain, backward}
+pub use Rattle.sbl_machine.specs.Items.{Placed}
 use Rattle.sbl_script.specs.declared.marks.Mode.{Mode}
 use Rattle.sbl_script.specs.declared.marks.Mode.TheVariants.{Forward, Backward}
-
--- an item with the mode in which it stands
-pub record Placed : Type 0 where
-  pub mode : Mode
-  pub plain : Plain
 
 -- items of this mode, behind those so far
 abbrev pub placed_in : Mode → List Plain → List Placed → List Placed

@@ -1,5 +1,5 @@
 -- The sets of the groupings: the terms from the left, each added or taken away.
-use Rattle.std.specs.Prelude.{ℕ, ◌+◌, Bool, not, List, [], ◌∷◌, ◌++◌, length, nat_eq, if◌then◌else◌, slice_index_or}
+use Rattle.std.specs.Prelude.{ℕ, Bool, List, [], ◌∷◌, ◌++◌, nat_eq, if◌then◌else◌, slice_index_or}
 use Rattle.std.specs.List.{list_any}
 use Rattle.sbl_grammar.specs.declared.tree.Additive.{Additive}
 use Rattle.sbl_grammar.specs.declared.tree.Additive.TheVariants.{Plus, Minus}

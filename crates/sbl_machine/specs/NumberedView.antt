@@ -9,7 +9,7 @@ use Rattle.sbl_machine.specs.Listed.{Listed, listing}
 use Rattle.sbl_machine.specs.NumberedAmongs as amongs
 use Rattle.sbl_machine.specs.NumberedNames as names
 use Rattle.sbl_machine.specs.Numbered as numbered
-use Rattle.sbl_machine.specs.declared.numbering.commands.Place.{Place}
+use Rattle.sbl_machine.specs.declared.numbering.place.Place.{Place}
 use Rattle.sbl_script.specs.declared.marks.Mode.TheVariants.{Forward}
 
 abbrev pub view_placed : Placed → names.Placed
@@ -43,4 +43,4 @@ abbrev pub strings_at : List Found → ℕ → Listed
 strings_at fs k = strings_or (slice_get fs k)
 
 abbrev pub view_place : List Found → Place → numbered.Place
-view_place fs p = record { coming = map view_found (drop p.next fs); waits = p.waits }
+view_place fs p = record { coming = map view_found (drop p.next fs); behind = p.behind; waits = p.waits }

@@ -1,10 +1,10 @@
 -- What a run over a word gives, and what it costs.
-use Rattle.std.specs.Prelude.{ℕ, pos, false, ◌+◌, ◌-◌, List, [], length, replicate}
+use Rattle.std.specs.Prelude.{ℕ, pos, false, ◌+◌, ◌-◌, List, [], replicate}
 use Rattle.sbl_machine.specs.declared.fault.RunFault.{RunFault}
 use Rattle.sbl_machine.specs.declared.fault.RunFault.TheVariants as faults
 use Rattle.sbl_machine.specs.declared.outcome.Outcome.{Outcome}
 use Rattle.sbl_machine.specs.declared.outcome.Outcome.TheVariants as code
-use Rattle.sbl_machine.specs.Numbered.{numbered_script}
+use Rattle.sbl_machine.specs.Meaning.{ending}
 use Rattle.sbl_machine.specs.Plan as plan
 use Rattle.sbl_machine.specs.Run.{calls}
 use Rattle.sbl_machine.specs.Standing.{Standing, Ending, Signals, Stops}
@@ -54,7 +54,7 @@ used_at limit (Stops fault s) = limit - s.steps
 
 -- what a run of a script over a word gives, with so many steps, and what it costs
 unfoldable pub run_of : Source → List ℕ → ℕ → Outcome'
-run_of script word limit = outcome_at (ending_of (numbered_script script) word limit)
+run_of script word limit = outcome_at (ending script word limit)
 
 unfoldable pub used_of : Source → List ℕ → ℕ → ℕ
-used_of script word limit = used_at limit (ending_of (numbered_script script) word limit)
+used_of script word limit = used_at limit (ending script word limit)

@@ -1,5 +1,5 @@
 -- The search of an among.
-use Rattle.std.specs.Prelude.{ℕ, zero, suc, Bool, true, false, List, [], ◌∷◌, length, nat_lt, if◌then◌else◌, Option, Some, None, slice_get, slice_index_or, slice_set}
+use Rattle.std.specs.Prelude.{ℕ, true, false, List, [], ◌∷◌, length, nat_lt, if◌then◌else◌, Option, Some, None, slice_get, slice_index_or, slice_set}
 use Rattle.sbl_machine.specs.declared.node.Entry.{Entry}
 use Rattle.sbl_machine.specs.Listed.{Listed, fits_at}
 use Rattle.sbl_machine.specs.Standing.{Standing, Ending, Signals, Doing, after, then_on, pay, mark, limit_of, place_after}

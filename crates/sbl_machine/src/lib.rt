@@ -6,6 +6,7 @@ mod copies;
 pub mod fault;
 mod halt;
 pub mod laws;
+pub mod linked;
 pub mod machine;
 pub mod meter;
 pub mod node;
@@ -18,11 +19,15 @@ mod state;
 pub mod table;
 
 pub use fault::{RunFault, RunStop};
+pub use linked::LinkedTable;
 pub use machine::Machine;
 pub use meter::Meter;
 pub use outcome::{Outcome, Ran};
 pub use plain::PlainTable;
 pub use search::AmongSearch;
+
+/// The search that a program runs on.
+pub type Table = LinkedTable;
 
 #[cfg(test)]
 mod tests;

@@ -7,6 +7,7 @@ ghost use Rattle.sbl_machine.specs.Outcome.{outcome_at, outcome_of, run_of, used
 ghost use Rattle.sbl_script.specs.Parsed.{Source, source_of};
 ghost use Rattle.sbl_machine.specs.Standing.{Ending};
 
+use crate::copies::copied;
 use crate::fault::{RunFault, RunStop};
 use crate::halt::Halt;
 use crate::meter::Meter;
@@ -61,18 +62,25 @@ impl<S: AmongSearch> Machine<S> {
         if meter.is_full() {
             return Err(RunStop::MeterFull);
         }
-        let ran = self.ran(alloc, word, limit)?;
+        let (ran, state) = self.ran(alloc, meter.take_last(), word, limit)?;
         meter.raise();
+        meter.keep_last(state);
         Ok(ran)
     }
 
-    /// The run itself.
-    fn ran(&self, alloc: Global, word: &[char], limit: u32) -> Result<Ran, AllocError>
+    /// The run itself, and the state in which it ended.
+    fn ran(
+        &self,
+        alloc: Global,
+        earlier: Option<State>,
+        word: &[char],
+        limit: u32,
+    ) -> Result<(Ran, State), AllocError>
         requires { length word.now ≤ 255 }
-        ensures outcome { (script : Source) → IsMachineOf S S.entries S.mode self.now script → IfOk result (λ ran. outcome_of ran.outcome ≡ run_of script word.now limit) }
-        ensures used { (script : Source) → IsMachineOf S S.entries S.mode self.now script → IfOk result (λ ran. ran.used ≡ used_of script word.now limit) }
+        ensures outcome { (script : Source) → IsMachineOf S S.entries S.mode self.now script → IfOk result (λ r. outcome_of r.0.outcome ≡ run_of script word.now limit) }
+        ensures used { (script : Source) → IsMachineOf S S.entries S.mode self.now script → IfOk result (λ r. r.0.used ≡ used_of script word.now limit) }
     {
-        let mut state = State::start(alloc, &self.program, word, limit)?;
+        let mut state = State::start(alloc, earlier, &self.program, word, limit)?;
         let end = run_call(
             &self.tables,
             &self.program,
@@ -81,28 +89,36 @@ impl<S: AmongSearch> Machine<S> {
             self.program.external,
             &mut state,
         );
-        ended(end, limit, state)
+        let ran = ended(alloc, end, limit, &state)?;
+        Ok((ran, state))
     }
 }
 
 /// What a run gave that ended so. AllocError where it was for want of memory.
-fn ended(end: Result<bool, Halt>, limit: u32, state: State) -> Result<Ran, AllocError>
-    ensures outcome { (e : Ending) → Follows end state e → IfOk result (λ ran. outcome_of ran.outcome ≡ outcome_at e) }
-    ensures used { (e : Ending) → Follows end state e → IfOk result (λ ran. ran.used ≡ used_at limit e) }
+fn ended(
+    alloc: Global,
+    end: Result<bool, Halt>,
+    limit: u32,
+    state: &State,
+) -> Result<Ran, AllocError>
+    ensures outcome { (e : Ending) → Follows end state.now e → IfOk result (λ ran. outcome_of ran.outcome ≡ outcome_at e) }
+    ensures used { (e : Ending) → Follows end state.now e → IfOk result (λ ran. ran.used ≡ used_at limit e) }
 {
     let paid = u64::from(limit.saturating_sub(state.steps()));
     match end {
-        Err(Halt::OutOfMemory) => Err(AllocError),
-        Err(Halt::Refused(fault)) => Ok(Ran {
-            outcome: Outcome::Refused(fault),
-            used: if fault == RunFault::Steps {
-                u64::from(limit) + 1
-            } else {
-                paid
-            },
-        }),
+        Err(halt) => match halt.fault() {
+            None => Err(AllocError),
+            Some(fault) => Ok(Ran {
+                outcome: Outcome::Refused(fault),
+                used: if fault == RunFault::Steps {
+                    u64::from(limit) + 1
+                } else {
+                    paid
+                },
+            }),
+        },
         Ok(_) => Ok(Ran {
-            outcome: Outcome::Stem(state.into_text()),
+            outcome: Outcome::Stem(copied(alloc, state.text())?),
             used: paid,
         }),
     }

@@ -2,12 +2,15 @@
 
 ghost use Rattle.std.specs.Prelude.{◌≡◌, ◌+◌, ◌<◌, ◌^◌, IsTrue, false, ◌↔◌};
 
+use crate::state::State;
 use std::marker::Model;
 
-/// Counts the runs that were made.
+/// Counts the runs that were made, and keeps what the last one leaves to the next.
 #[derive(Drop)]
 pub struct Meter {
     runs: u64,
+    // The state in which the last run ended: the next one takes its buffers.
+    last: Option<State>,
 }
 
 impl Model for Meter {
@@ -23,7 +26,10 @@ impl Meter {
     pub fn new() -> Meter
         ensures { result ≡ 0 }
     {
-        Meter { runs: 0 }
+        Meter {
+            runs: 0,
+            last: None,
+        }
     }
 
     /// How many runs were made.
@@ -46,7 +52,21 @@ impl Meter {
         requires { self.old < u64.MAX }
         ensures { self.new ≡ self.old + 1 }
     {
-        let Meter { runs } = self;
+        let Meter { runs, last: _ } = self;
         *runs += 1;
+    }
+
+    /// The state in which the last run ended, if one is kept. It is kept no more.
+    pub(crate) fn take_last(&mut self) -> Option<State>
+        ensures { self.new ≡ self.old }
+    {
+        self.last.take()
+    }
+
+    /// Keeps a state for the next run.
+    pub(crate) fn keep_last(&mut self, state: State)
+        ensures { self.new ≡ self.old }
+    {
+        self.last = Some(state);
     }
 }

@@ -4,5 +4,6 @@ mod amongs;
 mod commands;
 mod names;
 mod numbers;
+mod place;
 pub mod program;
 mod sets;

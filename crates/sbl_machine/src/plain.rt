@@ -64,12 +64,8 @@ impl AmongSearch for PlainTable {
         strings: &[Vec<char>],
         direction: Mode,
     ) -> Result<PlainTable, AllocError> {
-        let mut copies = Vec::new(alloc);
-        for string in strings {
-            add(alloc, &mut copies, string)?;
-        }
         Ok(PlainTable {
-            strings: copies,
+            strings: copied_all(alloc, strings)?,
             direction,
         })
     }
@@ -87,6 +83,17 @@ impl AmongSearch for PlainTable {
     }
 }
 
+/// Copies of strings.
+pub fn copied_all(alloc: Global, strings: &[Vec<char>]) -> Result<Vec<Vec<char>>, AllocError>
+    ensures { IfOk result (λ copies. map (λ v. v.items) copies.items ≡ map (λ v. v.items) strings.now) }
+{
+    let mut copies = Vec::new(alloc);
+    for string in strings {
+        add(alloc, &mut copies, string)?;
+    }
+    Ok(copies)
+}
+
 /// Adds a copy of a string.
 fn add(alloc: Global, copies: &mut Vec<Vec<char>>, string: &[char]) -> Result<(), AllocError>
     ensures { IfOk result (λ _. map (λ v. v.items) copies.new.items ≡ map (λ v. v.items) copies.old.items ++ (string.now ∷ [])) }
@@ -96,7 +103,7 @@ fn add(alloc: Global, copies: &mut Vec<Vec<char>>, string: &[char]) -> Result<()
 }
 
 /// What is ahead of a place, as it lies in the text.
-fn ahead(direction: Mode, text: &[char], at: usize, bound: usize) -> &[char]
+pub fn ahead(direction: Mode, text: &[char], at: usize, bound: usize) -> &[char]
     requires at_in { at ≤ length text.now }
     requires bound_in { bound ≤ length text.now }
     ensures { read_as direction result.now ≡ ahead_at direction text.now at bound }

@@ -9,7 +9,6 @@ ghost use Rattle.sbl_machine.specs.Search.{choice, search_all, try_one};
 ghost use Rattle.sbl_machine.specs.Standing.{Standing, Ending, Signals, after, then_on, mark, put_back};
 
 use crate::action::Arithmetic;
-use crate::fault::RunFault;
 use crate::halt::Halt;
 use crate::node::{Entry, Node, Program};
 use crate::state::numbers::count_of;
@@ -186,7 +185,7 @@ fn run_times<T: Tables>(
     ensures follows { Follows result state.new (given (value (view_number count.now) mode state.old) state.old (λ z. times (count_of z) (runs (plan_of (T.listed tables.now) program.now) levels (view_node (T.listed tables.now) inner.now)) mode state.old)) }
     ensures no_more { IfOk result (λ _. state.new.steps ≤ state.old.steps) }
 {
-    let number = state.value(mode, count).map_err(Halt::Refused)?;
+    let number = state.value(mode, count)?;
     let mut left = count_of(number);
     while 0 < left {
         if !run_command(tables, program, levels, mode, inner, state)? {
@@ -240,7 +239,7 @@ pub fn run_call<T: Tables>(
     ensures no_more { IfOk result (λ _. state.new.steps ≤ state.old.steps) }
 {
     if levels == 0 {
-        return Err(Halt::Refused(RunFault::Depth));
+        return Err(Halt::Depth);
     }
     match program.routine(number) {
         None => Ok(false),

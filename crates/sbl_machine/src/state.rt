@@ -17,7 +17,6 @@ mod slices;
 
 use crate::action::StringTerm;
 use crate::copies::copied;
-use crate::fault::RunFault;
 use crate::halt::Halt;
 use crate::node::Program;
 use sbl_script::Mode;
@@ -79,9 +78,30 @@ pub struct Mark {
 }
 
 impl State {
-    /// Where a run of a word begins, with so many steps. AllocError where a growth was refused.
+    // A state that holds nothing, whose buffers are made as they are needed.
+    fn empty(alloc: Global) -> State {
+        State {
+            text: Vec::new(alloc),
+            cursor: 0,
+            left: 0,
+            beyond: 0,
+            bra: 0,
+            ket: 0,
+            integers: Vec::new(alloc),
+            booleans: Vec::new(alloc),
+            strings: Vec::new(alloc),
+            choices: Vec::new(alloc),
+            steps: 0,
+            spare: Vec::new(alloc),
+            spares: Vec::new(alloc),
+        }
+    }
+
+    /// Where a run of a word begins, with so many steps, in the buffers of an earlier run. AllocError where a growth was
+    /// refused.
     pub fn start(
         alloc: Global,
+        earlier: Option<State>,
         program: &Program,
         word: &[char],
         steps: u32,
@@ -89,11 +109,26 @@ impl State {
         requires { length word.now ≤ 255 }
         ensures { (tables : ℕ → Listed) → IfOk result (λ s. s ≡ start (plan_of tables program.now) word.now steps) }
     {
-        let text = copied(alloc, word)?;
-        let mut integers = Vec::new(alloc);
+        let earlier = match earlier {
+            None => State::empty(alloc),
+            Some(state) => state,
+        };
+        let State {
+            mut text,
+            mut integers,
+            mut booleans,
+            mut choices,
+            spare,
+            spares,
+            ..
+        } = earlier;
+        text.clear();
+        text.extend_from_slice(word)?;
+        integers.clear();
         integers.resize(program.integers, 0)?;
-        let mut booleans = Vec::new(alloc);
+        booleans.clear();
         booleans.resize(program.booleans, false)?;
+        choices.clear();
         let strings = empty_strings(alloc, program.strings)?;
         Ok(State {
             text,
@@ -105,18 +140,11 @@ impl State {
             integers,
             booleans,
             strings,
-            choices: Vec::new(alloc),
+            choices,
             steps,
-            spare: Vec::new(alloc),
-            spares: Vec::new(alloc),
+            spare,
+            spares,
         })
-    }
-
-    /// The text, at the end of a run.
-    pub fn into_text(self) -> Vec<char>
-        ensures { result.items ≡ self.text }
-    {
-        self.text
     }
 
     /// The steps that are left.
@@ -131,7 +159,7 @@ impl State {
         ensures { Leads result self.new (pay self.old.steps self.old) }
     {
         if self.steps == 0 {
-            return Err(Halt::Refused(RunFault::Steps));
+            return Err(Halt::Steps);
         }
         self.steps -= 1;
         Ok(())
@@ -142,7 +170,7 @@ impl State {
         ensures { Leads result self.new (at_place place self.old) }
     {
         if place > self.text.len() {
-            return Err(Halt::Refused(RunFault::Cursor));
+            return Err(Halt::Cursor);
         }
         self.cursor = place;
         Ok(())
@@ -153,7 +181,7 @@ impl State {
         ensures { Leads result self.new (at_difference a b self.old) }
     {
         if a < b {
-            return Err(Halt::Refused(RunFault::Cursor));
+            return Err(Halt::Cursor);
         }
         self.go_to(a - b)
     }
@@ -194,7 +222,7 @@ impl State {
         match mode {
             Mode::Forward => {
                 if n > self.text.len() - self.cursor {
-                    return Err(Halt::Refused(RunFault::Cursor));
+                    return Err(Halt::Cursor);
                 }
                 self.cursor += n;
                 Ok(())

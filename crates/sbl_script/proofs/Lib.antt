@@ -7,3 +7,5 @@ pub mod Extends
 pub mod Sound
 pub mod Resolving
 pub mod OneReading
+pub mod Editing
+pub mod OneEdit

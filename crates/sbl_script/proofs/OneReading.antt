@@ -6,9 +6,11 @@ use Rattle.sbl_text.specs.declared.fault.ScriptFault.{ScriptFault}
 use Rattle.sbl_text.specs.declared.fault.ScriptFault.TheVariants as fault
 use Rattle.sbl_text.specs.Lexemes.{Lexeme}
 use Rattle.sbl_text.specs.Literals.{byte_length}
-use Rattle.sbl_text.specs.Tokens.{Piece, Placed, AreTokens, ArePlaced, and_more, said, put_placed, placed_from}
+use Rattle.sbl_text.specs.States.{State, start}
+use Rattle.sbl_text.specs.Tokens.{Piece, Placed, AreTokensFrom, ArePlacedFrom, and_more, said, put_placed, placed_from}
 use Rattle.sbl_text.specs.Laws.{PlacesAreOne, FirstFaultIsOne, TokensOrFault}
-use Rattle.sbl_grammar.specs.Tree.{Item, written}
+use Rattle.sbl_grammar.specs.Tree.{Item}
+use Rattle.sbl_grammar.specs.Texts.{Text, TreeOf, script}
 use Rattle.sbl_grammar.specs.Reading.{IsReadAs, IsSyntaxAt, IsTooDeepAt, IsOutOfProfileAt}
 use Rattle.sbl_grammar.specs.Laws as grammar
 use Rattle.sbl_script.specs.Parsed.{Source}
@@ -20,7 +22,7 @@ pub record Known : Type 0 where
   pub places : PlacesAreOne
   pub first : FirstFaultIsOne
   pub either : TokensOrFault
-  pub tree : (t u : List Item) → written t ≡ written u → t ≡ u
+  pub tree : grammar.TreesAreOne
   pub fault : grammar.FaultIsOne
   pub none : grammar.TreeOrFault
 
@@ -34,30 +36,30 @@ said_so : (place : ℕ) (ps : List Piece) → map (λ (p : Placed). p.lexeme) (p
 said_so place [] = refl
 said_so place (p ∷ ps) = said_by p.lexeme place p.text (placed_from (place + byte_length p.text) ps) (said ps) (said_so (place + byte_length p.text) ps)
 
-are_tokens : (text : List ℕ) (ts : List Placed) → ArePlaced text ts → AreTokens text (map (λ (p : Placed). p.lexeme) ts)
-are_tokens text ts h = (h.0, h.1, h.2, h.3, ap (map (λ (p : Placed). p.lexeme)) h.4 ∙ said_so 0 h.0)
+are_tokens : (s : State) (text : List ℕ) (ts : List Placed) → ArePlacedFrom s text ts → AreTokensFrom s text (map (λ (p : Placed). p.lexeme) ts)
+are_tokens s text ts h = (h.0, h.1, h.2, h.3, ap (map (λ (p : Placed). p.lexeme)) h.4 ∙ said_so 0 h.0)
 
 -- ---- the text
 
-text_is_one : Known → (bytes : List ℕ) (f g : ScriptFault) → IsTextFault bytes f → IsTextFault bytes g → f ≡ g
-text_is_one k bytes f g (inl a) (inl b) = a.1 ∙ sym b.1
-text_is_one k bytes f g (inl a) (inr (inl b)) = absurd (omega (arith, a.0, b.0))
-text_is_one k bytes f g (inl a) (inr (inr b)) = absurd (omega (arith, a.0, b.0))
-text_is_one k bytes f g (inr (inl a)) (inl b) = absurd (omega (arith, a.0, b.0))
-text_is_one k bytes f g (inr (inl a)) (inr (inl b)) = a.2 ∙ sym b.2
-text_is_one k bytes f g (inr (inl a)) (inr (inr b)) = absurd (a.1 b.1)
-text_is_one k bytes f g (inr (inr a)) (inl b) = absurd (omega (arith, a.0, b.0))
-text_is_one k bytes f g (inr (inr a)) (inr (inl b)) = absurd (b.1 a.1)
-text_is_one k bytes f g (inr (inr a)) (inr (inr b)) = k.first (chars bytes) f g a.2 b.2
+pub text_is_one : Known → (s : State) (bytes : List ℕ) (f g : ScriptFault) → IsTextFault s bytes f → IsTextFault s bytes g → f ≡ g
+text_is_one k s bytes f g (inl a) (inl b) = a.1 ∙ sym b.1
+text_is_one k s bytes f g (inl a) (inr (inl b)) = absurd (omega (arith, a.0, b.0))
+text_is_one k s bytes f g (inl a) (inr (inr b)) = absurd (omega (arith, a.0, b.0))
+text_is_one k s bytes f g (inr (inl a)) (inl b) = absurd (omega (arith, a.0, b.0))
+text_is_one k s bytes f g (inr (inl a)) (inr (inl b)) = a.2 ∙ sym b.2
+text_is_one k s bytes f g (inr (inl a)) (inr (inr b)) = absurd (a.1 b.1)
+text_is_one k s bytes f g (inr (inr a)) (inl b) = absurd (omega (arith, a.0, b.0))
+text_is_one k s bytes f g (inr (inr a)) (inr (inl b)) = absurd (b.1 a.1)
+text_is_one k s bytes f g (inr (inr a)) (inr (inr b)) = k.first s (chars bytes) f g a.2 b.2
 
 -- a text with tokens has no fault
-no_text_fault : Known → (bytes : List ℕ) (ts : List Placed) (f : ScriptFault) → HasTokens bytes ts → IsTextFault bytes f → ⊥
-no_text_fault k bytes ts f h (inl a) = omega (arith, a.0, h.short)
-no_text_fault k bytes ts f h (inr (inl a)) = a.1 h.text
-no_text_fault k bytes ts f h (inr (inr a)) = k.either (chars bytes) (map (λ (p : Placed). p.lexeme) ts) f (are_tokens (chars bytes) ts h.cut) a.2
+pub no_text_fault : Known → (s : State) (bytes : List ℕ) (ts : List Placed) (f : ScriptFault) → HasTokens s bytes ts → IsTextFault s bytes f → ⊥
+no_text_fault k s bytes ts f h (inl a) = omega (arith, a.0, h.short)
+no_text_fault k s bytes ts f h (inr (inl a)) = a.1 h.text
+no_text_fault k s bytes ts f h (inr (inr a)) = k.either s (chars bytes) (map (λ (p : Placed). p.lexeme) ts) f (are_tokens s (chars bytes) ts h.cut) a.2
 
-placed_one : Known → (bytes : List ℕ) (ts us : List Placed) → HasTokens bytes ts → HasTokens bytes us → ts ≡ us
-placed_one k bytes ts us h g = k.places (chars bytes) ts us h.cut g.cut
+pub placed_one : Known → (s : State) (bytes : List ℕ) (ts us : List Placed) → HasTokens s bytes ts → HasTokens s bytes us → ts ≡ us
+placed_one k s bytes ts us h g = k.places s (chars bytes) ts us h.cut g.cut
 
 -- ---- the grammar
 
@@ -67,12 +69,12 @@ told grammar.too_deep place = fault.TooDeep place
 told grammar.out_of_profile place = fault.OutOfProfile place
 
 -- what is wrong, and where
-abbrev Found : List Placed → ℕ → List Placed → ScriptFault → Type 0
-Found ts end rest f = (w : grammar.Wrong) × grammar.IsWrongAt w (terminals ts) (terminals rest) × (f ≡ told w (place_of end rest))
+abbrev Found : Text → List Placed → ℕ → List Placed → ScriptFault → Type 0
+Found w ts end rest f = (x : grammar.Wrong) × grammar.IsWrongAt w x (terminals ts) (terminals rest) × (f ≡ told x (place_of end rest))
 
-found : (ts : List Placed) (end : ℕ) (f : ScriptFault) (h : IsGrammarFault ts end f) → Found ts end h.rest f
-found ts end f h = go h.is where
-  go : (IsSyntaxAt (terminals ts) (terminals h.rest) × (f ≡ fault.Syntax (place_of end h.rest))) ⊎ (IsTooDeepAt (terminals ts) (terminals h.rest) × (f ≡ fault.TooDeep (place_of end h.rest))) ⊎ (IsOutOfProfileAt (terminals ts) (terminals h.rest) × (f ≡ fault.OutOfProfile (place_of end h.rest))) → Found ts end h.rest f
+found : (w : Text) (ts : List Placed) (end : ℕ) (f : ScriptFault) (h : IsGrammarFault w ts end f) → Found w ts end h.rest f
+found w ts end f h = go h.is where
+  go : (IsSyntaxAt w (terminals ts) (terminals h.rest) × (f ≡ fault.Syntax (place_of end h.rest))) ⊎ (IsTooDeepAt w (terminals ts) (terminals h.rest) × (f ≡ fault.TooDeep (place_of end h.rest))) ⊎ (IsOutOfProfileAt w (terminals ts) (terminals h.rest) × (f ≡ fault.OutOfProfile (place_of end h.rest))) → Found w ts end h.rest f
   go (inl a) = (grammar.syntax, a.0, a.1)
   go (inr (inl a)) = (grammar.too_deep, a.0, a.1)
   go (inr (inr a)) = (grammar.out_of_profile, a.0, a.1)
@@ -83,39 +85,39 @@ same_rest [] (y ∷ q) r s e l = absurd (omega (arith, ap length e, length-appen
 same_rest (x ∷ p) [] r s e l = absurd (omega (arith, ap length e, length-append p r, l))
 same_rest (x ∷ p) (y ∷ q) r s e l = let below : p ++ r ≡ q ++ s = cc in same_rest p q r s below l
 
-grammar_is_one : Known → (ts : List Placed) (end : ℕ) (f g : ScriptFault) → IsGrammarFault ts end f → IsGrammarFault ts end g → f ≡ g
-grammar_is_one k ts end f g h j =
-    let a = found ts end f h in
-    let b = found ts end g j in
-    let same = k.fault (terminals ts) (terminals h.rest) (terminals j.rest) a.0 b.0 a.1 b.1 in
+grammar_is_one : Known → (w : Text) (ts : List Placed) (end : ℕ) (f g : ScriptFault) → IsGrammarFault w ts end f → IsGrammarFault w ts end g → f ≡ g
+grammar_is_one k w ts end f g h j =
+    let a = found w ts end f h in
+    let b = found w ts end g j in
+    let same = k.fault w (terminals ts) (terminals h.rest) (terminals j.rest) a.0 b.0 a.1 b.1 in
     let lengths : length h.rest ≡ length j.rest = sym (length-map h.rest _) ∙ ap length same.1 ∙ length-map j.rest _ in
     let rest : h.rest ≡ j.rest = same_rest h.before j.before h.rest j.rest (sym h.parts ∙ j.parts) lengths in
-    a.2 ∙ ap (λ (w : grammar.Wrong). told w (place_of end h.rest)) same.0 ∙ ap (λ (r : List Placed). told b.0 (place_of end r)) rest ∙ sym b.2
+    a.2 ∙ ap (λ (x : grammar.Wrong). told x (place_of end h.rest)) same.0 ∙ ap (λ (r : List Placed). told b.0 (place_of end r)) rest ∙ sym b.2
 
 -- a tree has none
-no_grammar_fault : Known → (ts : List Placed) (end : ℕ) (f : ScriptFault) (tree : List Item) → IsReadAs (terminals ts) tree → IsGrammarFault ts end f → ⊥
-no_grammar_fault k ts end f tree h j = let a = found ts end f j in k.none (terminals ts) (terminals j.rest) tree a.0 h a.1
+no_grammar_fault : Known → (w : Text) (ts : List Placed) (end : ℕ) (f : ScriptFault) (tree : TreeOf w) → IsReadAs w (terminals ts) tree → IsGrammarFault w ts end f → ⊥
+no_grammar_fault k w ts end f tree h j = let a = found w ts end f j in k.none w (terminals ts) (terminals j.rest) tree a.0 h a.1
 
-some_one : {X : Type 0} (x y : X) → Some x ≡ Some y → x ≡ y
+pub some_one : {X : Type 0} (x y : X) → Some x ≡ Some y → x ≡ y
 some_one x y e = cc
 
-some_none : {X : Type 0} (x : X) (o : Option X) → o ≡ None → o ≡ Some x → ⊥
+pub some_none : {X : Type 0} (x : X) (o : Option X) → o ≡ None → o ≡ Some x → ⊥
 some_none x o a b = cc
 
-unread_is_one : Known → (ts : List Placed) (end : ℕ) (f g : ScriptFault) → IsUnread ts end f → IsUnread ts end g → f ≡ g
-unread_is_one k ts end f g (inl a) (inl b) = a.2 ∙ ap fault.OutOfProfile (some_one a.0 b.0 (sym a.1 ∙ b.1)) ∙ sym b.2
-unread_is_one k ts end f g (inl a) (inr b) = absurd (some_none a.0 (first_left_out ts) b.0 a.1)
-unread_is_one k ts end f g (inr a) (inl b) = absurd (some_none b.0 (first_left_out ts) a.0 b.1)
-unread_is_one k ts end f g (inr a) (inr b) = grammar_is_one k ts end f g a.1 b.1
+pub unread_is_one : Known → (w : Text) (ts : List Placed) (end : ℕ) (f g : ScriptFault) → IsUnread w ts end f → IsUnread w ts end g → f ≡ g
+unread_is_one k w ts end f g (inl a) (inl b) = a.2 ∙ ap fault.OutOfProfile (some_one a.0 b.0 (sym a.1 ∙ b.1)) ∙ sym b.2
+unread_is_one k w ts end f g (inl a) (inr b) = absurd (some_none a.0 (first_left_out ts) b.0 a.1)
+unread_is_one k w ts end f g (inr a) (inl b) = absurd (some_none b.0 (first_left_out ts) a.0 b.1)
+unread_is_one k w ts end f g (inr a) (inr b) = grammar_is_one k w ts end f g a.1 b.1
 
-no_unread : Known → (ts : List Placed) (end : ℕ) (f : ScriptFault) (tree : List Item) → first_left_out ts ≡ None → IsReadAs (terminals ts) tree → IsUnread ts end f → ⊥
-no_unread k ts end f tree offered h (inl a) = some_none a.0 (first_left_out ts) offered a.1
-no_unread k ts end f tree offered h (inr a) = no_grammar_fault k ts end f tree h a.1
+pub no_unread : Known → (w : Text) (ts : List Placed) (end : ℕ) (f : ScriptFault) (tree : TreeOf w) → first_left_out ts ≡ None → IsReadAs w (terminals ts) tree → IsUnread w ts end f → ⊥
+no_unread k w ts end f tree offered h (inl a) = some_none a.0 (first_left_out ts) offered a.1
+no_unread k w ts end f tree offered h (inr a) = no_grammar_fault k w ts end f tree h a.1
 
 -- ---- the checks
 
-tree_one : Known → (ts : List Placed) (t u : List Item) → IsReadAs (terminals ts) t → IsReadAs (terminals ts) u → t ≡ u
-tree_one k ts t u h g = k.tree t u (h.0 ∙ sym g.0)
+tree_one : Known → (ts : List Placed) (t u : List Item) → IsReadAs script (terminals ts) t → IsReadAs script (terminals ts) u → t ≡ u
+tree_one k ts t u h g = k.tree script t u (h.0 ∙ sym g.0)
 
 check_is_one : Known → (ts : List Placed) (external : List ℕ) (f g : ScriptFault) → IsCheckFault ts external f → IsCheckFault ts external g → f ≡ g
 check_is_one k ts external f g h j =
@@ -124,43 +126,43 @@ check_is_one k ts external f g h j =
 -- ---- the laws
 
 pub fault_is_one : Known → (bytes external : List ℕ) (f g : ScriptFault) → IsFaultOf bytes external f → IsFaultOf bytes external g → f ≡ g
-fault_is_one k bytes external f g (inl a) (inl b) = text_is_one k bytes f g a b
-fault_is_one k bytes external f g (inl a) (inr (inl b)) = absurd (no_text_fault k bytes b.0 f b.1 a)
-fault_is_one k bytes external f g (inl a) (inr (inr b)) = absurd (no_text_fault k bytes b.0 f b.1 a)
-fault_is_one k bytes external f g (inr (inl a)) (inl b) = absurd (no_text_fault k bytes a.0 g a.1 b)
-fault_is_one k bytes external f g (inr (inr a)) (inl b) = absurd (no_text_fault k bytes a.0 g a.1 b)
+fault_is_one k bytes external f g (inl a) (inl b) = text_is_one k start bytes f g a b
+fault_is_one k bytes external f g (inl a) (inr (inl b)) = absurd (no_text_fault k start bytes b.0 f b.1 a)
+fault_is_one k bytes external f g (inl a) (inr (inr b)) = absurd (no_text_fault k start bytes b.0 f b.1 a)
+fault_is_one k bytes external f g (inr (inl a)) (inl b) = absurd (no_text_fault k start bytes a.0 g a.1 b)
+fault_is_one k bytes external f g (inr (inr a)) (inl b) = absurd (no_text_fault k start bytes a.0 g a.1 b)
 fault_is_one k bytes external f g (inr (inl a)) (inr (inl b)) =
-    let same = placed_one k bytes a.0 b.0 a.1 b.1 in
-    unread_is_one k b.0 (length bytes) f g (subst (λ (ts : List Placed). IsUnread ts (length bytes) f) same a.2) b.2
+    let same = placed_one k start bytes a.0 b.0 a.1 b.1 in
+    unread_is_one k script b.0 (length bytes) f g (subst (λ (ts : List Placed). IsUnread script ts (length bytes) f) same a.2) b.2
 fault_is_one k bytes external f g (inr (inl a)) (inr (inr b)) =
-    let same = placed_one k bytes a.0 b.0 a.1 b.1 in
-    absurd (no_unread k b.0 (length bytes) f b.3.items b.2 b.3.tree (subst (λ (ts : List Placed). IsUnread ts (length bytes) f) same a.2))
+    let same = placed_one k start bytes a.0 b.0 a.1 b.1 in
+    absurd (no_unread k script b.0 (length bytes) f b.3.items b.2 b.3.tree (subst (λ (ts : List Placed). IsUnread script ts (length bytes) f) same a.2))
 fault_is_one k bytes external f g (inr (inr a)) (inr (inl b)) =
-    let same = placed_one k bytes b.0 a.0 b.1 a.1 in
-    absurd (no_unread k a.0 (length bytes) g a.3.items a.2 a.3.tree (subst (λ (ts : List Placed). IsUnread ts (length bytes) g) same b.2))
+    let same = placed_one k start bytes b.0 a.0 b.1 a.1 in
+    absurd (no_unread k script a.0 (length bytes) g a.3.items a.2 a.3.tree (subst (λ (ts : List Placed). IsUnread script ts (length bytes) g) same b.2))
 fault_is_one k bytes external f g (inr (inr a)) (inr (inr b)) =
-    let same = placed_one k bytes a.0 b.0 a.1 b.1 in
+    let same = placed_one k start bytes a.0 b.0 a.1 b.1 in
     check_is_one k b.0 external f g (subst (λ (ts : List Placed). IsCheckFault ts external f) same a.3) b.3
 
-same_source : (s t : Source) → s.items ≡ t.items → s.external ≡ t.external → s ≡ t
+pub same_source : (s t : Source) → s.items ≡ t.items → s.external ≡ t.external → s ≡ t
 same_source s t a b = ap (λ (i : List Item). with_external i s.external) a ∙ ap (λ (e : List ℕ). with_external t.items e) b where
   with_external : List Item → List ℕ → Source
   with_external i e = record { items = i; external = e }
 
 pub script_is_one : Known → (bytes external : List ℕ) (s t : Source) → IsScriptOf bytes external s → IsScriptOf bytes external t → s ≡ t
 script_is_one k bytes external s t h g =
-    let same = placed_one k bytes h.placed g.placed h.tokens g.tokens in
-    let tree = subst (λ (ts : List Placed). IsReadAs (terminals ts) s.items) same h.tree in
+    let same = placed_one k start bytes h.placed g.placed h.tokens g.tokens in
+    let tree = subst (λ (ts : List Placed). IsReadAs script (terminals ts) s.items) same h.tree in
     same_source s t (tree_one k g.placed s.items t.items tree g.tree) (h.external_is ∙ sym g.external_is)
 
 pub script_or_fault : Known → (bytes external : List ℕ) (s : Source) (f : ScriptFault) → IsScriptOf bytes external s → IsFaultOf bytes external f → ⊥
-script_or_fault k bytes external s f h (inl a) = no_text_fault k bytes h.placed f h.tokens a
+script_or_fault k bytes external s f h (inl a) = no_text_fault k start bytes h.placed f h.tokens a
 script_or_fault k bytes external s f h (inr (inl a)) =
-    let same = placed_one k bytes a.0 h.placed a.1 h.tokens in
-    no_unread k h.placed (length bytes) f s.items h.offered h.tree (subst (λ (ts : List Placed). IsUnread ts (length bytes) f) same a.2)
+    let same = placed_one k start bytes a.0 h.placed a.1 h.tokens in
+    no_unread k script h.placed (length bytes) f s.items h.offered h.tree (subst (λ (ts : List Placed). IsUnread script ts (length bytes) f) same a.2)
 script_or_fault k bytes external s f h (inr (inr a)) =
-    let same = placed_one k bytes h.placed a.0 h.tokens a.1 in
-    let tree = subst (λ (ts : List Placed). IsReadAs (terminals ts) s.items) same h.tree in
+    let same = placed_one k start bytes h.placed a.0 h.tokens a.1 in
+    let tree = subst (λ (ts : List Placed). IsReadAs script (terminals ts) s.items) same h.tree in
     let items : s.items ≡ a.3.items = tree_one k a.0 s.items a.3.items tree a.3.tree in
     let named : fault_of s.items s.external ≡ fault_of a.3.items external = ap (λ (is : List Item). fault_of is s.external) items ∙ ap (λ (e : List ℕ). fault_of a.3.items e) h.external_is in
     some_none f (fault_of s.items s.external) h.well_declared (named ∙ a.3.is)

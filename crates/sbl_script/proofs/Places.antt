@@ -8,6 +8,7 @@ use Rattle.sbl_text.specs.Lexemes.{lexeme_of}
 use Rattle.sbl_text.specs.Tokens.{Placed, placed_of}
 use Rattle.sbl_grammar.specs.Terminal.{Terminal, terminal_of, terminals_of, left}
 use Rattle.sbl_grammar.specs.Reading.{IsSyntaxAt, IsTooDeepAt, IsOutOfProfileAt}
+use Rattle.sbl_grammar.specs.Texts.{Text}
 use Rattle.sbl_grammar.specs.Told as grammar
 use Rattle.sbl_script.specs.Reading.{terminals, place_of, IsGrammarFault, IsUnread, first_left_out}
 
@@ -27,32 +28,32 @@ moved P ts n h =
     subst (λ (x : List Terminal). P x (terminals (map placed_of (drop n ts)))) (terminals_same ts) (subst (λ (x : List Terminal). P (terminals_of ts) x) (terminals_same (drop n ts)) h)
 
 -- the grammar's fault of some tokens
-pub told : (ts : List Token) (end : ℕ) (f : ScriptFault) → grammar.IsFaultOf ts end f → IsGrammarFault (map placed_of ts) end f
-told ts end (fault.Syntax place) (n, is, h) = record {
+pub told : (w : Text) (ts : List Token) (end : ℕ) (f : ScriptFault) → grammar.IsFaultOf w ts end f → IsGrammarFault w (map placed_of ts) end f
+told w ts end (fault.Syntax place) (n, is, h) = record {
   before = map placed_of (take n ts);
   rest = map placed_of (drop n ts);
   parts = cut ts n;
-  is = inl (moved IsSyntaxAt ts n h, ap fault.Syntax (is ∙ place_same (drop n ts) end));
+  is = inl (moved (IsSyntaxAt w) ts n h, ap fault.Syntax (is ∙ place_same (drop n ts) end));
 }
-told ts end (fault.TooDeep place) (n, is, h) = record {
+told w ts end (fault.TooDeep place) (n, is, h) = record {
   before = map placed_of (take n ts);
   rest = map placed_of (drop n ts);
   parts = cut ts n;
-  is = inr (inl (moved IsTooDeepAt ts n h, ap fault.TooDeep (is ∙ place_same (drop n ts) end)));
+  is = inr (inl (moved (IsTooDeepAt w) ts n h, ap fault.TooDeep (is ∙ place_same (drop n ts) end)));
 }
-told ts end (fault.OutOfProfile place) (n, is, h) = record {
+told w ts end (fault.OutOfProfile place) (n, is, h) = record {
   before = map placed_of (take n ts);
   rest = map placed_of (drop n ts);
   parts = cut ts n;
-  is = inr (inr (moved IsOutOfProfileAt ts n h, ap fault.OutOfProfile (is ∙ place_same (drop n ts) end)));
+  is = inr (inr (moved (IsOutOfProfileAt w) ts n h, ap fault.OutOfProfile (is ∙ place_same (drop n ts) end)));
 }
-told ts end _ h = absurd h
+told w ts end _ h = absurd h
 
-pub unread : {X : Type 0} (r : Result X ScriptFault) (ts : List Token) (end : ℕ) → first_left_out (map placed_of ts) ≡ None
-    → IfErr r (λ f. (f ≡ fault.OutOfMemory) ⊎ grammar.IsFaultOf ts end f) → IfErr r (λ f. (f ≡ fault.OutOfMemory) ⊎ IsUnread (map placed_of ts) end f)
-unread (Ok x) ts end offered h = h
-unread (Err f) ts end offered (inl e) = inl e
-unread (Err f) ts end offered (inr h) = inr (inr (offered, told ts end f h))
+pub unread : {X : Type 0} (w : Text) (r : Result X ScriptFault) (ts : List Token) (end : ℕ) → first_left_out (map placed_of ts) ≡ None
+    → IfErr r (λ f. (f ≡ fault.OutOfMemory) ⊎ grammar.IsFaultOf w ts end f) → IfErr r (λ f. (f ≡ fault.OutOfMemory) ⊎ IsUnread w (map placed_of ts) end f)
+unread w (Ok x) ts end offered h = h
+unread w (Err f) ts end offered (inl e) = inl e
+unread w (Err f) ts end offered (inr h) = inr (inr (offered, told w ts end f h))
 
 pub read_as : {X : Type 0} (r : Result X ScriptFault) (P : List Terminal → X → Type 0) (ts : List Token) → IfOk r (λ x. P (terminals_of ts) x) → IfOk r (λ x. P (terminals (map placed_of ts)) x)
 read_as (Ok x) P ts h = subst (λ (t : List Terminal). P t x) (terminals_same ts) h

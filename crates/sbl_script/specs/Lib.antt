@@ -3,7 +3,9 @@ pub mod Parsed
 pub mod Checks
 pub mod Laws
 pub mod Reading
+pub mod Edits
 pub mod MarkView
 pub mod Met
 pub mod Amongs
 pub mod OneReading
+pub mod OneEdit

@@ -8,9 +8,11 @@ use Rattle.sbl_text.specs.declared.signs.Sign.TheVariants as signs
 use Rattle.sbl_text.specs.declared.words.Word.{Word}
 use Rattle.sbl_text.specs.declared.words.Word.TheVariants as words
 use Rattle.sbl_text.specs.Lexemes.{Lexeme, word, sign}
-use Rattle.sbl_text.specs.Tokens.{Placed, ArePlaced, IsFirstFault}
+use Rattle.sbl_text.specs.States.{State, start}
+use Rattle.sbl_text.specs.Tokens.{Placed, ArePlacedFrom, IsFirstFaultFrom}
 use Rattle.sbl_grammar.specs.Terminal.{Terminal, terminal_of}
 use Rattle.sbl_grammar.specs.Tree.{Item}
+use Rattle.sbl_grammar.specs.Texts.{Text, script}
 use Rattle.sbl_grammar.specs.Reading.{IsReadAs, IsSyntaxAt, IsTooDeepAt, IsOutOfProfileAt}
 use Rattle.sbl_script.specs.Parsed.{Source}
 use Rattle.sbl_script.specs.Checks.{WellDeclared, fault_of}
@@ -19,11 +21,11 @@ use Rattle.sbl_script.specs.Checks.{WellDeclared, fault_of}
 abbrev pub max_length : ℕ
 max_length = 1048576
 
--- the bytes are a text, not too long, with these tokens
-pub record HasTokens (bytes : List ℕ) (ts : List Placed) : Type 0 where
+-- the bytes are a text, not too long, with these tokens where it begins in this state
+pub record HasTokens (s : State) (bytes : List ℕ) (ts : List Placed) : Type 0 where
   pub short : length bytes ≤ max_length
   pub text : IsUtf8 bytes
-  pub cut : ArePlaced (chars bytes) ts
+  pub cut : ArePlacedFrom s (chars bytes) ts
 
 abbrev pub terminals : List Placed → List Terminal
 terminals ts = map (λ (t : Placed). terminal_of t.lexeme) ts
@@ -58,20 +60,20 @@ first_left_out (t ∷ ts) = if is_left_out t.lexeme then Some t.start else first
 -- too deep, and the script is well declared.
 pub record IsScriptOf (bytes external : List ℕ) (s : Source) : Type 0 where
   pub placed : List Placed
-  pub tokens : HasTokens bytes placed
+  pub tokens : HasTokens start bytes placed
   pub offered : first_left_out placed ≡ None
-  pub tree : IsReadAs (terminals placed) s.items
+  pub tree : IsReadAs script (terminals placed) s.items
   pub external_is : s.external ≡ external
   pub well_declared : WellDeclared s.items s.external
 
 -- ---- faults, in the order in which they are looked for
 
 -- the bytes are too long, are no text, or have no tokens
-abbrev pub IsTextFault : List ℕ → ScriptFault → Type 0
-IsTextFault bytes f =
+abbrev pub IsTextFault : State → List ℕ → ScriptFault → Type 0
+IsTextFault s bytes f =
     ((max_length < length bytes) × (f ≡ fault.ScriptTooLong))
     ⊎ ((length bytes ≤ max_length) × ¬ (IsUtf8 bytes) × (f ≡ fault.NotUtf8))
-    ⊎ ((length bytes ≤ max_length) × IsUtf8 bytes × IsFirstFault (chars bytes) f)
+    ⊎ ((length bytes ≤ max_length) × IsUtf8 bytes × IsFirstFaultFrom s (chars bytes) f)
 
 -- where the first of some tokens stands; the text's length where there is none
 abbrev pub place_of : ℕ → List Placed → ℕ
@@ -79,28 +81,28 @@ place_of end [] = end
 place_of end (t ∷ ts) = t.start
 
 -- the tokens, in a text of that length, are those of no tree, or stand too deep
-pub record IsGrammarFault (ts : List Placed) (end : ℕ) (f : ScriptFault) : Type 0 where
+pub record IsGrammarFault (w : Text) (ts : List Placed) (end : ℕ) (f : ScriptFault) : Type 0 where
   pub before : List Placed
   pub rest : List Placed
   pub parts : ts ≡ before ++ rest
   pub is :
-      (IsSyntaxAt (terminals ts) (terminals rest) × (f ≡ fault.Syntax (place_of end rest)))
-      ⊎ (IsTooDeepAt (terminals ts) (terminals rest) × (f ≡ fault.TooDeep (place_of end rest)))
-      ⊎ (IsOutOfProfileAt (terminals ts) (terminals rest) × (f ≡ fault.OutOfProfile (place_of end rest)))
+      (IsSyntaxAt w (terminals ts) (terminals rest) × (f ≡ fault.Syntax (place_of end rest)))
+      ⊎ (IsTooDeepAt w (terminals ts) (terminals rest) × (f ≡ fault.TooDeep (place_of end rest)))
+      ⊎ (IsOutOfProfileAt w (terminals ts) (terminals rest) × (f ≡ fault.OutOfProfile (place_of end rest)))
 
 -- the tokens are those of this tree, and a check of it fails
 pub record IsCheckFault (ts : List Placed) (external : List ℕ) (f : ScriptFault) : Type 0 where
   pub items : List Item
-  pub tree : IsReadAs (terminals ts) items
+  pub tree : IsReadAs script (terminals ts) items
   pub is : fault_of items external ≡ Some f
 
 -- a token is left out, or the tokens are those of no tree
-abbrev pub IsUnread : List Placed → ℕ → ScriptFault → Type 0
-IsUnread ts end f = ((place : ℕ) × (first_left_out ts ≡ Some place) × (f ≡ fault.OutOfProfile place)) ⊎ ((first_left_out ts ≡ None) × IsGrammarFault ts end f)
+abbrev pub IsUnread : Text → List Placed → ℕ → ScriptFault → Type 0
+IsUnread w ts end f = ((place : ℕ) × (first_left_out ts ≡ Some place) × (f ≡ fault.OutOfProfile place)) ⊎ ((first_left_out ts ≡ None) × IsGrammarFault w ts end f)
 
 -- the bytes have this fault: as a text, else as tokens, else in a check
 abbrev pub IsFaultOf : List ℕ → List ℕ → ScriptFault → Type 0
 IsFaultOf bytes external f =
-    IsTextFault bytes f
-    ⊎ ((ts : List Placed) × HasTokens bytes ts × IsUnread ts (length bytes) f)
-    ⊎ ((ts : List Placed) × HasTokens bytes ts × (first_left_out ts ≡ None) × IsCheckFault ts external f)
+    IsTextFault start bytes f
+    ⊎ ((ts : List Placed) × HasTokens start bytes ts × IsUnread script ts (length bytes) f)
+    ⊎ ((ts : List Placed) × HasTokens start bytes ts × (first_left_out ts ≡ None) × IsCheckFault ts external f)

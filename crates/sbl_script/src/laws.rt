@@ -1,6 +1,7 @@
 //! What is shown of the checks.
 
 ghost use Rattle.sbl_script.specs.Amongs.{AmongsAreSound};
+ghost use Rattle.sbl_script.specs.OneEdit.{EditFaultIsOne, EditIsOne, EditOrFault};
 ghost use Rattle.sbl_script.specs.OneReading.{FaultIsOne, ScriptIsOne, ScriptOrFault};
 ghost use Rattle.sbl_script.specs.Laws.{FaultIsFirst, NamesResolve, SubstringsArePaired, WellDeclaredPasses};
 
@@ -13,6 +14,19 @@ pub fn one_reading()
     ensures script { ScriptIsOne }
     ensures fault { FaultIsOne }
     ensures either { ScriptOrFault }
+{
+    tokens_are_one();
+    first_fault_is_one();
+    one_tree();
+    one_fault();
+}
+
+/// A text makes one script of a script, or it has one fault as an edit, and never both: `Script::with_routine` is a function
+/// of the script, the name and the text, want of memory aside.
+pub fn one_edit()
+    ensures script { EditIsOne }
+    ensures fault { EditFaultIsOne }
+    ensures either { EditOrFault }
 {
     tokens_are_one();
     first_fault_is_one();

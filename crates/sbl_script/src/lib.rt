@@ -3,6 +3,8 @@
 
 mod bodies;
 mod checks;
+mod edit_fault;
+mod edits;
 pub mod laws;
 mod marking;
 mod marks;
@@ -12,6 +14,7 @@ mod scripts;
 #[cfg(test)]
 mod tests;
 
+pub use edit_fault::EditFault;
 pub use marks::{Mark, Mode, Notice, Place, Use};
 pub use sbl_grammar as grammar;
 pub use sbl_text::ScriptFault;

@@ -14,7 +14,7 @@ use Rattle.std.specs.List.{All}
 use Rattle.std.proofs.lemmas.List.Elements.{All-append, All-cons, All-nil}
 use Rattle.sbl_text.specs.Lexemes.{Lexeme, lexeme_of, SaysFitting}
 use Rattle.sbl_text.specs.States.{State, start, setting_of, after}
-use Rattle.sbl_text.specs.Tokens.{Says, HasValue, Piece, MaySay, after_piece, AreCut, and_more, said, AreTokens, Placed, placed_of, put_placed, placed_from, ArePlaced, IsFirstFault, Stops, IsAt, Comes, IsNext}
+use Rattle.sbl_text.specs.Tokens.{Says, HasValue, Piece, MaySay, after_piece, AreCut, and_more, said, AreTokensFrom, Placed, placed_of, put_placed, placed_from, ArePlacedFrom, IsFirstFaultFrom, Stops, IsAt, Comes, IsNext}
 
 pub append_nil : {X : Type 0} (xs : List X) → xs ++ [] ≡ xs
 append_nil [] = refl
@@ -84,16 +84,16 @@ placed_gaps n (g ∷ gs) = placed_gaps (n + byte_length g.text) gs
 
 -- ---- the tokens so far
 
-abbrev pub SoFar : List ℕ → State → List ℕ → List Token → Type 0
-SoFar source s rest ts = (ps : List Piece) × AreCut start source ps s rest × (map lexeme_of ts ≡ said ps) × (map placed_of ts ≡ placed_from 0 ps)
+abbrev pub SoFar : State → List ℕ → State → List ℕ → List Token → Type 0
+SoFar first source s rest ts = (ps : List Piece) × AreCut first source ps s rest × (map lexeme_of ts ≡ said ps) × (map placed_of ts ≡ placed_from 0 ps)
 
-pub none_yet : (source : List ℕ) (s : State) → s ≡ start → SoFar source s source []
-none_yet source s h = ([], (refl, sym h), refl, refl)
+pub none_yet : (first : State) (source : List ℕ) (s : State) → s ≡ first → SoFar first source s source []
+none_yet first source s h = ([], (refl, sym h), refl, refl)
 
-pub over_gaps : (source : List ℕ) (s : State) (rest at : List ℕ) (ts : List Token) → SoFar source s rest ts → AfterGaps (setting_of s) rest at → SoFar source s at ts
-over_gaps source s rest at ts b g = (
+pub over_gaps : (first : State) (source : List ℕ) (s : State) (rest at : List ℕ) (ts : List Token) → SoFar first source s rest ts → AfterGaps (setting_of s) rest at → SoFar first source s at ts
+over_gaps first source s rest at ts b g = (
   b.0 ++ as_pieces g.0,
-  cut_append start s s source rest at b.0 (as_pieces g.0) b.1 (gaps_cut s rest at g.0 g.1),
+  cut_append first s s source rest at b.0 (as_pieces g.0) b.1 (gaps_cut s rest at g.0 g.1),
   b.2 ∙ sym (said_append b.0 (as_pieces g.0) ∙ ap (λ (t : List Lexeme). said b.0 ++ t) (said_gaps g.0) ∙ append_nil (said b.0)),
   b.3 ∙ sym (placed_append 0 (total b.0) b.0 (as_pieces g.0) (omega arith) ∙ ap (λ (t : List Placed). placed_from 0 b.0 ++ t) (placed_gaps (total b.0) g.0) ∙ append_nil (placed_from 0 b.0)),
 )
@@ -103,39 +103,39 @@ same_placed t x before n h a =
     let make : List ℕ → ℕ → ℕ → List Placed = λ b i j. record { lexeme = lexeme_of t; text = b; start = i; end = j } ∷ [] in
     ap (λ (b : List ℕ). make b t.start t.end) a.0 ∙ ap (λ (i : ℕ). make (encode_utf8_all x) i t.end) (a.1 ∙ h) ∙ ap (make (encode_utf8_all x) n) (a.2 ∙ ap (λ (m : ℕ). m + byte_length x) h)
 
-one_more : (source : List ℕ) (s : State) (at x rest before : List ℕ) (k : Shape) (t : Token) (ts : List Token) → SoFar source s at ts → at ≡ x ++ rest → source ≡ before ++ at → IsPiece (setting_of s) k x rest
-    → Says s k x (lexeme_of t) → IsAt before x t → SoFar source (after s (lexeme_of t)) rest (ts ++ t ∷ [])
-one_more source s at x rest before k t ts b is front p says place =
-    let n : byte_length before ≡ total b.0 = (let h = cut_total start s source at b.0 b.1 in let j = ap byte_length front ∙ bytes_append before at in omega arith) in
+one_more : (first : State) (source : List ℕ) (s : State) (at x rest before : List ℕ) (k : Shape) (t : Token) (ts : List Token) → SoFar first source s at ts → at ≡ x ++ rest → source ≡ before ++ at → IsPiece (setting_of s) k x rest
+    → Says s k x (lexeme_of t) → IsAt before x t → SoFar first source (after s (lexeme_of t)) rest (ts ++ t ∷ [])
+one_more first source s at x rest before k t ts b is front p says place =
+    let n : byte_length before ≡ total b.0 = (let h = cut_total first s source at b.0 b.1 in let j = ap byte_length front ∙ bytes_append before at in omega arith) in
     let q : Piece = record { shape = k; text = x; lexeme = Some (lexeme_of t) } in (
       b.0 ++ q ∷ [],
-      cut_append start s (after s (lexeme_of t)) source at rest b.0 (q ∷ []) b.1 (rest, is, p, says, (refl, refl)),
+      cut_append first s (after s (lexeme_of t)) source at rest b.0 (q ∷ []) b.1 (rest, is, p, says, (refl, refl)),
       map_append lexeme_of ts t ∙ ap (λ (l : List Lexeme). l ++ lexeme_of t ∷ []) b.2 ∙ sym (said_append b.0 (q ∷ [])),
       map_append placed_of ts t ∙ ap (λ (l : List Placed). l ++ placed_of t ∷ []) b.3 ∙ ap (λ (l : List Placed). placed_from 0 b.0 ++ l) (same_placed t x before (total b.0) n place)
           ∙ sym (placed_append 0 (total b.0) b.0 (q ∷ []) (omega arith)),
     )
 
-pub with_next : (source : List ℕ) (s : State) (from : List ℕ) (u : State) (rest : List ℕ) (t : Token) (ts : List Token) → SoFar source s from ts → IsNext source s from u rest (Ok (Some t)) → SoFar source u rest (ts ++ t ∷ [])
-with_next source s from u rest t ts b h =
+pub with_next : (first : State) (source : List ℕ) (s : State) (from : List ℕ) (u : State) (rest : List ℕ) (t : Token) (ts : List Token) → SoFar first source s from ts → IsNext source s from u rest (Ok (Some t)) → SoFar first source u rest (ts ++ t ∷ [])
+with_next first source s from u rest t ts b h =
     let c = h.0 in
-    subst (λ (v : State). SoFar source v rest (ts ++ t ∷ [])) (sym h.2)
-    (one_more source s (c.1 ++ rest) c.1 rest c.0 c.2 t ts (over_gaps source s from (c.1 ++ rest) ts b c.4) refl c.3 c.5 (c.6, h.1) c.7)
+    subst (λ (v : State). SoFar first source v rest (ts ++ t ∷ [])) (sym h.2)
+    (one_more first source s (c.1 ++ rest) c.1 rest c.0 c.2 t ts (over_gaps first source s from (c.1 ++ rest) ts b c.4) refl c.3 c.5 (c.6, h.1) c.7)
 
 pub next_fits : (source : List ℕ) (s : State) (from : List ℕ) (u : State) (rest : List ℕ) (t : Token) (ts : List Token) → All SaysFitting ts → IsNext source s from u rest (Ok (Some t)) → All SaysFitting (ts ++ t ∷ [])
 next_fits source s from u rest t ts all h = let c = h.0 in All-append SaysFitting ts (t ∷ []) all (All-cons SaysFitting t [] c.8 (All-nil SaysFitting))
 
-pub all_tokens : (source : List ℕ) (s : State) (from : List ℕ) (u : State) (rest : List ℕ) (ts : List Token) → SoFar source s from ts → IsNext source s from u rest (Ok None) → AreTokens source (map lexeme_of ts)
-all_tokens source s from u rest ts b h = let r = over_gaps source s from [] ts b h.0.0 in (r.0, s, r.1, h.0.1, r.2)
+pub all_tokens : (first : State) (source : List ℕ) (s : State) (from : List ℕ) (u : State) (rest : List ℕ) (ts : List Token) → SoFar first source s from ts → IsNext source s from u rest (Ok None) → AreTokensFrom first source (map lexeme_of ts)
+all_tokens first source s from u rest ts b h = let r = over_gaps first source s from [] ts b h.0.0 in (r.0, s, r.1, h.0.1, r.2)
 
-pub all_placed : (source : List ℕ) (s : State) (from : List ℕ) (u : State) (rest : List ℕ) (ts : List Token) → SoFar source s from ts → IsNext source s from u rest (Ok None) → ArePlaced source (map placed_of ts)
-all_placed source s from u rest ts b h = let r = over_gaps source s from [] ts b h.0.0 in (r.0, s, r.1, h.0.1, r.3)
+pub all_placed : (first : State) (source : List ℕ) (s : State) (from : List ℕ) (u : State) (rest : List ℕ) (ts : List Token) → SoFar first source s from ts → IsNext source s from u rest (Ok None) → ArePlacedFrom first source (map placed_of ts)
+all_placed first source s from u rest ts b h = let r = over_gaps first source s from [] ts b h.0.0 in (r.0, s, r.1, h.0.1, r.3)
 
-first_fault : (source : List ℕ) (s : State) (from : List ℕ) (f : ScriptFault) (ts : List Token) → SoFar source s from ts → (f ≡ fault.OutOfMemory) ⊎ Stops source s from f → (f ≡ fault.OutOfMemory) ⊎ IsFirstFault source f
-first_fault source s from f ts b (inl h) = inl h
-first_fault source s from f ts b (inr h) = let r = over_gaps source s from h.1 ts b h.3 in inr (h.0, h.1, r.0, s, h.2, r.1, h.4)
+first_fault : (first : State) (source : List ℕ) (s : State) (from : List ℕ) (f : ScriptFault) (ts : List Token) → SoFar first source s from ts → (f ≡ fault.OutOfMemory) ⊎ Stops source s from f → (f ≡ fault.OutOfMemory) ⊎ IsFirstFaultFrom first source f
+first_fault first source s from f ts b (inl h) = inl h
+first_fault first source s from f ts b (inr h) = let r = over_gaps first source s from h.1 ts b h.3 in inr (h.0, h.1, r.0, s, h.2, r.1, h.4)
 
-pub first_of_all : (source : List ℕ) (s : State) (from : List ℕ) (u : State) (rest : List ℕ) (f : ScriptFault) (ts : List Token) → SoFar source s from ts → IsNext source s from u rest (Err f) → (f ≡ fault.OutOfMemory) ⊎ IsFirstFault source f
-first_of_all source s from u rest f ts b h = first_fault source s from f ts b h.2
+pub first_of_all : (first : State) (source : List ℕ) (s : State) (from : List ℕ) (u : State) (rest : List ℕ) (f : ScriptFault) (ts : List Token) → SoFar first source s from ts → IsNext source s from u rest (Err f) → (f ≡ fault.OutOfMemory) ⊎ IsFirstFaultFrom first source f
+first_of_all first source s from u rest f ts b h = first_fault first source s from f ts b h.2
 
 -- ---- a token takes something
 

@@ -11,12 +11,12 @@ use Rattle.sbl_text.specs.declared.fault.ScriptFault.{ScriptFault}
 use Rattle.sbl_text.specs.declared.fault.ScriptFault.TheVariants as fault
 use Rattle.sbl_text.specs.declared.token.Token.{Token}
 use Rattle.sbl_text.specs.Escapes.{InForce, opens, closes}
-use Rattle.sbl_text.specs.Literals.{Refusal, byte_length, inserted, IsInsertion, IsPlain, Part, IsPart, AreParts, values, Means, IsWrong, FirstWrong}
+use Rattle.sbl_text.specs.Literals.{Refusal, byte_length, inserted, IsInsertion, IsPlain, Part, IsPart, AreParts, values, Means, IsWrong, FirstWrong, is_closed, IsLiteral}
 use Rattle.sbl_text.specs.Pieces.{Setting, Stands, IsPiece, NoPiece, AfterGaps, is_gap}
 use Rattle.sbl_text.specs.Scan.{Cut, cut_in}
 use Rattle.sbl_text.specs.Lexemes.{Lexeme, lexeme_of, sign, literal, inserts}
 use Rattle.sbl_text.specs.States.{State, start, setting_of, value_for, after}
-use Rattle.sbl_text.specs.Tokens.{number_of, Told, HasValue, Says, Piece, MaySay, after_piece, AreCut, said, MayEnd, AreTokens, Placed, placed_from, ArePlaced, IsRefused, IsFault, IsFirstFault, Stops, Comes, IsNext}
+use Rattle.sbl_text.specs.Tokens.{number_of, Told, HasValue, Says, Piece, MaySay, after_piece, AreCut, said, MayEnd, AreTokensFrom, Placed, placed_from, ArePlacedFrom, IsRefused, IsFault, IsFirstFaultFrom, Stops, Comes, IsNext}
 use Rattle.sbl_text.proofs.Cuts.{and_left, and_right}
 use Rattle.sbl_text.proofs.Whole.{LeavesCut, longest}
 use Rattle.sbl_text.proofs.Lists.{append_nil, cut_append, said_append, said_gaps, as_pieces, gaps_cut, some_text}
@@ -250,13 +250,13 @@ same_at_end : (ps qs : List Piece) (u v : State) → Ahead ps qs u [] v [] ⊎ A
 same_at_end ps qs u v (inl h) = h.1 ∙ ap (λ (t : List Piece). ps ++ t) (no_more u v h.0 [] h.2).0 ∙ append_nil ps
 same_at_end ps qs u v (inr h) = sym (h.1 ∙ ap (λ (t : List Piece). qs ++ t) (no_more v u h.0 [] h.2).0 ∙ append_nil qs)
 
-pub tokens_one : (text : List ℕ) (ls ms : List Lexeme) → AreTokens text ls → AreTokens text ms → ls ≡ ms
-tokens_one text ls ms a b =
-    a.4 ∙ ap said (sym (same_at_end a.0 b.0 a.1 b.1 (two_cuts start text a.0 b.0 a.1 [] b.1 [] a.2 b.2))) ∙ sym b.4
+pub tokens_one : (s : State) (text : List ℕ) (ls ms : List Lexeme) → AreTokensFrom s text ls → AreTokensFrom s text ms → ls ≡ ms
+tokens_one s text ls ms a b =
+    a.4 ∙ ap said (sym (same_at_end a.0 b.0 a.1 b.1 (two_cuts s text a.0 b.0 a.1 [] b.1 [] a.2 b.2))) ∙ sym b.4
 
-pub placed_tokens_one : (text : List ℕ) (ts us : List Placed) → ArePlaced text ts → ArePlaced text us → ts ≡ us
-placed_tokens_one text ts us a b =
-    a.4 ∙ ap (placed_from 0) (sym (same_at_end a.0 b.0 a.1 b.1 (two_cuts start text a.0 b.0 a.1 [] b.1 [] a.2 b.2))) ∙ sym b.4
+pub placed_tokens_one : (s : State) (text : List ℕ) (ts us : List Placed) → ArePlacedFrom s text ts → ArePlacedFrom s text us → ts ≡ us
+placed_tokens_one s text ts us a b =
+    a.4 ∙ ap (placed_from 0) (sym (same_at_end a.0 b.0 a.1 b.1 (two_cuts s text a.0 b.0 a.1 [] b.1 [] a.2 b.2))) ∙ sym b.4
 
 -- ---- faults
 
@@ -346,9 +346,9 @@ one_fault text before r other z u v f g a b e i j =
     fault_same v z (byte_length other) f g
     (subst (λ (t : List ℕ). IsFault v z (byte_length t) f) k (subst (λ (t : List ℕ). IsFault v t (byte_length before) f) e.1 (subst (λ (w : State). IsFault w r (byte_length before) f) e.0 i))) j
 
-pub first_fault_one : (text : List ℕ) (f g : ScriptFault) → IsFirstFault text f → IsFirstFault text g → f ≡ g
-first_fault_one text f g a b =
-    one_fault text a.0 a.1 b.0 b.1 a.3 b.3 f g a.4 b.4 (same_place start text a.3 a.1 b.3 b.1 (byte_length a.0) (byte_length b.0) f g a.2 b.2 a.5 b.5 a.6 b.6) a.6 b.6
+pub first_fault_one : (s : State) (text : List ℕ) (f g : ScriptFault) → IsFirstFaultFrom s text f → IsFirstFaultFrom s text g → f ≡ g
+first_fault_one s text f g a b =
+    one_fault text a.0 a.1 b.0 b.1 a.3 b.3 f g a.4 b.4 (same_place s text a.3 a.1 b.3 b.1 (byte_length a.0) (byte_length b.0) f g a.2 b.2 a.5 b.5 a.6 b.6) a.6 b.6
 
 end_or_fault : (s : State) (text : List ℕ) (u : State) (v : State) (r : List ℕ) (n : ℕ) (f : ScriptFault) (ps qs : List Piece) → AreCut s text ps u [] → MayEnd u → AreCut s text qs v r → IsFault v r n f → ⊥
 end_or_fault s text u v r n f ps qs a m b i = met (two_cuts s text ps qs u [] v r a b)
@@ -361,8 +361,8 @@ end_or_fault s text u v r n f ps qs a m b i = met (two_cuts s text ps qs u [] v 
         let c = subst (λ (t : List Piece). AreCut v r t u []) (fault_stops v r n f u [] h.0 i h.2) h.2 in
         fault_not_end v n f (subst MayEnd (sym c.1) m) (subst (λ (t : List ℕ). IsFault v t n f) c.0 i)
 
-pub tokens_or_fault : (text : List ℕ) (ls : List Lexeme) (f : ScriptFault) → AreTokens text ls → IsFirstFault text f → ⊥
-tokens_or_fault text ls f a b = end_or_fault start text a.1 b.3 b.1 (byte_length b.0) f a.0 b.2 a.2 a.3 b.5 b.6
+pub tokens_or_fault : (s : State) (text : List ℕ) (ls : List Lexeme) (f : ScriptFault) → AreTokensFrom s text ls → IsFirstFaultFrom s text f → ⊥
+tokens_or_fault s text ls f a b = end_or_fault s text a.1 b.3 b.1 (byte_length b.0) f a.0 b.2 a.2 a.3 b.5 b.6
 
 -- ---- the same fault again
 
@@ -422,3 +422,36 @@ again_or text s from u rest f a (inr b) h = inr (again text s from u rest f a b 
 pub same_again : (text : List ℕ) (s t u : State) (from mid rest : List ℕ) (f : ScriptFault) (a : Result (Option Token) ScriptFault) → IsNext text s from t mid (Err f) → IsNext text t mid u rest a
     → (f ≡ fault.OutOfMemory) ⊎ ((a ≡ Err fault.OutOfMemory) ⊎ (a ≡ Err f))
 same_again text s t u from mid rest f a h k = again_or text s from u rest f a h.2 (moved text s t u from mid rest a h.0 h.1 k)
+
+-- ---- one reading of a spelling
+
+closed_not : (b : Bool) → b ≡ true → b ≡ false → ⊥
+closed_not b h g = absurd cc
+
+no_meaning : (e : InForce) (text v : List ℕ) (f : ScriptFault) → Means e text v → FirstWrong e text 0 f → ⊥
+no_meaning e text v f m w = wrong_no_meaning e text w.1 (0 + byte_length w.0) f w.2 m.0 w.4 m.1 w.5
+
+pub literal_one : (e : InForce) (text : List ℕ) (a b : Result (List ℕ) ScriptFault) → IsLiteral e text a → IsLiteral e text b → a ≡ b
+literal_one e text (Ok v) (Ok w) h g = ap Ok (means_one e text v w h.1 g.1)
+literal_one e text (Ok v) (Err f) h (inl g) = absurd (closed_not _ h.0 g.0)
+literal_one e text (Ok v) (Err f) h (inr g) = absurd (no_meaning e text v f h.1 g.1)
+literal_one e text (Err f) (Ok v) (inl h) g = absurd (closed_not _ g.0 h.0)
+literal_one e text (Err f) (Ok v) (inr h) g = absurd (no_meaning e text v f g.1 h.1)
+literal_one e text (Err f) (Err d) (inl h) (inl g) = ap Err (h.1 ∙ sym g.1)
+literal_one e text (Err f) (Err d) (inl h) (inr g) = absurd (closed_not _ g.0 h.0)
+literal_one e text (Err f) (Err d) (inr h) (inl g) = absurd (closed_not _ h.0 g.0)
+literal_one e text (Err f) (Err d) (inr h) (inr g) = ap Err (first_wrong_one e text 0 f d h.1 g.1)
+
+-- ---- one token after another
+
+pub next_is_first : (text : List ℕ) (s t : State) (from rest : List ℕ) (token : Token) (ls : List Lexeme) → IsNext text s from t rest (Ok (Some token)) → AreTokensFrom t rest ls → AreTokensFrom s from (lexeme_of token ∷ ls)
+next_is_first text s t from rest token ls h g =
+    let c = h.0 in
+    let q : Piece = record { shape = c.2; text = c.1; lexeme = Some (lexeme_of token) } in
+    let behind : AreCut (after s (lexeme_of token)) rest g.0 g.1 [] = subst (λ (v : State). AreCut v rest g.0 g.1 []) h.2 g.2 in
+    let cut : AreCut s from (as_pieces c.4.0 ++ q ∷ g.0) g.1 [] = cut_append s s g.1 from (c.1 ++ rest) [] (as_pieces c.4.0) (q ∷ g.0) (gaps_cut s from (c.1 ++ rest) c.4.0 c.4.1) (rest, refl, c.5, (c.6, h.1), behind) in
+    let says : said (as_pieces c.4.0 ++ q ∷ g.0) ≡ lexeme_of token ∷ said g.0 = said_append (as_pieces c.4.0) (q ∷ g.0) ∙ ap (λ (l : List Lexeme). l ++ said (q ∷ g.0)) (said_gaps c.4.0) in
+    (as_pieces c.4.0 ++ q ∷ g.0, g.1, cut, g.3, ap (λ (l : List Lexeme). lexeme_of token ∷ l) g.4 ∙ sym says)
+
+pub none_is_last : (text : List ℕ) (s t : State) (from rest : List ℕ) → IsNext text s from t rest (Ok None) → AreTokensFrom s from []
+none_is_last text s t from rest h = (as_pieces h.0.0.0, s, gaps_cut s from [] h.0.0.0 h.0.0.1, h.0.1, sym (said_gaps h.0.0.0))

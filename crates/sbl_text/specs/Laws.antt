@@ -1,5 +1,5 @@
 -- What is shown of the tokens of a text.
-use Rattle.std.specs.Prelude.{◌≡◌, ◌⊎◌, ℕ, List, Result, Err, Option, Some}
+use Rattle.std.specs.Prelude.{◌≡◌, ◌⊎◌, ℕ, List, [], ◌∷◌, Result, Ok, Err, Option, Some, None}
 use Rattle.sbl_text.specs.declared.fault.ScriptFault.{ScriptFault}
 use Rattle.sbl_text.specs.declared.fault.ScriptFault.TheVariants as fault
 use Rattle.sbl_text.specs.declared.signs.Sign.{Sign}
@@ -7,25 +7,27 @@ use Rattle.sbl_text.specs.declared.token.Token.{Token}
 use Rattle.sbl_text.specs.declared.words.Word.{Word}
 use Rattle.sbl_text.specs.Signs.{sign_of, sign_text}
 use Rattle.sbl_text.specs.Words.{word_of, word_text}
-use Rattle.sbl_text.specs.Lexemes.{Lexeme}
+use Rattle.sbl_text.specs.Lexemes.{Lexeme, lexeme_of}
 use Rattle.sbl_text.specs.States.{State}
-use Rattle.sbl_text.specs.Tokens.{Placed, AreTokens, ArePlaced, IsFirstFault, IsNext}
+use Rattle.sbl_text.specs.Tokens.{Placed, AreTokensFrom, ArePlacedFrom, IsFirstFaultFrom, IsNext}
+use Rattle.sbl_text.specs.Escapes.{InForce}
+use Rattle.sbl_text.specs.Literals.{IsLiteral}
 
 -- a text has one list of tokens
 abbrev pub TokensAreOne : Type 0
-TokensAreOne = (text : List ℕ) (ls ms : List Lexeme) → AreTokens text ls → AreTokens text ms → ls ≡ ms
+TokensAreOne = (s : State) (text : List ℕ) (ls ms : List Lexeme) → AreTokensFrom s text ls → AreTokensFrom s text ms → ls ≡ ms
 
 -- with one list of places
 abbrev pub PlacesAreOne : Type 0
-PlacesAreOne = (text : List ℕ) (ts us : List Placed) → ArePlaced text ts → ArePlaced text us → ts ≡ us
+PlacesAreOne = (s : State) (text : List ℕ) (ts us : List Placed) → ArePlacedFrom s text ts → ArePlacedFrom s text us → ts ≡ us
 
 -- or it has one first fault
 abbrev pub FirstFaultIsOne : Type 0
-FirstFaultIsOne = (text : List ℕ) (f g : ScriptFault) → IsFirstFault text f → IsFirstFault text g → f ≡ g
+FirstFaultIsOne = (s : State) (text : List ℕ) (f g : ScriptFault) → IsFirstFaultFrom s text f → IsFirstFaultFrom s text g → f ≡ g
 
 -- and never both
 abbrev pub TokensOrFault : Type 0
-TokensOrFault = (text : List ℕ) (ls : List Lexeme) (f : ScriptFault) → AreTokens text ls → IsFirstFault text f → ⊥
+TokensOrFault = (s : State) (text : List ℕ) (ls : List Lexeme) (f : ScriptFault) → AreTokensFrom s text ls → IsFirstFaultFrom s text f → ⊥
 
 -- after a fault comes the same fault, unless memory is refused
 abbrev pub SameFaultAgain : Type 0
@@ -40,3 +42,16 @@ WordsAreRead = (w : Word) → word_of (word_text w) ≡ Some w
 -- and a sign
 abbrev pub SignsAreRead : Type 0
 SignsAreRead = (s : Sign) → sign_of (sign_text s) ≡ Some s
+
+-- a spelling means one list of characters, or it has one fault
+abbrev pub LiteralIsOne : Type 0
+LiteralIsOne = (e : InForce) (spelling : List ℕ) (a b : Result (List ℕ) ScriptFault) → IsLiteral e spelling a → IsLiteral e spelling b → a ≡ b
+
+-- the token that comes next, before the tokens of what is left then, is a text's first
+abbrev pub NextIsFirst : Type 0
+NextIsFirst =
+    (text : List ℕ) (s t : State) (from rest : List ℕ) (token : Token) (ls : List Lexeme) → IsNext text s from t rest (Ok (Some token)) → AreTokensFrom t rest ls → AreTokensFrom s from (lexeme_of token ∷ ls)
+
+-- and where none comes there is none
+abbrev pub NoneIsLast : Type 0
+NoneIsLast = (text : List ℕ) (s t : State) (from rest : List ℕ) → IsNext text s from t rest (Ok None) → AreTokensFrom s from []

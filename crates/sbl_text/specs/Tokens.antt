@@ -115,8 +115,11 @@ placed_from place [] = []
 placed_from place (p ∷ ps) = put_placed place p.text p.lexeme (placed_from (place + byte_length p.text) ps)
 
 -- the tokens of a text with their places
+abbrev pub ArePlacedFrom : State → List ℕ → List Placed → Type 0
+ArePlacedFrom s text ts = (ps : List Piece) × (t : State) × AreCut s text ps t [] × MayEnd t × (ts ≡ placed_from 0 ps)
+
 abbrev pub ArePlaced : List ℕ → List Placed → Type 0
-ArePlaced text ts = (ps : List Piece) × (t : State) × AreCut start text ps t [] × MayEnd t × (ts ≡ placed_from 0 ps)
+ArePlaced text ts = ArePlacedFrom start text ts
 
 -- ---- faults
 
@@ -155,9 +158,12 @@ IsFault s text place f =
     ⊎ ((k : Shape) × (x : List ℕ) × (rest : List ℕ) × (text ≡ x ++ rest) × IsPiece (setting_of s) k x rest × IsRefused s k x place f)
 
 -- the first fault of a text: tokens without fault stand before it, and its place counts the bytes before it
+abbrev pub IsFirstFaultFrom : State → List ℕ → ScriptFault → Type 0
+IsFirstFaultFrom s text f =
+    (before : List ℕ) × (rest : List ℕ) × (ps : List Piece) × (t : State) × (text ≡ before ++ rest) × AreCut s text ps t rest × IsFault t rest (byte_length before) f
+
 abbrev pub IsFirstFault : List ℕ → ScriptFault → Type 0
-IsFirstFault text f =
-    (before : List ℕ) × (rest : List ℕ) × (ps : List Piece) × (t : State) × (text ≡ before ++ rest) × AreCut start text ps t rest × IsFault t rest (byte_length before) f
+IsFirstFault text f = IsFirstFaultFrom start text f
 
 -- ---- one token after another
 

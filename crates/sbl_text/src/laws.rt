@@ -1,6 +1,6 @@
 //! What is shown of the tokens of a text.
 
-ghost use Rattle.sbl_text.specs.Laws.{FirstFaultIsOne, PlacesAreOne, SameFaultAgain, SignsAreRead, TokensAreOne, TokensOrFault, WordsAreRead};
+ghost use Rattle.sbl_text.specs.Laws.{FirstFaultIsOne, LiteralIsOne, NextIsFirst, NoneIsLast, PlacesAreOne, SameFaultAgain, SignsAreRead, TokensAreOne, TokensOrFault, WordsAreRead};
 
 /// A text has one list of tokens, and they have one list of places.
 pub fn tokens_are_one()
@@ -23,4 +23,15 @@ pub fn same_fault_again()
 pub fn words_and_signs_are_read()
     ensures words { WordsAreRead }
     ensures signs { SignsAreRead }
+{}
+
+/// A spelling means one list of characters, or it has one fault.
+pub fn literal_is_one()
+    ensures { LiteralIsOne }
+{}
+
+/// The tokens that a lexer answers, one after another until none comes, are the tokens of its text.
+pub fn nexts_are_tokens()
+    ensures next { NextIsFirst }
+    ensures none { NoneIsLast }
 {}

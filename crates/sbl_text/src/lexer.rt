@@ -7,7 +7,7 @@ ghost use Rattle.sbl_text.specs.Tokens as spec;
 ghost use Rattle.sbl_text.specs.Tokens.{Reading};
 ghost use Rattle.std.specs.List.{All};
 ghost use Rattle.sbl_text.specs.Lexemes.{lexeme_of, SaysFitting};
-ghost use Rattle.sbl_text.specs.States.{setting_of};
+ghost use Rattle.sbl_text.specs.States.{setting_of, start_under};
 
 use crate::escapes::Escapes;
 use crate::fault::ScriptFault;
@@ -80,7 +80,7 @@ fn token_after<'a>(
 }
 
 impl<'a> Lexer<'a> {
-    ghost use Rattle.sbl_text.specs.States.{start, start_under};
+    ghost use Rattle.sbl_text.specs.States.{start};
 
     /// Begins at the text's front, with no insert characters and no macros. The allocator is kept for what tokens mean.
     pub fn new(alloc: Global, text: &'a str) -> Lexer<'a>
@@ -144,7 +144,21 @@ pub fn tokens<'a>(alloc: Global, text: &'a str) -> Result<Vec<Token<'a>>, Script
     ensures placed { IfOk result (λ ts. spec.ArePlaced (chars text.now) (map spec.placed_of ts.items)) }
     ensures fault { IfErr result (λ f. (f ≡ ScriptFault.OutOfMemory) ⊎ spec.IsFirstFault (chars text.now) f) }
 {
-    let mut lexer = Lexer::new(alloc, text);
+    tokens_under(alloc, text, Escapes::new(alloc))
+}
+
+/// All the tokens of a text that stands under insert characters and macros; as `tokens`.
+pub fn tokens_under<'a>(
+    alloc: Global,
+    text: &'a str,
+    escapes: Escapes,
+) -> Result<Vec<Token<'a>>, ScriptFault>
+    ensures fitting { IfOk result (λ ts. All SaysFitting ts.items) }
+    ensures all { IfOk result (λ ts. spec.AreTokensFrom (start_under escapes) (chars text.now) (map lexeme_of ts.items)) }
+    ensures placed { IfOk result (λ ts. spec.ArePlacedFrom (start_under escapes) (chars text.now) (map spec.placed_of ts.items)) }
+    ensures fault { IfErr result (λ f. (f ≡ ScriptFault.OutOfMemory) ⊎ spec.IsFirstFaultFrom (start_under escapes) (chars text.now) f) }
+{
+    let mut lexer = Lexer::with_escapes(alloc, text, escapes);
     let mut tokens = Vec::new(alloc);
     while let Some(token) = lexer.next()? {
         tokens.push(token)?;

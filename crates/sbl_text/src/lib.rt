@@ -21,7 +21,7 @@ mod words;
 pub use codes::read_codes;
 pub use escapes::{Escapes, Inserts};
 pub use fault::ScriptFault;
-pub use lexer::{Lexer, tokens};
+pub use lexer::{Lexer, tokens, tokens_under};
 pub use literals::read_literal;
 pub use signs::Sign;
 pub use token::{Kind, Token, Value};

@@ -105,6 +105,7 @@ pub bench_refused : {B : Type 0} (old between new : Option (List ℕ)) (external
     → TookSource old between external s → ReadsWords between new (Ok words) → IsFaultOrMemory (opening_fault [] (map (λ w. w.items) words.items)) f
     → IsLoaded old new external state (Err (Open f))
 bench_refused old between new external s words state edit.Present begins reads fault = words_given old between new external s words edit.Present begins reads fault
+bench_refused old between new external s words state edit.Absent begins reads fault = words_given old between new external s words edit.Absent begins reads fault
 bench_refused old between new external s words state edit.EmptyWord begins reads fault = words_given old between new external s words edit.EmptyWord begins reads fault
 bench_refused old between new external s words state edit.WordTooLong begins reads fault = words_given old between new external s words edit.WordTooLong begins reads fault
 bench_refused old between new external s words state edit.Full begins reads fault = words_given old between new external s words edit.Full begins reads fault

@@ -1,8 +1,8 @@
 -- A session: what is written, and what the bench is then, by the bytes of the input.
-use Rattle.std.specs.Prelude.{◌≡◌, ◌⊎◌, ◌++◌, ◌≤◌, ℕ, Bool, List, ◌∷◌, Option, Some, None, Result, Ok, Err, ⊤, length, take}
+use Rattle.std.specs.Prelude.{◌≡◌, ◌⊎◌, ◌++◌, ◌≤◌, ℕ, List, ◌∷◌, Option, Some, None, Result, Ok, Err, ⊤, length, take}
 use Rattle.std.specs.Io.KnownBytes.{Appends}
 use Rattle.sbl_bench.specs.State.{State}
-use Rattle.snowbench.specs.Answers.{answers, reply_of, state_after, state_after_all}
+use Rattle.snowbench.specs.Answers.{Memory, answers, reply_of, state_after, state_after_all}
 use Rattle.snowbench.specs.Devices.{HasStopped}
 use Rattle.snowbench.specs.Held.{AllFit, HasCause, IsTooLong, NoFeed, fault_of}
 use Rattle.snowbench.specs.LinesOf.{lines_of, longest_line}
@@ -11,29 +11,34 @@ use Rattle.snowbench.specs.declared.faults.LineFault.TheVariants as line
 use Rattle.snowbench.specs.declared.faults.ServeFault.{ServeFault}
 use Rattle.snowbench.specs.declared.faults.ServeFault.TheVariants as fault
 
--- These lines, and no more, were answered: for some list m of refusals of memory, one for each line, the answers to them
+-- These lines, and no more, were answered: for some list m, which says of each line whether its memory sufficed, the answers to them
 -- were written, and the bench is the one after them.
 pub record Answered (s : State) (lines : List (List ℕ)) (held new_held : Option (List ℕ)) (t : State) : Type 0 where
-  pub m : List Bool
+  pub m : List Memory
   pub each : length m ≡ length lines
   pub text : Appends held new_held (answers s lines m)
   pub state : t ≡ state_after_all s lines m
 
 -- A line was taken and its edit made after these lines were answered, and a front of its answer was written.
 pub record HalfAnswered (s : State) (lines : List (List ℕ)) (line : List ℕ) (held new_held : Option (List ℕ)) (t : State) : Type 0 where
-  pub m : List Bool
+  pub m : List Memory
   pub each : length m ≡ length lines
-  pub refused : Bool
+  pub memory : Memory
   pub written : ℕ
-  pub text : Appends held new_held (answers s lines m ++ take written (reply_of (state_after_all s lines m) line refused))
-  pub state : t ≡ state_after (state_after_all s lines m) line refused
+  pub text : Appends held new_held (answers s lines m ++ take written (reply_of (state_after_all s lines m) line memory))
+  pub state : t ≡ state_after (state_after_all s lines m) line memory
+
+-- Where the reader tells nothing: some lines, and no more, were answered.
+abbrev pub Untold : Option (List ℕ) → Option (List ℕ) → State → State → Result (Unit {0}) ServeFault → Type 0
+Untold held new_held s t (Err fault.Write) = (done : List (List ℕ)) × (line : List ℕ) × HalfAnswered s done line held new_held t
+Untold held new_held s t ending = (done : List (List ℕ)) × Answered s done held new_held t
 
 -- What a session of this input writes, and what the bench is after it, by how it ends, and what input it leaves then: at
 -- the end of input all lines are answered; at a line that is too long, all lines before it; where the reader fails, all
 -- lines of which the last line feed was taken, and of one more line a front may have been taken; and where the writer
 -- fails, the edit of the line in hand is made and its answer broken off.
 abbrev pub IsSession : Option (List ℕ) → Option (List ℕ) → Option (List ℕ) → Option (List ℕ) → State → State → Result (Unit {0}) ServeFault → Type 0
-IsSession None new_input held new_held s t ending = ⊤
+IsSession None new_input held new_held s t ending = Untold held new_held s t ending
 IsSession (Some bytes) new_input held new_held s t (Ok u) = AllFit (lines_of bytes) × Answered s (lines_of bytes) held new_held t
 IsSession (Some bytes) new_input held new_held s t (Err fault.LineTooLong) =
     (done : List (List ℕ)) × (line : List ℕ) × (rest : List (List ℕ)) × (lines_of bytes ≡ done ++ line ∷ rest)
@@ -48,7 +53,7 @@ IsSession (Some bytes) new_input held new_held s t (Err f) = ⊥
 
 -- The session so far, in the midst of it.
 abbrev pub SoFar : Option (List ℕ) → Option (List ℕ) → Option (List ℕ) → Option (List ℕ) → State → State → Type 0
-SoFar None left held new_held s t = ⊤
+SoFar None left held new_held s t = (done : List (List ℕ)) × Answered s done held new_held t
 SoFar (Some bytes) None held new_held s t = ⊥
 SoFar (Some bytes) (Some rest) held new_held s t =
     (done : List (List ℕ)) × (lines_of bytes ≡ done ++ lines_of rest) × AllFit done × Answered s done held new_held t

@@ -98,6 +98,7 @@ impl<R: Source + Drop> Lines<R> {
         ensures empty { OnErr result (self.new.at ≡ self.new.end) }
         ensures fuel { fuel_of self.new ≤ fuel_of self.old }
         ensures later { R.failures self.old.reader ≤ R.failures self.new.reader }
+        ensures steady { OnOk result (R.failures self.new.reader ≡ R.failures self.old.reader) }
         ensures bound { reads_bound R.reads self.new ≡ reads_bound R.reads self.old }
         ensures why { IfErr result (λ fault. (fault ≡ LineFault.Read) × HasCause R.failures R.interruptions R.reads self.old self.new) }
     {
@@ -129,6 +130,7 @@ impl<R: Source + Drop> Lines<R> {
         ensures fuel { fuel_of self.new ≤ fuel_of self.old }
         ensures falls { IfOk result (λ o. MatchOption o Unit (λ b. fuel_of self.new < fuel_of self.old)) }
         ensures later { R.failures self.old.reader ≤ R.failures self.new.reader }
+        ensures steady { OnOk result (R.failures self.new.reader ≡ R.failures self.old.reader) }
         ensures bound { reads_bound R.reads self.new ≡ reads_bound R.reads self.old }
         ensures why { IfErr result (λ fault. (fault ≡ LineFault.Read) × HasCause R.failures R.interruptions R.reads self.old self.new) }
     {
@@ -153,6 +155,7 @@ impl<R: Source + Drop> Lines<R> {
         ensures fuel { OnOk result (vec_len self.new.line + fuel_of self.new ≤ fuel_of self.old) }
         ensures falls { IfOk result (λ end. end ≢ LineEnd.Input → fuel_of self.new < fuel_of self.old) }
         ensures later { R.failures self.old.reader ≤ R.failures self.new.reader }
+        ensures steady { OnOk result (R.failures self.new.reader ≡ R.failures self.old.reader) }
         ensures bound { reads_bound R.reads self.new ≡ reads_bound R.reads self.old }
         ensures why { IfErr result (λ fault. (fault ≡ LineFault.Read) × HasCause R.failures R.interruptions R.reads self.old self.new) }
     {
@@ -182,6 +185,7 @@ impl<R: Source + Drop> Lines<R> {
         ensures falls { IfOk result (λ more. more ≡ true → fuel_of self.new < fuel_of self.old) }
         ensures fault { fault_of self.new ≡ fault_of self.old }
         ensures later { R.failures self.old.reader ≤ R.failures self.new.reader }
+        ensures steady { OnOk result (R.failures self.new.reader ≡ R.failures self.old.reader) }
         ensures bound { reads_bound R.reads self.new ≡ reads_bound R.reads self.old }
         ensures why { IfErr result (λ fault. fault ≡ LineFault.Read → HasCause R.failures R.interruptions R.reads self.old self.new) }
     {
@@ -213,6 +217,7 @@ impl<R: Source + Drop> Lines<R> {
         ensures ready { OnOk result ((fault_of self.old ≡ None) × (fault_of self.new ≡ None)) }
         ensures fault { IfErr result (λ fault. fault_of self.new ≡ Some fault) }
         ensures later { R.failures self.old.reader ≤ R.failures self.new.reader }
+        ensures steady { OnOk result (R.failures self.new.reader ≡ R.failures self.old.reader) }
         ensures bound { reads_bound R.reads self.new ≡ reads_bound R.reads self.old }
         ensures why { IfErr result (λ fault. fault ≡ LineFault.Read → HasCause R.failures R.interruptions R.reads self.old self.new ⊎ (fault_of self.old ≡ Some fault)) }
     {

@@ -27,6 +27,7 @@ pub(crate) fn edit_text(answer: Result<(), EditFault>) -> &'static str
     match answer {
         Ok(()) => "ok\n",
         Err(EditFault::Present) => "no 40 Present\n",
+        Err(EditFault::Absent) => "no 41 Absent\n",
         Err(EditFault::EmptyWord) => "no 42 EmptyWord\n",
         Err(EditFault::WordTooLong) => "no 43 WordTooLong\n",
         Err(EditFault::Full) => "no 44 Full\n",
@@ -41,6 +42,7 @@ pub(crate) fn write_reply<W: Sink>(writer: &mut W, reply: &Reply) -> Result<(), 
     ensures all { OnOk result ((text : List ℕ) → IsReply reply.now text → Appends (W.held writer.old) (W.held writer.new) text) }
     ensures front { (n : ℕ) × ((text : List ℕ) → IsReply reply.now text → Appends (W.held writer.old) (W.held writer.new) (take n text)) }
     ensures later { W.failures writer.old ≤ W.failures writer.new }
+    ensures steady { OnOk result (W.failures writer.new ≡ W.failures writer.old) }
     ensures why { IfErr result (λ fault. (fault ≡ ServeFault.Write) × HasStopped W.failures W.interruptions writer.old writer.new) }
 {
     match reply {

@@ -1,8 +1,9 @@
 //! A session: each line is answered before the next is read.
-ghost use Rattle.std.specs.Prelude.{◌≡◌, ◌≤◌, ℕ, Bool, [], None, Some, Err, IfOk, OnOk, take};
+ghost use Rattle.std.specs.Prelude.{◌≡◌, ◌≤◌, ℕ, [], None, Some, Err, IfOk, OnOk, take};
 ghost use Rattle.std.specs.Str.{chars};
 ghost use Rattle.std.specs.Io.KnownBytes.{IsAtEnd, Keeps};
 ghost use Rattle.sbl_bench.specs.Kept.{state_of};
+ghost use Rattle.sbl_bench.specs.Edits.{Add};
 ghost use Rattle.snowbench.specs.Answers as spec;
 ghost use Rattle.snowbench.specs.CommandViews.{IsReply};
 ghost use Rattle.snowbench.specs.Faults.{left_by_serve, serve_fault_of};
@@ -43,8 +44,8 @@ fn first_characters(word: &str, room: &mut [char; MOST_LOOKED_AT]) -> usize
 /// Adds a word, and gives the answer. A word that is too long is so by its first characters already; so none of its memory
 /// is refused before the edit itself.
 fn add_word(bench: &mut Bench, word: &str) -> &'static str
-    ensures { (refused : Bool) × (result.now ≡ spec.edit_text (spec.answer_to_add (state_of bench.old) (chars word.now) refused))
-        × (state_of bench.new ≡ spec.state_after_add (state_of bench.old) (chars word.now) refused) }
+    ensures { (memory : spec.Memory) × (result.now ≡ spec.edit_text (spec.answer_to (state_of bench.old) (Add (chars word.now)) memory))
+        × (state_of bench.new ≡ spec.state_after_edit (state_of bench.old) (Add (chars word.now)) memory) }
 {
     let mut room = ['\0'; MOST_LOOKED_AT];
     let count = first_characters(word, &mut room);
@@ -61,8 +62,8 @@ fn stems_text(alloc: Global, bench: &Bench) -> Result<Vec<u8>, AllocError>
 
 /// Makes the edit or the report that a line asks for, and gives the answer.
 fn answer(alloc: Global, bench: &mut Bench, line: &[u8]) -> Reply
-    ensures { (refused : Bool) × IsReply result (spec.reply_of (state_of bench.old) line.now refused)
-        × (state_of bench.new ≡ spec.state_after (state_of bench.old) line.now refused) }
+    ensures { (memory : spec.Memory) × IsReply result (spec.reply_of (state_of bench.old) line.now memory)
+        × (state_of bench.new ≡ spec.state_after (state_of bench.old) line.now memory) }
 {
     match command_of(line) {
         Command::Nothing => Reply::Fixed(""),
@@ -94,6 +95,7 @@ pub fn serve<R: Source + Drop, W: Sink>(
 ) -> Result<(), ServeFault>
     ensures session { fault_of lines.old ≡ None → IsSession (input_of R.left lines.old) (input_of R.left lines.new) (W.held writer.old) (W.held writer.new) (state_of bench.old) (state_of bench.new) result }
     ensures ends { Ends R.failures R.interruptions R.reads W.failures W.interruptions lines.old lines.new writer.old writer.new result }
+    ensures steady { OnOk result ((R.failures lines.new.reader ≡ R.failures lines.old.reader) × (W.failures writer.new ≡ W.failures writer.old)) }
     ensures whole { OnOk result (IsAtEnd (input_of R.left lines.new)) }
     ensures drained { result ≡ Err ServeFault.Read → fault_of lines.old ≡ None → held_of lines.new ≡ [] }
     ensures remembered { fault_of lines.new ≡ left_by_serve result }

@@ -13,6 +13,7 @@ fn write_some<W: Sink>(writer: &mut W, bytes: &[u8]) -> Result<usize, ServeFault
     ensures takes { IfOk result (λ n. Appends (W.held writer.old) (W.held writer.new) (take n bytes.now)) }
     ensures keeps { OnErr result (Keeps (W.held writer.old) (W.held writer.new)) }
     ensures later { W.failures writer.old ≤ W.failures writer.new }
+    ensures steady { OnOk result (W.failures writer.new ≡ W.failures writer.old) }
     ensures why { IfErr result (λ fault. (fault ≡ ServeFault.Write) × HasStopped W.failures W.interruptions writer.old writer.new) }
 {
     for _ in 0..MOST_TRIES {
@@ -31,6 +32,7 @@ pub(crate) fn write_all<W: Sink>(writer: &mut W, bytes: &[u8]) -> Result<(), Ser
     ensures all { OnOk result (Appends (W.held writer.old) (W.held writer.new) bytes.now) }
     ensures front { (n : ℕ) × Appends (W.held writer.old) (W.held writer.new) (take n bytes.now) }
     ensures later { W.failures writer.old ≤ W.failures writer.new }
+    ensures steady { OnOk result (W.failures writer.new ≡ W.failures writer.old) }
     ensures why { IfErr result (λ fault. (fault ≡ ServeFault.Write) × HasStopped W.failures W.interruptions writer.old writer.new) }
 {
     let mut written = 0;

@@ -5,6 +5,7 @@ ghost use Rattle.sbl_grammar.specs.View.{view_command, view_rows, view_row, view
 ghost use Rattle.sbl_grammar.specs.Tree as trees;
 ghost use Rattle.sbl_machine.specs.NumberedAmongs as spec;
 ghost use Rattle.sbl_machine.specs.NumberedView.{view_names, view_placed, view_found, texts};
+ghost use Rattle.sbl_machine.specs.Regions.{mode_behind as spec_mode_behind};
 
 use crate::copies::copied;
 use crate::node;
@@ -142,7 +143,7 @@ fn entries_of(
 
 // The mode of a command behind a prefix.
 fn mode_behind(prefix: Prefix, mode: Mode) -> Mode
-    ensures { result ≡ spec.mode_behind prefix mode }
+    ensures { result ≡ spec_mode_behind prefix mode }
 {
     match prefix {
         Prefix::Backwards => Mode::Backward,

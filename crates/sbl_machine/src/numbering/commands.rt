@@ -16,20 +16,12 @@ use crate::node::{Entry, Node};
 use crate::numbering::amongs::Found;
 use crate::numbering::names::{Names, is_one_of, number_of};
 use crate::numbering::numbers::{number_of_expression, text};
+use crate::numbering::place::{Place, begun, closed, inside, left_of, past_rows};
 use sbl_grammar::{
     Among, Argument, Assignment, Command, Comparison, Count, Edit, Expression, Group, Joined,
     Joiner, Literal, Move, Naming, Prefix, Row, Simple,
 };
 use std::alloc::{AllocError, Global};
-
-/// Where a command stands.
-#[derive(Clone, Copy)]
-pub struct Place {
-    /// The number of the next among in the script.
-    pub next: usize,
-    /// Whether a `substring` waits for it.
-    pub waits: bool,
-}
 
 fn copied_entries(alloc: Global, entries: &[Entry]) -> Result<Vec<Entry>, AllocError>
     ensures { IfOk result (λ v. v.items ≡ entries.now) }
@@ -71,17 +63,14 @@ fn search_next(alloc: Global, amongs: &Vec<Found>, place: Place) -> Result<Node,
     })
 }
 
-// Inside the next among, behind its word.
-fn inside(amongs: &Vec<Found>, place: Place) -> Place
-    ensures { view_place amongs.now.items result ≡ spec.inside (view_place amongs.now.items place) }
+// The same for a `substring`: f where its region has none ahead.
+fn search_ahead(alloc: Global, amongs: &Vec<Found>, place: Place) -> Result<Node, AllocError>
+    ensures { IfOk result (λ n. view_node (strings_at amongs.now.items) n ≡ spec.search_ahead (view_place amongs.now.items place)) }
 {
-    Place {
-        next: if place.next < amongs.len() {
-            place.next + 1
-        } else {
-            place.next
-        },
-        waits: false,
+    if place.behind < left_of(amongs, place) {
+        search_next(alloc, amongs, place)
+    } else {
+        Ok(Node::Act(Action::False))
     }
 }
 
@@ -98,7 +87,7 @@ fn simple(
         Simple::LeftBracket => Ok(Node::Act(Action::LeftBracket)),
         Simple::RightBracket => Ok(Node::Act(Action::RightBracket)),
         Simple::Substring => {
-            let node = search_next(alloc, amongs, *place)?;
+            let node = search_ahead(alloc, amongs, *place)?;
             place.waits = true;
             Ok(node)
         }
@@ -385,7 +374,7 @@ fn rows_of(
     rows: &Vec<Row>,
     place: &mut Place,
 ) -> Result<Vec<Node>, AllocError>
-    ensures made { IfOk result (λ ns. map (view_node (strings_at amongs.now.items)) ns.items ≡ spec.numbered_rows (view_names names.now) (view_rows rows.now.items) (view_place amongs.now.items place.old) []) }
+    ensures made { IfOk result (λ ns. map (view_node (strings_at amongs.now.items)) ns.items ≡ spec.numbered_rows (view_names names.now) (view_rows rows.now.items) (view_place amongs.now.items place.old)) }
     ensures behind { OnOk result (view_place amongs.now.items place.new ≡ spec.past_rows (view_rows rows.now.items) (view_place amongs.now.items place.old)) }
 {
     let mut nodes = Vec::new(alloc);
@@ -444,21 +433,43 @@ fn among_of(
     ensures behind { OnOk result (view_place amongs.now.items place.new ≡ spec.past (trees.chosen (view_among among.now).0 (view_among among.now).1) (view_place amongs.now.items place.old)) }
 {
     let number = next_number(amongs, *place);
+    let waits = place.waits;
     let mut before = Vec::new(alloc);
-    if !place.waits {
+    if !waits {
         before.push(search_next(alloc, amongs, *place)?)?;
     }
     *place = inside(amongs, *place);
     if let Some(rows) = &among.starter {
-        let nodes = rows_of(alloc, names, amongs, rows, place)?;
-        before.push(Node::Sequence(nodes))?;
+        let nodes = region_of(alloc, names, amongs, rows, place)?;
+        if !waits {
+            before.push(Node::Sequence(nodes))?;
+        }
     }
     let bodies = bodies_of(alloc, names, amongs, &among.groups, place)?;
+    place.waits = false;
     Ok(Node::Among {
         among: number,
         before,
         bodies,
     })
+}
+
+// The rows of a bracket that is a region of its own.
+#[cycle(commands)]
+fn region_of(
+    alloc: Global,
+    names: &Names,
+    amongs: &Vec<Found>,
+    rows: &Vec<Row>,
+    place: &mut Place,
+) -> Result<Vec<Node>, AllocError>
+    ensures made { IfOk result (λ ns. map (view_node (strings_at amongs.now.items)) ns.items ≡ spec.numbered_rows (view_names names.now) (view_rows rows.now.items) (spec.region (view_rows rows.now.items) (view_place amongs.now.items place.old))) }
+    ensures behind { OnOk result (view_place amongs.now.items place.new ≡ spec.past_rows (view_rows rows.now.items) (spec.closed (view_place amongs.now.items place.old))) }
+{
+    let behind = past_rows(amongs, rows, closed(amongs, *place));
+    let mut inner = begun(amongs, *place, behind);
+    *place = behind;
+    rows_of(alloc, names, amongs, rows, &mut inner)
 }
 
 #[cycle(commands)]
@@ -469,12 +480,12 @@ fn bodies_of(
     groups: &Vec<Group>,
     place: &mut Place,
 ) -> Result<Vec<Node>, AllocError>
-    ensures made { IfOk result (λ ns. (bare : List trees.Entry) → map (view_node (strings_at amongs.now.items)) ns.items ≡ spec.numbered_groups (view_names names.now) (view_groups groups.now.items bare) (view_place amongs.now.items place.old) []) }
+    ensures made { IfOk result (λ ns. (bare : List trees.Entry) → map (view_node (strings_at amongs.now.items)) ns.items ≡ spec.numbered_groups (view_names names.now) (view_groups groups.now.items bare) (view_place amongs.now.items place.old)) }
     ensures behind { OnOk result ((bare : List trees.Entry) → view_place amongs.now.items place.new ≡ spec.past_groups (view_groups groups.now.items bare) (view_place amongs.now.items place.old)) }
 {
     let mut bodies = Vec::new(alloc);
     for group in groups {
-        let nodes = rows_of(alloc, names, amongs, &group.rows, place)?;
+        let nodes = region_of(alloc, names, amongs, &group.rows, place)?;
         bodies.push(Node::Sequence(nodes))?;
     }
     Ok(bodies)

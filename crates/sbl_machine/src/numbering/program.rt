@@ -10,20 +10,14 @@ ghost use Rattle.sbl_script.specs.Parsed.{source_of};
 
 use crate::node::{Program, Routine};
 use crate::numbering::amongs::{Found, amongs_of};
-use crate::numbering::commands::{Place, row_of};
+use crate::numbering::commands::row_of;
 use crate::numbering::names::{Names, Placed, names_of, number_of, place_all};
+use crate::numbering::place::{Place, begun, closed, left_of, past_row};
 use crate::numbering::sets::sets_of;
 use crate::search::AmongSearch;
 use sbl_grammar::{Plain, Row};
 use sbl_script::Script;
 use std::alloc::{AllocError, Global};
-
-// How many amongs are still to come.
-fn left_of(amongs: &Vec<Found>, place: Place) -> usize
-    ensures { result ≡ length (view_place amongs.now.items place).coming }
-{
-    amongs.len().saturating_sub(place.next)
-}
 
 fn routine_of(
     alloc: Global,
@@ -33,14 +27,15 @@ fn routine_of(
     place: &mut Place,
 ) -> Result<Routine, AllocError>
     ensures made { IfOk result (λ r. view_routine (strings_at amongs.now.items) r ≡ spec.routine_of (view_names names.now) (view_row body.now).0 (view_row body.now).1 (view_place amongs.now.items place.old)) }
-    ensures behind { OnOk result (view_place amongs.now.items place.new ≡ spec.past_others (view_row body.now).1 (spec.past (view_row body.now).0 (view_place amongs.now.items place.old))) }
+    ensures behind { OnOk result (view_place amongs.now.items place.new ≡ spec.past_body (view_row body.now).0 (view_row body.now).1 (view_place amongs.now.items place.old)) }
 {
-    let before = left_of(amongs, *place);
-    let body = row_of(alloc, names, amongs, body, place)?;
-    let after = left_of(amongs, *place);
+    let behind = past_row(amongs, body, closed(amongs, *place));
+    let count = left_of(amongs, *place).saturating_sub(left_of(amongs, behind));
+    let mut inner = begun(amongs, *place, behind);
+    *place = behind;
     Ok(Routine {
-        body,
-        amongs: before.saturating_sub(after),
+        body: row_of(alloc, names, amongs, body, &mut inner)?,
+        amongs: count,
     })
 }
 
@@ -68,10 +63,11 @@ fn routines_of(
     items: &[Placed],
     amongs: &Vec<Found>,
 ) -> Result<Vec<Routine>, AllocError>
-    ensures { IfOk result (λ v. map (view_routine (strings_at amongs.now.items)) v.items ≡ spec.routines_behind (view_names names.now) (map view_placed items.now) (view_place amongs.now.items (record { next = 0; waits = false })) []) }
+    ensures { IfOk result (λ v. map (view_routine (strings_at amongs.now.items)) v.items ≡ spec.routines_behind (view_names names.now) (map view_placed items.now) (view_place amongs.now.items (record { next = 0; behind = 0; waits = false })) []) }
 {
     let mut place = Place {
         next: 0,
+        behind: 0,
         waits: false,
     };
     let mut routines = Vec::new(alloc);

@@ -35,7 +35,7 @@ impl State {
             )),
             Action::Next => Ok(self.take_next(mode)),
             Action::Hop(expression) => {
-                let number = self.value(mode, expression).map_err(Halt::Refused)?;
+                let number = self.value(mode, expression)?;
                 Ok(self.hop(mode, natural(number)))
             }
             Action::ToLimit => {
@@ -48,11 +48,11 @@ impl State {
                 Ok(true)
             }
             Action::AtMark(expression) => {
-                let place = self.value(mode, expression).map_err(Halt::Refused)?;
+                let place = self.value(mode, expression)?;
                 Ok(self.is_at_mark(natural(place)))
             }
             Action::ToMark(expression) => {
-                let place = self.value(mode, expression).map_err(Halt::Refused)?;
+                let place = self.value(mode, expression)?;
                 Ok(self.to_mark(mode, natural(place)))
             }
             Action::Set(number) => {

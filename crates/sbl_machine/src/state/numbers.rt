@@ -89,8 +89,8 @@ impl State {
         ensures leads { Leads result self.new (assign number change (view_number expression.now) mode self.old) }
         ensures same_steps { IfOk result (λ _. self.new.steps ≡ self.old.steps) }
     {
-        let y = self.value(mode, expression).map_err(Halt::Refused)?;
-        let new = changed(change, self.integer(number), y).map_err(Halt::Refused)?;
+        let y = self.value(mode, expression)?;
+        let new = changed(change, self.integer(number), y)?;
         if number < self.integers.len() {
             self.integers[number] = new;
         }
@@ -107,8 +107,8 @@ impl State {
     ) -> Result<bool, Halt>
         ensures { Follows result self.now (compare (view_number left.now) relation (view_number right.now) mode self.now) }
     {
-        let x = self.value(mode, left).map_err(Halt::Refused)?;
-        let y = self.value(mode, right).map_err(Halt::Refused)?;
+        let x = self.value(mode, left)?;
+        let y = self.value(mode, right)?;
         Ok(holds(relation, x, y))
     }
 }

@@ -9,7 +9,6 @@ ghost use Rattle.sbl_machine.specs.Kept.{Leads};
 
 use crate::action::StringTerm;
 use crate::copies::copied;
-use crate::fault::RunFault;
 use crate::halt::Halt;
 use crate::state::{MOST_CHARS, State};
 use sbl_script::Mode;
@@ -67,7 +66,7 @@ impl State {
         ensures same_steps { IfOk result (λ _. self.new.steps ≡ self.old.steps) }
     {
         if !self.is_slice() {
-            return Err(Halt::Refused(RunFault::Slice));
+            return Err(Halt::Slice);
         }
         let alloc = *self.text.allocator();
         let buffer = mem::replace(&mut self.spare, Vec::new(alloc));
@@ -84,12 +83,12 @@ impl State {
         ensures same_steps { IfOk result (λ _. self.new.steps ≡ self.old.steps) }
     {
         if !self.is_slice() {
-            return Err(Halt::Refused(RunFault::Slice));
+            return Err(Halt::Slice);
         }
         let gone = self.ket - self.bra;
         let length = self.characters(term).len();
         if length > MOST_CHARS || self.text.len() + length - gone > MOST_CHARS {
-            return Err(Halt::Refused(RunFault::TooLong));
+            return Err(Halt::TooLong);
         }
         let made = self.spliced(self.bra, self.ket, term)?;
         self.spare = mem::replace(&mut self.text, made);
@@ -104,7 +103,7 @@ impl State {
         ensures same_steps { IfOk result (λ _. self.new.steps ≡ self.old.steps) }
     {
         if !self.is_slice() {
-            return Err(Halt::Refused(RunFault::Slice));
+            return Err(Halt::Slice);
         }
         let alloc = *self.text.allocator();
         let kept = copied(alloc, &self.text[self.bra..self.ket])?;
@@ -118,11 +117,11 @@ impl State {
         ensures same_steps { IfOk result (λ _. self.new.steps ≡ self.old.steps) }
     {
         if self.cursor + self.beyond > self.text.len() {
-            return Err(Halt::Refused(RunFault::Cursor));
+            return Err(Halt::Cursor);
         }
         let length = self.characters(term).len();
         if length > MOST_CHARS || self.text.len() + length > MOST_CHARS {
-            return Err(Halt::Refused(RunFault::TooLong));
+            return Err(Halt::TooLong);
         }
         let made = self.spliced(self.cursor, self.cursor, term)?;
         self.spare = mem::replace(&mut self.text, made);

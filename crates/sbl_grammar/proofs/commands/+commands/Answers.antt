@@ -95,32 +95,43 @@ pub among-returns-in_err-inside : goal.among-returns-in_err-inside
 among-returns-in_err-inside t_ c =
     let first : (left c.args.tokens.now c.args.at) ≡ t.among ∷ drop 1 (left c.args.tokens.now c.args.at) = d.as_terminal (left c.args.tokens.now c.args.at) t.among refl c.requires.first in
     let p = err_from_is_err_and c.from_residual.result c.from_residual.ensures.1 in
-    rw (p.1, p.2) (λ k. d.fails_along c.args.tokens.now c.in_err-inside.field-0.0 (fault (left c.args.tokens.now c.args.at) (s.command c.args.depth ∷ k)) _ (d.took (left c.args.tokens.now c.args.at) (left c.args.tokens.now c.behind.result) t.among (s.command c.args.depth ∷ k) (s.opening c.args.depth ∷ s.starter c.args.depth ∷ s.groups c.args.depth ∷ s.closing c.args.depth ∷ k) c.args.depth first c.behind.ensures refl (omega arith)) (c.in_err-inside.ensures (s.starter c.args.depth ∷ s.groups c.args.depth ∷ s.closing c.args.depth ∷ k)))
+    rw (p.1, p.2) (λ k. d.fails_along c.args.tokens.now c.in_err-inside.field-0.0 (fault (left c.args.tokens.now c.args.at) (s.among c.args.depth ∷ k)) _ (d.took (left c.args.tokens.now c.args.at) (left c.args.tokens.now c.behind.result) t.among (s.among c.args.depth ∷ k) (s.opening c.args.depth ∷ s.starter c.args.depth ∷ s.groups c.args.depth ∷ s.closing c.args.depth ∷ k) c.args.depth first c.behind.ensures refl (omega arith)) (c.in_err-inside.ensures (s.starter c.args.depth ∷ s.groups c.args.depth ∷ s.closing c.args.depth ∷ k)))
 
 pub among-returns-in_err-starter : goal.among-returns-in_err-starter
 among-returns-in_err-starter t_ c =
     let first : (left c.args.tokens.now c.args.at) ≡ t.among ∷ drop 1 (left c.args.tokens.now c.args.at) = d.as_terminal (left c.args.tokens.now c.args.at) t.among refl c.requires.first in
     let p = err_from_is_err_and c.from_residual-in_err-starter.result c.from_residual-in_err-starter.ensures.1 in
-    rw (p.1, p.2) (λ k. d.fails_along c.args.tokens.now c.in_err-starter.field-0.0 (fault (left c.args.tokens.now c.args.at) (s.command c.args.depth ∷ k)) _ (d.took (left c.args.tokens.now c.args.at) (left c.args.tokens.now c.behind.result) t.among (s.command c.args.depth ∷ k) (s.opening c.args.depth ∷ s.starter c.args.depth ∷ s.groups c.args.depth ∷ s.closing c.args.depth ∷ k) c.args.depth first c.behind.ensures refl (omega arith) ∙ c.in_ok-inside.ensures.1 (s.starter c.args.depth ∷ s.groups c.args.depth ∷ s.closing c.args.depth ∷ k)) (c.in_err-starter.ensures (s.groups c.args.depth ∷ s.closing c.args.depth ∷ k)))
+    rw (p.1, p.2) (λ k. d.fails_along c.args.tokens.now c.in_err-starter.field-0.0 (fault (left c.args.tokens.now c.args.at) (s.among c.args.depth ∷ k)) _ (d.took (left c.args.tokens.now c.args.at) (left c.args.tokens.now c.behind.result) t.among (s.among c.args.depth ∷ k) (s.opening c.args.depth ∷ s.starter c.args.depth ∷ s.groups c.args.depth ∷ s.closing c.args.depth ∷ k) c.args.depth first c.behind.ensures refl (omega arith) ∙ c.in_ok-inside.ensures.1 (s.starter c.args.depth ∷ s.groups c.args.depth ∷ s.closing c.args.depth ∷ k)) (c.in_err-starter.ensures (s.groups c.args.depth ∷ s.closing c.args.depth ∷ k)))
 
 pub among-returns-in_err-groups : goal.among-returns-in_err-groups
 among-returns-in_err-groups t_ c =
     let first : (left c.args.tokens.now c.args.at) ≡ t.among ∷ drop 1 (left c.args.tokens.now c.args.at) = d.as_terminal (left c.args.tokens.now c.args.at) t.among refl c.requires.first in
     let p = err_from_is_err_and c.from_residual-in_err-groups.result c.from_residual-in_err-groups.ensures.1 in
-    rw (p.1, p.2) (λ k. d.fails_along c.args.tokens.now c.in_err-groups.field-0.0 (fault (left c.args.tokens.now c.args.at) (s.command c.args.depth ∷ k)) _ (d.took (left c.args.tokens.now c.args.at) (left c.args.tokens.now c.behind.result) t.among (s.command c.args.depth ∷ k) (s.opening c.args.depth ∷ s.starter c.args.depth ∷ s.groups c.args.depth ∷ s.closing c.args.depth ∷ k) c.args.depth first c.behind.ensures refl (omega arith) ∙ c.in_ok-inside.ensures.1 (s.starter c.args.depth ∷ s.groups c.args.depth ∷ s.closing c.args.depth ∷ k) ∙ c.in_ok-starter.ensures.1 (s.groups c.args.depth ∷ s.closing c.args.depth ∷ k)) (c.in_err-groups.ensures (s.closing c.args.depth ∷ k)))
+    rw (p.1, p.2) (λ k. d.fails_along c.args.tokens.now c.in_err-groups.field-0.0 (fault (left c.args.tokens.now c.args.at) (s.among c.args.depth ∷ k)) _ (d.took (left c.args.tokens.now c.args.at) (left c.args.tokens.now c.behind.result) t.among (s.among c.args.depth ∷ k) (s.opening c.args.depth ∷ s.starter c.args.depth ∷ s.groups c.args.depth ∷ s.closing c.args.depth ∷ k) c.args.depth first c.behind.ensures refl (omega arith) ∙ c.in_ok-inside.ensures.1 (s.starter c.args.depth ∷ s.groups c.args.depth ∷ s.closing c.args.depth ∷ k) ∙ c.in_ok-starter.ensures.1 (s.groups c.args.depth ∷ s.closing c.args.depth ∷ k)) (c.in_err-groups.ensures (s.closing c.args.depth ∷ k)))
 
 pub among-returns-in_err-rest : goal.among-returns-in_err-rest
 among-returns-in_err-rest t_ c =
     let first : (left c.args.tokens.now c.args.at) ≡ t.among ∷ drop 1 (left c.args.tokens.now c.args.at) = d.as_terminal (left c.args.tokens.now c.args.at) t.among refl c.requires.first in
     let p = err_from_is_err_and c.from_residual-in_err-rest.result c.from_residual-in_err-rest.ensures.1 in
-    rw (p.1, p.2) (λ k. d.fails_along c.args.tokens.now c.in_err-rest.field-0.0 (fault (left c.args.tokens.now c.args.at) (s.command c.args.depth ∷ k)) _ (d.took (left c.args.tokens.now c.args.at) (left c.args.tokens.now c.behind.result) t.among (s.command c.args.depth ∷ k) (s.opening c.args.depth ∷ s.starter c.args.depth ∷ s.groups c.args.depth ∷ s.closing c.args.depth ∷ k) c.args.depth first c.behind.ensures refl (omega arith) ∙ c.in_ok-inside.ensures.1 (s.starter c.args.depth ∷ s.groups c.args.depth ∷ s.closing c.args.depth ∷ k) ∙ c.in_ok-starter.ensures.1 (s.groups c.args.depth ∷ s.closing c.args.depth ∷ k) ∙ c.in_ok-groups.ensures.1 (s.closing c.args.depth ∷ k)) (c.in_err-rest.ensures (k)))
+    rw (p.1, p.2) (λ k. d.fails_along c.args.tokens.now c.in_err-rest.field-0.0 (fault (left c.args.tokens.now c.args.at) (s.among c.args.depth ∷ k)) _ (d.took (left c.args.tokens.now c.args.at) (left c.args.tokens.now c.behind.result) t.among (s.among c.args.depth ∷ k) (s.opening c.args.depth ∷ s.starter c.args.depth ∷ s.groups c.args.depth ∷ s.closing c.args.depth ∷ k) c.args.depth first c.behind.ensures refl (omega arith) ∙ c.in_ok-inside.ensures.1 (s.starter c.args.depth ∷ s.groups c.args.depth ∷ s.closing c.args.depth ∷ k) ∙ c.in_ok-starter.ensures.1 (s.groups c.args.depth ∷ s.closing c.args.depth ∷ k) ∙ c.in_ok-groups.ensures.1 (s.closing c.args.depth ∷ k)) (c.in_err-rest.ensures (k)))
 
 pub among-returns : goal.among-returns
 among-returns t_ c =
     let first : (left c.args.tokens.now c.args.at) ≡ t.among ∷ drop 1 (left c.args.tokens.now c.args.at) = d.as_terminal (left c.args.tokens.now c.args.at) t.among refl c.requires.first in (
-      d.headed (left c.args.tokens.now c.args.at) (left c.args.tokens.now c.behind.result) t.among first c.behind.ensures ∙ ap (λ (r : List Terminal). t.among ∷ r) (c.in_ok-inside.ensures.0 ∙ ap (λ (r : List Terminal). t.open_ ∷ r) (c.in_ok-starter.ensures.0 ∙ ap (λ (r : List Terminal). trees.spelled_starter (view.view_starter c.in_ok-starter.starter) r) (c.in_ok-groups.ensures.0 ∙ ap (λ (r : List Terminal). trees.spelled_groups (view.view_groups c.in_ok-groups.groups.items (map view.view_entry c.in_ok-groups.bare.items)) r) (c.in_ok-rest.ensures.0)))) ∙ ap (λ (a : view.AmongView). trees.spelled (trees.chosen a.0 a.1) (left c.args.tokens.now c.in_ok-rest.rest)) (sym (views.view_of_among c.in_ok-starter.starter c.in_ok-groups.groups c.in_ok-groups.bare)) ∙ ap (λ (x : trees.Tree). trees.spelled x (left c.args.tokens.now c.in_ok-rest.rest)) (sym (views.command_Among _)),
-      λ k. d.took (left c.args.tokens.now c.args.at) (left c.args.tokens.now c.behind.result) t.among (s.command c.args.depth ∷ k) (s.opening c.args.depth ∷ s.starter c.args.depth ∷ s.groups c.args.depth ∷ s.closing c.args.depth ∷ k) c.args.depth first c.behind.ensures refl (omega arith) ∙ c.in_ok-inside.ensures.1 (s.starter c.args.depth ∷ s.groups c.args.depth ∷ s.closing c.args.depth ∷ k) ∙ c.in_ok-starter.ensures.1 (s.groups c.args.depth ∷ s.closing c.args.depth ∷ k) ∙ c.in_ok-groups.ensures.1 (s.closing c.args.depth ∷ k) ∙ c.in_ok-rest.ensures.1 (k),
+      d.headed (left c.args.tokens.now c.args.at) (left c.args.tokens.now c.behind.result) t.among first c.behind.ensures ∙ ap (λ (r : List Terminal). t.among ∷ r) (c.in_ok-inside.ensures.0 ∙ ap (λ (r : List Terminal). t.open_ ∷ r) (c.in_ok-starter.ensures.0 ∙ ap (λ (r : List Terminal). trees.spelled_starter (view.view_starter c.in_ok-starter.starter) r) (c.in_ok-groups.ensures.0 ∙ ap (λ (r : List Terminal). trees.spelled_groups (view.view_groups c.in_ok-groups.groups.items (map view.view_entry c.in_ok-groups.bare.items)) r) (c.in_ok-rest.ensures.0)))) ∙ ap (λ (a : view.AmongView). trees.spelled (trees.chosen a.0 a.1) (left c.args.tokens.now c.in_ok-rest.rest)) (sym (views.view_of_among c.in_ok-starter.starter c.in_ok-groups.groups c.in_ok-groups.bare)),
+      λ k. d.took (left c.args.tokens.now c.args.at) (left c.args.tokens.now c.behind.result) t.among (s.among c.args.depth ∷ k) (s.opening c.args.depth ∷ s.starter c.args.depth ∷ s.groups c.args.depth ∷ s.closing c.args.depth ∷ k) c.args.depth first c.behind.ensures refl (omega arith) ∙ c.in_ok-inside.ensures.1 (s.starter c.args.depth ∷ s.groups c.args.depth ∷ s.closing c.args.depth ∷ k) ∙ c.in_ok-starter.ensures.1 (s.groups c.args.depth ∷ s.closing c.args.depth ∷ k) ∙ c.in_ok-groups.ensures.1 (s.closing c.args.depth ∷ k) ∙ c.in_ok-rest.ensures.1 (k),
     )
+
+pub command-returns-in_err-among-in-Among-clause-gives : goal.command-returns-in_err-among-in-Among-clause-gives
+command-returns-in_err-among-in-Among-clause-gives t_ c =
+    let p = err_from_is_err_and c.from_residual-in_err-among-in-Among.result c.from_residual-in_err-among-in-Among.ensures.1 in
+    rw (p.1, p.2) (λ k. d.fails_along c.args.tokens.now c.in_err-among-in-Among.field-0.0 (fault (left c.args.tokens.now c.args.at) (s.command c.args.depth ∷ k)) _ (d.among_first (left c.args.tokens.now c.args.at) c.args.depth k (sym c.role-role.ensures ∙ c.in-Among.is)) (c.in_err-among-in-Among.ensures k))
+
+pub command-returns-in_ok-among-in-Among-clause-gives : goal.command-returns-in_ok-among-in-Among-clause-gives
+command-returns-in_ok-among-in-Among-clause-gives t_ c = (
+  c.in_ok-among-in-Among.ensures.0 ∙ ap (λ (x : trees.Tree). trees.spelled x (left c.args.tokens.now c.in_ok-among-in-Among.rest)) (sym (views.command_Among c.in_ok-among-in-Among.among)),
+  λ k. d.among_first (left c.args.tokens.now c.args.at) c.args.depth k (sym c.role-role.ensures ∙ c.in-Among.is) ∙ c.in_ok-among-in-Among.ensures.1 k,
+)
 
 pub command-returns-then-not-begins_command-clause-gives : goal.command-returns-then-not-begins_command-clause-gives
 command-returns-then-not-begins_command-clause-gives t_ c =

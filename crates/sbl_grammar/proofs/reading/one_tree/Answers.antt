@@ -1,5 +1,13 @@
 use Rattle.sbl_grammar.proofs.Unique.{one_tree}
+use Rattle.sbl_grammar.proofs.OneTree.{trees_are_one}
+use Rattle.sbl_grammar.proofs.Faults.{places_tokens}
 use Rattle.sbl_grammar.proofs.reading.one_tree.Goals as goal
 
-pub returns : goal.returns
-returns c = one_tree
+pub returns-clause-script : goal.returns-clause-script
+returns-clause-script c = one_tree
+
+pub returns-clause-text : goal.returns-clause-text
+returns-clause-text c = trees_are_one
+
+pub returns-clause-places : goal.returns-clause-places
+returns-clause-places c = places_tokens

@@ -1,17 +1,18 @@
-use Rattle.std.proofs.Common.{◌≡◌, ℕ, suc, true, false, Bool, Some, Option, Result, Ok, Err, option_map, refl, length, get_or, ◌<◌, List, [], ◌∷◌, ◌++◌, ◌≤◌, map, sym, ap, ◌∙◌, arith, rules, append_assoc, Bor}
+use Rattle.std.proofs.Common.{◌≡◌, ◌+◌, drop, suc, true, false, Some, Ok, Err, option_map, refl, length, get_or, ◌<◌, [], ◌∷◌, ◌++◌, ◌≤◌, sym, ap, ◌∙◌, arith, rules, append_assoc, Bor}
 use Rattle.std.specs.Prelude.{slice_get, ◌-◌}
 use Rattle.sbl_machine.specs.Kept.{Follows}
 use Rattle.sbl_machine.specs.Moves.{next}
-use Rattle.sbl_machine.proofs.Arms.{follows_at, repeat_does, loop_does, atleast_does, or_does, and_does, goto_does, gopast_does, setlimit_does, limited_signals, limited_halts, one_time, search_does, among_does, nth_is, nth_past, one_turn, one_try, one_more, halted, called, leave_signals, leave_halts, after_halts}
+use Rattle.sbl_machine.proofs.Arms.{by_fault, stops_at, either_way, turn_is, time_stops, sequence_does, not_does, test_does, try_does, do_does, fail_does, backwards_does, follows_at, repeat_does, loop_does, atleast_does, or_does, and_does, goto_does, gopast_does, setlimit_does, limited_signals, limited_halts, one_time, search_does, among_does, nth_is, nth_past, one_turn, one_try, one_more, halted, called, leave_signals, leave_halts, after_halts}
 use Rattle.sbl_machine.specs.Standing.{Standing, Ending, Signals, after, then_on, mark, put_back}
 use Rattle.sbl_machine.specs.declared.node.Node.{Node}
 use Rattle.sbl_machine.specs.declared.node.Routine.{Routine}
 use Rattle.sbl_machine.specs.PlanOf.{plan_of, view_node, view_nodes, view_number, view_routine}
-use Rattle.sbl_machine.specs.Run.{runs, all_run, group_runs, nth_runs, calls, turns, times, seeks, count_of, enter, leave, limits, limited, limit_here, limit_back}
+use Rattle.sbl_machine.specs.Run.{backwards_from, backwards_end, runs, all_run, group_runs, nth_runs, calls, turns, times, seeks, count_of, enter, limits, limited, limit_here, limit_back}
 use Rattle.sbl_machine.specs.Numbers.{value, given}
 use Rattle.sbl_machine.specs.Search.{tries, try_one, search_all, bound_in, choice}
 use Rattle.sbl_machine.specs.Listed.{fits_at}
 use Rattle.sbl_machine.specs.Fitting.{first}
+use Rattle.sbl_script.specs.declared.marks.Mode.TheVariants.{Backward}
 use Rattle.sbl_machine.proofs.run.+run.Goals as goal
 
 pub run_command-returns-in-Repeat-clause-follows : goal.run_command-returns-in-Repeat-clause-follows
@@ -397,3 +398,381 @@ run_times-loop-left-preserved g t c =
     let fewer : new.steps < s.steps = c.in_ok-run_command.ensures.fewer in
     let steps : new.steps ≤ c.args.state.now.steps = omega (arith, fewer, inv.1) in
     (one_time c.loop-left.left D m s new _ some e inv.0, steps)
+
+pub run_command-returns-in_err-run_command-in-Or-clause-follows : goal.run_command-returns-in_err-run_command-in-Or-clause-follows
+run_command-returns-in_err-run_command-in-Or-clause-follows g t c =
+    let T = g.T.Tables.listed c.args.tables.now in
+    let P = plan_of T c.args.program.now in
+    let levels = c.args.levels in
+    let D = λ (n : Node). runs P levels (view_node T n) in
+    let m = c.args.mode in
+    let s = c.args.state.now in
+    let q = c.pay.new.self in
+    let a = c.in-Or in
+    let u = c.run_command.new.state in
+    let on_t : Standing → Standing → Ending = λ (q : Standing). Signals true in
+    let on_f : Standing → Standing → Ending = λ (q : Standing). λ (f : Standing). then_on (put_back m (mark q) f) (D a.second.value m) in
+    let p = ap (λ n. D n m s) a.is ∙ or_does T P levels a.first a.second m s ∙ ap (λ r. then_on r (λ q. after (D a.first.value m q) (on_t q) (on_f q))) c.in_ok-pay.ensures in
+    let halt = c.in_err-run_command-in-Or.field-0.0 in
+    let r : c.from_residual-in_err-run_command-in-Or.result ≡ Err halt = search rules in
+    rw r (by_fault halt u _ (λ fault is. p ∙ ap (λ r. after r (on_t q) (on_f q)) (ap (λ n. D n m q) (sym c.deref-in-Or.ensures) ∙ stops_at halt u _ fault is c.in_err-run_command-in-Or.ensures.follows)))
+
+pub run_command-returns-in_err-put_back-in-Or-clause-follows : goal.run_command-returns-in_err-put_back-in-Or-clause-follows
+run_command-returns-in_err-put_back-in-Or-clause-follows g t c =
+    let T = g.T.Tables.listed c.args.tables.now in
+    let P = plan_of T c.args.program.now in
+    let levels = c.args.levels in
+    let D = λ (n : Node). runs P levels (view_node T n) in
+    let m = c.args.mode in
+    let s = c.args.state.now in
+    let q = c.pay.new.self in
+    let a = c.in-Or in
+    let u = c.run_command.new.state in
+    let on_t : Standing → Standing → Ending = λ (q : Standing). Signals true in
+    let on_f : Standing → Standing → Ending = λ (q : Standing). λ (f : Standing). then_on (put_back m (mark q) f) (D a.second.value m) in
+    let p = ap (λ n. D n m s) a.is ∙ or_does T P levels a.first a.second m s ∙ ap (λ r. then_on r (λ q. after (D a.first.value m q) (on_t q) (on_f q))) c.in_ok-pay.ensures in
+    let w = c.put_back.new.self in
+    let b : c.in_ok-run_command-in-Or.field-0 ≡ false = search rules in
+    let e : D a.first.value m q ≡ Signals false u = ap (λ n. D n m q) (sym c.deref-in-Or.ensures) ∙ c.in_ok-run_command-in-Or.ensures.follows ∙ ap (λ v. Signals v u) b in
+    let halt = c.in_err-put_back-in-Or.field-0.0 in
+    let r : c.from_residual-in_err-put_back-in-Or.result ≡ Err halt = search rules in
+    rw r (by_fault halt w _ (λ fault is. p ∙ ap (λ r. after r (on_t q) (on_f q)) e ∙ ap (λ r. then_on r (D a.second.value m)) (ap (λ r. put_back m r u) (sym c.mark-from.ensures.value) ∙ stops_at halt w _ fault is c.in_err-put_back-in-Or.ensures.leads)))
+
+pub run_command-returns-in_err-run_command-in-And-clause-follows : goal.run_command-returns-in_err-run_command-in-And-clause-follows
+run_command-returns-in_err-run_command-in-And-clause-follows g t c =
+    let T = g.T.Tables.listed c.args.tables.now in
+    let P = plan_of T c.args.program.now in
+    let levels = c.args.levels in
+    let D = λ (n : Node). runs P levels (view_node T n) in
+    let m = c.args.mode in
+    let s = c.args.state.now in
+    let q = c.pay.new.self in
+    let a = c.in-And in
+    let u = c.run_command-in-And.new.state in
+    let on_t : Standing → Standing → Ending = λ (q : Standing). λ (t : Standing). then_on (put_back m (mark q) t) (D a.second.value m) in
+    let on_f : Standing → Standing → Ending = λ (q : Standing). Signals false in
+    let p = ap (λ n. D n m s) a.is ∙ and_does T P levels a.first a.second m s ∙ ap (λ r. then_on r (λ q. after (D a.first.value m q) (on_t q) (on_f q))) c.in_ok-pay.ensures in
+    let halt = c.in_err-run_command-in-And.field-0.0 in
+    let r : c.from_residual-in_err-run_command-in-And.result ≡ Err halt = search rules in
+    rw r (by_fault halt u _ (λ fault is. p ∙ ap (λ r. after r (on_t q) (on_f q)) (ap (λ n. D n m q) (sym c.deref-in-And.ensures) ∙ stops_at halt u _ fault is c.in_err-run_command-in-And.ensures.follows)))
+
+pub run_command-returns-in_err-put_back-in-And-clause-follows : goal.run_command-returns-in_err-put_back-in-And-clause-follows
+run_command-returns-in_err-put_back-in-And-clause-follows g t c =
+    let T = g.T.Tables.listed c.args.tables.now in
+    let P = plan_of T c.args.program.now in
+    let levels = c.args.levels in
+    let D = λ (n : Node). runs P levels (view_node T n) in
+    let m = c.args.mode in
+    let s = c.args.state.now in
+    let q = c.pay.new.self in
+    let a = c.in-And in
+    let u = c.run_command-in-And.new.state in
+    let on_t : Standing → Standing → Ending = λ (q : Standing). λ (t : Standing). then_on (put_back m (mark q) t) (D a.second.value m) in
+    let on_f : Standing → Standing → Ending = λ (q : Standing). Signals false in
+    let p = ap (λ n. D n m s) a.is ∙ and_does T P levels a.first a.second m s ∙ ap (λ r. then_on r (λ q. after (D a.first.value m q) (on_t q) (on_f q))) c.in_ok-pay.ensures in
+    let w = c.put_back-in-And.new.self in
+    let b : c.in_ok-run_command-in-And.field-0 ≡ true = search rules in
+    let e : D a.first.value m q ≡ Signals true u = ap (λ n. D n m q) (sym c.deref-in-And.ensures) ∙ c.in_ok-run_command-in-And.ensures.follows ∙ ap (λ v. Signals v u) b in
+    let halt = c.in_err-put_back-in-And.field-0.0 in
+    let r : c.from_residual-in_err-put_back-in-And.result ≡ Err halt = search rules in
+    rw r (by_fault halt w _ (λ fault is. p ∙ ap (λ r. after r (on_t q) (on_f q)) e ∙ ap (λ r. then_on r (D a.second.value m)) (ap (λ r. put_back m r u) (sym c.mark-from-in-And.ensures.value) ∙ stops_at halt w _ fault is c.in_err-put_back-in-And.ensures.leads)))
+
+pub run_command-returns-in_err-run_command-in-Not-clause-follows : goal.run_command-returns-in_err-run_command-in-Not-clause-follows
+run_command-returns-in_err-run_command-in-Not-clause-follows g t c =
+    let T = g.T.Tables.listed c.args.tables.now in
+    let P = plan_of T c.args.program.now in
+    let levels = c.args.levels in
+    let D = λ (n : Node). runs P levels (view_node T n) in
+    let m = c.args.mode in
+    let s = c.args.state.now in
+    let q = c.pay.new.self in
+    let a = c.in-Not in
+    let u = c.run_command-in-Not.new.state in
+    let on_t : Standing → Standing → Ending = λ (q : Standing). Signals false in
+    let on_f : Standing → Standing → Ending = λ (q : Standing). put_back m (mark q) in
+    let p = ap (λ n. D n m s) a.is ∙ not_does T P levels a.inner m s ∙ ap (λ r. then_on r (λ q. after (D a.inner.value m q) (on_t q) (on_f q))) c.in_ok-pay.ensures in
+    let halt = c.in_err-run_command-in-Not.field-0.0 in
+    let r : c.from_residual-in_err-run_command-in-Not.result ≡ Err halt = search rules in
+    rw r (by_fault halt u _ (λ fault is. p ∙ ap (λ r. after r (on_t q) (on_f q)) (ap (λ n. D n m q) (sym c.deref-in-Not.ensures) ∙ stops_at halt u _ fault is c.in_err-run_command-in-Not.ensures.follows)))
+
+pub run_command-returns-in_err-put_back-in-Not-clause-follows : goal.run_command-returns-in_err-put_back-in-Not-clause-follows
+run_command-returns-in_err-put_back-in-Not-clause-follows g t c =
+    let T = g.T.Tables.listed c.args.tables.now in
+    let P = plan_of T c.args.program.now in
+    let levels = c.args.levels in
+    let D = λ (n : Node). runs P levels (view_node T n) in
+    let m = c.args.mode in
+    let s = c.args.state.now in
+    let q = c.pay.new.self in
+    let a = c.in-Not in
+    let u = c.run_command-in-Not.new.state in
+    let on_t : Standing → Standing → Ending = λ (q : Standing). Signals false in
+    let on_f : Standing → Standing → Ending = λ (q : Standing). put_back m (mark q) in
+    let p = ap (λ n. D n m s) a.is ∙ not_does T P levels a.inner m s ∙ ap (λ r. then_on r (λ q. after (D a.inner.value m q) (on_t q) (on_f q))) c.in_ok-pay.ensures in
+    let w = c.put_back-in-Not.new.self in
+    let b : c.in_ok-run_command-in-Not.field-0 ≡ false = search rules in
+    let e : D a.inner.value m q ≡ Signals false u = ap (λ n. D n m q) (sym c.deref-in-Not.ensures) ∙ c.in_ok-run_command-in-Not.ensures.follows ∙ ap (λ v. Signals v u) b in
+    let halt = c.in_err-put_back-in-Not.field-0.0 in
+    let r : c.from_residual-in_err-put_back-in-Not.result ≡ Err halt = search rules in
+    rw r (by_fault halt w _ (λ fault is. p ∙ ap (λ r. after r (on_t q) (on_f q)) e ∙ ap (λ r. put_back m r u) (sym c.mark-from-in-Not.ensures.value) ∙ stops_at halt w _ fault is c.in_err-put_back-in-Not.ensures.leads))
+
+pub run_command-returns-in_err-run_command-in-Test-clause-follows : goal.run_command-returns-in_err-run_command-in-Test-clause-follows
+run_command-returns-in_err-run_command-in-Test-clause-follows g t c =
+    let T = g.T.Tables.listed c.args.tables.now in
+    let P = plan_of T c.args.program.now in
+    let levels = c.args.levels in
+    let D = λ (n : Node). runs P levels (view_node T n) in
+    let m = c.args.mode in
+    let s = c.args.state.now in
+    let q = c.pay.new.self in
+    let a = c.in-Test in
+    let u = c.run_command-in-Test.new.state in
+    let on_t : Standing → Standing → Ending = λ (q : Standing). put_back m (mark q) in
+    let on_f : Standing → Standing → Ending = λ (q : Standing). Signals false in
+    let p = ap (λ n. D n m s) a.is ∙ test_does T P levels a.inner m s ∙ ap (λ r. then_on r (λ q. after (D a.inner.value m q) (on_t q) (on_f q))) c.in_ok-pay.ensures in
+    let halt = c.in_err-run_command-in-Test.field-0.0 in
+    let r : c.from_residual-in_err-run_command-in-Test.result ≡ Err halt = search rules in
+    rw r (by_fault halt u _ (λ fault is. p ∙ ap (λ r. after r (on_t q) (on_f q)) (ap (λ n. D n m q) (sym c.deref-in-Test.ensures) ∙ stops_at halt u _ fault is c.in_err-run_command-in-Test.ensures.follows)))
+
+pub run_command-returns-in_err-put_back-in-Test-clause-follows : goal.run_command-returns-in_err-put_back-in-Test-clause-follows
+run_command-returns-in_err-put_back-in-Test-clause-follows g t c =
+    let T = g.T.Tables.listed c.args.tables.now in
+    let P = plan_of T c.args.program.now in
+    let levels = c.args.levels in
+    let D = λ (n : Node). runs P levels (view_node T n) in
+    let m = c.args.mode in
+    let s = c.args.state.now in
+    let q = c.pay.new.self in
+    let a = c.in-Test in
+    let u = c.run_command-in-Test.new.state in
+    let on_t : Standing → Standing → Ending = λ (q : Standing). put_back m (mark q) in
+    let on_f : Standing → Standing → Ending = λ (q : Standing). Signals false in
+    let p = ap (λ n. D n m s) a.is ∙ test_does T P levels a.inner m s ∙ ap (λ r. then_on r (λ q. after (D a.inner.value m q) (on_t q) (on_f q))) c.in_ok-pay.ensures in
+    let w = c.put_back-in-Test.new.self in
+    let b : c.in_ok-run_command-in-Test.field-0 ≡ true = search rules in
+    let e : D a.inner.value m q ≡ Signals true u = ap (λ n. D n m q) (sym c.deref-in-Test.ensures) ∙ c.in_ok-run_command-in-Test.ensures.follows ∙ ap (λ v. Signals v u) b in
+    let halt = c.in_err-put_back-in-Test.field-0.0 in
+    let r : c.from_residual-in_err-put_back-in-Test.result ≡ Err halt = search rules in
+    rw r (by_fault halt w _ (λ fault is. p ∙ ap (λ r. after r (on_t q) (on_f q)) e ∙ ap (λ r. put_back m r u) (sym c.mark-from-in-Test.ensures.value) ∙ stops_at halt w _ fault is c.in_err-put_back-in-Test.ensures.leads))
+
+pub run_command-returns-in_err-run_command-in-Try-clause-follows : goal.run_command-returns-in_err-run_command-in-Try-clause-follows
+run_command-returns-in_err-run_command-in-Try-clause-follows g t c =
+    let T = g.T.Tables.listed c.args.tables.now in
+    let P = plan_of T c.args.program.now in
+    let levels = c.args.levels in
+    let D = λ (n : Node). runs P levels (view_node T n) in
+    let m = c.args.mode in
+    let s = c.args.state.now in
+    let q = c.pay.new.self in
+    let a = c.in-Try in
+    let u = c.run_command-in-Try.new.state in
+    let on_t : Standing → Standing → Ending = λ (q : Standing). Signals true in
+    let on_f : Standing → Standing → Ending = λ (q : Standing). put_back m (mark q) in
+    let p = ap (λ n. D n m s) a.is ∙ try_does T P levels a.inner m s ∙ ap (λ r. then_on r (λ q. after (D a.inner.value m q) (on_t q) (on_f q))) c.in_ok-pay.ensures in
+    let halt = c.in_err-run_command-in-Try.field-0.0 in
+    let r : c.from_residual-in_err-run_command-in-Try.result ≡ Err halt = search rules in
+    rw r (by_fault halt u _ (λ fault is. p ∙ ap (λ r. after r (on_t q) (on_f q)) (ap (λ n. D n m q) (sym c.deref-in-Try.ensures) ∙ stops_at halt u _ fault is c.in_err-run_command-in-Try.ensures.follows)))
+
+pub run_command-returns-in_err-put_back-in-Try-clause-follows : goal.run_command-returns-in_err-put_back-in-Try-clause-follows
+run_command-returns-in_err-put_back-in-Try-clause-follows g t c =
+    let T = g.T.Tables.listed c.args.tables.now in
+    let P = plan_of T c.args.program.now in
+    let levels = c.args.levels in
+    let D = λ (n : Node). runs P levels (view_node T n) in
+    let m = c.args.mode in
+    let s = c.args.state.now in
+    let q = c.pay.new.self in
+    let a = c.in-Try in
+    let u = c.run_command-in-Try.new.state in
+    let on_t : Standing → Standing → Ending = λ (q : Standing). Signals true in
+    let on_f : Standing → Standing → Ending = λ (q : Standing). put_back m (mark q) in
+    let p = ap (λ n. D n m s) a.is ∙ try_does T P levels a.inner m s ∙ ap (λ r. then_on r (λ q. after (D a.inner.value m q) (on_t q) (on_f q))) c.in_ok-pay.ensures in
+    let w = c.put_back-then-not-branch-3.new.self in
+    let b : c.in_ok-run_command-in-Try.field-0 ≡ false = search rules in
+    let e : D a.inner.value m q ≡ Signals false u = ap (λ n. D n m q) (sym c.deref-in-Try.ensures) ∙ c.in_ok-run_command-in-Try.ensures.follows ∙ ap (λ v. Signals v u) b in
+    let halt = c.in_err-put_back-in-Try.field-0.0 in
+    let r : c.from_residual-in_err-put_back-in-Try.result ≡ Err halt = search rules in
+    rw r (by_fault halt w _ (λ fault is. p ∙ ap (λ r. after r (on_t q) (on_f q)) e ∙ ap (λ r. put_back m r u) (sym c.mark-from-in-Try.ensures.value) ∙ stops_at halt w _ fault is c.in_err-put_back-in-Try.ensures.leads))
+
+pub run_command-returns-in_err-run_command-in-Do-clause-follows : goal.run_command-returns-in_err-run_command-in-Do-clause-follows
+run_command-returns-in_err-run_command-in-Do-clause-follows g t c =
+    let T = g.T.Tables.listed c.args.tables.now in
+    let P = plan_of T c.args.program.now in
+    let levels = c.args.levels in
+    let D = λ (n : Node). runs P levels (view_node T n) in
+    let m = c.args.mode in
+    let s = c.args.state.now in
+    let q = c.pay.new.self in
+    let a = c.in-Do in
+    let u = c.run_command-in-Do.new.state in
+    let on_t : Standing → Standing → Ending = λ (q : Standing). put_back m (mark q) in
+    let on_f : Standing → Standing → Ending = λ (q : Standing). put_back m (mark q) in
+    let p = ap (λ n. D n m s) a.is ∙ do_does T P levels a.inner m s ∙ ap (λ r. then_on r (λ q. after (D a.inner.value m q) (on_t q) (on_f q))) c.in_ok-pay.ensures in
+    let halt = c.in_err-run_command-in-Do.field-0.0 in
+    let r : c.from_residual-in_err-run_command-in-Do.result ≡ Err halt = search rules in
+    rw r (by_fault halt u _ (λ fault is. p ∙ ap (λ r. after r (on_t q) (on_f q)) (ap (λ n. D n m q) (sym c.deref-in-Do.ensures) ∙ stops_at halt u _ fault is c.in_err-run_command-in-Do.ensures.follows)))
+
+pub run_command-returns-in_err-put_back-in-Do-clause-follows : goal.run_command-returns-in_err-put_back-in-Do-clause-follows
+run_command-returns-in_err-put_back-in-Do-clause-follows g t c =
+    let T = g.T.Tables.listed c.args.tables.now in
+    let P = plan_of T c.args.program.now in
+    let levels = c.args.levels in
+    let D = λ (n : Node). runs P levels (view_node T n) in
+    let m = c.args.mode in
+    let s = c.args.state.now in
+    let q = c.pay.new.self in
+    let a = c.in-Do in
+    let u = c.run_command-in-Do.new.state in
+    let on_t : Standing → Standing → Ending = λ (q : Standing). put_back m (mark q) in
+    let on_f : Standing → Standing → Ending = λ (q : Standing). put_back m (mark q) in
+    let p = ap (λ n. D n m s) a.is ∙ do_does T P levels a.inner m s ∙ ap (λ r. then_on r (λ q. after (D a.inner.value m q) (on_t q) (on_f q))) c.in_ok-pay.ensures in
+    let w = c.put_back-in-Do.new.self in
+    let b = c.in_ok-run_command-in-Do.field-0 in
+    let e : D a.inner.value m q ≡ Signals b u = ap (λ n. D n m q) (sym c.deref-in-Do.ensures) ∙ c.in_ok-run_command-in-Do.ensures.follows in
+    let halt = c.in_err-put_back-in-Do.field-0.0 in
+    let r : c.from_residual-in_err-put_back-in-Do.result ≡ Err halt = search rules in
+    rw r (by_fault halt w _ (λ fault is. p ∙ ap (λ r. after r (on_t q) (on_f q)) e ∙ either_way b u (put_back m (mark q)) ∙ ap (λ r. put_back m r u) (sym c.mark-from-in-Do.ensures.value) ∙ stops_at halt w _ fault is c.in_err-put_back-in-Do.ensures.leads))
+
+pub run_command-returns-in_err-run_command-in-Fail-clause-follows : goal.run_command-returns-in_err-run_command-in-Fail-clause-follows
+run_command-returns-in_err-run_command-in-Fail-clause-follows g t c =
+    let T = g.T.Tables.listed c.args.tables.now in
+    let P = plan_of T c.args.program.now in
+    let levels = c.args.levels in
+    let D = λ (n : Node). runs P levels (view_node T n) in
+    let m = c.args.mode in
+    let s = c.args.state.now in
+    let q = c.pay.new.self in
+    let a = c.in-Fail in
+    let u = c.run_command-in-Fail.new.state in
+    let on_t : Standing → Standing → Ending = λ (q : Standing). Signals false in
+    let on_f : Standing → Standing → Ending = λ (q : Standing). Signals false in
+    let p = ap (λ n. D n m s) a.is ∙ fail_does T P levels a.inner m s ∙ ap (λ r. then_on r (λ q. after (D a.inner.value m q) (on_t q) (on_f q))) c.in_ok-pay.ensures in
+    let halt = c.in_err-run_command-in-Fail.field-0.0 in
+    let r : c.from_residual-in_err-run_command-in-Fail.result ≡ Err halt = search rules in
+    rw r (by_fault halt u _ (λ fault is. p ∙ ap (λ r. after r (on_t q) (on_f q)) (ap (λ n. D n m q) (sym c.deref-in-Fail.ensures) ∙ stops_at halt u _ fault is c.in_err-run_command-in-Fail.ensures.follows)))
+
+pub run_command-returns-in_err-run_command-in-SetLimit-clause-follows : goal.run_command-returns-in_err-run_command-in-SetLimit-clause-follows
+run_command-returns-in_err-run_command-in-SetLimit-clause-follows g t c =
+    let T = g.T.Tables.listed c.args.tables.now in
+    let P = plan_of T c.args.program.now in
+    let levels = c.args.levels in
+    let D = λ (n : Node). runs P levels (view_node T n) in
+    let m = c.args.mode in
+    let s = c.args.state.now in
+    let q = c.pay.new.self in
+    let a = c.in-SetLimit in
+    let u = c.run_command-in-SetLimit.new.state in
+    let on_t : Standing → Standing → Ending = λ (q : Standing). λ (t : Standing). then_on (put_back m (mark q) (limit_here m t)) (λ u. limited m (limits q) (D a.second.value m u)) in
+    let on_f : Standing → Standing → Ending = λ (q : Standing). Signals false in
+    let p = ap (λ n. D n m s) a.is ∙ setlimit_does T P levels a.first a.second m s ∙ ap (λ r. then_on r (λ q. after (D a.first.value m q) (on_t q) (on_f q))) c.in_ok-pay.ensures in
+    let halt = c.in_err-run_command-in-SetLimit.field-0.0 in
+    let r : c.from_residual-in_err-run_command-in-SetLimit.result ≡ Err halt = search rules in
+    rw r (by_fault halt u _ (λ fault is. p ∙ ap (λ r. after r (on_t q) (on_f q)) (ap (λ n. D n m q) (sym c.deref-in-SetLimit.ensures) ∙ stops_at halt u _ fault is c.in_err-run_command-in-SetLimit.ensures.follows)))
+
+pub run_command-returns-in_err-put_back-in-SetLimit-clause-follows : goal.run_command-returns-in_err-put_back-in-SetLimit-clause-follows
+run_command-returns-in_err-put_back-in-SetLimit-clause-follows g t c =
+    let T = g.T.Tables.listed c.args.tables.now in
+    let P = plan_of T c.args.program.now in
+    let levels = c.args.levels in
+    let D = λ (n : Node). runs P levels (view_node T n) in
+    let m = c.args.mode in
+    let s = c.args.state.now in
+    let q = c.pay.new.self in
+    let a = c.in-SetLimit in
+    let u = c.run_command-in-SetLimit.new.state in
+    let on_t : Standing → Standing → Ending = λ (q : Standing). λ (t : Standing). then_on (put_back m (mark q) (limit_here m t)) (λ u. limited m (limits q) (D a.second.value m u)) in
+    let on_f : Standing → Standing → Ending = λ (q : Standing). Signals false in
+    let p = ap (λ n. D n m s) a.is ∙ setlimit_does T P levels a.first a.second m s ∙ ap (λ r. then_on r (λ q. after (D a.first.value m q) (on_t q) (on_f q))) c.in_ok-pay.ensures in
+    let w = c.put_back-in-SetLimit.new.self in
+    let b : c.in_ok-run_command-in-SetLimit.field-0 ≡ true = search rules in
+    let e : D a.first.value m q ≡ Signals true u = ap (λ n. D n m q) (sym c.deref-in-SetLimit.ensures) ∙ c.in_ok-run_command-in-SetLimit.ensures.follows ∙ ap (λ v. Signals v u) b in
+    let halt = c.in_err-put_back-in-SetLimit.field-0.0 in
+    let r : c.from_residual-in_err-put_back-in-SetLimit.result ≡ Err halt = search rules in
+    rw r (by_fault halt w _ (λ fault is. p ∙ ap (λ r. after r (on_t q) (on_f q)) e ∙ ap (λ r. then_on r (λ u. limited m (limits q) (D a.second.value m u))) (ap (λ r. put_back m r (limit_here m u)) (sym c.mark-from-in-SetLimit.ensures.value) ∙ ap (put_back m c.mark-from-in-SetLimit.result) (sym c.limit_here.ensures) ∙ stops_at halt w _ fault is c.in_err-put_back-in-SetLimit.ensures.leads)))
+
+pub run_command-returns-in_err-run_command-in-Backwards-clause-follows : goal.run_command-returns-in_err-run_command-in-Backwards-clause-follows
+run_command-returns-in_err-run_command-in-Backwards-clause-follows g t c =
+    let T = g.T.Tables.listed c.args.tables.now in
+    let P = plan_of T c.args.program.now in
+    let levels = c.args.levels in
+    let D = λ (n : Node). runs P levels (view_node T n) in
+    let m = c.args.mode in
+    let s = c.args.state.now in
+    let q = c.pay.new.self in
+    let a = c.in-Backwards in
+    let k = c.begin_backwards.new.self in
+    let u = c.run_command-in-Backwards.new.state in
+    let go = λ (b : Standing). after (D a.inner.value Backward b) backwards_end (Signals false) in
+    let p = ap (λ n. D n m s) a.is ∙ backwards_does T P levels a.inner m s ∙ ap (λ r. then_on r (λ q. then_on (backwards_from q) go)) c.in_ok-pay.ensures in
+    let halt = c.in_err-run_command-in-Backwards.field-0.0 in
+    let r : c.from_residual-in_err-run_command-in-Backwards.result ≡ Err halt = search rules in
+    rw r (by_fault halt u _ (λ fault is. p ∙ ap (λ r. then_on r go) c.in_ok-begin_backwards-in-Backwards.ensures.leads ∙ ap (λ r. after r backwards_end (Signals false)) (ap (λ n. D n Backward k) (sym c.deref-in-Backwards.ensures) ∙ stops_at halt u _ fault is c.in_err-run_command-in-Backwards.ensures.follows)))
+
+pub run_command-returns-in-Sequence-clause-follows : goal.run_command-returns-in-Sequence-clause-follows
+run_command-returns-in-Sequence-clause-follows g t c =
+    let T = g.T.Tables.listed c.args.tables.now in
+    let P = plan_of T c.args.program.now in
+    let levels = c.args.levels in
+    let D = λ (n : Node). runs P levels (view_node T n) in
+    let m = c.args.mode in
+    let s = c.args.state.now in
+    let q = c.pay.new.self in
+    let a = c.in-Sequence in
+    let p = ap (λ n. D n m s) a.is ∙ sequence_does T P levels a.commands m s ∙ ap (λ r. then_on r (all_run P levels (view_nodes T a.commands.items) m)) c.in_ok-pay.ensures in
+    follows_at c.run_in_turn.result c.run_in_turn.new.state _ _ (p ∙ ap (λ ns. all_run P levels (view_nodes T ns) m q) (sym c.deref-in-Sequence.ensures.value)) c.run_in_turn.ensures.follows
+
+pub run_in_turn-returns-in_err-run_command-clause-follows : goal.run_in_turn-returns-in_err-run_command-clause-follows
+run_in_turn-returns-in_err-run_command-clause-follows g t c =
+    let T = g.T.Tables.listed c.args.tables.now in
+    let P = plan_of T c.args.program.now in
+    let levels = c.args.levels in
+    let D = λ (n : Node). runs P levels (view_node T n) in
+    let m = c.args.mode in
+    let cs = c.args.commands.now in
+    let i = c.loop-one.one-index in
+    let x = c.one-item.result in
+    let s = c.loop-one.state in
+    let u = c.run_command.new.state in
+    let inv = c.loop-one.invariant in
+    let rest = λ (t : Standing). all_run P levels (view_nodes T (drop (i + 1) cs)) m t in
+    let turn = turn_is T P levels cs i x m s c.loop-one-test.true c.one-item.is in
+    let halt = c.in_err-run_command.field-0.0 in
+    let r : c.from_residual.result ≡ Err halt = search rules in
+    rw r (by_fault halt u _ (λ fault is. sym inv.0 ∙ turn ∙ ap (λ r. after r rest (Signals false)) (stops_at halt u _ fault is c.in_err-run_command.ensures.follows)))
+
+pub run_in_turn-loop-one-preserved : goal.run_in_turn-loop-one-preserved
+run_in_turn-loop-one-preserved g t c =
+    let T = g.T.Tables.listed c.args.tables.now in
+    let P = plan_of T c.args.program.now in
+    let levels = c.args.levels in
+    let D = λ (n : Node). runs P levels (view_node T n) in
+    let m = c.args.mode in
+    let cs = c.args.commands.now in
+    let i = c.loop-one.one-index in
+    let x = c.one-item.result in
+    let s = c.loop-one.state in
+    let u = c.run_command.new.state in
+    let inv = c.loop-one.invariant in
+    let rest = λ (t : Standing). all_run P levels (view_nodes T (drop (i + 1) cs)) m t in
+    let turn = turn_is T P levels cs i x m s c.loop-one-test.true c.one-item.is in
+    let b : c.in_ok-run_command.field-0 ≡ true = search rules in
+    let e : D x m s ≡ Signals true u = c.in_ok-run_command.ensures.follows ∙ ap (λ v. Signals v u) b in
+    let fewer : u.steps < s.steps = c.in_ok-run_command.ensures.fewer in
+    let steps : u.steps ≤ c.args.state.now.steps = omega (arith, fewer, inv.1) in
+    (sym (ap (λ r. after r rest (Signals false)) e) ∙ sym turn ∙ inv.0, steps)
+
+pub run_times-returns-in_err-run_command-clause-follows : goal.run_times-returns-in_err-run_command-clause-follows
+run_times-returns-in_err-run_command-clause-follows g t c =
+    let T = g.T.Tables.listed c.args.tables.now in
+    let D = runs (plan_of T c.args.program.now) c.args.levels (view_node T c.args.inner.now) in
+    let m = c.args.mode in
+    let s = c.loop-left.state in
+    let u = c.run_command.new.state in
+    let inv = c.loop-left.invariant in
+    let number = c.in_ok-number.number in
+    let halt = c.in_err-run_command.field-0.0 in
+    let r : c.from_residual-in_err-run_command.result ≡ Err halt = search rules in
+    let some : 0 < c.loop-left.left = omega (arith, c.loop-left-test.true) in
+    let v : value (view_number c.args.count.now) m c.args.state.now ≡ Ok number = search rules in
+    let left : c.count_of-left.result ≡ count_of number = search rules in
+    rw r (by_fault halt u _ (λ fault is. ap (λ r. given r c.args.state.now (λ z. times (count_of z) D m c.args.state.now)) v ∙ ap (λ n. times n D m c.args.state.now) (sym left) ∙ sym inv.0 ∙ time_stops c.loop-left.left D m s u fault some (stops_at halt u _ fault is c.in_err-run_command.ensures.follows)))

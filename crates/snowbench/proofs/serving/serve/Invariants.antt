@@ -9,8 +9,8 @@ abbrev pub invariant-loop-lines : goal.invariant-loop-lines
 invariant-loop-lines g l = record {
   session : SoFar (input_of g.R.Source.left l.fn.lines) (input_of g.R.Source.left l.lines) (g.W.Sink.held l.fn.writer) (g.W.Sink.held l.writer) (state_of l.fn.bench) (state_of l.bench);
   fault : fault_of l.lines ≡ fault_of l.fn.lines;
-  read : g.R.Source.failures l.fn.lines.reader ≤ g.R.Source.failures l.lines.reader;
-  written : g.W.Sink.failures l.fn.writer ≤ g.W.Sink.failures l.writer;
+  read : g.R.Source.failures l.lines.reader ≡ g.R.Source.failures l.fn.lines.reader;
+  written : g.W.Sink.failures l.writer ≡ g.W.Sink.failures l.fn.writer;
   bound : reads_bound g.R.Source.reads l.lines ≡ reads_bound g.R.Source.reads l.fn.lines;
   untouched : IsSome (fault_of l.fn.lines) → (state_of l.bench ≡ state_of l.fn.bench) × Keeps (g.W.Sink.held l.fn.writer) (g.W.Sink.held l.writer)
       × Keeps (input_of g.R.Source.left l.fn.lines) (input_of g.R.Source.left l.lines);

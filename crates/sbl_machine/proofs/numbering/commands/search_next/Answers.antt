@@ -1,4 +1,4 @@
-use Rattle.std.proofs.Common.{◌≡◌, ap, ◌∙◌, map, drop}
+use Rattle.std.proofs.Common.{ap, ◌∙◌, map, drop}
 use Rattle.sbl_machine.specs.Numbered.{next_of}
 use Rattle.sbl_machine.specs.NumberedView.{strings_at, view_found}
 use Rattle.sbl_machine.specs.Plan as plan

@@ -1,4 +1,4 @@
-use Rattle.std.proofs.Common.{◌≡◌, rules}
+use Rattle.std.proofs.Common.{rules}
 use Rattle.sbl_machine.specs.Numbered.{numbered_script}
 use Rattle.sbl_machine.proofs.numbering.program.numbered.Goals as goal
 

@@ -1,7 +1,4 @@
-use Rattle.std.proofs.Common.{◌∙◌, ap}
-use Rattle.std.specs.Prelude.{nat_eq}
-use Rattle.std.specs.List.{starts_with}
-use Rattle.sbl_machine.specs.Fitting.{read_as}
+use Rattle.std.proofs.Common.{◌∙◌}
 use Rattle.sbl_machine.proofs.Mirror.{ends_with-mirror}
 use Rattle.sbl_machine.proofs.state.moves.is_front.Goals as goal
 

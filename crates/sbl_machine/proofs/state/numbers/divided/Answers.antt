@@ -1,10 +1,10 @@
-use Rattle.std.proofs.Common.{◌≡◌, ◌<◌, ℕ, ℤ, pos, Bool, true, false, Option, Some, None, SomeIff, FitsSigned, Result, Ok, Err, sym, ap, ◌∙◌, arith, rules}
+use Rattle.std.proofs.Common.{◌≡◌, ℤ, pos, Bool, false, Option, Some, None, SomeIff, FitsSigned, Err, sym, ap, ◌∙◌, rules}
 use Rattle.std.specs.Prelude.{int_div, if◌then◌else◌}
-use Rattle.std.specs.Int.{w32, CanDivide, IsNonZero}
+use Rattle.std.specs.Int.{w32, IsNonZero}
 use Rattle.std.specs.Ordering.{int_eq}
 use Rattle.std.proofs.lemmas.Int.{ints}
 use Rattle.sbl_machine.specs.declared.fault.RunFault.TheVariants as faults
-use Rattle.sbl_machine.specs.Numbers.{Value, fitted, divided}
+use Rattle.sbl_machine.specs.Numbers.{fitted}
 use Rattle.sbl_machine.proofs.state.numbers.divided.Goals as goal
 
 narrowed : (A B : Type 0) (r : Option ℤ) (z : ℤ) → A → SomeIff r (A × B) z → SomeIff r B z

@@ -5,7 +5,7 @@ use Rattle.snowbench.proofs.lines.Lines.take_line.Given as goal
 
 abbrev pub invariant-loop : goal.invariant-loop
 invariant-loop g l = Consumes (input_of g.R.Source.left l.fn.self) (input_of g.R.Source.left l.self) (line_of l.self)
-    × NoFeed (line_of l.self) × (vec_len l.self.line ≡ l.counter) × (g.R.Source.failures l.fn.self.reader ≤ g.R.Source.failures l.self.reader)
+    × NoFeed (line_of l.self) × (vec_len l.self.line ≡ l.counter) × (g.R.Source.failures l.self.reader ≡ g.R.Source.failures l.fn.self.reader)
     × (l.self.fault ≡ l.fn.self.fault)
     × (vec_len l.self.line + fuel_of l.self ≤ fuel_of l.fn.self)
     × (reads_bound g.R.Source.reads l.self ≡ reads_bound g.R.Source.reads l.fn.self)

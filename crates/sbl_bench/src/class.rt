@@ -1,0 +1,139 @@
+//! The conflation classes.
+
+ghost use Rattle.std.specs.Prelude.{◌≡◌, ◌++◌, ◌∷◌, [], true, map, OnOk, IfOk, All};
+ghost use Rattle.std.specs.BTreeSet.{IsOrdered};
+ghost use Rattle.std.specs.Option.{option_map};
+ghost use Rattle.sbl_bench.specs.Classes as spec;
+ghost use Rattle.sbl_bench.specs.Classes.{view_class, words_of};
+ghost use Rattle.sbl_bench.specs.Pairs.{has, key_cmp, plain};
+
+use crate::bench::Bench;
+use sbl_machine::Outcome;
+use std::alloc::{AllocError, Global};
+use std::collections::BTreeSet;
+
+/// A stem, and the words that have it, in code point order, a front first.
+#[derive(Debug, Drop)]
+pub struct Class {
+    /// The stem.
+    pub stem: Vec<char>,
+    /// The words; there is at least one.
+    pub words: Vec<Vec<char>>,
+}
+
+impl Bench {
+    ghost use Rattle.sbl_script.specs.Parsed.{source_of};
+    ghost use Rattle.sbl_bench.specs.Rows.{rows_of};
+    ghost use Rattle.sbl_bench.specs.Classes.{class_of, classes_of};
+
+    /// The classes, by stem in code point order, a front first. A refused word is in no class, and no class is empty. It answers
+    /// AllocError where a growth is refused.
+    pub fn classes(&self) -> Result<Vec<Class>, AllocError>
+        ensures { IfOk result (λ classes. map view_class classes.items ≡ classes_of (rows_of (source_of self.now.script) self.now.words)) }
+    {
+        // The count says besides that no word stands twice.
+        let _count = self.outcomes.len();
+        let mut classes = Vec::new(self.alloc);
+        for pair in self.pairs.iter() {
+            put_last(
+                self.alloc,
+                &mut classes,
+                pair.0.as_slice(),
+                pair.1.as_slice(),
+            )?;
+        }
+        Ok(classes)
+    }
+
+    /// The class of a word. None where the word is not in the vocabulary or its run is refused. It answers AllocError where a growth
+    /// is refused.
+    pub fn class_of(&self, word: &[char]) -> Result<Option<Class>, AllocError>
+        ensures { IfOk result (λ class. option_map view_class class ≡ class_of (rows_of (source_of self.now.script) self.now.words) word.now) }
+    {
+        // The count says besides that no word stands twice.
+        let _count = self.outcomes.len();
+        match self.outcomes.get(word) {
+            Some(Outcome::Stem(stem)) => {
+                let words = words_with(self.alloc, stem.as_slice(), &self.pairs)?;
+                let stem = Vec::from_slice(self.alloc, stem.as_slice())?;
+                Ok(Some(Class { stem, words }))
+            }
+            Some(Outcome::Refused(_)) => Ok(None),
+            None => Ok(None),
+        }
+    }
+}
+
+/// The words among the pairs that have this stem, in order. It answers AllocError where a growth is refused.
+fn words_with(
+    alloc: Global,
+    stem: &[char],
+    pairs: &BTreeSet<(Vec<char>, Vec<char>)>,
+) -> Result<Vec<Vec<char>>, AllocError>
+    ensures words { IfOk result (λ words. words_of words.items ≡ spec.words_with stem.now (map plain pairs.now.keys)) }
+    ensures ordered { IsOrdered key_cmp pairs.now }
+    ensures found { All (λ k. has pairs.now k ≡ true) pairs.now.keys }
+{
+    let mut words = Vec::new(alloc);
+    for pair in pairs.iter() {
+        if stem == pair.0.as_slice() {
+            push_word(&mut words, Vec::from_slice(alloc, pair.1.as_slice())?)?;
+        }
+    }
+    Ok(words)
+}
+
+/// Whether the last class has this stem. Takes no memory.
+fn is_last(stem: &[char], classes: &[Class]) -> bool
+    ensures { result ≡ spec.is_last stem.now (map view_class classes.now) }
+{
+    match classes.last() {
+        Some(class) => class.stem.as_slice() == stem,
+        None => false,
+    }
+}
+
+/// Puts a word last in the last class. It answers AllocError where a growth is refused.
+fn put_in_last(classes: &mut Vec<Class>, word: Vec<char>) -> Result<(), AllocError>
+    ensures { OnOk result (map view_class classes.new.items ≡ spec.put_in_last (map view_class classes.old.items) word.items) }
+{
+    match classes.last_mut() {
+        Some(class) => push_word(&mut class.words, word),
+        None => Ok(()),
+    }
+}
+
+/// Puts a word last. It answers AllocError where a growth is refused.
+fn push_word(words: &mut Vec<Vec<char>>, word: Vec<char>) -> Result<(), AllocError>
+    ensures { OnOk result (words_of words.new.items ≡ words_of words.old.items ++ word.items ∷ []) }
+{
+    words.push(word).map_err(|_| AllocError)
+}
+
+/// A class of one word. It answers AllocError where a growth is refused.
+fn one_word(alloc: Global, stem: &[char], word: Vec<char>) -> Result<Class, AllocError>
+    ensures { IfOk result (λ class. view_class class ≡ spec.one_word (stem.now, word.items)) }
+{
+    let stem = Vec::from_slice(alloc, stem)?;
+    let mut words = Vec::new(alloc);
+    push_word(&mut words, word)?;
+    Ok(Class { stem, words })
+}
+
+/// Puts a word last in the last class, if that has its stem, and else into a class of its own. It answers AllocError where a
+/// growth is refused.
+fn put_last(
+    alloc: Global,
+    classes: &mut Vec<Class>,
+    stem: &[char],
+    word: &[char],
+) -> Result<(), AllocError>
+    ensures { OnOk result (map view_class classes.new.items ≡ spec.put_last (map view_class classes.old.items) (stem.now, word.now)) }
+{
+    let word = Vec::from_slice(alloc, word)?;
+    if is_last(stem, classes) {
+        return put_in_last(classes, word);
+    }
+    let class = one_word(alloc, stem, word)?;
+    classes.push(class).map_err(|_| AllocError)
+}

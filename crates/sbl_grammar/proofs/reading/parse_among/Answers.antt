@@ -1,0 +1,6 @@
+use Rattle.sbl_grammar.specs.Texts.{among}
+use Rattle.sbl_grammar.proofs.Whole.{fault_of}
+use Rattle.sbl_grammar.proofs.reading.parse_among.Goals as goal
+
+pub returns-in-Err-clause-fault : goal.returns-in-Err-clause-fault
+returns-in-Err-clause-fault c = rw c.told.ensures (fault_of (among c.args.depth) c.args.tokens.now c.args.end c.in-Err.error c.in-Err.ensures.fault)

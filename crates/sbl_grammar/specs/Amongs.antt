@@ -1,0 +1,107 @@
+-- The amongs of a tree, in the order of the word `among`, and a tree in which another stands in the place of one.
+use Rattle.std.specs.Prelude.{ℕ, zero, suc, ◌+◌, ◌-◌, List, [], ◌∷◌, Option, Some, None, nat_eq, if◌then◌else◌}
+use Rattle.sbl_grammar.specs.Tree.{Tree, bracket, single, quoted, called, excluded, prefixed, counted, moved, named, edited, limited, assigned, compared, values_compared, chosen, Rows, no_rows, row, Others, no_others, joined, Starter, no_starter, starter, Groups, bare, group}
+
+-- the depth at which an among stands, its starter and its groups
+abbrev pub Held : Type 0
+Held = ℕ × Starter × Groups
+
+-- the amongs of a command that stands at a depth, and then the rest
+abbrev mutual
+  pub amongs : Tree → ℕ → List Held → List Held
+  amongs (bracket rs) d rest = amongs_of_rows rs (d + 1) rest
+  amongs (prefixed p c) d rest = amongs c (d + 1) rest
+  amongs (counted n e c) d rest = amongs c (d + 1) rest
+  amongs (limited b c) d rest = amongs b (d + 1) (amongs c (d + 1) rest)
+  amongs (chosen s gs) d rest = (d, s, gs) ∷ amongs_of_starter s d (amongs_of_groups gs d rest)
+  amongs _ d rest = rest
+
+  pub amongs_of_rows : Rows → ℕ → List Held → List Held
+  amongs_of_rows no_rows d rest = rest
+  amongs_of_rows (row c os rs) d rest = amongs c d (amongs_of_others os d (amongs_of_rows rs d rest))
+
+  pub amongs_of_others : Others → ℕ → List Held → List Held
+  amongs_of_others no_others d rest = rest
+  amongs_of_others (joined j c os) d rest = amongs c d (amongs_of_others os d rest)
+
+  pub amongs_of_starter : Starter → ℕ → List Held → List Held
+  amongs_of_starter no_starter d rest = rest
+  amongs_of_starter (starter rs) d rest = amongs_of_rows rs (d + 1 + 1) rest
+
+  pub amongs_of_groups : Groups → ℕ → List Held → List Held
+  amongs_of_groups (bare es) d rest = rest
+  amongs_of_groups (group e es rs gs) d rest = amongs_of_rows rs (d + 1 + 1) (amongs_of_groups gs d rest)
+
+-- the amongs of a routine's body
+abbrev pub amongs_of_body : Tree × Others → List Held
+amongs_of_body b = amongs b.0 1 (amongs_of_others b.1 1 [])
+
+-- the k-th, counted from 1
+abbrev pub nth_held : ℕ → List Held → Option Held
+nth_held k [] = None
+nth_held k (h ∷ hs) = if nat_eq k 1 then Some h else nth_held (k - 1) hs
+
+-- how many there are
+abbrev mutual
+  pub count_amongs : Tree → ℕ
+  count_amongs (bracket rs) = count_in_rows rs
+  count_amongs (prefixed p c) = count_amongs c
+  count_amongs (counted n e c) = count_amongs c
+  count_amongs (limited b c) = count_amongs b + count_amongs c
+  count_amongs (chosen s gs) = 1 + (count_in_starter s + count_in_groups gs)
+  count_amongs _ = 0
+
+  pub count_in_rows : Rows → ℕ
+  count_in_rows no_rows = 0
+  count_in_rows (row c os rs) = count_amongs c + (count_in_others os + count_in_rows rs)
+
+  pub count_in_others : Others → ℕ
+  count_in_others no_others = 0
+  count_in_others (joined j c os) = count_amongs c + count_in_others os
+
+  pub count_in_starter : Starter → ℕ
+  count_in_starter no_starter = 0
+  count_in_starter (starter rs) = count_in_rows rs
+
+  pub count_in_groups : Groups → ℕ
+  count_in_groups (bare es) = 0
+  count_in_groups (group e es rs gs) = count_in_rows rs + count_in_groups gs
+
+-- an among with all that are inside it
+abbrev pub count_in_among : Starter × Groups → ℕ
+count_in_among a = 1 + (count_in_starter a.0 + count_in_groups a.1)
+
+-- The tree with another among in the place of the k-th, counted from 1: for what stands behind a part, k is less by the
+-- part's amongs. There is no 0-th.
+abbrev mutual
+  pub put_among : Tree → ℕ → Starter × Groups → Tree
+  put_among (bracket rs) k a = bracket (put_in_rows rs k a)
+  put_among (prefixed p c) k a = prefixed p (put_among c k a)
+  put_among (counted n e c) k a = counted n e (put_among c k a)
+  put_among (limited b c) k a = limited (put_among b k a) (put_among c (k - count_amongs b) a)
+  put_among (chosen s gs) k a = if nat_eq k 1 then chosen a.0 a.1 else chosen (put_in_starter s (k - 1) a) (put_in_groups gs (k - 1 - count_in_starter s) a)
+  put_among c k a = c
+
+  pub put_in_rows : Rows → ℕ → Starter × Groups → Rows
+  put_in_rows no_rows k a = no_rows
+  put_in_rows (row c os rs) k a = row (put_among c k a) (put_in_others os (k - count_amongs c) a) (put_in_rows rs (k - count_amongs c - count_in_others os) a)
+
+  pub put_in_others : Others → ℕ → Starter × Groups → Others
+  put_in_others no_others k a = no_others
+  put_in_others (joined j c os) k a = joined j (put_among c k a) (put_in_others os (k - count_amongs c) a)
+
+  pub put_in_starter : Starter → ℕ → Starter × Groups → Starter
+  put_in_starter no_starter k a = no_starter
+  put_in_starter (starter rs) k a = starter (put_in_rows rs k a)
+
+  pub put_in_groups : Groups → ℕ → Starter × Groups → Groups
+  put_in_groups (bare es) k a = bare es
+  put_in_groups (group e es rs gs) k a = group e es (put_in_rows rs k a) (put_in_groups gs (k - count_in_rows rs) a)
+
+-- a routine's body with another among in the place of the k-th
+abbrev pub put_in_body : Tree × Others → ℕ → Starter × Groups → Tree × Others
+put_in_body b k a = (put_among b.0 k a, put_in_others b.1 (k - count_amongs b.0) a)
+
+-- an among in which another stands in the place of itself, the first, or of one inside
+abbrev pub put_in_among : Starter × Groups → ℕ → Starter × Groups → Starter × Groups
+put_in_among b k a = if nat_eq k 1 then a else (put_in_starter b.0 (k - 1) a, put_in_groups b.1 (k - 1 - count_in_starter b.0) a)

@@ -1,0 +1,106 @@
+-- A run of the numbered script is a run of the script.
+use Rattle.std.proofs.Common.{◌≡◌, ℕ, zero, suc, Bool, List, [], Option, Some, None, option_map, refl, sym, ap, ◌∙◌}
+use Rattle.std.specs.Prelude.{slice_get, slice_index_or}
+use Rattle.std.proofs.Math.Path.{fun_ext}
+use Rattle.sbl_machine.specs.Ahead.{routines_in}
+use Rattle.sbl_machine.specs.Items.{Known, Placed, Body, in_order, known_in, class_of, classes_behind, body_named}
+use Rattle.sbl_machine.specs.Meaning as meaning
+use Rattle.sbl_machine.specs.Numbered.{numbered_script, plan_in, plan_with}
+use Rattle.sbl_machine.specs.NumberedNames.{Names, names_behind, no_names, number_of}
+use Rattle.sbl_machine.specs.NumberedSets.{has, sets_behind}
+use Rattle.sbl_machine.specs.Outcome.{ending_of, start}
+use Rattle.sbl_machine.specs.Plan as plan
+use Rattle.sbl_machine.specs.Regions.{behind, behind_others}
+use Rattle.sbl_machine.specs.Run as run
+use Rattle.sbl_machine.specs.Run.{enter, leave, paid, does}
+use Rattle.sbl_machine.specs.Standing.{Standing, Doing}
+use Rattle.sbl_machine.specs.Sound.{RoutineIsItsOwn, SetsAreClasses, names_in}
+use Rattle.sbl_machine.proofs.Coming.{own_is_made}
+use Rattle.sbl_machine.proofs.SoundActs.{row_sound}
+use Rattle.sbl_machine.proofs.SoundItems.{placed_is, strings_are, integers_are, booleans_are, groupings_are, routines_are, routine_names, sets_are, as_made, body_at}
+use Rattle.sbl_machine.proofs.SoundParts.{Agree, placed_by}
+use Rattle.sbl_script.specs.Parsed.{Source}
+use Rattle.sbl_script.specs.declared.marks.Mode.{Mode}
+use Rattle.sbl_script.specs.declared.marks.Mode.TheVariants.{Forward}
+
+module _ (items : List Placed) (external : List ℕ) where
+  abbrev ns : Names
+  ns = names_behind items no_names
+
+  abbrev known : Known
+  known = known_in items
+
+  abbrev class : List ℕ → ℕ → Bool
+  class = class_of (classes_behind items [])
+
+  abbrev program : plan.Plan
+  program = plan_with ns items external
+
+  agree : Agree ns known
+  agree = record {
+    strings = strings_are items no_names;
+    integers = integers_are items no_names;
+    booleans = booleans_are items no_names;
+    groupings = groupings_are items no_names;
+  }
+
+  class_same : (n : List ℕ) (c : ℕ) → has (slice_index_or (sets_behind ns items []) (number_of ns.groupings n) []) c ≡ class n c
+  class_same n c = sets_are ns items (groupings_are items no_names) n c
+
+  routine_same : (n : List ℕ) → slice_get program.routines (number_of ns.routines n) ≡ option_map (as_made ns) (body_named items n)
+  routine_same n =
+      ap (λ rs. slice_get rs (number_of ns.routines n)) (own_is_made ns items)
+      ∙ ap (λ i. slice_get (routines_in ns items) i) (placed_by ns.routines (routine_names items) n (routines_are items no_names))
+      ∙ body_at ns items n
+
+  body_same : (call : ℕ → Doing) (call' : List ℕ → Doing) (o : Option Body) (m : Mode) (s : Standing) → ((n : List ℕ) → call (number_of ns.routines n) ≡ call' n) → run.body_does (does program.groupings call) (option_map (as_made ns) o) m s ≡ meaning.body_does known class call' o m s
+  body_same call call' None m s h = refl
+  body_same call call' (Some b) m s h =
+      ap (λ d. leave s.choices (paid d m (enter (behind_others b.others (behind b.first 0)) s))) (row_sound ns known agree program.groupings class call call' class_same h b.mode b.first b.others)
+
+  calls_same : (l : ℕ) (n : List ℕ) (m : Mode) (s : Standing) → run.calls program l (number_of ns.routines n) m s ≡ meaning.calls known class (body_named items) l n m s
+  calls_same zero n m s = refl
+  calls_same (suc l) n m s =
+      ap (λ o. run.body_does (does program.groupings (run.calls program l)) o m s) (routine_same n)
+      ∙ body_same (run.calls program l) (meaning.calls known class (body_named items) l) (body_named items n) m s (λ n. fun_ext (λ m. fun_ext (λ s. calls_same l n m s)))
+
+  abbrev known_by : List (List ℕ) → List (List ℕ) → List (List ℕ) → List (List ℕ) → Known
+  known_by a b c d = record { strings = a; integers = b; booleans = c; groupings = d }
+
+  known_same : known_by ns.strings ns.integers ns.booleans ns.groupings ≡ known
+  known_same =
+      ap (λ a. known_by a ns.integers ns.booleans ns.groupings) agree.strings
+      ∙ ap (λ b. known_by known.strings b ns.booleans ns.groupings) agree.integers
+      ∙ ap (λ c. known_by known.strings known.integers c ns.groupings) agree.booleans
+      ∙ ap (λ d. known_by known.strings known.integers known.booleans d) agree.groupings
+
+  start_same : (word : List ℕ) (limit : ℕ) → start program word limit ≡ meaning.start known word limit
+  start_same word limit = ap (λ k. meaning.start k word limit) known_same
+
+  by_items : (word : List ℕ) (limit : ℕ) → ending_of program word limit ≡ meaning.calls known class (body_named items) 32 external Forward (meaning.start known word limit)
+  by_items word limit = calls_same 32 external Forward (start program word limit) ∙ ap (meaning.calls known class (body_named items) 32 external Forward) (start_same word limit)
+
+pub ending_same : (script : Source) (word : List ℕ) (limit : ℕ) → ending_of (numbered_script script) word limit ≡ meaning.ending script word limit
+unfolding numbered_script meaning.ending
+ending_same script word limit =
+    ap (λ items. ending_of (plan_in items script.external) word limit) (placed_is script.items)
+    ∙ by_items (in_order script.items) script.external word limit
+
+program_is : (script : Source) → numbered_script script ≡ plan_in (in_order script.items) script.external
+unfolding numbered_script
+program_is script = ap (λ items. plan_in items script.external) (placed_is script.items)
+
+pub routine_is_its_own : RoutineIsItsOwn
+routine_is_its_own s s' n e h =
+    let i = number_of (names_in s).routines n in
+    let i' = number_of (names_in s').routines n in
+    ap (λ (p : plan.Plan). slice_get p.routines i) (program_is s)
+    ∙ routine_same (in_order s.items) s.external n
+    ∙ ap (λ ns. option_map (as_made ns) (body_named (in_order s.items) n)) e
+    ∙ ap (option_map (as_made (names_in s'))) h
+    ∙ sym (ap (λ (p : plan.Plan). slice_get p.routines i') (program_is s') ∙ routine_same (in_order s'.items) s'.external n)
+
+pub sets_are_classes : SetsAreClasses
+sets_are_classes script n c =
+    ap (λ (p : plan.Plan). has (slice_index_or p.groupings (number_of (names_in script).groupings n) []) c) (program_is script)
+    ∙ class_same (in_order script.items) script.external n c

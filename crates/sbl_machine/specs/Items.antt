@@ -1,0 +1,129 @@
+-- What the items of a script say, by name.
+use Rattle.std.specs.Prelude.{ℕ, suc, Bool, true, false, not, ◌&&◌, ◌||◌, List, [], ◌∷◌, ◌++◌, nat_eq, if◌then◌else◌, Option, Some, None}
+use Rattle.std.specs.List.{list_any}
+use Rattle.std.specs.Str.{bytes_eq}
+use Rattle.sbl_grammar.specs.declared.tree.Additive.TheVariants.{Plus, Minus}
+use Rattle.sbl_grammar.specs.declared.tree.DeclarationKind.TheVariants as kinds
+use Rattle.sbl_grammar.specs.Tree.{Tree, Others, Argument, written_out, by_name, Term, term, Item, Plain, declaration, routine, grouping, plain, backward}
+use Rattle.sbl_script.specs.declared.marks.Mode.{Mode}
+use Rattle.sbl_script.specs.declared.marks.Mode.TheVariants.{Forward, Backward}
+
+-- an item with the mode in which it stands
+pub record Placed : Type 0 where
+  pub mode : Mode
+  pub plain : Plain
+
+-- items of this mode, before others
+abbrev pub in_mode : Mode → List Plain → List Placed → List Placed
+in_mode m [] rest = rest
+in_mode m (x ∷ xs) rest = (record { mode = m; plain = x }) ∷ in_mode m xs rest
+
+-- the items in text order, those of a `backwardmode` in its place
+abbrev pub in_order : List Item → List Placed
+in_order [] = []
+in_order (plain x ∷ is) = (record { mode = Forward; plain = x }) ∷ in_order is
+in_order (backward xs ∷ is) = in_mode Backward xs (in_order is)
+
+-- ---- names
+
+-- whether a name is one of these
+abbrev pub is_among : List (List ℕ) → List ℕ → Bool
+is_among [] n = false
+is_among (x ∷ xs) n = if bytes_eq x n then true else is_among xs n
+
+-- the place of a name among some
+abbrev pub place_of : List (List ℕ) → List ℕ → ℕ
+place_of [] n = 0
+place_of (x ∷ xs) n = if bytes_eq x n then 0 else suc (place_of xs n)
+
+-- the variables of each kind in the order of their declarations, and the groupings
+pub record Known : Type 0 where
+  pub strings : List (List ℕ)
+  pub integers : List (List ℕ)
+  pub booleans : List (List ℕ)
+  pub groupings : List (List ℕ)
+
+abbrev pub strings_with : Plain → List (List ℕ) → List (List ℕ)
+strings_with (declaration kinds.Strings ns) rest = ns ++ rest
+strings_with x rest = rest
+
+abbrev pub integers_with : Plain → List (List ℕ) → List (List ℕ)
+integers_with (declaration kinds.Integers ns) rest = ns ++ rest
+integers_with x rest = rest
+
+abbrev pub booleans_with : Plain → List (List ℕ) → List (List ℕ)
+booleans_with (declaration kinds.Booleans ns) rest = ns ++ rest
+booleans_with x rest = rest
+
+abbrev pub groupings_with : Plain → List (List ℕ) → List (List ℕ)
+groupings_with (grouping n a ts) rest = n ∷ rest
+groupings_with x rest = rest
+
+abbrev pub strings_in : List Placed → List (List ℕ)
+strings_in [] = []
+strings_in (x ∷ xs) = strings_with x.plain (strings_in xs)
+
+abbrev pub integers_in : List Placed → List (List ℕ)
+integers_in [] = []
+integers_in (x ∷ xs) = integers_with x.plain (integers_in xs)
+
+abbrev pub booleans_in : List Placed → List (List ℕ)
+booleans_in [] = []
+booleans_in (x ∷ xs) = booleans_with x.plain (booleans_in xs)
+
+abbrev pub groupings_in : List Placed → List (List ℕ)
+groupings_in [] = []
+groupings_in (x ∷ xs) = groupings_with x.plain (groupings_in xs)
+
+abbrev pub known_in : List Placed → Known
+known_in xs = record { strings = strings_in xs; integers = integers_in xs; booleans = booleans_in xs; groupings = groupings_in xs }
+
+-- ---- groupings
+
+-- a grouping's name, and whether it has a character
+pub record Grouping : Type 0 where
+  pub name : List ℕ
+  pub has : ℕ → Bool
+
+-- whether the grouping of a name, the first of them, has a character
+abbrev pub class_of : List Grouping → List ℕ → ℕ → Bool
+class_of [] n c = false
+class_of (g ∷ gs) n c = if bytes_eq g.name n then g.has c else class_of gs n c
+
+-- whether a term has a character, by the groupings before
+abbrev pub term_has : List Grouping → Argument → ℕ → Bool
+term_has gs (written_out q) c = list_any (λ x. nat_eq x c) q.value
+term_has gs (by_name n) c = class_of gs n c
+
+-- the terms from the left, each added or taken away
+abbrev pub terms_have : List Grouping → List Term → Bool → ℕ → Bool
+terms_have gs [] before c = before
+terms_have gs (term Plus a ∷ ts) before c = terms_have gs ts (before || term_has gs a c) c
+terms_have gs (term Minus a ∷ ts) before c = terms_have gs ts (before && not (term_has gs a c)) c
+
+-- the groupings with that of an item
+abbrev pub and_grouping : Plain → List Grouping → List Grouping
+and_grouping (grouping n a ts) gs = gs ++ (record { name = n; has = λ c. terms_have gs ts (term_has gs a c) c }) ∷ []
+and_grouping x gs = gs
+
+abbrev pub classes_behind : List Placed → List Grouping → List Grouping
+classes_behind [] gs = gs
+classes_behind (x ∷ xs) gs = classes_behind xs (and_grouping x.plain gs)
+
+-- ---- routines
+
+-- a routine's body, and the mode in which it stands
+pub record Body : Type 0 where
+  pub mode : Mode
+  pub first : Tree
+  pub others : Others
+
+-- that of an item, if it is the routine of this name, or else another
+abbrev pub body_or : Mode → Plain → List ℕ → Option Body → Option Body
+body_or m (routine r c os) n rest = if bytes_eq r n then Some (record { mode = m; first = c; others = os }) else rest
+body_or m x n rest = rest
+
+-- the routine of a name, the first of them
+abbrev pub body_named : List Placed → List ℕ → Option Body
+body_named [] n = None
+body_named (x ∷ xs) n = body_or x.mode x.plain n (body_named xs n)

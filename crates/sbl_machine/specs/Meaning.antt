@@ -1,0 +1,339 @@
+-- What a run of a script does: each command of its trees by what its parts do.
+use Rattle.std.specs.Prelude.{ℕ, ℤ, pos, negsuc, zero, suc, ◌+◌, ◌+ℤ◌, ◌-ℤ◌, ◌*ℤ◌, neg_ℤ, Bool, true, false, not, List, [], ◌∷◌, ◌++◌, length, map, take, replicate, nat_eq, int_lt, if◌then◌else◌, Option, Some, None, Ok, slice_get, slice_index_or, slice_set}
+use Rattle.std.specs.Ordering.{int_eq}
+use Rattle.sbl_grammar.specs.declared.tree.Joiner.{Joiner}
+use Rattle.sbl_grammar.specs.declared.tree.Joiner.TheVariants.{Or, And}
+use Rattle.sbl_grammar.specs.declared.tree.Simple.{Simple}
+use Rattle.sbl_grammar.specs.declared.tree.Simple.TheVariants as simples
+use Rattle.sbl_grammar.specs.declared.tree.Prefix.{Prefix}
+use Rattle.sbl_grammar.specs.declared.tree.Prefix.TheVariants as prefixes
+use Rattle.sbl_grammar.specs.declared.tree.Count.{Count}
+use Rattle.sbl_grammar.specs.declared.tree.Count.TheVariants as counts
+use Rattle.sbl_grammar.specs.declared.tree.Move.{Move}
+use Rattle.sbl_grammar.specs.declared.tree.Move.TheVariants as moves
+use Rattle.sbl_grammar.specs.declared.tree.Naming.{Naming}
+use Rattle.sbl_grammar.specs.declared.tree.Naming.TheVariants as namings
+use Rattle.sbl_grammar.specs.declared.tree.Edit.{Edit}
+use Rattle.sbl_grammar.specs.declared.tree.Edit.TheVariants as edits
+use Rattle.sbl_grammar.specs.declared.tree.Additive.{Additive}
+use Rattle.sbl_grammar.specs.declared.tree.Additive.TheVariants as additives
+use Rattle.sbl_grammar.specs.declared.tree.Multiplicative.{Multiplicative}
+use Rattle.sbl_grammar.specs.declared.tree.Multiplicative.TheVariants as multiplicatives
+use Rattle.sbl_grammar.specs.declared.tree.Constant.{Constant}
+use Rattle.sbl_grammar.specs.declared.tree.Constant.TheVariants as constants
+use Rattle.sbl_grammar.specs.declared.tree.Assignment.{Assignment}
+use Rattle.sbl_grammar.specs.declared.tree.Assignment.TheVariants as assignments
+use Rattle.sbl_grammar.specs.declared.tree.Comparison.{Comparison}
+use Rattle.sbl_grammar.specs.declared.tree.Comparison.TheVariants as comparisons
+use Rattle.sbl_grammar.specs.Tree as trees
+use Rattle.sbl_grammar.specs.Tree.{bracket, single, quoted, called, excluded, prefixed, counted, moved, named, edited, limited, assigned, compared, values_compared, chosen, no_rows, row, no_others, joined, no_starter, starter, bare, group}
+use Rattle.std.specs.Cmp.Lexicographic.{pointwise}
+use Rattle.sbl_machine.specs.Fitting.{read_as, ahead_at}
+use Rattle.sbl_machine.specs.Items.{Known, Body, is_among, place_of, body_named, class_of, classes_behind, in_order, known_in}
+use Rattle.sbl_machine.specs.Moves.{match, next, hop, at_limit, set_mark, at_mark, to_mark, set_boolean, test_boolean}
+use Rattle.sbl_machine.specs.Numbers.{Value, natural, given, fitted, divided, with_value, with_both, limit_value, integer_at}
+use Rattle.sbl_machine.specs.Regions.{Among, among_at, behind, behind_rows, behind_others, behind_starter, first, first_rows, first_others, mode_behind, waits, waits_others}
+use Rattle.sbl_machine.specs.Run.{turns, times, count_of, seeks, limits, limited as within, limit_here, backwards_from, backwards_end, chosen as go_on, enter, leave, paid}
+use Rattle.sbl_machine.specs.Search.{choose, choice, bound_in}
+use Rattle.sbl_machine.specs.Slices.{left_bracket, right_bracket, replace, keep, insert, attach}
+use Rattle.sbl_machine.specs.Standing.{Standing, Ending, Signals, Stops, Doing, ahead, after, moved as further, then_on, pay, mark, place_after, put_back, to_limit}
+use Rattle.sbl_machine.specs.declared.fault.RunFault.TheVariants.{Depth}
+use Rattle.sbl_script.specs.Parsed.{Source}
+use Rattle.sbl_script.specs.declared.marks.Mode.{Mode}
+use Rattle.sbl_script.specs.declared.marks.Mode.TheVariants.{Forward, Backward}
+
+-- ---- commands, by what their parts do
+
+-- `not C` and its like, by what C does
+abbrev pub prefixed_does : Prefix → Doing → Doing
+prefixed_does prefixes.Not c m s = after (c m s) (Signals false) (put_back m (mark s))
+prefixed_does prefixes.Test c m s = after (c m s) (put_back m (mark s)) (Signals false)
+prefixed_does prefixes.Try c m s = after (c m s) (Signals true) (put_back m (mark s))
+prefixed_does prefixes.Do c m s = after (c m s) (put_back m (mark s)) (put_back m (mark s))
+prefixed_does prefixes.Fail c m s = after (c m s) (Signals false) (Signals false)
+prefixed_does prefixes.Repeat c m s = turns (suc s.steps) c m s
+prefixed_does prefixes.GoTo c m s = seeks (suc s.steps) false c m s
+prefixed_does prefixes.GoPast c m s = seeks (suc s.steps) true c m s
+prefixed_does prefixes.Backwards c m s = then_on (backwards_from s) (λ b. after (c Backward b) backwards_end (Signals false))
+
+-- the loop, and behind `atleast` then `repeat`, which pays no step of its own
+abbrev pub counted_does : Count → Value → Doing → Doing
+counted_does counts.Loop v c m s = given v s (λ z. times (count_of z) c m s)
+counted_does counts.AtLeast v c m s =
+    after (given v s (λ z. times (count_of z) c m s)) (λ t. turns (suc t.steps) c m t) (Signals false)
+
+-- `C1 or C2`, `C1 and C2`
+abbrev pub joined_does : Joiner → Doing → Doing → Doing
+joined_does Or a b m s = after (a m s) (Signals true) (λ f. then_on (put_back m (mark s) f) (b m))
+joined_does And a b m s = after (a m s) (λ t. then_on (put_back m (mark s) t) (b m)) (Signals false)
+
+-- `setlimit C1 for C2`
+abbrev pub limited_does : Doing → Doing → Doing
+limited_does a b m s = after (a m s) (λ t. then_on (put_back m (mark s) (limit_here m t)) (λ u. within m (limits s) (b m u))) (Signals false)
+
+-- the words that stand alone, by the search of the next among
+abbrev pub simple_does : Doing → Simple → Doing
+simple_does search simples.Substring m s = search m s
+simple_does search simples.LeftBracket m s = Signals true (left_bracket m s)
+simple_does search simples.RightBracket m s = Signals true (right_bracket m s)
+simple_does search simples.Next m s = next m s
+simple_does search simples.ToLimit m s = to_limit m s
+simple_does search simples.AtLimit m s = at_limit m s
+simple_does search simples.Delete m s = replace [] s
+simple_does search simples.True m s = Signals true s
+simple_does search simples.False m s = Signals false s
+
+abbrev pub moved_does : Move → Value → Doing
+moved_does moves.Hop v m s = given v s (λ z. hop (natural z) m s)
+moved_does moves.AtMark v m s = given v s (λ z. at_mark (natural z) s)
+moved_does moves.ToMark v m s = given v s (λ z. to_mark (natural z) m s)
+
+-- `$x = AE` and its like
+abbrev pub altered : Assignment → ℤ → ℤ → Value
+altered assignments.Equals x y = Ok y
+altered assignments.Plus x y = fitted (x +ℤ y)
+altered assignments.Minus x y = fitted (x -ℤ y)
+altered assignments.Times x y = fitted (x *ℤ y)
+altered assignments.Over x y = divided x y
+
+abbrev pub assigned_does : ℕ → Assignment → Value → Standing → Ending
+assigned_does x o v s =
+    given (with_value v (altered o (integer_at x s))) s (λ z. Signals true (record s { integers = slice_set s.integers x z }))
+
+abbrev pub is_so : Comparison → ℤ → ℤ → Bool
+is_so comparisons.Same x y = int_eq x y
+is_so comparisons.Differs x y = not (int_eq x y)
+is_so comparisons.Less x y = int_lt x y
+is_so comparisons.AtMost x y = not (int_lt y x)
+is_so comparisons.Greater x y = int_lt y x
+is_so comparisons.AtLeast x y = not (int_lt x y)
+
+abbrev pub compared_does : Value → Comparison → Value → Standing → Ending
+compared_does v o w s = given v s (λ x. given w s (λ y. Signals (is_so o x y) s))
+
+-- `non` is `false`: whether a character is ahead that is of a class or, as is wanted, not of it
+abbrev pub next_has : Bool → (ℕ → Bool) → Option ℕ → Bool
+next_has wanted has None = false
+next_has true has (Some c) = has c
+next_has false has (Some c) = not (has c)
+
+abbrev pub class_does : Bool → (ℕ → Bool) → Doing
+class_does wanted has m s = if next_has wanted has (slice_get (ahead m s) 0) then Signals true (further m 1 s) else Signals false s
+
+abbrev pub named_does : Known → Naming → List ℕ → Doing
+named_does ns namings.SetMark n m s = Signals true (set_mark (place_of ns.integers n) s)
+named_does ns namings.Set n m s = Signals true (set_boolean (place_of ns.booleans n) true s)
+named_does ns namings.Unset n m s = Signals true (set_boolean (place_of ns.booleans n) false s)
+named_does ns namings.Arrow n m s = keep (place_of ns.strings n) s
+
+-- `<+` is `insert`
+abbrev pub edited_does : Edit → List ℕ → Doing
+edited_does edits.Replace cs m s = replace cs s
+edited_does edits.InsertSign cs m s = insert cs m s
+edited_does edits.Insert cs m s = insert cs m s
+edited_does edits.Attach cs m s = attach cs m s
+
+-- an among makes its search itself, and then comes its starter, unless a `substring` waits for it
+abbrev pub begins : Bool → Doing → Doing → Doing
+begins true search begun m s = Signals true s
+begins false search begun m s = after (paid search m s) (begun m) (Signals false)
+
+-- ---- strings and numbers, by the variables' names
+
+module _ (ns : Known) where
+  abbrev pub text : trees.Argument → Standing → List ℕ
+  text (trees.written_out q) s = q.value
+  text (trees.by_name n) s = slice_index_or s.strings (place_of ns.strings n) []
+
+  abbrev pub constant_worth : Constant → Mode → Standing → Value
+  constant_worth constants.MaxInt m s = Ok (pos 2147483647)
+  constant_worth constants.MinInt m s = Ok (negsuc 2147483647)
+  constant_worth constants.Cursor m s = fitted (pos s.cursor)
+  constant_worth constants.Limit m s = limit_value m s
+  constant_worth constants.Len m s = fitted (pos (length s.text))
+
+  abbrev pub added : Additive → Value → Value → Value
+  added additives.Plus v w = with_both v w (λ x y. fitted (x +ℤ y))
+  added additives.Minus v w = with_both v w (λ x y. fitted (x -ℤ y))
+
+  abbrev pub scaled : Multiplicative → Value → Value → Value
+  scaled multiplicatives.Times v w = with_both v w (λ x y. fitted (x *ℤ y))
+  scaled multiplicatives.Over v w = with_both v w divided
+
+  abbrev mutual
+    -- what an expression is worth
+    pub worth : trees.Expression → Mode → Standing → Value
+    worth (trees.expression p ss) m s = summed ss (product_worth p m s) m s
+
+    -- products are added and taken away from the left
+    pub summed : trees.Sums → Value → Mode → Standing → Value
+    summed trees.no_sums v m s = v
+    summed (trees.sum o p ss) v m s = summed ss (added o v (product_worth p m s)) m s
+
+    pub product_worth : trees.Product → Mode → Standing → Value
+    product_worth (trees.product f ss) m s = multiplied ss (factor_worth f m s) m s
+
+    -- factors are multiplied and divided from the left
+    pub multiplied : trees.Scales → Value → Mode → Standing → Value
+    multiplied trees.no_scales v m s = v
+    multiplied (trees.scale o f ss) v m s = multiplied ss (scaled o v (factor_worth f m s)) m s
+
+    pub factor_worth : trees.Factor → Mode → Standing → Value
+    factor_worth (trees.negated f) m s = with_value (factor_worth f m s) (λ x. fitted (neg_ℤ x))
+    factor_worth (trees.bracketed e) m s = worth e m s
+    factor_worth (trees.numeral n) m s = fitted (pos n)
+    factor_worth (trees.variable n) m s = Ok (integer_at (place_of ns.integers n) s)
+    factor_worth (trees.fixed c) m s = constant_worth c m s
+    factor_worth (trees.length_of a) m s = fitted (pos (length (text a s)))
+
+-- ---- the search of an among
+
+-- a string of an among, its condition, and the number of its group
+pub record Offer : Type 0 where
+  pub string : List ℕ
+  pub condition : Option (List ℕ)
+  pub group : ℕ
+
+abbrev pub offer : ℕ → trees.Entry → Offer
+offer g (trees.entry q c) = record { string = q.value; condition = c; group = g }
+
+-- the groups are counted from 0; the strings of a last group without a bracket have the number of groups
+abbrev pub offers : ℕ → trees.Groups → List Offer
+offers g (bare es) = map (offer g) es
+offers g (group e es rs gs) = offer g e ∷ (map (offer g) es ++ offers (g + 1) gs)
+
+-- the first of some strings that is this one as the mode reads it
+abbrev pub offering : Mode → List ℕ → List Offer → Option Offer
+offering r w [] = None
+offering r w (o ∷ os) = if pointwise nat_eq w (read_as r o.string) then Some o else offering r w os
+
+module _ (call : List ℕ → Doing) where
+  -- a condition is a call, which pays a step of its own
+  abbrev pub condition_does : Option (List ℕ) → Doing
+  condition_does None m s = Signals true s
+  condition_does (Some n) m s = then_on (pay s.steps s) (call n m)
+
+  -- One string, if there is one: the cursor goes just after it, and its condition is called. At t it is taken, and the cursor
+  -- set just after it again; at f what comes next goes on from the state that the condition left.
+  abbrev pub takes : ℕ → Option Offer → Mode → Standing → Standing → (Standing → Ending) → Ending
+  takes k None m from s next = next s
+  takes k (Some o) m from s next =
+      then_on (place_after m (mark from) (length o.string) s) (λ a.
+      after (condition_does o.condition m a)
+      (λ b. then_on (place_after m (mark from) (length o.string) b) (λ c. Signals true (choose k (Some o.group) c)))
+      next)
+
+  -- The strings of fewer than b characters that are a front of x, the longest first, from the state in which the search began;
+  -- where none is taken, nothing is chosen.
+  abbrev pub tried : ℕ → List Offer → Mode → Mode → Standing → List ℕ → ℕ → Standing → Ending
+  tried k os r m from x zero s = Signals false (choose k None s)
+  tried k os r m from x (suc l) s = takes k (offering r (take l x) os) m from s (tried k os r m from x l)
+
+  -- the strings that are a front of what is ahead, both read in the mode of the among's place
+  abbrev pub search : Among → Doing
+  search a m s =
+      let x = ahead_at a.mode s.text s.cursor (bound_in m s) in
+      tried a.number (offers 0 a.groups) a.mode m s x (suc (length x)) s
+
+-- ---- the commands of a script, by its names, its groupings, and what a call of each routine does
+
+module _ (ns : Known) (class : List ℕ → ℕ → Bool) (call : List ℕ → Doing) where
+  -- f where the region has no among ahead
+  abbrev pub search_ahead : Option Among → Doing
+  search_ahead None m s = Signals false s
+  search_ahead (Some a) m s = search call a m s
+
+  -- a name alone: a string variable, a boolean, a grouping or a routine
+  abbrev pub name_does : List ℕ → Doing
+  name_does n m s =
+      if is_among ns.strings n then match (slice_index_or s.strings (place_of ns.strings n) []) m s else
+      if is_among ns.booleans n then test_boolean (place_of ns.booleans n) s else
+      if is_among ns.groupings n then class_does true (class n) m s else
+      call n m s
+
+  abbrev mutual
+    -- What a command does once its step is paid: `r` is the mode of its place, k amongs of its routine stand before it, w says whether
+    -- a `substring` of its region waits, and n is the next among of its region behind it.
+    pub act : Mode → ℕ → Bool → Option Among → trees.Tree → Doing
+    act r k w n (bracket rs) m s = rows_do r k w n rs m s
+    act r k w n (single x) m s = simple_does (search_ahead n) x m s
+    act r k w n (quoted q) m s = match q.value m s
+    act r k w n (called x) m s = name_does x m s
+    act r k w n (excluded b x) m s = class_does false (class x) m s
+    act r k w n (prefixed x c) m s = prefixed_does x (paid (act (mode_behind x r) k w n c)) m s
+    act r k w n (counted x e c) m s = counted_does x (worth ns e m s) (paid (act r k w n c)) m s
+    act r k w n (moved x e) m s = moved_does x (worth ns e m s) m s
+    act r k w n (named x y) m s = named_does ns x y m s
+    act r k w n (edited x a) m s = edited_does x (text ns a s) m s
+    act r k w n (limited b c) m s =
+        limited_does (paid (act r k w (first r c (behind b k) n) b)) (paid (act r (behind b k) (waits b w) n c)) m s
+    act r k w n (assigned x o e) m s = assigned_does (place_of ns.integers x) o (worth ns e m s) s
+    act r k w n (compared x o e) m s = compared_does (Ok (integer_at (place_of ns.integers x) s)) o (worth ns e m s) s
+    act r k w n (values_compared e o f) m s = compared_does (worth ns e m s) o (worth ns f m s) s
+    act r k w n (chosen st gs) m s =
+        after (begins w (search call (among_at r k gs)) (starter_does r (suc k) st) m s)
+        (λ t. go_on (choice k t) t (λ g. group_does r (behind_starter st (suc k)) gs g m t)) (Signals false)
+
+    -- in turn, up to the first f
+    pub rows_do : Mode → ℕ → Bool → Option Among → trees.Rows → Doing
+    rows_do r k w n no_rows m s = Signals true s
+    rows_do r k w n (row c os rs) m s =
+        after
+        (paid (others_do r (behind c k) (waits c w) (first_rows r rs (behind_others os (behind c k)) n) os
+        (act r k w (first_others r os (behind c k) (first_rows r rs (behind_others os (behind c k)) n)) c)) m s)
+        (rows_do r (behind_others os (behind c k)) (waits_others os (waits c w)) n rs m) (Signals false)
+
+    -- commands joined from the left to what the one before them does
+    pub others_do : Mode → ℕ → Bool → Option Among → trees.Others → Doing → Doing
+    others_do r k w n no_others d m s = d m s
+    others_do r k w n (joined j c os) d m s =
+        others_do r (behind c k) (waits c w) n os (joined_does j (paid d) (paid (act r k w (first_others r os (behind c k) n) c))) m s
+
+    pub starter_does : Mode → ℕ → trees.Starter → Doing
+    starter_does r k no_starter m s = Signals true s
+    starter_does r k (starter rs) m s = paid (rows_do r k false None rs) m s
+
+    -- the g-th group's command; t where it has none
+    pub group_does : Mode → ℕ → trees.Groups → ℕ → Doing
+    group_does r k (bare es) g m s = Signals true s
+    group_does r k (group e es rs gs) zero m s = paid (rows_do r k false None rs) m s
+    group_does r k (group e es rs gs) (suc g) m s = group_does r (behind_rows rs k) gs g m s
+
+  -- a routine's body: its row, grouped from the left
+  abbrev pub row_does : Mode → trees.Tree → trees.Others → Doing
+  row_does r c os = others_do r (behind c 0) (waits c false) None os (act r 0 false (first_others r os (behind c 0) None) c)
+
+  -- a call begins with nothing chosen, and at its return the caller's choices are back
+  abbrev pub body_does : Option Body → Doing
+  body_does None m s = Signals false s
+  body_does (Some b) m s =
+      leave s.choices (paid (row_does b.mode b.first b.others) m (enter (behind_others b.others (behind b.first 0)) s))
+
+-- ---- runs
+
+-- what a call does where this many levels are left
+abbrev pub calls : Known → (List ℕ → ℕ → Bool) → (List ℕ → Option Body) → ℕ → List ℕ → Doing
+calls ns class bodies zero n m s = Stops Depth s
+calls ns class bodies (suc l) n m s = body_does ns class (calls ns class bodies l) (bodies n) m s
+
+-- where a run of a word begins: integers 0, booleans false, strings empty
+abbrev pub start : Known → List ℕ → ℕ → Standing
+start ns word steps = record {
+  text = word;
+  cursor = 0;
+  left = 0;
+  beyond = 0;
+  bra = 0;
+  ket = 0;
+  integers = replicate (length ns.integers) (pos 0);
+  booleans = replicate (length ns.booleans) false;
+  strings = replicate (length ns.strings) [];
+  choices = [];
+  steps = steps;
+}
+
+-- how a run of a word ends: the external's body runs forwards, on the first of 32 levels
+unfoldable pub ending : Source → List ℕ → ℕ → Ending
+ending script word limit =
+    let items = in_order script.items in
+    calls (known_in items) (class_of (classes_behind items [])) (body_named items) 32 script.external Forward (start (known_in items) word limit)
