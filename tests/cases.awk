@@ -24,7 +24,7 @@ function begin(title) {
   for (each in file) printf "" >file[each]
   name = FILENAME
   sub(/^.*\//, "", name)
-  print name ": " title >(base ".title")
+  print (name == "pages" ? "" : name ": ") title >(base ".title")
   close(base ".title")
 }
 function finish(   each, count, all, i) {
