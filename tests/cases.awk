@@ -1,9 +1,10 @@
 # Cuts files of cases (tests/README.md has their form) into the files of a run: ROOM/N.title, .words (one a line), .in, .out,
-# .err and .status for the Nth case, counted from the first number.
+# .err and .status for the Nth case, counted from the first number, and .launcher where the launcher is tried.
 #   LC_ALL=C awk -v room=ROOM -v first=0 -f tests/cases.awk FILE..
 BEGIN { number = first - 1 }
 /^== / { finish(); begin(substr($0, 4)); next }
 /^words:/ { words = substr($0, 7); next }
+/^launcher:/ { words = substr($0, 10); printf "" >(base ".launcher"); close(base ".launcher"); next }
 /^status: [0-9]+$/ { status = substr($0, 9); next }
 /^(input|output|errors)$/ { part = $0; next }
 /^\|/ { write(substr($0, 2) "\n"); next }
