@@ -13,8 +13,6 @@ pub mod open;
 pub mod outcomes;
 pub mod pairs;
 pub mod row;
-#[cfg(test)]
-mod tests;
 
 pub use bench::Bench;
 pub use class::Class;

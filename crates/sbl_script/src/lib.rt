@@ -9,10 +9,6 @@ pub mod laws;
 mod marking;
 mod marks;
 mod script;
-#[cfg(test)]
-mod scripts;
-#[cfg(test)]
-mod tests;
 
 pub use edit_fault::EditFault;
 pub use marks::{Mark, Mode, Notice, Place, Use};
