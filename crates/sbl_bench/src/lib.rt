@@ -18,3 +18,4 @@ pub use bench::Bench;
 pub use class::Class;
 pub use fault::EditFault;
 pub use row::Row;
+pub use sbl_script::ScriptFault;

@@ -1,7 +1,8 @@
 //! The trees of texts, and the faults of the grammar.
 
 use crate::tests::scripts::{FRONT, PORTER, suffixes};
-use sbl_grammar::{Command, Item, Plain, one_fault, one_part, one_tree, parse};
+use sbl_grammar::{one_fault, one_part, one_tree, parse};
+use sbl_script::{Command, Item, Plain};
 use sbl_text::{ScriptFault, tokens};
 use std::alloc::{AllocError, Global};
 use std::test::Fail;
