@@ -13,10 +13,9 @@ pub mod open;
 pub mod outcomes;
 pub mod pairs;
 pub mod row;
-#[cfg(test)]
-mod tests;
 
 pub use bench::Bench;
 pub use class::Class;
 pub use fault::EditFault;
 pub use row::Row;
+pub use sbl_script::ScriptFault;

@@ -12,11 +12,7 @@ mod items;
 mod leaves;
 mod reading;
 mod role;
-#[cfg(test)]
-mod scripts;
 mod starts;
-#[cfg(test)]
-mod tests;
 mod tokens;
 mod tree;
 

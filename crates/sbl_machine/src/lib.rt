@@ -28,6 +28,3 @@ pub use search::AmongSearch;
 
 /// The search that a program runs on.
 pub type Table = LinkedTable;
-
-#[cfg(test)]
-mod tests;

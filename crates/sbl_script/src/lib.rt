@@ -9,13 +9,10 @@ pub mod laws;
 mod marking;
 mod marks;
 mod script;
-#[cfg(test)]
-mod scripts;
-#[cfg(test)]
-mod tests;
 
 pub use edit_fault::EditFault;
 pub use marks::{Mark, Mode, Notice, Place, Use};
 pub use sbl_grammar as grammar;
+pub use sbl_grammar::{Among, Command, Item, Plain, Row, Term};
 pub use sbl_text::ScriptFault;
 pub use script::Script;

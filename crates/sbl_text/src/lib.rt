@@ -13,8 +13,6 @@ mod meanings;
 mod pieces;
 mod signs;
 mod states;
-#[cfg(test)]
-mod tests;
 mod token;
 mod words;
 

@@ -1,35 +1,23 @@
-//! Scripts and their faults.
+//! The checks of scripts: each fault, and which of several is answered.
 
-use crate::laws::{
-    amongs_are_sound, fault_is_first, names_resolve, one_reading, substrings_are_paired,
-    well_declared_passes,
-};
-use crate::scripts::{FRONT, PORTER, SUFFIXES};
-use crate::{Script, ScriptFault};
+use crate::tests::scripts::{suffixes_with, with_body};
+use sbl_script::{Script, ScriptFault};
 use std::alloc::Global;
 use std::process::Abort;
 
 /// The fault of a script; `None` where it is accepted.
-fn fault_of(alloc: Global, text: &str) -> Option<ScriptFault> {
+pub fn fault_of(alloc: Global, text: &str) -> Option<ScriptFault> {
     Script::parse(alloc, text.as_bytes(), "stem").err()
 }
 
 /// The fault of a script whose external has this body.
-fn fault_in_body(rt: &impl Abort, alloc: Global, body: &str) -> Option<ScriptFault> {
-    let text = format!(in alloc; "{FRONT}{body}").expect(rt, "memory");
+pub fn fault_in_body(rt: &impl Abort, alloc: Global, body: &str) -> Option<ScriptFault> {
+    let text = with_body(alloc, body).expect(rt, "memory");
     fault_of(alloc, text.as_str())
 }
 
-fn repeated(rt: &impl Abort, alloc: Global, part: &str, count: usize) -> String {
-    let mut text = String::new(alloc);
-    for _ in 0..count {
-        text.push_str(part).expect(rt, "memory");
-    }
-    text
-}
-
 #[test]
-fn answers_the_fault_of_a_body(rt: HostRuntime) {
+fn the_fault_of_a_body_is_answered(rt: HostRuntime) {
     let item = 2;
     for (body, want) in [
         ("( next next", ScriptFault::Syntax { place: 45 }),
@@ -62,7 +50,7 @@ fn answers_the_fault_of_a_body(rt: HostRuntime) {
 }
 
 #[test]
-fn answers_the_fault_of_a_script(rt: HostRuntime) {
+fn the_fault_of_a_script_is_answered(rt: HostRuntime) {
     for (text, want) in [
         (
             "externals ( stem ) routines ( stem )",
@@ -193,7 +181,7 @@ fn answers_the_fault_of_a_script(rt: HostRuntime) {
 }
 
 #[test]
-fn pairs_each_substring_in_its_region(rt: HostRuntime) {
+fn each_substring_is_paired_in_its_region(rt: HostRuntime) {
     let item = 2;
     for (body, want) in [
         ("( substring among ( 'a' ) )", None),
@@ -247,7 +235,7 @@ fn pairs_each_substring_in_its_region(rt: HostRuntime) {
 }
 
 #[test]
-fn answers_the_first_of_several(rt: HostRuntime) {
+fn of_several_faults_the_first_is_answered(rt: HostRuntime) {
     let item = 2;
     for (body, want) in [
         (
@@ -293,7 +281,7 @@ fn answers_the_first_of_several(rt: HostRuntime) {
 }
 
 #[test]
-fn accepts_scripts(rt: HostRuntime) {
+fn well_declared_scripts_are_accepted(rt: HostRuntime) {
     let alloc = rt.alloc();
     for body in [
         "stem",
@@ -318,116 +306,7 @@ fn accepts_scripts(rt: HostRuntime) {
         ("( backwards ( do tail do ( test 'e' last ) ) )", None),
         ("tail", Some(ScriptFault::WrongMode { item: 6 })),
     ] {
-        let text = format!(in alloc; "{SUFFIXES}{body}").expect(&rt, "memory");
+        let text = suffixes_with(alloc, body).expect(&rt, "memory");
         assert_eq!(rt; fault_of(alloc, text.as_str()), want, "{body}");
     }
-}
-
-#[test]
-fn refuses_in_an_order(rt: HostRuntime) {
-    for (body, want) in [
-        ("( $x ) get", ScriptFault::OutOfProfile { place: 41 }),
-        ("$x=>3", ScriptFault::OutOfProfile { place: 36 }),
-        ("next ?", ScriptFault::OutOfProfile { place: 39 }),
-        ("( reverse", ScriptFault::OutOfProfile { place: 36 }),
-        (
-            "hop sizeof 'a' get",
-            ScriptFault::OutOfProfile { place: 38 },
-        ),
-        ("size ~", ScriptFault::BadCharacter { place: 39 }),
-        ("( $x 3 ) 'a", ScriptFault::UnclosedString { place: 43 }),
-        ("( $x 3 ) )", ScriptFault::OutOfProfile { place: 36 }),
-        (") $x 3", ScriptFault::Syntax { place: 34 }),
-        ("$x ", ScriptFault::Syntax { place: 37 }),
-        ("nowhere )", ScriptFault::Syntax { place: 42 }),
-    ] {
-        assert_eq!(rt; fault_in_body(&rt, rt.alloc(), body), Some(want), "{body}");
-    }
-}
-
-#[test]
-fn counts_depth(rt: HostRuntime) {
-    let alloc = rt.alloc();
-    for (count, inside, place) in [
-        (63, "next", None),
-        (64, "next", Some(98)),
-        (64, "$x 3", Some(98)),
-        (63, "$( 1 == 1 )", None),
-        (63, "hop ( 1 )", Some(101)),
-        (62, "hop - ( 1 )", Some(102)),
-        (63, "among ( 'a' 'b' stem )", None),
-        (63, "among ( ( ) 'a' )", Some(105)),
-        (63, "among ( 'a' ( ) )", Some(109)),
-        (62, "among ( 'a' ( next ) )", Some(110)),
-    ] {
-        let open = repeated(&rt, alloc, "(", count);
-        let close = repeated(&rt, alloc, ")", count);
-        let body = format!(in alloc; "{open}{inside}{close}").expect(&rt, "memory");
-        let want = place.map(|place| ScriptFault::TooDeep { place });
-        assert_eq!(rt; fault_in_body(&rt, alloc, body.as_str()), want, "{inside}");
-    }
-    let open = repeated(&rt, alloc, "(", 300_000);
-    assert_eq!(rt;
-        fault_in_body(&rt, alloc, open.as_str()),
-        Some(ScriptFault::TooDeep { place: 98 })
-    );
-}
-
-#[test]
-fn answers_every_front(rt: HostRuntime) {
-    let alloc = rt.alloc();
-    assert_eq!(rt; fault_of(alloc, PORTER), None);
-    let mut front = String::new(alloc);
-    for letter in PORTER.chars() {
-        let fault = fault_of(alloc, front.as_str());
-        assert!(rt; fault != Some(ScriptFault::OutOfMemory), "{front}");
-        front.push(letter).expect(&rt, "memory");
-    }
-}
-
-#[test]
-fn refuses_what_is_no_text(rt: HostRuntime) {
-    let alloc = rt.alloc();
-    assert_eq!(rt;
-        Script::parse(alloc, b"\xff", "stem").err(),
-        Some(ScriptFault::NotUtf8)
-    );
-    let long = repeated(&rt, alloc, " ", 1_048_577);
-    assert_eq!(rt;
-        fault_of(alloc, long.as_str()),
-        Some(ScriptFault::ScriptTooLong)
-    );
-    let blank = repeated(&rt, alloc, " ", 1_048_576);
-    assert_eq!(rt;
-        fault_of(alloc, blank.as_str()),
-        Some(ScriptFault::NoExternal)
-    );
-}
-
-#[test]
-fn keeps_what_it_read(rt: HostRuntime) {
-    let alloc = rt.alloc();
-    let script = Script::parse(alloc, b"externals ( stem ) define stem as next", "stem").expect(
-        &rt, "accepted",
-    );
-    assert_eq!(rt; script.external(), "stem");
-    assert_eq!(rt; script.items().len(), 2);
-    script.is_well_declared();
-    assert_eq!(rt; script.body().others.len(), 0);
-    for external in ["", "2x", "next", "Stem"] {
-        assert_eq!(rt;
-            Script::parse(alloc, b"externals ( stem ) define stem as next", external).err(),
-            Some(ScriptFault::NoExternal)
-        );
-    }
-}
-
-#[test]
-fn calls_the_laws(_rt: HostRuntime) {
-    one_reading();
-    well_declared_passes();
-    fault_is_first();
-    amongs_are_sound();
-    names_resolve();
-    substrings_are_paired();
 }

@@ -1,18 +1,23 @@
 //! Amongs, their searches and choices.
 
-use crate::fault::RunFault;
-use crate::tests::scripts::{body_runs, runs, runs_with};
+use crate::tests::runs::{body_runs, runs, runs_with};
+use sbl_machine::RunFault;
 use std::test::Fail;
 
 #[test]
-fn takes_the_longest(rt: HostRuntime) -> Result<(), Fail> {
+fn the_longest_string_of_an_among_is_taken(rt: HostRuntime) -> Result<(), Fail> {
     let alloc = rt.alloc();
     body_runs(
         &rt,
         alloc,
         "( [ among ( 'a' () 'ab' () ) ] delete )",
         &[("abc", Ok("c"), 0)],
-    )?;
+    )
+}
+
+#[test]
+fn a_string_counts_only_where_its_condition_signals_t(rt: HostRuntime) -> Result<(), Fail> {
+    let alloc = rt.alloc();
     runs(
         &rt,
         alloc,
@@ -29,8 +34,12 @@ fn takes_the_longest(rt: HostRuntime) -> Result<(), Fail> {
         alloc,
         "externals ( stem ) routines ( c ) define c as ( ] delete ) define stem as ( [ among ( 'ab' c () ) )",
         &[("abab", Ok("ab"), 0), ("ab", Err(RunFault::Cursor), 0)],
-    )?;
-    // each group has its command, the last may have none
+    )
+}
+
+#[test]
+fn each_group_has_its_command_and_the_last_may_have_none(rt: HostRuntime) -> Result<(), Fail> {
+    let alloc = rt.alloc();
     body_runs(
         &rt,
         alloc,
@@ -46,7 +55,7 @@ fn takes_the_longest(rt: HostRuntime) -> Result<(), Fail> {
 }
 
 #[test]
-fn conditions_go_on(rt: HostRuntime) -> Result<(), Fail> {
+fn a_condition_begins_where_the_one_before_it_ended(rt: HostRuntime) -> Result<(), Fail> {
     let alloc = rt.alloc();
     // what a condition changed before its f stays, and the next one begins in that state
     runs(
@@ -78,7 +87,7 @@ fn conditions_go_on(rt: HostRuntime) -> Result<(), Fail> {
 }
 
 #[test]
-fn searches_before_the_among(rt: HostRuntime) -> Result<(), Fail> {
+fn an_among_without_a_substring_searches_itself(rt: HostRuntime) -> Result<(), Fail> {
     let alloc = rt.alloc();
     body_runs(
         &rt,
@@ -115,7 +124,7 @@ fn searches_before_the_among(rt: HostRuntime) -> Result<(), Fail> {
 }
 
 #[test]
-fn choices_last(rt: HostRuntime) -> Result<(), Fail> {
+fn a_choice_lasts_until_the_next_search_in_its_call(rt: HostRuntime) -> Result<(), Fail> {
     let alloc = rt.alloc();
     // until the next search of that among in the same call
     body_runs(

@@ -1,6 +1,7 @@
-//! Worked texts, and what is printed of their faults.
+//! The tokens of texts, literals and codes, and what is printed of their faults.
 
-use crate::{
+use crate::tests::characters::text_of;
+use sbl_text::{
     Escapes, Kind, Lexer, ScriptFault, Sign, Token, Value, Word, read_codes, read_literal, tokens,
 };
 use std::alloc::{AllocError, Global};
@@ -113,7 +114,7 @@ fn kind_of(token: Option<Token<'_>>) -> Option<Kind> {
 }
 
 #[test]
-fn a_fault_comes_again(rt: HostRuntime) -> Result<(), Fail> {
+fn a_fault_is_answered_again(rt: HostRuntime) -> Result<(), Fail> {
     let mut lexer = Lexer::new(rt.alloc(), "stem /**/ ~ stem");
     assert!(rt; kind_of(lexer.next()?) == Some(Kind::Name));
     for _ in 0..3 {
@@ -181,7 +182,7 @@ fn faults_are_printed_with_number_and_place(rt: HostRuntime) -> Result<(), Fail>
 }
 
 #[test]
-fn directives_change_what_follows(rt: HostRuntime) -> Result<(), Fail> {
+fn a_directive_changes_what_follows_it(rt: HostRuntime) -> Result<(), Fail> {
     let rows = [
         ("stringescapes{} x", "stringescapes {} x "),
         ("stringescapes //", "stringescapes // "),
@@ -231,16 +232,8 @@ fn last_value(alloc: Global, text: &str) -> Result<String, ScriptFault> {
     Ok(shown)
 }
 
-fn text_of(alloc: Global, value: &[char]) -> Result<String, AllocError> {
-    let mut shown = String::new(alloc);
-    for c in value {
-        shown.push(*c)?;
-    }
-    Ok(shown)
-}
-
 #[test]
-fn macros_hold_from_their_definition_on(rt: HostRuntime) -> Result<(), Fail> {
+fn a_macro_holds_from_its_definition_on(rt: HostRuntime) -> Result<(), Fail> {
     let rows = [
         (
             "stringescapes {} stringdef ss '\u{df}' 'gro{ss}{'}'",
@@ -280,7 +273,7 @@ fn with_ss(alloc: Global) -> Result<Escapes, AllocError> {
 }
 
 #[test]
-fn literals_are_read_alone(rt: HostRuntime) -> Result<(), Fail> {
+fn a_literal_is_read_under_the_escapes_in_force(rt: HostRuntime) -> Result<(), Fail> {
     let escapes = with_ss(rt.alloc())?;
     let rows = [
         ("gro{ss}", "gro\u{df}"),
@@ -324,7 +317,7 @@ fn literals_are_read_alone(rt: HostRuntime) -> Result<(), Fail> {
 }
 
 #[test]
-fn codes_are_read_alone(rt: HostRuntime) -> Result<(), Fail> {
+fn codes_are_read_in_their_base(rt: HostRuntime) -> Result<(), Fail> {
     let hex = ['E', '4', ' ', '6', '2'];
     assert_eq!(rt;
         read_codes(rt.alloc(), true, &hex)?.as_slice(),

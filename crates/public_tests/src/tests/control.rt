@@ -1,11 +1,11 @@
 //! Commands that hold commands.
 
-use crate::fault::RunFault;
-use crate::tests::scripts::{body_runs, runs, runs_with};
+use crate::tests::runs::{body_runs, runs, runs_with};
+use sbl_machine::RunFault;
 use std::test::Fail;
 
 #[test]
-fn turns_of_a_script(rt: HostRuntime) -> Result<(), Fail> {
+fn loops_run_their_turns(rt: HostRuntime) -> Result<(), Fail> {
     let alloc = rt.alloc();
     let steps = Err(RunFault::Steps);
     body_runs(&rt, alloc, "repeat true", &[("a", steps, 100_001)])?;
@@ -49,7 +49,7 @@ fn rows_are_grouped_from_the_left(rt: HostRuntime) -> Result<(), Fail> {
 }
 
 #[test]
-fn prefixes(rt: HostRuntime) -> Result<(), Fail> {
+fn a_prefix_decides_the_signal_and_where_the_cursor_stands(rt: HostRuntime) -> Result<(), Fail> {
     let alloc = rt.alloc();
     for (body, stem) in [
         ("( not 'b' [ tolimit ] delete )", ""),
@@ -70,7 +70,7 @@ fn prefixes(rt: HostRuntime) -> Result<(), Fail> {
 }
 
 #[test]
-fn goes_to_matches(rt: HostRuntime) -> Result<(), Fail> {
+fn goto_stops_before_the_match_and_gopast_behind_it(rt: HostRuntime) -> Result<(), Fail> {
     let alloc = rt.alloc();
     body_runs(
         &rt,
@@ -106,7 +106,7 @@ fn goes_to_matches(rt: HostRuntime) -> Result<(), Fail> {
 }
 
 #[test]
-fn goes_backwards(rt: HostRuntime) -> Result<(), Fail> {
+fn backwards_ends_at_the_left_limit(rt: HostRuntime) -> Result<(), Fail> {
     let alloc = rt.alloc();
     body_runs(
         &rt,
@@ -131,7 +131,7 @@ fn goes_backwards(rt: HostRuntime) -> Result<(), Fail> {
 }
 
 #[test]
-fn sets_limits(rt: HostRuntime) -> Result<(), Fail> {
+fn a_limit_holds_for_its_command_and_comes_back(rt: HostRuntime) -> Result<(), Fail> {
     let alloc = rt.alloc();
     let cursor = Err(RunFault::Cursor);
     for (body, word, want) in [
@@ -191,7 +191,7 @@ fn sets_limits(rt: HostRuntime) -> Result<(), Fail> {
 }
 
 #[test]
-fn calls(rt: HostRuntime) -> Result<(), Fail> {
+fn the_thirty_third_level_of_calls_refuses_the_run(rt: HostRuntime) -> Result<(), Fail> {
     let alloc = rt.alloc();
     let depth = Err(RunFault::Depth);
     body_runs(&rt, alloc, "stem", &[("a", depth, 32)])?;

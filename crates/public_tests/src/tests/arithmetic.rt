@@ -1,7 +1,7 @@
 //! Integers, booleans and arithmetic.
 
-use crate::fault::RunFault;
-use crate::tests::scripts::runs;
+use crate::tests::runs::runs;
+use sbl_machine::RunFault;
 use std::alloc::Global;
 use std::process::Abort;
 use std::test::Fail;
@@ -21,7 +21,7 @@ fn gives(
 }
 
 #[test]
-fn computes(rt: HostRuntime) -> Result<(), Fail> {
+fn an_expression_has_its_value(rt: HostRuntime) -> Result<(), Fail> {
     let alloc = rt.alloc();
     for (value, want) in [
         ("1 + 2 * 3", "7"),
@@ -60,7 +60,7 @@ fn computes(rt: HostRuntime) -> Result<(), Fail> {
 }
 
 #[test]
-fn assigns_and_compares(rt: HostRuntime) -> Result<(), Fail> {
+fn integers_and_booleans_are_assigned_and_tested(rt: HostRuntime) -> Result<(), Fail> {
     let alloc = rt.alloc();
     for (test, holds) in [
         ("$x = 7 $x += 2 $x -= 1 $x *= 3 $x /= 5 $x == 4", true),
@@ -86,7 +86,7 @@ fn assigns_and_compares(rt: HostRuntime) -> Result<(), Fail> {
 }
 
 #[test]
-fn refuses_numbers(rt: HostRuntime) -> Result<(), Fail> {
+fn a_result_out_of_bounds_and_a_divisor_zero_refuse_the_run(rt: HostRuntime) -> Result<(), Fail> {
     let alloc = rt.alloc();
     for (body, fault) in [
         ("$x = maxint $x += 1", RunFault::Integer),

@@ -1,34 +1,18 @@
 //! What a bench shows of whole scripts.
 
-use crate::{Bench, EditFault, Row};
+use crate::tests::characters::{text_of, word_of};
+use crate::tests::scripts::{PREFIXES, suffixes, with_body};
+use sbl_bench::{Bench, EditFault, Row};
 use sbl_machine::Outcome;
 use sbl_script::Script;
 use std::alloc::Global;
 use std::test::Fail;
 
-/// Takes `un` or `re` off a word's front.
-const PREFIXES: &str = "externals ( stem ) define stem as ( [ among ( 'un' () 're' () ) ] delete )";
-
 /// Takes a slice that ends before it begins.
 const CROSSED: &str = "externals ( stem ) define stem as ( 'a' [ delete )";
 
-fn word_of(alloc: Global, text: &str) -> Result<Vec<char>, Fail> {
-    let mut word = Vec::new(alloc);
-    for letter in text.chars() {
-        word.push(letter)?;
-    }
-    Ok(word)
-}
-
-fn text_of(alloc: Global, word: &[char]) -> Result<String, Fail> {
-    let mut text = String::new(alloc);
-    for &letter in word {
-        text.push(letter)?;
-    }
-    Ok(text)
-}
-
-fn bench_of(alloc: Global, script: &str, words: &[&str]) -> Result<Bench, Fail> {
+/// A bench over this script and these words.
+pub fn bench_of(alloc: Global, script: &str, words: &[&str]) -> Result<Bench, Fail> {
     let script = Script::parse(alloc, script.as_bytes(), "stem")?;
     let mut list = Vec::new(alloc);
     for &word in words {
@@ -38,7 +22,7 @@ fn bench_of(alloc: Global, script: &str, words: &[&str]) -> Result<Bench, Fail> 
 }
 
 /// A row as `WORD STEM`, or `WORD` and the fault.
-fn shown(alloc: Global, row: &Row<'_>) -> Result<String, Fail> {
+pub fn shown(alloc: Global, row: &Row<'_>) -> Result<String, Fail> {
     let word = text_of(alloc, row.word)?;
     match row.outcome {
         Outcome::Stem(stem) => {
@@ -49,6 +33,33 @@ fn shown(alloc: Global, row: &Row<'_>) -> Result<String, Fail> {
     }
 }
 
+/// The rows as `WORD STEM;`.
+pub fn rows_shown(alloc: Global, bench: &Bench) -> Result<String, Fail> {
+    let mut text = String::new(alloc);
+    let rows = bench.rows()?;
+    for row in &rows {
+        text.push_str(shown(alloc, row)?.as_str())?;
+        text.push(';')?;
+    }
+    Ok(text)
+}
+
+/// The classes as `STEM:WORD,WORD,;`.
+pub fn classes_shown(alloc: Global, bench: &Bench) -> Result<String, Fail> {
+    let mut text = String::new(alloc);
+    let classes = bench.classes()?;
+    for class in &classes {
+        text.push_str(text_of(alloc, class.stem.as_slice())?.as_str())?;
+        text.push(':')?;
+        for word in &class.words {
+            text.push_str(text_of(alloc, word.as_slice())?.as_str())?;
+            text.push(',')?;
+        }
+        text.push(';')?;
+    }
+    Ok(text)
+}
+
 #[test]
 fn added_words_stand_last_with_their_stems(rt: HostRuntime) -> Result<(), Fail> {
     let mut bench = bench_of(rt.alloc(), PREFIXES, &[])?;
@@ -57,13 +68,10 @@ fn added_words_stand_last_with_their_stems(rt: HostRuntime) -> Result<(), Fail> 
     bench.add(&['r', 'e', 'd', 'o'])?;
     assert_eq!(rt; bench.len(), 2);
     assert_eq!(rt; bench.runs(), 2);
-    let rows = bench.rows()?;
-    let mut texts = String::new(rt.alloc());
-    for row in &rows {
-        texts.push_str(shown(rt.alloc(), row)?.as_str())?;
-        texts.push(';')?;
-    }
-    assert_eq!(rt; texts.as_str(), "undo do;redo do;");
+    assert_eq!(rt;
+        rows_shown(rt.alloc(), &bench)?.as_str(),
+        "undo do;redo do;"
+    );
     Ok(())
 }
 
@@ -128,22 +136,6 @@ fn a_refused_growth_changes_nothing(rt: HostRuntime) -> Result<(), Fail> {
     Ok(())
 }
 
-/// The classes as `STEM:WORD,WORD,;`.
-fn classes_shown(alloc: Global, bench: &Bench) -> Result<String, Fail> {
-    let mut text = String::new(alloc);
-    let classes = bench.classes()?;
-    for class in &classes {
-        text.push_str(text_of(alloc, class.stem.as_slice())?.as_str())?;
-        text.push(':')?;
-        for word in &class.words {
-            text.push_str(text_of(alloc, word.as_slice())?.as_str())?;
-            text.push(',')?;
-        }
-        text.push(';')?;
-    }
-    Ok(text)
-}
-
 #[test]
 fn classes_go_by_stem_and_word(rt: HostRuntime) -> Result<(), Fail> {
     let bench = bench_of(
@@ -194,70 +186,6 @@ fn a_removal_closes_the_gap(rt: HostRuntime) -> Result<(), Fail> {
     Ok(())
 }
 
-/// Takes `un` off a word's front, and leaves `re`.
-const ONE_PREFIX: &str = "externals ( stem ) define stem as ( [ among ( 'un' () ) ] delete )";
-
-#[test]
-fn another_script_runs_every_word(rt: HostRuntime) -> Result<(), Fail> {
-    let mut bench = bench_of(rt.alloc(), PREFIXES, &["undo", "redo", "sky"])?;
-    let script = Script::parse(rt.alloc(), ONE_PREFIX.as_bytes(), "stem")?;
-    assert_eq!(rt; bench.replace_script(script), Ok(()));
-    assert_eq!(rt; bench.runs(), 6);
-    assert_eq!(rt;
-        classes_shown(rt.alloc(), &bench)?.as_str(),
-        "do:undo,;redo:redo,;sky:sky,;"
-    );
-    let script = Script::parse(rt.alloc(), CROSSED.as_bytes(), "stem")?;
-    assert_eq!(rt; bench.add(&['a', 'b']), Ok(()));
-    assert_eq!(rt; bench.replace_script(script), Ok(()));
-    assert_eq!(rt;
-        classes_shown(rt.alloc(), &bench)?.as_str(),
-        "redo:redo,;sky:sky,;undo:undo,;"
-    );
-    Ok(())
-}
-
-// Another script whose memory is refused leaves the bench as it was, but for the count, and is taken afterwards.
-#[test]
-fn a_refused_growth_keeps_the_script(rt: HostRuntime) -> Result<(), Fail> {
-    let Ok(first) = Script::parse(rt.alloc(), PREFIXES.as_bytes(), "stem") else {
-        println!(rt; "the script was refused")?;
-        return Ok(());
-    };
-    let Ok(second) = Script::parse(rt.alloc(), ONE_PREFIX.as_bytes(), "stem") else {
-        println!(rt; "the other script was refused")?;
-        return Ok(());
-    };
-    let Ok(mut bench) = Bench::open(rt.alloc(), first, Vec::new(rt.alloc())) else {
-        println!(rt; "the bench was refused")?;
-        return Ok(());
-    };
-    if bench.add(&['r', 'e', 'd', 'o']).is_err() || bench.add(&['u', 'n', 'd', 'o']).is_err() {
-        println!(rt; "a word was refused")?;
-        return Ok(());
-    }
-    let answer = bench.replace_script(second);
-    assert!(rt; bench.runs() >= 2 && bench.runs() <= 4);
-    // `redo` stays with `undo` where the edit was refused, and is alone where it was made.
-    let together = match answer {
-        Ok(()) => 1,
-        Err(fault) => {
-            println!(rt; "the edit was refused")?;
-            assert_eq!(rt; fault, EditFault::OutOfMemory);
-            2
-        }
-    };
-    let Ok(class) = bench.class_of(&['r', 'e', 'd', 'o']) else {
-        println!(rt; "the class was refused")?;
-        return Ok(());
-    };
-    match class {
-        Some(class) => assert_eq!(rt; class.words.len(), together),
-        None => assert!(rt; false),
-    }
-    Ok(())
-}
-
 #[test]
 fn faults_are_printed_with_their_numbers(rt: HostRuntime) -> Result<(), Fail> {
     for (fault, text) in [
@@ -271,5 +199,30 @@ fn faults_are_printed_with_their_numbers(rt: HostRuntime) -> Result<(), Fail> {
     ] {
         assert_eq!(rt; format!(in rt.alloc(); "{fault}")?.as_str(), text);
     }
+    Ok(())
+}
+
+const VOCABULARY: &[&str] = &["cats", "boxes", "cakes", "cake", "dog"];
+
+#[test]
+fn plural_endings_put_words_into_classes(rt: HostRuntime) -> Result<(), Fail> {
+    let alloc = rt.alloc();
+    let bench = bench_of(alloc, suffixes(alloc)?.as_str(), VOCABULARY)?;
+    assert_eq!(rt;
+        classes_shown(alloc, &bench)?.as_str(),
+        "box:boxes,;cak:cake,cakes,;cat:cats,;dog:dog,;"
+    );
+    assert_eq!(rt; bench.runs(), 5);
+    let bench = bench_of(alloc, suffixes(alloc)?.as_str(), &["s"])?;
+    assert_eq!(rt; rows_shown(alloc, &bench)?.as_str(), "s ;");
+    Ok(())
+}
+
+#[test]
+fn a_word_whose_steps_are_spent_is_in_no_class(rt: HostRuntime) -> Result<(), Fail> {
+    let alloc = rt.alloc();
+    let bench = bench_of(alloc, with_body(alloc, "repeat true")?.as_str(), &["a"])?;
+    assert_eq!(rt; rows_shown(alloc, &bench)?.as_str(), "a 60 Steps;");
+    assert_eq!(rt; classes_shown(alloc, &bench)?.as_str(), "");
     Ok(())
 }

@@ -1,14 +1,11 @@
-//! Worked texts.
+//! The trees of texts, and the faults of the grammar.
 
-use crate::scripts::{PORTER, SUFFIXES};
-use crate::tree::{Command, Item, Plain};
-use crate::{one_fault, one_part, one_tree, parse};
+use crate::tests::scripts::{FRONT, PORTER, suffixes};
+use sbl_grammar::{one_fault, one_part, one_tree, parse};
+use sbl_script::{Command, Item, Plain};
 use sbl_text::{ScriptFault, tokens};
 use std::alloc::{AllocError, Global};
 use std::test::Fail;
-
-/// What stands before a body at byte 34.
-const FRONT: &str = "externals ( stem )\ndefine stem as ";
 
 fn read(alloc: Global, text: &str) -> Result<Vec<Item>, ScriptFault> {
     let tokens = tokens(alloc, text)?;
@@ -49,8 +46,11 @@ fn nested(
 }
 
 #[test]
-fn whole_scripts(rt: HostRuntime) -> Result<(), Fail> {
-    assert_eq!(rt; shown(rt.alloc(), SUFFIXES)?.as_str(), "4");
+fn whole_scripts_are_read(rt: HostRuntime) -> Result<(), Fail> {
+    assert_eq!(rt;
+        shown(rt.alloc(), suffixes(rt.alloc())?.as_str())?.as_str(),
+        "4"
+    );
     assert_eq!(rt; shown(rt.alloc(), PORTER)?.as_str(), "9");
     assert_eq!(rt; shown(rt.alloc(), "")?.as_str(), "0");
     assert_eq!(rt; shown(rt.alloc(), "backwardmode ( )")?.as_str(), "1");
@@ -95,7 +95,7 @@ fn each_form_is_read(rt: HostRuntime) -> Result<(), Fail> {
 }
 
 #[test]
-fn first_faults(rt: HostRuntime) -> Result<(), Fail> {
+fn the_first_fault_of_the_grammar_is_answered(rt: HostRuntime) -> Result<(), Fail> {
     let rows = [
         ("( next next", "7 Syntax at 45"),
         ("'a' 'b'", "7 Syntax at 38"),
@@ -132,7 +132,7 @@ fn first_faults(rt: HostRuntime) -> Result<(), Fail> {
 }
 
 #[test]
-fn depth_is_bounded(rt: HostRuntime) -> Result<(), Fail> {
+fn commands_stand_at_most_sixty_four_deep(rt: HostRuntime) -> Result<(), Fail> {
     let rows = [
         ("(", 63, "next", ")", "2"),
         ("(", 64, "next", ")", "8 TooDeep at 98"),
@@ -177,7 +177,7 @@ fn minus_of(items: &[Item]) -> Option<bool> {
 }
 
 #[test]
-fn signs_are_kept_apart(rt: HostRuntime) -> Result<(), Fail> {
+fn the_minus_behind_non_is_kept(rt: HostRuntime) -> Result<(), Fail> {
     assert_eq!(rt;
         minus_of(&read(rt.alloc(), "define r as non v")?),
         Some(false)
@@ -190,23 +190,7 @@ fn signs_are_kept_apart(rt: HostRuntime) -> Result<(), Fail> {
 }
 
 #[test]
-fn fronts_are_answered(rt: HostRuntime) -> Result<(), Fail> {
-    let mut front = String::new(rt.alloc());
-    for (n, c) in PORTER.chars().enumerate() {
-        front.push(c)?;
-        if n % 45 == 0 {
-            let fault = match read(rt.alloc(), &front) {
-                Ok(_) => None,
-                Err(fault) => Some(fault),
-            };
-            assert!(rt; fault != Some(ScriptFault::OutOfMemory), "{n}");
-        }
-    }
-    Ok(())
-}
-
-#[test]
-fn laws_are_called(_rt: HostRuntime) {
+fn the_laws_of_the_grammar_are_called(_rt: HostRuntime) {
     one_tree();
     one_part();
     one_fault();

@@ -1,9 +1,41 @@
-//! Porter's stemmer.
+//! Whole scripts, and what stands before the body that a test gives.
 
-use crate::tests::scripts::runs;
-use std::test::Fail;
+use std::alloc::{AllocError, Global};
 
-const PORTER: &str = "integers ( p1 p2 )
+/// A body stands behind it at byte 34.
+pub const FRONT: &str = "externals ( stem ) define stem as ";
+
+/// A script whose external has this body.
+pub fn with_body(alloc: Global, body: &str) -> Result<String, AllocError> {
+    format!(in alloc; "{FRONT}{body}")
+}
+
+/// Takes `un` or `re` off a word's front.
+pub const PREFIXES: &str =
+    "externals ( stem ) define stem as ( [ among ( 'un' () 're' () ) ] delete )";
+
+/// Three routines in a `backwardmode`, one with an among, one a condition of it. The external's body is left out.
+const SUFFIX_ROUTINES: &str = "externals ( stem )
+routines ( tail last sib )
+backwardmode (
+  define sib as ( 'x' or 's' )
+  define tail as ( [substring] among ( 's' (delete) 'es' sib (delete) ) )
+  define last as ( ['e'] delete )
+)
+define stem as ";
+
+/// These routines, and this body of the external behind them: the sixth item.
+pub fn suffixes_with(alloc: Global, body: &str) -> Result<String, AllocError> {
+    format!(in alloc; "{SUFFIX_ROUTINES}{body}")
+}
+
+/// Takes plural endings off, and then an `e`.
+pub fn suffixes(alloc: Global) -> Result<String, AllocError> {
+    suffixes_with(alloc, "( backwards ( do tail do ( test 'e' last ) ) )")
+}
+
+/// After the published stemmer of Porter.
+pub const PORTER: &str = "integers ( p1 p2 )
 booleans ( Y_found )
 
 routines (
@@ -140,23 +172,5 @@ define stem as (
 
     do(Y_found  repeat(goto (['Y']) <-'y'))
 
-)";
-
-#[test]
-fn stems_english(rt: HostRuntime) -> Result<(), Fail> {
-    runs(
-        &rt,
-        rt.alloc(),
-        PORTER,
-        &[
-            ("caresses", Ok("caress"), 0),
-            ("ponies", Ok("poni"), 0),
-            ("sky", Ok("sky"), 0),
-            ("happy", Ok("happi"), 0),
-            ("operational", Ok("oper"), 0),
-            ("hopping", Ok("hop"), 0),
-            ("hoping", Ok("hope"), 0),
-            ("yes", Ok("ye"), 0),
-        ],
-    )
-}
+)
+";

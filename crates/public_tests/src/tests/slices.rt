@@ -1,11 +1,11 @@
 //! Slices, insertion and marks.
 
-use crate::fault::RunFault;
-use crate::tests::scripts::{body_runs, runs};
+use crate::tests::runs::{body_runs, runs};
+use sbl_machine::RunFault;
 use std::test::Fail;
 
 #[test]
-fn slices_of_a_script(rt: HostRuntime) -> Result<(), Fail> {
+fn a_slice_is_replaced_and_copied(rt: HostRuntime) -> Result<(), Fail> {
     let alloc = rt.alloc();
     body_runs(
         &rt,
@@ -45,7 +45,7 @@ fn slices_of_a_script(rt: HostRuntime) -> Result<(), Fail> {
 }
 
 #[test]
-fn inserts(rt: HostRuntime) -> Result<(), Fail> {
+fn what_is_put_in_moves_the_slice_right_of_it(rt: HostRuntime) -> Result<(), Fail> {
     let alloc = rt.alloc();
     for (body, stem) in [
         ("( next <+ 'x' insert 'y' )", "axyb"),
@@ -64,7 +64,7 @@ fn inserts(rt: HostRuntime) -> Result<(), Fail> {
 }
 
 #[test]
-fn refuses_places(rt: HostRuntime) -> Result<(), Fail> {
+fn nothing_is_put_in_beyond_the_limit(rt: HostRuntime) -> Result<(), Fail> {
     let alloc = rt.alloc();
     // right of the limit nothing is put in; left of the left limit it is
     body_runs(
@@ -82,7 +82,7 @@ fn refuses_places(rt: HostRuntime) -> Result<(), Fail> {
 }
 
 #[test]
-fn bounds_the_text(rt: HostRuntime) -> Result<(), Fail> {
+fn a_text_has_at_most_1024_characters(rt: HostRuntime) -> Result<(), Fail> {
     let alloc = rt.alloc();
     for (body, want) in [
         ("repeat <+ 'aa'", Err(RunFault::TooLong)),
@@ -108,7 +108,7 @@ fn bounds_the_text(rt: HostRuntime) -> Result<(), Fail> {
 }
 
 #[test]
-fn moves(rt: HostRuntime) -> Result<(), Fail> {
+fn the_cursor_moves_within_the_limits(rt: HostRuntime) -> Result<(), Fail> {
     let alloc = rt.alloc();
     for (body, stem) in [
         ("( hop 2 [ tolimit ] delete )", "ab"),

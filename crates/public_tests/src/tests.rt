@@ -1,0 +1,18 @@
+//! Public calls, each file by what it tries.
+
+mod amongs;
+mod arithmetic;
+mod bench;
+mod characters;
+mod checks;
+mod control;
+mod grammar;
+mod porter;
+mod rewritten;
+mod runs;
+mod script;
+mod scripts;
+mod slices;
+mod stems;
+mod tables;
+mod text;
