@@ -2,23 +2,23 @@
 use Rattle.std.proofs.Common.{◌≡◌, ℕ, ◌+◌, ◌-◌, ◌<◌, ◌≤◌, zero, suc, Bool, true, false, List, [], ◌∷◌, Option, Some, None, Result, Err, refl, sym, ap, ◌∙◌, arith, rules, length, get_or, Vec, Box, Global}
 use Rattle.std.specs.Prelude.{slice_get, drop}
 use Rattle.std.proofs.lemmas.List.{drop_more}
-use Rattle.sbl_machine.specs.declared.action.Arithmetic.{Arithmetic}
+use Rattle.sbl_program.specs.declared.action.Arithmetic.{Arithmetic}
 use Rattle.sbl_machine.specs.declared.fault.RunFault.{RunFault}
 use Rattle.sbl_machine.specs.declared.halt.Halt.{Halt}
-use Rattle.sbl_machine.specs.declared.node.Entry.{Entry}
-use Rattle.sbl_machine.specs.declared.node.Node.{Node}
-use Rattle.sbl_machine.specs.declared.node.Node.TheVariants.{Or, And, Not, Test, Try, Do, Fail, Backwards, Goto, GoPast, SetLimit, Repeat, Loop, AtLeast, Search, Among, Sequence}
+use Rattle.sbl_program.specs.declared.node.Entry.{Entry}
+use Rattle.sbl_program.specs.declared.node.Node.{Node}
+use Rattle.sbl_program.specs.declared.node.Node.TheVariants.{Or, And, Not, Test, Try, Do, Fail, Backwards, Goto, GoPast, SetLimit, Repeat, Loop, AtLeast, Search, Among, Sequence}
 use Rattle.sbl_machine.specs.declared.state.Limits.{Limits}
-use Rattle.sbl_machine.specs.declared.node.Node.TheFolds.{fold_out-Node}
-use Rattle.sbl_machine.specs.declared.node.Node.TheViews.{the_lemmas}
+use Rattle.sbl_program.specs.declared.node.Node.TheFolds.{fold_out-Node}
+use Rattle.sbl_program.specs.declared.node.Node.TheViews.{the_lemmas}
 use Rattle.sbl_machine.specs.Halts.{fault_of}
 use Rattle.sbl_machine.specs.Kept.{Follows, Halts, Tried}
-use Rattle.sbl_machine.specs.Listed.{Listed}
-use Rattle.sbl_machine.specs.Fitting.{first}
+use Rattle.sbl_program.specs.Listed.{Listed}
+use Rattle.sbl_tables.specs.Fitting.{first}
 use Rattle.sbl_machine.specs.Moves.{next}
 use Rattle.sbl_machine.specs.Numbers.{value, given}
-use Rattle.sbl_machine.specs.PlanOf.{view_node, view_nodes, view_number}
-use Rattle.sbl_machine.specs.Plan as plan
+use Rattle.sbl_program.specs.PlanOf.{view_node, view_nodes, view_number}
+use Rattle.sbl_program.specs.Plan as plan
 use Rattle.sbl_machine.specs.Run.{turns, times, count_of, seeks, found, backwards_from, backwards_end, calls, runs, all_run, group_runs, nth_runs, leave, enter, body_does, limits, limited, limit_here, limit_back}
 use Rattle.sbl_machine.specs.Search.{choice, search_all, tries, try_one}
 use Rattle.sbl_machine.specs.Standing.{Standing, Ending, Doing, Signals, Stops, after, then_on, pay, mark, put_back}

@@ -20,23 +20,23 @@ use Rattle.sbl_grammar.specs.declared.tree.Constant.{Constant}
 use Rattle.sbl_grammar.specs.declared.tree.Constant.TheVariants as constants
 use Rattle.sbl_grammar.specs.Tree as trees
 use Rattle.sbl_grammar.specs.Tree.{bare, group}
-use Rattle.sbl_machine.specs.declared.node.Entry as code
-use Rattle.sbl_machine.specs.Ahead.{found_as}
-use Rattle.sbl_machine.specs.Fitting.{below, fitting, onto, read_as, read_all, ahead_at}
-use Rattle.sbl_machine.specs.Items.{Known, place_of}
+use Rattle.sbl_program.specs.declared.node.Entry as code
+use Rattle.sbl_program.specs.Ahead.{found_as}
+use Rattle.sbl_tables.specs.Fitting.{below, fitting, onto, read_as, read_all, ahead_at}
+use Rattle.sbl_program.specs.Items.{Known, place_of}
 use Rattle.sbl_machine.specs.Meaning as meaning
 use Rattle.sbl_machine.specs.Meaning.{Offer, offer, offers}
 use Rattle.sbl_machine.specs.Moves.{characters}
-use Rattle.sbl_machine.specs.Numbered.{change_of, relation_of}
-use Rattle.sbl_machine.specs.NumberedAmongs.{strings_in, strings_behind, condition_of, entries_in, entries_behind}
-use Rattle.sbl_machine.specs.NumberedNames.{Names, number_of}
-use Rattle.sbl_machine.specs.NumberedNumbers.{text, constant, added, scaled, expression, with_sums, product, with_scales, factor}
+use Rattle.sbl_program.specs.Numbered.{change_of, relation_of}
+use Rattle.sbl_program.specs.NumberedAmongs.{strings_in, strings_behind, condition_of, entries_in, entries_behind}
+use Rattle.sbl_program.specs.NumberedNames.{Names, number_of}
+use Rattle.sbl_program.specs.NumberedNumbers.{text, constant, added, scaled, expression, with_sums, product, with_scales, factor}
 use Rattle.sbl_machine.specs.Numbers.{Value, value, fitted, with_value, changed, holds, integer_at}
-use Rattle.sbl_machine.specs.Plan as plan
-use Rattle.sbl_machine.specs.Regions.{Among}
+use Rattle.sbl_program.specs.Plan as plan
+use Rattle.sbl_program.specs.Regions.{Among}
 use Rattle.sbl_machine.specs.Search.{bound_in, choose, condition_does, try_one, tries, search_all}
 use Rattle.sbl_machine.specs.Standing.{Standing, Ending, Signals, Doing, after, mark, place_after, then_on, pay}
-use Rattle.sbl_machine.proofs.SoundItems.{less_suc, number_is}
+use Rattle.sbl_program.proofs.SoundItems.{less_suc, placed_by}
 use Rattle.sbl_script.specs.declared.marks.Mode.{Mode}
 
 pub changed_same : (o : Assignment) → changed (change_of o) ≡ meaning.altered o
@@ -60,9 +60,6 @@ pub record Agree (ns : Names) (known : Known) : Type 0 where
   pub integers : ns.integers ≡ known.integers
   pub booleans : ns.booleans ≡ known.booleans
   pub groupings : ns.groupings ≡ known.groupings
-
-pub placed_by : (xs ys : List (List ℕ)) (n : List ℕ) → xs ≡ ys → number_of xs n ≡ place_of ys n
-placed_by xs ys n e = number_is xs n ∙ ap (λ zs. place_of zs n) e
 
 module _ (ns : Names) (known : Known) (agree : Agree ns known) where
   pub text_same : (a : trees.Argument) (s : Standing) → characters (text ns a) s ≡ meaning.text known a s

@@ -1,24 +1,20 @@
 -- A run of the numbered script is a run of the script.
-use Rattle.std.proofs.Common.{◌≡◌, ℕ, zero, suc, Bool, List, [], Option, Some, None, option_map, refl, sym, ap, ◌∙◌}
-use Rattle.std.specs.Prelude.{slice_get, slice_index_or}
+use Rattle.std.proofs.Common.{◌≡◌, ℕ, zero, suc, Bool, List, [], Option, Some, None, option_map, refl, ap, ◌∙◌}
 use Rattle.std.proofs.Math.Path.{fun_ext}
-use Rattle.sbl_machine.specs.Ahead.{routines_in}
-use Rattle.sbl_machine.specs.Items.{Known, Placed, Body, in_order, known_in, class_of, classes_behind, body_named}
+use Rattle.sbl_program.specs.Items.{Known, Placed, Body, in_order, known_in, class_of, classes_behind, body_named}
 use Rattle.sbl_machine.specs.Meaning as meaning
-use Rattle.sbl_machine.specs.Numbered.{numbered_script, plan_in, plan_with}
-use Rattle.sbl_machine.specs.NumberedNames.{Names, names_behind, no_names, number_of}
-use Rattle.sbl_machine.specs.NumberedSets.{has, sets_behind}
+use Rattle.sbl_program.specs.Numbered.{numbered_script, plan_in, plan_with}
+use Rattle.sbl_program.specs.NumberedNames.{Names, names_behind, no_names, number_of}
 use Rattle.sbl_machine.specs.Outcome.{ending_of, start}
-use Rattle.sbl_machine.specs.Plan as plan
-use Rattle.sbl_machine.specs.Regions.{behind, behind_others}
+use Rattle.sbl_program.specs.Plan as plan
+use Rattle.sbl_program.specs.Regions.{behind, behind_others}
 use Rattle.sbl_machine.specs.Run as run
 use Rattle.sbl_machine.specs.Run.{enter, leave, paid, does}
 use Rattle.sbl_machine.specs.Standing.{Standing, Doing}
-use Rattle.sbl_machine.specs.Sound.{RoutineIsItsOwn, SetsAreClasses, names_in}
-use Rattle.sbl_machine.proofs.Coming.{own_is_made}
 use Rattle.sbl_machine.proofs.SoundActs.{row_sound}
-use Rattle.sbl_machine.proofs.SoundItems.{placed_is, strings_are, integers_are, booleans_are, groupings_are, routines_are, routine_names, sets_are, as_made, body_at}
-use Rattle.sbl_machine.proofs.SoundParts.{Agree, placed_by}
+use Rattle.sbl_program.proofs.SoundItems.{placed_is, strings_are, integers_are, booleans_are, groupings_are, as_made}
+use Rattle.sbl_machine.proofs.SoundParts.{Agree}
+use Rattle.sbl_program.proofs.Own.{class_same, routine_same}
 use Rattle.sbl_script.specs.Parsed.{Source}
 use Rattle.sbl_script.specs.declared.marks.Mode.{Mode}
 use Rattle.sbl_script.specs.declared.marks.Mode.TheVariants.{Forward}
@@ -44,24 +40,15 @@ module _ (items : List Placed) (external : List ℕ) where
     groupings = groupings_are items no_names;
   }
 
-  class_same : (n : List ℕ) (c : ℕ) → has (slice_index_or (sets_behind ns items []) (number_of ns.groupings n) []) c ≡ class n c
-  class_same n c = sets_are ns items (groupings_are items no_names) n c
-
-  routine_same : (n : List ℕ) → slice_get program.routines (number_of ns.routines n) ≡ option_map (as_made ns) (body_named items n)
-  routine_same n =
-      ap (λ rs. slice_get rs (number_of ns.routines n)) (own_is_made ns items)
-      ∙ ap (λ i. slice_get (routines_in ns items) i) (placed_by ns.routines (routine_names items) n (routines_are items no_names))
-      ∙ body_at ns items n
-
   body_same : (call : ℕ → Doing) (call' : List ℕ → Doing) (o : Option Body) (m : Mode) (s : Standing) → ((n : List ℕ) → call (number_of ns.routines n) ≡ call' n) → run.body_does (does program.groupings call) (option_map (as_made ns) o) m s ≡ meaning.body_does known class call' o m s
   body_same call call' None m s h = refl
   body_same call call' (Some b) m s h =
-      ap (λ d. leave s.choices (paid d m (enter (behind_others b.others (behind b.first 0)) s))) (row_sound ns known agree program.groupings class call call' class_same h b.mode b.first b.others)
+      ap (λ d. leave s.choices (paid d m (enter (behind_others b.others (behind b.first 0)) s))) (row_sound ns known agree program.groupings class call call' (class_same items external) h b.mode b.first b.others)
 
   calls_same : (l : ℕ) (n : List ℕ) (m : Mode) (s : Standing) → run.calls program l (number_of ns.routines n) m s ≡ meaning.calls known class (body_named items) l n m s
   calls_same zero n m s = refl
   calls_same (suc l) n m s =
-      ap (λ o. run.body_does (does program.groupings (run.calls program l)) o m s) (routine_same n)
+      ap (λ o. run.body_does (does program.groupings (run.calls program l)) o m s) (routine_same items external n)
       ∙ body_same (run.calls program l) (meaning.calls known class (body_named items) l) (body_named items n) m s (λ n. fun_ext (λ m. fun_ext (λ s. calls_same l n m s)))
 
   abbrev known_by : List (List ℕ) → List (List ℕ) → List (List ℕ) → List (List ℕ) → Known
@@ -85,22 +72,3 @@ unfolding numbered_script meaning.ending
 ending_same script word limit =
     ap (λ items. ending_of (plan_in items script.external) word limit) (placed_is script.items)
     ∙ by_items (in_order script.items) script.external word limit
-
-program_is : (script : Source) → numbered_script script ≡ plan_in (in_order script.items) script.external
-unfolding numbered_script
-program_is script = ap (λ items. plan_in items script.external) (placed_is script.items)
-
-pub routine_is_its_own : RoutineIsItsOwn
-routine_is_its_own s s' n e h =
-    let i = number_of (names_in s).routines n in
-    let i' = number_of (names_in s').routines n in
-    ap (λ (p : plan.Plan). slice_get p.routines i) (program_is s)
-    ∙ routine_same (in_order s.items) s.external n
-    ∙ ap (λ ns. option_map (as_made ns) (body_named (in_order s.items) n)) e
-    ∙ ap (option_map (as_made (names_in s'))) h
-    ∙ sym (ap (λ (p : plan.Plan). slice_get p.routines i') (program_is s') ∙ routine_same (in_order s'.items) s'.external n)
-
-pub sets_are_classes : SetsAreClasses
-sets_are_classes script n c =
-    ap (λ (p : plan.Plan). has (slice_index_or p.groupings (number_of (names_in script).groupings n) []) c) (program_is script)
-    ∙ class_same (in_order script.items) script.external n c

@@ -2,7 +2,7 @@
 use Rattle.std.specs.Prelude.{ℕ, true, false, List, [], slice_index_or}
 use Rattle.sbl_machine.specs.Moves.{characters, match, one_of, next, hop, at_limit, set_mark, at_mark, to_mark, set_boolean, test_boolean}
 use Rattle.sbl_machine.specs.Numbers.{value, natural, given, assign, compare}
-use Rattle.sbl_machine.specs.Plan as plan
+use Rattle.sbl_program.specs.Plan as plan
 use Rattle.sbl_machine.specs.Slices.{left_bracket, right_bracket, replace, keep, insert, attach}
 use Rattle.sbl_machine.specs.Standing.{Standing, Ending, Signals, to_limit}
 use Rattle.sbl_script.specs.declared.marks.Mode.{Mode}

@@ -2,12 +2,13 @@
 use Rattle.std.specs.Prelude.{◌≡◌, ℕ, List, slice_get}
 use Rattle.sbl_script.specs.declared.marks.Mode.{Mode}
 use Rattle.sbl_machine.specs.declared.machine.Machine.{Machine}
-use Rattle.sbl_machine.specs.Listed.{Listed, listed_by}
-use Rattle.sbl_machine.specs.declared.linked.LinkedTable.{LinkedTable}
-use Rattle.sbl_machine.specs.Numbered.{numbered_script}
-use Rattle.sbl_machine.specs.Plan.{Plan}
-use Rattle.sbl_machine.specs.PlanOf.{plan_of}
-use Rattle.sbl_machine.specs.LinkedStrings.{entries_of, mode_of}
+use Rattle.sbl_program.specs.Listed.{Listed}
+use Rattle.sbl_machine.specs.Listing.{listed_by}
+use Rattle.sbl_tables.specs.declared.linked.LinkedTable.{LinkedTable}
+use Rattle.sbl_program.specs.Numbered.{numbered_script}
+use Rattle.sbl_program.specs.Plan.{Plan}
+use Rattle.sbl_program.specs.PlanOf.{plan_of}
+use Rattle.sbl_tables.specs.LinkedStrings.{entries_of, mode_of}
 use Rattle.sbl_script.specs.Parsed.{Source}
 
 -- the strings of a machine's amongs, by number

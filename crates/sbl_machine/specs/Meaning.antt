@@ -28,11 +28,11 @@ use Rattle.sbl_grammar.specs.declared.tree.Comparison.TheVariants as comparisons
 use Rattle.sbl_grammar.specs.Tree as trees
 use Rattle.sbl_grammar.specs.Tree.{bracket, single, quoted, called, excluded, prefixed, counted, moved, named, edited, limited, assigned, compared, values_compared, chosen, no_rows, row, no_others, joined, no_starter, starter, bare, group}
 use Rattle.std.specs.Cmp.Lexicographic.{pointwise}
-use Rattle.sbl_machine.specs.Fitting.{read_as, ahead_at}
-use Rattle.sbl_machine.specs.Items.{Known, Body, is_among, place_of, body_named, class_of, classes_behind, in_order, known_in}
+use Rattle.sbl_tables.specs.Fitting.{read_as, ahead_at}
+use Rattle.sbl_program.specs.Items.{Known, Body, is_among, place_of, body_named, class_of, classes_behind, in_order, known_in}
 use Rattle.sbl_machine.specs.Moves.{match, next, hop, at_limit, set_mark, at_mark, to_mark, set_boolean, test_boolean}
 use Rattle.sbl_machine.specs.Numbers.{Value, natural, given, fitted, divided, with_value, with_both, limit_value, integer_at}
-use Rattle.sbl_machine.specs.Regions.{Among, among_at, behind, behind_rows, behind_others, behind_starter, first, first_rows, first_others, mode_behind, waits, waits_others}
+use Rattle.sbl_program.specs.Regions.{Among, among_at, behind, behind_rows, behind_others, behind_starter, first, first_rows, first_others, mode_behind, waits, waits_others}
 use Rattle.sbl_machine.specs.Run.{turns, times, count_of, seeks, limits, limited as within, limit_here, backwards_from, backwards_end, chosen as go_on, enter, leave, paid}
 use Rattle.sbl_machine.specs.Search.{choose, choice, bound_in}
 use Rattle.sbl_machine.specs.Slices.{left_bracket, right_bracket, replace, keep, insert, attach}

@@ -1,8 +1,8 @@
 -- Moving and testing: what each of these commands does once its step is paid.
 use Rattle.std.specs.Prelude.{ℕ, pos, ◌+◌, Bool, true, false, not, ◌&&◌, List, [], length, nat_lt, nat_le, nat_eq, if◌then◌else◌, Option, Some, None, slice_get, slice_index_or, slice_set}
 use Rattle.std.specs.List.{starts_with, list_any}
-use Rattle.sbl_machine.specs.Fitting.{read_as}
-use Rattle.sbl_machine.specs.Plan as plan
+use Rattle.sbl_tables.specs.Fitting.{read_as}
+use Rattle.sbl_program.specs.Plan as plan
 use Rattle.sbl_machine.specs.Standing.{Standing, Ending, Signals, ahead, moved, room}
 use Rattle.sbl_script.specs.declared.marks.Mode.{Mode}
 use Rattle.sbl_script.specs.declared.marks.Mode.TheVariants.{Forward, Backward}

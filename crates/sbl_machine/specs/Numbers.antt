@@ -1,14 +1,14 @@
 -- Numbers: what an arithmetic expression is worth, and what is done with it.
 use Rattle.std.specs.Prelude.{ℕ, ℤ, pos, negsuc, ◌+ℤ◌, ◌-ℤ◌, ◌*ℤ◌, neg_ℤ, ◌^◌, Bool, true, not, length, nat_lt, int_lt, int_div, if◌then◌else◌, Result, Ok, Err, Option, Some, None, slice_index_or, slice_set}
 use Rattle.std.specs.Ordering.{int_eq}
-use Rattle.sbl_machine.specs.declared.action.Change.{Change}
-use Rattle.sbl_machine.specs.declared.action.Change.TheVariants.{Becomes, Plus, Minus, Times, Over}
-use Rattle.sbl_machine.specs.declared.action.Relation.{Relation}
-use Rattle.sbl_machine.specs.declared.action.Relation.TheVariants.{Equal, Unequal, Less, LessOrEqual, Greater, GreaterOrEqual}
+use Rattle.sbl_program.specs.declared.action.Change.{Change}
+use Rattle.sbl_program.specs.declared.action.Change.TheVariants.{Becomes, Plus, Minus, Times, Over}
+use Rattle.sbl_program.specs.declared.action.Relation.{Relation}
+use Rattle.sbl_program.specs.declared.action.Relation.TheVariants.{Equal, Unequal, Less, LessOrEqual, Greater, GreaterOrEqual}
 use Rattle.sbl_machine.specs.declared.fault.RunFault.{RunFault}
 use Rattle.sbl_machine.specs.declared.fault.RunFault.TheVariants as faults
 use Rattle.sbl_machine.specs.Moves.{characters}
-use Rattle.sbl_machine.specs.Plan as plan
+use Rattle.sbl_program.specs.Plan as plan
 use Rattle.sbl_machine.specs.Standing.{Standing, Ending, Signals, Stops}
 use Rattle.sbl_script.specs.declared.marks.Mode.{Mode}
 use Rattle.sbl_script.specs.declared.marks.Mode.TheVariants.{Forward, Backward}

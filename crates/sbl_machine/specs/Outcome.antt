@@ -5,7 +5,7 @@ use Rattle.sbl_machine.specs.declared.fault.RunFault.TheVariants as faults
 use Rattle.sbl_machine.specs.declared.outcome.Outcome.{Outcome}
 use Rattle.sbl_machine.specs.declared.outcome.Outcome.TheVariants as code
 use Rattle.sbl_machine.specs.Meaning.{ending}
-use Rattle.sbl_machine.specs.Plan as plan
+use Rattle.sbl_program.specs.Plan as plan
 use Rattle.sbl_machine.specs.Run.{calls}
 use Rattle.sbl_machine.specs.Standing.{Standing, Ending, Signals, Stops}
 use Rattle.sbl_script.specs.Parsed.{Source}

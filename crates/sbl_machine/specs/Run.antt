@@ -5,7 +5,7 @@ use Rattle.sbl_machine.specs.declared.state.Limits.{Limits}
 use Rattle.sbl_machine.specs.Actions.{acts}
 use Rattle.sbl_machine.specs.Moves.{next}
 use Rattle.sbl_machine.specs.Numbers.{value, given}
-use Rattle.sbl_machine.specs.Plan as plan
+use Rattle.sbl_program.specs.Plan as plan
 use Rattle.sbl_machine.specs.Search.{choice, search_all}
 use Rattle.sbl_machine.specs.Standing.{Standing, Ending, Signals, Stops, Doing, after, then_on, pay, at_place, to_limit, mark, put_back}
 use Rattle.sbl_script.specs.declared.marks.Mode.{Mode}

@@ -1,7 +1,8 @@
 -- The search of an among.
 use Rattle.std.specs.Prelude.{ℕ, true, false, List, [], ◌∷◌, length, nat_lt, if◌then◌else◌, Option, Some, None, slice_get, slice_index_or, slice_set}
-use Rattle.sbl_machine.specs.declared.node.Entry.{Entry}
-use Rattle.sbl_machine.specs.Listed.{Listed, fits_at}
+use Rattle.sbl_program.specs.declared.node.Entry.{Entry}
+use Rattle.sbl_program.specs.Listed.{Listed}
+use Rattle.sbl_machine.specs.Listing.{fits_at}
 use Rattle.sbl_machine.specs.Standing.{Standing, Ending, Signals, Doing, after, then_on, pay, mark, limit_of, place_after}
 use Rattle.sbl_script.specs.declared.marks.Mode.{Mode}
 use Rattle.sbl_script.specs.declared.marks.Mode.TheVariants.{Forward, Backward}

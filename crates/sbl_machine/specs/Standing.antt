@@ -3,7 +3,7 @@ use Rattle.std.specs.Prelude.{ℕ, ℤ, zero, suc, ◌+◌, ◌-◌, Bool, true,
 use Rattle.sbl_machine.specs.declared.fault.RunFault.{RunFault}
 use Rattle.sbl_machine.specs.declared.fault.RunFault.TheVariants.{Steps, Cursor}
 use Rattle.sbl_machine.specs.declared.state.Mark.{Mark}
-use Rattle.sbl_machine.specs.Fitting.{ahead_at}
+use Rattle.sbl_tables.specs.Fitting.{ahead_at}
 use Rattle.sbl_script.specs.declared.marks.Mode.{Mode}
 use Rattle.sbl_script.specs.declared.marks.Mode.TheVariants.{Forward, Backward}
 

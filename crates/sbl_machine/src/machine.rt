@@ -7,18 +7,17 @@ ghost use Rattle.sbl_machine.specs.Outcome.{outcome_at, outcome_of, run_of, used
 ghost use Rattle.sbl_script.specs.Parsed.{Source, source_of};
 ghost use Rattle.sbl_machine.specs.Standing.{Ending};
 
-use crate::copies::copied;
 use crate::fault::{RunFault, RunStop};
 use crate::halt::Halt;
 use crate::meter::Meter;
-use crate::node::Program;
-use crate::numbering::program::{Made, numbered, tables_of};
 use crate::outcome::{Outcome, Ran};
 use crate::run::run_call;
-use crate::search::AmongSearch;
 use crate::state::State;
-use crate::table::TableList;
+use crate::table::{TableList, tables_of};
+use sbl_program::node::Program;
+use sbl_program::{Made, numbered};
 use sbl_script::{Mode, Script};
+use sbl_tables::AmongSearch;
 use std::alloc::{AllocError, Global};
 
 /// How deep the calls of routines may go, the external counted as one.
@@ -118,7 +117,7 @@ fn ended(
             }),
         },
         Ok(_) => Ok(Ran {
-            outcome: Outcome::Stem(copied(alloc, state.text())?),
+            outcome: Outcome::Stem(state.text().to_vec(alloc)?),
             used: paid,
         }),
     }

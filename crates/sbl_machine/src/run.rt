@@ -3,17 +3,17 @@
 ghost use Rattle.std.specs.Prelude.{◌≡◌, ◌+◌, ◌<◌, ◌≤◌, Bool, false, suc, IfOk, slice_get};
 ghost use Rattle.sbl_machine.specs.Kept.{Follows, Tried};
 ghost use Rattle.sbl_machine.specs.Numbers.{value, given};
-ghost use Rattle.sbl_machine.specs.PlanOf.{plan_of, view_node, view_nodes, view_number};
+ghost use Rattle.sbl_program.specs.PlanOf.{plan_of, view_node, view_nodes, view_number};
 ghost use Rattle.sbl_machine.specs.Run.{runs, all_run, group_runs, calls, turns, times, count_of, seeks};
 ghost use Rattle.sbl_machine.specs.Search.{choice, search_all, try_one};
 ghost use Rattle.sbl_machine.specs.Standing.{Standing, Ending, Signals, after, then_on, mark, put_back};
 
-use crate::action::Arithmetic;
 use crate::halt::Halt;
-use crate::node::{Entry, Node, Program};
 use crate::state::numbers::count_of;
 use crate::state::{Mark, State};
 use crate::table::Tables;
+use sbl_program::action::Arithmetic;
+use sbl_program::node::{Entry, Node, Program};
 use sbl_script::Mode;
 
 /// Runs a command: its signal, or why it has none.

@@ -1,10 +1,10 @@
 //! The state of a run: its text, the places in it, and its variables.
 
 ghost use Rattle.std.specs.Prelude.{◌≡◌, ℕ, ◌+◌, ◌-◌, ◌<◌, ◌≤◌, ◌^◌, [], length, map, replicate, IfOk};
-ghost use Rattle.sbl_machine.specs.Fitting.{read_as};
+ghost use Rattle.sbl_tables.specs.Fitting.{read_as};
 ghost use Rattle.sbl_machine.specs.Standing.{Standing, pay, at_place, at_difference, to_limit, mark, put_back, step_over, place_after, ahead, room};
-ghost use Rattle.sbl_machine.specs.Listed.{Listed};
-ghost use Rattle.sbl_machine.specs.PlanOf.{plan_of, view_text};
+ghost use Rattle.sbl_program.specs.Listed.{Listed};
+ghost use Rattle.sbl_program.specs.PlanOf.{plan_of, view_text};
 ghost use Rattle.sbl_machine.specs.Moves.{characters};
 ghost use Rattle.sbl_machine.specs.Kept.{Leads};
 ghost use Rattle.sbl_machine.specs.Outcome.{start};
@@ -15,10 +15,9 @@ mod moves;
 pub mod numbers;
 mod slices;
 
-use crate::action::StringTerm;
-use crate::copies::copied;
 use crate::halt::Halt;
-use crate::node::Program;
+use sbl_program::action::StringTerm;
+use sbl_program::node::Program;
 use sbl_script::Mode;
 use std::alloc::{AllocError, Global};
 use std::marker::Model;

@@ -1,10 +1,14 @@
 //! The tables of a script's amongs, by number.
 
-ghost use Rattle.std.specs.Prelude.{◌≡◌, ◌≤◌, ◌++◌, ◌∷◌, List, ℕ, length, slice_get};
-ghost use Rattle.sbl_machine.specs.Fitting.{first};
-ghost use Rattle.sbl_machine.specs.Listed.{Listed, fits_at, listed_by};
+ghost use Rattle.std.specs.Prelude.{◌≡◌, ◌≤◌, ◌++◌, ◌∷◌, List, ℕ, length, map, slice_get, IfOk};
+ghost use Rattle.sbl_tables.specs.Fitting.{first};
+ghost use Rattle.sbl_program.specs.Listed.{Listed};
+ghost use Rattle.sbl_program.specs.NumberedView.{listing_found};
+ghost use Rattle.sbl_machine.specs.Listing.{fits_at, listed_by, listed_of};
 
-use crate::search::AmongSearch;
+use sbl_program::Found;
+use sbl_tables::AmongSearch;
+use std::alloc::{AllocError, Global};
 
 /// Searches of all the amongs of a script.
 pub trait Tables {
@@ -45,4 +49,15 @@ impl<S: AmongSearch> Tables for TableList<S> {
             Some(search) => search.next_shorter(i),
         }
     }
+}
+
+/// A table for each among. AllocError where a growth was refused.
+pub fn tables_of<S: AmongSearch>(alloc: Global, amongs: &[Found]) -> Result<Vec<S>, AllocError>
+    ensures { IfOk result (λ ts. map (listed_of S S.entries S.mode) ts.items ≡ map listing_found amongs.now) }
+{
+    let mut tables = Vec::new(alloc);
+    for among in amongs {
+        tables.push(S::build(alloc, &among.strings, among.mode)?)?;
+    }
+    Ok(tables)
 }

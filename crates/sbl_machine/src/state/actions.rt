@@ -3,13 +3,13 @@
 ghost use Rattle.std.specs.Prelude.{◌≡◌, List, ℕ, [], map, slice_index_or, IfOk};
 ghost use Rattle.sbl_machine.specs.Actions.{acts};
 ghost use Rattle.sbl_machine.specs.Numbers.{value, natural};
-ghost use Rattle.sbl_machine.specs.PlanOf.{view_action};
+ghost use Rattle.sbl_program.specs.PlanOf.{view_action};
 ghost use Rattle.sbl_machine.specs.Kept.{Follows};
 
-use crate::action::Action;
 use crate::halt::Halt;
 use crate::state::State;
 use crate::state::numbers::natural;
+use sbl_program::action::Action;
 use sbl_script::Mode;
 
 impl State {

@@ -1,7 +1,7 @@
 //! What the commands that hold commands need of the state: limits, `backwards`, the choices of amongs, and calls.
 
 ghost use Rattle.std.specs.Prelude.{◌≡◌, ◌≤◌, ◌-◌, ℕ, Option, None, length, IfOk};
-ghost use Rattle.sbl_machine.specs.Fitting.{ahead_at};
+ghost use Rattle.sbl_tables.specs.Fitting.{ahead_at};
 ghost use Rattle.sbl_machine.specs.Kept.{Leads};
 ghost use Rattle.sbl_machine.specs.Run.{limits, limit_here, limit_back, backwards_from, backwards_end, enter};
 ghost use Rattle.sbl_machine.specs.Search.{choose, choice, bound_in};

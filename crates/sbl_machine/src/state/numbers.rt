@@ -3,14 +3,14 @@
 ghost use Rattle.std.specs.Prelude.{◌≡◌, ◌+◌, ◌≤◌, ◌<◌, ◌^◌, ℤ, pos, ◌+ℤ◌, ◌-ℤ◌, ◌*ℤ◌, neg_ℤ, length, SomeIff, FitsSigned, IfOk};
 ghost use Rattle.std.specs.Int.{w32};
 ghost use Rattle.sbl_machine.specs.Numbers.{value, fitted, divided, limit_value, integer_at, changed, holds, assign, compare, natural};
-ghost use Rattle.sbl_machine.specs.PlanOf.{view_number};
+ghost use Rattle.sbl_program.specs.PlanOf.{view_number};
 ghost use Rattle.sbl_machine.specs.Run.{count_of};
 ghost use Rattle.sbl_machine.specs.Kept.{Leads, Follows};
 
-use crate::action::{Arithmetic, Change, Relation};
 use crate::fault::RunFault;
 use crate::halt::Halt;
 use crate::state::State;
+use sbl_program::action::{Arithmetic, Change, Relation};
 use sbl_script::Mode;
 
 impl State {

@@ -3,14 +3,13 @@
 ghost use Rattle.std.specs.Prelude.{◌≡◌, ◌+◌, ◌≤◌, ◌<◌, ◌^◌, [], length, map, slice_set, IfOk};
 ghost use Rattle.std.specs.List.{splice};
 ghost use Rattle.sbl_machine.specs.Slices.{left_bracket, right_bracket, is_slice, shifted, replace, keep, pushed, put_in, insert, attach};
-ghost use Rattle.sbl_machine.specs.PlanOf.{view_text};
+ghost use Rattle.sbl_program.specs.PlanOf.{view_text};
 ghost use Rattle.sbl_machine.specs.Moves.{characters};
 ghost use Rattle.sbl_machine.specs.Kept.{Leads};
 
-use crate::action::StringTerm;
-use crate::copies::copied;
 use crate::halt::Halt;
 use crate::state::{MOST_CHARS, State};
+use sbl_program::action::StringTerm;
 use sbl_script::Mode;
 use std::alloc::AllocError;
 use std::mem;
@@ -106,7 +105,7 @@ impl State {
             return Err(Halt::Slice);
         }
         let alloc = *self.text.allocator();
-        let kept = copied(alloc, &self.text[self.bra..self.ket])?;
+        let kept = self.text[self.bra..self.ket].to_vec(alloc)?;
         set_string(&mut self.strings, number, kept);
         Ok(())
     }

@@ -4,14 +4,14 @@ use Rattle.sbl_machine.specs.Kept.{Follows}
 use Rattle.sbl_machine.specs.Moves.{next}
 use Rattle.sbl_machine.proofs.Arms.{by_fault, stops_at, either_way, turn_is, time_stops, sequence_does, not_does, test_does, try_does, do_does, fail_does, backwards_does, follows_at, repeat_does, loop_does, atleast_does, or_does, and_does, goto_does, gopast_does, setlimit_does, limited_signals, limited_halts, one_time, search_does, among_does, nth_is, nth_past, one_turn, one_try, one_more, halted, called, leave_signals, leave_halts, after_halts}
 use Rattle.sbl_machine.specs.Standing.{Standing, Ending, Signals, after, then_on, mark, put_back}
-use Rattle.sbl_machine.specs.declared.node.Node.{Node}
-use Rattle.sbl_machine.specs.declared.node.Routine.{Routine}
-use Rattle.sbl_machine.specs.PlanOf.{plan_of, view_node, view_nodes, view_number, view_routine}
+use Rattle.sbl_program.specs.declared.node.Node.{Node}
+use Rattle.sbl_program.specs.declared.node.Routine.{Routine}
+use Rattle.sbl_program.specs.PlanOf.{plan_of, view_node, view_nodes, view_number, view_routine}
 use Rattle.sbl_machine.specs.Run.{backwards_from, backwards_end, runs, all_run, group_runs, nth_runs, calls, turns, times, seeks, count_of, enter, limits, limited, limit_here, limit_back}
 use Rattle.sbl_machine.specs.Numbers.{value, given}
 use Rattle.sbl_machine.specs.Search.{tries, try_one, search_all, bound_in, choice}
-use Rattle.sbl_machine.specs.Listed.{fits_at}
-use Rattle.sbl_machine.specs.Fitting.{first}
+use Rattle.sbl_machine.specs.Listing.{fits_at}
+use Rattle.sbl_tables.specs.Fitting.{first}
 use Rattle.sbl_script.specs.declared.marks.Mode.TheVariants.{Backward}
 use Rattle.sbl_machine.proofs.run.+run.Goals as goal
 

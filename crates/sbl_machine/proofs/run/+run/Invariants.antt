@@ -1,8 +1,8 @@
 use Rattle.std.proofs.Common.{◌≡◌, ℕ, suc, ◌+◌, ◌*◌, ◌≤◌, ◌++◌, drop}
 use Rattle.std.specs.Prelude.{List}
-use Rattle.sbl_machine.specs.Fitting.{first}
-use Rattle.sbl_machine.specs.Listed.{fits_at}
-use Rattle.sbl_machine.specs.PlanOf.{plan_of, view_node, view_nodes}
+use Rattle.sbl_tables.specs.Fitting.{first}
+use Rattle.sbl_machine.specs.Listing.{fits_at}
+use Rattle.sbl_program.specs.PlanOf.{plan_of, view_node, view_nodes}
 use Rattle.sbl_machine.specs.Run.{runs, all_run, calls, turns, times, seeks}
 use Rattle.sbl_machine.specs.Search.{tries, search_all, bound_in}
 use Rattle.sbl_machine.proofs.run.+run.Given as goal

@@ -1,8 +1,8 @@
 use Rattle.std.proofs.Common.{map, ap, ◌∙◌, ℕ}
-use Rattle.sbl_machine.specs.Listed.{Listed}
+use Rattle.sbl_program.specs.Listed.{Listed}
 use Rattle.sbl_machine.specs.MachineOf.{IsMachineOf}
-use Rattle.sbl_machine.specs.NumberedView.{listing_found}
-use Rattle.sbl_machine.specs.PlanOf.{plan_of}
+use Rattle.sbl_program.specs.NumberedView.{listing_found}
+use Rattle.sbl_program.specs.PlanOf.{plan_of}
 use Rattle.sbl_machine.proofs.NumberingTables.{same_tables}
 use Rattle.sbl_machine.proofs.machine.Machine.new.Goals as goal
 

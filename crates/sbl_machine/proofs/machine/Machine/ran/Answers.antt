@@ -2,7 +2,7 @@ use Rattle.std.proofs.Common.{ap, ◌∙◌, Ok}
 use Rattle.sbl_script.specs.declared.marks.Mode.TheVariants.{Forward}
 use Rattle.sbl_machine.specs.MachineOf.{IsMachineOf, listed_in, machine_plan}
 use Rattle.sbl_machine.specs.Outcome.{ending_of, run_of, used_of}
-use Rattle.sbl_machine.specs.Plan.{Plan}
+use Rattle.sbl_program.specs.Plan.{Plan}
 use Rattle.sbl_machine.specs.Run.{calls}
 use Rattle.sbl_machine.proofs.SoundRuns.{ending_same}
 use Rattle.sbl_machine.proofs.Ended.{same_outcome, same_used}

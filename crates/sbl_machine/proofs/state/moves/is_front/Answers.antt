@@ -1,5 +1,5 @@
 use Rattle.std.proofs.Common.{◌∙◌}
-use Rattle.sbl_machine.proofs.Mirror.{ends_with-mirror}
+use Rattle.sbl_tables.proofs.Mirror.{ends_with-mirror}
 use Rattle.sbl_machine.proofs.state.moves.is_front.Goals as goal
 
 pub returns-in-Backward-clause-value : goal.returns-in-Backward-clause-value

@@ -1,7 +1,0 @@
-use Rattle.std.proofs.Common.{rules}
-use Rattle.sbl_machine.specs.Numbered.{numbered_script}
-use Rattle.sbl_machine.proofs.numbering.program.numbered.Goals as goal
-
-pub returns : goal.returns
-unfolding numbered_script
-returns c = search rules

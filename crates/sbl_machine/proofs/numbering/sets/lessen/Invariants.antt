@@ -1,6 +1,0 @@
-use Rattle.std.proofs.Common.{◌≡◌, drop, []}
-use Rattle.sbl_machine.specs.NumberedSets.{lessened}
-use Rattle.sbl_machine.proofs.numbering.sets.lessen.Given as goal
-
-abbrev pub invariant-loop-c : goal.invariant-loop-c
-invariant-loop-c l = lessened (drop l.c-index l.set) l.less l.left.items ≡ lessened l.set l.less []

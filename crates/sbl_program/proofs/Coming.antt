@@ -1,0 +1,651 @@
+-- Numbering by the list of the amongs that are still to come is the one that looks ahead.
+use Rattle.std.proofs.lemmas.Bool.{lt-ltb, ltb-true}
+use Rattle.std.proofs.lemmas.Option.{none-some}
+use Rattle.sbl_program.specs.Laws.{OwnIsMade}
+use Rattle.std.proofs.Common.{◌≡◌, ◌≤◌, lt_irrefl, ℕ, suc, Bool, true, false, List, [], ◌∷◌, ◌++◌, refl, sym, ap, ◌∙◌, drop, length, ◌+◌, append_assoc, append-nil, arith}
+use Rattle.sbl_script.specs.declared.marks.Mode.{Mode}
+use Rattle.sbl_grammar.specs.declared.tree.Joiner.{Joiner}
+use Rattle.std.specs.Prelude.{if◌then◌else◌, ◌-◌, nat_lt, Option, Some, None, option_map}
+use Rattle.sbl_grammar.specs.declared.tree.Simple.{Simple}
+use Rattle.sbl_grammar.specs.declared.tree.Simple.TheVariants as simples
+use Rattle.sbl_program.specs.Ahead.{found_as, search_of, search_then, search_next as search_by, simple_by, made, made_rows, made_others, made_starter, made_groups, routine_made, routine_in, routines_in}
+use Rattle.sbl_program.specs.NumberedAmongs.{Found, found_of, found, found_rows, found_others, found_starter, found_groups, found_plain, found_behind}
+use Rattle.sbl_program.specs.NumberedNames.{Names, Placed}
+use Rattle.sbl_program.specs.Regions.{Among, among_at, mode_behind, behind, behind_rows, behind_others, behind_starter, behind_groups, first, first_rows, first_others, waits_simple, waits, waits_rows, waits_others}
+use Rattle.sbl_program.specs.NumberedNumbers.{expression}
+use Rattle.sbl_program.specs.Numbered.{Place, next_of, inside, closed, past, past_simple, past_rows, past_others, past_starter, past_groups, past_body, past_plain, begun, region, body_begun, search_next, simple, behind_prefix, behind_count, join, numbered, numbered_rows, numbered_others, numbered_starter, numbered_groups, routine_of, with_routine, routines_behind}
+use Rattle.sbl_program.specs.PlanOf.{commands_of}
+use Rattle.sbl_program.specs.Plan as plan
+use Rattle.sbl_grammar.specs.Tree.{Tree, Rows, Others, Starter, Groups, Plain, declaration, escapes, macro, routine, grouping, bracket, single, quoted, called, excluded, prefixed, counted, moved, named, edited, limited, assigned, compared, values_compared, chosen, no_rows, row, no_others, joined, no_starter, starter, bare, group}
+
+module _ (ns : Names) where
+  abbrev mutual
+    -- the amongs of a command before which there are k, in front of others
+    pub founds : Mode → Tree → ℕ → List Found → List Found
+    founds m (bracket rs) k rest = founds_rows m rs k rest
+    founds m (prefixed x c) k rest = founds (mode_behind x m) c k rest
+    founds m (counted x e c) k rest = founds m c k rest
+    founds m (limited b c) k rest = founds m b k (founds m c (behind b k) rest)
+    founds m (chosen s gs) k rest = found_as ns (among_at m k gs) ∷ founds_starter m s (suc k) (founds_groups m gs (behind_starter s (suc k)) rest)
+    founds m (quoted q) k rest = rest
+    founds m (called n) k rest = rest
+    founds m (excluded b n) k rest = rest
+    founds m (moved x e) k rest = rest
+    founds m (named x n) k rest = rest
+    founds m (edited x a) k rest = rest
+    founds m (assigned n o e) k rest = rest
+    founds m (compared n o e) k rest = rest
+    founds m (values_compared e o f) k rest = rest
+    founds m (single s) k rest = rest
+
+    pub founds_rows : Mode → Rows → ℕ → List Found → List Found
+    founds_rows m no_rows k rest = rest
+    founds_rows m (row c os rs) k rest = founds m c k (founds_others m os (behind c k) (founds_rows m rs (behind_others os (behind c k)) rest))
+
+    pub founds_others : Mode → Others → ℕ → List Found → List Found
+    founds_others m no_others k rest = rest
+    founds_others m (joined j c os) k rest = founds m c k (founds_others m os (behind c k) rest)
+
+    pub founds_starter : Mode → Starter → ℕ → List Found → List Found
+    founds_starter m no_starter k rest = rest
+    founds_starter m (starter rs) k rest = founds_rows m rs k rest
+
+    pub founds_groups : Mode → Groups → ℕ → List Found → List Found
+    founds_groups m (bare es) k rest = rest
+    founds_groups m (group e es rs gs) k rest = founds_rows m rs k (founds_groups m gs (behind_rows rs k) rest)
+
+  -- ---- they are no fewer with a command in front
+
+  mutual
+    longer : (t : Tree) (m : Mode) (k b : ℕ) (rest : List Found) → b ≤ length rest → b ≤ length (founds m t k rest)
+    longer (bracket rs) m k b rest l = longer_rows rs m k b rest l
+    longer (prefixed x c) m k b rest l = longer c (mode_behind x m) k b rest l
+    longer (counted x e c) m k b rest l = longer c m k b rest l
+    longer (limited c d) m k b rest l = longer c m k b _ (longer d m (behind c k) b rest l)
+    longer (chosen s gs) m k b rest l =
+        let h = longer_starter s m (suc k) b _ (longer_groups gs m (behind_starter s (suc k)) b rest l) in
+        omega (arith, h)
+    longer (quoted q) m k b rest l = l
+    longer (called n) m k b rest l = l
+    longer (excluded x n) m k b rest l = l
+    longer (moved x e) m k b rest l = l
+    longer (named x n) m k b rest l = l
+    longer (edited x a) m k b rest l = l
+    longer (assigned n o e) m k b rest l = l
+    longer (compared n o e) m k b rest l = l
+    longer (values_compared e o f) m k b rest l = l
+    longer (single s) m k b rest l = l
+
+    longer_rows : (rs : Rows) (m : Mode) (k b : ℕ) (rest : List Found) → b ≤ length rest → b ≤ length (founds_rows m rs k rest)
+    longer_rows no_rows m k b rest l = l
+    longer_rows (row c os rs) m k b rest l = longer c m k b _ (longer_others os m (behind c k) b _ (longer_rows rs m (behind_others os (behind c k)) b rest l))
+
+    longer_others : (os : Others) (m : Mode) (k b : ℕ) (rest : List Found) → b ≤ length rest → b ≤ length (founds_others m os k rest)
+    longer_others no_others m k b rest l = l
+    longer_others (joined j c os) m k b rest l = longer c m k b _ (longer_others os m (behind c k) b rest l)
+
+    longer_starter : (s : Starter) (m : Mode) (k b : ℕ) (rest : List Found) → b ≤ length rest → b ≤ length (founds_starter m s k rest)
+    longer_starter no_starter m k b rest l = l
+    longer_starter (starter rs) m k b rest l = longer_rows rs m k b rest l
+
+    longer_groups : (gs : Groups) (m : Mode) (k b : ℕ) (rest : List Found) → b ≤ length rest → b ≤ length (founds_groups m gs k rest)
+    longer_groups (bare es) m k b rest l = l
+    longer_groups (group e es rs gs) m k b rest l = longer_rows rs m k b _ (longer_groups gs m (behind_rows rs k) b rest l)
+
+  -- ---- the next of them, if it stands in the region, is the first ahead
+
+  -- the next of some, where so many stand behind the region
+  abbrev ahead_in : ℕ → List Found → Option Found
+  ahead_in b xs = if nat_lt b (length xs) then Some (next_of xs) else None
+
+  less_is : (b n : ℕ) → b ≤ n → nat_lt b (suc n) ≡ true
+  less_is b n l = lt-ltb b (suc n) (omega (arith, l))
+
+  not_less : (n : ℕ) (b : Bool) → nat_lt n n ≡ b → nat_lt n n ≡ false
+  not_less n true e = absurd (lt_irrefl n (ltb-true n n e))
+  not_less n false e = e
+
+  same_is : (n : ℕ) → nat_lt n n ≡ false
+  same_is n = not_less n (nat_lt n n) refl
+
+  none_ahead : (rest : List Found) → ahead_in (length rest) rest ≡ None
+  none_ahead rest = ap (λ b. if b then Some (next_of rest) else None) (same_is (length rest))
+
+  one_ahead : (b : ℕ) (f : Found) (fs : List Found) → b ≤ length fs → ahead_in b (f ∷ fs) ≡ Some f
+  one_ahead b f fs l = ap (λ t. if t then Some f else None) (less_is b (length fs) l)
+
+  mutual
+    head_is : (t : Tree) (m : Mode) (k b : ℕ) (rest : List Found) (n : Option Among) → b ≤ length rest → ahead_in b rest ≡ option_map (found_as ns) n → ahead_in b (founds m t k rest) ≡ option_map (found_as ns) (first m t k n)
+    head_is (bracket rs) m k b rest n l h = head_rows rs m k b rest n l h
+    head_is (prefixed x c) m k b rest n l h = head_is c (mode_behind x m) k b rest n l h
+    head_is (counted x e c) m k b rest n l h = head_is c m k b rest n l h
+    head_is (limited c d) m k b rest n l h = head_is c m k b _ _ (longer d m (behind c k) b rest l) (head_is d m (behind c k) b rest n l h)
+    head_is (chosen s gs) m k b rest n l h =
+        one_ahead b (found_as ns (among_at m k gs)) _ (longer_starter s m (suc k) b _ (longer_groups gs m (behind_starter s (suc k)) b rest l))
+    head_is (quoted q) m k b rest n l h = h
+    head_is (called x) m k b rest n l h = h
+    head_is (excluded x y) m k b rest n l h = h
+    head_is (moved x e) m k b rest n l h = h
+    head_is (named x y) m k b rest n l h = h
+    head_is (edited x a) m k b rest n l h = h
+    head_is (assigned x o e) m k b rest n l h = h
+    head_is (compared x o e) m k b rest n l h = h
+    head_is (values_compared e o f) m k b rest n l h = h
+    head_is (single s) m k b rest n l h = h
+
+    head_rows : (rs : Rows) (m : Mode) (k b : ℕ) (rest : List Found) (n : Option Among) → b ≤ length rest → ahead_in b rest ≡ option_map (found_as ns) n → ahead_in b (founds_rows m rs k rest) ≡ option_map (found_as ns) (first_rows m rs k n)
+    head_rows no_rows m k b rest n l h = h
+    head_rows (row c os rs) m k b rest n l h =
+        let k1 = behind c k in
+        let k2 = behind_others os k1 in
+        let l2 = longer_rows rs m k2 b rest l in
+        head_is c m k b _ _ (longer_others os m k1 b _ l2) (head_others os m k1 b _ _ l2 (head_rows rs m k2 b rest n l h))
+
+    head_others : (os : Others) (m : Mode) (k b : ℕ) (rest : List Found) (n : Option Among) → b ≤ length rest → ahead_in b rest ≡ option_map (found_as ns) n → ahead_in b (founds_others m os k rest) ≡ option_map (found_as ns) (first_others m os k n)
+    head_others no_others m k b rest n l h = h
+    head_others (joined j c os) m k b rest n l h = head_is c m k b _ _ (longer_others os m (behind c k) b rest l) (head_others os m (behind c k) b rest n l h)
+
+  -- ---- what is still to come behind a command
+
+  past_simple_coming : (s : Simple) (p : Place) → (past_simple s p).coming ≡ p.coming
+  past_simple_coming simples.Substring p = refl
+  past_simple_coming simples.LeftBracket p = refl
+  past_simple_coming simples.RightBracket p = refl
+  past_simple_coming simples.Next p = refl
+  past_simple_coming simples.ToLimit p = refl
+  past_simple_coming simples.AtLimit p = refl
+  past_simple_coming simples.Delete p = refl
+  past_simple_coming simples.True p = refl
+  past_simple_coming simples.False p = refl
+
+  mutual
+    coming_is : (t : Tree) (m : Mode) (k : ℕ) (p : Place) (rest : List Found) → p.coming ≡ founds m t k rest → (past t p).coming ≡ rest
+    coming_is (bracket rs) m k p rest e = coming_rows rs m k p rest e
+    coming_is (single s) m k p rest e = past_simple_coming s p ∙ e
+    coming_is (prefixed x c) m k p rest e = coming_is c (mode_behind x m) k p rest e
+    coming_is (counted x n c) m k p rest e = coming_is c m k p rest e
+    coming_is (limited b c) m k p rest e = coming_is c m (behind b k) (past b p) rest (coming_is b m k p (founds m c (behind b k) rest) e)
+    coming_is (chosen s gs) m k p rest e =
+        coming_groups gs m (behind_starter s (suc k)) (past_starter s (inside p)) rest (coming_starter s m (suc k) (inside p) _ (ap (drop 1) e))
+    coming_is (quoted q) m k p rest h = h
+    coming_is (called n) m k p rest h = h
+    coming_is (excluded b n) m k p rest h = h
+    coming_is (moved x e) m k p rest h = h
+    coming_is (named x n) m k p rest h = h
+    coming_is (edited x a) m k p rest h = h
+    coming_is (assigned n o e) m k p rest h = h
+    coming_is (compared n o e) m k p rest h = h
+    coming_is (values_compared e o f) m k p rest h = h
+
+    coming_rows : (rs : Rows) (m : Mode) (k : ℕ) (p : Place) (rest : List Found) → p.coming ≡ founds_rows m rs k rest → (past_rows rs p).coming ≡ rest
+    coming_rows no_rows m k p rest e = e
+    coming_rows (row c os rs) m k p rest e =
+        coming_rows rs m (behind_others os (behind c k)) (past_others os (past c p)) rest (coming_others os m (behind c k) (past c p) _ (coming_is c m k p _ e))
+
+    coming_others : (os : Others) (m : Mode) (k : ℕ) (p : Place) (rest : List Found) → p.coming ≡ founds_others m os k rest → (past_others os p).coming ≡ rest
+    coming_others no_others m k p rest e = e
+    coming_others (joined j c os) m k p rest e = coming_others os m (behind c k) (past c p) rest (coming_is c m k p _ e)
+
+    coming_starter : (s : Starter) (m : Mode) (k : ℕ) (p : Place) (rest : List Found) → p.coming ≡ founds_starter m s k rest → (past_starter s p).coming ≡ rest
+    coming_starter no_starter m k p rest e = e
+    coming_starter (starter rs) m k p rest e = coming_rows rs m k p rest e
+
+    coming_groups : (gs : Groups) (m : Mode) (k : ℕ) (p : Place) (rest : List Found) → p.coming ≡ founds_groups m gs k rest → (past_groups gs p).coming ≡ rest
+    coming_groups (bare es) m k p rest e = e
+    coming_groups (group e es rs gs) m k p rest h = coming_groups gs m (behind_rows rs k) (past_rows rs (closed p)) rest (coming_rows rs m k (closed p) _ h)
+
+  -- ---- and whether a `substring` waits there
+
+  past_simple_waits : (s : Simple) (p : Place) → (past_simple s p).waits ≡ waits_simple s p.waits
+  past_simple_waits simples.Substring p = refl
+  past_simple_waits simples.LeftBracket p = refl
+  past_simple_waits simples.RightBracket p = refl
+  past_simple_waits simples.Next p = refl
+  past_simple_waits simples.ToLimit p = refl
+  past_simple_waits simples.AtLimit p = refl
+  past_simple_waits simples.Delete p = refl
+  past_simple_waits simples.True p = refl
+  past_simple_waits simples.False p = refl
+
+  mutual
+    waits_is : (t : Tree) (p : Place) → (past t p).waits ≡ waits t p.waits
+    waits_is (bracket rs) p = waits_rows_is rs p
+    waits_is (single s) p = past_simple_waits s p
+    waits_is (prefixed x c) p = waits_is c p
+    waits_is (counted x n c) p = waits_is c p
+    waits_is (limited b c) p = waits_is c (past b p) ∙ ap (waits c) (waits_is b p)
+    waits_is (chosen s gs) p = refl
+    waits_is (quoted q) p = refl
+    waits_is (called n) p = refl
+    waits_is (excluded b n) p = refl
+    waits_is (moved x e) p = refl
+    waits_is (named x n) p = refl
+    waits_is (edited x a) p = refl
+    waits_is (assigned n o e) p = refl
+    waits_is (compared n o e) p = refl
+    waits_is (values_compared e o f) p = refl
+
+    waits_rows_is : (rs : Rows) (p : Place) → (past_rows rs p).waits ≡ waits_rows rs p.waits
+    waits_rows_is no_rows p = refl
+    waits_rows_is (row c os rs) p = waits_rows_is rs (past_others os (past c p)) ∙ ap (waits_rows rs) (waits_others_is os (past c p) ∙ ap (waits_others os) (waits_is c p))
+
+    waits_others_is : (os : Others) (p : Place) → (past_others os p).waits ≡ waits_others os p.waits
+    waits_others_is no_others p = refl
+    waits_others_is (joined j c os) p = waits_others_is os (past c p) ∙ ap (waits_others os) (waits_is c p)
+
+  -- ---- and how many stand behind the region
+
+  past_simple_behind : (s : Simple) (p : Place) → (past_simple s p).behind ≡ p.behind
+  past_simple_behind simples.Substring p = refl
+  past_simple_behind simples.LeftBracket p = refl
+  past_simple_behind simples.RightBracket p = refl
+  past_simple_behind simples.Next p = refl
+  past_simple_behind simples.ToLimit p = refl
+  past_simple_behind simples.AtLimit p = refl
+  past_simple_behind simples.Delete p = refl
+  past_simple_behind simples.True p = refl
+  past_simple_behind simples.False p = refl
+
+  mutual
+    behind_is : (t : Tree) (p : Place) → (past t p).behind ≡ p.behind
+    behind_is (bracket rs) p = behind_rows_is rs p
+    behind_is (single s) p = past_simple_behind s p
+    behind_is (prefixed x c) p = behind_is c p
+    behind_is (counted x n c) p = behind_is c p
+    behind_is (limited b c) p = behind_is c (past b p) ∙ behind_is b p
+    behind_is (chosen s gs) p = behind_groups_is gs (past_starter s (inside p)) ∙ behind_starter_is s (inside p)
+    behind_is (quoted q) p = refl
+    behind_is (called n) p = refl
+    behind_is (excluded b n) p = refl
+    behind_is (moved x e) p = refl
+    behind_is (named x n) p = refl
+    behind_is (edited x a) p = refl
+    behind_is (assigned n o e) p = refl
+    behind_is (compared n o e) p = refl
+    behind_is (values_compared e o f) p = refl
+
+    behind_rows_is : (rs : Rows) (p : Place) → (past_rows rs p).behind ≡ p.behind
+    behind_rows_is no_rows p = refl
+    behind_rows_is (row c os rs) p = behind_rows_is rs (past_others os (past c p)) ∙ behind_others_is os (past c p) ∙ behind_is c p
+
+    behind_others_is : (os : Others) (p : Place) → (past_others os p).behind ≡ p.behind
+    behind_others_is no_others p = refl
+    behind_others_is (joined j c os) p = behind_others_is os (past c p) ∙ behind_is c p
+
+    behind_starter_is : (s : Starter) (p : Place) → (past_starter s p).behind ≡ p.behind
+    behind_starter_is no_starter p = refl
+    behind_starter_is (starter rs) p = behind_rows_is rs p
+
+    behind_groups_is : (gs : Groups) (p : Place) → (past_groups gs p).behind ≡ p.behind
+    behind_groups_is (bare es) p = refl
+    behind_groups_is (group e es rs gs) p = behind_groups_is gs (past_rows rs (closed p)) ∙ behind_rows_is rs (closed p)
+
+  -- ---- commands
+
+  abbrev found_next : Option Found → plan.Command
+  found_next None = plan.act plan.f
+  found_next (Some f) = search_of f
+
+  searched_if : (t : Bool) (p : Place) (n : Option Among) → (if t then Some (next_of p.coming) else None) ≡ option_map (found_as ns) n → (if t then search_next p else plan.act plan.f) ≡ search_by ns n
+  searched_if true p None h = absurd (none-some _ (sym h))
+  searched_if true p (Some a) h = ap (found_next) h
+  searched_if false p None h = refl
+  searched_if false p (Some a) h = ap (found_next) h
+
+  simple_is : (s : Simple) (p : Place) (n : Option Among) → ahead_in p.behind p.coming ≡ option_map (found_as ns) n → simple s p ≡ simple_by ns s n
+  simple_is simples.Substring p n e = searched_if (nat_lt p.behind (length p.coming)) p n e
+  simple_is simples.LeftBracket p n e = refl
+  simple_is simples.RightBracket p n e = refl
+  simple_is simples.Next p n e = refl
+  simple_is simples.ToLimit p n e = refl
+  simple_is simples.AtLimit p n e = refl
+  simple_is simples.Delete p n e = refl
+  simple_is simples.True p n e = refl
+  simple_is simples.False p n e = refl
+
+  first_is : (w : Bool) (p : Place) (a : Among) (xs : List plan.Command) → next_of p.coming ≡ found_as ns a → commands_of (if w then [] else search_next p ∷ xs) ≡ search_then ns w a (commands_of xs)
+  first_is true p a xs e = refl
+  first_is false p a xs e = ap (λ g. plan.command (search_of g) (commands_of xs)) e
+
+  among_are : (k k' : ℕ) (cs cs' ds ds' : plan.Commands) → k ≡ k' → cs ≡ cs' → ds ≡ ds' → plan.among k cs ds ≡ plan.among k' cs' ds'
+  among_are k k' cs cs' ds ds' p q r = ap (λ x. plan.among x cs ds) p ∙ ap (λ x. plan.among k' x ds) q ∙ ap (plan.among k' cs') r
+
+  commands_are : (c c' : plan.Command) (cs cs' : plan.Commands) → c ≡ c' → cs ≡ cs' → plan.command c cs ≡ plan.command c' cs'
+  commands_are c c' cs cs' p q = ap (λ x. plan.command x cs) p ∙ ap (plan.command c') q
+
+  setlimit_are : (c c' d d' : plan.Command) → c ≡ c' → d ≡ d' → plan.setlimit c d ≡ plan.setlimit c' d'
+  setlimit_are c c' d d' p q = ap (λ x. plan.setlimit x d) p ∙ ap (plan.setlimit c') q
+
+  join_are : (j : Joiner) (c c' d d' : plan.Command) → c ≡ c' → d ≡ d' → join j c d ≡ join j c' d'
+  join_are j c c' d d' p q = ap (λ x. join j x d) p ∙ ap (join j c') q
+
+  -- A place before which there are k: behind it come these and then the rest, so many of which stand behind the region,
+  -- in which n is what comes next.
+  pub record At (p : Place) (xs rest : List Found) (w : Bool) (n : Option Among) : Type 0 where
+    pub coming : p.coming ≡ xs
+    pub waiting : p.waits ≡ w
+    pub few : p.behind ≤ length rest
+    pub next : ahead_in p.behind rest ≡ option_map (found_as ns) n
+
+  -- the beginning of a region
+  begun_at : (p q : Place) (xs rest : List Found) → p.coming ≡ xs → q.coming ≡ rest → At (begun p q) xs rest false None
+  begun_at p q xs rest e h = record {
+    coming = e;
+    waiting = refl;
+    few = omega (arith, ap length h);
+    next = ap (λ r. ahead_in (length r) rest) h ∙ none_ahead rest;
+  }
+
+  -- with less of the rest
+  nearer : (t : Tree) (p : Place) (m : Mode) (k : ℕ) (rest : List Found) (w : Bool) (n : Option Among) (xs : List Found) → At p xs rest w n → At p xs (founds m t k rest) w (first m t k n)
+  nearer t p m k rest w n xs a = record {
+    coming = a.coming;
+    waiting = a.waiting;
+    few = longer t m k p.behind rest a.few;
+    next = head_is t m k p.behind rest n a.few a.next;
+  }
+
+  nearer_others : (os : Others) (p : Place) (m : Mode) (k : ℕ) (rest : List Found) (w : Bool) (n : Option Among) (xs : List Found) → At p xs rest w n → At p xs (founds_others m os k rest) w (first_others m os k n)
+  nearer_others os p m k rest w n xs a = record {
+    coming = a.coming;
+    waiting = a.waiting;
+    few = longer_others os m k p.behind rest a.few;
+    next = head_others os m k p.behind rest n a.few a.next;
+  }
+
+  nearer_rows : (rs : Rows) (p : Place) (m : Mode) (k : ℕ) (rest : List Found) (w : Bool) (n : Option Among) (xs : List Found) → At p xs rest w n → At p xs (founds_rows m rs k rest) w (first_rows m rs k n)
+  nearer_rows rs p m k rest w n xs a = record {
+    coming = a.coming;
+    waiting = a.waiting;
+    few = longer_rows rs m k p.behind rest a.few;
+    next = head_rows rs m k p.behind rest n a.few a.next;
+  }
+
+  -- behind a command
+  further : (t : Tree) (p : Place) (m : Mode) (k : ℕ) (xs rest : List Found) (w : Bool) (n : Option Among) → At p (founds m t k xs) rest w n → At (past t p) xs rest (waits t w) n
+  further t p m k xs rest w n a = record {
+    coming = coming_is t m k p xs a.coming;
+    waiting = waits_is t p ∙ ap (waits t) a.waiting;
+    few = rw (behind_is t p) a.few;
+    next = ap (λ b. ahead_in b rest) (behind_is t p) ∙ a.next;
+  }
+
+  further_others : (os : Others) (p : Place) (m : Mode) (k : ℕ) (xs rest : List Found) (w : Bool) (n : Option Among) → At p (founds_others m os k xs) rest w n → At (past_others os p) xs rest (waits_others os w) n
+  further_others os p m k xs rest w n a = record {
+    coming = coming_others os m k p xs a.coming;
+    waiting = waits_others_is os p ∙ ap (waits_others os) a.waiting;
+    few = rw (behind_others_is os p) a.few;
+    next = ap (λ b. ahead_in b rest) (behind_others_is os p) ∙ a.next;
+  }
+
+  region_at : (rs : Rows) (m : Mode) (k : ℕ) (p : Place) (rest : List Found) → p.coming ≡ founds_rows m rs k rest → At (region rs p) (founds_rows m rs k rest) rest false None
+  region_at rs m k p rest e = begun_at p (past_rows rs (closed p)) _ rest e (coming_rows rs m k (closed p) rest e)
+
+  mutual
+    pub made_is : (t : Tree) (m : Mode) (k : ℕ) (w : Bool) (n : Option Among) (p : Place) (rest : List Found) → At p (founds m t k rest) rest w n → numbered ns t p ≡ made ns m k w n t
+    made_is (bracket rs) m k w n p rest a = ap plan.sequence (rows_is rs m k w n p rest a)
+    made_is (single s) m k w n p rest a = simple_is s p n (ap (ahead_in p.behind) a.coming ∙ a.next)
+    made_is (prefixed x c) m k w n p rest a = ap (behind_prefix x) (made_is c (mode_behind x m) k w n p rest a)
+    made_is (counted x e c) m k w n p rest a = ap (behind_count x (expression ns e)) (made_is c m k w n p rest a)
+    made_is (limited b c) m k w n p rest a =
+        setlimit_are _ _ _ _ (made_is b m k w _ p _ (nearer c p m (behind b k) rest w n _ a))
+        (made_is c m (behind b k) (waits b w) n (past b p) rest (further b p m k _ rest w n a))
+    made_is (chosen s gs) m k w n p rest a =
+        let e = a.coming in
+        let inner = ap (drop 1) e in
+        let begun' = coming_starter s m (suc k) (inside p) (founds_groups m gs (behind_starter s (suc k)) rest) inner in
+        among_are _ _ _ _ _ _ (ap (λ xs. (next_of xs).number) e)
+        (ap (λ b. commands_of (if b then [] else search_next p ∷ numbered_starter ns s (inside p))) a.waiting
+        ∙ first_is w p (among_at m k gs) (numbered_starter ns s (inside p)) (ap next_of e)
+        ∙ ap (search_then ns w (among_at m k gs)) (starter_is s m (suc k) (inside p) _ inner))
+        (groups_is gs m (behind_starter s (suc k)) (past_starter s (inside p)) rest begun')
+    made_is (quoted q) m k w n p rest a = refl
+    made_is (called x) m k w n p rest a = refl
+    made_is (excluded b x) m k w n p rest a = refl
+    made_is (moved x e) m k w n p rest a = refl
+    made_is (named x y) m k w n p rest a = refl
+    made_is (edited x y) m k w n p rest a = refl
+    made_is (assigned x o e) m k w n p rest a = refl
+    made_is (compared x o e) m k w n p rest a = refl
+    made_is (values_compared e o f) m k w n p rest a = refl
+
+    rows_is : (rs : Rows) (m : Mode) (k : ℕ) (w : Bool) (n : Option Among) (p : Place) (rest : List Found) → At p (founds_rows m rs k rest) rest w n → commands_of (numbered_rows ns rs p) ≡ made_rows ns m k w n rs
+    rows_is no_rows m k w n p rest a = refl
+    rows_is (row c os rs) m k w n p rest a =
+        let k1 = behind c k in
+        let k2 = behind_others os k1 in
+        let a2 = nearer_rows rs p m k2 rest w n _ a in
+        let a1 = nearer_others os p m k1 _ w _ _ a2 in
+        let b1 = further c p m k _ rest w n a in
+        let b2 = further_others os (past c p) m k1 _ rest (waits c w) n b1 in
+        let one = others_is os m k1 (waits c w) _ (past c p) _ _ _ (nearer_rows rs (past c p) m k2 rest (waits c w) n _ b1) (made_is c m k w _ p _ a1) in
+        commands_are _ _ _ _ one (rows_is rs m k2 (waits_others os (waits c w)) n (past_others os (past c p)) rest b2)
+
+    others_is : (os : Others) (m : Mode) (k : ℕ) (w : Bool) (n : Option Among) (p : Place) (rest : List Found) (c c' : plan.Command) → At p (founds_others m os k rest) rest w n → c ≡ c' → numbered_others ns os p c ≡ made_others ns m k w n os c'
+    others_is no_others m k w n p rest c c' a g = g
+    others_is (joined j t os) m k w n p rest c c' a g =
+        let one = made_is t m k w _ p _ (nearer_others os p m (behind t k) rest w n _ a) in
+        others_is os m (behind t k) (waits t w) n (past t p) rest _ _ (further t p m k _ rest w n a) (join_are j _ _ _ _ g one)
+
+    starter_is : (s : Starter) (m : Mode) (k : ℕ) (p : Place) (rest : List Found) → p.coming ≡ founds_starter m s k rest → commands_of (numbered_starter ns s p) ≡ made_starter ns m k s
+    starter_is no_starter m k p rest e = refl
+    starter_is (starter rs) m k p rest e = ap (λ cs. plan.command (plan.sequence cs) plan.no_commands) (rows_is rs m k false None (region rs p) rest (region_at rs m k p rest e))
+
+    groups_is : (gs : Groups) (m : Mode) (k : ℕ) (p : Place) (rest : List Found) → p.coming ≡ founds_groups m gs k rest → commands_of (numbered_groups ns gs p) ≡ made_groups ns m k gs
+    groups_is (bare es) m k p rest e = refl
+    groups_is (group x es rs gs) m k p rest e =
+        commands_are _ _ _ _ (ap plan.sequence (rows_is rs m k false None (region rs p) _ (region_at rs m k p _ e))) (groups_is gs m (behind_rows rs k) (past_rows rs (closed p)) rest (coming_rows rs m k (closed p) _ e))
+
+  abbrev routine_by : plan.Command → ℕ → plan.Routine
+  routine_by c n = record { body = c; amongs = n }
+
+  -- ---- today's list of amongs
+
+  last_len : (xs : List Found) (x : Found) → length (xs ++ (x ∷ [])) ≡ suc (length xs)
+  last_len [] x = refl
+  last_len (y ∷ xs) x = ap suc (last_len xs x)
+
+  more : (a k n : ℕ) → n ≡ a + k → suc n ≡ a + suc k
+  more a k n e = omega (arith, e)
+
+  mutual
+    len_is : (t : Tree) (m : Mode) (a k : ℕ) (xs : List Found) → length xs ≡ a + k → length (found ns a m t xs) ≡ a + behind t k
+    len_is (bracket rs) m a k xs l = len_rows rs m a k xs l
+    len_is (prefixed x c) m a k xs l = len_is c (mode_behind x m) a k xs l
+    len_is (counted x e c) m a k xs l = len_is c m a k xs l
+    len_is (limited b c) m a k xs l = len_is c m a (behind b k) (found ns a m b xs) (len_is b m a k xs l)
+    len_is (chosen s gs) m a k xs l =
+        len_groups gs m a (behind_starter s (suc k)) _ (len_starter s m a (suc k) (xs ++ (found_of ns a m gs xs ∷ [])) (last_len xs (found_of ns a m gs xs) ∙ more a k (length xs) l))
+    len_is (quoted q) m a k xs l = l
+    len_is (called n) m a k xs l = l
+    len_is (excluded b n) m a k xs l = l
+    len_is (moved y e) m a k xs l = l
+    len_is (named x n) m a k xs l = l
+    len_is (edited x b) m a k xs l = l
+    len_is (assigned n o e) m a k xs l = l
+    len_is (compared n o e) m a k xs l = l
+    len_is (values_compared e o f) m a k xs l = l
+    len_is (single s) m a k xs l = l
+
+    len_rows : (rs : Rows) (m : Mode) (a k : ℕ) (xs : List Found) → length xs ≡ a + k → length (found_rows ns a m rs xs) ≡ a + behind_rows rs k
+    len_rows no_rows m a k xs l = l
+    len_rows (row c os rs) m a k xs l = len_rows rs m a (behind_others os (behind c k)) _ (len_others os m a (behind c k) _ (len_is c m a k xs l))
+
+    len_others : (os : Others) (m : Mode) (a k : ℕ) (xs : List Found) → length xs ≡ a + k → length (found_others ns a m os xs) ≡ a + behind_others os k
+    len_others no_others m a k xs l = l
+    len_others (joined j c os) m a k xs l = len_others os m a (behind c k) _ (len_is c m a k xs l)
+
+    len_starter : (s : Starter) (m : Mode) (a k : ℕ) (xs : List Found) → length xs ≡ a + k → length (found_starter ns a m s xs) ≡ a + behind_starter s k
+    len_starter no_starter m a k xs l = l
+    len_starter (starter rs) m a k xs l = len_rows rs m a k xs l
+
+    len_groups : (gs : Groups) (m : Mode) (a k : ℕ) (xs : List Found) → length xs ≡ a + k → length (found_groups ns a m gs xs) ≡ a + behind_groups gs k
+    len_groups (bare es) m a k xs l = l
+    len_groups (group e es rs gs) m a k xs l = len_groups gs m a (behind_rows rs k) _ (len_rows rs m a k xs l)
+
+  number_is : (m : Mode) (a k : ℕ) (gs : Groups) (xs : List Found) → length xs ≡ a + k → found_of ns a m gs xs ≡ found_as ns (among_at m k gs)
+  number_is m a k gs xs l =
+      let e : length xs - a ≡ k = omega (arith, l) in
+      ap (λ j. found_as ns (among_at m j gs)) e
+
+  mutual
+    found_is : (t : Tree) (m : Mode) (a k : ℕ) (xs rest : List Found) → length xs ≡ a + k → found ns a m t xs ++ rest ≡ xs ++ founds m t k rest
+    found_is (bracket rs) m a k xs rest l = found_rows_is rs m a k xs rest l
+    found_is (prefixed x c) m a k xs rest l = found_is c (mode_behind x m) a k xs rest l
+    found_is (counted x e c) m a k xs rest l = found_is c m a k xs rest l
+    found_is (limited b c) m a k xs rest l =
+        found_is c m a (behind b k) (found ns a m b xs) rest (len_is b m a k xs l) ∙ found_is b m a k xs (founds m c (behind b k) rest) l
+    found_is (chosen s gs) m a k xs rest l =
+        let f = found_of ns a m gs xs in
+        let ys = xs ++ (f ∷ []) in
+        let l1 = last_len xs f ∙ more a k (length xs) l in
+        let inner = founds_starter m s (suc k) (founds_groups m gs (behind_starter s (suc k)) rest) in
+        found_groups_is gs m a (behind_starter s (suc k)) (found_starter ns a m s ys) rest (len_starter s m a (suc k) ys l1)
+        ∙ found_starter_is s m a (suc k) ys _ l1
+        ∙ append_assoc xs (f ∷ []) inner
+        ∙ ap (λ g. xs ++ (g ∷ inner)) (number_is m a k gs xs l)
+    found_is (quoted q) m a k xs rest l = refl
+    found_is (called n) m a k xs rest l = refl
+    found_is (excluded b n) m a k xs rest l = refl
+    found_is (moved y e) m a k xs rest l = refl
+    found_is (named x n) m a k xs rest l = refl
+    found_is (edited x b) m a k xs rest l = refl
+    found_is (assigned n o e) m a k xs rest l = refl
+    found_is (compared n o e) m a k xs rest l = refl
+    found_is (values_compared e o f) m a k xs rest l = refl
+    found_is (single s) m a k xs rest l = refl
+
+    found_rows_is : (rs : Rows) (m : Mode) (a k : ℕ) (xs rest : List Found) → length xs ≡ a + k → found_rows ns a m rs xs ++ rest ≡ xs ++ founds_rows m rs k rest
+    found_rows_is no_rows m a k xs rest l = refl
+    found_rows_is (row c os rs) m a k xs rest l =
+        let l1 = len_is c m a k xs l in
+        let l2 = len_others os m a (behind c k) (found ns a m c xs) l1 in
+        found_rows_is rs m a (behind_others os (behind c k)) (found_others ns a m os (found ns a m c xs)) rest l2
+        ∙ found_others_is os m a (behind c k) (found ns a m c xs) _ l1 ∙ found_is c m a k xs _ l
+
+    found_others_is : (os : Others) (m : Mode) (a k : ℕ) (xs rest : List Found) → length xs ≡ a + k → found_others ns a m os xs ++ rest ≡ xs ++ founds_others m os k rest
+    found_others_is no_others m a k xs rest l = refl
+    found_others_is (joined j c os) m a k xs rest l =
+        found_others_is os m a (behind c k) (found ns a m c xs) rest (len_is c m a k xs l) ∙ found_is c m a k xs _ l
+
+    found_starter_is : (s : Starter) (m : Mode) (a k : ℕ) (xs rest : List Found) → length xs ≡ a + k → found_starter ns a m s xs ++ rest ≡ xs ++ founds_starter m s k rest
+    found_starter_is no_starter m a k xs rest l = refl
+    found_starter_is (starter rs) m a k xs rest l = found_rows_is rs m a k xs rest l
+
+    found_groups_is : (gs : Groups) (m : Mode) (a k : ℕ) (xs rest : List Found) → length xs ≡ a + k → found_groups ns a m gs xs ++ rest ≡ xs ++ founds_groups m gs k rest
+    found_groups_is (bare es) m a k xs rest l = refl
+    found_groups_is (group e es rs gs) m a k xs rest l =
+        found_groups_is gs m a (behind_rows rs k) (found_rows ns a m rs xs) rest (len_rows rs m a k xs l) ∙ found_rows_is rs m a k xs _ l
+
+  -- ---- a routine, and all
+
+  routine_are : (c c' : plan.Command) (n n' : ℕ) → c ≡ c' → n ≡ n' → routine_by c n ≡ routine_by c' n'
+  routine_are c c' n n' p q = ap (λ x. routine_by x n) p ∙ ap (routine_by c') q
+
+  abbrev body_founds : Mode → Tree → Others → List Found → List Found
+  body_founds m c os rest = founds m c 0 (founds_others m os (behind c 0) rest)
+
+  behind_body : (m : Mode) (c : Tree) (os : Others) (p : Place) (rest : List Found) → p.coming ≡ body_founds m c os rest → (past_body c os p).coming ≡ rest
+  behind_body m c os p rest e = coming_others os m (behind c 0) (past c (closed p)) rest (coming_is c m 0 (closed p) _ e)
+
+  one_in_front : (l k r : ℕ) → l + suc k ≡ r → suc l + k ≡ r
+  one_in_front l k r e = omega (arith, e)
+
+  mutual
+    count_is : (t : Tree) (m : Mode) (k : ℕ) (rest : List Found) → length (founds m t k rest) + k ≡ length rest + behind t k
+    count_is (bracket rs) m k rest = count_rows rs m k rest
+    count_is (prefixed x c) m k rest = count_is c (mode_behind x m) k rest
+    count_is (counted x e c) m k rest = count_is c m k rest
+    count_is (limited b c) m k rest = count_is b m k _ ∙ count_is c m (behind b k) rest
+    count_is (chosen s gs) m k rest = one_in_front _ k _ (count_starter s m (suc k) _ ∙ count_groups gs m (behind_starter s (suc k)) rest)
+    count_is (quoted q) m k rest = refl
+    count_is (called n) m k rest = refl
+    count_is (excluded b n) m k rest = refl
+    count_is (moved x e) m k rest = refl
+    count_is (named x n) m k rest = refl
+    count_is (edited x a) m k rest = refl
+    count_is (assigned n o e) m k rest = refl
+    count_is (compared n o e) m k rest = refl
+    count_is (values_compared e o f) m k rest = refl
+    count_is (single s) m k rest = refl
+
+    count_rows : (rs : Rows) (m : Mode) (k : ℕ) (rest : List Found) → length (founds_rows m rs k rest) + k ≡ length rest + behind_rows rs k
+    count_rows no_rows m k rest = refl
+    count_rows (row c os rs) m k rest = count_is c m k _ ∙ count_others os m (behind c k) _ ∙ count_rows rs m (behind_others os (behind c k)) rest
+
+    count_others : (os : Others) (m : Mode) (k : ℕ) (rest : List Found) → length (founds_others m os k rest) + k ≡ length rest + behind_others os k
+    count_others no_others m k rest = refl
+    count_others (joined j c os) m k rest = count_is c m k _ ∙ count_others os m (behind c k) rest
+
+    count_starter : (s : Starter) (m : Mode) (k : ℕ) (rest : List Found) → length (founds_starter m s k rest) + k ≡ length rest + behind_starter s k
+    count_starter no_starter m k rest = refl
+    count_starter (starter rs) m k rest = count_rows rs m k rest
+
+    count_groups : (gs : Groups) (m : Mode) (k : ℕ) (rest : List Found) → length (founds_groups m gs k rest) + k ≡ length rest + behind_groups gs k
+    count_groups (bare es) m k rest = refl
+    count_groups (group e es rs gs) m k rest = count_rows rs m k _ ∙ count_groups gs m (behind_rows rs k) rest
+
+  so_many : (l r n : ℕ) → l + 0 ≡ r + n → l - r ≡ n
+  so_many l r n e = omega (arith, e)
+
+  pub routine_is : (m : Mode) (c : Tree) (os : Others) (p : Place) (rest : List Found) → p.coming ≡ body_founds m c os rest → routine_of ns c os p ≡ routine_made ns m c os
+  routine_is m c os p rest e =
+      let k = behind c 0 in
+      let b = behind_body m c os p rest e in
+      let q = body_begun c os p in
+      let a = begun_at p (past_body c os p) _ rest e b in
+      let body = others_is os m k (waits c false) None (past c q) rest _ _ (further c q m 0 _ rest false None a) (made_is c m 0 false _ q _ (nearer_others os q m k rest false None _ a)) in
+      let counted = count_is c m 0 (founds_others m os k rest) ∙ count_others os m k rest in
+      routine_are _ _ _ _ body (so_many (length p.coming) _ _ (ap (λ xs. length xs + 0) e ∙ counted ∙ ap (λ xs. length xs + behind_others os k) (sym b)))
+
+  abbrev plain_founds : Mode → Plain → List Found → List Found
+  plain_founds m (routine n c os) rest = body_founds m c os rest
+  plain_founds m (declaration k xs) rest = rest
+  plain_founds m (escapes a b) rest = rest
+  plain_founds m (macro n b q) rest = rest
+  plain_founds m (grouping n a ts) rest = rest
+
+  abbrev all_founds : List Placed → List Found
+  all_founds [] = []
+  all_founds (x ∷ xs) = plain_founds x.mode x.plain (all_founds xs)
+
+  none_more : (n : ℕ) → n ≡ n + 0
+  none_more n = omega arith
+
+  plain_is : (m : Mode) (x : Plain) (sofar rest : List Found) → found_plain ns m x sofar ++ rest ≡ sofar ++ plain_founds m x rest
+  plain_is m (routine n c os) sofar rest =
+      let a = length sofar in
+      let l = none_more (length sofar) in
+      found_others_is os m a (behind c 0) (found ns a m c sofar) rest (len_is c m a 0 sofar l) ∙ found_is c m a 0 sofar _ l
+  plain_is m (declaration k xs) sofar rest = refl
+  plain_is m (escapes a b) sofar rest = refl
+  plain_is m (macro n b q) sofar rest = refl
+  plain_is m (grouping n a ts) sofar rest = refl
+
+  all_is : (xs : List Placed) (sofar : List Found) → found_behind ns xs sofar ≡ sofar ++ all_founds xs
+  all_is [] sofar = sym (append-nil sofar)
+  all_is (x ∷ xs) sofar = all_is xs (found_plain ns x.mode x.plain sofar) ∙ plain_is x.mode x.plain sofar (all_founds xs)
+
+  behind_plain : (m : Mode) (x : Plain) (p : Place) (rest : List Found) → p.coming ≡ plain_founds m x rest → (past_plain x p).coming ≡ rest
+  behind_plain m (routine n c os) p rest e = behind_body m c os p rest e
+  behind_plain m (declaration k xs) p rest e = e
+  behind_plain m (escapes a b) p rest e = e
+  behind_plain m (macro n b q) p rest e = e
+  behind_plain m (grouping n a ts) p rest e = e
+
+  with_is : (m : Mode) (x : Plain) (p : Place) (rest : List Found) (sofar more : List plan.Routine) → p.coming ≡ plain_founds m x rest → with_routine ns x p sofar ++ more ≡ sofar ++ routine_in ns m x more
+  with_is m (routine n c os) p rest sofar more e =
+      append_assoc sofar (routine_of ns c os p ∷ []) more ∙ ap (λ r. sofar ++ (r ∷ more)) (routine_is m c os p rest e)
+  with_is m (declaration k xs) p rest sofar more e = refl
+  with_is m (escapes a b) p rest sofar more e = refl
+  with_is m (macro n b q) p rest sofar more e = refl
+  with_is m (grouping n a ts) p rest sofar more e = refl
+
+  routines_are : (xs : List Placed) (p : Place) (sofar : List plan.Routine) → p.coming ≡ all_founds xs → routines_behind ns xs p sofar ≡ sofar ++ routines_in ns xs
+  routines_are [] p sofar e = sym (append-nil sofar)
+  routines_are (x ∷ xs) p sofar e =
+      routines_are xs (past_plain x.plain p) (with_routine ns x.plain p sofar) (behind_plain x.mode x.plain p (all_founds xs) e)
+      ∙ with_is x.mode x.plain p (all_founds xs) sofar (routines_in ns xs) e
+
+pub own_is_made : OwnIsMade
+own_is_made ns xs = routines_are ns xs (record { coming = found_behind ns xs []; behind = 0; waits = false }) [] (all_is ns xs [])

@@ -1,0 +1,4 @@
+pub mod NumberingPlaces
+pub mod Coming
+pub mod SoundItems
+pub mod Own

@@ -1,0 +1,13 @@
+pub mod Items
+pub mod Regions
+pub mod Listed
+pub mod Plan
+pub mod PlanOf
+pub mod NumberedNames
+pub mod NumberedSets
+pub mod NumberedAmongs
+pub mod NumberedNumbers
+pub mod Numbered
+pub mod NumberedView
+pub mod Ahead
+pub mod Laws

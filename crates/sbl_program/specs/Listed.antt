@@ -1,0 +1,10 @@
+-- The strings of an among, and the mode that reads them.
+use Rattle.std.specs.Prelude.{ℕ, List}
+use Rattle.sbl_script.specs.declared.marks.Mode.{Mode}
+
+pub record Listed : Type 0 where
+  pub mode : Mode
+  pub entries : List (List ℕ)
+
+abbrev pub listing : Mode → List (List ℕ) → Listed
+listing m es = record { mode = m; entries = es }

@@ -1,0 +1,117 @@
+//! The program of a script.
+
+ghost use Rattle.std.specs.Prelude.{◌≡◌, [], false, map, length, OnOk, IfOk};
+ghost use Rattle.sbl_grammar.specs.View.{view_items, view_plain, view_row};
+ghost use Rattle.sbl_program.specs.Numbered as spec;
+ghost use Rattle.sbl_program.specs.NumberedView.{strings_at, view_found, view_names, view_place, view_placed};
+ghost use Rattle.sbl_program.specs.PlanOf.{plan_of, view_routine};
+ghost use Rattle.sbl_script.specs.Parsed.{source_of};
+
+use crate::amongs::{Found, amongs_of};
+use crate::commands::row_of;
+use crate::names::{Names, Placed, names_of, number_of, place_all};
+use crate::node::{Program, Routine};
+use crate::place::{Place, begun, closed, left_of, past_row};
+use crate::sets::sets_of;
+use sbl_grammar::{Plain, Row};
+use sbl_script::Script;
+use std::alloc::{AllocError, Global};
+
+fn routine_of(
+    alloc: Global,
+    names: &Names,
+    amongs: &Vec<Found>,
+    body: &Row,
+    place: &mut Place,
+) -> Result<Routine, AllocError>
+    ensures made { IfOk result (λ r. view_routine (strings_at amongs.now.items) r ≡ spec.routine_of (view_names names.now) (view_row body.now).0 (view_row body.now).1 (view_place amongs.now.items place.old)) }
+    ensures behind { OnOk result (view_place amongs.now.items place.new ≡ spec.past_body (view_row body.now).0 (view_row body.now).1 (view_place amongs.now.items place.old)) }
+{
+    let behind = past_row(amongs, body, closed(amongs, *place));
+    let count = left_of(amongs, *place).saturating_sub(left_of(amongs, behind));
+    let mut inner = begun(amongs, *place, behind);
+    *place = behind;
+    Ok(Routine {
+        body: row_of(alloc, names, amongs, body, &mut inner)?,
+        amongs: count,
+    })
+}
+
+fn add_routine(
+    alloc: Global,
+    names: &Names,
+    amongs: &Vec<Found>,
+    plain: &Plain,
+    place: &mut Place,
+    routines: &mut Vec<Routine>,
+) -> Result<(), AllocError>
+    ensures made { OnOk result (map (view_routine (strings_at amongs.now.items)) routines.new.items ≡ spec.with_routine (view_names names.now) (view_plain plain.now) (view_place amongs.now.items place.old) (map (view_routine (strings_at amongs.now.items)) routines.old.items)) }
+    ensures behind { OnOk result (view_place amongs.now.items place.new ≡ spec.past_plain (view_plain plain.now) (view_place amongs.now.items place.old)) }
+{
+    if let Plain::Routine { name: _, body } = plain {
+        let routine = routine_of(alloc, names, amongs, body, place)?;
+        routines.push(routine)?;
+    }
+    Ok(())
+}
+
+fn routines_of(
+    alloc: Global,
+    names: &Names,
+    items: &[Placed],
+    amongs: &Vec<Found>,
+) -> Result<Vec<Routine>, AllocError>
+    ensures { IfOk result (λ v. map (view_routine (strings_at amongs.now.items)) v.items ≡ spec.routines_behind (view_names names.now) (map view_placed items.now) (view_place amongs.now.items (record { next = 0; behind = 0; waits = false })) []) }
+{
+    let mut place = Place {
+        next: 0,
+        behind: 0,
+        waits: false,
+    };
+    let mut routines = Vec::new(alloc);
+    for item in items {
+        add_routine(alloc, names, amongs, item.plain, &mut place, &mut routines)?;
+    }
+    Ok(routines)
+}
+
+fn program_by(
+    alloc: Global,
+    names: &Names,
+    items: &[Placed],
+    amongs: &Vec<Found>,
+    external: &str,
+) -> Result<Program, AllocError>
+    ensures { IfOk result (λ p. plan_of (strings_at amongs.now.items) p ≡ spec.plan_by (view_names names.now) (map view_placed items.now) (map view_found amongs.now.items) external.now) }
+{
+    let groupings = sets_of(alloc, names, items)?;
+    let routines = routines_of(alloc, names, items, amongs)?;
+    Ok(Program {
+        integers: names.integers.len(),
+        booleans: names.booleans.len(),
+        strings: names.strings.len(),
+        groupings,
+        routines,
+        external: number_of(&names.routines, external),
+    })
+}
+
+/// A program, and the amongs whose strings its tables are to list.
+#[derive(Drop)]
+pub struct Made {
+    /// The program.
+    pub program: Program,
+    /// The amongs, in the order of the tables.
+    pub amongs: Vec<Found>,
+}
+
+/// The program of a script. AllocError where a growth was refused.
+pub fn numbered(alloc: Global, script: &Script) -> Result<Made, AllocError>
+    ensures { IfOk result (λ n. plan_of (strings_at n.amongs.items) n.program ≡ spec.numbered_script (source_of script.now)) }
+{
+    let items = place_all(alloc, script.items())?;
+    let names = names_of(alloc, &items)?;
+    let amongs = amongs_of(alloc, &names, &items)?;
+    let program = program_by(alloc, &names, &items, &amongs, script.external())?;
+    Ok(Made { program, amongs })
+}

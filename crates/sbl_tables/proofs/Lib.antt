@@ -1,0 +1,9 @@
+pub mod Exact
+pub mod Fits
+pub mod SoFar
+pub mod Mirror
+pub mod Next
+pub mod Taken
+pub mod Order
+pub mod Sorted
+pub mod Chain

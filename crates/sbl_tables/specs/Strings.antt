@@ -1,0 +1,15 @@
+-- The strings of a plain table.
+use Rattle.std.specs.Prelude.{ℕ, List, map}
+use Rattle.sbl_script.specs.declared.marks.Mode.{Mode}
+use Rattle.sbl_tables.specs.Fitting.{read_all}
+use Rattle.sbl_tables.specs.declared.plain.PlainTable.{PlainTable}
+
+abbrev pub entries_of : PlainTable → List (List ℕ)
+entries_of t = map (λ v. v.items) t.strings.items
+
+abbrev pub mode_of : PlainTable → Mode
+mode_of t = t.direction
+
+-- as its mode reads them
+abbrev pub strings_of : PlainTable → List (List ℕ)
+strings_of t = read_all (mode_of t) (entries_of t)

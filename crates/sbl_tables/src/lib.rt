@@ -1,0 +1,11 @@
+//! Searches of the strings of an `among`: the longest that stands at a place, and the next shorter one after it.
+#![tactic(auto)]
+
+pub mod laws;
+pub mod linked;
+pub mod plain;
+pub mod search;
+
+pub use linked::LinkedTable;
+pub use plain::PlainTable;
+pub use search::AmongSearch;

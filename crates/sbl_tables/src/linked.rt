@@ -1,0 +1,77 @@
+//! A search over sorted strings, each with a link to the longest shorter one that matches wherever it does.
+
+ghost use Rattle.std.specs.Prelude.{map};
+ghost use Rattle.sbl_tables.specs.Fitting.{read_all};
+ghost use Rattle.sbl_tables.specs.Linked.{IsLinked};
+
+mod links;
+mod rows;
+
+use crate::linked::links::{best_of, links_of};
+use crate::linked::rows::rows_of;
+use crate::plain::{ahead, copied_all};
+use crate::search::AmongSearch;
+use sbl_script::Mode;
+use std::alloc::{AllocError, Global};
+use std::cmp::Reverse;
+
+/// Sorted strings with links.
+#[derive(Drop)]
+pub struct LinkedTable {
+    strings: Vec<Vec<char>>,
+    direction: Mode,
+    // The strings as the mode reads them, in order, each with its number; of equal strings the first comes last.
+    rows: Vec<(Vec<char>, Reverse<usize>)>,
+    // For each row the last row of the longest shorter string that is a front of its own.
+    links: Vec<Option<usize>>,
+    ghost linked: { ∥ IsLinked (read_all direction (map (λ v. v.items) strings.items)) rows.items links.items ∥₁ },
+}
+
+impl LinkedTable {
+    ghost use Rattle.sbl_tables.specs.Best.{IsBest};
+    ghost use Rattle.sbl_tables.specs.Fitting.{read_as};
+    ghost use Rattle.sbl_tables.specs.LinkedStrings.{strings_of};
+
+    /// The longest string of fewer characters than this that is the front of what the mode reads.
+    fn best(&self, part: &[char], below: usize) -> Option<usize>
+        ensures { ∥ IsBest (strings_of self.now) (read_as self.now.direction part.now) below result ∥₁ }
+    {
+        best_of(&self.rows, &self.links, self.direction, part, below)
+    }
+}
+
+impl AmongSearch for LinkedTable {
+    ghost use Rattle.sbl_tables.specs.LinkedStrings.{entries_of, mode_of};
+
+    ghost entries = { entries_of };
+
+    ghost mode = { mode_of };
+
+    fn build(
+        alloc: Global,
+        strings: &[Vec<char>],
+        direction: Mode,
+    ) -> Result<LinkedTable, AllocError> {
+        let rows = rows_of(alloc, strings, direction)?;
+        let links = links_of(alloc, &rows)?;
+        let copies = copied_all(alloc, strings)?;
+        Ok(LinkedTable {
+            strings: copies,
+            direction,
+            rows,
+            links,
+        })
+    }
+
+    fn longest(&self, text: &[char], at: usize, bound: usize) -> Option<usize> {
+        let part = ahead(self.direction, text, at, bound);
+        self.best(part, part.len() + 1)
+    }
+
+    fn next_shorter(&self, i: usize) -> Option<usize> {
+        match self.strings.get(i) {
+            None => None,
+            Some(string) => self.best(string, string.len()),
+        }
+    }
+}
