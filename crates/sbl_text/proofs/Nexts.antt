@@ -1,5 +1,5 @@
 -- What comes next in a text.
-use Rattle.std.proofs.Common.{◌≡◌, ℕ, suc, ◌+◌, ◌-◌, ◌*◌, ◌<◌, ◌≤◌, ◌^◌, Bool, true, false, List, [], ◌∷◌, ◌++◌, length, Option, Some, None, refl, sym, ap, subst, ◌∙◌, arith, append_assoc, ◌⊎◌, inl, inr, length-append}
+use Rattle.std.proofs.Common.{◌≡◌, ℕ, ◌+◌, ◌-◌, ◌*◌, ◌<◌, ◌≤◌, ◌^◌, Bool, true, false, List, [], ◌∷◌, ◌++◌, length, Option, Some, None, refl, sym, ap, subst, ◌∙◌, arith, append_assoc, ◌⊎◌, inl, inr, length-append}
 use Rattle.std.specs.Prelude.{not, ◌||◌, ◌==◌, if◌then◌else◌, option_map, encode_utf8, encode_utf8_all}
 use Rattle.std.proofs.lemmas.Bool.Decides.{nat_tests}
 use Rattle.std.specs.Str.{chars, IsUtf8}
@@ -16,10 +16,10 @@ use Rattle.sbl_text.specs.declared.token.Token.{Token}
 use Rattle.sbl_text.specs.Words.{word_of}
 use Rattle.sbl_text.specs.Escapes.{InForce, opens, closes}
 use Rattle.sbl_text.specs.Literals.{byte_length, Means, FirstWrong, is_closed}
-use Rattle.sbl_text.specs.Pieces.{is_inner, Setting, setting, IsPiece, NoPiece, Gap, AreGaps, AfterGaps, Piece_at}
+use Rattle.sbl_text.specs.Pieces.{is_inner, Setting, setting, NoPiece, Gap, AreGaps, AfterGaps, Piece_at}
 use Rattle.sbl_text.specs.Lexemes.{Lexeme, word, sign, name, number, literal, inserts, macro_name, lexeme_of, SaysFitting}
 use Rattle.sbl_text.specs.States.{State, Defining, setting_of, settled, value_for, defined_by}
-use Rattle.sbl_text.specs.Tokens.{digits_value, number_of, word_or_name, Told, LacksValue, MayEnd, IsRefused, fault_at, pair_fault, IsFault, Stops, IsAt, Comes, IsNext}
+use Rattle.sbl_text.specs.Tokens.{digits_value, word_or_name, Told, LacksValue, MayEnd, IsRefused, fault_at, pair_fault, Stops, Comes}
 
 -- ---- numbers
 

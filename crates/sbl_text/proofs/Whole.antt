@@ -1,7 +1,6 @@
 -- What `cut` cuts is the longest piece.
 use Rattle.std.proofs.Common.{◌≡◌, ℕ, ◌≤◌, Bool, true, false, List, [], ◌∷◌, ◌++◌, length, Option, Some, None, refl, sym, ap, subst, ◌∙◌, arith, append_assoc}
 use Rattle.std.specs.Prelude.{not, ◌||◌, ◌==◌, if◌then◌else◌, option_map, IfSome, MatchOption}
-use Rattle.std.specs.List.{list_all}
 use Rattle.std.proofs.lemmas.Bool.Decides.{nat_tests}
 use Rattle.std.proofs.lemmas.List.{length-append}
 use Rattle.sbl_text.specs.declared.signs.Sign.{Sign}
@@ -16,7 +15,7 @@ use Rattle.sbl_text.specs.Classes.{past, is_white, is_letter, is_digit, is_word}
 use Rattle.sbl_text.specs.Signs.{sign_of, sign_front, one, two}
 use Rattle.sbl_text.specs.Pieces.{Has, may_come, Setting, setting, Stands, IsPiece, NoPiece, BeginsComment, IsCutFrom, Gap, AreGaps, AfterGaps, Piece_at, is_gap}
 use Rattle.sbl_text.specs.Scan.{past_literal, past_block, start_of, Cut, cut, cut_at, cut_as, sign_cut, slash_cut, pair_from, pair_cut, name_cut, cut_in}
-use Rattle.sbl_text.proofs.Cuts.{and_left, and_right, or_left, or_right, run, run_longest, sign_found, sign_longest, literal_parts, literal_ends, block_parts, block_ends, same_number}
+use Rattle.sbl_text.proofs.Cuts.{or_left, or_right, run, run_longest, sign_found, sign_longest, literal_parts, literal_ends, block_parts, block_ends, same_number}
 
 -- ---- first characters
 

@@ -9,7 +9,7 @@ use Rattle.sbl_text.specs.Signs.{sign_of, sign_text}
 use Rattle.sbl_text.specs.Words.{word_of, word_text}
 use Rattle.sbl_text.specs.Lexemes.{Lexeme, lexeme_of}
 use Rattle.sbl_text.specs.States.{State}
-use Rattle.sbl_text.specs.Tokens.{Placed, AreTokensFrom, ArePlacedFrom, IsFirstFaultFrom, IsNext}
+use Rattle.sbl_text.specs.Tokens.{Placed, AreTokensFrom, ArePlacedFrom, IsFirstFaultFrom, Reading, IsNext}
 use Rattle.sbl_text.specs.Escapes.{InForce}
 use Rattle.sbl_text.specs.Literals.{IsLiteral}
 
@@ -29,11 +29,10 @@ FirstFaultIsOne = (s : State) (text : List ℕ) (f g : ScriptFault) → IsFirstF
 abbrev pub TokensOrFault : Type 0
 TokensOrFault = (s : State) (text : List ℕ) (ls : List Lexeme) (f : ScriptFault) → AreTokensFrom s text ls → IsFirstFaultFrom s text f → ⊥
 
--- after a fault comes the same fault, unless memory is refused
+-- after a fault comes the same fault, whatever memory is left
 abbrev pub SameFaultAgain : Type 0
 SameFaultAgain =
-    (text : List ℕ) (s t u : State) (from mid rest : List ℕ) (f : ScriptFault) (next : Result (Option Token) ScriptFault) → IsNext text s from t mid (Err f) → IsNext text t mid u rest next
-    → (f ≡ fault.OutOfMemory) ⊎ ((next ≡ Err fault.OutOfMemory) ⊎ (next ≡ Err f))
+    (r s t : Reading) (f : ScriptFault) (next : Result (Option Token) ScriptFault) → IsNext r s (Err f) → IsNext s t next → (f ≡ fault.OutOfMemory) ⊎ ((next ≡ Err f) × (t ≡ s))
 
 -- a word is read from how it is written
 abbrev pub WordsAreRead : Type 0
@@ -50,8 +49,8 @@ LiteralIsOne = (e : InForce) (spelling : List ℕ) (a b : Result (List ℕ) Scri
 -- the token that comes next, before the tokens of what is left then, is a text's first
 abbrev pub NextIsFirst : Type 0
 NextIsFirst =
-    (text : List ℕ) (s t : State) (from rest : List ℕ) (token : Token) (ls : List Lexeme) → IsNext text s from t rest (Ok (Some token)) → AreTokensFrom t rest ls → AreTokensFrom s from (lexeme_of token ∷ ls)
+    (r t : Reading) (token : Token) (ls : List Lexeme) → IsNext r t (Ok (Some token)) → AreTokensFrom t.state t.rest ls → AreTokensFrom r.state r.rest (lexeme_of token ∷ ls)
 
 -- and where none comes there is none
 abbrev pub NoneIsLast : Type 0
-NoneIsLast = (text : List ℕ) (s t : State) (from rest : List ℕ) → IsNext text s from t rest (Ok None) → AreTokensFrom s from []
+NoneIsLast = (r t : Reading) → IsNext r t (Ok None) → AreTokensFrom r.state r.rest []

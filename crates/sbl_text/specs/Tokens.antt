@@ -1,6 +1,5 @@
 -- The tokens of a text, and the first thing that is wrong with it.
-use Rattle.sbl_text.specs.Escapes.{InForce}
-use Rattle.std.specs.Prelude.{◌≡◌, ◌⊎◌, ℕ, ◌<◌, ◌≤◌, ◌+◌, ◌-◌, ◌*◌, Bool, true, false, ◌&&◌, ◌==◌, if◌then◌else◌, List, [], ◌∷◌, ◌++◌, length, encode_utf8_all, Option, Some, None, Result, Ok, Err}
+use Rattle.std.specs.Prelude.{◌≡◌, ◌⊎◌, ℕ, ◌<◌, ◌≤◌, ◌+◌, ◌-◌, ◌*◌, Bool, true, false, ◌&&◌, ◌==◌, if◌then◌else◌, List, [], ◌∷◌, ◌++◌, encode_utf8_all, Option, Some, None, Result, Ok, Err}
 use Rattle.sbl_text.specs.declared.signs.Sign.{Sign}
 use Rattle.sbl_text.specs.declared.words.Word.{Word}
 use Rattle.sbl_text.specs.declared.pieces.Shape.{Shape}
@@ -167,12 +166,6 @@ IsFirstFault text f = IsFirstFaultFrom start text f
 
 -- ---- one token after another
 
--- a text that is being read, what of it is left, and what was set
-pub record Reading : Type 0 where
-  pub text : List ℕ
-  pub rest : List ℕ
-  pub state : State
-
 -- the token's text is x, which stands after `before`
 abbrev pub IsAt : List ℕ → List ℕ → Token → Type 0
 IsAt before x t = (t.text.now ≡ encode_utf8_all x) × (t.start ≡ byte_length before) × (t.end ≡ byte_length before + byte_length x)
@@ -190,7 +183,28 @@ Comes text s from rest (Some token) =
     × Told s k x (lexeme_of token) × IsAt before x token × SaysFitting token
 
 -- The token that comes next, or the end, or a fault. What is set then is t.
-abbrev pub IsNext : List ℕ → State → List ℕ → State → List ℕ → Result (Option Token) ScriptFault → Type 0
-IsNext text s from t rest (Ok None) = Comes text s from rest None × (t ≡ s)
-IsNext text s from t rest (Ok (Some token)) = Comes text s from rest (Some token) × HasValue s (lexeme_of token) × (t ≡ after s (lexeme_of token))
-IsNext text s from t rest (Err f) = (rest ≡ from) × (t ≡ s) × ((f ≡ fault.OutOfMemory) ⊎ Stops text s from f)
+abbrev pub Advances : List ℕ → State → List ℕ → State → List ℕ → Result (Option Token) ScriptFault → Type 0
+Advances text s from t rest (Ok None) = Comes text s from rest None × (t ≡ s)
+Advances text s from t rest (Ok (Some token)) = Comes text s from rest (Some token) × HasValue s (lexeme_of token) × (t ≡ after s (lexeme_of token))
+Advances text s from t rest (Err f) = (rest ≡ from) × (t ≡ s) × ((f ≡ fault.OutOfMemory) ⊎ Stops text s from f)
+
+-- a text that is being read, what of it is left, what was set, and the fault that was answered
+pub record Reading : Type 0 where
+  pub text : List ℕ
+  pub rest : List ℕ
+  pub state : State
+  pub fault : Option ScriptFault
+
+-- what comes next, where no fault was answered: a fault is kept, and want of memory is not
+abbrev pub IsFresh : Reading → Reading → Result (Option Token) ScriptFault → Type 0
+IsFresh r t (Ok o) = Advances r.text r.state r.rest t.state t.rest (Ok o) × (t.fault ≡ None)
+IsFresh r t (Err f) =
+    (t.rest ≡ r.rest) × (t.state ≡ r.state) × (((f ≡ fault.OutOfMemory) × (t.fault ≡ None)) ⊎ (Stops r.text r.state r.rest f × (t.fault ≡ Some f)))
+
+abbrev pub IsAnswer : Option ScriptFault → Reading → Reading → Result (Option Token) ScriptFault → Type 0
+IsAnswer None r t result = IsFresh r t result
+IsAnswer (Some f) r t result = (result ≡ Err f) × (t ≡ r)
+
+-- What is answered next: the fault that was answered before, and nothing changes; or what comes next in the text.
+abbrev pub IsNext : Reading → Reading → Result (Option Token) ScriptFault → Type 0
+IsNext r t result = IsAnswer r.fault r t result
