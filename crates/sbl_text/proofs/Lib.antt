@@ -3,7 +3,7 @@ pub mod Cuts
 pub mod Whole
 pub mod Nexts
 pub mod Lists
-pub mod Macros
+pub mod Definitions
 pub mod Numbers
 pub mod Spellings
 pub mod Parted

@@ -2,6 +2,7 @@ pub mod Classes
 pub mod Words
 pub mod Signs
 pub mod Escapes
+pub mod Latest
 pub mod Codes
 pub mod Literals
 pub mod Pieces

@@ -195,6 +195,10 @@ pub record Reading : Type 0 where
   pub state : State
   pub fault : Option ScriptFault
 
+-- at a text's front
+abbrev pub beginning : State → List ℕ → Reading
+beginning s text = record { text = text; rest = text; state = s; fault = None }
+
 -- what comes next, where no fault was answered: a fault is kept, and want of memory is not
 abbrev pub IsFresh : Reading → Reading → Result (Option Token) ScriptFault → Type 0
 IsFresh r t (Ok o) = Advances r.text r.state r.rest t.state t.rest (Ok o) × (t.fault ≡ None)

@@ -85,20 +85,27 @@ impl<'a> Lexer<'a> {
 
     /// Begins at the text's front, with no insert characters and no macros. The allocator is kept for what tokens mean.
     pub fn new(alloc: Global, text: &'a str) -> Lexer<'a>
-        ensures text { result.text ≡ chars text.now }
-        ensures rest { result.rest ≡ chars text.now }
-        ensures state { result.state ≡ start }
-        ensures fault { result.fault ≡ None }
+        ensures { result ≡ spec.beginning start (chars text.now) }
     {
-        Lexer::with_escapes(alloc, text, Escapes::new(alloc))
+        Lexer::under(alloc, text, Escapes::new(alloc))
+    }
+
+    /// Begins at the text's front, with copies of the insert characters and macros; `OutOfMemory` where memory is
+    /// refused for them. The allocator is kept for what tokens mean.
+    pub fn with_escapes(
+        alloc: Global,
+        text: &'a str,
+        escapes: &Escapes,
+    ) -> Result<Lexer<'a>, ScriptFault>
+        ensures lexer { IfOk result (λ l. l ≡ spec.beginning (start_under escapes.now) (chars text.now)) }
+        ensures fault { IfErr result (λ f. f ≡ ScriptFault.OutOfMemory) }
+    {
+        Ok(Lexer::under(alloc, text, escapes.copy()?))
     }
 
     /// Begins at the text's front, with insert characters and macros.
-    pub fn with_escapes(alloc: Global, text: &'a str, escapes: Escapes) -> Lexer<'a>
-        ensures text { result.text ≡ chars text.now }
-        ensures rest { result.rest ≡ chars text.now }
-        ensures state { result.state ≡ start_under escapes }
-        ensures fault { result.fault ≡ None }
+    fn under(alloc: Global, text: &'a str, escapes: Escapes) -> Lexer<'a>
+        ensures { result ≡ spec.beginning (start_under escapes) (chars text.now) }
     {
         Lexer {
             alloc,
@@ -182,7 +189,7 @@ pub fn tokens_under<'a>(
     ensures placed { IfOk result (λ ts. spec.ArePlacedFrom (start_under escapes) (chars text.now) (map spec.placed_of ts.items)) }
     ensures fault { IfErr result (λ f. (f ≡ ScriptFault.OutOfMemory) ⊎ spec.IsFirstFaultFrom (start_under escapes) (chars text.now) f) }
 {
-    let mut lexer = Lexer::with_escapes(alloc, text, escapes);
+    let mut lexer = Lexer::under(alloc, text, escapes);
     let mut tokens = Vec::new(alloc);
     while let Some(token) = lexer.next()? {
         tokens.push(token)?;
