@@ -1,3 +1,4 @@
+pub mod Written
 pub mod Texts
 pub mod Cuts
 pub mod Whole
@@ -7,5 +8,4 @@ pub mod Definitions
 pub mod Numbers
 pub mod Spellings
 pub mod Parted
-pub mod Written
 pub mod Unique

@@ -15,6 +15,7 @@ use Rattle.std.proofs.lemmas.List.Elements.{All-append, All-cons, All-nil}
 use Rattle.sbl_text.specs.Lexemes.{Lexeme, lexeme_of, SaysFitting}
 use Rattle.sbl_text.specs.States.{State, setting_of, after}
 use Rattle.sbl_text.specs.Tokens.{Says, Piece, after_piece, AreCut, and_more, said, AreTokensFrom, Placed, placed_of, put_placed, placed_from, ArePlacedFrom, IsFirstFaultFrom, Stops, IsAt, Advances, Reading, IsAnswer, IsNext}
+use Rattle.sbl_text.proofs.Written.{sign_found_as}
 
 pub append_nil : {X : Type 0} (xs : List X) → xs ++ [] ≡ xs
 append_nil [] = refl
@@ -148,7 +149,7 @@ some_text e shape.Number x h = let l = ap length h.2 in omega arith
 some_text e shape.Literal x h = let l = ap length h.1 in omega arith
 some_text e shape.Inserts x h = let l = ap length h.2 in omega arith
 some_text e shape.MacroName x h = let l = ap length h.2 in omega arith
-some_text e shape.Sign [] h = absurd (cc)
+some_text e shape.Sign [] h = absurd (let k = sign_found_as [] h.0 h.1 in cc)
 some_text e shape.Sign (c ∷ x) h = omega arith
 
 gaps_shorter : (s : State) (text rest : List ℕ) (gs : List Gap) → AreGaps (setting_of s) text gs rest → length rest ≤ length text

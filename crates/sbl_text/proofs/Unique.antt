@@ -16,6 +16,7 @@ use Rattle.sbl_text.specs.Scan.{Cut, cut_in}
 use Rattle.sbl_text.specs.Lexemes.{Lexeme, lexeme_of, sign, literal, inserts}
 use Rattle.sbl_text.specs.States.{State, setting_of, value_for, after}
 use Rattle.sbl_text.specs.Tokens.{Told, HasValue, Piece, MaySay, after_piece, AreCut, said, MayEnd, AreTokensFrom, Placed, placed_from, ArePlacedFrom, IsRefused, IsFault, IsFirstFaultFrom, Advances, Reading, IsAnswer, IsNext}
+use Rattle.sbl_text.proofs.Written.{signs_differ}
 use Rattle.sbl_text.proofs.Cuts.{and_left, and_right}
 use Rattle.sbl_text.proofs.Whole.{LeavesCut, longest}
 use Rattle.sbl_text.proofs.Lists.{append_nil, cut_append, said_append, said_gaps, as_pieces, gaps_cut, some_text}
@@ -196,7 +197,7 @@ told_one s shape.LineComment x l m a b = absurd a
 told_one s shape.BlockComment x l m a b = absurd a
 told_one s shape.Word x l m a b = a ∙ sym b
 told_one s shape.Number x l m a b = a.1 ∙ sym b.1
-told_one s shape.Sign x l m a b = let e : Some a.0 ≡ Some b.0 = sym a.1 ∙ b.1 in let d : a.0 ≡ b.0 = cc in a.2 ∙ ap sign d ∙ sym b.2
+told_one s shape.Sign x l m a b = a.2 ∙ ap sign (signs_differ a.0 b.0 (sym a.1 ∙ b.1)) ∙ sym b.2
 told_one s shape.Literal x l m a b =
     let d = same_inner x a.0 b.0 a.2 b.2 in
     let v = means_one s.escapes b.0 a.1 b.1 (subst (λ (t : List ℕ). Means s.escapes t a.1) d a.3) b.3 in

@@ -5,7 +5,7 @@ use Rattle.sbl_text.specs.declared.fault.ScriptFault.TheVariants as fault
 use Rattle.sbl_text.specs.declared.signs.Sign.{Sign}
 use Rattle.sbl_text.specs.declared.token.Token.{Token}
 use Rattle.sbl_text.specs.declared.words.Word.{Word}
-use Rattle.sbl_text.specs.Signs.{sign_of, sign_text}
+use Rattle.sbl_text.specs.Signs.{sign_text}
 use Rattle.sbl_text.specs.Words.{word_of, word_text}
 use Rattle.sbl_text.specs.Lexemes.{Lexeme, lexeme_of}
 use Rattle.sbl_text.specs.States.{State}
@@ -38,9 +38,9 @@ SameFaultAgain =
 abbrev pub WordsAreRead : Type 0
 WordsAreRead = (w : Word) → word_of (word_text w) ≡ Some w
 
--- and a sign
-abbrev pub SignsAreRead : Type 0
-SignsAreRead = (s : Sign) → sign_of (sign_text s) ≡ Some s
+-- and no two signs are written alike
+abbrev pub SignsDiffer : Type 0
+SignsDiffer = (s t : Sign) → sign_text s ≡ sign_text t → s ≡ t
 
 -- a spelling means one list of characters, or it has one fault
 abbrev pub LiteralIsOne : Type 0

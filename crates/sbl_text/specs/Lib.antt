@@ -1,6 +1,7 @@
 pub mod Classes
 pub mod Words
 pub mod Signs
+pub mod SignCuts
 pub mod Escapes
 pub mod Latest
 pub mod Codes

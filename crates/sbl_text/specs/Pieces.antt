@@ -8,7 +8,7 @@ use Rattle.sbl_text.specs.declared.escapes.Inserts.{Inserts}
 use Rattle.sbl_text.specs.Classes.{is_white, is_letter, is_digit, is_word}
 use Rattle.sbl_text.specs.declared.pieces.Wanted.{Wanted}
 use Rattle.sbl_text.specs.declared.pieces.Wanted.TheVariants as wanted
-use Rattle.sbl_text.specs.Signs.{sign_of}
+use Rattle.sbl_text.specs.Signs.{sign_text}
 use Rattle.sbl_text.specs.Escapes.{opens, closes}
 
 -- The text can stand between the quotes of a literal. `inside` says that an insertion has begun.
@@ -34,7 +34,7 @@ Has e shape.LineComment x = (inner : List ℕ) × (x ≡ 47 ∷ 47 ∷ inner) ×
 Has e shape.BlockComment x = (inner : List ℕ) × (x ≡ 47 ∷ 42 ∷ (inner ++ 42 ∷ 47 ∷ [])) × (has_end inner ≡ false)
 Has e shape.Word x = (c : ℕ) × (cs : List ℕ) × (x ≡ c ∷ cs) × (is_letter c ≡ true) × (list_all is_word cs ≡ true)
 Has e shape.Number x = (c : ℕ) × (cs : List ℕ) × (x ≡ c ∷ cs) × (is_digit c ≡ true) × (list_all is_digit cs ≡ true)
-Has e shape.Sign x = (s : Sign) × (sign_of x ≡ Some s)
+Has e shape.Sign x = (s : Sign) × (x ≡ sign_text s)
 Has e shape.Literal x = (inner : List ℕ) × (x ≡ 39 ∷ (inner ++ 39 ∷ [])) × (is_inner e false inner ≡ true)
 Has e shape.Inserts x = (a : ℕ) × (b : ℕ) × (x ≡ a ∷ b ∷ []) × (a == 39 ≡ false) × (is_white a ≡ false) × (is_white b ≡ false)
 Has e shape.MacroName x = (c : ℕ) × (cs : List ℕ) × (x ≡ c ∷ cs) × (is_white c ≡ false) × (list_all (λ d. not (is_white d)) cs ≡ true)

@@ -1,4 +1,5 @@
--- How a piece is found: by its first character, and then to its end.
+-- How a piece is found: by its first character, and then to its end. Nothing here need be believed: it is what functions
+-- inside the crate promise each other.
 use Rattle.std.specs.Prelude.{ℕ, Bool, true, false, not, ◌&&◌, ◌||◌, ◌==◌, if◌then◌else◌, List, [], ◌∷◌, drop, Option, Some, None, option_map}
 use Rattle.sbl_text.specs.declared.pieces.Shape.{Shape}
 use Rattle.sbl_text.specs.declared.pieces.Shape.TheVariants as shape
@@ -8,7 +9,7 @@ use Rattle.sbl_text.specs.declared.pieces.Start.{Start}
 use Rattle.sbl_text.specs.declared.pieces.Start.TheVariants as start
 use Rattle.sbl_text.specs.declared.escapes.Inserts.{Inserts}
 use Rattle.sbl_text.specs.Classes.{is_white, is_letter, is_digit, is_word, past}
-use Rattle.sbl_text.specs.Signs.{sign_front}
+use Rattle.sbl_text.specs.SignCuts.{sign_front}
 use Rattle.sbl_text.specs.Escapes.{opens, closes}
 use Rattle.sbl_text.specs.Pieces.{starts_slash}
 

@@ -7,7 +7,7 @@ use Rattle.sbl_text.specs.declared.pieces.Shape.TheVariants as shape
 use Rattle.sbl_text.specs.declared.fault.ScriptFault.{ScriptFault}
 use Rattle.sbl_text.specs.declared.fault.ScriptFault.TheVariants as fault
 use Rattle.sbl_text.specs.declared.token.Token.{Token}
-use Rattle.sbl_text.specs.Signs.{sign_of}
+use Rattle.sbl_text.specs.Signs.{sign_text}
 use Rattle.sbl_text.specs.Words.{word_of}
 use Rattle.sbl_text.specs.declared.pieces.Wanted.{Wanted}
 use Rattle.sbl_text.specs.declared.pieces.Wanted.TheVariants as wanted
@@ -32,7 +32,7 @@ word_or_name (Some w) text = word w
 abbrev pub Told : State → Shape → List ℕ → Lexeme → Type 0
 Told s shape.Word x l = l ≡ word_or_name (word_of (encode_utf8_all x)) (encode_utf8_all x)
 Told s shape.Number x l = (number_of x ≤ 2147483647) × (l ≡ number (number_of x))
-Told s shape.Sign x l = (g : Sign) × (sign_of x ≡ Some g) × (l ≡ sign g)
+Told s shape.Sign x l = (g : Sign) × (x ≡ sign_text g) × (l ≡ sign g)
 Told s shape.Literal x l = (inner : List ℕ) × (v : List ℕ) × (x ≡ 39 ∷ (inner ++ 39 ∷ [])) × Means s.escapes inner v × (l ≡ literal (encode_utf8_all inner) v)
 Told s shape.Inserts x l = (a : ℕ) × (b : ℕ) × (x ≡ a ∷ b ∷ []) × (l ≡ inserts a b)
 Told s shape.MacroName x l = l ≡ macro_name (encode_utf8_all x)
