@@ -9,3 +9,4 @@ pub mod Numbers
 pub mod Spellings
 pub mod Parted
 pub mod Unique
+pub mod Spaced

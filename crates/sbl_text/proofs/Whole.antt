@@ -24,13 +24,13 @@ no_eq_at : (p : ℕ → Bool) (c n : ℕ) (b : Bool) → (c == n) ≡ b → p c 
 no_eq_at p c n true i h k = let s : c ≡ n = grind (arith, nat_tests) in absurd (cc (ap p s))
 no_eq_at p c n false i h k = refl
 
-no_eq : (p : ℕ → Bool) (c n : ℕ) → p c ≡ true → p n ≡ false → (c == n) ≡ false
+pub no_eq : (p : ℕ → Bool) (c n : ℕ) → p c ≡ true → p n ≡ false → (c == n) ≡ false
 no_eq p c n h k = no_eq_at p c n (c == n) refl h k
 
 plain : ℕ → Bool
 plain c = is_white c || (is_letter c || (is_digit c || c == 39))
 
-if_same : (b : Bool) (x : Option Sign) → (if b then x else x) ≡ x
+pub if_same : (b : Bool) (x : Option Sign) → (if b then x else x) ≡ x
 if_same true x = refl
 if_same false x = refl
 

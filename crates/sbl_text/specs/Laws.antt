@@ -1,5 +1,5 @@
 -- What is shown of the tokens of a text.
-use Rattle.std.specs.Prelude.{◌≡◌, ◌⊎◌, ℕ, List, [], ◌∷◌, Result, Ok, Err, Option, Some, None}
+use Rattle.std.specs.Prelude.{true, ◌≡◌, ◌⊎◌, ℕ, List, [], ◌∷◌, Result, Ok, Err, Option, Some, None}
 use Rattle.sbl_text.specs.declared.fault.ScriptFault.{ScriptFault}
 use Rattle.sbl_text.specs.declared.fault.ScriptFault.TheVariants as fault
 use Rattle.sbl_text.specs.declared.signs.Sign.{Sign}
@@ -9,9 +9,11 @@ use Rattle.sbl_text.specs.Signs.{sign_text}
 use Rattle.sbl_text.specs.Words.{word_of, word_text}
 use Rattle.sbl_text.specs.Lexemes.{Lexeme, lexeme_of}
 use Rattle.sbl_text.specs.States.{State}
-use Rattle.sbl_text.specs.Tokens.{Placed, AreTokensFrom, ArePlacedFrom, IsFirstFaultFrom, Reading, IsNext}
+use Rattle.sbl_text.specs.Tokens.{Placed, AreTokensFrom, ArePlacedFrom, IsFirstFaultFrom, Reading, IsNext, MayEnd}
 use Rattle.sbl_text.specs.Escapes.{InForce}
 use Rattle.sbl_text.specs.Literals.{IsLiteral}
+use Rattle.sbl_text.specs.Spaced.{after_all, AreSaid, Spaced, lexemes_of, are_white, spaced_text}
+use Rattle.std.specs.Str.{chars, IsUtf8}
 
 -- a text has one list of tokens
 abbrev pub TokensAreOne : Type 0
@@ -41,6 +43,15 @@ WordsAreRead = (w : Word) → word_of (word_text w) ≡ Some w
 -- and no two signs are written alike
 abbrev pub SignsDiffer : Type 0
 SignsDiffer = (s t : Sign) → sign_text s ≡ sign_text t → s ≡ t
+
+-- lexemes that are said, each followed by a white character, are the tokens of that text
+abbrev pub SpacedAreRead : Type 0
+SpacedAreRead =
+    (s : State) (ps : List Spaced) → are_white ps ≡ true → AreSaid s (lexemes_of ps) → MayEnd (after_all s (lexemes_of ps)) → AreTokensFrom s (chars (spaced_text ps)) (lexemes_of ps)
+
+-- and the tokens of a text are said
+abbrev pub TokensAreSaid : Type 0
+TokensAreSaid = (s : State) (text : List ℕ) (ls : List Lexeme) → IsUtf8 text → AreTokensFrom s (chars text) ls → AreSaid s ls × MayEnd (after_all s ls)
 
 -- a spelling means one list of characters, or it has one fault
 abbrev pub LiteralIsOne : Type 0

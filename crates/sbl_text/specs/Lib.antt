@@ -11,4 +11,5 @@ pub mod Scan
 pub mod Lexemes
 pub mod States
 pub mod Tokens
+pub mod Spaced
 pub mod Laws

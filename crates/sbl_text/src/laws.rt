@@ -1,6 +1,6 @@
 //! What is shown of the tokens of a text.
 
-ghost use Rattle.sbl_text.specs.Laws.{FirstFaultIsOne, LiteralIsOne, NextIsFirst, NoneIsLast, PlacesAreOne, SameFaultAgain, SignsDiffer, TokensAreOne, TokensOrFault, WordsAreRead};
+ghost use Rattle.sbl_text.specs.Laws.{FirstFaultIsOne, LiteralIsOne, NextIsFirst, NoneIsLast, PlacesAreOne, SameFaultAgain, SignsDiffer, SpacedAreRead, TokensAreSaid, TokensAreOne, TokensOrFault, WordsAreRead};
 
 /// A text has one list of tokens, and they have one list of places.
 pub fn tokens_are_one()
@@ -34,4 +34,10 @@ pub fn literal_is_one()
 pub fn nexts_are_tokens()
     ensures next { NextIsFirst }
     ensures none { NoneIsLast }
+{}
+
+/// What is said is read again where each token is followed by a white character; and the tokens of a text are said.
+pub fn spaced_are_read()
+    ensures read { SpacedAreRead }
+    ensures said { TokensAreSaid }
 {}
