@@ -120,10 +120,10 @@ pub with_next : (first : State) (source : List ℕ) (s : State) (from : List ℕ
 with_next first source s from u rest t ts b h =
     let c = h.0 in
     subst (λ (v : State). SoFar first source v rest (ts ++ t ∷ [])) (sym h.2)
-    (one_more first source s (c.1 ++ rest) c.1 rest c.0 c.2 t ts (over_gaps first source s from (c.1 ++ rest) ts b c.4) refl c.3 c.5 (c.6, h.1) c.7)
+    (one_more first source s (c.own ++ rest) c.own rest c.before c.kind t ts (over_gaps first source s from (c.own ++ rest) ts b c.gaps) refl c.stands c.piece (c.told, h.1) c.place)
 
 pub next_fits : (source : List ℕ) (s : State) (from : List ℕ) (u : State) (rest : List ℕ) (t : Token) (ts : List Token) → All SaysFitting ts → Advances source s from u rest (Ok (Some t)) → All SaysFitting (ts ++ t ∷ [])
-next_fits source s from u rest t ts all h = let c = h.0 in All-append SaysFitting ts (t ∷ []) all (All-cons SaysFitting t [] c.8 (All-nil SaysFitting))
+next_fits source s from u rest t ts all h = let c = h.0 in All-append SaysFitting ts (t ∷ []) all (All-cons SaysFitting t [] c.fitting (All-nil SaysFitting))
 
 pub all_tokens : (first : State) (source : List ℕ) (s : State) (from : List ℕ) (u : State) (rest : List ℕ) (ts : List Token) → SoFar first source s from ts → Advances source s from u rest (Ok None) → AreTokensFrom first source (map lexeme_of ts)
 all_tokens first source s from u rest ts b h = let r = over_gaps first source s from [] ts b h.0.0 in (r.0, s, r.1, h.0.1, r.2)
@@ -160,9 +160,9 @@ gaps_shorter s text rest (g ∷ gs) h =
 pub next_shorter : (source : List ℕ) (s : State) (from : List ℕ) (u : State) (rest : List ℕ) (t : Token) → Advances source s from u rest (Ok (Some t)) → length rest < length from
 next_shorter source s from u rest t h =
     let c = h.0 in
-    let l = gaps_shorter s from (c.1 ++ rest) c.4.0 c.4.1 in
-    let m = length-append c.1 rest in
-    let k = some_text s.escapes.inserts c.2 c.1 c.5.stands.has in omega arith
+    let l = gaps_shorter s from (c.own ++ rest) c.gaps.0 c.gaps.1 in
+    let m = length-append c.own rest in
+    let k = some_text s.escapes.inserts c.kind c.own c.piece.stands.has in omega arith
 
 -- where no fault was answered
 pub advanced : (r t : Reading) (result : Result (Option Token) ScriptFault) → r.fault ≡ None → IsNext r t result → Advances r.text r.state r.rest t.state t.rest result

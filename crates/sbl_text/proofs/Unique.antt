@@ -406,11 +406,11 @@ literal_one e text (Err f) (Err d) (inr h) (inr g) = ap Err (first_wrong_one e t
 advanced_first : (text : List ℕ) (s t : State) (from rest : List ℕ) (token : Token) (ls : List Lexeme) → Advances text s from t rest (Ok (Some token)) → AreTokensFrom t rest ls → AreTokensFrom s from (lexeme_of token ∷ ls)
 advanced_first text s t from rest token ls h g =
     let c = h.0 in
-    let q : Piece = record { shape = c.2; text = c.1; lexeme = Some (lexeme_of token) } in
+    let q : Piece = record { shape = c.kind; text = c.own; lexeme = Some (lexeme_of token) } in
     let behind : AreCut (after s (lexeme_of token)) rest g.0 g.1 [] = subst (λ (v : State). AreCut v rest g.0 g.1 []) h.2 g.2 in
-    let cut : AreCut s from (as_pieces c.4.0 ++ q ∷ g.0) g.1 [] = cut_append s s g.1 from (c.1 ++ rest) [] (as_pieces c.4.0) (q ∷ g.0) (gaps_cut s from (c.1 ++ rest) c.4.0 c.4.1) (rest, refl, c.5, (c.6, h.1), behind) in
-    let says : said (as_pieces c.4.0 ++ q ∷ g.0) ≡ lexeme_of token ∷ said g.0 = said_append (as_pieces c.4.0) (q ∷ g.0) ∙ ap (λ (l : List Lexeme). l ++ said (q ∷ g.0)) (said_gaps c.4.0) in
-    (as_pieces c.4.0 ++ q ∷ g.0, g.1, cut, g.3, ap (λ (l : List Lexeme). lexeme_of token ∷ l) g.4 ∙ sym says)
+    let cut : AreCut s from (as_pieces c.gaps.0 ++ q ∷ g.0) g.1 [] = cut_append s s g.1 from (c.own ++ rest) [] (as_pieces c.gaps.0) (q ∷ g.0) (gaps_cut s from (c.own ++ rest) c.gaps.0 c.gaps.1) (rest, refl, c.piece, (c.told, h.1), behind) in
+    let says : said (as_pieces c.gaps.0 ++ q ∷ g.0) ≡ lexeme_of token ∷ said g.0 = said_append (as_pieces c.gaps.0) (q ∷ g.0) ∙ ap (λ (l : List Lexeme). l ++ said (q ∷ g.0)) (said_gaps c.gaps.0) in
+    (as_pieces c.gaps.0 ++ q ∷ g.0, g.1, cut, g.3, ap (λ (l : List Lexeme). lexeme_of token ∷ l) g.4 ∙ sym says)
 
 advanced_last : (text : List ℕ) (s t : State) (from rest : List ℕ) → Advances text s from t rest (Ok None) → AreTokensFrom s from []
 advanced_last text s t from rest h = (as_pieces h.0.0.0, s, gaps_cut s from [] h.0.0.0 h.0.0.1, h.0.1, sym (said_gaps h.0.0.0))

@@ -4,7 +4,7 @@ use Rattle.std.specs.List.{list_all}
 use Rattle.std.specs.Str.{chars, IsUtf8}
 use Rattle.std.specs.Fmt.{decimal}
 use Rattle.sbl_text.specs.declared.pieces.Shape.{Shape}
-use Rattle.sbl_text.specs.Classes.{is_white}
+use Rattle.sbl_text.specs.Classes.{is_white, quote}
 use Rattle.sbl_text.specs.Words.{word_text}
 use Rattle.sbl_text.specs.Signs.{sign_text}
 use Rattle.sbl_text.specs.Pieces.{Has, may_come}
@@ -18,7 +18,7 @@ lexeme_text (word w) = word_text w
 lexeme_text (sign g) = sign_text g
 lexeme_text (name n) = n
 lexeme_text (number n) = decimal n
-lexeme_text (literal spelling v) = 39 ∷ (spelling ++ 39 ∷ [])
+lexeme_text (literal spelling v) = quote ∷ (spelling ++ quote ∷ [])
 lexeme_text (inserts a b) = encode_utf8_all (a ∷ b ∷ [])
 lexeme_text (macro_name n) = n
 

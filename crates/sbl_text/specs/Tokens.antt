@@ -15,6 +15,7 @@ use Rattle.sbl_text.specs.Pieces.{IsPiece, NoPiece, AfterGaps, is_gap}
 use Rattle.sbl_text.specs.States.{State, start, setting_of, value_for, after}
 use Rattle.sbl_text.specs.Literals.{byte_length, Means, FirstWrong}
 use Rattle.sbl_text.specs.Lexemes.{Lexeme, word, sign, name, number, literal, inserts, macro_name, lexeme_of, SaysFitting}
+use Rattle.sbl_text.specs.Classes.{quote, slash, star}
 
 -- the number that digits write, after digits that write n
 abbrev pub digits_value : ℕ → List ℕ → ℕ
@@ -33,7 +34,7 @@ abbrev pub Told : State → Shape → List ℕ → Lexeme → Type 0
 Told s shape.Word x l = l ≡ word_or_name (word_of (encode_utf8_all x)) (encode_utf8_all x)
 Told s shape.Number x l = (number_of x ≤ 2147483647) × (l ≡ number (number_of x))
 Told s shape.Sign x l = (g : Sign) × (x ≡ sign_text g) × (l ≡ sign g)
-Told s shape.Literal x l = (inner : List ℕ) × (v : List ℕ) × (x ≡ 39 ∷ (inner ++ 39 ∷ [])) × Means s.escapes inner v × (l ≡ literal (encode_utf8_all inner) v)
+Told s shape.Literal x l = (inner : List ℕ) × (v : List ℕ) × (x ≡ quote ∷ (inner ++ quote ∷ [])) × Means s.escapes inner v × (l ≡ literal (encode_utf8_all inner) v)
 Told s shape.Inserts x l = (a : ℕ) × (b : ℕ) × (x ≡ a ∷ b ∷ []) × (l ≡ inserts a b)
 Told s shape.MacroName x l = l ≡ macro_name (encode_utf8_all x)
 Told s _ x l = ⊥
@@ -124,18 +125,18 @@ ArePlaced text ts = ArePlacedFrom start text ts
 
 abbrev pub starts_star : List ℕ → Bool
 starts_star [] = false
-starts_star (c ∷ cs) = c == 42
+starts_star (c ∷ cs) = c == star
 
 -- where two insert characters are wanted: a quote, or what stands after the first one
 abbrev pub pair_fault : List ℕ → ℕ → ScriptFault
 pair_fault [] place = fault.BadCharacter place
-pair_fault (c ∷ cs) place = if c == 39 then fault.BadCharacter place else fault.BadCharacter (place + byte_length (c ∷ []))
+pair_fault (c ∷ cs) place = if c == quote then fault.BadCharacter place else fault.BadCharacter (place + byte_length (c ∷ []))
 
 abbrev pub token_fault : List ℕ → ℕ → ScriptFault
 token_fault [] place = fault.BadCharacter place
 token_fault (c ∷ cs) place =
-    if c == 39 then fault.UnclosedString place
-    else (if c == 47 && starts_star cs then fault.UnclosedComment place else fault.BadCharacter place)
+    if c == quote then fault.UnclosedString place
+    else (if c == slash && starts_star cs then fault.UnclosedComment place else fault.BadCharacter place)
 
 -- the fault where no piece stands
 abbrev pub fault_at : Wanted → List ℕ → ℕ → ScriptFault
@@ -146,7 +147,7 @@ fault_at _ text place = token_fault text place
 abbrev pub IsRefused : State → Shape → List ℕ → ℕ → ScriptFault → Type 0
 IsRefused s shape.Number x place f = (2147483647 < number_of x) × (f ≡ fault.NumberTooLarge place)
 IsRefused s shape.Literal x place f =
-    (inner : List ℕ) × (x ≡ 39 ∷ (inner ++ 39 ∷ []))
+    (inner : List ℕ) × (x ≡ quote ∷ (inner ++ quote ∷ []))
     × (FirstWrong s.escapes inner (place + 1) f ⊎ ((v : List ℕ) × Means s.escapes inner v × (value_for s.defining v ≡ None) × (f ≡ fault.BadCode place)))
 IsRefused s _ x place f = ⊥
 
@@ -175,12 +176,23 @@ abbrev pub Stops : List ℕ → State → List ℕ → ScriptFault → Type 0
 Stops text s from f =
     (before : List ℕ) × (at : List ℕ) × (text ≡ before ++ at) × AfterGaps (setting_of s) from at × IsFault s at (byte_length before) f
 
+-- The token stands in the text after gaps: its own text is the longest piece there, tells what the token says, and stands
+-- at its places.
+pub record IsToken (text : List ℕ) (s : State) (from rest : List ℕ) (token : Token) : Type 0 where
+  pub before : List ℕ
+  pub own : List ℕ
+  pub kind : Shape
+  pub stands : text ≡ before ++ (own ++ rest)
+  pub gaps : AfterGaps (setting_of s) from (own ++ rest)
+  pub piece : IsPiece (setting_of s) kind own rest
+  pub told : Told s kind own (lexeme_of token)
+  pub place : IsAt before own token
+  pub fitting : SaysFitting token
+
 -- What stands in the text from `from` on: gaps, then the end or a token. What is left is `rest`.
 abbrev pub Comes : List ℕ → State → List ℕ → List ℕ → Option Token → Type 0
 Comes text s from rest None = AfterGaps (setting_of s) from [] × MayEnd s × (rest ≡ [])
-Comes text s from rest (Some token) =
-    (before : List ℕ) × (x : List ℕ) × (k : Shape) × (text ≡ before ++ (x ++ rest)) × AfterGaps (setting_of s) from (x ++ rest) × IsPiece (setting_of s) k x rest
-    × Told s k x (lexeme_of token) × IsAt before x token × SaysFitting token
+Comes text s from rest (Some token) = IsToken text s from rest token
 
 -- The token that comes next, or the end, or a fault. What is set then is t.
 abbrev pub Advances : List ℕ → State → List ℕ → State → List ℕ → Result (Option Token) ScriptFault → Type 0

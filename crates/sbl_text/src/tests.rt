@@ -306,7 +306,7 @@ fn literals_are_read_alone(rt: HostRuntime) -> Result<(), Fail> {
         };
         assert_eq!(rt; shown.as_str(), want, "in {spelling:?}");
     }
-    let mut lexer = Lexer::with_escapes(rt.alloc(), "'{ss}'", escapes);
+    let mut lexer = Lexer::with_escapes(rt.alloc(), "'{ss}'", &escapes)?;
     match lexer.next()? {
         Some(
             Token {
@@ -320,6 +320,15 @@ fn literals_are_read_alone(rt: HostRuntime) -> Result<(), Fail> {
         _ => assert!(rt; false),
     }
     assert!(rt; kind_of(lexer.next()?) == None);
+    Ok(())
+}
+
+#[test]
+fn words_and_signs_know_how_they_are_written(rt: HostRuntime) -> Result<(), Fail> {
+    assert_eq!(rt; Word::SetMark.text(), "setmark");
+    assert_eq!(rt; Word::AtLeast.text(), "atleast");
+    assert_eq!(rt; Sign::LessMinus.text(), "<-");
+    assert_eq!(rt; Sign::Question.text(), "?");
     Ok(())
 }
 
