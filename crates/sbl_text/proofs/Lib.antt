@@ -1,11 +1,12 @@
+pub mod Written
 pub mod Texts
 pub mod Cuts
 pub mod Whole
 pub mod Nexts
 pub mod Lists
-pub mod Macros
+pub mod Definitions
 pub mod Numbers
 pub mod Spellings
 pub mod Parted
-pub mod Written
 pub mod Unique
+pub mod Spaced

@@ -1,5 +1,5 @@
 -- The tokens of a text, one after another.
-use Rattle.std.proofs.Common.{◌≡◌, ℕ, suc, ◌+◌, ◌-◌, ◌*◌, ◌<◌, ◌≤◌, List, [], ◌∷◌, ◌++◌, length, map, Option, Some, None, Result, Ok, Err, refl, sym, ap, subst, ◌∙◌, arith, append_assoc, ◌⊎◌, inl, inr, length-append}
+use Rattle.std.proofs.Common.{◌≡◌, ℕ, ◌+◌, ◌<◌, ◌≤◌, List, [], ◌∷◌, ◌++◌, length, map, Option, Some, None, Result, Ok, Err, refl, sym, ap, subst, ◌∙◌, arith, ◌⊎◌, inl, inr, length-append}
 use Rattle.std.specs.Prelude.{encode_utf8_all}
 use Rattle.std.proofs.lemmas.Str.{encodes-append}
 use Rattle.sbl_text.specs.declared.pieces.Shape.{Shape}
@@ -13,8 +13,9 @@ use Rattle.sbl_text.specs.Pieces.{Has, IsPiece, Gap, AreGaps, AfterGaps}
 use Rattle.std.specs.List.{All}
 use Rattle.std.proofs.lemmas.List.Elements.{All-append, All-cons, All-nil}
 use Rattle.sbl_text.specs.Lexemes.{Lexeme, lexeme_of, SaysFitting}
-use Rattle.sbl_text.specs.States.{State, start, setting_of, after}
-use Rattle.sbl_text.specs.Tokens.{Says, HasValue, Piece, MaySay, after_piece, AreCut, and_more, said, AreTokensFrom, Placed, placed_of, put_placed, placed_from, ArePlacedFrom, IsFirstFaultFrom, Stops, IsAt, Comes, IsNext}
+use Rattle.sbl_text.specs.States.{State, setting_of, after}
+use Rattle.sbl_text.specs.Tokens.{Says, Piece, after_piece, AreCut, and_more, said, AreTokensFrom, Placed, placed_of, put_placed, placed_from, ArePlacedFrom, IsFirstFaultFrom, Stops, IsAt, Advances, Reading, IsAnswer, IsNext}
+use Rattle.sbl_text.proofs.Written.{sign_found_as}
 
 pub append_nil : {X : Type 0} (xs : List X) → xs ++ [] ≡ xs
 append_nil [] = refl
@@ -115,26 +116,26 @@ one_more first source s at x rest before k t ts b is front p says place =
           ∙ sym (placed_append 0 (total b.0) b.0 (q ∷ []) (omega arith)),
     )
 
-pub with_next : (first : State) (source : List ℕ) (s : State) (from : List ℕ) (u : State) (rest : List ℕ) (t : Token) (ts : List Token) → SoFar first source s from ts → IsNext source s from u rest (Ok (Some t)) → SoFar first source u rest (ts ++ t ∷ [])
+pub with_next : (first : State) (source : List ℕ) (s : State) (from : List ℕ) (u : State) (rest : List ℕ) (t : Token) (ts : List Token) → SoFar first source s from ts → Advances source s from u rest (Ok (Some t)) → SoFar first source u rest (ts ++ t ∷ [])
 with_next first source s from u rest t ts b h =
     let c = h.0 in
     subst (λ (v : State). SoFar first source v rest (ts ++ t ∷ [])) (sym h.2)
-    (one_more first source s (c.1 ++ rest) c.1 rest c.0 c.2 t ts (over_gaps first source s from (c.1 ++ rest) ts b c.4) refl c.3 c.5 (c.6, h.1) c.7)
+    (one_more first source s (c.own ++ rest) c.own rest c.before c.kind t ts (over_gaps first source s from (c.own ++ rest) ts b c.gaps) refl c.stands c.piece (c.told, h.1) c.place)
 
-pub next_fits : (source : List ℕ) (s : State) (from : List ℕ) (u : State) (rest : List ℕ) (t : Token) (ts : List Token) → All SaysFitting ts → IsNext source s from u rest (Ok (Some t)) → All SaysFitting (ts ++ t ∷ [])
-next_fits source s from u rest t ts all h = let c = h.0 in All-append SaysFitting ts (t ∷ []) all (All-cons SaysFitting t [] c.8 (All-nil SaysFitting))
+pub next_fits : (source : List ℕ) (s : State) (from : List ℕ) (u : State) (rest : List ℕ) (t : Token) (ts : List Token) → All SaysFitting ts → Advances source s from u rest (Ok (Some t)) → All SaysFitting (ts ++ t ∷ [])
+next_fits source s from u rest t ts all h = let c = h.0 in All-append SaysFitting ts (t ∷ []) all (All-cons SaysFitting t [] c.fitting (All-nil SaysFitting))
 
-pub all_tokens : (first : State) (source : List ℕ) (s : State) (from : List ℕ) (u : State) (rest : List ℕ) (ts : List Token) → SoFar first source s from ts → IsNext source s from u rest (Ok None) → AreTokensFrom first source (map lexeme_of ts)
+pub all_tokens : (first : State) (source : List ℕ) (s : State) (from : List ℕ) (u : State) (rest : List ℕ) (ts : List Token) → SoFar first source s from ts → Advances source s from u rest (Ok None) → AreTokensFrom first source (map lexeme_of ts)
 all_tokens first source s from u rest ts b h = let r = over_gaps first source s from [] ts b h.0.0 in (r.0, s, r.1, h.0.1, r.2)
 
-pub all_placed : (first : State) (source : List ℕ) (s : State) (from : List ℕ) (u : State) (rest : List ℕ) (ts : List Token) → SoFar first source s from ts → IsNext source s from u rest (Ok None) → ArePlacedFrom first source (map placed_of ts)
+pub all_placed : (first : State) (source : List ℕ) (s : State) (from : List ℕ) (u : State) (rest : List ℕ) (ts : List Token) → SoFar first source s from ts → Advances source s from u rest (Ok None) → ArePlacedFrom first source (map placed_of ts)
 all_placed first source s from u rest ts b h = let r = over_gaps first source s from [] ts b h.0.0 in (r.0, s, r.1, h.0.1, r.3)
 
 first_fault : (first : State) (source : List ℕ) (s : State) (from : List ℕ) (f : ScriptFault) (ts : List Token) → SoFar first source s from ts → (f ≡ fault.OutOfMemory) ⊎ Stops source s from f → (f ≡ fault.OutOfMemory) ⊎ IsFirstFaultFrom first source f
 first_fault first source s from f ts b (inl h) = inl h
 first_fault first source s from f ts b (inr h) = let r = over_gaps first source s from h.1 ts b h.3 in inr (h.0, h.1, r.0, s, h.2, r.1, h.4)
 
-pub first_of_all : (first : State) (source : List ℕ) (s : State) (from : List ℕ) (u : State) (rest : List ℕ) (f : ScriptFault) (ts : List Token) → SoFar first source s from ts → IsNext source s from u rest (Err f) → (f ≡ fault.OutOfMemory) ⊎ IsFirstFaultFrom first source f
+pub first_of_all : (first : State) (source : List ℕ) (s : State) (from : List ℕ) (u : State) (rest : List ℕ) (f : ScriptFault) (ts : List Token) → SoFar first source s from ts → Advances source s from u rest (Err f) → (f ≡ fault.OutOfMemory) ⊎ IsFirstFaultFrom first source f
 first_of_all first source s from u rest f ts b h = first_fault first source s from f ts b h.2
 
 -- ---- a token takes something
@@ -148,7 +149,7 @@ some_text e shape.Number x h = let l = ap length h.2 in omega arith
 some_text e shape.Literal x h = let l = ap length h.1 in omega arith
 some_text e shape.Inserts x h = let l = ap length h.2 in omega arith
 some_text e shape.MacroName x h = let l = ap length h.2 in omega arith
-some_text e shape.Sign [] h = absurd (cc)
+some_text e shape.Sign [] h = absurd (let k = sign_found_as [] h.0 h.1 in cc)
 some_text e shape.Sign (c ∷ x) h = omega arith
 
 gaps_shorter : (s : State) (text rest : List ℕ) (gs : List Gap) → AreGaps (setting_of s) text gs rest → length rest ≤ length text
@@ -156,9 +157,24 @@ gaps_shorter s text rest [] h = let l = ap length h in omega arith
 gaps_shorter s text rest (g ∷ gs) h =
     let l = ap length h.1 ∙ length-append g.text h.0 in let r = gaps_shorter s h.0 rest gs h.4 in omega arith
 
-pub next_shorter : (source : List ℕ) (s : State) (from : List ℕ) (u : State) (rest : List ℕ) (t : Token) → IsNext source s from u rest (Ok (Some t)) → length rest < length from
+pub next_shorter : (source : List ℕ) (s : State) (from : List ℕ) (u : State) (rest : List ℕ) (t : Token) → Advances source s from u rest (Ok (Some t)) → length rest < length from
 next_shorter source s from u rest t h =
     let c = h.0 in
-    let l = gaps_shorter s from (c.1 ++ rest) c.4.0 c.4.1 in
-    let m = length-append c.1 rest in
-    let k = some_text s.escapes.inserts c.2 c.1 c.5.stands.has in omega arith
+    let l = gaps_shorter s from (c.own ++ rest) c.gaps.0 c.gaps.1 in
+    let m = length-append c.own rest in
+    let k = some_text s.escapes.inserts c.kind c.own c.piece.stands.has in omega arith
+
+-- where no fault was answered
+pub advanced : (r t : Reading) (result : Result (Option Token) ScriptFault) → r.fault ≡ None → IsNext r t result → Advances r.text r.state r.rest t.state t.rest result
+advanced r t result none h = fresh result (subst (λ (o : Option ScriptFault). IsAnswer o r t result) none h)
+  where
+    met : (f : ScriptFault) → ((f ≡ fault.OutOfMemory) × (t.fault ≡ None)) ⊎ (Stops r.text r.state r.rest f × (t.fault ≡ Some f)) → (f ≡ fault.OutOfMemory) ⊎ Stops r.text r.state r.rest f
+    met f (inl o) = inl o.0
+    met f (inr o) = inr o.0
+
+    fresh : (a : Result (Option Token) ScriptFault) → IsAnswer None r t a → Advances r.text r.state r.rest t.state t.rest a
+    fresh (Ok o) k = k.0
+    fresh (Err f) k = (k.0, k.1, met f k.2)
+
+pub still_none : (r t : Reading) (o : Option Token) → r.fault ≡ None → IsNext r t (Ok o) → t.fault ≡ None
+still_none r t o none h = (subst (λ (f : Option ScriptFault). IsAnswer f r t (Ok o)) none h).1

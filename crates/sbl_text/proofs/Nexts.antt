@@ -1,5 +1,5 @@
 -- What comes next in a text.
-use Rattle.std.proofs.Common.{◌≡◌, ℕ, suc, ◌+◌, ◌-◌, ◌*◌, ◌<◌, ◌≤◌, ◌^◌, Bool, true, false, List, [], ◌∷◌, ◌++◌, length, Option, Some, None, refl, sym, ap, subst, ◌∙◌, arith, append_assoc, ◌⊎◌, inl, inr, length-append}
+use Rattle.std.proofs.Common.{◌≡◌, ℕ, ◌+◌, ◌-◌, ◌*◌, ◌<◌, ◌≤◌, ◌^◌, Bool, true, false, List, [], ◌∷◌, ◌++◌, length, Option, Some, None, refl, sym, ap, subst, ◌∙◌, arith, append_assoc, ◌⊎◌, inl, inr, length-append}
 use Rattle.std.specs.Prelude.{not, ◌||◌, ◌==◌, if◌then◌else◌, option_map, encode_utf8, encode_utf8_all}
 use Rattle.std.proofs.lemmas.Bool.Decides.{nat_tests}
 use Rattle.std.specs.Str.{chars, IsUtf8}
@@ -16,10 +16,10 @@ use Rattle.sbl_text.specs.declared.token.Token.{Token}
 use Rattle.sbl_text.specs.Words.{word_of}
 use Rattle.sbl_text.specs.Escapes.{InForce, opens, closes}
 use Rattle.sbl_text.specs.Literals.{byte_length, Means, FirstWrong, is_closed}
-use Rattle.sbl_text.specs.Pieces.{is_inner, Setting, setting, IsPiece, NoPiece, Gap, AreGaps, AfterGaps, Piece_at}
+use Rattle.sbl_text.specs.Pieces.{is_inner, Setting, setting, NoPiece, Gap, AreGaps, AfterGaps, Piece_at}
 use Rattle.sbl_text.specs.Lexemes.{Lexeme, word, sign, name, number, literal, inserts, macro_name, lexeme_of, SaysFitting}
 use Rattle.sbl_text.specs.States.{State, Defining, setting_of, settled, value_for, defined_by}
-use Rattle.sbl_text.specs.Tokens.{digits_value, number_of, word_or_name, Told, LacksValue, MayEnd, IsRefused, fault_at, pair_fault, IsFault, Stops, IsAt, Comes, IsNext}
+use Rattle.sbl_text.specs.Tokens.{digits_value, word_or_name, Told, LacksValue, MayEnd, IsRefused, fault_at, pair_fault, Stops, Comes}
 
 -- ---- numbers
 
@@ -75,33 +75,33 @@ pub comes : (s : State) (source from at rest text : List ℕ) (k : Shape) (t : T
     → ((x : List ℕ) → source ≡ x ++ rest → t.end ≡ byte_length x)
     → AfterGaps (setting_of s) from at → Piece_at (setting_of s) k at rest → ((x : List ℕ) → at ≡ x ++ rest → text ≡ x) → ((x : List ℕ) → at ≡ x ++ rest → t.text.now ≡ encode_utf8_all x)
     → Told s k text (lexeme_of t) → SaysFitting t → Comes source s from rest (Some t)
-comes s source from at rest text k t b p q g c same bytes told fitting = (
-  b.0,
-  c.0,
-  k,
-  b.1 ∙ ap (λ (y : List ℕ). b.0 ++ y) c.1,
-  subst (AfterGaps (setting_of s) from) c.1 g,
-  c.2,
-  subst (λ (y : List ℕ). Told s k y (lexeme_of t)) (same c.0 c.1) told,
-  (
+comes s source from at rest text k t b p q g c same bytes told fitting = record {
+  before = b.0;
+  own = c.0;
+  kind = k;
+  stands = b.1 ∙ ap (λ (y : List ℕ). b.0 ++ y) c.1;
+  gaps = subst (AfterGaps (setting_of s) from) c.1 g;
+  piece = c.2;
+  told = subst (λ (y : List ℕ). Told s k y (lexeme_of t)) (same c.0 c.1) told;
+  place = (
     bytes c.0 c.1,
     p b.0 b.1,
     q (b.0 ++ c.0) (b.1 ∙ ap (λ (y : List ℕ). b.0 ++ y) c.1 ∙ sym (append_assoc b.0 c.0 rest)) ∙ ap length (encodes-append b.0 c.0) ∙ length-append (encode_utf8_all b.0) (encode_utf8_all c.0),
-  ),
-  fitting,
-)
+  );
+  fitting = fitting;
+}
 
 -- what is left after it ends the text
 pub next_ends : (s : State) (source from rest : List ℕ) (o : Option Token) → (x : List ℕ) × (source ≡ x ++ from) → Comes source s from rest o → (x : List ℕ) × (source ≡ x ++ rest)
 next_ends s source from rest None b h = let r = after_gaps (setting_of s) source from [] b h.0 in (r.0, r.1 ∙ ap (λ (t : List ℕ). r.0 ++ t) (sym h.2))
-next_ends s source from rest (Some t) b h = (h.0 ++ h.1, h.3 ∙ sym (append_assoc h.0 h.1 rest))
+next_ends s source from rest (Some t) b h = (h.before ++ h.own, h.stands ∙ sym (append_assoc h.before h.own rest))
 
 -- a literal that lacks a value for its macro
 pub lacking : (s : State) (source from rest : List ℕ) (t : Token) (l : Lexeme) (f : ScriptFault) → lexeme_of t ≡ l → Comes source s from rest (Some t) → (f ≡ fault.OutOfMemory) ⊎ (LacksValue s l × (f ≡ fault.BadCode t.start))
     → (f ≡ fault.OutOfMemory) ⊎ Stops source s from f
 lacking s source from rest t l f is c (inl h) = inl h
 lacking s source from rest t (literal spelling v) f is c (inr h) =
-    inr (c.0, c.1 ++ rest, c.3, c.4, inr (c.2, c.1, rest, refl, c.5, refused_as c.2 c.1 spelling v (byte_length c.0) f (subst (Told s c.2 c.1) is c.6) h.0 (h.1 ∙ ap fault.BadCode c.7.1)))
+    inr (c.before, c.own ++ rest, c.stands, c.gaps, inr (c.kind, c.own, rest, refl, c.piece, refused_as c.kind c.own spelling v (byte_length c.before) f (subst (Told s c.kind c.own) is c.told) h.0 (h.1 ∙ ap fault.BadCode c.place.1)))
   where
     refused_as : (k : Shape) (x spelling v : List ℕ) (n : ℕ) (f : ScriptFault) → Told s k x (literal spelling v) → value_for s.defining v ≡ None → f ≡ fault.BadCode n → IsRefused s k x n f
     refused_as shape.Literal x spelling v n f told none eq =

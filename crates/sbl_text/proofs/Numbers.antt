@@ -1,14 +1,14 @@
 -- Codes of characters, and numbers between white space.
-use Rattle.std.proofs.Common.{◌≡◌, ℕ, suc, ◌+◌, ◌-◌, ◌*◌, ◌<◌, ◌≤◌, Bool, true, false, List, [], ◌∷◌, ◌++◌, length, take, drop, get_or, Option, Some, None, refl, sym, ap, subst, ◌∙◌, arith, append_assoc}
-use Rattle.std.specs.Prelude.{not, ◌&&◌, ◌||◌, ◌==◌, nat_lt, nat_le, if◌then◌else◌, unwrap_or}
+use Rattle.std.proofs.Common.{◌≡◌, ℕ, ◌+◌, ◌*◌, ◌<◌, ◌≤◌, Bool, true, false, List, [], ◌∷◌, ◌++◌, length, take, drop, get_or, Option, Some, None, refl, sym, ap, ◌∙◌, arith, append_assoc}
+use Rattle.std.specs.Prelude.{◌&&◌, nat_lt, nat_le, if◌then◌else◌, unwrap_or}
 use Rattle.std.specs.List.{list_all, position, position_or_len}
 use Rattle.std.specs.Char.{digit_value}
 use Rattle.std.proofs.lemmas.Bool.Decides.{nat_tests}
 use Rattle.std.proofs.lemmas.List.{length-append}
 use Rattle.std.proofs.Math.Seq.{take-append_seam, drop-append_seam}
 use Rattle.sbl_text.specs.Classes.{is_white}
-use Rattle.sbl_text.specs.Codes.{value_in, is_scalar, write_scalar, code_of, put_first, runs, kept, numbers_in, both, all_codes}
-use Rattle.sbl_text.proofs.Cuts.{and_left, and_right, and_false}
+use Rattle.sbl_text.specs.Codes.{value_in, is_scalar, write_scalar, code_of, runs, kept, numbers_in, both, all_codes}
+use Rattle.sbl_text.proofs.Cuts.{and_false}
 use Rattle.sbl_text.proofs.Lists.{append_nil}
 
 -- ---- one code

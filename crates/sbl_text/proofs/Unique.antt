@@ -1,22 +1,22 @@
 -- A text has one list of tokens, or one first fault.
-use Rattle.std.proofs.Common.{◌≡◌, ℕ, suc, ◌+◌, ◌-◌, ◌*◌, ◌<◌, ◌≤◌, Bool, true, false, List, [], ◌∷◌, ◌++◌, length, Option, Some, None, Result, Ok, Err, refl, sym, ap, subst, ◌∙◌, arith, append_assoc, ◌⊎◌, inl, inr}
-use Rattle.std.specs.Prelude.{not, ◌&&◌, ◌==◌, encode_utf8_all}
+use Rattle.std.proofs.Common.{◌≡◌, ℕ, ◌+◌, ◌<◌, Bool, true, false, List, [], ◌∷◌, ◌++◌, length, Option, Some, None, Result, Ok, Err, refl, sym, ap, subst, ◌∙◌, arith, append_assoc, ◌⊎◌, inl, inr}
+use Rattle.std.specs.Prelude.{not, ◌==◌, encode_utf8_all}
 use Rattle.std.specs.List.{list_all}
 use Rattle.std.proofs.lemmas.List.{append_cancel_right}
 use Rattle.sbl_text.specs.declared.pieces.Shape.{Shape}
 use Rattle.sbl_text.specs.declared.pieces.Shape.TheVariants as shape
-use Rattle.sbl_text.specs.declared.pieces.Wanted.TheVariants as wanted
 use Rattle.sbl_text.specs.declared.escapes.Inserts.{Inserts}
 use Rattle.sbl_text.specs.declared.fault.ScriptFault.{ScriptFault}
 use Rattle.sbl_text.specs.declared.fault.ScriptFault.TheVariants as fault
 use Rattle.sbl_text.specs.declared.token.Token.{Token}
 use Rattle.sbl_text.specs.Escapes.{InForce, opens, closes}
-use Rattle.sbl_text.specs.Literals.{Refusal, byte_length, inserted, IsInsertion, IsPlain, Part, IsPart, AreParts, values, Means, IsWrong, FirstWrong, is_closed, IsLiteral}
-use Rattle.sbl_text.specs.Pieces.{Setting, Stands, IsPiece, NoPiece, AfterGaps, is_gap}
+use Rattle.sbl_text.specs.Literals.{Refusal, byte_length, inserted, IsInsertion, IsPlain, Part, IsPart, AreParts, values, Means, IsWrong, FirstWrong, IsLiteral}
+use Rattle.sbl_text.specs.Pieces.{Setting, IsPiece, is_gap}
 use Rattle.sbl_text.specs.Scan.{Cut, cut_in}
 use Rattle.sbl_text.specs.Lexemes.{Lexeme, lexeme_of, sign, literal, inserts}
-use Rattle.sbl_text.specs.States.{State, start, setting_of, value_for, after}
-use Rattle.sbl_text.specs.Tokens.{number_of, Told, HasValue, Says, Piece, MaySay, after_piece, AreCut, said, MayEnd, AreTokensFrom, Placed, placed_from, ArePlacedFrom, IsRefused, IsFault, IsFirstFaultFrom, Stops, Comes, IsNext}
+use Rattle.sbl_text.specs.States.{State, setting_of, value_for, after}
+use Rattle.sbl_text.specs.Tokens.{Told, HasValue, Piece, MaySay, after_piece, AreCut, said, MayEnd, AreTokensFrom, Placed, placed_from, ArePlacedFrom, IsRefused, IsFault, IsFirstFaultFrom, Advances, Reading, IsAnswer, IsNext}
+use Rattle.sbl_text.proofs.Written.{signs_differ}
 use Rattle.sbl_text.proofs.Cuts.{and_left, and_right}
 use Rattle.sbl_text.proofs.Whole.{LeavesCut, longest}
 use Rattle.sbl_text.proofs.Lists.{append_nil, cut_append, said_append, said_gaps, as_pieces, gaps_cut, some_text}
@@ -197,7 +197,7 @@ told_one s shape.LineComment x l m a b = absurd a
 told_one s shape.BlockComment x l m a b = absurd a
 told_one s shape.Word x l m a b = a ∙ sym b
 told_one s shape.Number x l m a b = a.1 ∙ sym b.1
-told_one s shape.Sign x l m a b = let e : Some a.0 ≡ Some b.0 = sym a.1 ∙ b.1 in let d : a.0 ≡ b.0 = cc in a.2 ∙ ap sign d ∙ sym b.2
+told_one s shape.Sign x l m a b = a.2 ∙ ap sign (signs_differ a.0 b.0 (sym a.1 ∙ b.1)) ∙ sym b.2
 told_one s shape.Literal x l m a b =
     let d = same_inner x a.0 b.0 a.2 b.2 in
     let v = means_one s.escapes b.0 a.1 b.1 (subst (λ (t : List ℕ). Means s.escapes t a.1) d a.3) b.3 in
@@ -366,62 +366,21 @@ tokens_or_fault s text ls f a b = end_or_fault s text a.1 b.3 b.1 (byte_length b
 
 -- ---- the same fault again
 
-fault_no_token : (s : State) (from at x rest : List ℕ) (n : ℕ) (f : ScriptFault) (k : Shape) (l : Lexeme) → AfterGaps (setting_of s) from at → IsFault s at n f → AfterGaps (setting_of s) from (x ++ rest)
-    → IsPiece (setting_of s) k x rest → Says s k x l → ⊥
-fault_no_token s from at x rest n f k l g i h p y = met (two_cuts s from gaps pieces s at (after s l) rest (gaps_cut s from at g.0 g.1) cut)
+-- a fault that was answered is kept
+kept : (s t : Reading) (f : ScriptFault) (a : Result (Option Token) ScriptFault) → s.fault ≡ Some f → IsNext s t a → (a ≡ Err f) × (t ≡ s)
+kept s t f a k h = subst (λ (o : Option ScriptFault). IsAnswer o s t a) k h
+
+faulted : (o : Option ScriptFault) (r s : Reading) (f : ScriptFault) → r.fault ≡ o → IsAnswer o r s (Err f) → (f ≡ fault.OutOfMemory) ⊎ (s.fault ≡ Some f)
+faulted None r s f is (_, _, inl o) = inl o.0
+faulted None r s f is (_, _, inr o) = inr o.1
+faulted (Some g) r s f is h = inr (ap (λ (u : Reading). u.fault) h.1 ∙ is ∙ (let e : f ≡ g = cc (h.0) in ap Some (sym e)))
+
+pub same_again : (r s t : Reading) (f : ScriptFault) (a : Result (Option Token) ScriptFault) → IsNext r s (Err f) → IsNext s t a → (f ≡ fault.OutOfMemory) ⊎ ((a ≡ Err f) × (t ≡ s))
+same_again r s t f a h k = again (faulted r.fault r s f refl h)
   where
-    q : Piece
-    q = record { shape = k; text = x; lexeme = Some l }
-
-    gaps : List Piece
-    gaps = as_pieces g.0
-
-    pieces : List Piece
-    pieces = as_pieces h.0 ++ q ∷ []
-
-    cut : AreCut s from (as_pieces h.0 ++ q ∷ []) (after s l) rest
-    cut = cut_append s s (after s l) from (x ++ rest) rest (as_pieces h.0) (q ∷ []) (gaps_cut s from (x ++ rest) h.0 h.1) (rest, refl, p, y, (refl, refl))
-
-    says : said (as_pieces h.0 ++ q ∷ []) ≡ l ∷ []
-    says = said_append (as_pieces h.0) (q ∷ []) ∙ ap (λ (t : List Lexeme). t ++ l ∷ []) (said_gaps h.0)
-
-    met : Ahead (as_pieces g.0) (as_pieces h.0 ++ q ∷ []) s at (after s l) rest ⊎ Ahead (as_pieces h.0 ++ q ∷ []) (as_pieces g.0) (after s l) rest s at → ⊥
-    met (inl a) =
-        let e : as_pieces h.0 ++ q ∷ [] ≡ as_pieces g.0 = a.1 ∙ ap (λ (t : List Piece). as_pieces g.0 ++ t) (fault_stops s at n f (after s l) rest a.0 i a.2) ∙ append_nil (as_pieces g.0) in
-        absurd (let c : l ∷ [] ≡ [] = sym says ∙ ap said e ∙ said_gaps g.0 in cc)
-    met (inr a) =
-        absurd (let c : [] ≡ (l ∷ []) ++ said a.0 = sym (said_gaps g.0) ∙ ap said a.1 ∙ said_append (as_pieces h.0 ++ q ∷ []) a.0 ∙ ap (λ (t : List Lexeme). t ++ said a.0) says in cc)
-
-one_stop : (text : List ℕ) (s : State) (from : List ℕ) (f g : ScriptFault) → Stops text s from f → Stops text s from g → f ≡ g
-one_stop text s from f g a b =
-    one_fault text a.0 a.1 b.0 b.1 s s f g a.2 b.2
-    (same_place s from s a.1 s b.1 (byte_length a.0) (byte_length b.0) f g (as_pieces a.3.0) (as_pieces b.3.0) (gaps_cut s from a.1 a.3.0 a.3.1) (gaps_cut s from b.1 b.3.0 b.3.1) a.4 b.4) a.4 b.4
-
-abbrev OrErr : Result (Option Token) ScriptFault → ScriptFault → Type 0
-OrErr a f = (a ≡ Err fault.OutOfMemory) ⊎ (a ≡ Err f)
-
-erred : (text : List ℕ) (s : State) (from : List ℕ) (f g : ScriptFault) → Stops text s from f → (g ≡ fault.OutOfMemory) ⊎ Stops text s from g → OrErr (Err g) f
-erred text s from f g b (inl o) = inl (ap Err o)
-erred text s from f g b (inr o) = inr (ap Err (one_stop text s from g f o b))
-
-again : (text : List ℕ) (s : State) (from : List ℕ) (u : State) (rest : List ℕ) (f : ScriptFault) (a : Result (Option Token) ScriptFault) → Stops text s from f → IsNext text s from u rest a → OrErr a f
-again text s from u rest f (Ok None) b h =
-    absurd (end_or_fault s from s s b.1 (byte_length b.0) f (as_pieces h.0.0.0) (as_pieces b.3.0) (gaps_cut s from [] h.0.0.0 h.0.0.1) h.0.1 (gaps_cut s from b.1 b.3.0 b.3.1) b.4)
-again text s from u rest f (Ok (Some t)) b h =
-    absurd (fault_no_token s from b.1 h.0.1 rest (byte_length b.0) f h.0.2 (lexeme_of t) b.3 b.4 h.0.4 h.0.5 (h.0.6, h.1))
-again text s from u rest f (Err g) b h = erred text s from f g b h.2
-
-moved : (text : List ℕ) (s t u : State) (from mid rest : List ℕ) (a : Result (Option Token) ScriptFault) → mid ≡ from → t ≡ s → IsNext text t mid u rest a → IsNext text s from u rest a
-moved text s t u from mid rest a is same h = subst (λ (x : List ℕ). IsNext text s x u rest a) is (subst (λ (v : State). IsNext text v mid u rest a) same h)
-
-again_or : (text : List ℕ) (s : State) (from : List ℕ) (u : State) (rest : List ℕ) (f : ScriptFault) (a : Result (Option Token) ScriptFault) → (f ≡ fault.OutOfMemory) ⊎ Stops text s from f → IsNext text s from u rest a
-    → (f ≡ fault.OutOfMemory) ⊎ OrErr a f
-again_or text s from u rest f a (inl o) h = inl o
-again_or text s from u rest f a (inr b) h = inr (again text s from u rest f a b h)
-
-pub same_again : (text : List ℕ) (s t u : State) (from mid rest : List ℕ) (f : ScriptFault) (a : Result (Option Token) ScriptFault) → IsNext text s from t mid (Err f) → IsNext text t mid u rest a
-    → (f ≡ fault.OutOfMemory) ⊎ ((a ≡ Err fault.OutOfMemory) ⊎ (a ≡ Err f))
-same_again text s t u from mid rest f a h k = again_or text s from u rest f a h.2 (moved text s t u from mid rest a h.0 h.1 k)
+    again : (f ≡ fault.OutOfMemory) ⊎ (s.fault ≡ Some f) → (f ≡ fault.OutOfMemory) ⊎ ((a ≡ Err f) × (t ≡ s))
+    again (inl o) = inl o
+    again (inr e) = inr (kept s t f a e k)
 
 -- ---- one reading of a spelling
 
@@ -444,14 +403,28 @@ literal_one e text (Err f) (Err d) (inr h) (inr g) = ap Err (first_wrong_one e t
 
 -- ---- one token after another
 
-pub next_is_first : (text : List ℕ) (s t : State) (from rest : List ℕ) (token : Token) (ls : List Lexeme) → IsNext text s from t rest (Ok (Some token)) → AreTokensFrom t rest ls → AreTokensFrom s from (lexeme_of token ∷ ls)
-next_is_first text s t from rest token ls h g =
+advanced_first : (text : List ℕ) (s t : State) (from rest : List ℕ) (token : Token) (ls : List Lexeme) → Advances text s from t rest (Ok (Some token)) → AreTokensFrom t rest ls → AreTokensFrom s from (lexeme_of token ∷ ls)
+advanced_first text s t from rest token ls h g =
     let c = h.0 in
-    let q : Piece = record { shape = c.2; text = c.1; lexeme = Some (lexeme_of token) } in
+    let q : Piece = record { shape = c.kind; text = c.own; lexeme = Some (lexeme_of token) } in
     let behind : AreCut (after s (lexeme_of token)) rest g.0 g.1 [] = subst (λ (v : State). AreCut v rest g.0 g.1 []) h.2 g.2 in
-    let cut : AreCut s from (as_pieces c.4.0 ++ q ∷ g.0) g.1 [] = cut_append s s g.1 from (c.1 ++ rest) [] (as_pieces c.4.0) (q ∷ g.0) (gaps_cut s from (c.1 ++ rest) c.4.0 c.4.1) (rest, refl, c.5, (c.6, h.1), behind) in
-    let says : said (as_pieces c.4.0 ++ q ∷ g.0) ≡ lexeme_of token ∷ said g.0 = said_append (as_pieces c.4.0) (q ∷ g.0) ∙ ap (λ (l : List Lexeme). l ++ said (q ∷ g.0)) (said_gaps c.4.0) in
-    (as_pieces c.4.0 ++ q ∷ g.0, g.1, cut, g.3, ap (λ (l : List Lexeme). lexeme_of token ∷ l) g.4 ∙ sym says)
+    let cut : AreCut s from (as_pieces c.gaps.0 ++ q ∷ g.0) g.1 [] = cut_append s s g.1 from (c.own ++ rest) [] (as_pieces c.gaps.0) (q ∷ g.0) (gaps_cut s from (c.own ++ rest) c.gaps.0 c.gaps.1) (rest, refl, c.piece, (c.told, h.1), behind) in
+    let says : said (as_pieces c.gaps.0 ++ q ∷ g.0) ≡ lexeme_of token ∷ said g.0 = said_append (as_pieces c.gaps.0) (q ∷ g.0) ∙ ap (λ (l : List Lexeme). l ++ said (q ∷ g.0)) (said_gaps c.gaps.0) in
+    (as_pieces c.gaps.0 ++ q ∷ g.0, g.1, cut, g.3, ap (λ (l : List Lexeme). lexeme_of token ∷ l) g.4 ∙ sym says)
 
-pub none_is_last : (text : List ℕ) (s t : State) (from rest : List ℕ) → IsNext text s from t rest (Ok None) → AreTokensFrom s from []
-none_is_last text s t from rest h = (as_pieces h.0.0.0, s, gaps_cut s from [] h.0.0.0 h.0.0.1, h.0.1, sym (said_gaps h.0.0.0))
+advanced_last : (text : List ℕ) (s t : State) (from rest : List ℕ) → Advances text s from t rest (Ok None) → AreTokensFrom s from []
+advanced_last text s t from rest h = (as_pieces h.0.0.0, s, gaps_cut s from [] h.0.0.0 h.0.0.1, h.0.1, sym (said_gaps h.0.0.0))
+
+pub next_is_first : (r t : Reading) (token : Token) (ls : List Lexeme) → IsNext r t (Ok (Some token)) → AreTokensFrom t.state t.rest ls → AreTokensFrom r.state r.rest (lexeme_of token ∷ ls)
+next_is_first r t token ls h g = first r.fault h
+  where
+    first : (o : Option ScriptFault) → IsAnswer o r t (Ok (Some token)) → AreTokensFrom r.state r.rest (lexeme_of token ∷ ls)
+    first None k = advanced_first r.text r.state t.state r.rest t.rest token ls k.0 g
+    first (Some f) k = absurd (let e = k.0 in cc)
+
+pub none_is_last : (r t : Reading) → IsNext r t (Ok None) → AreTokensFrom r.state r.rest []
+none_is_last r t h = last r.fault h
+  where
+    last : (o : Option ScriptFault) → IsAnswer o r t (Ok None) → AreTokensFrom r.state r.rest []
+    last None k = advanced_last r.text r.state t.state r.rest t.rest k.0
+    last (Some f) k = absurd (let e = k.0 in cc)

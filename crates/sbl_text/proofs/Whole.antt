@@ -1,7 +1,6 @@
 -- What `cut` cuts is the longest piece.
 use Rattle.std.proofs.Common.{◌≡◌, ℕ, ◌≤◌, Bool, true, false, List, [], ◌∷◌, ◌++◌, length, Option, Some, None, refl, sym, ap, subst, ◌∙◌, arith, append_assoc}
 use Rattle.std.specs.Prelude.{not, ◌||◌, ◌==◌, if◌then◌else◌, option_map, IfSome, MatchOption}
-use Rattle.std.specs.List.{list_all}
 use Rattle.std.proofs.lemmas.Bool.Decides.{nat_tests}
 use Rattle.std.proofs.lemmas.List.{length-append}
 use Rattle.sbl_text.specs.declared.signs.Sign.{Sign}
@@ -13,10 +12,11 @@ use Rattle.sbl_text.specs.declared.pieces.Start.{Start}
 use Rattle.sbl_text.specs.declared.pieces.Start.TheVariants as start
 use Rattle.sbl_text.specs.declared.escapes.Inserts.{Inserts}
 use Rattle.sbl_text.specs.Classes.{past, is_white, is_letter, is_digit, is_word}
-use Rattle.sbl_text.specs.Signs.{sign_of, sign_front, one, two}
+use Rattle.sbl_text.specs.SignCuts.{sign_of, sign_front, one, two}
 use Rattle.sbl_text.specs.Pieces.{Has, may_come, Setting, setting, Stands, IsPiece, NoPiece, BeginsComment, IsCutFrom, Gap, AreGaps, AfterGaps, Piece_at, is_gap}
 use Rattle.sbl_text.specs.Scan.{past_literal, past_block, start_of, Cut, cut, cut_at, cut_as, sign_cut, slash_cut, pair_from, pair_cut, name_cut, cut_in}
-use Rattle.sbl_text.proofs.Cuts.{and_left, and_right, or_left, or_right, run, run_longest, sign_found, sign_longest, literal_parts, literal_ends, block_parts, block_ends, same_number}
+use Rattle.sbl_text.proofs.Written.{sign_is, sign_found_as}
+use Rattle.sbl_text.proofs.Cuts.{or_left, or_right, run, run_longest, sign_found, sign_longest, literal_parts, literal_ends, block_parts, block_ends, same_number}
 
 -- ---- first characters
 
@@ -24,13 +24,13 @@ no_eq_at : (p : ℕ → Bool) (c n : ℕ) (b : Bool) → (c == n) ≡ b → p c 
 no_eq_at p c n true i h k = let s : c ≡ n = grind (arith, nat_tests) in absurd (cc (ap p s))
 no_eq_at p c n false i h k = refl
 
-no_eq : (p : ℕ → Bool) (c n : ℕ) → p c ≡ true → p n ≡ false → (c == n) ≡ false
+pub no_eq : (p : ℕ → Bool) (c n : ℕ) → p c ≡ true → p n ≡ false → (c == n) ≡ false
 no_eq p c n h k = no_eq_at p c n (c == n) refl h k
 
 plain : ℕ → Bool
 plain c = is_white c || (is_letter c || (is_digit c || c == 39))
 
-if_same : (b : Bool) (x : Option Sign) → (if b then x else x) ≡ x
+pub if_same : (b : Bool) (x : Option Sign) → (if b then x else x) ≡ x
 if_same true x = refl
 if_same false x = refl
 
@@ -126,7 +126,7 @@ longest_token e shape.Literal y more h may free =
     (along e shape.Literal (length more) 39 ((h.0 ++ 39 ∷ []) ++ more) start.Quote refl
     (let a : past_literal e false ((h.0 ++ 39 ∷ []) ++ more) ≡ Some more = ap (past_literal e false) (append_assoc h.0 (39 ∷ []) more) ∙ literal_ends e false h.0 more h.2 in
     subst (λ (t : Option (List ℕ)). LeavesCut shape.Literal (length more) (cut_as shape.Literal t)) (sym a) (refl, omega arith)))
-longest_token e shape.Sign y more h may free = sign_case e y more h.0 h.1 (free refl)
+longest_token e shape.Sign y more h may free = sign_case e y more h.0 (sign_found_as y h.0 h.1) (free refl)
 longest_token e shape.Inserts y more h may free = absurd (cc)
 longest_token e shape.MacroName y more h may free = absurd (cc)
 
@@ -142,7 +142,7 @@ FoundCut e text o = IfSome o (λ p. (x : List ℕ) × (text ≡ x ++ p.1) × Sto
 sign_stands : (e : Option Inserts) (text : List ℕ) (o : Option (Sign × List ℕ)) → (BeginsComment text → ⊥)
     → IfSome o (λ p. (x : List ℕ) × (text ≡ x ++ p.1) × (sign_of x ≡ Some p.0)) → FoundCut e text (option_map (λ p. (shape.Sign, p.1)) o)
 sign_stands e text None free f = tt
-sign_stands e text (Some p) free f = (f.0, f.1, ((p.0, f.2), refl, λ i b. free (subst BeginsComment (sym f.1) b)))
+sign_stands e text (Some p) free f = (f.0, f.1, ((p.0, sign_is f.0 p.0 f.2), refl, λ i b. free (subst BeginsComment (sym f.1) b)))
 
 sign_cut_stands : (e : Option Inserts) (text : List ℕ) → (BeginsComment text → ⊥) → FoundCut e text (sign_cut text)
 sign_cut_stands e text free = sign_stands e text (sign_front text) free (sign_found text)

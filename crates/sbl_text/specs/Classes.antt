@@ -3,6 +3,19 @@ use Rattle.std.specs.Prelude.{ℕ, Bool, not, ◌&&◌, ◌||◌, ◌==◌, nat_
 use Rattle.sbl_text.specs.declared.classes.Class.{Class}
 use Rattle.sbl_text.specs.declared.classes.Class.TheVariants as class
 
+-- the characters that begin and end literals, comments and lines
+abbrev pub quote : ℕ
+quote = 39
+
+abbrev pub slash : ℕ
+slash = 47
+
+abbrev pub star : ℕ
+star = 42
+
+abbrev pub line_feed : ℕ
+line_feed = 10
+
 abbrev pub is_white : ℕ → Bool
 is_white c = (nat_le 9 c && nat_le c 13) || (c == 32 || c == 0xFEFF)
 
@@ -20,7 +33,7 @@ is_in class.White c = is_white c
 is_in class.Letter c = is_letter c
 is_in class.Word c = is_word c
 is_in class.Digit c = is_digit c
-is_in class.Line c = not (c == 10)
+is_in class.Line c = not (c == line_feed)
 is_in class.Black c = not (is_white c)
 
 -- what is left after the characters that pass

@@ -1,17 +1,19 @@
 -- What is shown of the tokens of a text.
-use Rattle.std.specs.Prelude.{◌≡◌, ◌⊎◌, ℕ, List, [], ◌∷◌, Result, Ok, Err, Option, Some, None}
+use Rattle.std.specs.Prelude.{true, ◌≡◌, ◌⊎◌, ℕ, List, [], ◌∷◌, Result, Ok, Err, Option, Some, None}
 use Rattle.sbl_text.specs.declared.fault.ScriptFault.{ScriptFault}
 use Rattle.sbl_text.specs.declared.fault.ScriptFault.TheVariants as fault
 use Rattle.sbl_text.specs.declared.signs.Sign.{Sign}
 use Rattle.sbl_text.specs.declared.token.Token.{Token}
 use Rattle.sbl_text.specs.declared.words.Word.{Word}
-use Rattle.sbl_text.specs.Signs.{sign_of, sign_text}
+use Rattle.sbl_text.specs.Signs.{sign_text}
 use Rattle.sbl_text.specs.Words.{word_of, word_text}
 use Rattle.sbl_text.specs.Lexemes.{Lexeme, lexeme_of}
 use Rattle.sbl_text.specs.States.{State}
-use Rattle.sbl_text.specs.Tokens.{Placed, AreTokensFrom, ArePlacedFrom, IsFirstFaultFrom, IsNext}
+use Rattle.sbl_text.specs.Tokens.{Placed, AreTokensFrom, ArePlacedFrom, IsFirstFaultFrom, Reading, IsNext, MayEnd}
 use Rattle.sbl_text.specs.Escapes.{InForce}
 use Rattle.sbl_text.specs.Literals.{IsLiteral}
+use Rattle.sbl_text.specs.Spaced.{after_all, AreSaid, Spaced, lexemes_of, are_white, spaced_text}
+use Rattle.std.specs.Str.{chars, IsUtf8}
 
 -- a text has one list of tokens
 abbrev pub TokensAreOne : Type 0
@@ -29,19 +31,27 @@ FirstFaultIsOne = (s : State) (text : List ℕ) (f g : ScriptFault) → IsFirstF
 abbrev pub TokensOrFault : Type 0
 TokensOrFault = (s : State) (text : List ℕ) (ls : List Lexeme) (f : ScriptFault) → AreTokensFrom s text ls → IsFirstFaultFrom s text f → ⊥
 
--- after a fault comes the same fault, unless memory is refused
+-- after a fault comes the same fault, whatever memory is left
 abbrev pub SameFaultAgain : Type 0
 SameFaultAgain =
-    (text : List ℕ) (s t u : State) (from mid rest : List ℕ) (f : ScriptFault) (next : Result (Option Token) ScriptFault) → IsNext text s from t mid (Err f) → IsNext text t mid u rest next
-    → (f ≡ fault.OutOfMemory) ⊎ ((next ≡ Err fault.OutOfMemory) ⊎ (next ≡ Err f))
+    (r s t : Reading) (f : ScriptFault) (next : Result (Option Token) ScriptFault) → IsNext r s (Err f) → IsNext s t next → (f ≡ fault.OutOfMemory) ⊎ ((next ≡ Err f) × (t ≡ s))
 
 -- a word is read from how it is written
 abbrev pub WordsAreRead : Type 0
 WordsAreRead = (w : Word) → word_of (word_text w) ≡ Some w
 
--- and a sign
-abbrev pub SignsAreRead : Type 0
-SignsAreRead = (s : Sign) → sign_of (sign_text s) ≡ Some s
+-- and no two signs are written alike
+abbrev pub SignsDiffer : Type 0
+SignsDiffer = (s t : Sign) → sign_text s ≡ sign_text t → s ≡ t
+
+-- lexemes that are said, each followed by a white character, are the tokens of that text
+abbrev pub SpacedAreRead : Type 0
+SpacedAreRead =
+    (s : State) (ps : List Spaced) → are_white ps ≡ true → AreSaid s (lexemes_of ps) → MayEnd (after_all s (lexemes_of ps)) → AreTokensFrom s (chars (spaced_text ps)) (lexemes_of ps)
+
+-- and the tokens of a text are said
+abbrev pub TokensAreSaid : Type 0
+TokensAreSaid = (s : State) (text : List ℕ) (ls : List Lexeme) → IsUtf8 text → AreTokensFrom s (chars text) ls → AreSaid s ls × MayEnd (after_all s ls)
 
 -- a spelling means one list of characters, or it has one fault
 abbrev pub LiteralIsOne : Type 0
@@ -50,8 +60,8 @@ LiteralIsOne = (e : InForce) (spelling : List ℕ) (a b : Result (List ℕ) Scri
 -- the token that comes next, before the tokens of what is left then, is a text's first
 abbrev pub NextIsFirst : Type 0
 NextIsFirst =
-    (text : List ℕ) (s t : State) (from rest : List ℕ) (token : Token) (ls : List Lexeme) → IsNext text s from t rest (Ok (Some token)) → AreTokensFrom t rest ls → AreTokensFrom s from (lexeme_of token ∷ ls)
+    (r t : Reading) (token : Token) (ls : List Lexeme) → IsNext r t (Ok (Some token)) → AreTokensFrom t.state t.rest ls → AreTokensFrom r.state r.rest (lexeme_of token ∷ ls)
 
 -- and where none comes there is none
 abbrev pub NoneIsLast : Type 0
-NoneIsLast = (text : List ℕ) (s t : State) (from rest : List ℕ) → IsNext text s from t rest (Ok None) → AreTokensFrom s from []
+NoneIsLast = (r t : Reading) → IsNext r t (Ok None) → AreTokensFrom r.state r.rest []

@@ -1,7 +1,9 @@
 pub mod Classes
 pub mod Words
 pub mod Signs
+pub mod SignCuts
 pub mod Escapes
+pub mod Latest
 pub mod Codes
 pub mod Literals
 pub mod Pieces
@@ -9,4 +11,5 @@ pub mod Scan
 pub mod Lexemes
 pub mod States
 pub mod Tokens
+pub mod Spaced
 pub mod Laws

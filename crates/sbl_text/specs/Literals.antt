@@ -4,7 +4,7 @@ use Rattle.std.specs.List.{list_all}
 use Rattle.sbl_text.specs.declared.escapes.Inserts.{Inserts}
 use Rattle.sbl_text.specs.declared.fault.ScriptFault.{ScriptFault}
 use Rattle.sbl_text.specs.declared.fault.ScriptFault.TheVariants as fault
-use Rattle.sbl_text.specs.Classes.{is_white}
+use Rattle.sbl_text.specs.Classes.{is_white, line_feed, quote}
 use Rattle.sbl_text.specs.Codes.{code_of}
 use Rattle.sbl_text.specs.Escapes.{InForce, opens, closes, find}
 
@@ -25,7 +25,7 @@ code_or_fault (Some c) = Ok c
 -- a quote, the opening insert character, or `U+` and 1 to 6 hexadecimal digits
 abbrev pub character_named : Option Inserts → List ℕ → Result ℕ Refusal
 character_named e [] = Err fault.UnknownEscape
-character_named e (c ∷ []) = if c == 39 || opens e c then Ok c else Err fault.UnknownEscape
+character_named e (c ∷ []) = if c == quote || opens e c then Ok c else Err fault.UnknownEscape
 character_named e (c ∷ d ∷ cs) = if c == 85 && d == 43 then code_or_fault (code_of 16 6 cs) else Err fault.UnknownEscape
 
 abbrev pub alone : Result ℕ Refusal → Result (List ℕ) Refusal
@@ -46,11 +46,11 @@ inserted e name =
 -- an opening character, a name, and the next closing one
 abbrev pub IsInsertion : InForce → List ℕ → List ℕ → Type 0
 IsInsertion e x name =
-    (a : ℕ) × (b : ℕ) × (x ≡ a ∷ (name ++ b ∷ [])) × (a == 39 ≡ false) × (opens e.inserts a ≡ true) × (closes e.inserts b ≡ true) × (list_all (λ c. not (closes e.inserts c)) name ≡ true)
+    (a : ℕ) × (b : ℕ) × (x ≡ a ∷ (name ++ b ∷ [])) × (a == quote ≡ false) × (opens e.inserts a ≡ true) × (closes e.inserts b ≡ true) × (list_all (λ c. not (closes e.inserts c)) name ≡ true)
 
 -- a character that stands for itself
 abbrev pub IsPlain : InForce → List ℕ → List ℕ → Type 0
-IsPlain e x v = (c : ℕ) × (x ≡ c ∷ []) × (c == 39 ≡ false) × (opens e.inserts c ≡ false) × (v ≡ c ∷ [])
+IsPlain e x v = (c : ℕ) × (x ≡ c ∷ []) × (c == quote ≡ false) × (opens e.inserts c ≡ false) × (v ≡ c ∷ [])
 
 pub record Part : Type 0 where
   pub text : List ℕ
@@ -75,7 +75,7 @@ Means e spelling v = (ps : List Part) × AreParts e spelling ps [] × (v ≡ val
 -- a quote that ends the literal too early, or an insertion that gives nothing
 abbrev pub IsWrong : InForce → List ℕ → ℕ → ScriptFault → Type 0
 IsWrong e text place f =
-    ((more : List ℕ) × (text ≡ 39 ∷ more) × (f ≡ fault.BadCharacter place))
+    ((more : List ℕ) × (text ≡ quote ∷ more) × (f ≡ fault.BadCharacter place))
     ⊎ ((x : List ℕ) × (name : List ℕ) × (more : List ℕ) × (text ≡ x ++ more) × IsInsertion e x name × (g : Refusal) × (inserted e name ≡ Err g) × (f ≡ g place))
 
 -- the first fault of a spelling that begins at a place
@@ -87,7 +87,7 @@ FirstWrong e spelling place f =
 abbrev pub is_closed : Option Inserts → Bool → List ℕ → Bool
 is_closed e inside [] = not inside
 is_closed e true (c ∷ cs) = is_closed e (not (closes e c)) cs
-is_closed e false (c ∷ cs) = if c == 39 then is_closed e false cs else (if c == 10 then false else is_closed e (opens e c) cs)
+is_closed e false (c ∷ cs) = if c == quote then is_closed e false cs else (if c == line_feed then false else is_closed e (opens e c) cs)
 
 -- what a spelling without its quotes gives
 abbrev pub IsLiteral : InForce → List ℕ → Result (List ℕ) ScriptFault → Type 0

@@ -5,10 +5,10 @@ use Rattle.sbl_text.specs.declared.signs.Sign.{Sign}
 use Rattle.sbl_text.specs.declared.pieces.Shape.{Shape}
 use Rattle.sbl_text.specs.declared.pieces.Shape.TheVariants as shape
 use Rattle.sbl_text.specs.declared.escapes.Inserts.{Inserts}
-use Rattle.sbl_text.specs.Classes.{is_white, is_letter, is_digit, is_word}
+use Rattle.sbl_text.specs.Classes.{is_white, is_letter, is_digit, is_word, line_feed, quote, slash, star}
 use Rattle.sbl_text.specs.declared.pieces.Wanted.{Wanted}
 use Rattle.sbl_text.specs.declared.pieces.Wanted.TheVariants as wanted
-use Rattle.sbl_text.specs.Signs.{sign_of}
+use Rattle.sbl_text.specs.Signs.{sign_text}
 use Rattle.sbl_text.specs.Escapes.{opens, closes}
 
 -- The text can stand between the quotes of a literal. `inside` says that an insertion has begun.
@@ -16,27 +16,27 @@ abbrev pub is_inner : Option Inserts → Bool → List ℕ → Bool
 is_inner e inside [] = not inside
 is_inner e true (c ∷ cs) = is_inner e (not (closes e c)) cs
 is_inner e false (c ∷ cs) =
-    if c == 39 || c == 10 then false else is_inner e (opens e c) cs
+    if c == quote || c == line_feed then false else is_inner e (opens e c) cs
 
 -- `*/` stands somewhere in the text
 abbrev pub starts_slash : List ℕ → Bool
 starts_slash [] = false
-starts_slash (c ∷ cs) = c == 47
+starts_slash (c ∷ cs) = c == slash
 
 abbrev pub has_end : List ℕ → Bool
 has_end [] = false
-has_end (c ∷ cs) = (c == 42 && starts_slash cs) || has_end cs
+has_end (c ∷ cs) = (c == star && starts_slash cs) || has_end cs
 
 -- the texts of each shape
 abbrev pub Has : Option Inserts → Shape → List ℕ → Type 0
 Has e shape.Blank x = (c : ℕ) × (x ≡ c ∷ []) × (is_white c ≡ true)
-Has e shape.LineComment x = (inner : List ℕ) × (x ≡ 47 ∷ 47 ∷ inner) × (list_all (λ c. not (c == 10)) inner ≡ true)
-Has e shape.BlockComment x = (inner : List ℕ) × (x ≡ 47 ∷ 42 ∷ (inner ++ 42 ∷ 47 ∷ [])) × (has_end inner ≡ false)
+Has e shape.LineComment x = (inner : List ℕ) × (x ≡ slash ∷ slash ∷ inner) × (list_all (λ c. not (c == line_feed)) inner ≡ true)
+Has e shape.BlockComment x = (inner : List ℕ) × (x ≡ slash ∷ star ∷ (inner ++ star ∷ slash ∷ [])) × (has_end inner ≡ false)
 Has e shape.Word x = (c : ℕ) × (cs : List ℕ) × (x ≡ c ∷ cs) × (is_letter c ≡ true) × (list_all is_word cs ≡ true)
 Has e shape.Number x = (c : ℕ) × (cs : List ℕ) × (x ≡ c ∷ cs) × (is_digit c ≡ true) × (list_all is_digit cs ≡ true)
-Has e shape.Sign x = (s : Sign) × (sign_of x ≡ Some s)
-Has e shape.Literal x = (inner : List ℕ) × (x ≡ 39 ∷ (inner ++ 39 ∷ [])) × (is_inner e false inner ≡ true)
-Has e shape.Inserts x = (a : ℕ) × (b : ℕ) × (x ≡ a ∷ b ∷ []) × (a == 39 ≡ false) × (is_white a ≡ false) × (is_white b ≡ false)
+Has e shape.Sign x = (s : Sign) × (x ≡ sign_text s)
+Has e shape.Literal x = (inner : List ℕ) × (x ≡ quote ∷ (inner ++ quote ∷ [])) × (is_inner e false inner ≡ true)
+Has e shape.Inserts x = (a : ℕ) × (b : ℕ) × (x ≡ a ∷ b ∷ []) × (a == quote ≡ false) × (is_white a ≡ false) × (is_white b ≡ false)
 Has e shape.MacroName x = (c : ℕ) × (cs : List ℕ) × (x ≡ c ∷ cs) × (is_white c ≡ false) × (list_all (λ d. not (is_white d)) cs ≡ true)
 
 -- which shapes may come: after the word that asks for insert characters or for a macro's name, white space and that
@@ -60,7 +60,7 @@ abbrev pub setting : Option Inserts → Wanted → Setting
 setting i w = record { inserts = i; wanted = w }
 
 abbrev pub BeginsComment : List ℕ → Type 0
-BeginsComment text = (c : ℕ) × (more : List ℕ) × (text ≡ 47 ∷ c ∷ more) × (c == 47 || c == 42 ≡ true)
+BeginsComment text = (c : ℕ) × (more : List ℕ) × (text ≡ slash ∷ c ∷ more) × (c == slash || c == star ≡ true)
 
 -- The text x is of the shape, may come, and stands before the rest. No sign begins where a comment does.
 pub record Stands (e : Setting) (k : Shape) (x rest : List ℕ) : Type 0 where

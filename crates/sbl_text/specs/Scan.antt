@@ -1,4 +1,5 @@
--- How a piece is found: by its first character, and then to its end.
+-- How a piece is found: by its first character, and then to its end. Nothing here need be believed: it is what functions
+-- inside the crate promise each other.
 use Rattle.std.specs.Prelude.{ℕ, Bool, true, false, not, ◌&&◌, ◌||◌, ◌==◌, if◌then◌else◌, List, [], ◌∷◌, drop, Option, Some, None, option_map}
 use Rattle.sbl_text.specs.declared.pieces.Shape.{Shape}
 use Rattle.sbl_text.specs.declared.pieces.Shape.TheVariants as shape
@@ -7,27 +8,27 @@ use Rattle.sbl_text.specs.declared.pieces.Wanted.TheVariants as wanted
 use Rattle.sbl_text.specs.declared.pieces.Start.{Start}
 use Rattle.sbl_text.specs.declared.pieces.Start.TheVariants as start
 use Rattle.sbl_text.specs.declared.escapes.Inserts.{Inserts}
-use Rattle.sbl_text.specs.Classes.{is_white, is_letter, is_digit, is_word, past}
-use Rattle.sbl_text.specs.Signs.{sign_front}
+use Rattle.sbl_text.specs.Classes.{is_white, is_letter, is_digit, is_word, past, line_feed, quote, slash, star}
+use Rattle.sbl_text.specs.SignCuts.{sign_front}
 use Rattle.sbl_text.specs.Escapes.{opens, closes}
 use Rattle.sbl_text.specs.Pieces.{starts_slash}
 
 abbrev pub start_of : ℕ → Start
 start_of c =
     if is_white c then start.White else (if is_letter c then start.Letter else (if is_digit c then start.Digit
-    else (if c == 39 then start.Quote else (if c == 47 then start.Slash else start.Other))))
+    else (if c == quote then start.Quote else (if c == slash then start.Slash else start.Other))))
 
 -- what is left after the quote that ends the literal
 abbrev pub past_literal : Option Inserts → Bool → List ℕ → Option (List ℕ)
 past_literal e inside [] = None
 past_literal e true (c ∷ cs) = past_literal e (not (closes e c)) cs
 past_literal e false (c ∷ cs) =
-    if c == 39 then Some cs else (if c == 10 then None else past_literal e (opens e c) cs)
+    if c == quote then Some cs else (if c == line_feed then None else past_literal e (opens e c) cs)
 
 -- what is left after the `*/`
 abbrev pub past_block : List ℕ → Option (List ℕ)
 past_block [] = None
-past_block (c ∷ cs) = if c == 42 && starts_slash cs then Some (drop 1 cs) else past_block cs
+past_block (c ∷ cs) = if c == star && starts_slash cs then Some (drop 1 cs) else past_block cs
 
 -- a shape, and what is left after it
 abbrev pub Cut : Type 0
@@ -43,8 +44,8 @@ sign_cut text = option_map (λ p. (shape.Sign, p.1)) (sign_front text)
 abbrev pub slash_cut : List ℕ → List ℕ → Cut
 slash_cut text [] = sign_cut text
 slash_cut text (c ∷ cs) =
-    if c == 47 then Some (shape.LineComment, past (λ d. not (d == 10)) cs)
-    else (if c == 42 then cut_as shape.BlockComment (past_block cs) else sign_cut text)
+    if c == slash then Some (shape.LineComment, past (λ d. not (d == line_feed)) cs)
+    else (if c == star then cut_as shape.BlockComment (past_block cs) else sign_cut text)
 
 abbrev pub cut_at : Option Inserts → Start → ℕ → List ℕ → Cut
 cut_at e start.White c cs = Some (shape.Blank, cs)
@@ -61,7 +62,7 @@ cut e (c ∷ cs) = cut_at e (start_of c) c cs
 -- two characters that are not white, the first no quote
 abbrev pub pair_from : ℕ → List ℕ → Cut
 pair_from a [] = None
-pair_from a (b ∷ cs) = if a == 39 || is_white b then None else Some (shape.Inserts, cs)
+pair_from a (b ∷ cs) = if a == quote || is_white b then None else Some (shape.Inserts, cs)
 
 unfoldable pub pair_cut : List ℕ → Cut
 pair_cut [] = None

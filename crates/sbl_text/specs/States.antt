@@ -1,6 +1,6 @@
 -- What the tokens so far have set.
 use Rattle.std.specs.Str.{chars}
-use Rattle.std.specs.Prelude.{ℕ, Bool, true, false, List, [], ◌∷◌, Option, Some, None}
+use Rattle.std.specs.Prelude.{ℕ, true, false, List, Option, Some, None}
 use Rattle.sbl_text.specs.declared.pieces.Wanted.{Wanted}
 use Rattle.sbl_text.specs.declared.pieces.Wanted.TheVariants as wanted
 use Rattle.sbl_text.specs.declared.states.Coding.{Coding}
@@ -9,7 +9,7 @@ use Rattle.sbl_text.specs.declared.words.Word.{Word}
 use Rattle.sbl_text.specs.declared.words.Word.TheVariants as reserved
 use Rattle.sbl_text.specs.Codes.{codes_of}
 use Rattle.sbl_text.specs.Escapes.{InForce, nothing_set, with_inserts, with_macro}
-use Rattle.sbl_text.specs.Lexemes.{Lexeme, word, sign, name, number, literal, inserts, macro_name}
+use Rattle.sbl_text.specs.Lexemes.{Lexeme, word, literal, inserts, macro_name}
 use Rattle.sbl_text.specs.Pieces.{Setting, setting}
 
 -- a macro whose value is still to come

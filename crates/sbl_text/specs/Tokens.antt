@@ -1,6 +1,5 @@
 -- The tokens of a text, and the first thing that is wrong with it.
-use Rattle.sbl_text.specs.Escapes.{InForce}
-use Rattle.std.specs.Prelude.{◌≡◌, ◌⊎◌, ℕ, ◌<◌, ◌≤◌, ◌+◌, ◌-◌, ◌*◌, Bool, true, false, ◌&&◌, ◌==◌, if◌then◌else◌, List, [], ◌∷◌, ◌++◌, length, encode_utf8_all, Option, Some, None, Result, Ok, Err}
+use Rattle.std.specs.Prelude.{◌≡◌, ◌⊎◌, ℕ, ◌<◌, ◌≤◌, ◌+◌, ◌-◌, ◌*◌, Bool, true, false, ◌&&◌, ◌==◌, if◌then◌else◌, List, [], ◌∷◌, ◌++◌, encode_utf8_all, Option, Some, None, Result, Ok, Err}
 use Rattle.sbl_text.specs.declared.signs.Sign.{Sign}
 use Rattle.sbl_text.specs.declared.words.Word.{Word}
 use Rattle.sbl_text.specs.declared.pieces.Shape.{Shape}
@@ -8,7 +7,7 @@ use Rattle.sbl_text.specs.declared.pieces.Shape.TheVariants as shape
 use Rattle.sbl_text.specs.declared.fault.ScriptFault.{ScriptFault}
 use Rattle.sbl_text.specs.declared.fault.ScriptFault.TheVariants as fault
 use Rattle.sbl_text.specs.declared.token.Token.{Token}
-use Rattle.sbl_text.specs.Signs.{sign_of}
+use Rattle.sbl_text.specs.Signs.{sign_text}
 use Rattle.sbl_text.specs.Words.{word_of}
 use Rattle.sbl_text.specs.declared.pieces.Wanted.{Wanted}
 use Rattle.sbl_text.specs.declared.pieces.Wanted.TheVariants as wanted
@@ -16,6 +15,7 @@ use Rattle.sbl_text.specs.Pieces.{IsPiece, NoPiece, AfterGaps, is_gap}
 use Rattle.sbl_text.specs.States.{State, start, setting_of, value_for, after}
 use Rattle.sbl_text.specs.Literals.{byte_length, Means, FirstWrong}
 use Rattle.sbl_text.specs.Lexemes.{Lexeme, word, sign, name, number, literal, inserts, macro_name, lexeme_of, SaysFitting}
+use Rattle.sbl_text.specs.Classes.{quote, slash, star}
 
 -- the number that digits write, after digits that write n
 abbrev pub digits_value : ℕ → List ℕ → ℕ
@@ -33,8 +33,8 @@ word_or_name (Some w) text = word w
 abbrev pub Told : State → Shape → List ℕ → Lexeme → Type 0
 Told s shape.Word x l = l ≡ word_or_name (word_of (encode_utf8_all x)) (encode_utf8_all x)
 Told s shape.Number x l = (number_of x ≤ 2147483647) × (l ≡ number (number_of x))
-Told s shape.Sign x l = (g : Sign) × (sign_of x ≡ Some g) × (l ≡ sign g)
-Told s shape.Literal x l = (inner : List ℕ) × (v : List ℕ) × (x ≡ 39 ∷ (inner ++ 39 ∷ [])) × Means s.escapes inner v × (l ≡ literal (encode_utf8_all inner) v)
+Told s shape.Sign x l = (g : Sign) × (x ≡ sign_text g) × (l ≡ sign g)
+Told s shape.Literal x l = (inner : List ℕ) × (v : List ℕ) × (x ≡ quote ∷ (inner ++ quote ∷ [])) × Means s.escapes inner v × (l ≡ literal (encode_utf8_all inner) v)
 Told s shape.Inserts x l = (a : ℕ) × (b : ℕ) × (x ≡ a ∷ b ∷ []) × (l ≡ inserts a b)
 Told s shape.MacroName x l = l ≡ macro_name (encode_utf8_all x)
 Told s _ x l = ⊥
@@ -125,18 +125,18 @@ ArePlaced text ts = ArePlacedFrom start text ts
 
 abbrev pub starts_star : List ℕ → Bool
 starts_star [] = false
-starts_star (c ∷ cs) = c == 42
+starts_star (c ∷ cs) = c == star
 
 -- where two insert characters are wanted: a quote, or what stands after the first one
 abbrev pub pair_fault : List ℕ → ℕ → ScriptFault
 pair_fault [] place = fault.BadCharacter place
-pair_fault (c ∷ cs) place = if c == 39 then fault.BadCharacter place else fault.BadCharacter (place + byte_length (c ∷ []))
+pair_fault (c ∷ cs) place = if c == quote then fault.BadCharacter place else fault.BadCharacter (place + byte_length (c ∷ []))
 
 abbrev pub token_fault : List ℕ → ℕ → ScriptFault
 token_fault [] place = fault.BadCharacter place
 token_fault (c ∷ cs) place =
-    if c == 39 then fault.UnclosedString place
-    else (if c == 47 && starts_star cs then fault.UnclosedComment place else fault.BadCharacter place)
+    if c == quote then fault.UnclosedString place
+    else (if c == slash && starts_star cs then fault.UnclosedComment place else fault.BadCharacter place)
 
 -- the fault where no piece stands
 abbrev pub fault_at : Wanted → List ℕ → ℕ → ScriptFault
@@ -147,7 +147,7 @@ fault_at _ text place = token_fault text place
 abbrev pub IsRefused : State → Shape → List ℕ → ℕ → ScriptFault → Type 0
 IsRefused s shape.Number x place f = (2147483647 < number_of x) × (f ≡ fault.NumberTooLarge place)
 IsRefused s shape.Literal x place f =
-    (inner : List ℕ) × (x ≡ 39 ∷ (inner ++ 39 ∷ []))
+    (inner : List ℕ) × (x ≡ quote ∷ (inner ++ quote ∷ []))
     × (FirstWrong s.escapes inner (place + 1) f ⊎ ((v : List ℕ) × Means s.escapes inner v × (value_for s.defining v ≡ None) × (f ≡ fault.BadCode place)))
 IsRefused s _ x place f = ⊥
 
@@ -167,12 +167,6 @@ IsFirstFault text f = IsFirstFaultFrom start text f
 
 -- ---- one token after another
 
--- a text that is being read, what of it is left, and what was set
-pub record Reading : Type 0 where
-  pub text : List ℕ
-  pub rest : List ℕ
-  pub state : State
-
 -- the token's text is x, which stands after `before`
 abbrev pub IsAt : List ℕ → List ℕ → Token → Type 0
 IsAt before x t = (t.text.now ≡ encode_utf8_all x) × (t.start ≡ byte_length before) × (t.end ≡ byte_length before + byte_length x)
@@ -182,15 +176,51 @@ abbrev pub Stops : List ℕ → State → List ℕ → ScriptFault → Type 0
 Stops text s from f =
     (before : List ℕ) × (at : List ℕ) × (text ≡ before ++ at) × AfterGaps (setting_of s) from at × IsFault s at (byte_length before) f
 
+-- The token stands in the text after gaps: its own text is the longest piece there, tells what the token says, and stands
+-- at its places.
+pub record IsToken (text : List ℕ) (s : State) (from rest : List ℕ) (token : Token) : Type 0 where
+  pub before : List ℕ
+  pub own : List ℕ
+  pub kind : Shape
+  pub stands : text ≡ before ++ (own ++ rest)
+  pub gaps : AfterGaps (setting_of s) from (own ++ rest)
+  pub piece : IsPiece (setting_of s) kind own rest
+  pub told : Told s kind own (lexeme_of token)
+  pub place : IsAt before own token
+  pub fitting : SaysFitting token
+
 -- What stands in the text from `from` on: gaps, then the end or a token. What is left is `rest`.
 abbrev pub Comes : List ℕ → State → List ℕ → List ℕ → Option Token → Type 0
 Comes text s from rest None = AfterGaps (setting_of s) from [] × MayEnd s × (rest ≡ [])
-Comes text s from rest (Some token) =
-    (before : List ℕ) × (x : List ℕ) × (k : Shape) × (text ≡ before ++ (x ++ rest)) × AfterGaps (setting_of s) from (x ++ rest) × IsPiece (setting_of s) k x rest
-    × Told s k x (lexeme_of token) × IsAt before x token × SaysFitting token
+Comes text s from rest (Some token) = IsToken text s from rest token
 
 -- The token that comes next, or the end, or a fault. What is set then is t.
-abbrev pub IsNext : List ℕ → State → List ℕ → State → List ℕ → Result (Option Token) ScriptFault → Type 0
-IsNext text s from t rest (Ok None) = Comes text s from rest None × (t ≡ s)
-IsNext text s from t rest (Ok (Some token)) = Comes text s from rest (Some token) × HasValue s (lexeme_of token) × (t ≡ after s (lexeme_of token))
-IsNext text s from t rest (Err f) = (rest ≡ from) × (t ≡ s) × ((f ≡ fault.OutOfMemory) ⊎ Stops text s from f)
+abbrev pub Advances : List ℕ → State → List ℕ → State → List ℕ → Result (Option Token) ScriptFault → Type 0
+Advances text s from t rest (Ok None) = Comes text s from rest None × (t ≡ s)
+Advances text s from t rest (Ok (Some token)) = Comes text s from rest (Some token) × HasValue s (lexeme_of token) × (t ≡ after s (lexeme_of token))
+Advances text s from t rest (Err f) = (rest ≡ from) × (t ≡ s) × ((f ≡ fault.OutOfMemory) ⊎ Stops text s from f)
+
+-- a text that is being read, what of it is left, what was set, and the fault that was answered
+pub record Reading : Type 0 where
+  pub text : List ℕ
+  pub rest : List ℕ
+  pub state : State
+  pub fault : Option ScriptFault
+
+-- at a text's front
+abbrev pub beginning : State → List ℕ → Reading
+beginning s text = record { text = text; rest = text; state = s; fault = None }
+
+-- what comes next, where no fault was answered: a fault is kept, and want of memory is not
+abbrev pub IsFresh : Reading → Reading → Result (Option Token) ScriptFault → Type 0
+IsFresh r t (Ok o) = Advances r.text r.state r.rest t.state t.rest (Ok o) × (t.fault ≡ None)
+IsFresh r t (Err f) =
+    (t.rest ≡ r.rest) × (t.state ≡ r.state) × (((f ≡ fault.OutOfMemory) × (t.fault ≡ None)) ⊎ (Stops r.text r.state r.rest f × (t.fault ≡ Some f)))
+
+abbrev pub IsAnswer : Option ScriptFault → Reading → Reading → Result (Option Token) ScriptFault → Type 0
+IsAnswer None r t result = IsFresh r t result
+IsAnswer (Some f) r t result = (result ≡ Err f) × (t ≡ r)
+
+-- What is answered next: the fault that was answered before, and nothing changes; or what comes next in the text.
+abbrev pub IsNext : Reading → Reading → Result (Option Token) ScriptFault → Type 0
+IsNext r t result = IsAnswer r.fault r t result

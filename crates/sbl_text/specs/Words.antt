@@ -1,5 +1,5 @@
 -- The reserved words, and the word that a text is.
-use Rattle.std.specs.Prelude.{ℕ, if◌then◌else◌, List, [], ◌∷◌, map, codes, Option, Some, None}
+use Rattle.std.specs.Prelude.{ℕ, if◌then◌else◌, List, [], ◌∷◌, codes, Option, Some, None}
 use Rattle.std.specs.Str.{bytes_eq}
 use Rattle.sbl_text.specs.declared.words.Word.{Word}
 use Rattle.sbl_text.specs.declared.words.Word.TheVariants as word
@@ -73,11 +73,11 @@ words =
     word.Set ∷ word.SetLimit ∷ word.SetMark ∷ word.Size ∷ word.SizeOf ∷ word.StringDef ∷ word.StringEscapes ∷ word.Strings ∷
     word.Substring ∷ word.Test ∷ word.ToLimit ∷ word.ToMark ∷ word.True ∷ word.Try ∷ word.Unset ∷ []
 
--- the first entry of a table whose text this is
-abbrev pub found_in : List (List ℕ × Word) → List ℕ → Option Word
+-- the first of some words that is written so
+abbrev pub found_in : List Word → List ℕ → Option Word
 found_in [] text = None
-found_in (e ∷ es) text = if bytes_eq e.0 text then Some e.1 else found_in es text
+found_in (w ∷ ws) text = if bytes_eq (word_text w) text then Some w else found_in ws text
 
 -- the word that a text is
 unfoldable pub word_of : List ℕ → Option Word
-word_of text = found_in (map (λ w. (word_text w, w)) words) text
+word_of text = found_in words text

@@ -5,6 +5,7 @@ ghost use Rattle.std.specs.Str.{chars};
 ghost use Rattle.sbl_text.specs.Escapes as spec;
 ghost use Rattle.sbl_text.specs.Escapes.{InForce, Definition};
 
+use crate::macros::Macros;
 use std::alloc::{AllocError, Global};
 use std::marker::Model;
 
@@ -37,39 +38,19 @@ pub fn closes(inserts: Option<Inserts>, c: char) -> bool
     }
 }
 
-/// A name, and the characters that it stands for.
-#[derive(Drop)]
-struct Macro {
-    name: Vec<char>,
-    value: Vec<char>,
-}
-
 /// What is in force in a literal: the insert characters, and the macros (Snowball manual, "stringescapes" and
 /// "stringdef").
 #[derive(Drop)]
 pub struct Escapes {
     alloc: Global,
     inserts: Option<Inserts>,
-    macros: Vec<Macro>,
+    macros: Macros,
 }
 
 impl Model for Escapes {
     ghost Value = { InForce };
 
-    ghost view = { λ s. record { inserts = s.inserts; macros = map (λ m. record { name = m.name.items; value = m.value.items }) s.macros.items } };
-}
-
-fn find_in<'a>(mut macros: &'a [Macro], name: &[char]) -> Option<&'a [char]>
-    ensures { option_map (λ v. v.now) result ≡ spec.find (map (λ m. record { name = m.name.items; value = m.value.items }) macros.entry.now) name.now }
-{
-    let mut found: Option<&'a [char]> = None;
-    while let [first, rest @ ..] = macros {
-        if first.name.as_slice() == name {
-            found = Some(first.value.as_slice());
-        }
-        macros = rest;
-    }
-    found
+    ghost view = { λ s. record { inserts = s.inserts; macros = s.macros } };
 }
 
 impl Escapes {
@@ -80,7 +61,7 @@ impl Escapes {
         Escapes {
             alloc,
             inserts: None,
-            macros: Vec::new(alloc),
+            macros: Macros::new(alloc),
         }
     }
 
@@ -98,12 +79,8 @@ impl Escapes {
     pub fn define(&mut self, name: &str, value: &[char]) -> Result<(), AllocError>
         ensures { self.new ≡ (if is_ok result then spec.with_macro self.old (chars name.now) value.now else self.old) }
     {
-        let entry = Macro {
-            name: name.chars().collect(self.alloc)?,
-            value: Vec::from_slice(self.alloc, value)?,
-        };
-        self.macros.push(entry)?;
-        Ok(())
+        let letters: Vec<char> = name.chars().collect(self.alloc)?;
+        self.macros.define(self.alloc, &letters, value)
     }
 
     /// The insert characters.
@@ -117,6 +94,17 @@ impl Escapes {
     pub fn find(&self, name: &[char]) -> Option<&[char]>
         ensures { option_map (λ v. v.now) result ≡ spec.find self.now.macros name.now }
     {
-        find_in(&self.macros, name)
+        self.macros.find(name)
+    }
+
+    /// The same insert characters and macros once more.
+    pub fn copy(&self) -> Result<Escapes, AllocError>
+        ensures { IfOk result (λ e. e ≡ self.now) }
+    {
+        Ok(Escapes {
+            alloc: self.alloc,
+            inserts: self.inserts,
+            macros: self.macros.copy(self.alloc)?,
+        })
     }
 }

@@ -1,6 +1,6 @@
 //! What is shown of the tokens of a text.
 
-ghost use Rattle.sbl_text.specs.Laws.{FirstFaultIsOne, LiteralIsOne, NextIsFirst, NoneIsLast, PlacesAreOne, SameFaultAgain, SignsAreRead, TokensAreOne, TokensOrFault, WordsAreRead};
+ghost use Rattle.sbl_text.specs.Laws.{FirstFaultIsOne, LiteralIsOne, NextIsFirst, NoneIsLast, PlacesAreOne, SameFaultAgain, SignsDiffer, SpacedAreRead, TokensAreSaid, TokensAreOne, TokensOrFault, WordsAreRead};
 
 /// A text has one list of tokens, and they have one list of places.
 pub fn tokens_are_one()
@@ -19,10 +19,10 @@ pub fn same_fault_again()
     ensures { SameFaultAgain }
 {}
 
-/// Each word and each sign is read from how it is written.
+/// Each word is read from how it is written, and no two signs are written alike.
 pub fn words_and_signs_are_read()
     ensures words { WordsAreRead }
-    ensures signs { SignsAreRead }
+    ensures signs { SignsDiffer }
 {}
 
 /// A spelling means one list of characters, or it has one fault.
@@ -34,4 +34,10 @@ pub fn literal_is_one()
 pub fn nexts_are_tokens()
     ensures next { NextIsFirst }
     ensures none { NoneIsLast }
+{}
+
+/// What is said is read again where each token is followed by a white character; and the tokens of a text are said.
+pub fn spaced_are_read()
+    ensures read { SpacedAreRead }
+    ensures said { TokensAreSaid }
 {}

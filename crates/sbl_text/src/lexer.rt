@@ -26,12 +26,13 @@ pub struct Lexer<'a> {
     source: &'a str,
     rest: &'a str,
     state: State<'a>,
+    fault: Option<ScriptFault>,
 }
 
 impl<'a> Model for Lexer<'a> {
     ghost Value = { Reading };
 
-    ghost view = { λ s. record { text = chars s.source.now; rest = chars s.rest.now; state = s.state } };
+    ghost view = { λ s. record { text = chars s.source.now; rest = chars s.rest.now; state = s.state; fault = s.fault } };
 
     ghost invariant = { λ s. (x : List ℕ) × (chars s.source.now ≡ x ++ chars s.rest.now) };
 }
@@ -84,36 +85,42 @@ impl<'a> Lexer<'a> {
 
     /// Begins at the text's front, with no insert characters and no macros. The allocator is kept for what tokens mean.
     pub fn new(alloc: Global, text: &'a str) -> Lexer<'a>
-        ensures text { result.text ≡ chars text.now }
-        ensures rest { result.rest ≡ chars text.now }
-        ensures state { result.state ≡ start }
+        ensures { result ≡ spec.beginning start (chars text.now) }
     {
-        Lexer::with_escapes(alloc, text, Escapes::new(alloc))
+        Lexer::under(alloc, text, Escapes::new(alloc))
+    }
+
+    /// Begins at the text's front, with copies of the insert characters and macros; `OutOfMemory` where memory is
+    /// refused for them. The allocator is kept for what tokens mean.
+    pub fn with_escapes(
+        alloc: Global,
+        text: &'a str,
+        escapes: &Escapes,
+    ) -> Result<Lexer<'a>, ScriptFault>
+        ensures lexer { IfOk result (λ l. l ≡ spec.beginning (start_under escapes.now) (chars text.now)) }
+        ensures fault { IfErr result (λ f. f ≡ ScriptFault.OutOfMemory) }
+    {
+        Ok(Lexer::under(alloc, text, escapes.copy()?))
     }
 
     /// Begins at the text's front, with insert characters and macros.
-    pub fn with_escapes(alloc: Global, text: &'a str, escapes: Escapes) -> Lexer<'a>
-        ensures text { result.text ≡ chars text.now }
-        ensures rest { result.rest ≡ chars text.now }
-        ensures state { result.state ≡ start_under escapes }
+    fn under(alloc: Global, text: &'a str, escapes: Escapes) -> Lexer<'a>
+        ensures { result ≡ spec.beginning (start_under escapes) (chars text.now) }
     {
         Lexer {
             alloc,
             source: text,
             rest: text,
             state: State::new(escapes),
+            fault: None,
         }
     }
 
-    /// The next token, or nothing at the end.
-    ///
-    /// White space and comments before it are skipped; it is the longest token there under the insert characters and
-    /// macros that the tokens before it have set (Snowball manual, "The language"). Where no token stands, where a
-    /// number is too large, and where a literal inserts what is not defined, the fault with its place; the lexer is
-    /// left as it was, so that the same fault comes again. After `OutOfMemory` the same token is read again.
-    pub fn next(&mut self) -> Result<Option<Token<'a>>, ScriptFault>
-        ensures next { spec.IsNext self.old.text self.old.state self.old.rest self.new.state self.new.rest result }
+    /// What comes next from where the lexer stands. Where it is refused, the lexer stays where it stands.
+    fn advance(&mut self) -> Result<Option<Token<'a>>, ScriptFault>
+        ensures next { spec.Advances self.old.text self.old.state self.old.rest self.new.state self.new.rest result }
         ensures same_text { self.new.text ≡ self.old.text }
+        ensures same_fault { self.new.fault ≡ self.old.fault }
     {
         match token_after(self.alloc, &self.state, self.source, self.rest) {
             Err(fault) => Err(fault),
@@ -130,6 +137,30 @@ impl<'a> Lexer<'a> {
                     }
                 },
             },
+        }
+    }
+
+    /// The next token, or nothing at the end.
+    ///
+    /// White space and comments before it are skipped; it is the longest token there under the insert characters and
+    /// macros that the tokens before it have set (Snowball manual, "The language"). Where no token stands, where a
+    /// number is too large, and where a literal inserts what is not defined, the fault with its place; from then on
+    /// each call answers this fault, whatever memory is left. After `OutOfMemory` the same token is read again.
+    pub fn next(&mut self) -> Result<Option<Token<'a>>, ScriptFault>
+        ensures next { spec.IsNext self.old self.new result }
+        ensures same_text { self.new.text ≡ self.old.text }
+    {
+        if let Some(fault) = self.fault {
+            return Err(fault);
+        }
+        match self.advance() {
+            Ok(found) => Ok(found),
+            Err(fault) => {
+                if fault != ScriptFault::OutOfMemory {
+                    self.fault = Some(fault);
+                }
+                Err(fault)
+            }
         }
     }
 }
@@ -158,7 +189,7 @@ pub fn tokens_under<'a>(
     ensures placed { IfOk result (λ ts. spec.ArePlacedFrom (start_under escapes) (chars text.now) (map spec.placed_of ts.items)) }
     ensures fault { IfErr result (λ f. (f ≡ ScriptFault.OutOfMemory) ⊎ spec.IsFirstFaultFrom (start_under escapes) (chars text.now) f) }
 {
-    let mut lexer = Lexer::with_escapes(alloc, text, escapes);
+    let mut lexer = Lexer::under(alloc, text, escapes);
     let mut tokens = Vec::new(alloc);
     while let Some(token) = lexer.next()? {
         tokens.push(token)?;

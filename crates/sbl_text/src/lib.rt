@@ -9,6 +9,7 @@ mod front;
 pub mod laws;
 mod lexer;
 mod literals;
+mod macros;
 mod meanings;
 mod pieces;
 mod signs;

@@ -2,7 +2,8 @@
 
 ghost use Rattle.std.specs.Prelude.{◌≡◌, ◌≤◌, ◌<◌, length, MatchOption, IfSome, Some, None};
 ghost use Rattle.std.specs.Str.{chars};
-ghost use Rattle.sbl_text.specs.Signs as spec;
+ghost use Rattle.sbl_text.specs.SignCuts as spec;
+ghost use Rattle.sbl_text.specs.Signs.{sign_text};
 
 use crate::front::split_first;
 
@@ -59,6 +60,41 @@ pub enum Sign {
     SlashEquals,
     /// `=>`
     EqualsGreater,
+}
+
+impl Sign {
+    /// How the sign is written.
+    pub fn text(self) -> &'static str
+        ensures { result.now ≡ sign_text self }
+    {
+        match self {
+            Sign::Open => "(",
+            Sign::Close => ")",
+            Sign::LeftBracket => "[",
+            Sign::RightBracket => "]",
+            Sign::Dollar => "$",
+            Sign::Plus => "+",
+            Sign::Minus => "-",
+            Sign::Star => "*",
+            Sign::Slash => "/",
+            Sign::Equals => "=",
+            Sign::Question => "?",
+            Sign::Less => "<",
+            Sign::Greater => ">",
+            Sign::Same => "==",
+            Sign::Differs => "!=",
+            Sign::AtMost => "<=",
+            Sign::AtLeast => ">=",
+            Sign::LessMinus => "<-",
+            Sign::LessPlus => "<+",
+            Sign::Arrow => "->",
+            Sign::PlusEquals => "+=",
+            Sign::MinusEquals => "-=",
+            Sign::StarEquals => "*=",
+            Sign::SlashEquals => "/=",
+            Sign::EqualsGreater => "=>",
+        }
+    }
 }
 
 fn one(a: char) -> Option<Sign>
@@ -121,7 +157,7 @@ fn two(a: char, b: char) -> Option<Sign>
 }
 
 /// The longest sign at the front, and what is left.
-#[tactic(auto, unfolding(crate::specs::Signs::sign_front))]
+#[tactic(auto, unfolding(crate::specs::SignCuts::sign_front))]
 pub fn sign_front(text: &str) -> Option<(Sign, &str)>
     ensures value { MatchOption result (spec.sign_front (chars text.now) ≡ None) (λ p. spec.sign_front (chars text.now) ≡ Some (p.0, chars p.1.now)) }
     ensures within { IfSome result (λ p. length p.1.now < length text.now) }

@@ -1,6 +1,6 @@
 //! The reserved words.
 
-ghost use Rattle.std.specs.Prelude.{◌≡◌, map};
+ghost use Rattle.std.specs.Prelude.{◌≡◌};
 ghost use Rattle.sbl_text.specs.Words as spec;
 
 /// A reserved word (Snowball manual, "The language"). A name is never one of them (our own choice).
@@ -118,72 +118,138 @@ pub enum Word {
     Unset,
 }
 
-const TABLE: [(&str, Word); 55] = [
-    ("among", Word::Among),
-    ("and", Word::And),
-    ("as", Word::As),
-    ("atleast", Word::AtLeast),
-    ("atlimit", Word::AtLimit),
-    ("atmark", Word::AtMark),
-    ("attach", Word::Attach),
-    ("backwardmode", Word::BackwardMode),
-    ("backwards", Word::Backwards),
-    ("booleans", Word::Booleans),
-    ("cursor", Word::Cursor),
-    ("decimal", Word::Decimal),
-    ("define", Word::Define),
-    ("delete", Word::Delete),
-    ("do", Word::Do),
-    ("externals", Word::Externals),
-    ("fail", Word::Fail),
-    ("false", Word::False),
-    ("for", Word::For),
-    ("get", Word::Get),
-    ("gopast", Word::GoPast),
-    ("goto", Word::GoTo),
-    ("groupings", Word::Groupings),
-    ("hex", Word::Hex),
-    ("hop", Word::Hop),
-    ("insert", Word::Insert),
-    ("integers", Word::Integers),
-    ("len", Word::Len),
-    ("lenof", Word::LenOf),
-    ("limit", Word::Limit),
-    ("loop", Word::Loop),
-    ("maxint", Word::MaxInt),
-    ("minint", Word::MinInt),
-    ("next", Word::Next),
-    ("non", Word::Non),
-    ("not", Word::Not),
-    ("or", Word::Or),
-    ("repeat", Word::Repeat),
-    ("reverse", Word::Reverse),
-    ("routines", Word::Routines),
-    ("set", Word::Set),
-    ("setlimit", Word::SetLimit),
-    ("setmark", Word::SetMark),
-    ("size", Word::Size),
-    ("sizeof", Word::SizeOf),
-    ("stringdef", Word::StringDef),
-    ("stringescapes", Word::StringEscapes),
-    ("strings", Word::Strings),
-    ("substring", Word::Substring),
-    ("test", Word::Test),
-    ("tolimit", Word::ToLimit),
-    ("tomark", Word::ToMark),
-    ("true", Word::True),
-    ("try", Word::Try),
-    ("unset", Word::Unset),
+/// All of them.
+const WORDS: [Word; 55] = [
+    Word::Among,
+    Word::And,
+    Word::As,
+    Word::AtLeast,
+    Word::AtLimit,
+    Word::AtMark,
+    Word::Attach,
+    Word::BackwardMode,
+    Word::Backwards,
+    Word::Booleans,
+    Word::Cursor,
+    Word::Decimal,
+    Word::Define,
+    Word::Delete,
+    Word::Do,
+    Word::Externals,
+    Word::Fail,
+    Word::False,
+    Word::For,
+    Word::Get,
+    Word::GoPast,
+    Word::GoTo,
+    Word::Groupings,
+    Word::Hex,
+    Word::Hop,
+    Word::Insert,
+    Word::Integers,
+    Word::Len,
+    Word::LenOf,
+    Word::Limit,
+    Word::Loop,
+    Word::MaxInt,
+    Word::MinInt,
+    Word::Next,
+    Word::Non,
+    Word::Not,
+    Word::Or,
+    Word::Repeat,
+    Word::Reverse,
+    Word::Routines,
+    Word::Set,
+    Word::SetLimit,
+    Word::SetMark,
+    Word::Size,
+    Word::SizeOf,
+    Word::StringDef,
+    Word::StringEscapes,
+    Word::Strings,
+    Word::Substring,
+    Word::Test,
+    Word::ToLimit,
+    Word::ToMark,
+    Word::True,
+    Word::Try,
+    Word::Unset,
 ];
 
-fn lookup(mut table: &[(&str, Word)], text: &str) -> Option<Word>
-    ensures { result ≡ spec.found_in (map (λ p. (p.0.now, p.1)) table.entry.now) text.now }
-{
-    while let [entry, rest @ ..] = table {
-        if entry.0 == text {
-            return Some(entry.1);
+impl Word {
+    /// How the word is written.
+    pub fn text(self) -> &'static str
+        ensures { result.now ≡ spec.word_text self }
+    {
+        match self {
+            Word::Among => "among",
+            Word::And => "and",
+            Word::As => "as",
+            Word::AtLeast => "atleast",
+            Word::AtLimit => "atlimit",
+            Word::AtMark => "atmark",
+            Word::Attach => "attach",
+            Word::BackwardMode => "backwardmode",
+            Word::Backwards => "backwards",
+            Word::Booleans => "booleans",
+            Word::Cursor => "cursor",
+            Word::Decimal => "decimal",
+            Word::Define => "define",
+            Word::Delete => "delete",
+            Word::Do => "do",
+            Word::Externals => "externals",
+            Word::Fail => "fail",
+            Word::False => "false",
+            Word::For => "for",
+            Word::Get => "get",
+            Word::GoPast => "gopast",
+            Word::GoTo => "goto",
+            Word::Groupings => "groupings",
+            Word::Hex => "hex",
+            Word::Hop => "hop",
+            Word::Insert => "insert",
+            Word::Integers => "integers",
+            Word::Len => "len",
+            Word::LenOf => "lenof",
+            Word::Limit => "limit",
+            Word::Loop => "loop",
+            Word::MaxInt => "maxint",
+            Word::MinInt => "minint",
+            Word::Next => "next",
+            Word::Non => "non",
+            Word::Not => "not",
+            Word::Or => "or",
+            Word::Repeat => "repeat",
+            Word::Reverse => "reverse",
+            Word::Routines => "routines",
+            Word::Set => "set",
+            Word::SetLimit => "setlimit",
+            Word::SetMark => "setmark",
+            Word::Size => "size",
+            Word::SizeOf => "sizeof",
+            Word::StringDef => "stringdef",
+            Word::StringEscapes => "stringescapes",
+            Word::Strings => "strings",
+            Word::Substring => "substring",
+            Word::Test => "test",
+            Word::ToLimit => "tolimit",
+            Word::ToMark => "tomark",
+            Word::True => "true",
+            Word::Try => "try",
+            Word::Unset => "unset",
         }
-        table = rest;
+    }
+}
+
+fn lookup(mut words: &[Word], text: &str) -> Option<Word>
+    ensures { result ≡ spec.found_in words.entry.now text.now }
+{
+    while let [word, rest @ ..] = words {
+        if word.text() == text {
+            return Some(*word);
+        }
+        words = rest;
     }
     None
 }
@@ -192,5 +258,5 @@ fn lookup(mut table: &[(&str, Word)], text: &str) -> Option<Word>
 pub fn word_of(text: &str) -> Option<Word>
     ensures { result ≡ spec.word_of text.now }
 {
-    lookup(&TABLE, text)
+    lookup(&WORDS, text)
 }

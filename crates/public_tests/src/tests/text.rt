@@ -299,7 +299,7 @@ fn a_literal_is_read_under_the_escapes_in_force(rt: HostRuntime) -> Result<(), F
         };
         assert_eq!(rt; shown.as_str(), want, "in {spelling:?}");
     }
-    let mut lexer = Lexer::with_escapes(rt.alloc(), "'{ss}'", escapes);
+    let mut lexer = Lexer::with_escapes(rt.alloc(), "'{ss}'", &escapes)?;
     match lexer.next()? {
         Some(
             Token {
@@ -313,6 +313,15 @@ fn a_literal_is_read_under_the_escapes_in_force(rt: HostRuntime) -> Result<(), F
         _ => assert!(rt; false),
     }
     assert!(rt; kind_of(lexer.next()?) == None);
+    Ok(())
+}
+
+#[test]
+fn words_and_signs_know_how_they_are_written(rt: HostRuntime) -> Result<(), Fail> {
+    assert_eq!(rt; Word::SetMark.text(), "setmark");
+    assert_eq!(rt; Word::AtLeast.text(), "atleast");
+    assert_eq!(rt; Sign::LessMinus.text(), "<-");
+    assert_eq!(rt; Sign::Question.text(), "?");
     Ok(())
 }
 

@@ -1,7 +1,6 @@
-use Rattle.std.proofs.Common.{◌≡◌, ◌∙◌, ◌∷◌, List, ℕ, length, sym, ap}
+use Rattle.std.proofs.Common.{◌∙◌, length, ap}
 use Rattle.std.specs.Prelude.{unwrap_or}
-use Rattle.sbl_text.specs.Codes.{numbers_in}
-use Rattle.sbl_text.proofs.Numbers.{run_split, white_first}
+use Rattle.sbl_text.proofs.Numbers.{run_split}
 use Rattle.sbl_text.proofs.codes.split_run.Goals as goal
 
 pub returns-clause-number : goal.returns-clause-number

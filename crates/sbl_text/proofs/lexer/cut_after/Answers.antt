@@ -1,4 +1,4 @@
-use Rattle.std.proofs.Common.{◌≡◌, ◌∙◌, ℕ, List, false, subst}
+use Rattle.std.proofs.Common.{◌≡◌, false, subst}
 use Rattle.std.specs.Prelude.{MatchOption}
 use Rattle.std.specs.Str.{chars}
 use Rattle.sbl_text.specs.Pieces.{Setting, AfterGaps, NoPiece, Piece_at, is_gap}

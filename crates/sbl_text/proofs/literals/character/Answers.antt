@@ -1,4 +1,4 @@
-use Rattle.std.proofs.Common.{◌≡◌, ◌∙◌, sym, ap, refl, inl, inr, Some, None}
+use Rattle.std.proofs.Common.{◌∙◌, sym, refl, inl, inr, Some, None}
 use Rattle.sbl_text.specs.declared.fault.ScriptFault.TheVariants as fault
 use Rattle.sbl_text.proofs.Spellings.{named_empty, named_one, named_code, named_other}
 use Rattle.sbl_text.proofs.literals.character.Goals.{in-Some, in-None, else-u-eq85-via-then-u-eq85+else-plus-eq43, else-u-eq85-via-else-u-eq85}

@@ -1,4 +1,4 @@
-use Rattle.std.proofs.Common.{◌≡◌, ◌∙◌, ◌+◌, ◌-◌, ℕ, List, length, take, drop, refl, sym, arith}
+use Rattle.std.proofs.Common.{◌∙◌, ◌-◌, length, take, drop, refl, sym, arith}
 use Rattle.std.specs.Char.{len_utf8}
 use Rattle.std.proofs.lemmas.Result.{err_from_is_err_and}
 use Rattle.sbl_text.proofs.Parted.{split_rest, plain_read, taken, insertion_read, insertion_wrong, room_for_one, room_for_name, name_fits}

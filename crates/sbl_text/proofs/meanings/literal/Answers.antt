@@ -1,4 +1,4 @@
-use Rattle.std.proofs.Common.{rules, refl, ◌≡◌, ◌∙◌, ℕ, List}
+use Rattle.std.proofs.Common.{rules, refl, ◌≡◌, ◌∙◌}
 use Rattle.std.specs.Str.{chars}
 use Rattle.std.proofs.lemmas.Str.{chars_from_encodes}
 use Rattle.sbl_text.proofs.Nexts.{letters_closed, inner_room, told_literal, wrong_literal}

@@ -1,5 +1,4 @@
 use Rattle.std.proofs.Common.{ap, sym}
-use Rattle.std.specs.Str.{chars}
 use Rattle.std.proofs.lemmas.Str.{encodes-chars}
 use Rattle.sbl_text.specs.Lexemes as lexemes
 use Rattle.sbl_text.proofs.meanings.macro_name.Goals as goal

@@ -1,9 +1,9 @@
-use Rattle.std.proofs.Common.{◌≡◌, length, map}
+use Rattle.std.proofs.Common.{◌≡◌, length}
 use Rattle.sbl_text.specs.Words.{found_in}
 use Rattle.sbl_text.proofs.words.lookup.Given as goal
 
-abbrev pub invariant-loop-table : goal.invariant-loop-table
-invariant-loop-table l = found_in (map (λ p. (p.0.now, p.1)) l.table) l.text ≡ found_in (map (λ p. (p.0.now, p.1)) l.initial.table) l.text
+abbrev pub invariant-loop-words : goal.invariant-loop-words
+invariant-loop-words l = found_in l.words l.text ≡ found_in l.initial.words l.text
 
-abbrev pub decreases-loop-table : goal.decreases-loop-table
-decreases-loop-table l = length l.table
+abbrev pub decreases-loop-words : goal.decreases-loop-words
+decreases-loop-words l = length l.words

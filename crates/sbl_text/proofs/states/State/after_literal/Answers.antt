@@ -1,4 +1,3 @@
-use Rattle.std.proofs.Common.{◌∙◌}
 use Rattle.std.specs.Str.{chars}
 use Rattle.sbl_text.proofs.Nexts.{nothing_defined, undefined}
 use Rattle.sbl_text.proofs.states.State.after_literal.Goals as goal

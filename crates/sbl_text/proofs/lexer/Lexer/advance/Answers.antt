@@ -1,8 +1,8 @@
-use Rattle.std.proofs.Common.{◌≡◌, ℕ, List, refl}
+use Rattle.std.proofs.Common.{refl}
 use Rattle.std.specs.Str.{chars}
 use Rattle.sbl_text.specs.Lexemes.{lexeme_of}
 use Rattle.sbl_text.proofs.Nexts.{next_ends, lacking}
-use Rattle.sbl_text.proofs.lexer.Lexer.next.Goals as goal
+use Rattle.sbl_text.proofs.lexer.Lexer.advance.Goals as goal
 
 pub returns-in-Err-clause-next : goal.returns-in-Err-clause-next
 returns-in-Err-clause-next c = rw (← c.self.view_is) (refl, refl, c.in-Err.ensures)

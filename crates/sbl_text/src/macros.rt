@@ -1,0 +1,84 @@
+//! The macros, by their names.
+
+ghost use Rattle.std.specs.Prelude.{◌≡◌, ◌++◌, ◌∷◌, [], IfOk, if◌then◌else◌, is_ok, map, option_map, List, ℕ};
+ghost use Rattle.sbl_text.specs.Escapes.{Definition, find};
+ghost use Rattle.sbl_text.specs.Latest.{IsLatest, at_name};
+
+use std::alloc::{AllocError, Global};
+use std::collections::BTreeMap;
+use std::marker::Model;
+
+/// A name, and the characters that it stands for.
+#[derive(Drop)]
+struct Macro {
+    name: Vec<char>,
+    value: Vec<char>,
+}
+
+/// The definitions of macros in their order, and where the last one of each name stands among them.
+#[derive(Drop)]
+pub struct Macros {
+    definitions: Vec<Macro>,
+    latest: BTreeMap<Vec<char>, usize>,
+}
+
+impl Model for Macros {
+    ghost Value = { List Definition };
+
+    ghost view = { λ s. map (λ m. record { name = m.name.items; value = m.value.items }) s.definitions.items };
+
+    ghost invariant = { λ s. (q : List ℕ) → IsLatest (map (λ m. record { name = m.name.items; value = m.value.items }) s.definitions.items) q (at_name s.latest q) };
+}
+
+impl Macros {
+    /// No macros.
+    pub fn new(alloc: Global) -> Macros
+        ensures { result ≡ [] }
+    {
+        Macros {
+            definitions: Vec::new(alloc),
+            latest: BTreeMap::new(alloc),
+        }
+    }
+
+    /// Puts a definition behind the others. Where memory is refused, nothing changes.
+    pub fn define(&mut self, alloc: Global, name: &[char], value: &[char]) -> Result<(), AllocError>
+        ensures { self.new ≡ (if is_ok result then self.old ++ record { name = name.now; value = value.now } ∷ [] else self.old) }
+    {
+        let key = Vec::from_slice(alloc, name)?;
+        let definition = Macro {
+            name: Vec::from_slice(alloc, name)?,
+            value: Vec::from_slice(alloc, value)?,
+        };
+        let place = self.definitions.len();
+        self.definitions.push(definition)?;
+        match self.latest.insert(key, place) {
+            Ok(_) => Ok(()),
+            Err(refused) => {
+                self.definitions.pop();
+                Err(AllocError::from(refused))
+            }
+        }
+    }
+
+    /// The characters that a macro stands for, by its last definition.
+    pub fn find(&self, name: &[char]) -> Option<&[char]>
+        ensures { option_map (λ v. v.now) result ≡ find self.now name.now }
+    {
+        match self.latest.get(name) {
+            Some(place) => Some(self.definitions[*place].value.as_slice()),
+            None => None,
+        }
+    }
+
+    /// The same definitions once more.
+    pub fn copy(&self, alloc: Global) -> Result<Macros, AllocError>
+        ensures { IfOk result (λ m. m ≡ self.now) }
+    {
+        let mut copy = Macros::new(alloc);
+        for each in &self.definitions {
+            copy.define(alloc, &each.name, &each.value)?;
+        }
+        Ok(copy)
+    }
+}
