@@ -9,6 +9,7 @@ pub mod change;
 pub mod class;
 pub mod edit;
 pub mod fault;
+pub mod laws;
 pub mod open;
 pub mod outcomes;
 pub mod pairs;
