@@ -3,6 +3,7 @@
 mod amongs;
 mod arithmetic;
 mod bench;
+mod bench_edits;
 mod characters;
 mod checks;
 mod control;

@@ -4,7 +4,7 @@ use crate::tests::characters::{text_of, word_of};
 use crate::tests::scripts::{PREFIXES, suffixes, with_body};
 use sbl_bench::{Bench, EditFault, Row};
 use sbl_machine::Outcome;
-use sbl_script::Script;
+use sbl_script::{Script, ScriptFault};
 use std::alloc::Global;
 use std::test::Fail;
 
@@ -194,6 +194,14 @@ fn faults_are_printed_with_their_numbers(rt: HostRuntime) -> Result<(), Fail> {
         (EditFault::EmptyWord, "42 EmptyWord"),
         (EditFault::WordTooLong, "43 WordTooLong"),
         (EditFault::Full, "44 Full"),
+        (EditFault::NoRoutine, "45 NoRoutine"),
+        (EditFault::NoAmong, "46 NoAmong"),
+        (EditFault::AmongCount, "47 AmongCount"),
+        (
+            EditFault::Script(ScriptFault::Undeclared { item: 2 }),
+            "48 Undeclared",
+        ),
+        (EditFault::Script(ScriptFault::NoExternal), "48 NoExternal"),
         (EditFault::OutOfMemory, "49 OutOfMemory"),
         (EditFault::MeterFull, "50 MeterFull"),
     ] {

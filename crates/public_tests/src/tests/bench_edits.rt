@@ -1,0 +1,167 @@
+//! An author at work: edits of a script, and the rows and classes after each.
+
+use crate::tests::bench::{bench_of, classes_shown, rows_shown};
+use crate::tests::characters::{text_of, word_of};
+use crate::tests::scripts::{PREFIXES, suffixes};
+use sbl_bench::{Bench, EditFault};
+use sbl_script::{Script, ScriptFault};
+use std::alloc::Global;
+use std::test::Fail;
+
+const AT_FIRST: &str = "box:boxes,;cak:cake,cakes,;cat:cats,;dog:dog,;";
+
+/// A bench of a script that takes plural endings off.
+fn plurals(alloc: Global) -> Result<Bench, Fail> {
+    let script = suffixes(alloc)?;
+    bench_of(
+        alloc,
+        script.as_str(),
+        &["cats", "boxes", "cakes", "cake", "dog"],
+    )
+}
+
+#[test]
+fn classes_follow_the_edits_of_routines(rt: HostRuntime) -> Result<(), Fail> {
+    let alloc = rt.alloc();
+    let mut bench = plurals(alloc)?;
+    assert_eq!(rt; classes_shown(alloc, &bench)?.as_str(), AT_FIRST);
+    assert_eq!(rt; bench.runs(), 5);
+    assert_eq!(rt; bench.replace_routine("last", "true\n"), Ok(()));
+    assert_eq!(rt;
+        classes_shown(alloc, &bench)?.as_str(),
+        "box:boxes,;cake:cake,cakes,;cat:cats,;dog:dog,;"
+    );
+    assert_eq!(rt; bench.runs(), 10);
+    assert_eq!(rt; bench.replace_routine("sib", "false\n"), Ok(()));
+    assert_eq!(rt;
+        classes_shown(alloc, &bench)?.as_str(),
+        "boxe:boxes,;cake:cake,cakes,;cat:cats,;dog:dog,;"
+    );
+    assert_eq!(rt; bench.runs(), 15);
+    Ok(())
+}
+
+#[test]
+fn refused_edits_of_the_script_change_nothing(rt: HostRuntime) -> Result<(), Fail> {
+    let alloc = rt.alloc();
+    let mut bench = plurals(alloc)?;
+    for (name, text, want) in [
+        ("nope", "true\n", EditFault::NoRoutine),
+        (
+            "tail",
+            "nowhere\n",
+            EditFault::Script(ScriptFault::Undeclared { item: 4 }),
+        ),
+        (
+            "tail",
+            "",
+            EditFault::Script(ScriptFault::Syntax { place: 0 }),
+        ),
+    ] {
+        assert_eq!(rt;
+            bench.replace_routine(name, text),
+            Err(want),
+            "{name} {text}"
+        );
+    }
+    assert_eq!(rt; classes_shown(alloc, &bench)?.as_str(), AT_FIRST);
+    assert_eq!(rt;
+        rows_shown(alloc, &bench)?.as_str(),
+        "cats cat;boxes box;cakes cak;cake cak;dog dog;"
+    );
+    assert_eq!(rt; bench.runs(), 5);
+    Ok(())
+}
+
+#[test]
+fn a_word_that_comes_again_stands_last(rt: HostRuntime) -> Result<(), Fail> {
+    let alloc = rt.alloc();
+    let mut bench = plurals(alloc)?;
+    let boxes = word_of(alloc, "boxes")?;
+    assert_eq!(rt; bench.remove(&boxes), Ok(()));
+    assert_eq!(rt; bench.add(&boxes), Ok(()));
+    assert_eq!(rt;
+        rows_shown(alloc, &bench)?.as_str(),
+        "cats cat;cakes cak;cake cak;dog dog;boxes box;"
+    );
+    assert_eq!(rt; bench.runs(), 6);
+    Ok(())
+}
+
+#[test]
+fn a_removed_word_leaves_its_class(rt: HostRuntime) -> Result<(), Fail> {
+    let alloc = rt.alloc();
+    let mut bench = plurals(alloc)?;
+    let cake = word_of(alloc, "cake")?;
+    let cakes = word_of(alloc, "cakes")?;
+    assert_eq!(rt; bench.remove(&cake), Ok(()));
+    match bench.class_of(&cakes)? {
+        Some(class) => {
+            assert_eq!(rt; text_of(alloc, class.stem.as_slice())?.as_str(), "cak");
+            assert_eq!(rt; class.words.len(), 1);
+        }
+        None => assert!(rt; false),
+    }
+    assert!(rt; bench.class_of(&cake)?.is_none());
+    Ok(())
+}
+
+/// Takes `un` off a word's front, and leaves `re`.
+const ONE_PREFIX: &str = "( [ among ( 'un' () ) ] delete )";
+
+#[test]
+fn another_body_of_the_external_runs_every_word(rt: HostRuntime) -> Result<(), Fail> {
+    let alloc = rt.alloc();
+    let mut bench = bench_of(alloc, PREFIXES, &["undo", "redo", "sky"])?;
+    assert_eq!(rt; bench.replace_routine("stem", ONE_PREFIX), Ok(()));
+    assert_eq!(rt; bench.runs(), 6);
+    assert_eq!(rt;
+        classes_shown(alloc, &bench)?.as_str(),
+        "do:undo,;redo:redo,;sky:sky,;"
+    );
+    // a slice that ends before it begins: the word is refused and has no class
+    assert_eq!(rt; bench.add(&['a', 'b']), Ok(()));
+    assert_eq!(rt; bench.replace_routine("stem", "( 'a' [ delete )"), Ok(()));
+    assert_eq!(rt;
+        classes_shown(alloc, &bench)?.as_str(),
+        "redo:redo,;sky:sky,;undo:undo,;"
+    );
+    Ok(())
+}
+
+// An edit whose memory is refused leaves the bench as it was, but for the count.
+#[test]
+fn a_refused_growth_keeps_the_script(rt: HostRuntime) -> Result<(), Fail> {
+    let Ok(script) = Script::parse(rt.alloc(), PREFIXES.as_bytes(), "stem") else {
+        println!(rt; "the script was refused")?;
+        return Ok(());
+    };
+    let Ok(mut bench) = Bench::open(rt.alloc(), script, Vec::new(rt.alloc())) else {
+        println!(rt; "the bench was refused")?;
+        return Ok(());
+    };
+    if bench.add(&['r', 'e', 'd', 'o']).is_err() || bench.add(&['u', 'n', 'd', 'o']).is_err() {
+        println!(rt; "a word was refused")?;
+        return Ok(());
+    }
+    let answer = bench.replace_routine("stem", ONE_PREFIX);
+    assert!(rt; bench.runs() >= 2 && bench.runs() <= 4);
+    // `redo` stays with `undo` where the edit was refused, and is alone where it was made.
+    let together = match answer {
+        Ok(()) => 1,
+        Err(fault) => {
+            println!(rt; "the edit was refused")?;
+            assert_eq!(rt; fault, EditFault::OutOfMemory);
+            2
+        }
+    };
+    let Ok(class) = bench.class_of(&['r', 'e', 'd', 'o']) else {
+        println!(rt; "the class was refused")?;
+        return Ok(());
+    };
+    match class {
+        Some(class) => assert_eq!(rt; class.words.len(), together),
+        None => assert!(rt; false),
+    }
+    Ok(())
+}
