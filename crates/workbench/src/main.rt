@@ -1,23 +1,8 @@
-//! A session over a Snowball script and a vocabulary: a script block and words on standard input, then commands; their
-//! answers on standard output.
+//! The program: a session over a Snowball script and a vocabulary. A script block and words come on standard input, then
+//! commands; their answers go to standard output.
 #![tactic(auto)]
 
-mod commands;
-mod devices;
-mod faults;
-mod lines;
-mod loading;
-mod replies;
-mod rows;
-mod script_text;
-mod serving;
-mod writing;
-
-pub use devices::{Device, Sink, Source, Stop};
-pub use faults::{LineFault, LoadFault, ServeFault};
-pub use lines::{Lines, MAX_LINE};
-pub use loading::load;
-pub use serving::serve;
+use snowbench::{Device, Lines, LoadFault, load, serve};
 use std::process::ExitCode;
 
 /// The external that is run.
@@ -43,8 +28,3 @@ fn session(rt: &HostRuntime) -> Result<(), LoadFault> {
         Err(fault) => Err(LoadFault::Input(fault)),
     }
 }
-
-#[cfg(test)]
-mod session_tests;
-#[cfg(test)]
-mod tests;

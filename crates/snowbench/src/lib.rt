@@ -1,0 +1,25 @@
+//! Sessions over a Snowball script and a vocabulary: a script block and words come from a reader, then commands; their
+//! answers go to a writer.
+#![tactic(auto)]
+
+mod commands;
+mod devices;
+mod faults;
+mod lines;
+mod loading;
+mod replies;
+mod rows;
+mod script_text;
+mod serving;
+mod writing;
+
+pub use devices::{Device, Sink, Source, Stop};
+pub use faults::{LineFault, LoadFault, ServeFault};
+pub use lines::{Lines, MAX_LINE};
+pub use loading::load;
+pub use serving::serve;
+
+#[cfg(test)]
+mod session_tests;
+#[cfg(test)]
+mod tests;
