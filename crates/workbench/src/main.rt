@@ -1,30 +1,30 @@
-//! The program: a session over a Snowball script and a vocabulary. A script block and words come on standard input, then
-//! commands; their answers go to standard output.
+//! The program `snowbench`: reads the words of its command line, and runs over standard input, output and error.
 #![tactic(auto)]
 
-use snowbench::{Device, Lines, LoadFault, load, serve};
+use clap::error::ErrorKind;
+use snowbench::{Device, read_words, run};
+use std::io;
 use std::process::ExitCode;
 
-/// The external that is run.
-const EXTERNAL: &str = "stem";
+/// The status where the command line is refused. Help ends with it too.
+const REFUSED: u8 = 2;
 
-fn main(rt: HostRuntime) -> ExitCode {
-    match session(&rt) {
-        Ok(()) => ExitCode::SUCCESS,
-        Err(fault) => {
-            let _ = eprintln!(rt; "snowbench: {fault}");
-            ExitCode::FAILURE
+fn main(rt: HostRuntime) -> io::Result<ExitCode> {
+    let words: Vec<String> = std::env::args(&rt)?.collect(rt.alloc())?;
+    match read_words(rt.alloc(), &words) {
+        Ok(wanted) => {
+            let mut writer = Device::new(rt.stdout());
+            let mut errors = Device::new(rt.stderr());
+            let status = run(rt.alloc(), &wanted, Device::new(rt.stdin()), &mut writer, &mut errors);
+            Ok(ExitCode::from(status))
         }
-    }
-}
-
-/// Loads a bench from standard input, and answers the commands after it.
-fn session(rt: &HostRuntime) -> Result<(), LoadFault> {
-    let mut lines = Lines::new(rt.alloc(), Device::new(rt.stdin()))?;
-    let mut bench = load(&mut lines, EXTERNAL)?;
-    let mut writer = Device::new(rt.stdout());
-    match serve(&mut bench, &mut lines, &mut writer) {
-        Ok(()) => Ok(()),
-        Err(fault) => Err(LoadFault::Input(fault)),
+        Err(error) if error.kind() == ErrorKind::OutOfMemory => {
+            let _ = eprintln!(rt; "snowbench: 49 OutOfMemory");
+            Ok(ExitCode::FAILURE)
+        }
+        Err(error) => {
+            let _ = eprint!(rt; "{error}");
+            Ok(ExitCode::from(REFUSED))
+        }
     }
 }
