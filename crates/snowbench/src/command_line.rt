@@ -123,6 +123,7 @@ fn make_program<'a>(alloc: Global) -> Result<Command<'a>, AllocError>
     ensures { IfOk result (λ c. app_of c ≡ program) }
 {
     Command::new(alloc, "snowbench")
+        .bin_name("snowbench")?
         .about(ABOUT)
         .after_help(READ_ON)
         .subcommand_required(true)
