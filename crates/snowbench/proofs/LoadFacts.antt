@@ -91,6 +91,7 @@ words_refused old between new external s state (Input serve.Read) begins reads =
 words_refused old between new external s state (Input serve.Write) begins reads = absurd reads
 words_refused old between new external s state (Input serve.LineTooLong) begins reads = inr (s, between, begins, reads)
 words_refused old between new external s state (Input serve.Cut) begins reads = absurd reads
+words_refused old between new external s state (Input serve.LengthsDiffer) begins reads = absurd reads
 words_refused old between new external s state (Input serve.NotText) begins reads = (s, between, begins, reads)
 words_refused old between new external s state (Input serve.OutOfMemory) begins reads = tt
 

@@ -12,3 +12,7 @@ pub mod Edits
 pub mod RowWriter
 pub mod Block
 pub mod Loaded
+pub mod CommandLine
+pub mod Differences
+pub mod Checking
+pub mod Stemmed

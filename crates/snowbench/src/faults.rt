@@ -31,7 +31,10 @@ pub enum ServeFault {
     /// The input ended inside a block.
     #[error("73 Cut")]
     Cut,
-    /// A line of the vocabulary is not UTF-8.
+    /// One of two lists has more lines than the other.
+    #[error("74 LengthsDiffer")]
+    LengthsDiffer,
+    /// A line of words or of stems is not UTF-8.
     #[error("75 NotText")]
     NotText,
     /// A growth was refused.
@@ -65,6 +68,16 @@ pub enum LoadFault {
     Open(EditFault),
 }
 
+impl From<AllocError> for ServeFault {
+    ghost use Rattle.snowbench.specs.declared.faults.ServeFault.TheVariants as serve;
+
+    ghost from_gives = { λ _ e. e ≡ serve.OutOfMemory };
+
+    fn from(_: AllocError) -> ServeFault {
+        ServeFault::OutOfMemory
+    }
+}
+
 impl From<LineFault> for LoadFault {
     ghost use Rattle.snowbench.specs.declared.faults.LoadFault.TheVariants as load;
 
@@ -72,6 +85,16 @@ impl From<LineFault> for LoadFault {
 
     fn from(fault: LineFault) -> LoadFault {
         LoadFault::Input(fault.into())
+    }
+}
+
+impl From<ServeFault> for LoadFault {
+    ghost use Rattle.snowbench.specs.declared.faults.LoadFault.TheVariants as load;
+
+    ghost from_gives = { λ fault e. e ≡ load.Input fault };
+
+    fn from(fault: ServeFault) -> LoadFault {
+        LoadFault::Input(fault)
     }
 }
 

@@ -17,7 +17,7 @@ use sbl_script::Script;
 use std::alloc::Global;
 
 /// The text of the script block, read to its end.
-fn read_script<R: Source + Drop>(lines: &mut Lines<R>) -> Result<Vec<u8>, LoadFault>
+pub(crate) fn read_script<R: Source + Drop>(lines: &mut Lines<R>) -> Result<Vec<u8>, LoadFault>
     ensures reads { fault_of lines.old ≡ None → ReadsScript (input_of R.left lines.old) (input_of R.left lines.new) result }
     ensures ready { OnOk result (fault_of lines.old ≡ None) }
     ensures remembered { fault_of lines.new ≡ left_by_load result }

@@ -11,7 +11,7 @@ use sbl_machine::Outcome;
 use std::alloc::{AllocError, Global};
 
 /// Some characters as UTF-8.
-fn text_of(alloc: Global, characters: &[char]) -> Result<String, AllocError>
+pub(crate) fn text_of(alloc: Global, characters: &[char]) -> Result<String, AllocError>
     ensures { IfOk result (λ text. string_bytes text ≡ encode_utf8_all characters.now) }
 {
     let mut text = String::new(alloc);

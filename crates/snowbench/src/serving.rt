@@ -53,7 +53,7 @@ fn add_word(bench: &mut Bench, word: &str) -> &'static str
 }
 
 /// The report of all rows.
-fn stems_text(alloc: Global, bench: &Bench) -> Result<Vec<u8>, AllocError>
+pub(crate) fn stems_text(alloc: Global, bench: &Bench) -> Result<Vec<u8>, AllocError>
     ensures { IfOk result (λ text. text.items ≡ rows.stems_text (state_of bench.now)) }
 {
     let rows = bench.rows()?;

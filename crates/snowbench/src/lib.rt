@@ -1,0 +1,34 @@
+//! Sessions over a Snowball script and a vocabulary: a script block and words come from a reader, then commands; their
+//! answers go to a writer.
+#![tactic(auto)]
+
+mod checking;
+mod command_line;
+mod commands;
+mod devices;
+mod faults;
+mod lines;
+mod loading;
+mod program;
+mod replies;
+mod rows;
+mod script_text;
+mod serving;
+mod text_lines;
+mod writing;
+
+pub use checking::check;
+pub use command_line::{Verb, Wanted, read_words};
+pub use devices::{Device, Sink, Source, Stop};
+pub use faults::{LineFault, LoadFault, ServeFault};
+pub use lines::{Lines, MAX_LINE};
+pub use loading::load;
+pub use program::run;
+pub use serving::serve;
+
+#[cfg(test)]
+mod program_tests;
+#[cfg(test)]
+mod session_tests;
+#[cfg(test)]
+mod tests;

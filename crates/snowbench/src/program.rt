@@ -1,0 +1,142 @@
+//! The program, over a reader and two writers.
+ghost use Rattle.std.specs.Prelude.{◌≡◌, ◌≤◌, None, IfOk};
+ghost use Rattle.snowbench.specs.Held.{fault_of, input_of};
+ghost use Rattle.snowbench.specs.Stemmed.{IsStemmed};
+
+use crate::checking::check;
+use crate::command_line::{Verb, Wanted};
+use crate::devices::{Sink, Source};
+use crate::faults::{LoadFault, ServeFault};
+use crate::lines::Lines;
+use crate::loading::{load, read_script};
+use crate::serving::{serve, stems_text};
+use crate::writing::write_all;
+use sbl_script::Script;
+use std::alloc::{AllocError, Global};
+use std::fmt;
+use std::fmt::Write;
+
+/// The whole program: does what the command line asks for, reads from `reader`, writes to `writer`, and answers the exit
+/// status: 0, or 1 for a fault or a difference. A fault is one line in `errors`: `snowbench: ` and what the fault shows. What
+/// was answered before it stays with `writer`.
+///
+/// `session` loads a bench and answers the commands after it; `stem` loads one and writes the row of each word; `check` reads a
+/// script block, a block of words and the expected stems to the end of input, all before it runs anything, and then writes a
+/// row for each difference.
+pub fn run<R: Source + Drop, W: Sink, E: Sink>(
+    alloc: Global,
+    wanted: &Wanted,
+    reader: R,
+    writer: &mut W,
+    errors: &mut E,
+) -> u8
+    ensures { result ≤ 1 }
+{
+    match answer(alloc, wanted, reader, writer) {
+        Ok(0) => 0,
+        Ok(_) => 1,
+        Err(fault) => {
+            // The status tells of the fault even where its line can't be written.
+            let _ = writeln!(Shown { sink: errors }, "snowbench: {fault}");
+            1
+        }
+    }
+}
+
+/// Does what is wanted, and answers the number of differences.
+fn answer<R: Source + Drop, W: Sink>(
+    alloc: Global,
+    wanted: &Wanted,
+    reader: R,
+    writer: &mut W,
+) -> Result<u64, LoadFault> {
+    let external = wanted.external.as_str();
+    let mut lines = Lines::new(alloc, reader)?;
+    match wanted.verb {
+        Verb::Session => {
+            let mut bench = load(&mut lines, external)?;
+            serve(&mut bench, &mut lines, writer)?;
+            Ok(0)
+        }
+        Verb::Stem => {
+            stem(&mut lines, external, writer)?;
+            Ok(0)
+        }
+        Verb::Check => check_input(&mut lines, external, writer),
+    }
+}
+
+/// Loads a bench and writes its rows. What follows the vocabulary is not read.
+fn stem<R: Source + Drop, W: Sink>(
+    lines: &mut Lines<R>,
+    external: &str,
+    writer: &mut W,
+) -> Result<(), LoadFault>
+    ensures { fault_of lines.old ≡ None → IsStemmed (input_of R.left lines.old) (input_of R.left lines.new) external.now (W.held writer.old) (W.held writer.new) result }
+{
+    let bench = load(lines, external)?;
+    let text = stems_text(lines.alloc(), &bench)?;
+    write_all(writer, &text)?;
+    Ok(())
+}
+
+/// Reads a script block, a block of words and the expected stems, and compares what the script makes of the words with these.
+/// Answers how many differ.
+fn check_input<R: Source + Drop, W: Sink>(
+    lines: &mut Lines<R>,
+    external: &str,
+    writer: &mut W,
+) -> Result<u64, LoadFault> {
+    let text = read_script(lines)?;
+    let script = match Script::parse(lines.alloc(), &text, external) {
+        Ok(script) => script,
+        Err(fault) => return Err(LoadFault::Script(fault)),
+    };
+    let words = read_block(lines)?;
+    let expected = read_rest(lines)?;
+    Ok(check(lines.alloc(), &script, &words, &expected, writer)?)
+}
+
+/// The lines up to a line `.`, each as `push_line` puts it.
+fn read_block<R: Source + Drop>(lines: &mut Lines<R>) -> Result<Vec<u8>, LoadFault> {
+    let mut text = Vec::new(lines.alloc());
+    while lines.next_line()? {
+        if lines.line() == b".".as_slice() {
+            return Ok(text);
+        }
+        push_line(&mut text, lines.line())?;
+    }
+    Err(LoadFault::Input(ServeFault::Cut))
+}
+
+/// The lines up to the end of input, each as `push_line` puts it.
+fn read_rest<R: Source + Drop>(lines: &mut Lines<R>) -> Result<Vec<u8>, LoadFault> {
+    let mut text = Vec::new(lines.alloc());
+    while lines.next_line()? {
+        push_line(&mut text, lines.line())?;
+    }
+    Ok(text)
+}
+
+/// Puts a line at the end of a text, with a carriage return and a line feed behind it: so one of its own that ends the line
+/// stays when the text is cut into lines again.
+fn push_line(text: &mut Vec<u8>, line: &[u8]) -> Result<(), AllocError> {
+    text.extend_from_slice(line)?;
+    text.extend_from_slice(b"\r\n")?;
+    Ok(())
+}
+
+/// Writes what is shown to a sink. It takes no memory.
+#[derive(Drop)]
+struct Shown<'a, W> {
+    sink: &'a mut W,
+}
+
+impl<W: Sink> fmt::Write for Shown<'_, W> {
+    fn write_str(&mut self, text: &str) -> fmt::Result {
+        match write_all(self.sink, text.as_bytes()) {
+            Ok(()) => Ok(()),
+            Err(_) => Err(fmt::Error),
+        }
+    }
+}
