@@ -5,7 +5,7 @@ use Rattle.std.specs.List.{list_all}
 use Rattle.std.proofs.lemmas.Bool.Decides.{nat_tests}
 use Rattle.sbl_text.specs.declared.signs.Sign.{Sign}
 use Rattle.sbl_text.specs.declared.escapes.Inserts.{Inserts}
-use Rattle.sbl_text.specs.Classes.{past}
+use Rattle.sbl_text.specs.Skip.{past}
 use Rattle.sbl_text.specs.SignCuts.{sign_of, sign_front, or_one, one, two}
 use Rattle.sbl_text.specs.Escapes.{opens, closes}
 use Rattle.sbl_text.specs.Pieces.{is_inner, starts_slash, has_end}

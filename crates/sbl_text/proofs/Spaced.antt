@@ -22,8 +22,8 @@ use Rattle.sbl_text.specs.Classes.{is_white, is_digit, is_word}
 use Rattle.sbl_text.specs.Words.{word_text, words, word_of, found_in}
 use Rattle.sbl_text.specs.Signs.{sign_text}
 use Rattle.sbl_text.specs.SignCuts.{two, sign_of}
-use Rattle.sbl_text.specs.Pieces.{Has, may_come, setting, Stands, IsPiece, BeginsComment, IsCutFrom, is_gap}
-use Rattle.sbl_text.specs.Scan.{Cut, cut_in, past_literal}
+use Rattle.sbl_text.specs.Pieces.{Has, may_come, setting, Stands, IsPiece, BeginsComment, is_gap}
+use Rattle.sbl_text.specs.Scan.{IsCutFrom, Cut, cut_in, past_literal}
 use Rattle.sbl_text.specs.Lexemes.{Lexeme, number}
 use Rattle.sbl_text.specs.States.{State, after}
 use Rattle.sbl_text.specs.Tokens.{digits_value, number_of, word_or_name, Told, Says, Piece, MaySay, after_piece, AreCut, and_more, said, MayEnd, AreTokensFrom}

@@ -11,10 +11,11 @@ use Rattle.sbl_text.specs.declared.pieces.Wanted.TheVariants as wanted
 use Rattle.sbl_text.specs.declared.pieces.Start.{Start}
 use Rattle.sbl_text.specs.declared.pieces.Start.TheVariants as start
 use Rattle.sbl_text.specs.declared.escapes.Inserts.{Inserts}
-use Rattle.sbl_text.specs.Classes.{past, is_white, is_letter, is_digit, is_word}
+use Rattle.sbl_text.specs.Classes.{is_white, is_letter, is_digit, is_word}
+use Rattle.sbl_text.specs.Skip.{past}
 use Rattle.sbl_text.specs.SignCuts.{sign_of, sign_front, one, two}
-use Rattle.sbl_text.specs.Pieces.{Has, may_come, Setting, setting, Stands, IsPiece, NoPiece, BeginsComment, IsCutFrom, Gap, AreGaps, AfterGaps, Piece_at, is_gap}
-use Rattle.sbl_text.specs.Scan.{past_literal, past_block, start_of, Cut, cut, cut_at, cut_as, sign_cut, slash_cut, pair_from, pair_cut, name_cut, cut_in}
+use Rattle.sbl_text.specs.Pieces.{Has, may_come, Setting, setting, Stands, IsPiece, NoPiece, BeginsComment, Gap, AreGaps, AfterGaps, is_gap}
+use Rattle.sbl_text.specs.Scan.{IsCutFrom, Piece_at, past_literal, past_block, start_of, Cut, cut, cut_at, cut_as, sign_cut, slash_cut, pair_from, pair_cut, name_cut, cut_in}
 use Rattle.sbl_text.proofs.Written.{sign_is, sign_found_as}
 use Rattle.sbl_text.proofs.Cuts.{or_left, or_right, run, run_longest, sign_found, sign_longest, literal_parts, literal_ends, block_parts, block_ends, same_number}
 

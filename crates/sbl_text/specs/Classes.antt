@@ -1,7 +1,5 @@
 -- The classes of characters.
-use Rattle.std.specs.Prelude.{ℕ, Bool, not, ◌&&◌, ◌||◌, ◌==◌, nat_le, if◌then◌else◌, List, [], ◌∷◌}
-use Rattle.sbl_text.specs.declared.classes.Class.{Class}
-use Rattle.sbl_text.specs.declared.classes.Class.TheVariants as class
+use Rattle.std.specs.Prelude.{ℕ, Bool, ◌&&◌, ◌||◌, ◌==◌, nat_le}
 
 -- the characters that begin and end literals, comments and lines
 abbrev pub quote : ℕ
@@ -27,16 +25,3 @@ is_digit c = nat_le 48 c && nat_le c 57
 
 abbrev pub is_word : ℕ → Bool
 is_word c = is_letter c || (is_digit c || c == 95)
-
-abbrev pub is_in : Class → ℕ → Bool
-is_in class.White c = is_white c
-is_in class.Letter c = is_letter c
-is_in class.Word c = is_word c
-is_in class.Digit c = is_digit c
-is_in class.Line c = not (c == line_feed)
-is_in class.Black c = not (is_white c)
-
--- what is left after the characters that pass
-abbrev pub past : (ℕ → Bool) → List ℕ → List ℕ
-past p [] = []
-past p (c ∷ cs) = if p c then past p cs else c ∷ cs

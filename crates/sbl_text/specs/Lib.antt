@@ -1,15 +1,18 @@
+-- what the contracts of public calls rest on
 pub mod Classes
 pub mod Words
 pub mod Signs
-pub mod SignCuts
 pub mod Escapes
-pub mod Latest
 pub mod Codes
 pub mod Literals
 pub mod Pieces
-pub mod Scan
 pub mod Lexemes
 pub mod States
 pub mod Tokens
 pub mod Spaced
 pub mod Laws
+-- what the functions inside the crate promise each other
+pub mod Skip
+pub mod SignCuts
+pub mod Scan
+pub mod Latest

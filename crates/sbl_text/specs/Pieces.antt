@@ -1,5 +1,5 @@
 -- The pieces of a text: blanks, comments and tokens.
-use Rattle.std.specs.Prelude.{◌≡◌, ℕ, ◌≤◌, Bool, true, false, not, ◌&&◌, ◌||◌, ◌==◌, if◌then◌else◌, List, [], ◌∷◌, ◌++◌, length, Option, Some, None}
+use Rattle.std.specs.Prelude.{◌≡◌, ℕ, ◌≤◌, Bool, true, false, not, ◌&&◌, ◌||◌, ◌==◌, if◌then◌else◌, List, [], ◌∷◌, ◌++◌, length, Option}
 use Rattle.std.specs.List.{list_all}
 use Rattle.sbl_text.specs.declared.signs.Sign.{Sign}
 use Rattle.sbl_text.specs.declared.pieces.Shape.{Shape}
@@ -83,15 +83,6 @@ is_gap shape.Blank = true
 is_gap shape.LineComment = true
 is_gap shape.BlockComment = true
 is_gap _ = false
-
--- what is cut from the front of a text is the longest piece there
-abbrev pub IsCutFrom : Setting → List ℕ → Option (Shape × List ℕ) → Type 0
-IsCutFrom e text None = NoPiece e text
-IsCutFrom e text (Some p) = (x : List ℕ) × (text ≡ x ++ p.1) × IsPiece e p.0 x p.1
-
--- a piece stands at the front of the text, and nothing of it is longer
-abbrev pub Piece_at : Setting → Shape → List ℕ → List ℕ → Type 0
-Piece_at e k text rest = (x : List ℕ) × (text ≡ x ++ rest) × IsPiece e k x rest
 
 pub record Gap : Type 0 where
   pub shape : Shape

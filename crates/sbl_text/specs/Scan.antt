@@ -1,6 +1,6 @@
 -- How a piece is found: by its first character, and then to its end. Nothing here need be believed: it is what functions
 -- inside the crate promise each other.
-use Rattle.std.specs.Prelude.{ℕ, Bool, true, false, not, ◌&&◌, ◌||◌, ◌==◌, if◌then◌else◌, List, [], ◌∷◌, drop, Option, Some, None, option_map}
+use Rattle.std.specs.Prelude.{◌≡◌, ◌++◌, ℕ, Bool, true, false, not, ◌&&◌, ◌||◌, ◌==◌, if◌then◌else◌, List, [], ◌∷◌, drop, Option, Some, None, option_map}
 use Rattle.sbl_text.specs.declared.pieces.Shape.{Shape}
 use Rattle.sbl_text.specs.declared.pieces.Shape.TheVariants as shape
 use Rattle.sbl_text.specs.declared.pieces.Wanted.{Wanted}
@@ -8,10 +8,11 @@ use Rattle.sbl_text.specs.declared.pieces.Wanted.TheVariants as wanted
 use Rattle.sbl_text.specs.declared.pieces.Start.{Start}
 use Rattle.sbl_text.specs.declared.pieces.Start.TheVariants as start
 use Rattle.sbl_text.specs.declared.escapes.Inserts.{Inserts}
-use Rattle.sbl_text.specs.Classes.{is_white, is_letter, is_digit, is_word, past, line_feed, quote, slash, star}
+use Rattle.sbl_text.specs.Classes.{is_white, is_letter, is_digit, is_word, line_feed, quote, slash, star}
+use Rattle.sbl_text.specs.Skip.{past}
 use Rattle.sbl_text.specs.SignCuts.{sign_front}
 use Rattle.sbl_text.specs.Escapes.{opens, closes}
-use Rattle.sbl_text.specs.Pieces.{starts_slash}
+use Rattle.sbl_text.specs.Pieces.{starts_slash, Setting, IsPiece, NoPiece}
 
 abbrev pub start_of : ℕ → Start
 start_of c =
@@ -76,3 +77,12 @@ abbrev pub cut_in : Option Inserts → Wanted → List ℕ → Cut
 cut_in e wanted.Token text = cut e text
 cut_in e wanted.Inserts text = pair_cut text
 cut_in e wanted.MacroName text = name_cut text
+
+-- what is cut from the front of a text is the longest piece there
+abbrev pub IsCutFrom : Setting → List ℕ → Option (Shape × List ℕ) → Type 0
+IsCutFrom e text None = NoPiece e text
+IsCutFrom e text (Some p) = (x : List ℕ) × (text ≡ x ++ p.1) × IsPiece e p.0 x p.1
+
+-- a piece stands at the front of the text, and nothing of it is longer
+abbrev pub Piece_at : Setting → Shape → List ℕ → List ℕ → Type 0
+Piece_at e k text rest = (x : List ℕ) × (text ≡ x ++ rest) × IsPiece e k x rest

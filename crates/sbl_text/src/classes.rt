@@ -2,7 +2,8 @@
 
 ghost use Rattle.std.specs.Prelude.{◌≡◌, ◌≤◌, length};
 ghost use Rattle.std.specs.Str.{chars};
-ghost use Rattle.sbl_text.specs.Classes as spec;
+ghost use Rattle.sbl_text.specs.Classes.{is_white};
+ghost use Rattle.sbl_text.specs.Skip as spec;
 
 use crate::front::split_first;
 
@@ -18,7 +19,7 @@ pub enum Class {
 }
 
 fn is_white(c: char) -> bool
-    ensures { result ≡ spec.is_white c }
+    ensures { result ≡ is_white c }
 {
     ('\t' <= c && c <= '\r') || (c == ' ' || c == '\u{feff}')
 }

@@ -3,6 +3,7 @@
 ghost use Rattle.std.specs.Prelude.{◌≡◌, ◌≤◌, ◌<◌, ◌⊎◌, length, MatchOption, MatchResult, IfOk, IfErr, Some, None, Bool, true, false, ◌∷◌, [], List, ℕ, ◌++◌, map};
 ghost use Rattle.std.specs.Str.{chars};
 ghost use Rattle.sbl_text.specs.Pieces as pieces;
+ghost use Rattle.sbl_text.specs.Scan.{Piece_at};
 ghost use Rattle.sbl_text.specs.Tokens as spec;
 ghost use Rattle.sbl_text.specs.Tokens.{Reading};
 ghost use Rattle.std.specs.List.{All};
@@ -40,7 +41,7 @@ impl<'a> Model for Lexer<'a> {
 /// The text after white space and comments, and the token that is cut there.
 fn cut_after<'a>(state: &State<'_>, from: &'a str) -> (&'a str, Option<(Shape, &'a str)>)
     ensures gaps { pieces.AfterGaps (setting_of state.now) (chars from.now) (chars result.0.now) }
-    ensures next { MatchOption result.1 (pieces.NoPiece (setting_of state.now) (chars result.0.now)) (λ p. pieces.is_gap p.0 ≡ false × pieces.Piece_at (setting_of state.now) p.0 (chars result.0.now) (chars p.1.now)) }
+    ensures next { MatchOption result.1 (pieces.NoPiece (setting_of state.now) (chars result.0.now)) (λ p. pieces.is_gap p.0 ≡ false × Piece_at (setting_of state.now) p.0 (chars result.0.now) (chars p.1.now)) }
 {
     past_gaps(state.escapes().inserts(), state.wanted(), from)
 }

@@ -195,7 +195,7 @@ fn cut_in(inserts: Option<Inserts>, wanted: Wanted, text: &str) -> Option<(Shape
 
 /// The longest piece at the front, and what is left.
 pub fn piece(inserts: Option<Inserts>, wanted: Wanted, text: &str) -> Option<(Shape, &str)>
-    ensures value { MatchOption result (pieces.NoPiece (pieces.setting inserts wanted) (chars text.now)) (λ p. pieces.Piece_at (pieces.setting inserts wanted) p.0 (chars text.now) (chars p.1.now)) }
+    ensures value { MatchOption result (pieces.NoPiece (pieces.setting inserts wanted) (chars text.now)) (λ p. spec.Piece_at (pieces.setting inserts wanted) p.0 (chars text.now) (chars p.1.now)) }
     ensures within { IfSome result (λ p. length p.1.now < length text.now) }
 {
     cut_in(inserts, wanted, text)
@@ -217,7 +217,7 @@ pub fn past_gaps(
     mut text: &str,
 ) -> (&str, Option<(Shape, &str)>)
     ensures gaps { pieces.AfterGaps (pieces.setting inserts wanted) (chars text.entry.now) (chars result.0.now) }
-    ensures next { MatchOption result.1 (pieces.NoPiece (pieces.setting inserts wanted) (chars result.0.now)) (λ p. pieces.is_gap p.0 ≡ false × pieces.Piece_at (pieces.setting inserts wanted) p.0 (chars result.0.now) (chars p.1.now)) }
+    ensures next { MatchOption result.1 (pieces.NoPiece (pieces.setting inserts wanted) (chars result.0.now)) (λ p. pieces.is_gap p.0 ≡ false × spec.Piece_at (pieces.setting inserts wanted) p.0 (chars result.0.now) (chars p.1.now)) }
 {
     while let Some((shape, rest)) = piece(inserts, wanted, text) {
         if !is_gap(shape) {

@@ -2,7 +2,7 @@ use Rattle.std.proofs.Common.{◌≡◌, ◌≤◌, length}
 use Rattle.std.specs.Str.{chars}
 use denote.Shadow.{shadow}
 use denote.Text.{Utf8}
-use Rattle.sbl_text.specs.Classes as spec
+use Rattle.sbl_text.specs.Skip as spec
 use Rattle.sbl_text.proofs.classes.past.Given as goal
 
 abbrev pub invariant-loop-c : goal.invariant-loop-c

@@ -1,7 +1,8 @@
 use Rattle.std.proofs.Common.{◌≡◌, false, subst}
 use Rattle.std.specs.Prelude.{MatchOption}
 use Rattle.std.specs.Str.{chars}
-use Rattle.sbl_text.specs.Pieces.{Setting, AfterGaps, NoPiece, Piece_at, is_gap}
+use Rattle.sbl_text.specs.Pieces.{Setting, AfterGaps, NoPiece, is_gap}
+use Rattle.sbl_text.specs.Scan.{Piece_at}
 use Rattle.sbl_text.proofs.Nexts.{same_setting}
 use Rattle.sbl_text.proofs.lexer.cut_after.Goals as goal
 

@@ -1,0 +1,19 @@
+-- How the characters of a class are skipped. Nothing here need be believed: it is what functions inside the crate promise
+-- each other.
+use Rattle.std.specs.Prelude.{ℕ, Bool, not, ◌==◌, if◌then◌else◌, List, [], ◌∷◌}
+use Rattle.sbl_text.specs.declared.classes.Class.{Class}
+use Rattle.sbl_text.specs.declared.classes.Class.TheVariants as class
+use Rattle.sbl_text.specs.Classes.{is_white, is_letter, is_digit, is_word, line_feed}
+
+abbrev pub is_in : Class → ℕ → Bool
+is_in class.White c = is_white c
+is_in class.Letter c = is_letter c
+is_in class.Word c = is_word c
+is_in class.Digit c = is_digit c
+is_in class.Line c = not (c == line_feed)
+is_in class.Black c = not (is_white c)
+
+-- what is left after the characters that pass
+abbrev pub past : (ℕ → Bool) → List ℕ → List ℕ
+past p [] = []
+past p (c ∷ cs) = if p c then past p cs else c ∷ cs
