@@ -106,7 +106,6 @@ compared_first script words expected held = record { done = []; rows = refl; end
 
 module _ {script : Source} {words expected words_left expected_left : List ℕ} {n found : ℕ} {held h : Option (List ℕ)}
     (so : Compared script words expected words_left expected_left n found held h) where
-
   -- the rows of the lines that are left end here, with this ending
   ends_here : (o : Option ServeFault) → differences script n (lines_of words_left) (lines_of expected_left) ≡ [] → ending (lines_of words_left) (lines_of expected_left) ≡ o
       → (ending (lines_of words) (lines_of expected) ≡ o) × (found ≡ length (all_differences script words expected))
@@ -163,7 +162,6 @@ front_after (x ∷ a) t b front = let r = front_after a t b front in (suc r.0, a
 module _ {script : Source} {words expected words_left expected_left : List ℕ} {n found : ℕ} {held h : Option (List ℕ)}
     (so : Compared script words expected words_left expected_left n found held h) (w e : List ℕ) (ws es : List (List ℕ))
     (word : lines_of words_left ≡ w ∷ ws) (stem : lines_of expected_left ≡ e ∷ es) (new : Option (List ℕ)) where
-
   -- a front of the row in hand was written
   breaks_off : (k : ℕ) → pair_fault w e ≡ None → Appends h new (take k (rows_text (difference script n w e)))
       → (m : ℕ) × Appends held new (take m (rows_text (all_differences script words expected)))

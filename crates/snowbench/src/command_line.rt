@@ -152,15 +152,14 @@ pub fn read_words<'a>(alloc: Global, words: &'a [String]) -> Result<Wanted, Erro
         "stem" => Verb::Stem,
         "check" => Verb::Check,
         _ => {
-            return Err(
-                make_program(alloc)?.error(ErrorKind::InvalidSubcommand, "no such subcommand")?
-            );
+            return Err(make_program(alloc)?.error(
+                ErrorKind::InvalidSubcommand,
+                "no such subcommand",
+            )?);
         }
     };
     let Some(external) = options.get_str("external") else {
-        return Err(
-            make_program(alloc)?.error(ErrorKind::MissingRequiredArgument, "no external")?
-        );
+        return Err(make_program(alloc)?.error(ErrorKind::MissingRequiredArgument, "no external")?);
     };
     Ok(Wanted {
         verb,

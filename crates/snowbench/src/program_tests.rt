@@ -22,7 +22,7 @@ struct Checked {
     ending: Result<u64, ServeFault>,
 }
 
-fn checked(alloc: Global, script: &[u8], words: &[u8], expected: &[u8]) -> Result<Checked, Fail> {
+fn check_of(alloc: Global, script: &[u8], words: &[u8], expected: &[u8]) -> Result<Checked, Fail> {
     let script = Script::parse(alloc, script, "stem")?;
     let mut writer = writer(alloc, 0);
     let ending = check(alloc, &script, words, expected, &mut writer);
@@ -112,7 +112,7 @@ fn a_check_writes_a_row_for_each_difference(rt: HostRuntime) -> Result<(), Fail>
         ),
     ];
     for (script, words, expected, text, ending) in rows {
-        let checked = checked(rt.alloc(), script, words, expected)?;
+        let checked = check_of(rt.alloc(), script, words, expected)?;
         assert!(rt; checked.ending == ending, "{:?}", checked.ending);
         assert!(rt; checked.text.as_slice() == text, "{:?}", checked.text);
     }
@@ -122,7 +122,7 @@ fn a_check_writes_a_row_for_each_difference(rt: HostRuntime) -> Result<(), Fail>
 #[test]
 fn long_words_and_lines_in_a_check(rt: HostRuntime) -> Result<(), Fail> {
     let word = vec![in rt.alloc(); b'a'; 256]?;
-    let long = checked(
+    let long = check_of(
         rt.alloc(),
         PREFIXES,
         word.as_slice(),
@@ -130,12 +130,12 @@ fn long_words_and_lines_in_a_check(rt: HostRuntime) -> Result<(), Fail> {
     )?;
     assert!(rt; long.ending == Ok(1));
     assert!(rt; long.text.len() == 256 + 43);
-    let fits = checked(rt.alloc(), PREFIXES, &word[..255], &word[..255])?;
+    let fits = check_of(rt.alloc(), PREFIXES, &word[..255], &word[..255])?;
     assert!(rt; fits.ending == Ok(0));
     let line = vec![in rt.alloc(); b'a'; 65_537]?;
-    let ended = checked(rt.alloc(), PREFIXES, b"a", line.as_slice())?;
+    let ended = check_of(rt.alloc(), PREFIXES, b"a", line.as_slice())?;
     assert!(rt; ended.ending == Err(ServeFault::LineTooLong));
-    let longest = checked(rt.alloc(), PREFIXES, &line[..65_536], b"a")?;
+    let longest = check_of(rt.alloc(), PREFIXES, &line[..65_536], b"a")?;
     assert!(rt; longest.ending == Ok(1));
     Ok(())
 }
@@ -158,7 +158,13 @@ struct Ran {
     errors: Vec<u8>,
 }
 
-fn ran(alloc: Global, verb: Verb, external: &str, input: &[u8], fails_at: u64) -> Result<Ran, Fail> {
+fn run_of(
+    alloc: Global,
+    verb: Verb,
+    external: &str,
+    input: &[u8],
+    fails_at: u64,
+) -> Result<Ran, Fail> {
     let external = String::from_str(alloc, external)?;
     let wanted = Wanted { verb, external };
     let mut text = writer(alloc, 0);
@@ -247,7 +253,7 @@ fn runs_of_the_program(rt: HostRuntime) -> Result<(), Fail> {
         ),
     ];
     for (verb, input, status, text, errors) in rows {
-        let ran = ran(rt.alloc(), verb, "stem", input, 0)?;
+        let ran = run_of(rt.alloc(), verb, "stem", input, 0)?;
         assert!(rt; ran.status == status, "{:?}", ran);
         assert!(rt; ran.text.as_slice() == text, "{:?}", ran.text);
         assert!(rt; ran.errors.as_slice() == errors, "{:?}", ran.errors);
@@ -257,10 +263,10 @@ fn runs_of_the_program(rt: HostRuntime) -> Result<(), Fail> {
 
 #[test]
 fn a_fault_has_its_status_without_its_line(rt: HostRuntime) -> Result<(), Fail> {
-    let cut = ran(rt.alloc(), Verb::Stem, "stem", b"externals", 1)?;
+    let cut = run_of(rt.alloc(), Verb::Stem, "stem", b"externals", 1)?;
     assert!(rt; cut.status == 1);
     assert!(rt; cut.errors.is_empty());
-    let other = ran(
+    let other = run_of(
         rt.alloc(),
         Verb::Stem,
         "go",

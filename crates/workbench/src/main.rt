@@ -15,7 +15,13 @@ fn main(rt: HostRuntime) -> io::Result<ExitCode> {
         Ok(wanted) => {
             let mut writer = Device::new(rt.stdout());
             let mut errors = Device::new(rt.stderr());
-            let status = run(rt.alloc(), &wanted, Device::new(rt.stdin()), &mut writer, &mut errors);
+            let status = run(
+                rt.alloc(),
+                &wanted,
+                Device::new(rt.stdin()),
+                &mut writer,
+                &mut errors,
+            );
             Ok(ExitCode::from(status))
         }
         Err(error) if error.kind() == ErrorKind::OutOfMemory => {

@@ -13,8 +13,8 @@ third true true false d h = refl
 pub returns : goal.returns
 returns c =
     let start : app_of c.arg_required_else_help.result ≡ asking =
-        rw c.arg_required_else_help.ensures (rw c.subcommand_required.ensures (rw c.after_help.ensures (rw c.about.ensures (rw c.in_ok-bin_name.ensures.0
-            (ap (λ (a : App). record a { top = record a.top { subcommand_required = true; arg_required_else_help = true } }) c.new.ensures.app))))) in
+    rw c.arg_required_else_help.ensures (rw c.subcommand_required.ensures (rw c.after_help.ensures (rw c.about.ensures (rw c.in_ok-bin_name.ensures.0
+    (ap (λ (a : App). record a { top = record a.top { subcommand_required = true; arg_required_else_help = true } }) c.new.ensures.app))))) in
     let first = c.in_ok-subcommand.ensures.shape (third _ _ _ _ (ap (λ (a : App). a.top.is_plain) c.in_ok-verb_command.ensures))
     ∙ ap₂ with_subcommand start (ap (λ (a : App). a.top) c.in_ok-verb_command.ensures) in
     let second = c.in_ok-subcommand-2.ensures.shape (third _ _ _ _ (ap (λ (a : App). a.top.is_plain) c.in_ok-verb_command-2.ensures))
