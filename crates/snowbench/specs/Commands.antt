@@ -3,11 +3,15 @@ use Rattle.std.specs.Prelude.{ℕ, Bool, List, [], ◌∷◌, ◌==◌, codes, i
 use Rattle.std.specs.List.{before_first, after_first}
 use Rattle.std.specs.Str.{bytes_eq, chars, is_utf8}
 
--- nothing, an edit that adds a word (its characters), the rows, or nothing that is known
+-- nothing, an edit that adds or removes a word (its characters), the rows, the classes, the class of a word, or nothing that
+-- is known
 pub data Command : Type 0 where
   Nothing : Command
   Add : List ℕ → Command
+  Remove : List ℕ → Command
   Stems : Command
+  Classes : Command
+  Class : List ℕ → Command
   Bad : Command
 
 abbrev pub is_space : ℕ → Bool
@@ -24,7 +28,10 @@ argument line = after_first is_space line
 abbrev pub text_command : List ℕ → Command
 text_command line =
     if bytes_eq (command_word line) (codes "add") then Add (chars (argument line))
-    else (if bytes_eq line (codes "stems") then Stems else Bad)
+    else (if bytes_eq (command_word line) (codes "remove") then Remove (chars (argument line))
+    else (if bytes_eq (command_word line) (codes "class") then Class (chars (argument line))
+    else (if bytes_eq line (codes "stems") then Stems
+    else (if bytes_eq line (codes "classes") then Classes else Bad))))
 
 -- an empty line asks for nothing, and a line that is not UTF-8 for nothing that is known
 unfoldable pub command_of : List ℕ → Command

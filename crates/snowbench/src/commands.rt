@@ -1,7 +1,7 @@
 //! The commands of a session.
-ghost use Rattle.std.specs.Prelude.{◌≡◌};
+ghost use Rattle.std.specs.Prelude.{◌≡◌, length};
 ghost use Rattle.snowbench.specs.Commands as spec;
-ghost use Rattle.snowbench.specs.CommandViews.{view_command};
+ghost use Rattle.snowbench.specs.CommandViews.{WordFits, view_command};
 
 /// What a line asks for.
 #[derive(Debug, Drop)]
@@ -10,15 +10,22 @@ pub(crate) enum Command<'a> {
     Nothing,
     /// That a word be added.
     Add(&'a str),
+    /// That a word be removed.
+    Remove(&'a str),
     /// The rows of all words.
     Stems,
+    /// The classes of all words.
+    Classes,
+    /// The class of a word.
+    Class(&'a str),
     /// Nothing that is known.
     Bad,
 }
 
 /// The command of a line. The command word ends at the first space, and the rest after it is the argument (our own choice).
 pub(crate) fn command_of(line: &[u8]) -> Command<'_>
-    ensures { view_command result ≡ spec.command_of line.now }
+    ensures command { view_command result ≡ spec.command_of line.now }
+    ensures fits { WordFits result (length line.now) }
 {
     if line.is_empty() {
         return Command::Nothing;
@@ -31,7 +38,8 @@ pub(crate) fn command_of(line: &[u8]) -> Command<'_>
 
 /// The command of a line that is text.
 fn text_command(text: &str) -> Command<'_>
-    ensures { view_command result ≡ spec.text_command text.now }
+    ensures command { view_command result ≡ spec.text_command text.now }
+    ensures fits { WordFits result (length text.now) }
 {
     let (word, argument) = match text.split_once(' ') {
         Some((word, argument)) => (word, argument),
@@ -40,8 +48,17 @@ fn text_command(text: &str) -> Command<'_>
     if word == "add" {
         return Command::Add(argument);
     }
+    if word == "remove" {
+        return Command::Remove(argument);
+    }
+    if word == "class" {
+        return Command::Class(argument);
+    }
     if text == "stems" {
         return Command::Stems;
+    }
+    if text == "classes" {
+        return Command::Classes;
     }
     Command::Bad
 }

@@ -4,11 +4,13 @@
 
 mod commands;
 mod devices;
+mod edits;
 mod faults;
 mod lines;
 mod loading;
+mod records;
 mod replies;
-mod rows;
+mod reports;
 mod script_text;
 mod serving;
 mod writing;

@@ -1,5 +1,5 @@
 //! The answers to commands.
-ghost use Rattle.std.specs.Prelude.{◌≡◌, ◌≤◌, ℕ, List, IfErr, OnOk, take};
+ghost use Rattle.std.specs.Prelude.{◌≡◌, ◌≤◌, ℕ, List, Some, IfErr, IfOk, OnErr, OnOk, take};
 ghost use Rattle.std.specs.Io.KnownBytes.{Appends};
 ghost use Rattle.snowbench.specs.Answers as spec;
 ghost use Rattle.snowbench.specs.CommandViews.{IsReply};
@@ -10,6 +10,7 @@ use crate::devices::Sink;
 use crate::faults::ServeFault;
 use crate::writing::write_all;
 use sbl_bench::EditFault;
+use std::alloc::AllocError;
 
 /// An answer: a report that was made, or a text of the program.
 #[derive(Debug, Drop)]
@@ -18,6 +19,17 @@ pub(crate) enum Reply {
     Report(Vec<u8>),
     /// A text of the program.
     Fixed(&'static str),
+}
+
+/// The answer that is a report: its text, or that its memory was refused.
+pub(crate) fn report(text: Result<Vec<u8>, AllocError>) -> Reply
+    ensures made { IfOk text (λ made. IsReply result made.items) }
+    ensures refused { OnErr text (IsReply result (spec.edit_text (Some EditFault.OutOfMemory))) }
+{
+    match text {
+        Ok(text) => Reply::Report(text),
+        Err(_) => Reply::Fixed(edit_text(Err(EditFault::OutOfMemory))),
+    }
 }
 
 /// The answer to an edit: `ok`, or the refusal's number and name.

@@ -1,84 +1,46 @@
 //! A session: each line is answered before the next is read.
-ghost use Rattle.std.specs.Prelude.{◌≡◌, ◌≤◌, ℕ, [], None, Some, Err, IfOk, OnOk, take};
-ghost use Rattle.std.specs.Str.{chars};
+ghost use Rattle.std.specs.Prelude.{◌≡◌, ◌≤◌, [], None, Some, Err, OnOk, length};
 ghost use Rattle.std.specs.Io.KnownBytes.{IsAtEnd, Keeps};
 ghost use Rattle.sbl_bench.specs.Kept.{state_of};
-ghost use Rattle.sbl_bench.specs.Edits.{Add};
 ghost use Rattle.snowbench.specs.Answers as spec;
 ghost use Rattle.snowbench.specs.CommandViews.{IsReply};
 ghost use Rattle.snowbench.specs.Faults.{left_by_serve, serve_fault_of};
 ghost use Rattle.snowbench.specs.declared.faults.LineFault.{LineFault};
 ghost use Rattle.snowbench.specs.Held.{fault_of, held_of, input_of, reads_bound};
-ghost use Rattle.snowbench.specs.Rows as rows;
+ghost use Rattle.snowbench.specs.LinesOf.{longest_line};
 ghost use Rattle.snowbench.specs.Session.{Ends, IsSession};
 
 use crate::commands::{Command, command_of};
 use crate::devices::{Sink, Source};
+use crate::edits::{add_word, remove_word};
 use crate::faults::ServeFault;
 use crate::lines::Lines;
-use crate::replies::{Reply, edit_text, write_reply};
-use crate::rows::rows_text;
+use crate::replies::{Reply, report, write_reply};
+use crate::reports::{class_reply, classes_text, stems_text};
 use sbl_bench::Bench;
-use sbl_bench::bench::MOST_CHARACTERS;
-use std::alloc::{AllocError, Global};
-
-/// How many characters of a word are looked at: one more than a word may have.
-const MOST_LOOKED_AT: usize = MOST_CHARACTERS + 1;
-
-/// The first characters of a word, put into the room; answers how many.
-fn first_characters(word: &str, room: &mut [char; MOST_LOOKED_AT]) -> usize
-    ensures few { result ≤ 256 }
-    ensures first { take result room.new ≡ take 256 (chars word.now) }
-{
-    let mut count = 0;
-    for c in word.chars() {
-        if count == MOST_LOOKED_AT {
-            return count;
-        }
-        room[count] = c;
-        count += 1;
-    }
-    count
-}
-
-/// Adds a word, and gives the answer. A word that is too long is so by its first characters already; so none of its memory
-/// is refused before the edit itself.
-fn add_word(bench: &mut Bench, word: &str) -> &'static str
-    ensures { (memory : spec.Memory) × (result.now ≡ spec.edit_text (spec.answer_to (state_of bench.old) (Add (chars word.now)) memory))
-        × (state_of bench.new ≡ spec.state_after_edit (state_of bench.old) (Add (chars word.now)) memory) }
-{
-    let mut room = ['\0'; MOST_LOOKED_AT];
-    let count = first_characters(word, &mut room);
-    edit_text(bench.add(&room[..count]))
-}
-
-/// The report of all rows.
-fn stems_text(alloc: Global, bench: &Bench) -> Result<Vec<u8>, AllocError>
-    ensures { IfOk result (λ text. text.items ≡ rows.stems_text (state_of bench.now)) }
-{
-    let rows = bench.rows()?;
-    rows_text(alloc, &rows)
-}
+use std::alloc::Global;
 
 /// Makes the edit or the report that a line asks for, and gives the answer.
 fn answer(alloc: Global, bench: &mut Bench, line: &[u8]) -> Reply
+    requires { length line.now ≤ longest_line }
     ensures { (memory : spec.Memory) × IsReply result (spec.reply_of (state_of bench.old) line.now memory)
         × (state_of bench.new ≡ spec.state_after (state_of bench.old) line.now memory) }
 {
     match command_of(line) {
         Command::Nothing => Reply::Fixed(""),
         Command::Add(word) => Reply::Fixed(add_word(bench, word)),
-        Command::Stems => match stems_text(alloc, bench) {
-            Ok(text) => Reply::Report(text),
-            Err(_) => Reply::Fixed("no 49 OutOfMemory\n"),
-        },
+        Command::Remove(word) => Reply::Fixed(remove_word(bench, word)),
+        Command::Stems => report(stems_text(alloc, bench)),
+        Command::Classes => report(classes_text(alloc, bench)),
+        Command::Class(word) => class_reply(alloc, bench, word),
         Command::Bad => Reply::Fixed("no 52 BadCommand\n"),
     }
 }
 
 /// Answers each line of the input in turn, to its end. An edit is made as its line is read, and its answer written before
-/// the next line is read. `add WORD` is answered `ok`, or `no` and the refusal's number and name; `stems` by a row for each
-/// word; an empty line by nothing, and any other line `no 52 BadCommand`. Where memory is refused the answer is
+/// the next line is read. `add WORD` and `remove WORD` are answered `ok`, or `no` and the refusal's number and name; `stems`
+/// by a row for each word, `classes` by a row for each class, `class WORD` by the word's class, or its row where its run is
+/// refused, or `no 41 Absent`; an empty line by nothing, and any other line `no 52 BadCommand`. Where memory is refused the answer is
 /// `no 49 OutOfMemory`.
 ///
 /// # Errors

@@ -6,7 +6,7 @@ use Rattle.sbl_bench.specs.State.{State}
 use Rattle.sbl_bench.specs.Rows.{Row, rows_of, view_row}
 use Rattle.sbl_bench.specs.declared.row.Row as declared
 use Rattle.snowbench.specs.Rows as rows
-use Rattle.snowbench.proofs.serving.stems_text.Goals as goal
+use Rattle.snowbench.proofs.reports.stems_text.Goals as goal
 
 of_rows : (r : Result (Vec ℕ Global) AllocError) (s : State) (views given : List declared.Row) → map view_row given ≡ rows_of s.script s.words → views ≡ given
     → IfOk r (λ text. text.items ≡ rows.rows_text (map rows.row_fields (map view_row views))) → IfOk r (λ text. text.items ≡ rows.stems_text s)

@@ -3,7 +3,7 @@ use Rattle.std.specs.Str.{chars}
 use Rattle.sbl_bench.specs.Kept.{state_of}
 use Rattle.sbl_bench.specs.Edits.{Edits, Add}
 use Rattle.snowbench.proofs.EditFacts.{answered, by_first}
-use Rattle.snowbench.proofs.serving.add_word.Goals as goal
+use Rattle.snowbench.proofs.edits.add_word.Goals as goal
 
 pub returns : goal.returns
 returns c =

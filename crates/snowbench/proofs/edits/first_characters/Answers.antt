@@ -4,7 +4,7 @@ use Rattle.std.proofs.Math.ListN.{length-set}
 use Rattle.std.proofs.lemmas.Iterator.{YieldsList-from_chars}
 use Rattle.std.proofs.lemmas.Iterator.Consumers.{YieldsList-turn, YieldsList-end}
 use Rattle.std.proofs.lemmas.List.{length_push, take_all, take_more, take_more_set}
-use Rattle.snowbench.proofs.serving.first_characters.Goals as goal
+use Rattle.snowbench.proofs.edits.first_characters.Goals as goal
 
 put : (room cs : List ℕ) (i c : ℕ) → i < length room → i < length cs → c ≡ get_or cs i c → take i room ≡ take i cs
     → take (i + 1) (slice_set room i c) ≡ take (i + 1) cs
