@@ -2,6 +2,8 @@ pub mod Vocabulary
 pub mod Rows
 pub mod State
 pub mod Edits
+pub mod OneVerdict
+pub mod Names
 pub mod Kept
 pub mod Pairs
 pub mod Stops

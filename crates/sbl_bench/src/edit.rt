@@ -1,6 +1,6 @@
 //! Edits of a bench.
 
-ghost use Rattle.std.specs.Prelude.{◌≡◌, ◌≤◌, ◌<◌, ◌+◌, ◌^◌};
+ghost use Rattle.std.specs.Prelude.{◌≡◌, ◌≤◌, ◌<◌, ◌+◌, ◌^◌, true};
 
 use crate::bench::{Bench, MOST_CHARACTERS, MOST_WORDS};
 use crate::change::{changes_of, make_changes};
@@ -12,7 +12,7 @@ use sbl_script::Script;
 
 impl Bench {
     ghost use Rattle.sbl_bench.specs.Kept.{state_of};
-    ghost use Rattle.sbl_bench.specs.Edits.{Edits, Add, Remove, Replace};
+    ghost use Rattle.sbl_bench.specs.Edits.{Edit, Edits, Add, Remove, Routine, IsScriptAfter, is_of_script};
     ghost use Rattle.sbl_script.specs.Parsed.{source_of};
 
     /// Puts a word last in the vocabulary and runs it once.
@@ -50,6 +50,7 @@ impl Bench {
             word,
         )
     }
+
     /// Takes a word out of the vocabulary and closes the gap. It answers Absent where the word is not there, and then changes
     /// nothing. Takes no memory.
     pub fn remove(&mut self, word: &[char]) -> Result<(), EditFault>
@@ -61,13 +62,30 @@ impl Bench {
         remove_pair(&mut self.pairs, key, outcome);
         Ok(())
     }
+
+    /// Gives the routine or external of this name the text for its body, and runs every word once. The text is a row of the
+    /// grammar, and is read in the mode and under the escapes that are in force where the routine stands.
+    ///
+    /// It answers NoRoutine where the script defines no routine of this name; that takes no memory. Then it answers Script
+    /// with the fault of the text or of the script with it, and then MeterFull where fewer counts of runs are left than
+    /// there are words. It may answer OutOfMemory, where a growth is refused, in place of all but NoRoutine. Whatever it
+    /// answers but `Ok`, script, vocabulary, rows and classes are left as they were, and the count of runs too, but that
+    /// it may be higher at OutOfMemory, by at most the number of words, if the edit would have been accepted. (Our own
+    /// choice.)
+    pub fn replace_routine(&mut self, name: &str, text: &str) -> Result<(), EditFault>
+        ensures { Edits result (state_of self.old) (Routine name.now text.now) (state_of self.new) }
+    {
+        let script = self.script.with_routine(self.alloc, name, text)?;
+        self.replace_script(script)
+    }
+
     /// Puts another script in the place of the current one, and runs every word once.
     ///
     /// It answers MeterFull where fewer counts of runs are left than there are words; that takes no memory. Then it answers
     /// OutOfMemory where a growth is refused. Whatever it answers but `Ok`, script, vocabulary, rows and classes are left as they
-    /// were, and the count of runs too, but that it may be higher at OutOfMemory, by at most the number of words. (Our own choice.)
+    /// were, and the count of runs too, but that it may be higher at OutOfMemory, by at most the number of words.
     pub(crate) fn replace_script(&mut self, script: Script) -> Result<(), EditFault>
-        ensures { Edits result (state_of self.old) (Replace (source_of script)) (state_of self.new) }
+        ensures { (e : Edit) → is_of_script e ≡ true → IsScriptAfter (state_of self.old) e (source_of script) → Edits result (state_of self.old) e (state_of self.new) }
     {
         if u64::MAX - self.meter.count() < self.outcomes.len() as u64 {
             return Err(EditFault::MeterFull);

@@ -1,11 +1,16 @@
 //! Why an edit is refused.
 
+ghost use Rattle.std.specs.Prelude.{◌≡◌};
+ghost use Rattle.sbl_bench.specs.Names as spec;
+
 use sbl_machine::RunStop;
+use sbl_script::ScriptFault;
 use std::alloc::AllocError;
 use thiserror::Error;
 
 /// Why an edit is refused. A refused edit changes nothing; only the count of runs may have risen, and only at `OutOfMemory`.
-/// The numbers and names are our own choice.
+/// To find any refusal but `AmongCount`, `Script`, `OutOfMemory` and `MeterFull` takes no memory. The numbers and names are our own
+/// choice.
 #[derive(Debug, Drop, Clone, Copy, PartialEq, Eq, Error)]
 pub enum EditFault {
     /// The word is in the vocabulary.
@@ -23,12 +28,56 @@ pub enum EditFault {
     /// The vocabulary has 100,000 words.
     #[error("44 Full")]
     Full,
+    /// The script defines no routine and no external of this name.
+    #[error("45 NoRoutine")]
+    NoRoutine,
+    /// The routine has no among of this number.
+    #[error("46 NoAmong")]
+    NoAmong,
+    /// The text holds another number of amongs than the among in whose place it is to stand.
+    #[error("47 AmongCount")]
+    AmongCount,
+    /// The text, or the script with it, has this fault. It is displayed by its name alone, without its place or item.
+    #[error("48 {}", script_name(*.0))]
+    Script(ScriptFault),
     /// A growth was refused.
     #[error("49 OutOfMemory")]
     OutOfMemory,
     /// The count of runs has no room for the runs of the edit.
     #[error("50 MeterFull")]
     MeterFull,
+}
+
+/// The name of a fault of a script, without its place or item.
+pub fn script_name(fault: ScriptFault) -> &'static str
+    ensures { result.now ≡ spec.script_name fault }
+{
+    match fault {
+        ScriptFault::BadCharacter { place: _ } => "BadCharacter",
+        ScriptFault::UnclosedString { place: _ } => "UnclosedString",
+        ScriptFault::UnclosedComment { place: _ } => "UnclosedComment",
+        ScriptFault::UnknownEscape { place: _ } => "UnknownEscape",
+        ScriptFault::BadCode { place: _ } => "BadCode",
+        ScriptFault::NumberTooLarge { place: _ } => "NumberTooLarge",
+        ScriptFault::Syntax { place: _ } => "Syntax",
+        ScriptFault::TooDeep { place: _ } => "TooDeep",
+        ScriptFault::DeclaredTwice { item: _ } => "DeclaredTwice",
+        ScriptFault::Undeclared { item: _ } => "Undeclared",
+        ScriptFault::WrongKind { item: _ } => "WrongKind",
+        ScriptFault::DefinedTwice { item: _ } => "DefinedTwice",
+        ScriptFault::Undefined { item: _ } => "Undefined",
+        ScriptFault::WrongMode { item: _ } => "WrongMode",
+        ScriptFault::Substring { item: _ } => "Substring",
+        ScriptFault::Starter { item: _ } => "Starter",
+        ScriptFault::RepeatedString { item: _ } => "RepeatedString",
+        ScriptFault::EmptyAmong { item: _ } => "EmptyAmong",
+        ScriptFault::NestedBackwards { item: _ } => "NestedBackwards",
+        ScriptFault::OutOfProfile { place: _ } => "OutOfProfile",
+        ScriptFault::NoExternal => "NoExternal",
+        ScriptFault::NotUtf8 => "NotUtf8",
+        ScriptFault::ScriptTooLong => "ScriptTooLong",
+        ScriptFault::OutOfMemory => "OutOfMemory",
+    }
 }
 
 impl From<AllocError> for EditFault {
@@ -39,6 +88,21 @@ impl From<AllocError> for EditFault {
 
     fn from(_error: AllocError) -> EditFault {
         EditFault::OutOfMemory
+    }
+}
+
+impl From<sbl_script::EditFault> for EditFault {
+    ghost use Rattle.std.specs.Prelude.{◌≡◌};
+    ghost use Rattle.sbl_bench.specs.Edits.{fault_of_script};
+
+    ghost from_gives = { λ fault result. result ≡ fault_of_script fault };
+
+    fn from(fault: sbl_script::EditFault) -> EditFault {
+        match fault {
+            sbl_script::EditFault::NoRoutine => EditFault::NoRoutine,
+            sbl_script::EditFault::Script(fault) => EditFault::Script(fault),
+            sbl_script::EditFault::OutOfMemory => EditFault::OutOfMemory,
+        }
     }
 }
 
