@@ -1,60 +1,81 @@
 -- What an edit answers, as a session answers it.
-use Rattle.std.proofs.Common.{◌≡◌, ◌∙◌, ◌≤◌, ◌<◌, ℕ, Bool, true, false, List, [], ◌∷◌, length, take, min, Option, Some, None, Result, Ok, Err, refl, sym, ap, subst, arith, nat_lt, length-take}
+use Rattle.std.proofs.Common.{◌≡◌, ◌⊎◌, inl, inr, ◌∙◌, ◌≤◌, ◌<◌, ◌+◌, ℕ, Bool, true, false, List, [], ◌∷◌, length, take, Option, Some, None, Result, Ok, Err, refl, sym, ap, subst, arith, nat_lt, length-take}
 use Rattle.std.proofs.lemmas.Bool.Decides.{nat_tests}
 use Rattle.std.proofs.lemmas.Grind.{common_steps}
+use Rattle.std.proofs.lemmas.Str.{chars-encodes, length-le-encodes}
+use Rattle.std.specs.Str.{IsUtf8, chars}
 use Rattle.sbl_bench.specs.State.{State}
-use Rattle.sbl_bench.specs.Edits.{Edit, Edits, Add, refusal, refusal_of_add, or_meter, verdict, edited, counted, runs_needed}
+use Rattle.sbl_bench.specs.Edits.{Edit, Edits, Add, IsAccepted, IsBrokenOff, IsMeterFull, IsOutOfMemory, IsRefused, IsVerdict, PassesTests, counted, refusal_of_add}
 use Rattle.sbl_bench.specs.declared.fault.EditFault.{EditFault}
 use Rattle.sbl_bench.specs.declared.fault.EditFault.TheVariants as fault
-use Rattle.snowbench.specs.Answers.{Memory, Enough, RefusedAfter, answer_to, edit_text, memory_first, accepted, state_after_edit}
+use Rattle.snowbench.specs.Answers.{Memory, Enough, RefusedAfter, edit_text}
+use Rattle.snowbench.specs.CommandViews.{IsEditAnswer}
 use Rattle.snowbench.specs.Edits.{fault_in}
 
-abbrev pub IsAnswered : Result (Unit {0}) EditFault → State → Edit → State → Type 0
-IsAnswered r s e t = (memory : Memory) × (edit_text (fault_in r) ≡ edit_text (answer_to s e memory)) × (t ≡ state_after_edit s e memory)
-
--- what is answered says what the bench is after it
-by_verdict : (r : Result (Unit {0}) EditFault) (s t : State) (e : Edit) → verdict s e ≡ fault_in r
-    → t ≡ accepted (fault_in r) (edited s e) s → IsAnswered r s e t
-by_verdict r s t e is same =
-    (Enough, ap edit_text (sym is), same ∙ sym (ap (λ (v : Option EditFault). accepted v (edited s e) s) is))
-
--- where memory was refused after some of the runs
-by_memory : (s t : State) (e : Edit) (n : ℕ) → refusal s e ≡ None → n ≤ runs_needed s e → t ≡ counted n s → IsAnswered (Err fault.OutOfMemory) s e t
-by_memory s t e n free few same = (
-  RefusedAfter n,
-  ap (λ (v : Option EditFault). edit_text (memory_first v)) (sym free),
-  same ∙ ap (λ (k : ℕ). counted k s) (sym least) ∙ ap (λ (v : Option EditFault). accepted v (counted (min n (runs_needed s e)) s) s) (sym free),
-)
+-- where memory was refused
+out_of_memory : (s t : State) (e : Edit) → IsOutOfMemory s e t → IsEditAnswer s e (edit_text (Some fault.OutOfMemory)) t
+out_of_memory s t e h = by h.is
   where
-    least : min n (runs_needed s e) ≡ n
-    least = omega (arith, few)
+    none_more : s.count ≡ s.count + 0
+    none_more = omega arith
+    by : (PassesTests s e × (t ≡ s)) ⊎ IsBrokenOff s e t → IsEditAnswer s e (edit_text (Some fault.OutOfMemory)) t
+    by (inl p) = (RefusedAfter 0, (Some fault.OutOfMemory, (refl, p.1 ∙ ap (λ (k : ℕ). record s { count = k }) none_more, h), refl))
+    by (inr b) = (RefusedAfter b.runs, (Some fault.OutOfMemory, (refl, b.is, h), refl))
 
-pub answered : (r : Result (Unit {0}) EditFault) (s t : State) (e : Edit) → Edits r s e t → IsAnswered r s e t
-answered (Ok u) s t e h = by_verdict (Ok u) s t e h.0 h.1
-answered (Err fault.OutOfMemory) s t e h = by_memory s t e h.2.0 h.1 h.2.1 h.2.2
-answered (Err fault.Present) s t e h = by_verdict (Err fault.Present) s t e h.0 h.1
-answered (Err fault.Absent) s t e h = by_verdict (Err fault.Absent) s t e h.0 h.1
-answered (Err fault.EmptyWord) s t e h = by_verdict (Err fault.EmptyWord) s t e h.0 h.1
-answered (Err fault.WordTooLong) s t e h = by_verdict (Err fault.WordTooLong) s t e h.0 h.1
-answered (Err fault.Full) s t e h = by_verdict (Err fault.Full) s t e h.0 h.1
-answered (Err fault.MeterFull) s t e h = by_verdict (Err fault.MeterFull) s t e h.0 h.1
+pub answered : (r : Result (Unit {0}) EditFault) (s t : State) (e : Edit) → Edits r s e t → IsEditAnswer s e (edit_text (fault_in r)) t
+answered (Ok u) s t e h = (Enough, (None, h, refl))
+answered (Err fault.OutOfMemory) s t e h = out_of_memory s t e h
+answered (Err fault.Present) s t e h = (Enough, (Some fault.Present, h, refl))
+answered (Err fault.Absent) s t e h = (Enough, (Some fault.Absent, h, refl))
+answered (Err fault.EmptyWord) s t e h = (Enough, (Some fault.EmptyWord, h, refl))
+answered (Err fault.WordTooLong) s t e h = (Enough, (Some fault.WordTooLong, h, refl))
+answered (Err fault.Full) s t e h = (Enough, (Some fault.Full, h, refl))
+answered (Err fault.NoRoutine) s t e h = (Enough, (Some fault.NoRoutine, h, refl))
+answered (Err fault.NoAmong) s t e h = (Enough, (Some fault.NoAmong, h, refl))
+answered (Err fault.AmongCount) s t e h = (Enough, (Some fault.AmongCount, h, refl))
+answered (Err (fault.Script f)) s t e h = (Enough, (Some (fault.Script f), h, refl))
+answered (Err fault.MeterFull) s t e h = (Enough, (Some fault.MeterFull, h, refl))
+
+-- ---- a word that is added, by its first characters
 
 -- a word of more than 255 characters is refused for that
 too_long : (s : State) (word : List ℕ) → 255 < length word → refusal_of_add s word ≡ Some fault.WordTooLong
 too_long s [] long = absurd (omega arith)
 too_long s (c ∷ word) long = let test : nat_lt 255 (length (c ∷ word)) ≡ true = grind (arith, nat_tests) in rw test refl
 
--- an edit that is refused so is refused so whatever runs it would need
+not_accepted : (s t : State) (word : List ℕ) → refusal_of_add s word ≡ Some fault.WordTooLong → IsAccepted s (Add word) t → ⊥
+not_accepted s t word f h = let none : Some fault.WordTooLong ≡ None = sym f ∙ h.after.0 in cc none
+
+-- a refusal for one word that is too long is one for another
+verdict_long : (s t : State) (word cut : List ℕ) (f : EditFault) → refusal_of_add s word ≡ Some fault.WordTooLong
+    → refusal_of_add s cut ≡ Some fault.WordTooLong → IsVerdict s (Add cut) (Some f) t → IsVerdict s (Add word) (Some f) t
+verdict_long s t word cut f long short h = by h.0
+  where
+    by : IsRefused s (Add cut) f ⊎ IsMeterFull s (Add cut) f → IsVerdict s (Add word) (Some f) t
+    by (inl is) = (inl (long ∙ sym short ∙ is), h.1)
+    by (inr m) = let none : Some fault.WordTooLong ≡ None = sym short ∙ m.after.0 in absurd (cc none)
+
+not_for_memory : (s t : State) (cut : List ℕ) → refusal_of_add s cut ≡ Some fault.WordTooLong → IsOutOfMemory s (Add cut) t → ⊥
+not_for_memory s t cut short h = by h.is
+  where
+    by : (PassesTests s (Add cut) × (t ≡ s)) ⊎ IsBrokenOff s (Add cut) t → ⊥
+    by (inl p) = let no : false ≡ true = p.0 fault.WordTooLong short in cc no
+    by (inr b) = not_accepted s b.made cut short b.accepted
+
 refused_long : (r : Result (Unit {0}) EditFault) (s t : State) (word cut : List ℕ) → refusal_of_add s word ≡ Some fault.WordTooLong
     → refusal_of_add s cut ≡ Some fault.WordTooLong → Edits r s (Add cut) t → Edits r s (Add word) t
-refused_long (Ok u) s t word cut e f h = let none : Some fault.WordTooLong ≡ None = sym (ap (or_meter s.count (runs_needed s (Add cut))) f) ∙ h.0 in absurd (cc none)
-refused_long (Err fault.OutOfMemory) s t word cut e f h = let none : Some fault.WordTooLong ≡ None = sym f ∙ h.1 in absurd (cc none)
-refused_long (Err fault.Present) s t word cut e f h = (ap (or_meter s.count (runs_needed s (Add word))) e ∙ sym (ap (or_meter s.count (runs_needed s (Add cut))) f) ∙ h.0, h.1)
-refused_long (Err fault.Absent) s t word cut e f h = (ap (or_meter s.count (runs_needed s (Add word))) e ∙ sym (ap (or_meter s.count (runs_needed s (Add cut))) f) ∙ h.0, h.1)
-refused_long (Err fault.EmptyWord) s t word cut e f h = (ap (or_meter s.count (runs_needed s (Add word))) e ∙ sym (ap (or_meter s.count (runs_needed s (Add cut))) f) ∙ h.0, h.1)
-refused_long (Err fault.WordTooLong) s t word cut e f h = (ap (or_meter s.count (runs_needed s (Add word))) e ∙ sym (ap (or_meter s.count (runs_needed s (Add cut))) f) ∙ h.0, h.1)
-refused_long (Err fault.Full) s t word cut e f h = (ap (or_meter s.count (runs_needed s (Add word))) e ∙ sym (ap (or_meter s.count (runs_needed s (Add cut))) f) ∙ h.0, h.1)
-refused_long (Err fault.MeterFull) s t word cut e f h = (ap (or_meter s.count (runs_needed s (Add word))) e ∙ sym (ap (or_meter s.count (runs_needed s (Add cut))) f) ∙ h.0, h.1)
+refused_long (Ok u) s t word cut long short h = absurd (not_accepted s t cut short h)
+refused_long (Err fault.OutOfMemory) s t word cut long short h = absurd (not_for_memory s t cut short h)
+refused_long (Err fault.Present) s t word cut long short h = verdict_long s t word cut fault.Present long short h
+refused_long (Err fault.Absent) s t word cut long short h = verdict_long s t word cut fault.Absent long short h
+refused_long (Err fault.EmptyWord) s t word cut long short h = verdict_long s t word cut fault.EmptyWord long short h
+refused_long (Err fault.WordTooLong) s t word cut long short h = verdict_long s t word cut fault.WordTooLong long short h
+refused_long (Err fault.Full) s t word cut long short h = verdict_long s t word cut fault.Full long short h
+refused_long (Err fault.NoRoutine) s t word cut long short h = verdict_long s t word cut fault.NoRoutine long short h
+refused_long (Err fault.NoAmong) s t word cut long short h = verdict_long s t word cut fault.NoAmong long short h
+refused_long (Err fault.AmongCount) s t word cut long short h = verdict_long s t word cut fault.AmongCount long short h
+refused_long (Err (fault.Script f)) s t word cut long short h = verdict_long s t word cut (fault.Script f) long short h
+refused_long (Err fault.MeterFull) s t word cut long short h = verdict_long s t word cut fault.MeterFull long short h
 
 all_of : (n : ℕ) (xs : List ℕ) → length xs ≤ n → take n xs ≡ xs
 all_of n xs h = grind (arith, common_steps)
@@ -72,3 +93,17 @@ by_first r s t word h = by (nat_lt 256 (length word)) refl
         let short : length word ≤ 256 = grind (arith, nat_tests) in
         let whole : take 256 word ≡ word = all_of 256 word short in
         subst (λ (w : List ℕ). Edits r s (Add w) t) whole h
+
+-- ---- the characters of a line
+
+-- a text has no more characters than bytes
+chars_fit : (bytes : List ℕ) → IsUtf8 bytes → length (chars bytes) ≤ length bytes
+chars_fit bytes valid =
+    let x = valid.0 in
+    let same : chars bytes ≡ x = rw (← valid.1.1) (chars-encodes x valid.1.0) in
+    let bound = length-le-encodes x in
+    rw (same, ← valid.1.1) bound
+
+-- so many of them are all
+pub all_chars : (n : ℕ) (bytes : List ℕ) → IsUtf8 bytes → length bytes ≤ n → take n (chars bytes) ≡ chars bytes
+all_chars n bytes valid few = let fit : length (chars bytes) ≤ length bytes = chars_fit bytes valid in all_of n (chars bytes) (omega (arith, fit, few))

@@ -1,4 +1,7 @@
 pub mod Bytes
+pub mod BlockFacts
 pub mod EditFacts
 pub mod LoadFacts
+pub mod ReportFacts
 pub mod SessionFacts
+pub mod CommandFacts

@@ -3,6 +3,9 @@ pub mod Counted
 pub mod Faults
 pub mod LinesOf
 pub mod Held
+pub mod Words
+pub mod Block
+pub mod Requests
 pub mod Commands
 pub mod Rows
 pub mod Answers
@@ -10,5 +13,4 @@ pub mod Session
 pub mod CommandViews
 pub mod Edits
 pub mod RowWriter
-pub mod Block
 pub mod Loaded

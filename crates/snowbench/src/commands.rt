@@ -1,9 +1,11 @@
 //! The commands of a session.
 ghost use Rattle.std.specs.Prelude.{◌≡◌, length};
 ghost use Rattle.snowbench.specs.Commands as spec;
+ghost use Rattle.snowbench.specs.Requests as requests;
+ghost use Rattle.snowbench.specs.Words as words;
 ghost use Rattle.snowbench.specs.CommandViews.{WordFits, view_command};
 
-/// What a line asks for.
+/// What a line without a block asks for.
 #[derive(Debug, Drop)]
 pub(crate) enum Command<'a> {
     /// Nothing: the line is empty.
@@ -24,7 +26,7 @@ pub(crate) enum Command<'a> {
 
 /// The command of a line. The command word ends at the first space, and the rest after it is the argument (our own choice).
 pub(crate) fn command_of(line: &[u8]) -> Command<'_>
-    ensures command { view_command result ≡ spec.command_of line.now }
+    ensures command { view_command result ≡ spec.line_command line.now }
     ensures fits { WordFits result (length line.now) }
 {
     if line.is_empty() {
@@ -61,4 +63,33 @@ fn text_command(text: &str) -> Command<'_>
         return Command::Classes;
     }
     Command::Bad
+}
+
+/// The argument of a line: what stands after its first space.
+pub(crate) fn argument_of(line: &str) -> &str
+    ensures { result.now ≡ words.argument line.now }
+{
+    match line.split_once(' ') {
+        Some((_, argument)) => argument,
+        None => "",
+    }
+}
+
+/// The command word of a line: what stands before its first space.
+fn command_word(line: &[u8]) -> &[u8]
+    ensures { result.now ≡ words.command_word line.now }
+{
+    for i in 0..line.len() {
+        if line[i] == b' ' {
+            return &line[..i];
+        }
+    }
+    line
+}
+
+/// Whether a block follows the line, whatever else the line holds: its command word is that of an edit of the script.
+pub(crate) fn asks_block(line: &[u8]) -> bool
+    ensures { result ≡ requests.asks_block line.now }
+{
+    command_word(line) == b"routine".as_slice()
 }

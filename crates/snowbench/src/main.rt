@@ -2,6 +2,7 @@
 //! answers on standard output.
 #![tactic(auto)]
 
+mod block_text;
 mod commands;
 mod devices;
 mod edits;
@@ -11,7 +12,6 @@ mod loading;
 mod records;
 mod replies;
 mod reports;
-mod script_text;
 mod serving;
 mod writing;
 

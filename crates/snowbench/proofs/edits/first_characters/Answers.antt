@@ -20,14 +20,14 @@ loop-c-preserved c =
     let n = length_push c.loop-c.yielded c.in-Some.c in
     let count : c.loop-c.count ≡ length c.loop-c.yielded = c.loop-c.invariant.0 in
     let here : c.in-Some.c ≡ get_or (chars c.args.word.now) c.loop-c.count c.in-Some.c = subst (λ (k : ℕ). c.in-Some.c ≡ get_or (chars c.args.word.now) k c.in-Some.c) (sym count) t.1 in
-    let few : c.loop-c.count + 1 ≤ 256 = omega arith in (
+    let within : c.loop-c.count < length c.loop-c.room = omega arith in
+    let long : length (slice_set c.loop-c.room c.loop-c.count c.in-Some.c) ≡ length c.loop-c.room = length-set c.loop-c.room c.loop-c.count c.in-Some.c in (
       omega arith,
-      few,
-      length-set c.loop-c.room c.loop-c.count c.in-Some.c ∙ c.loop-c.invariant.2,
-      put c.loop-c.room (chars c.args.word.now) c.loop-c.count c.in-Some.c (omega arith) (omega (arith, t.0)) here c.loop-c.invariant.3,
+      omega (arith, within, long),
+      put c.loop-c.room (chars c.args.word.now) c.loop-c.count c.in-Some.c within (omega (arith, t.0)) here c.loop-c.invariant.2,
     )
 
 pub returns-clause-first : goal.returns-clause-first
 returns-clause-first c =
     let t = YieldsList-end (YieldsList-from_chars c.args.word.now c.utf8.word cc) c.loop-c.yielded _ c.loop-c.yielded_by _ _ c.in-None.is c.next.ensures.steps in
-    c.loop-c.invariant.3 ∙ all_first c.loop-c.count 256 (chars c.args.word.now) (omega (arith, t.1)) c.loop-c.invariant.1
+    c.loop-c.invariant.2 ∙ all_first c.loop-c.count (length c.loop-c.room) (chars c.args.word.now) (omega (arith, t.1)) c.loop-c.invariant.1

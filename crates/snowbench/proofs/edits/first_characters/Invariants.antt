@@ -3,4 +3,4 @@ use Rattle.std.specs.Str.{chars}
 use Rattle.snowbench.proofs.edits.first_characters.Given as goal
 
 abbrev pub invariant-loop-c : goal.invariant-loop-c
-invariant-loop-c l = (l.count ≡ length l.yielded) × (l.count ≤ 256) × (length l.room ≡ 256) × (take l.count l.room ≡ take l.count (chars l.word))
+invariant-loop-c l = (l.count ≡ length l.yielded) × (l.count ≤ length l.room) × (take l.count l.room ≡ take l.count (chars l.word))

@@ -4,8 +4,9 @@ use Rattle.std.specs.declared.vec.Vec.{Vec}
 use Rattle.std.specs.declared.alloc.Global.{Global}
 use Rattle.snowbench.specs.Block.{point}
 use Rattle.snowbench.specs.Held.{input_of, line_of, GivesLine}
-use Rattle.snowbench.proofs.SessionFacts.{all_fit-push}
-use Rattle.snowbench.proofs.LoadFacts.{all_text-push, no_point-push, took-kept, took-more, words-push}
+use Rattle.snowbench.proofs.BlockFacts.{all_fit-push, no_point-push}
+use Rattle.snowbench.proofs.Bytes.{took-kept, took-trans}
+use Rattle.snowbench.proofs.LoadFacts.{all_text-push, words-push}
 use Rattle.snowbench.proofs.loading.read_words.Goals as goal
 
 pub returns-then-eq-clause-reads : goal.returns-then-eq-clause-reads
@@ -15,7 +16,7 @@ returns-then-eq-clause-reads g c = λ _.
     let line : line_of c.next_line.new.self ≡ point = search rules in
     let gives : GivesLine (input_of left c.loop-words.lines) (input_of left c.next_line.new.self) point =
     subst (λ (x : List ℕ). GivesLine (input_of left c.loop-words.lines) (input_of left c.next_line.new.self) x) line (c.in_ok-next_line.ensures.more c.if-branch.true) in
-    (so.0, ((so.1, so.7, so.2), inl (took-more _ (input_of left c.loop-words.lines) _ so.0 point so.3 gives)), so.4)
+    (so.0, (((so.1, so.7), so.2), inl (took-trans _ (input_of left c.loop-words.lines) _ so.0 (point ∷ []) so.3 gives)), so.4)
 
 pub loop-words-preserved : goal.loop-words-preserved
 loop-words-preserved g c =
@@ -31,7 +32,7 @@ loop-words-preserved g c =
       so.0 ++ line ∷ [],
       no_point-push so.0 line so.1 other,
       all_text-push so.0 line so.2 text,
-      took-more _ (input_of left c.loop-words.lines) _ so.0 line so.3 (c.in_ok-next_line.ensures.more c.if-branch.true),
+      took-trans _ (input_of left c.loop-words.lines) _ so.0 (line ∷ []) so.3 (c.in_ok-next_line.ensures.more c.if-branch.true),
       words,
       c.in_ok-next_line.ensures.ready.1 ∙ sym c.in_ok-next_line.ensures.ready.0 ∙ so.5,
       omega (arith, so.6, c.next_line.ensures.later),
@@ -43,4 +44,4 @@ pub returns-clause-reads : goal.returns-clause-reads
 returns-clause-reads g c = λ _.
     let so = c.loop-words.invariant in
     let end = c.in_ok-next_line.ensures.end c.if-branch.false in
-    (so.0, ((so.1, so.7, so.2), inr (took-kept _ (input_of g.R.Source.left c.loop-words.lines) _ so.0 so.3 end.2, end.1)), so.4)
+    (so.0, (((so.1, so.7), so.2), inr (took-kept _ (input_of g.R.Source.left c.loop-words.lines) _ so.0 so.3 end.2, end.1)), so.4)
