@@ -6,3 +6,4 @@ pub mod Sorting
 pub mod ClassFacts
 pub mod LastFacts
 pub mod ChangeFacts
+pub mod OneVerdict

@@ -1,5 +1,5 @@
 -- What the tests of an addition, in their order, say of its refusal, and what its last step says of its answer.
-use Rattle.std.proofs.Common.{nat_lt, ◌≡◌, ◌∙◌, ◌<◌, ◌≤◌, ◌+◌, ◌-◌, ◌++◌, ℕ, Bool, true, false, List, [], ◌∷◌, length, None, Result, Ok, Err, OnOk, OnErr, IfErr, refl, sym, ap, subst, arith}
+use Rattle.std.proofs.Common.{nat_lt, ◌≡◌, ◌∙◌, ◌<◌, ◌≤◌, ◌+◌, ◌-◌, ◌++◌, ℕ, Bool, true, false, List, [], ◌∷◌, length, None, Result, Ok, Err, OnOk, OnErr, IfErr, inl, inr, refl, sym, ap, subst, arith}
 use Rattle.std.proofs.lemmas.Bool.{le-ltb, lt-leb, or_parts}
 use Rattle.std.proofs.lemmas.List.Elements.{filter-append}
 use Rattle.std.proofs.lemmas.Slice.Eq.{bytes_eq-Decides}
@@ -7,12 +7,13 @@ use Rattle.std.specs.List.{filter}
 use Rattle.std.specs.Str.{bytes_eq}
 use Rattle.std.proofs.lemmas.Bool.Decides.{nat_tests}
 use Rattle.std.proofs.lemmas.List.{length-map}
+use Rattle.std.proofs.lemmas.Option.{none-some}
 use Rattle.sbl_script.specs.Parsed.{Source}
 use Rattle.sbl_bench.specs.Kept.{Entry, words_in}
 use Rattle.sbl_bench.specs.declared.fault.EditFault.{EditFault}
 use Rattle.sbl_bench.specs.declared.fault.EditFault.TheVariants as fault
 use Rattle.sbl_bench.specs.State.{State, most_runs}
-use Rattle.sbl_bench.specs.Edits.{Edits, Add, Remove, Replace, refusal_of_add, runs_needed}
+use Rattle.sbl_bench.specs.Edits.{Edit, Edits, Add, Remove, Routine, IsScriptAfter, edited, is_of_script, lacks_counts, refusal_of_add, runs_needed, wants_memory, words_after}
 use Rattle.sbl_bench.specs.Stops.{IsStop}
 use Rattle.sbl_bench.specs.Vocabulary.{is_word, without}
 
@@ -52,25 +53,43 @@ filter_off (w ∷ words) = filter_off words
 pub no_run : (s : State) (word : List ℕ) → runs_needed s (Remove word) ≡ 0
 no_run s word = ap length (filter_off (without word s.words))
 
--- another script runs them all
+-- an edit of the script runs them all
 filter_on : (words : List (List ℕ)) → filter (λ w. true) words ≡ words
 filter_on [] = refl
 filter_on (w ∷ words) = ap (λ (ws : List (List ℕ)). w ∷ ws) (filter_on words)
 
-pub all_run : (s : State) (p : Source) → runs_needed s (Replace p) ≡ length s.words
-all_run s p = ap length (filter_on s.words)
+not_true : false ≡ true → ⊥
+not_true h = cc
+
+pub all_run : (s : State) (e : Edit) → is_of_script e ≡ true → runs_needed s e ≡ length s.words
+all_run s (Add word) h = absurd (not_true h)
+all_run s (Remove word) h = absurd (not_true h)
+all_run s (Routine name text) h = ap length (filter_on s.words)
+
+same_words : (s : State) (e : Edit) → is_of_script e ≡ true → words_after s e ≡ s.words
+same_words s (Add word) h = absurd (not_true h)
+same_words s (Remove word) h = absurd (not_true h)
+same_words s (Routine name text) h = refl
+
+wants : (e : Edit) → is_of_script e ≡ true → wants_memory e ≡ true
+wants (Add word) h = absurd (not_true h)
+wants (Remove word) h = absurd (not_true h)
+wants (Routine name text) h = refl
+
+-- ---- adding a word
 
 -- where memory was refused before anything was run
 pub edits_nothing : (s : State) (word : List ℕ) → refusal_of_add s word ≡ None → Edits (Err fault.OutOfMemory) s (Add word) s
-edits_nothing s word free = (refl, free, (0, omega arith, ap (λ (n : ℕ). record s { count = n }) same))
-  where
-    same : s.count ≡ s.count + 0
-    same = omega arith
+edits_nothing s word free = record { wanted = refl; is = inl (λ f refused. absurd (none-some f (sym free ∙ refused)), refl) }
 
 -- where no run can be counted any more
 pub counts_no_more : (s : State) (word : List ℕ) → refusal_of_add s word ≡ None → is_word word s.words ≡ false → s.count ≡ most_runs
     → Edits (Err fault.MeterFull) s (Add word) s
-counts_no_more s word free new full = (rw (free, one_run s word new, full) refl, refl)
+counts_no_more s word free new full = (inr (record { script = s.script; after = (free, refl); counts = rw (one_run s word new, full) refl; is = refl }), refl)
+
+-- where one more run can be counted
+one_left : (s : State) (word : List ℕ) → is_word word s.words ≡ false → s.count < most_runs → lacks_counts s (Add word) ≡ false
+one_left s word new small = rw (one_run s word new) (le-ltb (most_runs - s.count) 1 (omega (arith, small)))
 
 -- the answer of the last step, which runs the word and puts it last
 pub adds : (r : Result (Unit {0}) EditFault) (s : State) (word : List ℕ) (words : List (List ℕ)) (count : ℕ) → refusal_of_add s word ≡ None
@@ -78,53 +97,89 @@ pub adds : (r : Result (Unit {0}) EditFault) (s : State) (word : List ℕ) (word
     → OnOk r (words ≡ s.words ++ word ∷ []) → OnOk r (count ≡ s.count + 1)
     → OnErr r (words ≡ s.words) → IfErr r (λ f. IsStop 1 f s.count count)
     → Edits r s (Add word) (record s { words = words; count = count })
-adds (Ok u) s word words count free new small last counts _ _ = (
-  rw (free, one_run s word new, le-ltb (most_runs - s.count) 1 (omega (arith, small))) refl,
-  λ i. record { script = s.script; words = last i; count = (counts ∙ ap (λ (n : ℕ). s.count + n) (sym (one_run s word new))) i },
+adds (Ok u) s word words count free new small last counts _ _ = record {
+  script = s.script;
+  after = (free, refl);
+  counts = one_left s word new small;
+  is = λ i. record { script = s.script; words = last i; count = (counts ∙ ap (λ (n : ℕ). s.count + n) (sym (one_run s word new))) i };
+}
+adds (Err fault.OutOfMemory) s word words count free new small _ _ same stop = record {
+  wanted = refl;
+  is = inr (record {
+    made = edited s (Add word) s.script;
+    accepted = record { script = s.script; after = (free, refl); counts = one_left s word new small; is = refl };
+    runs = stop.0;
+    bound = rw (one_run s word new) stop.1;
+    is = λ i. record s { words = same i; count = stop.2 i };
+  });
+}
+adds (Err fault.MeterFull) s word words count free new small _ _ same stop = (
+  inr (record { script = s.script; after = (free, refl); counts = rw (one_run s word new, stop.0) refl; is = refl }),
+  λ i. record s { words = same i; count = stop.1 i },
 )
-adds (Err fault.OutOfMemory) s word words count free new small _ _ same stop =
-    (refl, free, (stop.0, rw (one_run s word new) stop.1, λ i. record s { words = same i; count = stop.2 i }))
-adds (Err fault.MeterFull) s word words count free new small _ _ same stop =
-    (rw (free, one_run s word new, stop.0) refl, λ i. record s { words = same i; count = stop.1 i })
 adds (Err fault.Present) s word words count free new small _ _ same stop = absurd stop
 adds (Err fault.Absent) s word words count free new small _ _ same stop = absurd stop
 adds (Err fault.EmptyWord) s word words count free new small _ _ same stop = absurd stop
 adds (Err fault.WordTooLong) s word words count free new small _ _ same stop = absurd stop
 adds (Err fault.Full) s word words count free new small _ _ same stop = absurd stop
+adds (Err fault.NoRoutine) s word words count free new small _ _ same stop = absurd stop
+adds (Err fault.NoAmong) s word words count free new small _ _ same stop = absurd stop
+adds (Err fault.AmongCount) s word words count free new small _ _ same stop = absurd stop
+adds (Err (fault.Script f)) s word words count free new small _ _ same stop = absurd stop
 
 -- ---- removing a word
 
 pub no_word : (s : State) (word : List ℕ) → is_word word s.words ≡ false → Edits (Err fault.Absent) s (Remove word) s
-no_word s word absent = (rw absent refl, refl)
+no_word s word absent = (inl (absent, refl), refl)
 
 pub removes : (s : State) (word : List ℕ) (words : List (List ℕ)) → is_word word s.words ≡ true → words ≡ without word s.words
     → Edits (Ok tt) s (Remove word) (record s { words = words })
-removes s word words there gone = (
-  rw (there, no_run s word, le-ltb (most_runs - s.count) 0 (omega arith)) refl,
-  λ i. record { script = s.script; words = gone i; count = kept i },
-)
+removes s word words there gone = record {
+  script = s.script;
+  after = (there, refl);
+  counts = rw (no_run s word) (le-ltb (most_runs - s.count) 0 (omega arith));
+  is = λ i. record { script = s.script; words = gone i; count = kept i };
+}
   where
     kept : s.count ≡ s.count + runs_needed s (Remove word)
     kept = rw (no_run s word) (omega arith)
 
--- ---- another script
+-- ---- editing the script
+
+-- where enough counts are left for all words
+enough : (s : State) (e : Edit) (before needed : ℕ) → is_of_script e ≡ true → before ≡ s.count → needed ≡ length s.words → needed ≤ most_runs - before
+    → lacks_counts s e ≡ false
+enough s e before needed h so many room = rw (all_run s e h, sym so, sym many) (le-ltb (most_runs - before) needed room)
 
 -- where fewer counts are left than there are words
-pub replaces_never : (s : State) (p : Source) (count needed : ℕ) → count ≡ s.count → needed ≡ length s.words → most_runs - count < needed
-    → Edits (Err fault.MeterFull) s (Replace p) s
-replaces_never s p count needed so many full =
+pub replaces_never : (s : State) (e : Edit) (p : Source) (count needed : ℕ) → is_of_script e ≡ true → IsScriptAfter s e p
+    → count ≡ s.count → needed ≡ length s.words → most_runs - count < needed → Edits (Err fault.MeterFull) s e s
+replaces_never s e p count needed h after so many full =
     let test : nat_lt (most_runs - count) needed ≡ true = grind (arith, nat_tests) in
-    (rw (all_run s p, sym so, sym many, test) refl, refl)
+    (inr (record { script = p; after = after; counts = rw (all_run s e h, sym so, sym many) test; is = refl }), refl)
 
 -- where memory was refused after some runs
-pub replaces_nothing : (s : State) (p : Source) (words : List (List ℕ)) (count : ℕ) → words ≡ s.words → ((n : ℕ) × (n ≤ length s.words) × (count ≡ s.count + n))
-    → Edits (Err fault.OutOfMemory) s (Replace p) (record s { words = words; count = count })
-replaces_nothing s p words count same ran =
-    (refl, refl, (ran.0, rw (all_run s p) ran.1, λ i. record { script = s.script; words = same i; count = ran.2 i }))
+pub replaces_nothing : (s : State) (e : Edit) (p : Source) (words : List (List ℕ)) (before needed count : ℕ) → is_of_script e ≡ true → IsScriptAfter s e p
+    → before ≡ s.count → needed ≡ length s.words → needed ≤ most_runs - before → words ≡ s.words
+    → ((n : ℕ) × (n ≤ length s.words) × (count ≡ s.count + n))
+    → Edits (Err fault.OutOfMemory) s e (record s { words = words; count = count })
+replaces_nothing s e p words before needed count h after so many room same ran = record {
+  wanted = wants e h;
+  is = inr (record {
+    made = edited s e p;
+    accepted = record { script = p; after = after; counts = enough s e before needed h so many room; is = refl };
+    runs = ran.0;
+    bound = rw (all_run s e h) ran.1;
+    is = λ i. record { script = s.script; words = same i; count = ran.2 i };
+  });
+}
 
-pub replaces : (s : State) (p : Source) (words : List (List ℕ)) (before needed count : ℕ) → before ≡ s.count → needed ≡ length s.words → needed ≤ most_runs - before
-    → words ≡ s.words → count ≡ s.count + length s.words → Edits (Ok tt) s (Replace p) (record { script = p; words = words; count = count })
-replaces s p words before needed count so many room same counts = (
-  rw (all_run s p, sym so, sym many, le-ltb (most_runs - before) needed room) refl,
-  λ i. record { script = p; words = same i; count = (counts ∙ ap (λ (n : ℕ). s.count + n) (sym (all_run s p))) i },
-)
+pub replaces : (s : State) (e : Edit) (p : Source) (words : List (List ℕ)) (before needed count : ℕ) → is_of_script e ≡ true → IsScriptAfter s e p
+    → before ≡ s.count → needed ≡ length s.words → needed ≤ most_runs - before
+    → words ≡ s.words → count ≡ s.count + length s.words → Edits (Ok tt) s e (record { script = p; words = words; count = count })
+replaces s e p words before needed count h after so many room same counts = record {
+  script = p;
+  after = after;
+  counts = enough s e before needed h so many room;
+  is = λ i. record { script = p; words = (same ∙ sym (same_words s e h)) i; count = (counts ∙ ap (λ (n : ℕ). s.count + n) (sym (all_run s e h))) i };
+}

@@ -8,7 +8,10 @@ pub mod bench;
 pub mod change;
 pub mod class;
 pub mod edit;
+#[cfg(test)]
+mod edit_tests;
 pub mod fault;
+pub mod laws;
 pub mod open;
 pub mod outcomes;
 pub mod pairs;

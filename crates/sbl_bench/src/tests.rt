@@ -2,7 +2,7 @@
 
 use crate::{Bench, EditFault, Row};
 use sbl_machine::Outcome;
-use sbl_script::Script;
+use sbl_script::{Script, ScriptFault};
 use std::alloc::Global;
 use std::test::Fail;
 
@@ -12,7 +12,7 @@ const PREFIXES: &str = "externals ( stem ) define stem as ( [ among ( 'un' () 'r
 /// Takes a slice that ends before it begins.
 const CROSSED: &str = "externals ( stem ) define stem as ( 'a' [ delete )";
 
-fn word_of(alloc: Global, text: &str) -> Result<Vec<char>, Fail> {
+pub(crate) fn word_of(alloc: Global, text: &str) -> Result<Vec<char>, Fail> {
     let mut word = Vec::new(alloc);
     for letter in text.chars() {
         word.push(letter)?;
@@ -20,7 +20,7 @@ fn word_of(alloc: Global, text: &str) -> Result<Vec<char>, Fail> {
     Ok(word)
 }
 
-fn text_of(alloc: Global, word: &[char]) -> Result<String, Fail> {
+pub(crate) fn text_of(alloc: Global, word: &[char]) -> Result<String, Fail> {
     let mut text = String::new(alloc);
     for &letter in word {
         text.push(letter)?;
@@ -28,7 +28,7 @@ fn text_of(alloc: Global, word: &[char]) -> Result<String, Fail> {
     Ok(text)
 }
 
-fn bench_of(alloc: Global, script: &str, words: &[&str]) -> Result<Bench, Fail> {
+pub(crate) fn bench_of(alloc: Global, script: &str, words: &[&str]) -> Result<Bench, Fail> {
     let script = Script::parse(alloc, script.as_bytes(), "stem")?;
     let mut list = Vec::new(alloc);
     for &word in words {
@@ -38,7 +38,7 @@ fn bench_of(alloc: Global, script: &str, words: &[&str]) -> Result<Bench, Fail> 
 }
 
 /// A row as `WORD STEM`, or `WORD` and the fault.
-fn shown(alloc: Global, row: &Row<'_>) -> Result<String, Fail> {
+pub(crate) fn shown(alloc: Global, row: &Row<'_>) -> Result<String, Fail> {
     let word = text_of(alloc, row.word)?;
     match row.outcome {
         Outcome::Stem(stem) => {
@@ -129,7 +129,7 @@ fn a_refused_growth_changes_nothing(rt: HostRuntime) -> Result<(), Fail> {
 }
 
 /// The classes as `STEM:WORD,WORD,;`.
-fn classes_shown(alloc: Global, bench: &Bench) -> Result<String, Fail> {
+pub(crate) fn classes_shown(alloc: Global, bench: &Bench) -> Result<String, Fail> {
     let mut text = String::new(alloc);
     let classes = bench.classes()?;
     for class in &classes {
@@ -266,6 +266,14 @@ fn faults_are_printed_with_their_numbers(rt: HostRuntime) -> Result<(), Fail> {
         (EditFault::EmptyWord, "42 EmptyWord"),
         (EditFault::WordTooLong, "43 WordTooLong"),
         (EditFault::Full, "44 Full"),
+        (EditFault::NoRoutine, "45 NoRoutine"),
+        (EditFault::NoAmong, "46 NoAmong"),
+        (EditFault::AmongCount, "47 AmongCount"),
+        (
+            EditFault::Script(ScriptFault::Undeclared { item: 2 }),
+            "48 Undeclared",
+        ),
+        (EditFault::Script(ScriptFault::NoExternal), "48 NoExternal"),
         (EditFault::OutOfMemory, "49 OutOfMemory"),
         (EditFault::MeterFull, "50 MeterFull"),
     ] {
