@@ -131,6 +131,7 @@ stand-trans a b c ls ms p q = by p.whole q.whole
       whole = v;
       lines_are = lines-append p.front q.front w ∙ ap (λ (x : List (List ℕ)). x ++ lines_of q.front) p.lines_are ∙ ap (λ (x : List (List ℕ)). ls ++ x) q.lines_are;
     }
+
     end : b ≡ [] → StandFirst a (ls ++ ms) c
     end e =
         let n = both_none q.front c (sym q.bytes_are ∙ e) in
@@ -141,6 +142,7 @@ stand-trans a b c ls ms p q = by p.whole q.whole
           whole = inr n.1;
           lines_are = p.lines_are ∙ sym (append-nil ls) ∙ ap (λ (x : List (List ℕ)). ls ++ x) (sym none);
         }
+
     by : AreWhole p.front ⊎ (b ≡ []) → AreWhole q.front ⊎ (c ≡ []) → StandFirst a (ls ++ ms) c
     by (inl w) (inl v) = more w (inl (whole-append p.front q.front w v))
     by (inl w) (inr e) = more w (inr e)

@@ -1,16 +1,21 @@
 -- What an edit answers, as a session answers it.
-use Rattle.std.proofs.Common.{◌≡◌, ◌⊎◌, inl, inr, ◌∙◌, ◌≤◌, ◌<◌, ◌+◌, ℕ, Bool, true, false, List, [], ◌∷◌, length, take, Option, Some, None, Result, Ok, Err, refl, sym, ap, subst, arith, nat_lt, length-take}
+use Rattle.std.proofs.Common.{codes, if◌then◌else◌, ◌≡◌, ◌⊎◌, inl, inr, ◌∙◌, ◌≤◌, ◌<◌, ◌+◌, ℕ, Bool, true, false, List, [], ◌∷◌, length, take, Option, Some, None, Result, Ok, Err, refl, sym, ap, subst, arith, nat_lt, length-take}
 use Rattle.std.proofs.lemmas.Bool.Decides.{nat_tests}
 use Rattle.std.proofs.lemmas.Grind.{common_steps}
-use Rattle.std.proofs.lemmas.Str.{chars-encodes, length-le-encodes}
-use Rattle.std.specs.Str.{IsUtf8, chars}
+use Rattle.std.proofs.lemmas.Str.{IsUtf8-from_is_utf8, chars-encodes, length-le-encodes}
+use Rattle.std.specs.Str.{IsUtf8, chars, is_utf8}
 use Rattle.sbl_bench.specs.State.{State}
-use Rattle.sbl_bench.specs.Edits.{Edit, Edits, Add, IsAccepted, IsBrokenOff, IsMeterFull, IsOutOfMemory, IsRefused, IsVerdict, PassesTests, counted, refusal_of_add}
+use Rattle.sbl_bench.specs.Edits.{Edit, Edits, Add, Routine, IsAccepted, IsBrokenOff, IsMeterFull, IsOutOfMemory, IsRefused, IsVerdict, PassesTests, counted, refusal_of_add}
 use Rattle.sbl_bench.specs.declared.fault.EditFault.{EditFault}
 use Rattle.sbl_bench.specs.declared.fault.EditFault.TheVariants as fault
-use Rattle.snowbench.specs.Answers.{Memory, Enough, RefusedAfter, edit_text}
-use Rattle.snowbench.specs.CommandViews.{IsEditAnswer}
+use Rattle.sbl_text.specs.declared.fault.ScriptFault.{ScriptFault}
+use Rattle.sbl_text.specs.declared.fault.ScriptFault.TheVariants as script
+use Rattle.snowbench.specs.Answers.{BlockRefused, Enough, RefusedAfter, edit_text, ended}
+use Rattle.snowbench.specs.Block.{HasText, made_text, most_bytes}
+use Rattle.snowbench.specs.CommandViews.{IsEditAnswer, IsTextAnswer}
+use Rattle.snowbench.specs.Commands.{Command, block_command, text_of_block, with_text}
 use Rattle.snowbench.specs.Edits.{fault_in}
+use Rattle.snowbench.specs.Words.{argument}
 
 -- where memory was refused
 out_of_memory : (s t : State) (e : Edit) → IsOutOfMemory s e t → IsEditAnswer s e (edit_text (Some fault.OutOfMemory)) t
@@ -18,6 +23,7 @@ out_of_memory s t e h = by h.is
   where
     none_more : s.count ≡ s.count + 0
     none_more = omega arith
+
     by : (PassesTests s e × (t ≡ s)) ⊎ IsBrokenOff s e t → IsEditAnswer s e (edit_text (Some fault.OutOfMemory)) t
     by (inl p) = (RefusedAfter 0, (Some fault.OutOfMemory, (refl, p.1 ∙ ap (λ (k : ℕ). record s { count = k }) none_more, h), refl))
     by (inr b) = (RefusedAfter b.runs, (Some fault.OutOfMemory, (refl, b.is, h), refl))
@@ -107,3 +113,62 @@ chars_fit bytes valid =
 -- so many of them are all
 pub all_chars : (n : ℕ) (bytes : List ℕ) → IsUtf8 bytes → length bytes ≤ n → take n (chars bytes) ≡ chars bytes
 all_chars n bytes valid few = let fit : length (chars bytes) ≤ length bytes = chars_fit bytes valid in all_of n (chars bytes) (omega (arith, fit, few))
+
+-- ---- an edit of the script
+
+-- the text of a block that is one
+text_is : (lines : List (List ℕ)) → length (made_text lines) ≤ most_bytes → (b : Bool) → is_utf8 (made_text lines) ≡ b
+    → text_of_block lines ≡ (if b then Ok (made_text lines) else Err script.NotUtf8)
+text_is lines few b is = let test : nat_lt most_bytes (length (made_text lines)) ≡ false = grind (arith, nat_tests) in rw (test, is) refl
+
+text_long : (lines : List (List ℕ)) → most_bytes < length (made_text lines) → text_of_block lines ≡ Err script.ScriptTooLong
+text_long lines long = let test : nat_lt most_bytes (length (made_text lines)) ≡ true = grind (arith, nat_tests) in rw test refl
+
+command_is : (line : List ℕ) (lines : List (List ℕ)) → is_utf8 line ≡ true → block_command line lines ≡ with_text (Routine (argument line)) (text_of_block lines)
+command_is line lines utf8 = rw utf8 refl
+
+-- the line is no text, whatever its block is
+pub bad_line : (s : State) (line : List ℕ) (lines : List (List ℕ)) → is_utf8 line ≡ false → IsTextAnswer s (block_command line lines) (ended (codes "no 52 BadCommand")) s
+bad_line s line lines bytes = rw bytes (Enough, (refl, refl))
+
+-- the block is too long
+pub block_too_long : (s : State) (line : List ℕ) (lines : List (List ℕ)) → is_utf8 line ≡ true → most_bytes < length (made_text lines)
+    → IsTextAnswer s (block_command line lines) (edit_text (Some (fault.Script script.ScriptTooLong))) s
+block_too_long s line lines utf8 long =
+    subst (λ (c : Command). IsTextAnswer s c (edit_text (Some (fault.Script script.ScriptTooLong))) s)
+    (sym (command_is line lines utf8 ∙ ap (with_text (Routine (argument line))) (text_long lines long))) (Enough, (refl, refl))
+
+-- the memory of the block was refused
+pub block_refused : (s : State) (line : List ℕ) (lines : List (List ℕ)) → is_utf8 line ≡ true → IsTextAnswer s (block_command line lines) (edit_text (Some fault.OutOfMemory)) s
+block_refused s line lines utf8 =
+    subst (λ (c : Command). IsTextAnswer s c (edit_text (Some fault.OutOfMemory)) s) (sym (command_is line lines utf8)) (by (text_of_block lines))
+  where
+    by : (r : Result (List ℕ) ScriptFault) → IsTextAnswer s (with_text (Routine (argument line)) r) (edit_text (Some fault.OutOfMemory)) s
+    by (Ok text) = (BlockRefused, (Some fault.OutOfMemory, (refl, refl, refl), refl))
+    by (Err f) = (BlockRefused, (refl, refl))
+
+-- the block is held: it is a text, or it is not UTF-8
+pub block_held : (s t : State) (line bytes answer : List ℕ) (lines : List (List ℕ)) → is_utf8 line ≡ true → HasText None bytes lines
+    → (is_utf8 bytes ≡ true → IsEditAnswer s (Routine (argument line) bytes) answer t)
+    → (is_utf8 bytes ≡ false → (answer ≡ edit_text (Some (fault.Script script.NotUtf8))) × (t ≡ s)) → IsTextAnswer s (block_command line lines) answer t
+block_held s t line bytes answer lines utf8 holds text bad = by (is_utf8 bytes) refl
+  where
+    same : (b : Bool) → is_utf8 bytes ≡ b → is_utf8 (made_text lines) ≡ b
+    same b is = ap is_utf8 (sym holds.0) ∙ is
+
+    by : (b : Bool) → is_utf8 bytes ≡ b → IsTextAnswer s (block_command line lines) answer t
+    by true is =
+        subst (λ (c : Command). IsTextAnswer s c answer t)
+        (sym (command_is line lines utf8 ∙ ap (with_text (Routine (argument line))) (text_is lines holds.1 true (same true is) ∙ ap Ok (sym holds.0)))) (text is)
+    by false is =
+        let refused = bad is in
+        subst (λ (c : Command). IsTextAnswer s c answer t)
+        (sym (command_is line lines utf8 ∙ ap (with_text (Routine (argument line))) (text_is lines holds.1 false (same false is)))) (Enough, (refused.0, refused.1))
+
+-- bytes that are no text
+pub not_text : (bytes : List ℕ) → ¬ (IsUtf8 bytes) → is_utf8 bytes ≡ false
+not_text bytes none = by (is_utf8 bytes) refl
+  where
+    by : (t : Bool) → is_utf8 bytes ≡ t → is_utf8 bytes ≡ false
+    by true e = absurd (none (IsUtf8-from_is_utf8 bytes e))
+    by false e = e

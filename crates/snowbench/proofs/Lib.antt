@@ -5,3 +5,4 @@ pub mod LoadFacts
 pub mod ReportFacts
 pub mod SessionFacts
 pub mod CommandFacts
+pub mod OneAnswer

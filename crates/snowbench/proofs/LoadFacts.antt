@@ -1,5 +1,5 @@
 -- Lines are taken from an input, up to a point; and what is made of them.
-use Rattle.std.proofs.Common.{◌≡◌, ◌⊎◌, inl, inr, ◌∙◌, ◌++◌, ◌<◌, ◌≤◌, ℕ, true, List, [], ◌∷◌, Option, Some, None, Result, Ok, Err, IfOk, IfErr, refl, sym, ap, subst, map, length}
+use Rattle.std.proofs.Common.{◌≢◌, false, ◌≡◌, ◌⊎◌, inl, inr, ◌∙◌, ◌++◌, ◌<◌, ◌≤◌, ℕ, true, List, [], ◌∷◌, Option, Some, None, Result, Ok, Err, IfOk, IfErr, refl, sym, ap, subst, map, length}
 use Rattle.std.proofs.lemmas.List.{map-append}
 use Rattle.std.specs.Str.{chars, is_utf8}
 use Rattle.std.specs.declared.vec.Vec.{Vec}
@@ -11,10 +11,12 @@ use Rattle.sbl_script.specs.Reading.{IsFaultOf, IsScriptOf}
 use Rattle.sbl_bench.specs.State.{IsFaultOrMemory, State, opening_fault}
 use Rattle.sbl_bench.specs.declared.fault.EditFault.{EditFault}
 use Rattle.sbl_bench.specs.declared.fault.EditFault.TheVariants as edit
-use Rattle.snowbench.specs.Block.{AllText, BlockLines, Breaks}
+use Rattle.snowbench.specs.Block.{AllText, BlockLines, Breaks, NoPoint, point}
+use Rattle.snowbench.specs.Held.{AllFit, Took}
 use Rattle.snowbench.specs.Faults.{serve_fault_of}
 use Rattle.snowbench.specs.Loaded.{IsInput, IsLoaded, ReadsScript, ReadsWords, TookFault, TookSource, WordLines}
 use Rattle.snowbench.specs.declared.faults.LineFault.{LineFault}
+use Rattle.snowbench.proofs.BlockFacts.{all_fit-push, no_point-push}
 use Rattle.snowbench.specs.declared.faults.LineFault.TheVariants as line
 use Rattle.snowbench.specs.declared.faults.LoadFault.{LoadFault}
 use Rattle.snowbench.specs.declared.faults.LoadFault.TheVariants.{Input, Open, Script}
@@ -44,6 +46,22 @@ script_broken a b serve.OutOfMemory breaks = absurd breaks
 pub words_broken : (a b : Option (List ℕ)) (f : LineFault) → Breaks WordLines a b (serve_fault_of f) → ReadsWords a b (Err (Input (serve_fault_of f)))
 words_broken a b line.Read breaks = breaks
 words_broken a b line.TooLong breaks = breaks
+
+-- why a line gave no word
+abbrev pub IsUnreadWord : List ℕ → LoadFault → Type 0
+IsUnreadWord line fault = ((fault ≡ Input serve.NotText) × (is_utf8 line ≡ false)) ⊎ (fault ≡ Input serve.OutOfMemory)
+
+-- the words so far, and a line that is none
+pub words_stopped : (a b : Option (List ℕ)) (taken : List (List ℕ)) (line : List ℕ) → NoPoint taken → AllFit taken → line ≢ point → length line ≤ 65536
+    → Took a b (taken ++ line ∷ []) → ReadsWords a b (Err (Input serve.OutOfMemory))
+words_stopped a b taken line free fit other fits took = (taken ++ line ∷ [], (no_point-push taken line free other, all_fit-push taken line fit fits), took)
+
+pub word_unread : (a b : Option (List ℕ)) (taken : List (List ℕ)) (line : List ℕ) (fault : LoadFault) → NoPoint taken → AllFit taken → AllText taken
+    → line ≢ point → length line ≤ 65536 → Took a b (taken ++ line ∷ []) → IsUnreadWord line fault → ReadsWords a b (Err fault)
+word_unread a b taken line fault free fit text other fits took (inl bad) =
+    subst (λ (f : LoadFault). ReadsWords a b (Err f)) (sym bad.0) (taken, line, ((free, fit), text), other, fits, bad.1, took)
+word_unread a b taken line fault free fit text other fits took (inr bad) =
+    subst (λ (f : LoadFault). ReadsWords a b (Err f)) (sym bad) (words_stopped a b taken line free fit other fits took)
 
 -- ---- behind the block
 

@@ -1,16 +1,20 @@
 -- Reports: the rows and classes that they write, and the row of a word.
-use Rattle.std.proofs.Common.{◌≡◌, ◌∙◌, ◌+◌, ℕ, Bool, true, false, List, [], ◌∷◌, Option, Some, None, Result, Ok, Err, IfOk, OnErr, refl, sym, ap, map, take, slice_get, suc}
+use Rattle.std.proofs.Common.{append_assoc, get_or, length, ◌<◌, ◌++◌, ◌≡◌, ◌∙◌, ◌+◌, ℕ, Bool, true, false, List, [], ◌∷◌, Option, Some, None, Result, Ok, Err, IfOk, OnErr, refl, sym, ap, map, take, slice_get, suc}
+use Prim.Native.Nat.{zero}
 use Rattle.std.specs.List.{find}
 use Rattle.std.specs.declared.vec.Vec.{Vec}
 use Rattle.std.specs.declared.alloc.Global.{Global}
 use Rattle.std.specs.declared.alloc.AllocError.{AllocError}
 use Rattle.sbl_bench.specs.State.{State}
-use Rattle.sbl_bench.specs.Classes.{Class, class_of}
+use Rattle.std.proofs.lemmas.List.{map-append, take_more}
+use Rattle.std.specs.Option.{option_map}
+use Rattle.std.specs.Str.{bytes_eq, encode_utf8_all}
+use Rattle.sbl_bench.specs.Classes.{Class, class_of, words_of}
 use Rattle.sbl_bench.specs.Rows.{Row}
 use Rattle.sbl_bench.specs.declared.fault.EditFault.TheVariants as fault
 use Rattle.snowbench.specs.Answers.{Enough, IsReport, Memory, RefusedAfter, edit_text}
 use Rattle.snowbench.specs.CommandViews.{IsReply}
-use Rattle.snowbench.specs.Rows.{class_fields, class_or_row, class_or_row_text, records_text, row_fields, rows_now}
+use Rattle.snowbench.specs.Rows.{class_fields, class_or_row, class_or_row_text, class_text, records_text, row_fields, rows_now}
 use Rattle.snowbench.specs.declared.replies.Reply.{Reply}
 
 pub map_twice : {A B C : Type 0} (g : B → C) (f : A → B) (xs : List A) → map (λ (x : A). g (f x)) xs ≡ map g (map f xs)
@@ -52,18 +56,36 @@ some_none e = cc e
 pub found : {A : Type 0} (p : A → Bool) (xs : List A) (i : ℕ) (x : A) → find p (take i xs) ≡ None → slice_get xs i ≡ Some x → p x ≡ true → find p xs ≡ Some x
 found p [] i x none at passes = absurd (some_none (sym at))
 found {A} p (y ∷ xs) zero x none at passes = let same : y ≡ x = cc at in rw (same, passes) refl
-found {A} p (y ∷ xs) (suc i) x none at passes = by (p y) refl
+found {A} p (y ∷ xs) (suc i) x none at passes = by (λ rest. found p xs i x rest at passes) (p y) refl
   where
-    by : (t : Bool) → p y ≡ t → find p (y ∷ xs) ≡ Some x
-    by true e = let some : Some y ≡ None = (rw e refl) ∙ none in absurd (some_none some)
-    by false e = let rest : find p (take i xs) ≡ None = (rw e refl) ∙ none in rw e (found p xs i x rest at passes)
+    by : (find p (take i xs) ≡ None → find p xs ≡ Some x) → (t : Bool) → p y ≡ t → find p (y ∷ xs) ≡ Some x
+    by more true e = let some : Some y ≡ None = (rw e at none) in absurd (some_none some)
+    by more false e = let rest : find p (take i xs) ≡ None = (rw e at none) in rw e (more rest)
 
 -- no element so far passes, and the next does not
 pub missed : {A : Type 0} (p : A → Bool) (xs : List A) (i : ℕ) (x : A) → find p (take i xs) ≡ None → slice_get xs i ≡ Some x → p x ≡ false → find p (take (suc i) xs) ≡ None
 missed p [] i x none at fails = absurd (some_none (sym at))
 missed {A} p (y ∷ xs) zero x none at fails = let same : y ≡ x = cc at in rw (same, fails) refl
-missed {A} p (y ∷ xs) (suc i) x none at fails = by (p y) refl
+missed {A} p (y ∷ xs) (suc i) x none at fails = by (λ rest. missed p xs i x rest at fails) (p y) refl
   where
-    by : (t : Bool) → p y ≡ t → find p (take (suc (suc i)) (y ∷ xs)) ≡ None
-    by true e = let some : Some y ≡ None = (rw e refl) ∙ none in absurd (some_none some)
-    by false e = let rest : find p (take i xs) ≡ None = (rw e refl) ∙ none in rw e (missed p xs i x rest at fails)
+    by : (find p (take i xs) ≡ None → find p (take (suc i) xs) ≡ None) → (t : Bool) → p y ≡ t → find p (take (suc (suc i)) (y ∷ xs)) ≡ None
+    by more true e = let some : Some y ≡ None = (rw e at none) in absurd (some_none some)
+    by more false e = let rest : find p (take i xs) ≡ None = (rw e at none) in rw e (more rest)
+
+-- ---- the report of a word's class
+
+pub class_text_is : (s : State) (word : List ℕ) (row : Option Row) → find (λ (r : Row). bytes_eq word r.word) (rows_now s) ≡ row → class_text s word ≡ option_map (class_or_row_text s word) row
+unfolding class_text
+class_text_is s word row is = ap (option_map (class_or_row_text s word)) is
+
+-- ---- the fields of a class
+
+pub word_field : (words : List (Vec ℕ Global)) (i : ℕ) (w : Vec ℕ Global) (first old new : List (List ℕ)) → i < length words → w ≡ get_or words i w
+    → old ≡ first ++ map encode_utf8_all (words_of (take i words)) → new ≡ old ++ encode_utf8_all w.items ∷ []
+    → new ≡ first ++ map encode_utf8_all (words_of (take (i + 1) words))
+word_field words i w first old new lt is before more =
+    let enc = encode_utf8_all in
+    let one : words_of (take (i + 1) words) ≡ words_of (take i words) ++ w.items ∷ [] =
+    ap words_of (take_more words i w lt ∙ ap (λ (x : Vec ℕ Global). take i words ++ x ∷ []) (sym is)) ∙ map-append {A = Vec ℕ Global} (λ x. x.items) (take i words) (w ∷ []) in
+    more ∙ ap (λ (x : List (List ℕ)). x ++ enc w.items ∷ []) before ∙ append_assoc first (map enc (words_of (take i words))) (enc w.items ∷ [])
+    ∙ ap (λ (x : List (List ℕ)). first ++ x) (sym (ap (map enc) one ∙ map-append enc (words_of (take i words)) (w.items ∷ [])))

@@ -1,5 +1,5 @@
 -- A session goes on request by request.
-use Rattle.std.proofs.Common.{true, ◌≡◌, ◌∙◌, ◌++◌, ◌≤◌, ℕ, List, [], ◌∷◌, Option, Some, None, Ok, Err, refl, take, sym, ap, subst, append_assoc, length}
+use Rattle.std.proofs.Common.{◌⊎◌, Bool, true, false, ◌≡◌, ◌∙◌, ◌++◌, ◌≤◌, ℕ, List, [], ◌∷◌, Option, Some, None, Ok, Err, refl, take, sym, ap, subst, append_assoc, arith, length}
 use Rattle.std.proofs.lemmas.List.{append-nil}
 use Rattle.std.proofs.lemmas.List.Elements.{All-append}
 use Rattle.std.proofs.lemmas.Grind.{flat_map-append}
@@ -7,16 +7,20 @@ use Rattle.std.specs.Io.KnownBytes.{Appends, IsAtEnd, Keeps}
 use Rattle.std.proofs.KnownBytes.{Appends-nil, Appends-trans}
 use Rattle.sbl_bench.specs.State.{State}
 use Rattle.snowbench.specs.Answers.{Answers, IsReplyTo, Memory}
-use Rattle.snowbench.specs.Block.{BlockLines, Breaks}
-use Rattle.snowbench.specs.CommandViews.{IsAnswered, IsReply}
-use Rattle.snowbench.specs.Commands.{command_of}
-use Rattle.snowbench.specs.Held.{AllFit, GivesLine, Took}
-use Rattle.snowbench.specs.Requests.{IsBegun, IsOpen, IsRequest, Request, TookRequests, asks_block, block_lines, lines_in, lines_in_all}
+use Rattle.snowbench.specs.Block.{BlockLines, Breaks, HoldsText, ReadsBlock, point}
+use Rattle.snowbench.specs.CommandViews.{IsAnswer, IsAnswered, IsReply, IsTextAnswer}
+use Rattle.snowbench.specs.Commands.{block_command, command_of, line_command}
+use Rattle.snowbench.specs.Held.{AllFit, BeginsLong, BreaksOff, GivesLine, Took}
+use Rattle.snowbench.specs.Requests.{HasBlock, IsBegun, IsOpen, IsRequest, Request, TookRequests, asks_block, block_lines, lines_in, lines_in_all}
 use Rattle.snowbench.specs.Session.{Answered, HalfAnswered, IsSession, SoFar}
+use Rattle.snowbench.specs.declared.block_text.BlockText.{BlockText}
+use Rattle.snowbench.specs.Faults.{serve_fault_of}
+use Rattle.snowbench.specs.declared.faults.LineFault.{LineFault}
+use Rattle.snowbench.specs.declared.faults.LineFault.TheVariants as read
 use Rattle.snowbench.specs.declared.faults.ServeFault.{ServeFault}
 use Rattle.snowbench.specs.declared.faults.ServeFault.TheVariants as fault
 use Rattle.snowbench.specs.declared.replies.Reply.{Reply}
-use Rattle.snowbench.proofs.BlockFacts.{all_fit-append}
+use Rattle.snowbench.proofs.BlockFacts.{all_fit-append, all_fit-push, broken}
 use Rattle.snowbench.proofs.Bytes.{took-kept, took-none, took-trans}
 
 -- ---- answers
@@ -94,13 +98,10 @@ session_ends a b c h i s t so keeps end =
     ((so.0, record { each = so.1.each; fit = so.1.fit; lines = took-kept a b c (lines_in_all so.0) so.1.lines keeps }, so.2), end)
 
 -- where the lines have no further one
-pub session_broken : (a b c h i : Option (List ℕ)) (s t : State) (f : ServeFault) → SoFar a b h i s t → Breaks IsBegun b c f → (f ≡ fault.Cut → ⊥) → (f ≡ fault.Write → ⊥) → IsSession a c h i s t (Err f)
-session_broken a b c h i s t fault.Read so breaks open other = (b, so, breaks)
-session_broken a b c h i s t fault.Write so breaks open other = absurd (other refl)
-session_broken a b c h i s t fault.LineTooLong so breaks open other = (b, so, breaks)
-session_broken a b c h i s t fault.Cut so breaks open other = absurd (open refl)
-session_broken a b c h i s t fault.NotText so breaks open other = absurd breaks
-session_broken a b c h i s t fault.OutOfMemory so breaks open other = absurd breaks
+pub session_at_line : (a b c h i : Option (List ℕ)) (s t : State) (k : Option LineFault) (part : List ℕ) (f : LineFault) → SoFar a b h i s t → k ≡ None
+    → (f ≡ read.TooLong → BeginsLong b ⊎ (k ≡ Some f)) → (f ≡ read.Read → k ≡ None → BreaksOff b c part) → IsSession a c h i s t (Err (serve_fault_of f))
+session_at_line a b c h i s t k part read.Read so none long cut = (b, so, broken IsBegun b b c k [] part read.Read tt (took-none b) none long cut)
+session_at_line a b c h i s t k part read.TooLong so none long cut = (b, so, broken IsBegun b b c k [] part read.TooLong tt (took-none b) none long cut)
 
 -- where a block has no end
 pub session_open : (a b c d h i : Option (List ℕ)) (s t : State) (line : List ℕ) (f : ServeFault) → SoFar a b h i s t → GivesLine b c line → length line ≤ 65536
@@ -125,3 +126,28 @@ session_at_write a b c d h i j s t u line reply n so gives fits is writes = (
   one_more a b c d so.0 line is.block so.1 gives fits is.formed is.fit is.took,
   half-more s t u so.0 (record { line = line; block = is.block }) h i j is.answer.0 is.answer.1 n so.2 (writes is.answer.1 is.answer.2) is.answer.3,
 )
+
+-- ---- the answer to a request
+
+-- a line that asks for no block
+pub answered_line : (a : Option (List ℕ)) (line : List ℕ) (s t : State) (reply : Reply) → asks_block line ≡ false → IsAnswer s (line_command line) reply t → IsAnswered a a line s reply t
+answered_line a line s t reply asks is = record {
+  block = None;
+  formed = subst (λ (b : Bool). HasBlock b None) (sym asks) tt;
+  fit = tt;
+  took = took-none a;
+  answer = is;
+}
+
+-- a line that asks for one
+pub answered_block : (a b : Option (List ℕ)) (line : List ℕ) (s t : State) (block : BlockText) (text : List ℕ) (reply : Reply) → asks_block line ≡ true → ReadsBlock a b (Ok block)
+    → ((lines : List (List ℕ)) → HoldsText block lines → IsTextAnswer s (block_command line lines) text t) → IsReply reply text → IsAnswered a b line s reply t
+answered_block a b line s t block text reply asks reads is shown =
+    let answer = is reads.0 reads.2 in
+    record {
+      block = Some reads.0;
+      formed = subst (λ (b : Bool). HasBlock b (Some reads.0)) (sym asks) reads.1.0.0;
+      fit = all_fit-push reads.0 point reads.1.0.1 (omega arith);
+      took = reads.1.1;
+      answer = (answer.0, text, shown, answer.1);
+    }

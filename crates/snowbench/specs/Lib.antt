@@ -10,6 +10,7 @@ pub mod Commands
 pub mod Rows
 pub mod Answers
 pub mod Session
+pub mod OneAnswer
 pub mod CommandViews
 pub mod Edits
 pub mod RowWriter

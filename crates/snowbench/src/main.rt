@@ -7,6 +7,7 @@ mod commands;
 mod devices;
 mod edits;
 mod faults;
+mod laws;
 mod lines;
 mod loading;
 mod records;
@@ -17,6 +18,7 @@ mod writing;
 
 pub use devices::{Device, Sink, Source, Stop};
 pub use faults::{LineFault, LoadFault, ServeFault};
+pub use laws::answers_are_one;
 pub use lines::{Lines, MAX_LINE};
 pub use loading::load;
 pub use serving::serve;

@@ -1,8 +1,8 @@
 //! The text of records, through `csv`.
-ghost use Rattle.std.specs.Prelude.{◌≡◌, ℕ, List, IfOk, map, string_bytes};
+ghost use Rattle.std.specs.Prelude.{◌≡◌, ◌++◌, ◌∷◌, [], ℕ, List, IfOk, OnOk, map, string_bytes};
 ghost use Rattle.std.specs.Str.{encode_utf8_all};
-ghost use Rattle.csv.specs.Records.{fields_of};
-ghost use Rattle.sbl_bench.specs.Classes.{view_class};
+ghost use Rattle.csv.specs.Records.{fields_of, partial_of};
+ghost use Rattle.sbl_bench.specs.Classes.{view_class, words_of};
 ghost use Rattle.sbl_bench.specs.Rows.{view_row};
 ghost use Rattle.snowbench.specs.Rows as spec;
 
@@ -29,7 +29,7 @@ pub(crate) trait Record {
 
     /// The record. A refused growth is the one error.
     fn record(&self, alloc: Global) -> Result<ByteRecord, AllocError>
-        ensures { IfOk result (λ record. fields_of record ≡ fields self.now) };
+        ensures { IfOk result (λ row. fields_of row ≡ fields self.now) };
 }
 
 impl Record for Row<'_> {
@@ -60,16 +60,34 @@ impl Record for Row<'_> {
 impl Record for Class {
     ghost fields = { λ class. spec.class_fields (view_class class) };
 
+    #[tactic(auto, unfolding(crate::specs::Rows::class_fields))]
     fn record(&self, alloc: Global) -> Result<ByteRecord, AllocError> {
         let mut record = ByteRecord::new(alloc);
-        let stem = text_of(alloc, &self.stem)?;
-        record.push_field(stem.as_bytes())?;
-        for word in &self.words {
-            let word = text_of(alloc, word)?;
-            record.push_field(word.as_bytes())?;
-        }
+        push_text(alloc, &mut record, &self.stem)?;
+        push_words(alloc, &mut record, &self.words)?;
         Ok(record)
     }
+}
+
+/// Puts a text at the end of a record, as a field. A refused growth is the one error.
+fn push_text(alloc: Global, record: &mut ByteRecord, text: &[char]) -> Result<(), AllocError>
+    requires { partial_of record.old ≡ [] }
+    ensures fields { OnOk result (fields_of record.new ≡ fields_of record.old ++ encode_utf8_all text.now ∷ []) }
+    ensures partial { OnOk result (partial_of record.new ≡ []) }
+{
+    let field = text_of(alloc, text)?;
+    record.push_field(field.as_bytes())
+}
+
+/// Puts words at the end of a record, each as a field. A refused growth is the one error.
+fn push_words(alloc: Global, record: &mut ByteRecord, words: &[Vec<char>]) -> Result<(), AllocError>
+    requires { partial_of record.old ≡ [] }
+    ensures { OnOk result (fields_of record.new ≡ fields_of record.old ++ map encode_utf8_all (words_of words.now)) }
+{
+    for word in words {
+        push_text(alloc, record, word)?;
+    }
+    Ok(())
 }
 
 /// The text of these records, whole: a line of the fields of each, quoted where `csv` quotes. A refused growth is the one

@@ -53,7 +53,7 @@ fn class_or_row_text(
     word: &[char],
     row: Row<'_>,
 ) -> Result<Vec<u8>, AllocError>
-    ensures { IfOk result (λ text. text.items ≡ spec.class_or_row_text (state_of bench.now) word.now (view_row row)) }
+    ensures { IfOk result (λ text. text.items ≡ spec.class_or_row_text (state_of bench.now) word.now (view_row row.entry)) }
 {
     match bench.class_of(word)? {
         Some(class) => records_text(alloc, &[class]),
