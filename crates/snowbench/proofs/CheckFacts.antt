@@ -14,7 +14,7 @@ use Rattle.sbl_bench.specs.Rows.{most_steps}
 use Rattle.snowbench.specs.Checking.{Compared, ComparesPair, IsRow, count}
 use Rattle.snowbench.specs.Differences.{Got, Refused, IsChecked, all_differences, difference, differences, ending, line_fault, made_of, of_outcome, pair_fault, row_of}
 use Rattle.snowbench.specs.LinesOf.{lines_of}
-use Rattle.snowbench.specs.Rows.{row_line, rows_text}
+use Rattle.snowbench.specs.Rows.{record_line, records_text}
 use Rattle.snowbench.specs.declared.faults.ServeFault.{ServeFault}
 use Rattle.snowbench.specs.declared.faults.ServeFault.TheVariants as fault
 
@@ -52,12 +52,12 @@ no_row None rows e h = h
 no_row (Some text) rows e h = cc
 
 pub one_row : (o : Option (Vec ℕ Global)) (rows : List (List (List ℕ))) (t : Vec ℕ Global) → o ≡ Some t → IsRow o rows
-    → (fields : List (List ℕ)) × (rows ≡ fields ∷ []) × (t.items ≡ row_line fields)
+    → (fields : List (List ℕ)) × (rows ≡ fields ∷ []) × (t.items ≡ record_line fields)
 one_row None rows t e h = cc
 one_row (Some text) rows t e h = let same : text ≡ t = cc in (h.0, h.1, ap (λ (v : Vec ℕ Global). v.items) (sym same) ∙ h.2)
 
-pub row_text_is : (rows : List (List (List ℕ))) (fields : List (List ℕ)) (text : List ℕ) → rows ≡ fields ∷ [] → text ≡ row_line fields → rows_text rows ≡ text
-row_text_is rows fields text is made = ap rows_text is ∙ append-nil (row_line fields) ∙ sym made
+pub row_text_is : (rows : List (List (List ℕ))) (fields : List (List ℕ)) (text : List ℕ) → rows ≡ fields ∷ [] → text ≡ record_line fields → records_text rows ≡ text
+row_text_is rows fields text is made = ap records_text is ∙ append-nil (record_line fields) ∙ sym made
 
 -- ---- two lists
 
@@ -98,8 +98,8 @@ stems_end : (w : List ℕ) (ws : List (List ℕ)) → ending (w ∷ ws) [] ≡ S
 unfolding ending
 stems_end w ws = refl
 
-texts : (xs ys : List (List (List ℕ))) → rows_text (xs ++ ys) ≡ rows_text xs ++ rows_text ys
-texts xs ys = flat_map-append row_line xs ys
+texts : (xs ys : List (List (List ℕ))) → records_text (xs ++ ys) ≡ records_text xs ++ records_text ys
+texts xs ys = flat_map-append record_line xs ys
 
 pub compared_first : (script : Source) (words expected : List ℕ) (held : Option (List ℕ)) → Compared script words expected words expected 1 0 held held
 compared_first script words expected held = record { done = []; rows = refl; ends = refl; found_is = refl; text = Appends-nil held }
@@ -109,14 +109,14 @@ module _ {script : Source} {words expected words_left expected_left : List ℕ} 
   -- the rows of the lines that are left end here, with this ending
   ends_here : (o : Option ServeFault) → differences script n (lines_of words_left) (lines_of expected_left) ≡ [] → ending (lines_of words_left) (lines_of expected_left) ≡ o
       → (ending (lines_of words) (lines_of expected) ≡ o) × (found ≡ length (all_differences script words expected))
-      × Appends held h (rows_text (all_differences script words expected))
+      × Appends held h (records_text (all_differences script words expected))
   ends_here o none end =
       let all : so.done ≡ all_differences script words expected = sym (append-nil so.done) ∙ ap (λ (r : List (List (List ℕ))). so.done ++ r) (sym none) ∙ sym so.rows in
-      (so.ends ∙ end, so.found_is ∙ ap length all, subst (λ (r : List (List (List ℕ))). Appends held h (rows_text r)) all so.text)
+      (so.ends ∙ end, so.found_is ∙ ap length all, subst (λ (r : List (List (List ℕ))). Appends held h (records_text r)) all so.text)
 
   pub compared_all : lines_of words_left ≡ [] → lines_of expected_left ≡ []
       → (ending (lines_of words) (lines_of expected) ≡ None) × (found ≡ length (all_differences script words expected))
-      × Appends held h (rows_text (all_differences script words expected))
+      × Appends held h (records_text (all_differences script words expected))
   compared_all no_word no_stem = ends_here None (rw (no_word, no_stem) (no_words script n [])) (rw (no_word, no_stem) both_end)
 
   pub fewer_words : (e : List ℕ) (es : List (List ℕ)) → lines_of words_left ≡ [] → lines_of expected_left ≡ e ∷ es → IsChecked script words expected held h (Err fault.LengthsDiffer)
@@ -130,7 +130,7 @@ module _ {script : Source} {words expected words_left expected_left : List ℕ} 
       (end.0, end.2)
 
   pub compared_more : (w e words_after expected_after : List ℕ) (k : ℕ) (new : Option (List ℕ)) → lines_of words_left ≡ w ∷ lines_of words_after → lines_of expected_left ≡ e ∷ lines_of expected_after
-      → pair_fault w e ≡ None → length (difference script n w e) ≡ k → Appends h new (rows_text (difference script n w e))
+      → pair_fault w e ≡ None → length (difference script n w e) ≡ k → Appends h new (records_text (difference script n w e))
       → Compared script words expected words_after expected_after (n + 1) (found + k) held new
   compared_more w e words_after expected_after k new word stem none count writes = record {
     done = so.done ++ difference script n w e;
@@ -163,25 +163,25 @@ module _ {script : Source} {words expected words_left expected_left : List ℕ} 
     (so : Compared script words expected words_left expected_left n found held h) (w e : List ℕ) (ws es : List (List ℕ))
     (word : lines_of words_left ≡ w ∷ ws) (stem : lines_of expected_left ≡ e ∷ es) (new : Option (List ℕ)) where
   -- a front of the row in hand was written
-  breaks_off : (k : ℕ) → pair_fault w e ≡ None → Appends h new (take k (rows_text (difference script n w e)))
-      → (m : ℕ) × Appends held new (take m (rows_text (all_differences script words expected)))
+  breaks_off : (k : ℕ) → pair_fault w e ≡ None → Appends h new (take k (records_text (difference script n w e)))
+      → (m : ℕ) × Appends held new (take m (records_text (all_differences script words expected)))
   breaks_off k none writes =
       let d = difference script n w e in
       let rest = differences script (n + 1) ws es in
       let all : all_differences script words expected ≡ so.done ++ (d ++ rest) =
       so.rows ∙ ap (λ (r : List (List (List ℕ))). so.done ++ r) (rw (word, stem) (one_step script n w e ws es none)) in
-      let text : rows_text (all_differences script words expected) ≡ rows_text so.done ++ (rows_text d ++ rows_text rest) =
-      ap rows_text all ∙ texts so.done (d ++ rest) ∙ ap (λ (t : List ℕ). rows_text so.done ++ t) (texts d rest) in
-      let front = front_after (rows_text so.done) (take k (rows_text d)) (rows_text d ++ rows_text rest) (front_of (rows_text d) (rows_text rest) k) in
+      let text : records_text (all_differences script words expected) ≡ records_text so.done ++ (records_text d ++ records_text rest) =
+      ap records_text all ∙ texts so.done (d ++ rest) ∙ ap (λ (t : List ℕ). records_text so.done ++ t) (texts d rest) in
+      let front = front_after (records_text so.done) (take k (records_text d)) (records_text d ++ records_text rest) (front_of (records_text d) (records_text rest) k) in
       (front.0, subst (λ (t : List ℕ). Appends held new t) (sym front.1 ∙ ap (take front.0) (sym text)) (Appends-trans held h new _ _ so.text writes))
 
   -- nothing was written, and the lines have this fault
   refused_at : (f : ServeFault) → pair_fault w e ≡ Some f → Appends h new []
-      → (ending (lines_of words) (lines_of expected) ≡ Some f) × Appends held new (rows_text (all_differences script words expected))
+      → (ending (lines_of words) (lines_of expected) ≡ Some f) × Appends held new (records_text (all_differences script words expected))
   refused_at f some writes =
       let all : so.done ≡ all_differences script words expected =
       sym (append-nil so.done) ∙ ap (λ (r : List (List (List ℕ))). so.done ++ r) (sym (rw (word, stem) (no_step script n w e ws es f some))) ∙ sym so.rows in
-      let text : rows_text so.done ++ [] ≡ rows_text (all_differences script words expected) = append-nil (rows_text so.done) ∙ ap rows_text all in
+      let text : records_text so.done ++ [] ≡ records_text (all_differences script words expected) = append-nil (records_text so.done) ∙ ap records_text all in
       (so.ends ∙ rw (word, stem) (stops_at w e ws es f some), subst (λ (t : List ℕ). Appends held new t) text (Appends-trans held h new _ _ so.text writes))
 
   pub compared_fails : (f : ServeFault) → ComparesPair script n w e h new (Err f) → IsChecked script words expected held new (Err f)

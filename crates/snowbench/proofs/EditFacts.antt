@@ -1,60 +1,87 @@
 -- What an edit answers, as a session answers it.
-use Rattle.std.proofs.Common.{◌≡◌, ◌∙◌, ◌≤◌, ◌<◌, ℕ, Bool, true, false, List, [], ◌∷◌, length, take, min, Option, Some, None, Result, Ok, Err, refl, sym, ap, subst, arith, nat_lt, length-take}
+use Rattle.std.proofs.Common.{codes, if◌then◌else◌, ◌≡◌, ◌⊎◌, inl, inr, ◌∙◌, ◌≤◌, ◌<◌, ◌+◌, ℕ, Bool, true, false, List, [], ◌∷◌, length, take, Option, Some, None, Result, Ok, Err, refl, sym, ap, subst, arith, nat_lt, length-take}
 use Rattle.std.proofs.lemmas.Bool.Decides.{nat_tests}
 use Rattle.std.proofs.lemmas.Grind.{common_steps}
+use Rattle.std.proofs.lemmas.Str.{IsUtf8-from_is_utf8, chars-encodes, length-le-encodes}
+use Rattle.std.specs.Str.{IsUtf8, chars, is_utf8}
 use Rattle.sbl_bench.specs.State.{State}
-use Rattle.sbl_bench.specs.Edits.{Edit, Edits, Add, refusal, refusal_of_add, or_meter, verdict, edited, counted, runs_needed}
+use Rattle.sbl_bench.specs.Edits.{Edit, Edits, Add, Routine, IsAccepted, IsBrokenOff, IsMeterFull, IsOutOfMemory, IsRefused, IsVerdict, PassesTests, counted, refusal_of_add}
 use Rattle.sbl_bench.specs.declared.fault.EditFault.{EditFault}
 use Rattle.sbl_bench.specs.declared.fault.EditFault.TheVariants as fault
-use Rattle.snowbench.specs.Answers.{Memory, Enough, RefusedAfter, answer_to, edit_text, memory_first, accepted, state_after_edit}
+use Rattle.sbl_text.specs.declared.fault.ScriptFault.{ScriptFault}
+use Rattle.sbl_text.specs.declared.fault.ScriptFault.TheVariants as script
+use Rattle.snowbench.specs.Answers.{BlockRefused, Enough, RefusedAfter, edit_text, ended}
+use Rattle.snowbench.specs.Block.{HasText, made_text, most_bytes}
+use Rattle.snowbench.specs.CommandViews.{IsEditAnswer, IsTextAnswer}
+use Rattle.snowbench.specs.Commands.{Command, block_command, text_of_block, with_text}
 use Rattle.snowbench.specs.Edits.{fault_in}
+use Rattle.snowbench.specs.Words.{argument}
 
-abbrev pub IsAnswered : Result (Unit {0}) EditFault → State → Edit → State → Type 0
-IsAnswered r s e t = (memory : Memory) × (edit_text (fault_in r) ≡ edit_text (answer_to s e memory)) × (t ≡ state_after_edit s e memory)
-
--- what is answered says what the bench is after it
-by_verdict : (r : Result (Unit {0}) EditFault) (s t : State) (e : Edit) → verdict s e ≡ fault_in r
-    → t ≡ accepted (fault_in r) (edited s e) s → IsAnswered r s e t
-by_verdict r s t e is same =
-    (Enough, ap edit_text (sym is), same ∙ sym (ap (λ (v : Option EditFault). accepted v (edited s e) s) is))
-
--- where memory was refused after some of the runs
-by_memory : (s t : State) (e : Edit) (n : ℕ) → refusal s e ≡ None → n ≤ runs_needed s e → t ≡ counted n s → IsAnswered (Err fault.OutOfMemory) s e t
-by_memory s t e n free few same = (
-  RefusedAfter n,
-  ap (λ (v : Option EditFault). edit_text (memory_first v)) (sym free),
-  same ∙ ap (λ (k : ℕ). counted k s) (sym least) ∙ ap (λ (v : Option EditFault). accepted v (counted (min n (runs_needed s e)) s) s) (sym free),
-)
+-- where memory was refused
+out_of_memory : (s t : State) (e : Edit) → IsOutOfMemory s e t → IsEditAnswer s e (edit_text (Some fault.OutOfMemory)) t
+out_of_memory s t e h = by h.is
   where
-    least : min n (runs_needed s e) ≡ n
-    least = omega (arith, few)
+    none_more : s.count ≡ s.count + 0
+    none_more = omega arith
 
-pub answered : (r : Result (Unit {0}) EditFault) (s t : State) (e : Edit) → Edits r s e t → IsAnswered r s e t
-answered (Ok u) s t e h = by_verdict (Ok u) s t e h.0 h.1
-answered (Err fault.OutOfMemory) s t e h = by_memory s t e h.2.0 h.1 h.2.1 h.2.2
-answered (Err fault.Present) s t e h = by_verdict (Err fault.Present) s t e h.0 h.1
-answered (Err fault.Absent) s t e h = by_verdict (Err fault.Absent) s t e h.0 h.1
-answered (Err fault.EmptyWord) s t e h = by_verdict (Err fault.EmptyWord) s t e h.0 h.1
-answered (Err fault.WordTooLong) s t e h = by_verdict (Err fault.WordTooLong) s t e h.0 h.1
-answered (Err fault.Full) s t e h = by_verdict (Err fault.Full) s t e h.0 h.1
-answered (Err fault.MeterFull) s t e h = by_verdict (Err fault.MeterFull) s t e h.0 h.1
+    by : (PassesTests s e × (t ≡ s)) ⊎ IsBrokenOff s e t → IsEditAnswer s e (edit_text (Some fault.OutOfMemory)) t
+    by (inl p) = (RefusedAfter 0, (Some fault.OutOfMemory, (refl, p.1 ∙ ap (λ (k : ℕ). record s { count = k }) none_more, h), refl))
+    by (inr b) = (RefusedAfter b.runs, (Some fault.OutOfMemory, (refl, b.is, h), refl))
+
+pub answered : (r : Result (Unit {0}) EditFault) (s t : State) (e : Edit) → Edits r s e t → IsEditAnswer s e (edit_text (fault_in r)) t
+answered (Ok u) s t e h = (Enough, (None, h, refl))
+answered (Err fault.OutOfMemory) s t e h = out_of_memory s t e h
+answered (Err fault.Present) s t e h = (Enough, (Some fault.Present, h, refl))
+answered (Err fault.Absent) s t e h = (Enough, (Some fault.Absent, h, refl))
+answered (Err fault.EmptyWord) s t e h = (Enough, (Some fault.EmptyWord, h, refl))
+answered (Err fault.WordTooLong) s t e h = (Enough, (Some fault.WordTooLong, h, refl))
+answered (Err fault.Full) s t e h = (Enough, (Some fault.Full, h, refl))
+answered (Err fault.NoRoutine) s t e h = (Enough, (Some fault.NoRoutine, h, refl))
+answered (Err fault.NoAmong) s t e h = (Enough, (Some fault.NoAmong, h, refl))
+answered (Err fault.AmongCount) s t e h = (Enough, (Some fault.AmongCount, h, refl))
+answered (Err (fault.Script f)) s t e h = (Enough, (Some (fault.Script f), h, refl))
+answered (Err fault.MeterFull) s t e h = (Enough, (Some fault.MeterFull, h, refl))
+
+-- ---- a word that is added, by its first characters
 
 -- a word of more than 255 characters is refused for that
 too_long : (s : State) (word : List ℕ) → 255 < length word → refusal_of_add s word ≡ Some fault.WordTooLong
 too_long s [] long = absurd (omega arith)
 too_long s (c ∷ word) long = let test : nat_lt 255 (length (c ∷ word)) ≡ true = grind (arith, nat_tests) in rw test refl
 
--- an edit that is refused so is refused so whatever runs it would need
+not_accepted : (s t : State) (word : List ℕ) → refusal_of_add s word ≡ Some fault.WordTooLong → IsAccepted s (Add word) t → ⊥
+not_accepted s t word f h = let none : Some fault.WordTooLong ≡ None = sym f ∙ h.after.0 in cc none
+
+-- a refusal for one word that is too long is one for another
+verdict_long : (s t : State) (word cut : List ℕ) (f : EditFault) → refusal_of_add s word ≡ Some fault.WordTooLong
+    → refusal_of_add s cut ≡ Some fault.WordTooLong → IsVerdict s (Add cut) (Some f) t → IsVerdict s (Add word) (Some f) t
+verdict_long s t word cut f long short h = by h.0
+  where
+    by : IsRefused s (Add cut) f ⊎ IsMeterFull s (Add cut) f → IsVerdict s (Add word) (Some f) t
+    by (inl is) = (inl (long ∙ sym short ∙ is), h.1)
+    by (inr m) = let none : Some fault.WordTooLong ≡ None = sym short ∙ m.after.0 in absurd (cc none)
+
+not_for_memory : (s t : State) (cut : List ℕ) → refusal_of_add s cut ≡ Some fault.WordTooLong → IsOutOfMemory s (Add cut) t → ⊥
+not_for_memory s t cut short h = by h.is
+  where
+    by : (PassesTests s (Add cut) × (t ≡ s)) ⊎ IsBrokenOff s (Add cut) t → ⊥
+    by (inl p) = let no : false ≡ true = p.0 fault.WordTooLong short in cc no
+    by (inr b) = not_accepted s b.made cut short b.accepted
+
 refused_long : (r : Result (Unit {0}) EditFault) (s t : State) (word cut : List ℕ) → refusal_of_add s word ≡ Some fault.WordTooLong
     → refusal_of_add s cut ≡ Some fault.WordTooLong → Edits r s (Add cut) t → Edits r s (Add word) t
-refused_long (Ok u) s t word cut e f h = let none : Some fault.WordTooLong ≡ None = sym (ap (or_meter s.count (runs_needed s (Add cut))) f) ∙ h.0 in absurd (cc none)
-refused_long (Err fault.OutOfMemory) s t word cut e f h = let none : Some fault.WordTooLong ≡ None = sym f ∙ h.1 in absurd (cc none)
-refused_long (Err fault.Present) s t word cut e f h = (ap (or_meter s.count (runs_needed s (Add word))) e ∙ sym (ap (or_meter s.count (runs_needed s (Add cut))) f) ∙ h.0, h.1)
-refused_long (Err fault.Absent) s t word cut e f h = (ap (or_meter s.count (runs_needed s (Add word))) e ∙ sym (ap (or_meter s.count (runs_needed s (Add cut))) f) ∙ h.0, h.1)
-refused_long (Err fault.EmptyWord) s t word cut e f h = (ap (or_meter s.count (runs_needed s (Add word))) e ∙ sym (ap (or_meter s.count (runs_needed s (Add cut))) f) ∙ h.0, h.1)
-refused_long (Err fault.WordTooLong) s t word cut e f h = (ap (or_meter s.count (runs_needed s (Add word))) e ∙ sym (ap (or_meter s.count (runs_needed s (Add cut))) f) ∙ h.0, h.1)
-refused_long (Err fault.Full) s t word cut e f h = (ap (or_meter s.count (runs_needed s (Add word))) e ∙ sym (ap (or_meter s.count (runs_needed s (Add cut))) f) ∙ h.0, h.1)
-refused_long (Err fault.MeterFull) s t word cut e f h = (ap (or_meter s.count (runs_needed s (Add word))) e ∙ sym (ap (or_meter s.count (runs_needed s (Add cut))) f) ∙ h.0, h.1)
+refused_long (Ok u) s t word cut long short h = absurd (not_accepted s t cut short h)
+refused_long (Err fault.OutOfMemory) s t word cut long short h = absurd (not_for_memory s t cut short h)
+refused_long (Err fault.Present) s t word cut long short h = verdict_long s t word cut fault.Present long short h
+refused_long (Err fault.Absent) s t word cut long short h = verdict_long s t word cut fault.Absent long short h
+refused_long (Err fault.EmptyWord) s t word cut long short h = verdict_long s t word cut fault.EmptyWord long short h
+refused_long (Err fault.WordTooLong) s t word cut long short h = verdict_long s t word cut fault.WordTooLong long short h
+refused_long (Err fault.Full) s t word cut long short h = verdict_long s t word cut fault.Full long short h
+refused_long (Err fault.NoRoutine) s t word cut long short h = verdict_long s t word cut fault.NoRoutine long short h
+refused_long (Err fault.NoAmong) s t word cut long short h = verdict_long s t word cut fault.NoAmong long short h
+refused_long (Err fault.AmongCount) s t word cut long short h = verdict_long s t word cut fault.AmongCount long short h
+refused_long (Err (fault.Script f)) s t word cut long short h = verdict_long s t word cut (fault.Script f) long short h
+refused_long (Err fault.MeterFull) s t word cut long short h = verdict_long s t word cut fault.MeterFull long short h
 
 all_of : (n : ℕ) (xs : List ℕ) → length xs ≤ n → take n xs ≡ xs
 all_of n xs h = grind (arith, common_steps)
@@ -72,3 +99,76 @@ by_first r s t word h = by (nat_lt 256 (length word)) refl
         let short : length word ≤ 256 = grind (arith, nat_tests) in
         let whole : take 256 word ≡ word = all_of 256 word short in
         subst (λ (w : List ℕ). Edits r s (Add w) t) whole h
+
+-- ---- the characters of a line
+
+-- a text has no more characters than bytes
+chars_fit : (bytes : List ℕ) → IsUtf8 bytes → length (chars bytes) ≤ length bytes
+chars_fit bytes valid =
+    let x = valid.0 in
+    let same : chars bytes ≡ x = rw (← valid.1.1) (chars-encodes x valid.1.0) in
+    let bound = length-le-encodes x in
+    rw (same, ← valid.1.1) bound
+
+-- so many of them are all
+pub all_chars : (n : ℕ) (bytes : List ℕ) → IsUtf8 bytes → length bytes ≤ n → take n (chars bytes) ≡ chars bytes
+all_chars n bytes valid few = let fit : length (chars bytes) ≤ length bytes = chars_fit bytes valid in all_of n (chars bytes) (omega (arith, fit, few))
+
+-- ---- an edit of the script
+
+-- the text of a block that is one
+text_is : (lines : List (List ℕ)) → length (made_text lines) ≤ most_bytes → (b : Bool) → is_utf8 (made_text lines) ≡ b
+    → text_of_block lines ≡ (if b then Ok (made_text lines) else Err script.NotUtf8)
+text_is lines few b is = let test : nat_lt most_bytes (length (made_text lines)) ≡ false = grind (arith, nat_tests) in rw (test, is) refl
+
+text_long : (lines : List (List ℕ)) → most_bytes < length (made_text lines) → text_of_block lines ≡ Err script.ScriptTooLong
+text_long lines long = let test : nat_lt most_bytes (length (made_text lines)) ≡ true = grind (arith, nat_tests) in rw test refl
+
+command_is : (line : List ℕ) (lines : List (List ℕ)) → is_utf8 line ≡ true → block_command line lines ≡ with_text (Routine (argument line)) (text_of_block lines)
+command_is line lines utf8 = rw utf8 refl
+
+-- the line is no text, whatever its block is
+pub bad_line : (s : State) (line : List ℕ) (lines : List (List ℕ)) → is_utf8 line ≡ false → IsTextAnswer s (block_command line lines) (ended (codes "no 52 BadCommand")) s
+bad_line s line lines bytes = rw bytes (Enough, (refl, refl))
+
+-- the block is too long
+pub block_too_long : (s : State) (line : List ℕ) (lines : List (List ℕ)) → is_utf8 line ≡ true → most_bytes < length (made_text lines)
+    → IsTextAnswer s (block_command line lines) (edit_text (Some (fault.Script script.ScriptTooLong))) s
+block_too_long s line lines utf8 long =
+    subst (λ (c : Command). IsTextAnswer s c (edit_text (Some (fault.Script script.ScriptTooLong))) s)
+    (sym (command_is line lines utf8 ∙ ap (with_text (Routine (argument line))) (text_long lines long))) (Enough, (refl, refl))
+
+-- the memory of the block was refused
+pub block_refused : (s : State) (line : List ℕ) (lines : List (List ℕ)) → is_utf8 line ≡ true → IsTextAnswer s (block_command line lines) (edit_text (Some fault.OutOfMemory)) s
+block_refused s line lines utf8 =
+    subst (λ (c : Command). IsTextAnswer s c (edit_text (Some fault.OutOfMemory)) s) (sym (command_is line lines utf8)) (by (text_of_block lines))
+  where
+    by : (r : Result (List ℕ) ScriptFault) → IsTextAnswer s (with_text (Routine (argument line)) r) (edit_text (Some fault.OutOfMemory)) s
+    by (Ok text) = (BlockRefused, (Some fault.OutOfMemory, (refl, refl, refl), refl))
+    by (Err f) = (BlockRefused, (refl, refl))
+
+-- the block is held: it is a text, or it is not UTF-8
+pub block_held : (s t : State) (line bytes answer : List ℕ) (lines : List (List ℕ)) → is_utf8 line ≡ true → HasText None bytes lines
+    → (is_utf8 bytes ≡ true → IsEditAnswer s (Routine (argument line) bytes) answer t)
+    → (is_utf8 bytes ≡ false → (answer ≡ edit_text (Some (fault.Script script.NotUtf8))) × (t ≡ s)) → IsTextAnswer s (block_command line lines) answer t
+block_held s t line bytes answer lines utf8 holds text bad = by (is_utf8 bytes) refl
+  where
+    same : (b : Bool) → is_utf8 bytes ≡ b → is_utf8 (made_text lines) ≡ b
+    same b is = ap is_utf8 (sym holds.0) ∙ is
+
+    by : (b : Bool) → is_utf8 bytes ≡ b → IsTextAnswer s (block_command line lines) answer t
+    by true is =
+        subst (λ (c : Command). IsTextAnswer s c answer t)
+        (sym (command_is line lines utf8 ∙ ap (with_text (Routine (argument line))) (text_is lines holds.1 true (same true is) ∙ ap Ok (sym holds.0)))) (text is)
+    by false is =
+        let refused = bad is in
+        subst (λ (c : Command). IsTextAnswer s c answer t)
+        (sym (command_is line lines utf8 ∙ ap (with_text (Routine (argument line))) (text_is lines holds.1 false (same false is)))) (Enough, (refused.0, refused.1))
+
+-- bytes that are no text
+pub not_text : (bytes : List ℕ) → ¬ (IsUtf8 bytes) → is_utf8 bytes ≡ false
+not_text bytes none = by (is_utf8 bytes) refl
+  where
+    by : (t : Bool) → is_utf8 bytes ≡ t → is_utf8 bytes ≡ false
+    by true e = absurd (none (IsUtf8-from_is_utf8 bytes e))
+    by false e = e

@@ -1,108 +1,153 @@
--- A session goes on line by line.
-use Rattle.std.proofs.Common.{map, ◌≡◌, ◌∙◌, ◌++◌, ◌≤◌, ℕ, List, [], ◌∷◌, Option, Some, None, Ok, Err, refl, take, sym, ap, subst, append_assoc, arith, length, length-append}
+-- A session goes on request by request.
+use Rattle.std.proofs.Common.{◌⊎◌, Bool, true, false, ◌≡◌, ◌∙◌, ◌++◌, ◌≤◌, ℕ, List, [], ◌∷◌, Option, Some, None, Ok, Err, refl, take, sym, ap, subst, append_assoc, arith, length}
 use Rattle.std.proofs.lemmas.List.{append-nil}
-use Rattle.std.specs.Io.KnownBytes.{Appends, IsAtEnd}
+use Rattle.std.proofs.lemmas.List.Elements.{All-append}
+use Rattle.std.proofs.lemmas.Grind.{flat_map-append}
+use Rattle.std.specs.Io.KnownBytes.{Appends, IsAtEnd, Keeps}
 use Rattle.std.proofs.KnownBytes.{Appends-nil, Appends-trans}
 use Rattle.sbl_bench.specs.State.{State}
-use Rattle.snowbench.specs.Answers.{Memory, answers, reply_of, state_after, state_after_all}
-use Rattle.snowbench.specs.Held.{AllFit, BeginsLong, BreaksOff, GivesLine}
-use Rattle.snowbench.specs.LinesOf.{chomped, lines_of}
+use Rattle.snowbench.specs.Answers.{Answers, IsReplyTo, Memory}
+use Rattle.snowbench.specs.Block.{BlockLines, Breaks, HoldsText, ReadsBlock, point}
+use Rattle.snowbench.specs.CommandViews.{IsAnswer, IsAnswered, IsReply, IsTextAnswer}
+use Rattle.snowbench.specs.Commands.{block_command, command_of, line_command}
+use Rattle.snowbench.specs.Held.{AllFit, BeginsLong, BreaksOff, GivesLine, Took}
+use Rattle.snowbench.specs.Requests.{HasBlock, IsBegun, IsOpen, IsRequest, Request, TookRequests, asks_block, block_lines, lines_in, lines_in_all}
 use Rattle.snowbench.specs.Session.{Answered, HalfAnswered, IsSession, SoFar}
+use Rattle.snowbench.specs.declared.block_text.BlockText.{BlockText}
+use Rattle.snowbench.specs.Faults.{serve_fault_of}
+use Rattle.snowbench.specs.declared.faults.LineFault.{LineFault}
+use Rattle.snowbench.specs.declared.faults.LineFault.TheVariants as read
+use Rattle.snowbench.specs.declared.faults.ServeFault.{ServeFault}
 use Rattle.snowbench.specs.declared.faults.ServeFault.TheVariants as fault
-use Rattle.snowbench.proofs.Bytes.{no_lines}
+use Rattle.snowbench.specs.declared.replies.Reply.{Reply}
+use Rattle.snowbench.proofs.BlockFacts.{all_fit-append, all_fit-push, broken}
+use Rattle.snowbench.proofs.Bytes.{took-kept, took-none, took-trans}
 
-more_answers : (s : State) (done : List (List ℕ)) (line : List ℕ) (m : List Memory) (r : Memory) → length m ≡ length done
-    → answers s (done ++ line ∷ []) (m ++ r ∷ []) ≡ answers s done m ++ reply_of (state_after_all s done m) line r
-unfolding answers state_after_all
-more_answers s [] line [] r e = append-nil (reply_of s line r)
-more_answers s [] line (q ∷ m) r e = absurd (omega arith)
-more_answers s (l ∷ done) line [] r e = absurd (omega arith)
-more_answers s (l ∷ done) line (q ∷ m) r e =
-    ap (λ (x : List ℕ). reply_of s l q ++ x) (more_answers (state_after s l q) done line m r (omega arith))
-    ∙ sym (append_assoc (reply_of s l q) (answers (state_after s l q) done m) _)
+-- ---- answers
 
-more_state : (s : State) (done : List (List ℕ)) (line : List ℕ) (m : List Memory) (r : Memory) → length m ≡ length done
-    → state_after_all s (done ++ line ∷ []) (m ++ r ∷ []) ≡ state_after (state_after_all s done m) line r
-unfolding state_after_all
-more_state s [] line [] r e = refl
-more_state s [] line (q ∷ m) r e = absurd (omega arith)
-more_state s (l ∷ done) line [] r e = absurd (omega arith)
-more_state s (l ∷ done) line (q ∷ m) r e = more_state (state_after s l q) done line m r (omega arith)
-
-pub all_fit-push : (lines : List (List ℕ)) (line : List ℕ) → AllFit lines → length line ≤ 65536 → AllFit (lines ++ line ∷ [])
-all_fit-push [] line h fits = (fits, tt)
-all_fit-push (l ∷ lines) line h fits = (h.0, all_fit-push lines line h.1 fits)
+more_answers : (s t u : State) (done : List Request) (r : Request) (m : List Memory) (q : Memory) (text reply : List ℕ)
+    → Answers s done m text t → IsReplyTo t (command_of r) q reply u → Answers s (done ++ r ∷ []) (m ++ q ∷ []) (text ++ reply) u
+more_answers s t u [] r [] q text reply so is =
+    (reply, u, [], subst (λ (x : State). IsReplyTo x (command_of r) q reply u) so.1 is, (refl, refl), ap (λ (x : List ℕ). x ++ reply) so.0 ∙ sym (append-nil reply))
+more_answers s t u [] r (p ∷ m) q text reply so is = absurd so
+more_answers s t u (d ∷ done) r [] q text reply so is = absurd so
+more_answers s t u (d ∷ done) r (p ∷ m) q text reply so is =
+    (so.0, so.1, so.2 ++ reply, so.3, more_answers so.1 t u done r m q so.2 reply so.4 is, ap (λ (x : List ℕ). x ++ reply) so.5 ∙ append_assoc so.0 so.2 reply)
 
 nothing_yet : (s : State) (h : Option (List ℕ)) → Answered s [] h h s
-unfolding answers state_after_all
-nothing_yet s h = record { m = []; each = refl; text = Appends-nil h; state = refl }
+nothing_yet s h = record { m = []; text = []; answers = (refl, refl); written = Appends-nil h }
+
+-- one more request was answered
+answered-more : (s t u : State) (done : List Request) (r : Request) (h i j : Option (List ℕ)) (q : Memory) (reply : List ℕ)
+    → Answered s done h i t → Appends i j reply → IsReplyTo t (command_of r) q reply u → Answered s (done ++ r ∷ []) h j u
+answered-more s t u done r h i j q reply so writes is = record {
+  m = so.m ++ q ∷ [];
+  text = so.text ++ reply;
+  answers = more_answers s t u done r so.m q so.text reply so.answers is;
+  written = Appends-trans h i j so.text reply so.written writes;
+}
+
+-- one more edit was made, and a front of its answer was written
+half-more : (s t u : State) (done : List Request) (r : Request) (h i j : Option (List ℕ)) (q : Memory) (reply : List ℕ) (n : ℕ)
+    → Answered s done h i t → Appends i j (take n reply) → IsReplyTo t (command_of r) q reply u → HalfAnswered s done r h j u
+half-more s t u done r h i j q reply n so writes is = record {
+  m = so.m;
+  text = so.text;
+  between = t;
+  answers = so.answers;
+  memory = q;
+  reply = reply;
+  is = is;
+  count = n;
+  written = Appends-trans h i j so.text (take n reply) so.written writes;
+}
+
+-- ---- requests
+
+none_taken : (a : Option (List ℕ)) → TookRequests a a []
+none_taken a = record { each = tt; fit = tt; lines = took-none a }
+
+one_more : (a b c d : Option (List ℕ)) (done : List Request) (line : List ℕ) (block : Option (List (List ℕ)))
+    → TookRequests a b done → GivesLine b c line → length line ≤ 65536 → IsRequest (record { line = line; block = block }) → AllFit (block_lines block)
+    → Took c d (block_lines block) → TookRequests a d (done ++ record { line = line; block = block } ∷ [])
+one_more a b c d done line block so gives fits formed fit took =
+    let r : Request = record { line = line; block = block } in
+    let all : lines_in_all (done ++ r ∷ []) ≡ lines_in_all done ++ lines_in r = flat_map-append lines_in done (r ∷ []) ∙ ap (λ (x : List (List ℕ)). lines_in_all done ++ x) (append-nil (lines_in r)) in
+    record {
+      each = All-append IsRequest done (r ∷ []) so.each (formed, tt);
+      fit = subst AllFit (sym all) (all_fit-append (lines_in_all done) (lines_in r) so.fit (fits, fit));
+      lines = subst (Took a d) (sym all) (took-trans a b d (lines_in_all done) (lines_in r) so.lines (took-trans b c d (line ∷ []) (block_lines block) gives took));
+    }
+
+-- ---- the session
 
 pub session_starts : (a h : Option (List ℕ)) (s : State) → SoFar a a h h s s
-session_starts None h s = ([], nothing_yet s h)
-session_starts (Some bytes) h s = ([], refl, tt, nothing_yet s h)
+session_starts a h s = ([], none_taken a, nothing_yet s h)
 
--- one more line was answered
-answered-more : (s t u : State) (done : List (List ℕ)) (line : List ℕ) (h i j : Option (List ℕ)) (r : Memory)
-    → Answered s done h i t → Appends i j (reply_of t line r) → u ≡ state_after t line r → Answered s (done ++ line ∷ []) h j u
-answered-more s t u done line h i j r so writes next = record {
-  m = so.m ++ r ∷ [];
-  each = simp length-append (omega (arith, so.each));
-  text = rw (more_answers s done line so.m r so.each) (Appends-trans h i j (answers s done so.m) (reply_of (state_after_all s done so.m) line r) so.text
-      (subst (λ (x : State). Appends i j (reply_of x line r)) so.state writes));
-  state = next ∙ ap (λ (x : State). state_after x line r) so.state ∙ sym (more_state s done line so.m r so.each);
-}
+pub session_goes_on : (a b c d h i j : Option (List ℕ)) (s t u : State) (line : List ℕ) (reply : Reply)
+    → SoFar a b h i s t → GivesLine b c line → length line ≤ 65536 → IsAnswered c d line t reply u
+    → ((text : List ℕ) → IsReply reply text → Appends i j text) → SoFar a d h j s u
+session_goes_on a b c d h i j s t u line reply so gives fits is writes = (
+  so.0 ++ record { line = line; block = is.block } ∷ [],
+  one_more a b c d so.0 line is.block so.1 gives fits is.formed is.fit is.took,
+  answered-more s t u so.0 (record { line = line; block = is.block }) h i j is.answer.0 is.answer.1 so.2 (writes is.answer.1 is.answer.2) is.answer.3,
+)
 
--- one more line was taken, and a front of its answer was written
-half-more : (s t u : State) (done : List (List ℕ)) (line : List ℕ) (h i j : Option (List ℕ)) (r : Memory) (n : ℕ)
-    → Answered s done h i t → Appends i j (take n (reply_of t line r)) → u ≡ state_after t line r → HalfAnswered s done line h j u
-half-more s t u done line h i j r n so writes next = record {
-  m = so.m;
-  each = so.each;
-  memory = r;
-  written = n;
-  text = Appends-trans h i j (answers s done so.m) (take n (reply_of (state_after_all s done so.m) line r)) so.text
-      (subst (λ (x : State). Appends i j (take n (reply_of x line r))) so.state writes);
-  state = next ∙ ap (λ (x : State). state_after x line r) so.state;
-}
+pub session_ends : (a b c h i : Option (List ℕ)) (s t : State) → SoFar a b h i s t → Keeps b c → IsAtEnd c → IsSession a c h i s t (Ok tt)
+session_ends a b c h i s t so keeps end =
+    ((so.0, record { each = so.1.each; fit = so.1.fit; lines = took-kept a b c (lines_in_all so.0) so.1.lines keeps }, so.2), end)
 
-pub session_goes_on : (a b c h i j : Option (List ℕ)) (s t u : State) (line : List ℕ) (r : Memory)
-    → SoFar a b h i s t → GivesLine b c line → length line ≤ 65536 → Appends i j (reply_of t line r) → u ≡ state_after t line r → SoFar a c h j s u
-session_goes_on None b c h i j s t u line r so gives fits writes next = (so.0 ++ line ∷ [], answered-more s t u so.0 line h i j r so.1 writes next)
-session_goes_on (Some bytes) None c h i j s t u line r so gives fits writes next = absurd so
-session_goes_on (Some bytes) (Some left) None h i j s t u line r so gives fits writes next = cc gives.1
-session_goes_on (Some bytes) (Some left) (Some rest) h i j s t u line r so gives fits writes next =
-    let same : rest ≡ gives.0 = cc gives.1 in
-    let whole : lines_of bytes ≡ (so.0 ++ line ∷ []) ++ lines_of rest =
-    so.1 ∙ ap (λ (x : List (List ℕ)). so.0 ++ x) (gives.2 ∙ ap (λ (x : List ℕ). line ∷ lines_of x) (sym same)) ∙ sym (append_assoc so.0 (line ∷ []) (lines_of rest)) in
-    (so.0 ++ line ∷ [], whole, all_fit-push so.0 line so.2 fits, answered-more s t u so.0 line h i j r so.3 writes next)
+-- where the lines have no further one
+pub session_at_line : (a b c h i : Option (List ℕ)) (s t : State) (k : Option LineFault) (part : List ℕ) (f : LineFault) → SoFar a b h i s t → k ≡ None
+    → (f ≡ read.TooLong → BeginsLong b ⊎ (k ≡ Some f)) → (f ≡ read.Read → k ≡ None → BreaksOff b c part) → IsSession a c h i s t (Err (serve_fault_of f))
+session_at_line a b c h i s t k part read.Read so none long cut = (b, so, broken IsBegun b b c k [] part read.Read tt (took-none b) none long cut)
+session_at_line a b c h i s t k part read.TooLong so none long cut = (b, so, broken IsBegun b b c k [] part read.TooLong tt (took-none b) none long cut)
 
-pub session_ends : (a b c h i : Option (List ℕ)) (s t : State) → SoFar a b h i s t → IsAtEnd b → IsSession a c h i s t (Ok tt)
-session_ends None b c h i s t so end = so
-session_ends (Some bytes) None c h i s t so end = absurd so
-session_ends (Some bytes) (Some rest) c h i s t so end =
-    let whole : lines_of bytes ≡ so.0 = so.1 ∙ ap (λ (x : List ℕ). so.0 ++ lines_of x) end ∙ ap (λ (x : List (List ℕ)). so.0 ++ x) (ap (map chomped) no_lines) ∙ append-nil so.0 in
-    (subst AllFit (sym whole) so.2, subst (λ (x : List (List ℕ)). Answered s x h i t) (sym whole) so.3)
-
--- where a line is too long
-pub session_at_long : (a b c h i : Option (List ℕ)) (s t : State) → SoFar a b h i s t → BeginsLong b → IsSession a c h i s t (Err fault.LineTooLong)
-session_at_long None b c h i s t so long = so
-session_at_long (Some bytes) None c h i s t so long = absurd so
-session_at_long (Some bytes) (Some rest) c h i s t so long =
-    (so.0, long.0, long.1, so.1 ∙ ap (λ (x : List (List ℕ)). so.0 ++ x) long.2, so.2, long.3, so.3)
-
--- where a line was broken off by the reader
-pub session_at_read : (a b c h i : Option (List ℕ)) (s t : State) (front : List ℕ) → SoFar a b h i s t → BreaksOff b c front → IsSession a c h i s t (Err fault.Read)
-session_at_read None b c h i s t front so cut = so
-session_at_read (Some bytes) None c h i s t front so cut = absurd so
-session_at_read (Some bytes) (Some rest) None h i s t front so cut = absurd cut.0
-session_at_read (Some bytes) (Some rest) (Some left) h i s t front so cut =
-    (so.0, front, left, refl, cut.1, so.1 ∙ ap (λ (x : List ℕ). so.0 ++ lines_of x) cut.0, so.2, so.3)
+-- where a block has no end
+pub session_open : (a b c d h i : Option (List ℕ)) (s t : State) (line : List ℕ) (f : ServeFault) → SoFar a b h i s t → GivesLine b c line → length line ≤ 65536
+    → asks_block line ≡ true → Breaks BlockLines c d f → IsSession a d h i s t (Err f)
+session_open a b c d h i s t line fault.Read so gives fits asks breaks =
+    (b, so, (line ∷ breaks.0, breaks.1, breaks.2, (asks, fits, breaks.3), took-trans b c breaks.1 (line ∷ []) breaks.0 gives breaks.4, breaks.5))
+session_open a b c d h i s t line fault.LineTooLong so gives fits asks breaks =
+    (b, so, (line ∷ breaks.0, breaks.1, (asks, fits, breaks.2), took-trans b c breaks.1 (line ∷ []) breaks.0 gives breaks.3, breaks.4))
+session_open a b c d h i s t line fault.Cut so gives fits asks breaks =
+    (b, so, (line ∷ breaks.0, (asks, fits, breaks.1), took-trans b c d (line ∷ []) breaks.0 gives breaks.2, breaks.3))
+session_open a b c d h i s t line fault.Write so gives fits asks breaks = absurd breaks
+session_open a b c d h i s t line fault.NotText so gives fits asks breaks = absurd breaks
+session_open a b c d h i s t line fault.OutOfMemory so gives fits asks breaks = absurd breaks
 
 -- where an answer was broken off by the writer
-pub session_at_write : (a b c h i j : Option (List ℕ)) (s t u : State) (line : List ℕ) (r : Memory) (n : ℕ)
-    → SoFar a b h i s t → GivesLine b c line → length line ≤ 65536 → Appends i j (take n (reply_of t line r)) → u ≡ state_after t line r
-    → IsSession a c h j s u (Err fault.Write)
-session_at_write None b c h i j s t u line r n so gives fits writes next = (so.0, line, half-more s t u so.0 line h i j r n so.1 writes next)
-session_at_write (Some bytes) None c h i j s t u line r n so gives fits writes next = absurd so
-session_at_write (Some bytes) (Some left) c h i j s t u line r n so gives fits writes next =
-    (so.0, line, gives.0, gives.1, so.1 ∙ ap (λ (x : List (List ℕ)). so.0 ++ x) gives.2, so.2, fits, half-more s t u so.0 line h i j r n so.3 writes next)
+pub session_at_write : (a b c d h i j : Option (List ℕ)) (s t u : State) (line : List ℕ) (reply : Reply) (n : ℕ)
+    → SoFar a b h i s t → GivesLine b c line → length line ≤ 65536 → IsAnswered c d line t reply u
+    → ((text : List ℕ) → IsReply reply text → Appends i j (take n text)) → IsSession a d h j s u (Err fault.Write)
+session_at_write a b c d h i j s t u line reply n so gives fits is writes = (
+  so.0,
+  record { line = line; block = is.block },
+  one_more a b c d so.0 line is.block so.1 gives fits is.formed is.fit is.took,
+  half-more s t u so.0 (record { line = line; block = is.block }) h i j is.answer.0 is.answer.1 n so.2 (writes is.answer.1 is.answer.2) is.answer.3,
+)
+
+-- ---- the answer to a request
+
+-- a line that asks for no block
+pub answered_line : (a : Option (List ℕ)) (line : List ℕ) (s t : State) (reply : Reply) → asks_block line ≡ false → IsAnswer s (line_command line) reply t → IsAnswered a a line s reply t
+answered_line a line s t reply asks is = record {
+  block = None;
+  formed = subst (λ (b : Bool). HasBlock b None) (sym asks) tt;
+  fit = tt;
+  took = took-none a;
+  answer = is;
+}
+
+-- a line that asks for one
+pub answered_block : (a b : Option (List ℕ)) (line : List ℕ) (s t : State) (block : BlockText) (text : List ℕ) (reply : Reply) → asks_block line ≡ true → ReadsBlock a b (Ok block)
+    → ((lines : List (List ℕ)) → HoldsText block lines → IsTextAnswer s (block_command line lines) text t) → IsReply reply text → IsAnswered a b line s reply t
+answered_block a b line s t block text reply asks reads is shown =
+    let answer = is reads.0 reads.2 in
+    record {
+      block = Some reads.0;
+      formed = subst (λ (b : Bool). HasBlock b (Some reads.0)) (sym asks) reads.1.0.0;
+      fit = all_fit-push reads.0 point reads.1.0.1 (omega arith);
+      took = reads.1.1;
+      answer = (answer.0, text, shown, answer.1);
+    }

@@ -1,12 +1,13 @@
--- The answers of a session to its lines.
-use Rattle.std.specs.Prelude.{ℕ, List, [], ◌∷◌, ◌++◌, codes, min, Option, Some, None}
+-- The answers of a session to its requests.
+use Rattle.std.specs.Prelude.{◌≡◌, ℕ, true, List, [], ◌∷◌, ◌++◌, codes, Option, Some, None, ⊤}
 use Rattle.sbl_bench.specs.State.{State}
-use Rattle.sbl_bench.specs.Edits as edits
-use Rattle.sbl_bench.specs.Edits.{Edit, refusal, verdict, edited, counted, runs_needed}
+use Rattle.sbl_bench.specs.Edits.{Edit, IsOutOfMemory, IsVerdict, counted, is_of_script}
+use Rattle.sbl_bench.specs.Names.{script_name}
 use Rattle.sbl_bench.specs.declared.fault.EditFault.{EditFault}
 use Rattle.sbl_bench.specs.declared.fault.EditFault.TheVariants as fault
-use Rattle.snowbench.specs.Commands.{Command, Nothing, Add, Stems, Bad, command_of}
-use Rattle.snowbench.specs.Rows.{stems_text}
+use Rattle.snowbench.specs.Commands.{Command, Nothing, Makes, Stems, Classes, Class, HasNoText, Bad, command_of}
+use Rattle.snowbench.specs.Requests.{Request}
+use Rattle.snowbench.specs.Rows.{class_text, classes_text, stems_text}
 
 -- a text and the line feed that ends it
 abbrev pub ended : List ℕ → List ℕ
@@ -20,69 +21,63 @@ edit_text (Some fault.Absent) = ended (codes "no 41 Absent")
 edit_text (Some fault.EmptyWord) = ended (codes "no 42 EmptyWord")
 edit_text (Some fault.WordTooLong) = ended (codes "no 43 WordTooLong")
 edit_text (Some fault.Full) = ended (codes "no 44 Full")
+edit_text (Some fault.NoRoutine) = ended (codes "no 45 NoRoutine")
+edit_text (Some fault.NoAmong) = ended (codes "no 46 NoAmong")
+edit_text (Some fault.AmongCount) = ended (codes "no 47 AmongCount")
+edit_text (Some (fault.Script f)) = ended (codes "no 48 " ++ script_name f)
 edit_text (Some fault.OutOfMemory) = ended (codes "no 49 OutOfMemory")
 edit_text (Some fault.MeterFull) = ended (codes "no 50 MeterFull")
 
--- Whether the memory of an edit or a report sufficed, or was refused after so many of the runs that the edit needs.
+-- Whether the memory of a request sufficed; or that of its block was refused; or that of its edit or report, after so many of
+-- the runs that the edit needs.
 pub data Memory : Type 0 where
   Enough : Memory
+  BlockRefused : Memory
   RefusedAfter : ℕ → Memory
 
--- An edit whose memory was refused is answered so, unless the edit is refused already.
-abbrev pub memory_first : Option EditFault → Option EditFault
-memory_first (Some f) = Some f
-memory_first None = Some fault.OutOfMemory
+-- Nothing is changed, and this is written.
+abbrev pub Tells : State → List ℕ → List ℕ → State → Type 0
+Tells s expected text t = (text ≡ expected) × (t ≡ s)
 
-abbrev pub answer_to : State → Edit → Memory → Option EditFault
-answer_to s e Enough = verdict s e
-answer_to s e (RefusedAfter n) = memory_first (refusal s e)
+-- An edit has its verdict, and the bench is the one after it. Where memory was refused, that is its fault, and of the bench the
+-- count alone may have changed: it tells the runs that were made.
+abbrev pub IsEdit : State → Edit → Memory → Option EditFault → State → Type 0
+IsEdit s e Enough f t = IsVerdict s e f t
+IsEdit s e BlockRefused f t = (is_of_script e ≡ true) × (f ≡ Some fault.OutOfMemory) × (t ≡ s)
+IsEdit s e (RefusedAfter n) f t = (f ≡ Some fault.OutOfMemory) × (t ≡ counted n s) × IsOutOfMemory s e t
 
--- a refused edit changes nothing
-abbrev pub accepted : Option EditFault → State → State → State
-accepted None new s = new
-accepted (Some f) new s = s
+-- A report is written whole, or its memory was refused.
+abbrev pub IsReport : State → List ℕ → Memory → List ℕ → State → Type 0
+IsReport s report Enough text t = Tells s report text t
+IsReport s report BlockRefused text t = ⊥
+IsReport s report (RefusedAfter n) text t = Tells s (edit_text (Some fault.OutOfMemory)) text t
 
--- and where its memory was refused, the runs that it made are counted
-abbrev pub state_after_edit : State → Edit → Memory → State
-state_after_edit s e Enough = accepted (verdict s e) (edited s e) s
-state_after_edit s e (RefusedAfter n) = accepted (refusal s e) (counted (min n (runs_needed s e)) s) s
+-- a report of a word; of one that is not there it says so, and wants no memory
+abbrev pub IsReportOrAbsent : State → Option (List ℕ) → Memory → List ℕ → State → Type 0
+IsReportOrAbsent s None memory text t = Tells s (edit_text (Some fault.Absent)) text t
+IsReportOrAbsent s (Some report) memory text t = IsReport s report memory text t
 
--- the answer to a command
-abbrev pub reply_to : State → Command → Memory → List ℕ
-reply_to s Nothing memory = []
-reply_to s (Add word) memory = edit_text (answer_to s (edits.Add word) memory)
-reply_to s Stems Enough = stems_text s
-reply_to s Stems (RefusedAfter n) = edit_text (Some fault.OutOfMemory)
-reply_to s Bad memory = ended (codes "no 52 BadCommand")
+-- a block that is no text is refused for that, or its memory was refused
+abbrev pub IsNoText : State → EditFault → Memory → List ℕ → State → Type 0
+IsNoText s f Enough text t = Tells s (edit_text (Some f)) text t
+IsNoText s f BlockRefused text t = Tells s (edit_text (Some fault.OutOfMemory)) text t
+IsNoText s f (RefusedAfter n) text t = ⊥
 
--- the bench after a command
-abbrev pub after : State → Command → Memory → State
-after s Nothing memory = s
-after s (Add word) memory = state_after_edit s (edits.Add word) memory
-after s Stems memory = s
-after s Bad memory = s
+-- the answer to a command, and the bench after it
+abbrev pub IsReplyTo : State → Command → Memory → List ℕ → State → Type 0
+IsReplyTo s Nothing memory text t = Tells s [] text t
+IsReplyTo s (Makes e) memory text t = (f : Option EditFault) × IsEdit s e memory f t × (text ≡ edit_text f)
+IsReplyTo s Stems memory text t = IsReport s (stems_text s) memory text t
+IsReplyTo s Classes memory text t = IsReport s (classes_text s) memory text t
+IsReplyTo s (Class word) memory text t = IsReportOrAbsent s (class_text s word) memory text t
+IsReplyTo s (HasNoText f) memory text t = IsNoText s (fault.Script f) memory text t
+IsReplyTo s Bad memory text t = Tells s (ended (codes "no 52 BadCommand")) text t
 
-abbrev pub reply_of : State → List ℕ → Memory → List ℕ
-reply_of s line memory = reply_to s (command_of line) memory
-
-abbrev pub state_after : State → List ℕ → Memory → State
-state_after s line memory = after s (command_of line) memory
-
--- m says of each line in turn whether its memory sufficed; of a line that it does not reach it did
-abbrev pub first_memory : List Memory → Memory
-first_memory [] = Enough
-first_memory (memory ∷ m) = memory
-
-abbrev pub rest_memory : List Memory → List Memory
-rest_memory [] = []
-rest_memory (memory ∷ m) = m
-
--- the whole text of a session of these lines, which begins with this bench
-unfoldable pub answers : State → List (List ℕ) → List Memory → List ℕ
-answers s [] m = []
-answers s (line ∷ lines) m = reply_of s line (first_memory m) ++ answers (state_after s line (first_memory m)) lines (rest_memory m)
-
--- the bench after it
-unfoldable pub state_after_all : State → List (List ℕ) → List Memory → State
-state_after_all s [] m = s
-state_after_all s (line ∷ lines) m = state_after_all (state_after s line (first_memory m)) lines (rest_memory m)
+-- The whole text of a session of these requests, which begins with this bench, and the bench after it. m says of each request in
+-- turn whether its memory sufficed.
+abbrev pub Answers : State → List Request → List Memory → List ℕ → State → Type 0
+Answers s [] [] text t = Tells s [] text t
+Answers s (request ∷ requests) (memory ∷ m) text t =
+    (first : List ℕ) × (next : State) × (rest : List ℕ)
+    × IsReplyTo s (command_of request) memory first next × Answers next requests m rest t × (text ≡ first ++ rest)
+Answers s requests m text t = ⊥

@@ -7,7 +7,7 @@ use Rattle.sbl_script.specs.Parsed.{Source}
 use Rattle.snowbench.specs.Differences as spec
 use Rattle.snowbench.specs.Differences.{difference, differences, ending, pair_fault}
 use Rattle.snowbench.specs.LinesOf.{lines_of}
-use Rattle.snowbench.specs.Rows.{row_line, rows_text}
+use Rattle.snowbench.specs.Rows.{record_line, records_text}
 use Rattle.snowbench.specs.declared.checking.Got.{Got}
 use Rattle.snowbench.specs.declared.checking.Got.TheVariants as got
 use Rattle.snowbench.specs.declared.faults.ServeFault.{ServeFault}
@@ -21,7 +21,7 @@ view_got (got.Refused name) = spec.Refused name.now
 -- a text is there for the one row, or there is none
 abbrev pub IsRow : Option (Vec ℕ Global) → List (List (List ℕ)) → Type 0
 IsRow None rows = rows ≡ []
-IsRow (Some text) rows = (fields : List (List ℕ)) × (rows ≡ fields ∷ []) × (text.items ≡ row_line fields)
+IsRow (Some text) rows = (fields : List (List ℕ)) × (rows ≡ fields ∷ []) × (text.items ≡ record_line fields)
 
 -- as many rows as a line has that differs, or not
 abbrev pub count : Bool → ℕ
@@ -32,9 +32,9 @@ count false = 0
 abbrev pub ComparesPair : Source → ℕ → List ℕ → List ℕ → Option (List ℕ) → Option (List ℕ) → Result Bool ServeFault → Type 0
 ComparesPair script n word expected held new_held (Ok differs) =
     (pair_fault word expected ≡ None) × (length (difference script n word expected) ≡ count differs)
-    × Appends held new_held (rows_text (difference script n word expected))
+    × Appends held new_held (records_text (difference script n word expected))
 ComparesPair script n word expected held new_held (Err fault.Write) =
-    (pair_fault word expected ≡ None) × (k : ℕ) × Appends held new_held (take k (rows_text (difference script n word expected)))
+    (pair_fault word expected ≡ None) × (k : ℕ) × Appends held new_held (take k (records_text (difference script n word expected)))
 ComparesPair script n word expected held new_held (Err fault.OutOfMemory) =
     (pair_fault word expected ≡ None) × Appends held new_held []
 ComparesPair script n word expected held new_held (Err f) = (pair_fault word expected ≡ Some f) × Appends held new_held []
@@ -46,4 +46,4 @@ pub record Compared (script : Source) (words expected words_left expected_left :
   pub rows : spec.all_differences script words expected ≡ done ++ differences script n (lines_of words_left) (lines_of expected_left)
   pub ends : ending (lines_of words) (lines_of expected) ≡ ending (lines_of words_left) (lines_of expected_left)
   pub found_is : found ≡ length done
-  pub text : Appends held new_held (rows_text done)
+  pub text : Appends held new_held (records_text done)

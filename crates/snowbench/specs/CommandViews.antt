@@ -1,7 +1,14 @@
 -- A command and a reply, without where they lie in memory.
-use Rattle.std.specs.Prelude.{◌≡◌, ℕ, List}
+use Rattle.std.specs.Prelude.{◌≡◌, ◌≤◌, ℕ, true, List, Option, ⊤, length}
 use Rattle.std.specs.Str.{chars}
+use Rattle.sbl_bench.specs.Edits as edits
 use Rattle.snowbench.specs.Commands as command
+use Rattle.sbl_bench.specs.State.{State}
+use Rattle.snowbench.specs.Answers.{IsReplyTo, Memory}
+use Rattle.snowbench.specs.Block.{BlockLines, Breaks}
+use Rattle.snowbench.specs.Held.{AllFit, Took}
+use Rattle.snowbench.specs.Requests.{IsRequest, asks_block, block_lines}
+use Rattle.snowbench.specs.declared.faults.ServeFault.{ServeFault}
 use Rattle.snowbench.specs.declared.commands.Command.{Command}
 use Rattle.snowbench.specs.declared.commands.Command.TheVariants as variants
 use Rattle.snowbench.specs.declared.replies.Reply.{Reply}
@@ -9,10 +16,42 @@ use Rattle.snowbench.specs.declared.replies.Reply.TheVariants as reply
 
 abbrev pub view_command : Command → command.Command
 view_command variants.Nothing = command.Nothing
-view_command (variants.Add word) = command.Add (chars word.now)
+view_command (variants.Add word) = command.Makes (edits.Add (chars word.now))
+view_command (variants.Remove word) = command.Makes (edits.Remove (chars word.now))
 view_command variants.Stems = command.Stems
+view_command variants.Classes = command.Classes
+view_command (variants.Class word) = command.Class (chars word.now)
 view_command variants.Bad = command.Bad
+
+-- its word has at most so many bytes
+abbrev pub WordFits : Command → ℕ → Type 0
+WordFits (variants.Remove word) n = length word.now ≤ n
+WordFits (variants.Class word) n = length word.now ≤ n
+WordFits command n = ⊤
 
 abbrev pub IsReply : Reply → List ℕ → Type 0
 IsReply (reply.Report v) text = v.items ≡ text
 IsReply (reply.Fixed s) text = s.now ≡ text
+
+-- the text that answers a command, and the bench after it, for some memory
+abbrev pub IsTextAnswer : State → command.Command → List ℕ → State → Type 0
+IsTextAnswer s c text t = (memory : Memory) × IsReplyTo s c memory text t
+
+abbrev pub IsEditAnswer : State → edits.Edit → List ℕ → State → Type 0
+IsEditAnswer s e text t = IsTextAnswer s (command.Makes e) text t
+
+-- the reply to a command, and the bench after it, for some memory
+abbrev pub IsAnswer : State → command.Command → Reply → State → Type 0
+IsAnswer s c r t = (memory : Memory) × (text : List ℕ) × IsReply r text × IsReplyTo s c memory text t
+
+-- the line and its block, where it asks for one, have this reply; the block was taken from the front of the input
+pub record IsAnswered (input new_input : Option (List ℕ)) (line : List ℕ) (s : State) (r : Reply) (t : State) : Type 0 where
+  pub block : Option (List (List ℕ))
+  pub formed : IsRequest (record { line = line; block = block })
+  pub fit : AllFit (block_lines block)
+  pub took : Took input new_input (block_lines block)
+  pub answer : IsAnswer s (command.by_block line block) r t
+
+-- the block that the line asks for was not read to its end
+abbrev pub BreaksBlock : Option (List ℕ) → Option (List ℕ) → List ℕ → ServeFault → Type 0
+BreaksBlock input new_input line f = (asks_block line ≡ true) × Breaks BlockLines input new_input f

@@ -10,7 +10,7 @@ use Rattle.sbl_machine.specs.Outcome.{Outcome', run_of}
 use Rattle.sbl_bench.specs.Rows.{most_steps}
 use Rattle.sbl_bench.specs.State.{most_characters}
 use Rattle.snowbench.specs.LinesOf.{lines_of, longest_line}
-use Rattle.snowbench.specs.Rows.{rows_text}
+use Rattle.snowbench.specs.Rows.{records_text}
 use Rattle.snowbench.specs.declared.faults.ServeFault.{ServeFault}
 use Rattle.snowbench.specs.declared.faults.ServeFault.TheVariants as fault
 
@@ -91,10 +91,10 @@ all_differences script words expected = differences script 1 (lines_of words) (l
 abbrev pub IsChecked : Source → List ℕ → List ℕ → Option (List ℕ) → Option (List ℕ) → Result ℕ ServeFault → Type 0
 IsChecked script words expected held new_held (Ok n) =
     (ending (lines_of words) (lines_of expected) ≡ None) × (n ≡ length (all_differences script words expected))
-    × Appends held new_held (rows_text (all_differences script words expected))
+    × Appends held new_held (records_text (all_differences script words expected))
 IsChecked script words expected held new_held (Err fault.Write) =
-    (n : ℕ) × Appends held new_held (take n (rows_text (all_differences script words expected)))
+    (n : ℕ) × Appends held new_held (take n (records_text (all_differences script words expected)))
 IsChecked script words expected held new_held (Err fault.OutOfMemory) =
-    (n : ℕ) × Appends held new_held (take n (rows_text (all_differences script words expected)))
+    (n : ℕ) × Appends held new_held (take n (records_text (all_differences script words expected)))
 IsChecked script words expected held new_held (Err f) =
-    (ending (lines_of words) (lines_of expected) ≡ Some f) × Appends held new_held (rows_text (all_differences script words expected))
+    (ending (lines_of words) (lines_of expected) ≡ Some f) × Appends held new_held (records_text (all_differences script words expected))

@@ -17,10 +17,10 @@ line_fault_of serve.Read = Some Read
 line_fault_of serve.LineTooLong = Some TooLong
 line_fault_of f = None
 
--- the fault that the lines hold after a session that ended so
-abbrev pub left_by_serve : Result (Unit {0}) ServeFault → Option LineFault
-left_by_serve (Ok u) = None
-left_by_serve (Err f) = line_fault_of f
+-- the fault that the lines hold after what ended so
+abbrev pub left_by : {A : Type 0} → Result A ServeFault → Option LineFault
+left_by (Ok a) = None
+left_by (Err f) = line_fault_of f
 
 -- the fault that the lines hold after a loading that ended so
 abbrev pub left_by_load : {A : Type 0} → Result A LoadFault → Option LineFault

@@ -2,11 +2,14 @@
 use Rattle.std.specs.Prelude.{◌≡◌, ◌≢◌, ◌⊎◌, ◌<◌, ◌≤◌, ◌++◌, ℕ, List, [], ◌∷◌, Option, Some, None, ⊤, slice_range, length, min, ◌+◌, ◌*◌, ◌-◌}
 use Rattle.std.specs.Io.KnownBytes.{Consumes, IsAtEnd, prepend_known}
 use Rattle.snowbench.specs.Devices.{most_reads, most_tries}
-use Rattle.snowbench.specs.LinesOf.{lines_of, longest_line}
+use Rattle.snowbench.specs.LinesOf.{AreWhole, lines_of, longest_line}
 use Rattle.snowbench.specs.declared.lines.Lines.{Lines}
 use Rattle.snowbench.specs.declared.lines.LineEnd.{LineEnd}
 use Rattle.snowbench.specs.declared.lines.LineEnd.TheVariants.{Feed, Input, Beyond}
 use Rattle.snowbench.specs.declared.faults.LineFault.{LineFault}
+use Rattle.snowbench.specs.declared.faults.LineFault.TheVariants as read
+use Rattle.snowbench.specs.declared.faults.ServeFault.{ServeFault}
+use Rattle.snowbench.specs.declared.faults.ServeFault.TheVariants as serve
 
 module _ {R : Type 0} where
   -- the bytes read and not yet taken
@@ -35,6 +38,10 @@ module _ {R : Type 0} where
   abbrev pub HasCause : (R → ℕ) → (R → ℕ) → (R → ℕ) → Lines R → Lines R → Type 0
   HasCause failures interruptions reads old new = (failures old.reader < failures new.reader) ⊎ (reads_bound reads old ≤ reads new.reader) ⊎ (most_tries ≤ interruptions new.reader)
 
+  -- a fault of reading has its cause in the reader or a bound, or is one that the lines answer again
+  abbrev pub HasReason : (R → ℕ) → (R → ℕ) → (R → ℕ) → Lines R → Lines R → ServeFault → Type 0
+  HasReason failures row reads lines new_lines f = f ≡ serve.Read → HasCause failures row reads lines new_lines ⊎ (fault_of lines ≡ Some read.Read)
+
 -- no byte is a line feed
 abbrev pub NoFeed : List ℕ → Type 0
 NoFeed [] = ⊤
@@ -50,10 +57,23 @@ TakesLine old new line Beyond = (length line ≡ longest_line + 1) × (b : ℕ) 
 abbrev pub BreaksOff : Option (List ℕ) → Option (List ℕ) → List ℕ → Type 0
 BreaksOff old new part = Consumes old new part × NoFeed part
 
+-- These are the lines of a front of the bytes, and the rest stands behind it. A line feed ends each of them, but that the end of
+-- input may end the last.
+pub record StandFirst (bytes : List ℕ) (lines : List (List ℕ)) (rest : List ℕ) : Type 0 where
+  pub front : List ℕ
+  pub bytes_are : bytes ≡ front ++ rest
+  pub whole : AreWhole front ⊎ (rest ≡ [])
+  pub lines_are : lines_of front ≡ lines
+
+-- these lines were taken from the front of an input, where it is told
+abbrev pub Took : Option (List ℕ) → Option (List ℕ) → List (List ℕ) → Type 0
+Took None new lines = ⊤
+Took (Some bytes) None lines = ⊥
+Took (Some bytes) (Some rest) lines = StandFirst bytes lines rest
+
 -- the first of the lines was taken
 abbrev pub GivesLine : Option (List ℕ) → Option (List ℕ) → List ℕ → Type 0
-GivesLine None new line = ⊤
-GivesLine (Some bytes) new line = (rest : List ℕ) × (new ≡ Some rest) × (lines_of bytes ≡ line ∷ lines_of rest)
+GivesLine old new line = Took old new (line ∷ [])
 
 -- a line has more bytes than it may, its end not counted
 abbrev pub IsTooLong : List ℕ → Type 0

@@ -1,11 +1,13 @@
 -- The text of rows, as a flexible and otherwise default writer of `csv` writes it.
-use Rattle.std.specs.Prelude.{ℕ, true, List, [], ◌∷◌, map, codes}
-use Rattle.std.specs.List.{flat_map}
-use Rattle.std.specs.Str.{encode_utf8_all}
+use Rattle.std.specs.Prelude.{ℕ, true, List, [], ◌∷◌, map, codes, Option, Some, None}
+use Rattle.std.specs.List.{find, flat_map}
+use Rattle.std.specs.Option.{option_map}
+use Rattle.std.specs.Str.{bytes_eq, encode_utf8_all}
 use Rattle.csv.specs.Writing.{default_writer, with_flexible, row_text}
 use Rattle.csv.specs.declared.writer.WriterBuilder.{WriterBuilder}
 use Rattle.sbl_machine.specs.Names.{name_of}
 use Rattle.sbl_machine.specs.Outcome.{Outcome', Stem, Refused}
+use Rattle.sbl_bench.specs.Classes.{Class, class_of, classes_of}
 use Rattle.sbl_bench.specs.Rows.{Row, rows_of}
 use Rattle.sbl_bench.specs.State.{State}
 
@@ -20,13 +22,36 @@ row_fields row = encode_utf8_all row.word ∷ outcome_fields row.outcome
 abbrev pub flexible : WriterBuilder
 flexible = with_flexible default_writer true
 
--- one row: its fields, and a line feed
-abbrev pub row_line : List (List ℕ) → List ℕ
-row_line fields = row_text flexible fields
+-- one record: its fields, and a line feed
+abbrev pub record_line : List (List ℕ) → List ℕ
+record_line fields = row_text flexible fields
 
-abbrev pub rows_text : List (List (List ℕ)) → List ℕ
-rows_text rows = flat_map row_line rows
+abbrev pub records_text : List (List (List ℕ)) → List ℕ
+records_text records = flat_map record_line records
 
 -- the rows of the current script over the current vocabulary
+abbrev pub rows_now : State → List Row
+rows_now s = rows_of s.script s.words
+
 unfoldable pub stems_text : State → List ℕ
-stems_text s = rows_text (map row_fields (rows_of s.script s.words))
+stems_text s = records_text (map row_fields (rows_now s))
+
+-- the fields of a class: its stem, and then its words
+unfoldable pub class_fields : Class → List (List ℕ)
+class_fields c = map encode_utf8_all (c.stem ∷ c.words)
+
+-- the classes of the current rows
+unfoldable pub classes_text : State → List ℕ
+classes_text s = records_text (map class_fields (classes_of (rows_now s)))
+
+-- the fields of a word's class, or of its row where its run is refused and it has no class
+abbrev pub class_or_row : Option Class → Row → List (List ℕ)
+class_or_row (Some class) row = class_fields class
+class_or_row None row = row_fields row
+
+abbrev pub class_or_row_text : State → List ℕ → Row → List ℕ
+class_or_row_text s word row = records_text (class_or_row (class_of (rows_now s) word) row ∷ [])
+
+-- what tells of a word's class, and of no word that is not there
+unfoldable pub class_text : State → List ℕ → Option (List ℕ)
+class_text s word = option_map (class_or_row_text s word) (find (λ row. bytes_eq word row.word) (rows_now s))

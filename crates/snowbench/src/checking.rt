@@ -13,7 +13,7 @@ ghost use Rattle.snowbench.specs.Rows as rows;
 use crate::devices::Sink;
 use crate::faults::ServeFault;
 use crate::lines::MAX_LINE;
-use crate::rows::text_of;
+use crate::records::text_of;
 use crate::text_lines::first_line;
 use crate::writing::write_all;
 use csv::{ByteRecord, WriterBuilder};
@@ -85,7 +85,7 @@ impl Got {
 
 /// The text of one row.
 fn line_of(alloc: Global, row: &ByteRecord) -> Result<Vec<u8>, AllocError>
-    ensures { IfOk result (λ text. text.items ≡ rows.row_line (fields_of row.now)) }
+    ensures { IfOk result (λ text. text.items ≡ rows.record_line (fields_of row.now)) }
 {
     let mut writer = WriterBuilder::new()
         .flexible(true)

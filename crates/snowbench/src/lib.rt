@@ -2,17 +2,20 @@
 //! answers go to a writer.
 #![tactic(auto)]
 
+mod block_text;
 mod checking;
 mod command_line;
 mod commands;
 mod devices;
+mod edits;
 mod faults;
+mod laws;
 mod lines;
 mod loading;
 mod program;
+mod records;
 mod replies;
-mod rows;
-mod script_text;
+mod reports;
 mod serving;
 mod text_lines;
 mod writing;
@@ -21,6 +24,7 @@ pub use checking::check;
 pub use command_line::{Verb, Wanted, read_words};
 pub use devices::{Device, Sink, Source, Stop};
 pub use faults::{LineFault, LoadFault, ServeFault};
+pub use laws::answers_are_one;
 pub use lines::{Lines, MAX_LINE};
 pub use loading::load;
 pub use program::run;

@@ -8,12 +8,12 @@ ghost use Rattle.snowbench.specs.declared.faults.LineFault.{LineFault};
 ghost use Rattle.snowbench.specs.Held.{fault_of, input_of, reads_bound};
 ghost use Rattle.snowbench.specs.Loaded.{HasReason, IsLoaded, ReadsScript, ReadsWords};
 
+use crate::block_text::{BlockFault, read_block};
 use crate::devices::Source;
 use crate::faults::{LoadFault, ServeFault};
 use crate::lines::Lines;
-use crate::script_text::ScriptText;
 use sbl_bench::Bench;
-use sbl_script::Script;
+use sbl_script::{Script, ScriptFault};
 use std::alloc::Global;
 
 /// The text of the script block, read to its end.
@@ -26,14 +26,15 @@ pub(crate) fn read_script<R: Source + Drop>(lines: &mut Lines<R>) -> Result<Vec<
     ensures bound { reads_bound R.reads lines.new ≡ reads_bound R.reads lines.old }
     ensures why { IfErr result (λ fault. HasReason R.failures R.interruptions R.reads lines.old lines.new fault) }
 {
-    let mut text = ScriptText::new(lines.alloc());
-    while lines.next_line()? {
-        if lines.line() == b".".as_slice() {
-            return text.whole();
-        }
-        text.push_line(lines.line())?;
+    let text = match read_block(lines) {
+        Ok(text) => text,
+        Err(fault) => return Err(LoadFault::Input(fault)),
+    };
+    match text.whole() {
+        Ok(text) => Ok(text),
+        Err(BlockFault::TooLong) => Err(LoadFault::Script(ScriptFault::ScriptTooLong)),
+        Err(BlockFault::OutOfMemory) => Err(LoadFault::Input(ServeFault::OutOfMemory)),
     }
-    Err(LoadFault::Input(ServeFault::Cut))
 }
 
 /// The characters of a line, or `NotText`.
@@ -74,7 +75,7 @@ fn read_words<R: Source + Drop>(lines: &mut Lines<R>) -> Result<Vec<Vec<char>>, 
 /// The script block is read to its end before it is judged: `Read`, `LineTooLong`, and `Cut` where the input ended before
 /// the point. Then the first fault of the script, with its place or item; no word is read then. All words are read before they
 /// are judged: `Read`, `LineTooLong`, and `NotText` at a line that is not UTF-8. Then the vocabulary's faults, `WordTooLong`
-/// and `Full`. A refused growth is `OutOfMemory`. After `Cut` the lines stand at the end of input, after a fault of the script
+/// and `Full`. A refused growth is `OutOfMemory`, in the script block once that is read to its end. After `Cut` the lines stand at the end of input, after a fault of the script
 /// behind the point of its block, and after `NotText` behind the line that is no text. `Read` and `LineTooLong` are
 /// remembered: the lines answer them again, and so does every later `load`, which then takes nothing.
 pub fn load<R: Source + Drop>(lines: &mut Lines<R>, external: &str) -> Result<Bench, LoadFault>

@@ -1,5 +1,5 @@
 //! The answers to commands.
-ghost use Rattle.std.specs.Prelude.{◌≡◌, ◌≤◌, ℕ, List, IfErr, OnOk, take};
+ghost use Rattle.std.specs.Prelude.{◌≡◌, ◌≤◌, ℕ, List, Some, IfErr, IfOk, OnErr, OnOk, take};
 ghost use Rattle.std.specs.Io.KnownBytes.{Appends};
 ghost use Rattle.snowbench.specs.Answers as spec;
 ghost use Rattle.snowbench.specs.CommandViews.{IsReply};
@@ -10,6 +10,8 @@ use crate::devices::Sink;
 use crate::faults::ServeFault;
 use crate::writing::write_all;
 use sbl_bench::EditFault;
+use sbl_script::ScriptFault;
+use std::alloc::AllocError;
 
 /// An answer: a report that was made, or a text of the program.
 #[derive(Debug, Drop)]
@@ -18,6 +20,20 @@ pub(crate) enum Reply {
     Report(Vec<u8>),
     /// A text of the program.
     Fixed(&'static str),
+}
+
+/// The answer to a line that is no command.
+pub(crate) const BAD_COMMAND: &str = "no 52 BadCommand\n";
+
+/// The answer that is a report: its text, or that its memory was refused.
+pub(crate) fn report(text: Result<Vec<u8>, AllocError>) -> Reply
+    ensures made { IfOk text (λ made. IsReply result made.items) }
+    ensures refused { OnErr text (IsReply result (spec.edit_text (Some EditFault.OutOfMemory))) }
+{
+    match text {
+        Ok(text) => Reply::Report(text),
+        Err(_) => Reply::Fixed(edit_text(Err(EditFault::OutOfMemory))),
+    }
 }
 
 /// The answer to an edit: `ok`, or the refusal's number and name.
@@ -31,8 +47,44 @@ pub(crate) fn edit_text(answer: Result<(), EditFault>) -> &'static str
         Err(EditFault::EmptyWord) => "no 42 EmptyWord\n",
         Err(EditFault::WordTooLong) => "no 43 WordTooLong\n",
         Err(EditFault::Full) => "no 44 Full\n",
+        Err(EditFault::NoRoutine) => "no 45 NoRoutine\n",
+        Err(EditFault::NoAmong) => "no 46 NoAmong\n",
+        Err(EditFault::AmongCount) => "no 47 AmongCount\n",
+        Err(EditFault::Script(fault)) => script_fault_text(fault),
         Err(EditFault::OutOfMemory) => "no 49 OutOfMemory\n",
         Err(EditFault::MeterFull) => "no 50 MeterFull\n",
+    }
+}
+
+/// The answer to an edit whose text has this fault: the fault's name, without its place or item.
+fn script_fault_text(fault: ScriptFault) -> &'static str
+    ensures { result.now ≡ spec.edit_text (Some (EditFault.Script fault)) }
+{
+    match fault {
+        ScriptFault::BadCharacter { place: _ } => "no 48 BadCharacter\n",
+        ScriptFault::UnclosedString { place: _ } => "no 48 UnclosedString\n",
+        ScriptFault::UnclosedComment { place: _ } => "no 48 UnclosedComment\n",
+        ScriptFault::UnknownEscape { place: _ } => "no 48 UnknownEscape\n",
+        ScriptFault::BadCode { place: _ } => "no 48 BadCode\n",
+        ScriptFault::NumberTooLarge { place: _ } => "no 48 NumberTooLarge\n",
+        ScriptFault::Syntax { place: _ } => "no 48 Syntax\n",
+        ScriptFault::TooDeep { place: _ } => "no 48 TooDeep\n",
+        ScriptFault::DeclaredTwice { item: _ } => "no 48 DeclaredTwice\n",
+        ScriptFault::Undeclared { item: _ } => "no 48 Undeclared\n",
+        ScriptFault::WrongKind { item: _ } => "no 48 WrongKind\n",
+        ScriptFault::DefinedTwice { item: _ } => "no 48 DefinedTwice\n",
+        ScriptFault::Undefined { item: _ } => "no 48 Undefined\n",
+        ScriptFault::WrongMode { item: _ } => "no 48 WrongMode\n",
+        ScriptFault::Substring { item: _ } => "no 48 Substring\n",
+        ScriptFault::Starter { item: _ } => "no 48 Starter\n",
+        ScriptFault::RepeatedString { item: _ } => "no 48 RepeatedString\n",
+        ScriptFault::EmptyAmong { item: _ } => "no 48 EmptyAmong\n",
+        ScriptFault::NestedBackwards { item: _ } => "no 48 NestedBackwards\n",
+        ScriptFault::OutOfProfile { place: _ } => "no 48 OutOfProfile\n",
+        ScriptFault::NoExternal => "no 48 NoExternal\n",
+        ScriptFault::NotUtf8 => "no 48 NotUtf8\n",
+        ScriptFault::ScriptTooLong => "no 48 ScriptTooLong\n",
+        ScriptFault::OutOfMemory => "no 48 OutOfMemory\n",
     }
 }
 

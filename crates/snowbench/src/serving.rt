@@ -1,92 +1,91 @@
-//! A session: each line is answered before the next is read.
-ghost use Rattle.std.specs.Prelude.{◌≡◌, ◌≤◌, ℕ, [], None, Some, Err, IfOk, OnOk, take};
-ghost use Rattle.std.specs.Str.{chars};
+//! A session: each request is answered before the next line is read.
+ghost use Rattle.std.specs.Prelude.{◌≡◌, ◌≤◌, [], None, Some, Err, IfOk, IfErr, OnOk, length, take};
 ghost use Rattle.std.specs.Io.KnownBytes.{IsAtEnd, Keeps};
 ghost use Rattle.sbl_bench.specs.Kept.{state_of};
-ghost use Rattle.sbl_bench.specs.Edits.{Add};
-ghost use Rattle.snowbench.specs.Answers as spec;
-ghost use Rattle.snowbench.specs.CommandViews.{IsReply};
-ghost use Rattle.snowbench.specs.Faults.{left_by_serve, serve_fault_of};
+ghost use Rattle.snowbench.specs.CommandViews.{BreaksBlock, IsAnswer, IsAnswered};
+ghost use Rattle.snowbench.specs.Commands.{line_command};
+ghost use Rattle.snowbench.specs.Faults.{left_by, serve_fault_of};
 ghost use Rattle.snowbench.specs.declared.faults.LineFault.{LineFault};
-ghost use Rattle.snowbench.specs.Held.{fault_of, held_of, input_of, reads_bound};
-ghost use Rattle.snowbench.specs.Rows as rows;
+ghost use Rattle.snowbench.specs.Held.{HasReason, fault_of, fuel_of, held_of, input_of, line_of, reads_bound};
+ghost use Rattle.snowbench.specs.LinesOf.{longest_line};
 ghost use Rattle.snowbench.specs.Session.{Ends, IsSession};
 
-use crate::commands::{Command, command_of};
+use crate::block_text::read_block;
+use crate::commands::{Command, asks_block, command_of};
 use crate::devices::{Sink, Source};
+use crate::edits::{add_word, edit_script, remove_word};
 use crate::faults::ServeFault;
-use crate::lines::Lines;
-use crate::replies::{Reply, edit_text, write_reply};
-use crate::rows::rows_text;
+use crate::lines::{Lines, MAX_LINE};
+use crate::replies::{BAD_COMMAND, Reply, report, write_reply};
+use crate::reports::{class_reply, classes_text, stems_text};
 use sbl_bench::Bench;
-use sbl_bench::bench::MOST_CHARACTERS;
-use std::alloc::{AllocError, Global};
+use std::alloc::Global;
 
-/// How many characters of a word are looked at: one more than a word may have.
-const MOST_LOOKED_AT: usize = MOST_CHARACTERS + 1;
-
-/// The first characters of a word, put into the room; answers how many.
-fn first_characters(word: &str, room: &mut [char; MOST_LOOKED_AT]) -> usize
-    ensures few { result ≤ 256 }
-    ensures first { take result room.new ≡ take 256 (chars word.now) }
-{
-    let mut count = 0;
-    for c in word.chars() {
-        if count == MOST_LOOKED_AT {
-            return count;
-        }
-        room[count] = c;
-        count += 1;
-    }
-    count
-}
-
-/// Adds a word, and gives the answer. A word that is too long is so by its first characters already; so none of its memory
-/// is refused before the edit itself.
-fn add_word(bench: &mut Bench, word: &str) -> &'static str
-    ensures { (memory : spec.Memory) × (result.now ≡ spec.edit_text (spec.answer_to (state_of bench.old) (Add (chars word.now)) memory))
-        × (state_of bench.new ≡ spec.state_after_edit (state_of bench.old) (Add (chars word.now)) memory) }
-{
-    let mut room = ['\0'; MOST_LOOKED_AT];
-    let count = first_characters(word, &mut room);
-    edit_text(bench.add(&room[..count]))
-}
-
-/// The report of all rows.
-pub(crate) fn stems_text(alloc: Global, bench: &Bench) -> Result<Vec<u8>, AllocError>
-    ensures { IfOk result (λ text. text.items ≡ rows.stems_text (state_of bench.now)) }
-{
-    let rows = bench.rows()?;
-    rows_text(alloc, &rows)
-}
-
-/// Makes the edit or the report that a line asks for, and gives the answer.
-fn answer(alloc: Global, bench: &mut Bench, line: &[u8]) -> Reply
-    ensures { (memory : spec.Memory) × IsReply result (spec.reply_of (state_of bench.old) line.now memory)
-        × (state_of bench.new ≡ spec.state_after (state_of bench.old) line.now memory) }
+/// Makes the edit or the report that a line without a block asks for, and gives the answer.
+fn answer_line(alloc: Global, bench: &mut Bench, line: &[u8]) -> Reply
+    requires { length line.now ≤ longest_line }
+    ensures { IsAnswer (state_of bench.old) (line_command line.now) result (state_of bench.new) }
 {
     match command_of(line) {
         Command::Nothing => Reply::Fixed(""),
         Command::Add(word) => Reply::Fixed(add_word(bench, word)),
-        Command::Stems => match stems_text(alloc, bench) {
-            Ok(text) => Reply::Report(text),
-            Err(_) => Reply::Fixed("no 49 OutOfMemory\n"),
-        },
-        Command::Bad => Reply::Fixed("no 52 BadCommand\n"),
+        Command::Remove(word) => Reply::Fixed(remove_word(bench, word)),
+        Command::Stems => report(stems_text(alloc, bench)),
+        Command::Classes => report(classes_text(alloc, bench)),
+        Command::Class(word) => class_reply(alloc, bench, word),
+        Command::Bad => Reply::Fixed(BAD_COMMAND),
     }
 }
 
-/// Answers each line of the input in turn, to its end. An edit is made as its line is read, and its answer written before
-/// the next line is read. `add WORD` is answered `ok`, or `no` and the refusal's number and name; `stems` by a row for each
-/// word; an empty line by nothing, and any other line `no 52 BadCommand`. Where memory is refused the answer is
-/// `no 49 OutOfMemory`.
+/// Puts a copy of a line into the room, and answers how long it is. Takes no memory.
+fn keep_line(line: &[u8], room: &mut [u8; MAX_LINE]) -> usize
+    requires { length line.now ≤ longest_line }
+    ensures long { result ≤ longest_line }
+    ensures kept { take result room.new ≡ line.now }
+{
+    room[..line.len()].copy_from_slice(line);
+    line.len()
+}
+
+/// Reads the block of the line that was taken last, if it asks for one, makes the edit or the report, and gives the answer.
+/// Where the block is not read to its end no edit is made: it answers `Cut` where the input ended before its point, `Read` and
+/// `LineTooLong` as the lines do.
+fn answer<R: Source + Drop>(bench: &mut Bench, lines: &mut Lines<R>) -> Result<Reply, ServeFault>
+    requires fits { length (line_of lines.old) ≤ longest_line }
+    requires ready { fault_of lines.old ≡ None }
+    ensures answered { IfOk result (λ reply. IsAnswered (input_of R.left lines.old) (input_of R.left lines.new) (line_of lines.old) (state_of bench.old) reply (state_of bench.new)) }
+    ensures broken { IfErr result (λ fault. BreaksBlock (input_of R.left lines.old) (input_of R.left lines.new) (line_of lines.old) fault × (state_of bench.new ≡ state_of bench.old)) }
+    ensures remembered { fault_of lines.new ≡ left_by result }
+    ensures drained { result ≡ Err ServeFault.Read → held_of lines.new ≡ [] }
+    ensures fuel { OnOk result (fuel_of lines.new ≤ fuel_of lines.old) }
+    ensures later { R.failures lines.old.reader ≤ R.failures lines.new.reader }
+    ensures steady { OnOk result (R.failures lines.new.reader ≡ R.failures lines.old.reader) }
+    ensures bound { reads_bound R.reads lines.new ≡ reads_bound R.reads lines.old }
+    ensures why { IfErr result (λ fault. HasReason R.failures R.interruptions R.reads lines.old lines.new fault) }
+{
+    if !asks_block(lines.line()) {
+        return Ok(answer_line(lines.alloc(), bench, lines.line()));
+    }
+    let mut room = [0; MAX_LINE];
+    let count = keep_line(lines.line(), &mut room);
+    let block = read_block(lines)?;
+    Ok(Reply::Fixed(edit_script(bench, &room[..count], block)))
+}
+
+/// Answers each request of the input in turn, to its end. A request is a line, and where its command word is `routine` the
+/// block behind it, lines up to a line `.`. An edit is made as its request is read, and its answer written before the next line
+/// is read. `add WORD`, `remove WORD` and `routine NAME` are answered `ok`, or `no` and the refusal's number and name; `stems`
+/// by a row for each word, `classes` by a row for each class, `class WORD` by the word's class, or its row where its run is
+/// refused, or `no 41 Absent`; an empty line by nothing, and any other line `no 52 BadCommand`. Where memory is refused the
+/// answer is `no 49 OutOfMemory`.
 ///
 /// # Errors
 ///
 /// `Read` where the reader failed or a bound on reads or interruptions was met, `Write` where the writer failed or was
-/// interrupted more than 1,000 times in a row, `LineTooLong` at a line of more than 65,536 bytes. The lines before it are
-/// answered, and the bench keeps their edits. At `Read` these are all whole lines that were read. At `Write` the edit of the
-/// line in hand is made and a front of its answer written, and the lines stand behind it. `Read` and `LineTooLong` are
+/// interrupted more than 1,000 times in a row, `LineTooLong` at a line of more than 65,536 bytes, `Cut` where the input ended
+/// inside a block. The requests before it are answered, and the bench keeps their edits; a request that it broke off has no
+/// answer and makes no edit. At `Read` these are all whole requests that were read. At `Write` the edit of the
+/// request in hand is made and a front of its answer written, and the lines stand behind it. `Read` and `LineTooLong` are
 /// remembered: a fault that the lines have answered before is answered again, and nothing is done.
 pub fn serve<R: Source + Drop, W: Sink>(
     bench: &mut Bench,
@@ -98,13 +97,13 @@ pub fn serve<R: Source + Drop, W: Sink>(
     ensures steady { OnOk result ((R.failures lines.new.reader ≡ R.failures lines.old.reader) × (W.failures writer.new ≡ W.failures writer.old)) }
     ensures whole { OnOk result (IsAtEnd (input_of R.left lines.new)) }
     ensures drained { result ≡ Err ServeFault.Read → fault_of lines.old ≡ None → held_of lines.new ≡ [] }
-    ensures remembered { fault_of lines.new ≡ left_by_serve result }
+    ensures remembered { fault_of lines.new ≡ left_by result }
     ensures again { (fault : LineFault) → fault_of lines.old ≡ Some fault → (result ≡ Err (serve_fault_of fault)) × (state_of bench.new ≡ state_of bench.old)
         × Keeps (W.held writer.old) (W.held writer.new) × Keeps (input_of R.left lines.old) (input_of R.left lines.new) }
     ensures bound { reads_bound R.reads lines.new ≡ reads_bound R.reads lines.old }
 {
     while lines.next_line()? {
-        let reply = answer(lines.alloc(), bench, lines.line());
+        let reply = answer(bench, lines)?;
         write_reply(writer, &reply)?;
     }
     Ok(())

@@ -69,7 +69,7 @@ fn sessions(rt: HostRuntime) -> Result<(), Fail> {
         (
             UN,
             b".\nstems\nstems \nremove x\n add x\nadd\tx\n\n\xff\nadd \xff\n",
-            b"no 52 BadCommand\nno 52 BadCommand\nno 52 BadCommand\nno 52 BadCommand\nno 52 BadCommand\nno 52 BadCommand\n",
+            b"no 52 BadCommand\nno 41 Absent\nno 52 BadCommand\nno 52 BadCommand\nno 52 BadCommand\nno 52 BadCommand\n",
         ),
         (
             UN,
@@ -109,6 +109,130 @@ fn a_session_in_backward_mode(rt: HostRuntime) -> Result<(), Fail> {
         "{:?}",
         ended.text
     );
+    Ok(())
+}
+
+/// The words of an author at work on plural endings.
+const PLURALS: &[u8] = b"cats\nboxes\ncakes\ncake\ndog\n.\n";
+
+// Whether a session over these words, given these commands in turn, writes these answers and ends with its input.
+fn answers_so(alloc: Global, rows: &[(&[u8], &[u8])]) -> Result<bool, Fail> {
+    let mut commands = Vec::from_slice(alloc, PLURALS)?;
+    let mut text: Vec<u8> = Vec::new(alloc);
+    for (command, answer) in rows {
+        commands.extend_from_slice(command)?;
+        text.extend_from_slice(answer)?;
+    }
+    let input = after(alloc, BACKWARDS, commands.as_slice())?;
+    let ended = session(alloc, input.as_slice(), 0, 0)?;
+    Ok(ended.ending == Ok(()) && ended.text.as_slice() == text.as_slice())
+}
+
+#[test]
+fn an_author_at_work(rt: HostRuntime) -> Result<(), Fail> {
+    let rows: [(&[u8], &[u8]); 6] = [
+        (
+            b"classes\n",
+            b"box,boxes\ncak,cake,cakes\ncat,cats\ndog,dog\n",
+        ),
+        (b"routine last\ntrue\n.\n", b"ok\n"),
+        (
+            b"classes\n",
+            b"box,boxes\ncake,cake,cakes\ncat,cats\ndog,dog\n",
+        ),
+        (b"routine sib\nfalse\n.\n", b"ok\n"),
+        (
+            b"classes\n",
+            b"boxe,boxes\ncake,cake,cakes\ncat,cats\ndog,dog\n",
+        ),
+        (b"class boxes\nclass box\n", b"boxe,boxes\nno 41 Absent\n"),
+    ];
+    assert!(rt; answers_so(rt.alloc(), &rows)?);
+    Ok(())
+}
+
+#[test]
+fn words_come_and_go(rt: HostRuntime) -> Result<(), Fail> {
+    let rows: [(&[u8], &[u8]); 5] = [
+        (b"remove boxes\nadd boxes\n", b"ok\nok\n"),
+        (
+            b"stems\n",
+            b"cats,stem,cat\ncakes,stem,cak\ncake,stem,cak\ndog,stem,dog\nboxes,stem,box\n",
+        ),
+        (b"remove cake\nremove cake\n", b"ok\nno 41 Absent\n"),
+        (b"class cakes\nclass cake\n", b"cak,cakes\nno 41 Absent\n"),
+        (
+            b"remove\nclass\nclasses \n",
+            b"no 41 Absent\nno 41 Absent\nno 52 BadCommand\n",
+        ),
+    ];
+    assert!(rt; answers_so(rt.alloc(), &rows)?);
+    Ok(())
+}
+
+#[test]
+fn refused_edits_of_the_script(rt: HostRuntime) -> Result<(), Fail> {
+    let rows: [(&[u8], &[u8]); 8] = [
+        (b"routine nope\n.\n", b"no 45 NoRoutine\n"),
+        (b"routine\n.\n", b"no 45 NoRoutine\n"),
+        (b"routine tail last\ntrue\n.\n", b"no 45 NoRoutine\n"),
+        (b"routine tail\n.\n", b"no 48 Syntax\n"),
+        (b"routine tail\nnowhere\n.\n", b"no 48 Undeclared\n"),
+        (b"routine nope\n\xff\n.\n", b"no 48 NotUtf8\n"),
+        (b"routine \xff\n\xff\n.\n", b"no 52 BadCommand\n"),
+        (
+            b"classes\n",
+            b"box,boxes\ncak,cake,cakes\ncat,cats\ndog,dog\n",
+        ),
+    ];
+    assert!(rt; answers_so(rt.alloc(), &rows)?);
+    Ok(())
+}
+
+#[test]
+fn classes_without_stems(rt: HostRuntime) -> Result<(), Fail> {
+    let script = b"externals ( stem ) define stem as repeat true\n.\n";
+    let input = after(
+        rt.alloc(),
+        script.as_slice(),
+        b"a\n.\nclasses\nclass a\nremove a\nstems\nclasses\n",
+    )?;
+    let ended = session(rt.alloc(), input.as_slice(), 0, 0)?;
+    assert!(rt; ended.ending == Ok(()));
+    assert!(rt;
+        ended.text.as_slice() == b"a,refused,Steps\nok\n".as_slice(),
+        "{:?}",
+        ended.text
+    );
+    Ok(())
+}
+
+#[test]
+fn blocks_that_are_not_whole(rt: HostRuntime) -> Result<(), Fail> {
+    // The input ends inside a block, also behind a line that is bad.
+    let rows: [(&[u8], &[u8]); 3] = [
+        (b".\nadd undo\nroutine stem\ntrue\n", b"ok\n"),
+        (b".\nadd undo\nroutine \xff\ntrue\n", b"ok\n"),
+        (b".\nroutine stem", b""),
+    ];
+    for (rest, text) in rows {
+        let input = after(rt.alloc(), UN, rest)?;
+        let ended = session(rt.alloc(), input.as_slice(), 0, 0)?;
+        assert!(rt; ended.ending == Err(LoadFault::Input(ServeFault::Cut)));
+        assert!(rt; ended.text.as_slice() == text, "{:?}", ended.text);
+    }
+    // The point may be the last byte of the input.
+    let whole = after(rt.alloc(), UN, b"undo\n.\nroutine stem\ntrue\n.")?;
+    let ended = session(rt.alloc(), whole.as_slice(), 0, 0)?;
+    assert!(rt; ended.ending == Ok(()));
+    assert!(rt; ended.text.as_slice() == b"ok\n".as_slice());
+    // A line that is too long.
+    let mut long = after(rt.alloc(), UN, b".\nadd undo\nroutine stem\n")?;
+    let line = vec![in rt.alloc(); b'a'; 65_537]?;
+    long.extend_from_slice(line.as_slice())?;
+    let broken = session(rt.alloc(), long.as_slice(), 0, 0)?;
+    assert!(rt; broken.ending == Err(LoadFault::Input(ServeFault::LineTooLong)));
+    assert!(rt; broken.text.as_slice() == b"ok\n".as_slice());
     Ok(())
 }
 

@@ -5,7 +5,7 @@ use Rattle.sbl_script.specs.Parsed.{Source}
 use Rattle.sbl_machine.specs.MachineOf.{IsLinkedMachineOf}
 use Rattle.snowbench.specs.Checking.{view_got}
 use Rattle.snowbench.specs.Differences.{difference, row_of}
-use Rattle.snowbench.specs.Rows.{rows_text}
+use Rattle.snowbench.specs.Rows.{records_text}
 use Rattle.snowbench.specs.declared.faults.ServeFault.TheVariants as fault
 use Rattle.snowbench.proofs.CheckFacts.{difference_is, no_pair_fault, no_row, one_row, row_text_is}
 use Rattle.snowbench.proofs.checking.compare.Goals as goal
@@ -18,7 +18,7 @@ returns-in_err-write_all-in-Some-clause-compares g c = λ script made.
     c.in_ok-word.ensures.text.0 c.in_ok-expected.ensures.text.0 (c.in_ok-got.ensures script made) in
     let some : c.in_ok-row_of.field-0 ≡ Some c.in-Some.row = search rules in
     let row = one_row c.in_ok-row_of.field-0 _ c.in-Some.row some c.in_ok-row_of.ensures in
-    let text : rows_text d ≡ c.deref.result.now = row_text_is d row.0 c.deref.result.now (sym rows_are ∙ row.1) (c.deref.ensures.value ∙ row.2) in
+    let text : records_text d ≡ c.deref.result.now = row_text_is d row.0 c.deref.result.now (sym rows_are ∙ row.1) (c.deref.ensures.value ∙ row.2) in
     let wrote : c.from_residual-in_err-write_all-in-Some.result ≡ Err fault.Write = search rules in
     rw wrote (
       no_pair_fault c.args.word.now c.args.expected.now c.in_ok-word.ensures.text.1 c.in_ok-expected.ensures.text.1,
@@ -46,7 +46,7 @@ returns-in_ok-write_all-in-Some-clause-compares g c = λ script made.
     c.in_ok-word.ensures.text.0 c.in_ok-expected.ensures.text.0 (c.in_ok-got.ensures script made) in
     let some : c.in_ok-row_of.field-0 ≡ Some c.in-Some.row = search rules in
     let row = one_row c.in_ok-row_of.field-0 _ c.in-Some.row some c.in_ok-row_of.ensures in
-    let text : rows_text d ≡ c.deref.result.now = row_text_is d row.0 c.deref.result.now (sym rows_are ∙ row.1) (c.deref.ensures.value ∙ row.2) in (
+    let text : records_text d ≡ c.deref.result.now = row_text_is d row.0 c.deref.result.now (sym rows_are ∙ row.1) (c.deref.ensures.value ∙ row.2) in (
       no_pair_fault c.args.word.now c.args.expected.now c.in_ok-word.ensures.text.1 c.in_ok-expected.ensures.text.1,
       ap length (sym rows_are ∙ row.1),
       subst (λ (t : List ℕ). Appends (held c.args.writer.now) (held c.write_all.new.writer) t) (sym text) c.in_ok-write_all-in-Some.ensures.all,

@@ -4,13 +4,19 @@ use Rattle.sbl_bench.specs.Kept.{state_of}
 use Rattle.sbl_script.specs.Parsed.{source_of}
 use Rattle.snowbench.specs.Faults.{left_by_load}
 use Rattle.snowbench.specs.Held.{input_of}
-use Rattle.snowbench.proofs.LoadFacts.{bench_refused, script_parsed, script_refused, words_refused}
+use Rattle.snowbench.proofs.LoadFacts.{bench_refused, script_parsed, script_refused, script_unread, words_refused}
 use Rattle.snowbench.proofs.loading.load.Goals as goal
 
 pub returns-in_err-text-clause-again : goal.returns-in_err-text-clause-again
 returns-in_err-text-clause-again g c = λ fault is.
     let again = c.read_script.ensures.again fault is in
     (search (rules, again.0), again.1)
+
+pub returns-in_err-text-clause-loaded : goal.returns-in_err-text-clause-loaded
+returns-in_err-text-clause-loaded g c = λ none.
+    let left = g.R.Source.left in
+    let p = err_from_is_err_and c.from_residual.result c.from_residual.ensures.1 in
+    rw (p.1, p.2) (script_unread (input_of left c.args.lines.now) _ c.args.external.now (λ b. state_of b) c.in_err-text.field-0.0 (c.in_err-text.ensures.reads none))
 
 pub returns-in-Err-clause-loaded : goal.returns-in-Err-clause-loaded
 returns-in-Err-clause-loaded g c = λ none.

@@ -4,77 +4,71 @@ use Rattle.snowbench.specs.declared.faults.LineFault.{LineFault}
 use Rattle.std.specs.Io.KnownBytes.{Appends}
 use Rattle.std.proofs.KnownBytes.{Keeps-refl}
 use Rattle.sbl_bench.specs.Kept.{state_of}
-use Rattle.snowbench.specs.Answers.{reply_of}
-use Rattle.snowbench.specs.Held.{input_of, line_of, GivesLine}
-use Rattle.snowbench.proofs.SessionFacts.{session_starts, session_goes_on, session_ends, session_at_write}
+use Rattle.std.proofs.lemmas.Result.{err_from_is_err_and}
+use Rattle.sbl_bench.specs.State.{State}
+use Rattle.snowbench.specs.Held.{fault_of, input_of, line_of}
+use Rattle.snowbench.specs.Session.{IsSession}
+use Rattle.snowbench.proofs.SessionFacts.{session_starts, session_goes_on, session_ends, session_at_line, session_at_write, session_open}
 use Rattle.snowbench.proofs.serving.serve.Goals as goal
 
 no_fault : {f : Option LineFault} → f ≡ None → IsSome f → ⊥
 no_fault {f} e some = let none : IsSome {T = LineFault} None = subst IsSome e some in cc none
 
-pub loop-lines-init : goal.loop-lines-init
-loop-lines-init g c = record { session = session_starts _ _ _; fault = refl; read = refl; written = refl; bound = refl; untouched = λ _. (refl, Keeps-refl _, Keeps-refl _) }
+pub loop-bench-init : goal.loop-bench-init
+loop-bench-init g c = record { session = session_starts _ _ _; fault = refl; read = refl; written = refl; bound = refl; untouched = λ _. (refl, Keeps-refl _, Keeps-refl _) }
 
-pub loop-lines-preserved-in_ok-write_reply : goal.loop-lines-preserved-in_ok-write_reply
-loop-lines-preserved-in_ok-write_reply g c = record {
+pub loop-bench-preserved-in_ok-write_reply : goal.loop-bench-preserved-in_ok-write_reply
+loop-bench-preserved-in_ok-write_reply g c = record {
   session =
-      let left = g.R.Source.left in
-      let held = g.W.Sink.held in
-      let line = c.line.result.now in
-      let taken = line_of c.next_line.new.self in
-      let is : taken ≡ line = sym c.line.ensures in
-      let gives : GivesLine (input_of left c.loop-lines.lines) (input_of left c.next_line.new.self) line =
-      subst (λ (x : List ℕ). GivesLine (input_of left c.loop-lines.lines) (input_of left c.next_line.new.self) x) is (c.in_ok-next_line.ensures.more c.if-branch.true) in
-      let fits : length line ≤ 65536 = subst (λ (x : List ℕ). length x ≤ 65536) is (c.in_ok-next_line.ensures.fits c.if-branch.true) in
-      let writes : Appends (held c.loop-lines.writer) (held c.write_reply.new.writer) (reply_of (state_of c.loop-lines.bench) line c.answer-reply.ensures.0) =
-      c.in_ok-write_reply.ensures.all (reply_of (state_of c.loop-lines.bench) line c.answer-reply.ensures.0) c.answer-reply.ensures.1 in
-      session_goes_on _ (input_of left c.loop-lines.lines) _ _ (held c.loop-lines.writer) _ _ (state_of c.loop-lines.bench) _ line c.answer-reply.ensures.0
-      c.loop-lines.invariant.session gives fits writes c.answer-reply.ensures.2;
-  fault = c.in_ok-next_line.ensures.ready.1 ∙ sym c.in_ok-next_line.ensures.ready.0 ∙ c.loop-lines.invariant.fault;
-  read = c.in_ok-next_line.ensures.steady ∙ c.loop-lines.invariant.read;
-  written = c.in_ok-write_reply.ensures.steady ∙ c.loop-lines.invariant.written;
-  bound = c.next_line.ensures.bound ∙ c.loop-lines.invariant.bound;
-  untouched = λ some. absurd (no_fault (sym c.loop-lines.invariant.fault ∙ c.in_ok-next_line.ensures.ready.0) some);
+      session_goes_on _ (input_of g.R.Source.left c.loop-bench.lines) (input_of g.R.Source.left c.next_line.new.self) _ _ (g.W.Sink.held c.loop-bench.writer) _ _ (state_of c.loop-bench.bench) _ _ c.in_ok-reply.reply
+      c.loop-bench.invariant.session (c.in_ok-next_line.ensures.more c.if-branch.true) (c.in_ok-next_line.ensures.fits c.if-branch.true) c.in_ok-reply.ensures.answered c.in_ok-write_reply.ensures.all;
+  fault = c.answer-reply.ensures.remembered ∙ sym c.in_ok-next_line.ensures.ready.0 ∙ c.loop-bench.invariant.fault;
+  read = c.in_ok-reply.ensures.steady ∙ c.in_ok-next_line.ensures.steady ∙ c.loop-bench.invariant.read;
+  written = c.in_ok-write_reply.ensures.steady ∙ c.loop-bench.invariant.written;
+  bound = c.answer-reply.ensures.bound ∙ c.next_line.ensures.bound ∙ c.loop-bench.invariant.bound;
+  untouched = λ some. absurd (no_fault (sym c.loop-bench.invariant.fault ∙ c.in_ok-next_line.ensures.ready.0) some);
 }
 
-pub loop-lines-preserved : goal.loop-lines-preserved
-loop-lines-preserved g c = record {
+pub loop-bench-preserved : goal.loop-bench-preserved
+loop-bench-preserved g c = record {
   session =
-      let left = g.R.Source.left in
-      let held = g.W.Sink.held in
-      let line = c.line.result.now in
-      let taken = line_of c.next_line.new.self in
-      let is : taken ≡ line = sym c.line.ensures in
-      let gives : GivesLine (input_of left c.loop-lines.lines) (input_of left c.next_line.new.self) line =
-      subst (λ (x : List ℕ). GivesLine (input_of left c.loop-lines.lines) (input_of left c.next_line.new.self) x) is (c.in_ok-next_line.ensures.more c.if-branch.true) in
-      let fits : length line ≤ 65536 = subst (λ (x : List ℕ). length x ≤ 65536) is (c.in_ok-next_line.ensures.fits c.if-branch.true) in
-      let writes : Appends (held c.loop-lines.writer) (held c.write_reply.new.writer) (reply_of (state_of c.loop-lines.bench) line c.answer-reply.ensures.0) =
-      c.in_ok-write_reply.ensures.all (reply_of (state_of c.loop-lines.bench) line c.answer-reply.ensures.0) c.answer-reply.ensures.1 in
-      session_goes_on _ (input_of left c.loop-lines.lines) _ _ (held c.loop-lines.writer) _ _ (state_of c.loop-lines.bench) _ line c.answer-reply.ensures.0
-      c.loop-lines.invariant.session gives fits writes c.answer-reply.ensures.2;
-  fault = c.in_ok-next_line.ensures.ready.1 ∙ sym c.in_ok-next_line.ensures.ready.0 ∙ c.loop-lines.invariant.fault;
-  read = c.in_ok-next_line.ensures.steady ∙ c.loop-lines.invariant.read;
-  written = c.in_ok-write_reply.ensures.steady ∙ c.loop-lines.invariant.written;
-  bound = c.next_line.ensures.bound ∙ c.loop-lines.invariant.bound;
-  untouched = λ some. absurd (no_fault (sym c.loop-lines.invariant.fault ∙ c.in_ok-next_line.ensures.ready.0) some);
+      session_goes_on _ (input_of g.R.Source.left c.loop-bench.lines) (input_of g.R.Source.left c.next_line.new.self) _ _ (g.W.Sink.held c.loop-bench.writer) _ _ (state_of c.loop-bench.bench) _ _ c.in_ok-reply.reply
+      c.loop-bench.invariant.session (c.in_ok-next_line.ensures.more c.if-branch.true) (c.in_ok-next_line.ensures.fits c.if-branch.true) c.in_ok-reply.ensures.answered c.in_ok-write_reply.ensures.all;
+  fault = c.answer-reply.ensures.remembered ∙ sym c.in_ok-next_line.ensures.ready.0 ∙ c.loop-bench.invariant.fault;
+  read = c.in_ok-reply.ensures.steady ∙ c.in_ok-next_line.ensures.steady ∙ c.loop-bench.invariant.read;
+  written = c.in_ok-write_reply.ensures.steady ∙ c.loop-bench.invariant.written;
+  bound = c.answer-reply.ensures.bound ∙ c.next_line.ensures.bound ∙ c.loop-bench.invariant.bound;
+  untouched = λ some. absurd (no_fault (sym c.loop-bench.invariant.fault ∙ c.in_ok-next_line.ensures.ready.0) some);
 }
 
 pub returns-clause-session : goal.returns-clause-session
 returns-clause-session g c = λ _.
-    session_ends _ (input_of g.R.Source.left c.loop-lines.lines) _ _ _ _ _ c.loop-lines.invariant.session (c.in_ok-next_line.ensures.end c.if-branch.false).0
+    let end = c.in_ok-next_line.ensures.end c.if-branch.false in
+    session_ends _ (input_of g.R.Source.left c.loop-bench.lines) _ _ _ _ _ c.loop-bench.invariant.session end.2 end.1
+
+pub returns-in_err-next_line-clause-session : goal.returns-in_err-next_line-clause-session
+returns-in_err-next_line-clause-session g c = λ none.
+    let left = g.R.Source.left in
+    let p = err_from_is_err_and c.from_residual.result c.from_residual.ensures.1 in
+    rw (p.1, p.2) (session_at_line _ (input_of left c.loop-bench.lines) _ _ _ _ _ (fault_of c.loop-bench.lines) (line_of c.next_line.new.self) c.in_err-next_line.field-0.0
+    c.loop-bench.invariant.session (c.loop-bench.invariant.fault ∙ none) c.in_err-next_line.ensures.long c.in_err-next_line.ensures.cut)
+
+pub returns-in_err-reply-clause-session : goal.returns-in_err-reply-clause-session
+returns-in_err-reply-clause-session g c = λ _.
+    let left = g.R.Source.left in
+    let held = g.W.Sink.held in
+    let f = c.in_err-reply.field-0.0 in
+    let p = err_from_is_err_and c.from_residual-in_err-reply.result c.from_residual-in_err-reply.ensures.1 in
+    let broken = c.in_err-reply.ensures.broken in
+    rw (p.1, p.2)
+    (subst (λ (x : State). IsSession (input_of left c.args.lines.now) (input_of left c.answer-reply.new.lines) (held c.args.writer.now) (held c.loop-bench.writer) (state_of c.args.bench.now) x (Err f)) (sym broken.1)
+    (session_open _ (input_of left c.loop-bench.lines) (input_of left c.next_line.new.self) _ _ _ _ _ (line_of c.next_line.new.self) f c.loop-bench.invariant.session
+    (c.in_ok-next_line.ensures.more c.if-branch.true) (c.in_ok-next_line.ensures.fits c.if-branch.true) broken.0.0 broken.0.1))
 
 pub returns-in_err-write_reply-clause-session : goal.returns-in_err-write_reply-clause-session
 returns-in_err-write_reply-clause-session g c = λ _.
     let left = g.R.Source.left in
     let held = g.W.Sink.held in
-    let line = c.line.result.now in
-    let taken = line_of c.next_line.new.self in
-    let is : taken ≡ line = sym c.line.ensures in
-    let gives : GivesLine (input_of left c.loop-lines.lines) (input_of left c.next_line.new.self) line =
-    subst (λ (x : List ℕ). GivesLine (input_of left c.loop-lines.lines) (input_of left c.next_line.new.self) x) is (c.in_ok-next_line.ensures.more c.if-branch.true) in
-    let fits : length line ≤ 65536 = subst (λ (x : List ℕ). length x ≤ 65536) is (c.in_ok-next_line.ensures.fits c.if-branch.true) in
-    let writes : Appends (held c.loop-lines.writer) (held c.write_reply.new.writer) (take c.write_reply.ensures.front.0 (reply_of (state_of c.loop-lines.bench) line c.answer-reply.ensures.0)) =
-    c.write_reply.ensures.front.1 (reply_of (state_of c.loop-lines.bench) line c.answer-reply.ensures.0) c.answer-reply.ensures.1 in
     let wrote : c.from_residual-in_err-write_reply.result ≡ Err fault.Write = search rules in
-    rw wrote (session_at_write _ (input_of left c.loop-lines.lines) _ _ (held c.loop-lines.writer) _ _ (state_of c.loop-lines.bench) _ line c.answer-reply.ensures.0 c.write_reply.ensures.front.0
-    c.loop-lines.invariant.session gives fits writes c.answer-reply.ensures.2)
+    rw wrote (session_at_write _ (input_of left c.loop-bench.lines) (input_of left c.next_line.new.self) _ _ (held c.loop-bench.writer) _ _ (state_of c.loop-bench.bench) _ (line_of c.next_line.new.self) c.in_ok-reply.reply
+    c.write_reply.ensures.front.0 c.loop-bench.invariant.session (c.in_ok-next_line.ensures.more c.if-branch.true) (c.in_ok-next_line.ensures.fits c.if-branch.true) c.in_ok-reply.ensures.answered c.write_reply.ensures.front.1)

@@ -1,12 +1,12 @@
-use Rattle.std.proofs.Common.{◌≡◌, ◌≤◌, IsSome}
+use Rattle.std.proofs.Common.{◌≡◌, IsSome}
 use Rattle.std.specs.Io.KnownBytes.{Keeps}
 use Rattle.sbl_bench.specs.Kept.{state_of}
 use Rattle.snowbench.specs.Held.{fault_of, fuel_of, input_of, reads_bound}
 use Rattle.snowbench.specs.Session.{SoFar}
 use Rattle.snowbench.proofs.serving.serve.Given as goal
 
-abbrev pub invariant-loop-lines : goal.invariant-loop-lines
-invariant-loop-lines g l = record {
+abbrev pub invariant-loop-bench : goal.invariant-loop-bench
+invariant-loop-bench g l = record {
   session : SoFar (input_of g.R.Source.left l.fn.lines) (input_of g.R.Source.left l.lines) (g.W.Sink.held l.fn.writer) (g.W.Sink.held l.writer) (state_of l.fn.bench) (state_of l.bench);
   fault : fault_of l.lines ≡ fault_of l.fn.lines;
   read : g.R.Source.failures l.lines.reader ≡ g.R.Source.failures l.fn.lines.reader;
@@ -16,5 +16,5 @@ invariant-loop-lines g l = record {
       × Keeps (input_of g.R.Source.left l.fn.lines) (input_of g.R.Source.left l.lines);
 }
 
-abbrev pub decreases-loop-lines : goal.decreases-loop-lines
-decreases-loop-lines g l = fuel_of l.lines
+abbrev pub decreases-loop-bench : goal.decreases-loop-bench
+decreases-loop-bench g l = fuel_of l.lines

@@ -1,0 +1,13 @@
+-- The words of a line.
+use Rattle.std.specs.Prelude.{ℕ, Bool, List, ◌==◌}
+use Rattle.std.specs.List.{after_first, before_first}
+
+abbrev pub is_space : ℕ → Bool
+is_space b = b == 32
+
+-- the command word is what stands before the line's first space, and its argument what stands after it
+abbrev pub command_word : List ℕ → List ℕ
+command_word line = before_first is_space line
+
+abbrev pub argument : List ℕ → List ℕ
+argument line = after_first is_space line

@@ -1,0 +1,76 @@
+//! Reports of a bench, as a session asks for them.
+ghost use Rattle.std.specs.Prelude.{◌≡◌, ◌≤◌, IfOk, length};
+ghost use Rattle.std.specs.List.{find};
+ghost use Rattle.std.specs.Option.{option_map};
+ghost use Rattle.std.specs.Str.{bytes_eq, chars};
+ghost use Rattle.sbl_bench.specs.Kept.{state_of};
+ghost use Rattle.sbl_bench.specs.Rows.{view_row};
+ghost use Rattle.snowbench.specs.CommandViews.{IsAnswer};
+ghost use Rattle.snowbench.specs.Commands.{Class};
+ghost use Rattle.snowbench.specs.LinesOf.{longest_line};
+ghost use Rattle.snowbench.specs.Rows as spec;
+
+use crate::edits::first_characters;
+use crate::lines::MAX_LINE;
+use crate::records::records_text;
+use crate::replies::{Reply, edit_text, report};
+use sbl_bench::{Bench, EditFault, Row};
+use std::alloc::{AllocError, Global};
+
+/// The report of all rows. A refused growth is the one error.
+pub(crate) fn stems_text(alloc: Global, bench: &Bench) -> Result<Vec<u8>, AllocError>
+    ensures { IfOk result (λ text. text.items ≡ spec.stems_text (state_of bench.now)) }
+{
+    let rows = bench.rows()?;
+    records_text(alloc, &rows)
+}
+
+/// The report of all classes. A refused growth is the one error.
+pub(crate) fn classes_text(alloc: Global, bench: &Bench) -> Result<Vec<u8>, AllocError>
+    ensures { IfOk result (λ text. text.items ≡ spec.classes_text (state_of bench.now)) }
+{
+    let classes = bench.classes()?;
+    records_text(alloc, &classes)
+}
+
+/// The row of a word, if the word is there. Takes no memory.
+fn row_with<'b>(bench: &'b Bench, word: &[char]) -> Option<Row<'b>>
+    ensures { option_map view_row result ≡ find (λ row. bytes_eq word.now row.word) (spec.rows_now (state_of bench.now)) }
+{
+    for i in 0..bench.len() {
+        let row = bench.row(i)?;
+        if word == row.word {
+            return Some(row);
+        }
+    }
+    None
+}
+
+/// The report of a word's class, or of its row where its run is refused. A refused growth is the one error.
+fn class_or_row_text(
+    alloc: Global,
+    bench: &Bench,
+    word: &[char],
+    row: Row<'_>,
+) -> Result<Vec<u8>, AllocError>
+    ensures { IfOk result (λ text. text.items ≡ spec.class_or_row_text (state_of bench.now) word.now (view_row row.entry)) }
+{
+    match bench.class_of(word)? {
+        Some(class) => records_text(alloc, &[class]),
+        None => records_text(alloc, &[row]),
+    }
+}
+
+/// The answer that tells of a word's class; of a word that is not there it says so, and takes no memory.
+pub(crate) fn class_reply(alloc: Global, bench: &Bench, word: &str) -> Reply
+    requires { length word.now ≤ longest_line }
+    ensures { IsAnswer (state_of bench.now) (Class (chars word.now)) result (state_of bench.now) }
+{
+    let mut room = ['\0'; MAX_LINE];
+    let count = first_characters(word, &mut room);
+    let word = &room[..count];
+    match row_with(bench, word) {
+        Some(row) => report(class_or_row_text(alloc, bench, word, row)),
+        None => Reply::Fixed(edit_text(Err(EditFault::Absent))),
+    }
+}
