@@ -1,8 +1,10 @@
 //! The amongs of a tree, in the order of the word `among`, and copies in which another stands in the place of one.
 
 ghost use Rattle.std.specs.Prelude.{◌≡◌, ◌-◌, List, IfOk};
-ghost use Rattle.sbl_grammar.specs.Amongs.{count_amongs, count_in_among, count_in_groups, count_in_others, count_in_rows, put_in_among, put_in_body};
+ghost use Rattle.sbl_grammar.specs.Amongs.{FitsAt, amongs_of_body, count_amongs, count_in_among, count_in_groups, count_in_others, count_in_rows, put_in_among, put_in_body};
 ghost use Rattle.sbl_grammar.specs.Amongs as spec;
+ghost use Rattle.sbl_grammar.specs.Reading.{AreShallow};
+ghost use Rattle.sbl_grammar.specs.Texts.{body, places_in};
 ghost use Rattle.sbl_grammar.specs.View.{view_among, view_command, view_groups, view_others, view_row, view_rows};
 ghost use Rattle.sbl_grammar.specs.Tree as trees;
 
@@ -183,11 +185,12 @@ fn put_in_others(
     Ok((copies, rest))
 }
 
-/// A copy of a routine's body with `among` in the place of its `at`-th, counted from 1 in the order of the word `among`.
-/// Where there is none, as for 0, it is a plain copy.
+/// A copy of a routine's body with `among` in the place of the `at`-th, counted from 1 in the order of the word `among`.
+/// Where there is none, as for 0, it is a plain copy. It is nowhere too deep where the body is not and `among` fits.
 pub fn put_in_place(alloc: Global, row: &Row, at: u64, among: &Among) -> Result<Row, AllocError>
-    ensures { IfOk result (λ r. view_row r ≡ put_in_body (view_row row.now) at (view_among among.now)) }
+    ensures put { IfOk result (λ r. view_row r ≡ put_in_body (view_row row.now) at (view_among among.now)) }
+    ensures shallow { IfOk result (λ r. AreShallow (places_in body (view_row row.now)) → FitsAt at (amongs_of_body (view_row row.now)) (view_among among.now) → AreShallow (places_in body (view_row r))) }
 {
-    let (row, _) = put_in_row(alloc, row, at, among)?;
-    Ok(row)
+    let (copy, _) = put_in_row(alloc, row, at, among)?;
+    Ok(copy)
 }
