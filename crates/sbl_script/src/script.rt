@@ -194,9 +194,9 @@ impl Script {
         ensures fault { IfErr result (λ f. (f ≡ EditFault.OutOfMemory) ⊎ IsEditFault (source_of self.now) (body name.now) text.now f) }
         ensures missing { (f : EditFault) → home (source_of self.now).items (body name.now) ≡ Err f → result ≡ Err f }
     {
-        if edits::routine_of(&self.items, name).is_none() {
+        let Some(_replaced) = edits::routine_of(&self.items, name) else {
             return Err(EditFault::NoRoutine);
-        }
+        };
         let found = self.tokens_in(alloc, name, text)?;
         let body = body_of_tokens(alloc, &found, text.len())?;
         let script = self.with_body(alloc, name, &body)?;
