@@ -1,18 +1,74 @@
-use Rattle.std.proofs.Common.{rules, ◌≡◌, ◌⊎◌, List, ℕ, Some, inr, subst}
+use Rattle.std.proofs.Common.{rules, ◌≡◌, ◌⊎◌, List, ℕ, None, Some, true, false, length, map, inr, refl, sym, ap, subst, ◌∙◌}
+use Rattle.std.proofs.lemmas.Result.{err_from_is_err_and}
 use Rattle.sbl_text.specs.declared.fault.ScriptFault.TheVariants as fault
-use Rattle.sbl_grammar.specs.View.{view_row}
+use Rattle.sbl_text.specs.declared.token.Token.{Token}
+use Rattle.sbl_text.specs.Tokens.{placed_of}
+use Rattle.sbl_grammar.specs.Amongs.{Held, amongs_of_body, count_in_among, put_in_body}
+use Rattle.sbl_grammar.specs.Places.{places}
+use Rattle.sbl_grammar.specs.Reading.{AreShallow, IsReadAs}
+use Rattle.sbl_grammar.specs.Texts as texts
+use Rattle.sbl_grammar.specs.Tree.{Item}
+use Rattle.sbl_grammar.specs.View.{RowView, view_among, view_items, view_row}
+use Rattle.sbl_script.specs.Checks.{fault_of}
 use Rattle.sbl_script.specs.Parsed.{source_of}
-use Rattle.sbl_script.specs.Edits.{IsRewriteFault, IsRewritten, routine_of}
+use Rattle.sbl_script.specs.Reading.{IsUnread, first_left_out, terminals}
+use Rattle.sbl_script.specs.Edits.{among, body, home, home_of_among, home_of_body, items_with, routine_of}
 use Rattle.sbl_script.proofs.Editing as editing
+use Rattle.sbl_script.proofs.Shallow.{fits, routine_shallow}
 use Rattle.sbl_script.proofs.script.Script.with_routine.Goals as goal
 
-pub returns-else-eq-clause-fault : goal.returns-else-eq-clause-fault
-returns-else-eq-clause-fault c =
-    let found : routine_of c.args.name.now (source_of c.args.self.now).items ≡ Some (view_row c.in-Some._body.now) = search rules in
-    let wrong = subst (λ (bytes : List ℕ). (c.in-Err.fault ≡ fault.OutOfMemory) ⊎ IsRewriteFault (source_of c.args.self.now) c.args.name.now bytes c.in-Err.fault) c.as_bytes.ensures.value c.in-Err.ensures.fault in
-    inr ((view_row c.in-Some._body.now, found), editing.other (λ (e : c.in-Err.fault ≡ fault.OutOfMemory). search (rules, e)) wrong)
+pub returns-in_err-found-clause-fault : goal.returns-in_err-found-clause-fault
+returns-in_err-found-clause-fault c =
+    let p = err_from_is_err_and c.from_residual.result c.from_residual.ensures.1 in
+    let s = source_of c.args.self.now in
+    let n = c.args.name.now in
+    let text = c.args.text.now in
+    let h = home_of_body in
+    let found : routine_of n s.items ≡ Some (view_row c.in-Some._replaced.now) = search rules in
+    let there = editing.body_home s.items n (view_row c.in-Some._replaced.now) found in
+    rw p.1 (editing.told_as s (body n) h text _ p.0 there p.2 (editing.text_told s n h text _ c.in_err-found.ensures.fault))
 
-pub returns-in-Ok-clause-script : goal.returns-in-Ok-clause-script
-returns-in-Ok-clause-script c =
-    let found : routine_of c.args.name.now (source_of c.args.self.now).items ≡ Some (view_row c.in-Some._body.now) = search rules in
-    ((view_row c.in-Some._body.now, found), subst (λ (bytes : List ℕ). IsRewritten (source_of c.args.self.now) c.args.name.now bytes (source_of c.in-Ok.script)) c.as_bytes.ensures.value c.in-Ok.ensures.script)
+pub returns-in_err-body-clause-fault : goal.returns-in_err-body-clause-fault
+returns-in_err-body-clause-fault c =
+    let p = err_from_is_err_and c.from_residual-in_err-body.result c.from_residual-in_err-body.ensures.1 in
+    let s = source_of c.args.self.now in
+    let n = c.args.name.now in
+    let text = c.args.text.now in
+    let h = home_of_body in
+    let found : routine_of n s.items ≡ Some (view_row c.in-Some._replaced.now) = search rules in
+    let there = editing.body_home s.items n (view_row c.in-Some._replaced.now) found in
+    let f = c.in_err-body.field-0.0 in
+    let ts = map placed_of c.in_ok-found.found.items in
+    let unread = subst (λ (xs : List Token). (f ≡ fault.OutOfMemory) ⊎ IsUnread texts.body (map placed_of xs) (length text) f) c.deref-2.ensures.value c.in_err-body.ensures.fault in
+    rw p.1 (editing.told_as s (body n) h text f p.0 there p.2 (editing.unread_told s n h text ts f c.in_ok-found.ensures.tokens unread))
+
+pub returns-in_err-script-clause-fault : goal.returns-in_err-script-clause-fault
+returns-in_err-script-clause-fault c =
+    let p = err_from_is_err_and c.from_residual-in_err-script.result c.from_residual-in_err-script.ensures.1 in
+    let s = source_of c.args.self.now in
+    let n = c.args.name.now in
+    let text = c.args.text.now in
+    let h = home_of_body in
+    let found : routine_of n s.items ≡ Some (view_row c.in-Some._replaced.now) = search rules in
+    let there = editing.body_home s.items n (view_row c.in-Some._replaced.now) found in
+    let ts = map placed_of c.in_ok-found.found.items in
+    let x = view_row c.in_ok-body.body in
+    let offered = subst (λ (xs : List Token). first_left_out (map placed_of xs) ≡ None) c.deref-2.ensures.value c.in_ok-body.ensures.offered in
+    let read = subst (λ (xs : List Token). IsReadAs texts.body (terminals (map placed_of xs)) x) c.deref-2.ensures.value c.in_ok-body.ensures.tree in
+    let f = c.in_err-script.field-0.0 in
+    rw p.1 (editing.told_as s (body n) h text f p.0 there p.2 (editing.check_told s n h text ts x f c.in_ok-found.ensures.tokens offered read c.in_err-script.ensures.fault))
+
+pub returns-clause-script : goal.returns-clause-script
+returns-clause-script c =
+    let s = source_of c.args.self.now in
+    let n = c.args.name.now in
+    let text = c.args.text.now in
+    let h = home_of_body in
+    let found : routine_of n s.items ≡ Some (view_row c.in-Some._replaced.now) = search rules in
+    let there = editing.body_home s.items n (view_row c.in-Some._replaced.now) found in
+    let ts = map placed_of c.in_ok-found.found.items in
+    let x = view_row c.in_ok-body.body in
+    let offered = subst (λ (xs : List Token). first_left_out (map placed_of xs) ≡ None) c.deref-2.ensures.value c.in_ok-body.ensures.offered in
+    let read = subst (λ (xs : List Token). IsReadAs texts.body (terminals (map placed_of xs)) x) c.deref-2.ensures.value c.in_ok-body.ensures.tree in
+    let u = source_of c.in_ok-script.script in
+    (h, there, editing.substituted s u n h text ts x true c.in_ok-found.ensures.tokens offered read c.in_ok-script.ensures.items c.in_ok-script.ensures.external c.in_ok-script.ensures.well_declared refl)

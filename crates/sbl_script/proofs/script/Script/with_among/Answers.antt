@@ -1,0 +1,132 @@
+use Rattle.std.proofs.Common.{rules, ◌≡◌, ◌⊎◌, List, ℕ, None, Some, true, false, length, map, inr, refl, sym, ap, subst, ◌∙◌}
+use Rattle.std.proofs.lemmas.Result.{err_from_is_err_and}
+use Rattle.sbl_text.specs.declared.fault.ScriptFault.TheVariants as fault
+use Rattle.sbl_text.specs.declared.token.Token.{Token}
+use Rattle.sbl_text.specs.Tokens.{placed_of}
+use Rattle.sbl_grammar.specs.Amongs.{Held, amongs_of_body, count_in_among, put_in_body}
+use Rattle.sbl_grammar.specs.Places.{places}
+use Rattle.sbl_grammar.specs.Reading.{AreShallow, IsReadAs}
+use Rattle.sbl_grammar.specs.Texts as texts
+use Rattle.sbl_grammar.specs.Tree.{Item}
+use Rattle.sbl_grammar.specs.View.{RowView, view_among, view_items, view_row}
+use Rattle.sbl_script.specs.Checks.{fault_of}
+use Rattle.sbl_script.specs.Parsed.{source_of}
+use Rattle.sbl_script.specs.Reading.{IsUnread, first_left_out, terminals}
+use Rattle.sbl_script.specs.Edits.{among, body, home, home_of_among, home_of_body, items_with, routine_of}
+use Rattle.sbl_script.proofs.Editing as editing
+use Rattle.sbl_script.proofs.Shallow.{fits, routine_shallow}
+use Rattle.sbl_script.proofs.script.Script.with_among.Goals as goal
+
+pub nth_among-requires : goal.nth_among-requires
+nth_among-requires c =
+    let items = (source_of c.args.self.now).items in
+    let found : routine_of c.args.routine.now items ≡ Some (view_row c.in-Some.body.now) = search rules in
+    let own : view_items c.self.inside.items.items ≡ items = search rules in
+    routine_shallow c.args.routine.now items (view_row c.in-Some.body.now) (subst (λ (is : List Item). AreShallow (places is)) own c.self.invariant.1) found
+
+pub returns-in_err-found-clause-fault : goal.returns-in_err-found-clause-fault
+returns-in_err-found-clause-fault c =
+    let p = err_from_is_err_and c.from_residual.result c.from_residual.ensures.1 in
+    let s = source_of c.args.self.now in
+    let n = c.args.routine.now in
+    let k = c.args.k in
+    let text = c.args.text.now in
+    let b = view_row c.in-Some.body.now in
+    let old = view_among c.in-Some-nth_among.replaced.now in
+    let d : Held = (c.in-Some-nth_among.depth, old.0, old.1) in
+    let h = home_of_among b k d in
+    let found : routine_of n s.items ≡ Some b = search rules in
+    let there = editing.among_home s.items n k b d found c.in-Some-nth_among.ensures.held in
+    rw p.1 (editing.told_as s (among n k) h text _ p.0 there p.2 (editing.text_told s n h text _ c.in_err-found.ensures.fault))
+
+pub returns-in_err-among-clause-fault : goal.returns-in_err-among-clause-fault
+returns-in_err-among-clause-fault c =
+    let p = err_from_is_err_and c.from_residual-in_err-among.result c.from_residual-in_err-among.ensures.1 in
+    let s = source_of c.args.self.now in
+    let n = c.args.routine.now in
+    let k = c.args.k in
+    let text = c.args.text.now in
+    let b = view_row c.in-Some.body.now in
+    let old = view_among c.in-Some-nth_among.replaced.now in
+    let d : Held = (c.in-Some-nth_among.depth, old.0, old.1) in
+    let h = home_of_among b k d in
+    let found : routine_of n s.items ≡ Some b = search rules in
+    let there = editing.among_home s.items n k b d found c.in-Some-nth_among.ensures.held in
+    let f = c.in_err-among.field-0.0 in
+    let ts = map placed_of c.in_ok-found.found.items in
+    let unread = subst (λ (xs : List Token). (f ≡ fault.OutOfMemory) ⊎ IsUnread (texts.among c.in-Some-nth_among.depth) (map placed_of xs) (length text) f) c.deref-2.ensures.value c.in_err-among.ensures.fault in
+    rw p.1 (editing.told_as s (among n k) h text f p.0 there p.2 (editing.unread_told s n h text ts f c.in_ok-found.ensures.tokens unread))
+
+pub with_body-requires : goal.with_body-requires
+with_body-requires c =
+    let items = (source_of c.args.self.now).items in
+    let b = view_row c.in-Some.body.now in
+    let old = view_among c.in-Some-nth_among.replaced.now in
+    let d : Held = (c.in-Some-nth_among.depth, old.0, old.1) in
+    let found : routine_of c.args.routine.now items ≡ Some b = search rules in
+    let own : view_items c.self.inside.items.items ≡ items = search rules in
+    let shallow = routine_shallow c.args.routine.now items b (subst (λ (is : List Item). AreShallow (places is)) own c.self.invariant.1) found in
+    c.in_ok-body.ensures.shallow shallow (fits c.args.k (amongs_of_body b) d (view_among c.in_ok-among.among) c.in-Some-nth_among.ensures.held c.in_ok-among.ensures.tree.1)
+
+pub returns-in_err-script-clause-fault : goal.returns-in_err-script-clause-fault
+returns-in_err-script-clause-fault c =
+    let p = err_from_is_err_and c.from_residual-in_err-script.result c.from_residual-in_err-script.ensures.1 in
+    let s = source_of c.args.self.now in
+    let n = c.args.routine.now in
+    let k = c.args.k in
+    let text = c.args.text.now in
+    let b = view_row c.in-Some.body.now in
+    let old = view_among c.in-Some-nth_among.replaced.now in
+    let d : Held = (c.in-Some-nth_among.depth, old.0, old.1) in
+    let h = home_of_among b k d in
+    let found : routine_of n s.items ≡ Some b = search rules in
+    let there = editing.among_home s.items n k b d found c.in-Some-nth_among.ensures.held in
+    let ts = map placed_of c.in_ok-found.found.items in
+    let x = view_among c.in_ok-among.among in
+    let offered = subst (λ (xs : List Token). first_left_out (map placed_of xs) ≡ None) c.deref-2.ensures.value c.in_ok-among.ensures.offered in
+    let read = subst (λ (xs : List Token). IsReadAs (texts.among c.in-Some-nth_among.depth) (terminals (map placed_of xs)) x) c.deref-2.ensures.value c.in_ok-among.ensures.tree in
+    let f = c.in_err-script.field-0.0 in
+    let failed = subst (λ (r : RowView). (f ≡ fault.OutOfMemory) ⊎ (fault_of (items_with n r s.items) s.external ≡ Some f)) c.in_ok-body.ensures.put c.in_err-script.ensures.fault in
+    rw p.1 (editing.told_as s (among n k) h text f p.0 there p.2 (editing.check_told s n h text ts x f c.in_ok-found.ensures.tokens offered read failed))
+
+pub returns-then-has_as_many_amongs-clause-script : goal.returns-then-has_as_many_amongs-clause-script
+returns-then-has_as_many_amongs-clause-script c =
+    let s = source_of c.args.self.now in
+    let n = c.args.routine.now in
+    let k = c.args.k in
+    let text = c.args.text.now in
+    let b = view_row c.in-Some.body.now in
+    let old = view_among c.in-Some-nth_among.replaced.now in
+    let d : Held = (c.in-Some-nth_among.depth, old.0, old.1) in
+    let h = home_of_among b k d in
+    let found : routine_of n s.items ≡ Some b = search rules in
+    let there = editing.among_home s.items n k b d found c.in-Some-nth_among.ensures.held in
+    let ts = map placed_of c.in_ok-found.found.items in
+    let x = view_among c.in_ok-among.among in
+    let offered = subst (λ (xs : List Token). first_left_out (map placed_of xs) ≡ None) c.deref-2.ensures.value c.in_ok-among.ensures.offered in
+    let read = subst (λ (xs : List Token). IsReadAs (texts.among c.in-Some-nth_among.depth) (terminals (map placed_of xs)) x) c.deref-2.ensures.value c.in_ok-among.ensures.tree in
+    let u = source_of c.in_ok-script.script in
+    let items = c.in_ok-script.ensures.items ∙ ap (λ (r : RowView). items_with n r s.items) c.in_ok-body.ensures.put in
+    let counted : h.keeps_count x ≡ true = search rules in
+    (h, there, editing.substituted s u n h text ts x true c.in_ok-found.ensures.tokens offered read items c.in_ok-script.ensures.external c.in_ok-script.ensures.well_declared counted)
+
+pub returns-clause-fault : goal.returns-clause-fault
+returns-clause-fault c =
+    let s = source_of c.args.self.now in
+    let n = c.args.routine.now in
+    let k = c.args.k in
+    let text = c.args.text.now in
+    let b = view_row c.in-Some.body.now in
+    let old = view_among c.in-Some-nth_among.replaced.now in
+    let d : Held = (c.in-Some-nth_among.depth, old.0, old.1) in
+    let h = home_of_among b k d in
+    let found : routine_of n s.items ≡ Some b = search rules in
+    let there = editing.among_home s.items n k b d found c.in-Some-nth_among.ensures.held in
+    let ts = map placed_of c.in_ok-found.found.items in
+    let x = view_among c.in_ok-among.among in
+    let offered = subst (λ (xs : List Token). first_left_out (map placed_of xs) ≡ None) c.deref-2.ensures.value c.in_ok-among.ensures.offered in
+    let read = subst (λ (xs : List Token). IsReadAs (texts.among c.in-Some-nth_among.depth) (terminals (map placed_of xs)) x) c.deref-2.ensures.value c.in_ok-among.ensures.tree in
+    let u = source_of c.in_ok-script.script in
+    let items = c.in_ok-script.ensures.items ∙ ap (λ (r : RowView). items_with n r s.items) c.in_ok-body.ensures.put in
+    let counted : h.keeps_count x ≡ false = search rules in
+    inr (h, there, u, editing.substituted s u n h text ts x false c.in_ok-found.ensures.tokens offered read items c.in_ok-script.ensures.external c.in_ok-script.ensures.well_declared counted)
