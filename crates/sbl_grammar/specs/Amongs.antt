@@ -1,6 +1,8 @@
 -- The amongs of a tree, in the order of the word `among`, and a tree in which another stands in the place of one.
-use Rattle.std.specs.Prelude.{ℕ, zero, suc, ◌+◌, ◌-◌, List, [], ◌∷◌, Option, Some, None, nat_eq, if◌then◌else◌}
+use Rattle.std.specs.Prelude.{◌≡◌, ℕ, zero, suc, ◌+◌, ◌-◌, List, [], ◌∷◌, Option, Some, None, nat_eq, if◌then◌else◌}
 use Rattle.sbl_grammar.specs.Tree.{Tree, bracket, single, quoted, called, excluded, prefixed, counted, moved, named, edited, limited, assigned, compared, values_compared, chosen, Rows, no_rows, row, Others, no_others, joined, Starter, no_starter, starter, Groups, bare, group}
+use Rattle.sbl_grammar.specs.Places.{placed}
+use Rattle.sbl_grammar.specs.Reading.{AreShallow}
 
 -- the depth at which an among stands, its starter and its groups
 abbrev pub Held : Type 0
@@ -105,3 +107,7 @@ put_in_body b k a = (put_among b.0 k a, put_in_others b.1 (k - count_amongs b.0)
 -- an among in which another stands in the place of itself, the first, or of one inside
 abbrev pub put_in_among : Starter × Groups → ℕ → Starter × Groups → Starter × Groups
 put_in_among b k a = if nat_eq k 1 then a else (put_in_starter b.0 (k - 1) a, put_in_groups b.1 (k - 1 - count_in_starter b.0) a)
+
+-- an among may stand where the one with this number does: none of its tokens is too deep there
+abbrev pub FitsAt : ℕ → List Held → Starter × Groups → Type 0
+FitsAt k hs a = (h : Held) → nth_held k hs ≡ Some h → AreShallow (placed (chosen a.0 a.1) h.0 [])

@@ -8,6 +8,7 @@ pub mod Texts
 pub mod Reading
 pub mod First
 pub mod Starts
+pub mod Found
 pub mod Gives
 pub mod Told
 pub mod Laws

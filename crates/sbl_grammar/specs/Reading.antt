@@ -19,9 +19,13 @@ IsTooDeep t before x = (tree : TreeOf t) × (front : List Placed) × (depth : �
 abbrev pub HasNoneTooDeep : Text → List Terminal → Type 0
 HasNoneTooDeep t before = (b c : List Terminal) (x : Terminal) → before ≡ b ++ x ∷ c → IsTooDeep t b x → ⊥
 
+-- none stands too deep
+abbrev pub AreShallow : List Placed → Type 0
+AreShallow ps = AllByRecursion (λ p. p.1 ≤ max_depth) ps
+
 -- the tree of the tokens, nowhere too deep
 abbrev pub IsReadAs : (t : Text) → List Terminal → TreeOf t → Type 0
-IsReadAs t all tree = (tokens_of t tree ≡ all) × AllByRecursion (λ p. p.1 ≤ max_depth) (places_in t tree)
+IsReadAs t all tree = (tokens_of t tree ≡ all) × AreShallow (places_in t tree)
 
 -- the first token cannot follow those before it; with no token left: more is needed
 abbrev pub CannotFollow : Text → List Terminal → List Terminal → Type 0

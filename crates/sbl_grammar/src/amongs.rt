@@ -1,8 +1,10 @@
 //! The amongs of a tree, in the order of the word `among`, and copies in which another stands in the place of one.
 
 ghost use Rattle.std.specs.Prelude.{◌≡◌, ◌-◌, List, IfOk};
-ghost use Rattle.sbl_grammar.specs.Amongs.{count_amongs, count_in_among, count_in_groups, count_in_others, count_in_rows, put_in_among, put_in_body};
+ghost use Rattle.sbl_grammar.specs.Amongs.{FitsAt, amongs_of_body, count_amongs, count_in_among, count_in_groups, count_in_others, count_in_rows, put_in_among, put_in_body};
 ghost use Rattle.sbl_grammar.specs.Amongs as spec;
+ghost use Rattle.sbl_grammar.specs.Reading.{AreShallow};
+ghost use Rattle.sbl_grammar.specs.Texts.{body, places_in};
 ghost use Rattle.sbl_grammar.specs.View.{view_among, view_command, view_groups, view_others, view_row, view_rows};
 ghost use Rattle.sbl_grammar.specs.Tree as trees;
 
@@ -15,9 +17,9 @@ use std::alloc::{AllocError, Global};
 fn put_in_command(
     alloc: Global,
     command: &Command,
-    at: usize,
+    at: u64,
     among: &Among,
-) -> Result<(Command, usize), AllocError>
+) -> Result<(Command, u64), AllocError>
     ensures put { IfOk result (λ x. view_command x.0 ≡ spec.put_among (view_command command.now) at (view_among among.now)) }
     ensures rest { IfOk result (λ x. x.1 ≡ at - count_amongs (view_command command.now)) }
 {
@@ -70,9 +72,9 @@ fn put_in_command(
 fn put_in_one(
     alloc: Global,
     one: &Among,
-    at: usize,
+    at: u64,
     among: &Among,
-) -> Result<(Among, usize), AllocError>
+) -> Result<(Among, u64), AllocError>
     ensures put { IfOk result (λ x. view_among x.0 ≡ put_in_among (view_among one.now) at (view_among among.now)) }
     ensures rest { IfOk result (λ x. x.1 ≡ at - count_in_among (view_among one.now)) }
 {
@@ -103,9 +105,9 @@ fn put_in_one(
 fn put_in_groups(
     alloc: Global,
     groups: &Vec<Group>,
-    at: usize,
+    at: u64,
     among: &Among,
-) -> Result<(Vec<Group>, usize), AllocError>
+) -> Result<(Vec<Group>, u64), AllocError>
     ensures put { IfOk result (λ x. (bare : List trees.Entry) → view_groups x.0.items bare ≡ spec.put_in_groups (view_groups groups.now.items bare) at (view_among among.now)) }
     ensures rest { IfOk result (λ x. (bare : List trees.Entry) → x.1 ≡ at - count_in_groups (view_groups groups.now.items bare)) }
 {
@@ -129,9 +131,9 @@ fn put_in_groups(
 fn put_in_rows(
     alloc: Global,
     rows: &Vec<Row>,
-    at: usize,
+    at: u64,
     among: &Among,
-) -> Result<(Vec<Row>, usize), AllocError>
+) -> Result<(Vec<Row>, u64), AllocError>
     ensures put { IfOk result (λ x. view_rows x.0.items ≡ spec.put_in_rows (view_rows rows.now.items) at (view_among among.now)) }
     ensures rest { IfOk result (λ x. x.1 ≡ at - count_in_rows (view_rows rows.now.items)) }
 {
@@ -149,9 +151,9 @@ fn put_in_rows(
 fn put_in_row(
     alloc: Global,
     row: &Row,
-    at: usize,
+    at: u64,
     among: &Among,
-) -> Result<(Row, usize), AllocError>
+) -> Result<(Row, u64), AllocError>
     ensures put { IfOk result (λ x. view_row x.0 ≡ put_in_body (view_row row.now) at (view_among among.now)) }
     ensures rest { IfOk result (λ x. x.1 ≡ at - count_amongs (view_row row.now).0 - count_in_others (view_row row.now).1) }
 {
@@ -164,9 +166,9 @@ fn put_in_row(
 fn put_in_others(
     alloc: Global,
     others: &Vec<Joined>,
-    at: usize,
+    at: u64,
     among: &Among,
-) -> Result<(Vec<Joined>, usize), AllocError>
+) -> Result<(Vec<Joined>, u64), AllocError>
     ensures put { IfOk result (λ x. view_others x.0.items ≡ spec.put_in_others (view_others others.now.items) at (view_among among.now)) }
     ensures rest { IfOk result (λ x. x.1 ≡ at - count_in_others (view_others others.now.items)) }
 {
@@ -183,11 +185,12 @@ fn put_in_others(
     Ok((copies, rest))
 }
 
-/// A copy of a routine's body with `among` in the place of its `at`-th, counted from 1 in the order of the word `among`.
-/// Where there is none, as for 0, it is a plain copy.
-pub fn put_in_place(alloc: Global, row: &Row, at: usize, among: &Among) -> Result<Row, AllocError>
-    ensures { IfOk result (λ r. view_row r ≡ put_in_body (view_row row.now) at (view_among among.now)) }
+/// A copy of a routine's body with `among` in the place of the `at`-th, counted from 1 in the order of the word `among`.
+/// Where there is none, as for 0, it is a plain copy. It is nowhere too deep where the body is not and `among` fits.
+pub fn put_in_place(alloc: Global, row: &Row, at: u64, among: &Among) -> Result<Row, AllocError>
+    ensures put { IfOk result (λ r. view_row r ≡ put_in_body (view_row row.now) at (view_among among.now)) }
+    ensures shallow { IfOk result (λ r. AreShallow (places_in body (view_row row.now)) → FitsAt at (amongs_of_body (view_row row.now)) (view_among among.now) → AreShallow (places_in body (view_row r))) }
 {
-    let (row, _) = put_in_row(alloc, row, at, among)?;
-    Ok(row)
+    let (copy, _) = put_in_row(alloc, row, at, among)?;
+    Ok(copy)
 }

@@ -1,6 +1,6 @@
 //! The tree of some tokens.
 
-ghost use Rattle.std.specs.Prelude.{◌≡◌, ◌⊎◌, ◌≤◌, ◌∷◌, [], List, IfOk, IfErr, map};
+ghost use Rattle.std.specs.Prelude.{◌≡◌, ◌⊎◌, ◌≤◌, ◌∷◌, [], List, IfOk, IfErr, length, map};
 ghost use Rattle.sbl_text.specs.Lexemes.{Lexeme};
 ghost use Rattle.sbl_grammar.specs.Terminal.{Terminal, terminals_of, terminal_of, lexeme_as};
 ghost use Rattle.sbl_grammar.specs.Tree as trees;
@@ -9,6 +9,7 @@ ghost use Rattle.sbl_grammar.specs.Texts.{script, body, first_stack};
 ghost use Rattle.sbl_grammar.specs.Texts as texts;
 ghost use Rattle.sbl_grammar.specs.Reading.{IsReadAs};
 ghost use Rattle.sbl_grammar.specs.View.{view_among, view_argument, view_items, view_row, view_term};
+ghost use Rattle.sbl_grammar.specs.Amongs.{count_in_among};
 ghost use Rattle.sbl_grammar.specs.Told.{IsFaultOf, place_at, fault_told};
 ghost use Rattle.sbl_grammar.specs.Gives.{Fails};
 ghost use Rattle.sbl_grammar.specs.Laws.{FaultIsOne, PlacesAreWritten, TreeOrFault, TreesAreOne};
@@ -121,6 +122,7 @@ pub fn parse_among(
 ) -> Result<Among, ScriptFault>
     requires { depth ≤ max_depth }
     ensures read { IfOk result (λ a. IsReadAs (texts.among depth) (terminals_of tokens.now) (view_among a)) }
+    ensures few { IfOk result (λ a. count_in_among (view_among a) ≤ length tokens.now) }
     ensures fault { IfErr result (λ f. (f ≡ ScriptFault.OutOfMemory) ⊎ IsFaultOf (texts.among depth) tokens.now end f) }
 {
     match whole_among(alloc, tokens, depth) {

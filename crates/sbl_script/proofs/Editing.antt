@@ -1,19 +1,23 @@
 -- What is found of an edit's text.
-use Rattle.std.proofs.Common.{◌≡◌, ◌⊎◌, ◌≤◌, ℕ, List, length, None, Some, Result, Ok, Err, IfErr, inl, inr, sym, ap, subst, ◌∙◌}
+use Rattle.std.proofs.Common.{◌≡◌, ◌⊎◌, ◌≤◌, ℕ, Bool, true, false, List, length, Option, None, Some, Result, Ok, Err, IfOk, IfErr, inl, inr, refl, sym, ap, subst, ◌∙◌}
 use Rattle.std.specs.Str.{IsUtf8, chars}
 use Rattle.sbl_text.specs.declared.fault.ScriptFault.{ScriptFault}
 use Rattle.sbl_text.specs.declared.fault.ScriptFault.TheVariants as fault
 use Rattle.sbl_text.specs.Escapes.{InForce}
-use Rattle.sbl_text.specs.States.{start_under}
-use Rattle.sbl_text.specs.Tokens.{Placed, ArePlacedFrom}
+use Rattle.sbl_text.specs.States.{State, start_under}
+use Rattle.sbl_text.specs.Tokens.{Placed, ArePlacedFrom, IsFirstFaultFrom}
+use Rattle.sbl_grammar.specs.Amongs.{Held, amongs_of_body, nth_held}
 use Rattle.sbl_grammar.specs.Tree.{Item}
+use Rattle.sbl_grammar.specs.Texts.{TreeOf}
 use Rattle.sbl_grammar.specs.View.{RowView}
-use Rattle.sbl_grammar.specs.Texts as texts
 use Rattle.sbl_grammar.specs.Reading.{IsReadAs}
+use Rattle.sbl_script.specs.declared.edit_fault.EditFault.{EditFault}
+use Rattle.sbl_script.specs.declared.edit_fault.EditFault.TheVariants as edits
 use Rattle.sbl_script.specs.Parsed.{Source}
-use Rattle.sbl_script.specs.Checks.{fault_of}
-use Rattle.sbl_script.specs.Reading.{HasTokens, IsUnread, first_left_out, max_length, terminals}
-use Rattle.sbl_script.specs.Edits.{IsRewriteFault, items_with, state_before}
+use Rattle.sbl_script.specs.Checks.{WellDeclared, fault_of}
+use Rattle.sbl_script.specs.Reading.{HasTokens, IsTextFault, IsUnread, first_left_out, max_length, terminals}
+use Rattle.sbl_script.specs.Refusals.{Refuses}
+use Rattle.sbl_script.specs.Edits.{ScriptEdit, body, among, Home, IsEdited, IsEditFault, IsFaultAt, IsSubstituted, home, home_in, home_of_among, home_of_body, home_of_held, items_with, routine_name, routine_of, state_before}
 
 pub tokens_there : (e f : InForce) (text bytes : List ℕ) (ts : List Placed) → e ≡ f → text ≡ bytes → length bytes ≤ max_length → IsUtf8 bytes → ArePlacedFrom (start_under e) (chars text) ts → HasTokens (start_under f) bytes ts
 tokens_there e f text bytes ts same is short utf8 cut = record {
@@ -22,17 +26,83 @@ tokens_there e f text bytes ts same is short utf8 cut = record {
   cut = subst (λ (x : InForce). ArePlacedFrom (start_under x) (chars bytes) ts) same (subst (λ (x : List ℕ). ArePlacedFrom (start_under e) (chars x) ts) is cut);
 }
 
-pub unread_there : (s : Source) (name bytes : List ℕ) (ts : List Placed) (end : ℕ) (f : ScriptFault) → HasTokens (state_before name s.items) bytes ts → end ≡ length bytes → (f ≡ fault.OutOfMemory) ⊎ IsUnread texts.body ts end f → (f ≡ fault.OutOfMemory) ⊎ IsRewriteFault s name bytes f
-unread_there s name bytes ts end f h e (inl m) = inl m
-unread_there s name bytes ts end f h e (inr u) = inr (inr (inl (ts, h, subst (λ (n : ℕ). IsUnread texts.body ts n f) e u)))
+-- ---- the home
 
-pub checked_there : {X : Type 0} (r : Result X ScriptFault) (s : Source) (name bytes : List ℕ) (ts : List Placed) (body : RowView) (items : List Item) (external : List ℕ) → HasTokens (state_before name s.items) bytes ts → first_left_out ts ≡ None → IsReadAs texts.body (terminals ts) body → items ≡ items_with name body s.items
-    → external ≡ s.external → IfErr r (λ f. (f ≡ fault.OutOfMemory) ⊎ (fault_of items external ≡ Some f)) → IfErr r (λ f. (f ≡ fault.OutOfMemory) ⊎ IsRewriteFault s name bytes f)
-checked_there (Ok x) s name bytes ts body items external h offered tree is named g = g
-checked_there (Err f) s name bytes ts body items external h offered tree is named (inl m) = inl m
-checked_there (Err f) s name bytes ts body items external h offered tree is named (inr g) =
-    inr (inr (inr (ts, h, offered, record { body = body; tree = tree; is = ap (λ (x : List Item). fault_of x s.external) (sym is) ∙ ap (λ (x : List ℕ). fault_of items x) (sym named) ∙ g })))
+pub no_routine : (items : List Item) (e : ScriptEdit) → routine_of (routine_name e) items ≡ None → home items e ≡ Err edits.NoRoutine
+no_routine items e is = ap (λ (o : Option RowView). home_in o e) is
 
-pub other : {X Y : Type 0} → (X → ⊥) → X ⊎ Y → Y
-other never (inl x) = absurd (never x)
-other never (inr y) = y
+pub body_home : (items : List Item) (n : List ℕ) (b : RowView) → routine_of n items ≡ Some b → home items (body n) ≡ Ok home_of_body
+body_home items n b is = ap (λ (o : Option RowView). home_in o (body n)) is
+
+pub no_among : (items : List Item) (n : List ℕ) (k : ℕ) (b : RowView) → routine_of n items ≡ Some b → nth_held k (amongs_of_body b) ≡ None → home items (among n k) ≡ Err edits.NoAmong
+no_among items n k b is none = ap (λ (o : Option RowView). home_in o (among n k)) is ∙ ap (home_of_held b k) none
+
+pub among_home : (items : List Item) (n : List ℕ) (k : ℕ) (b : RowView) (h : Held) → routine_of n items ≡ Some b → nth_held k (amongs_of_body b) ≡ Some h → home items (among n k) ≡ Ok (home_of_among b k h)
+among_home items n k b h is there = ap (λ (o : Option RowView). home_in o (among n k)) is ∙ ap (home_of_held b k) there
+
+-- where there is a home nothing is missing
+pub not_missing : {X : Type 0} (items : List Item) (e : ScriptEdit) (h : Home) (r : Result X EditFault) → home items e ≡ Ok h → (f : EditFault) → home items e ≡ Err f → r ≡ Err f
+not_missing items e h r is f missing = let clash : Ok h ≡ Err f = sym is ∙ missing in absurd cc
+
+err_same : (r : Result Home EditFault) (f g : EditFault) → r ≡ Err f → r ≡ Err g → f ≡ g
+err_same r f g a b = cc
+
+-- what is missing is told
+pub missing_told : {X : Type 0} (items : List Item) (e : ScriptEdit) (g : EditFault) (r : Result X EditFault) → home items e ≡ Err g → r ≡ Err g → (f : EditFault) → home items e ≡ Err f → r ≡ Err f
+missing_told items e g r is told f missing = told ∙ ap Err (err_same (home items e) g f is missing)
+
+-- ---- faults of the text
+
+abbrev pub Refused : Source → ScriptEdit → List ℕ → EditFault → Type 0
+Refused s e text f = (f ≡ edits.OutOfMemory) ⊎ IsEditFault s e text f
+
+pub told_as : (s : Source) (e : ScriptEdit) (h : Home) (text : List ℕ) (f : ScriptFault) (g : EditFault) → home s.items e ≡ Ok h → Refuses f g → (f ≡ fault.OutOfMemory) ⊎ IsFaultAt s (routine_name e) h text f → Refused s e text g
+told_as s e h text f g there (inl memory) x = inl memory.1
+told_as s e h text f g there (inr other) (inl memory) = absurd (other.0 memory)
+told_as s e h text f g there (inr other) (inr x) = inr (subst (IsEditFault s e text) (sym other.1) (h, there, x))
+
+pub text_told : (s : Source) (name : List ℕ) (h : Home) (text : List ℕ) (f : ScriptFault) → (f ≡ fault.OutOfMemory) ⊎ IsTextFault (state_before name s.items) text f → (f ≡ fault.OutOfMemory) ⊎ IsFaultAt s name h text f
+text_told s name h text f (inl m) = inl m
+text_told s name h text f (inr x) = inr (inl x)
+
+pub unread_told : (s : Source) (name : List ℕ) (h : Home) (text : List ℕ) (ts : List Placed) (f : ScriptFault) → HasTokens (state_before name s.items) text ts → (f ≡ fault.OutOfMemory) ⊎ IsUnread h.text ts (length text) f → (f ≡ fault.OutOfMemory) ⊎ IsFaultAt s name h text f
+unread_told s name h text ts f tokens (inl m) = inl m
+unread_told s name h text ts f tokens (inr u) = inr (inr (inl (ts, tokens, u)))
+
+pub check_told : (s : Source) (name : List ℕ) (h : Home) (text : List ℕ) (ts : List Placed) (x : TreeOf h.text) (f : ScriptFault) → HasTokens (state_before name s.items) text ts → first_left_out ts ≡ None → IsReadAs h.text (terminals ts) x
+    → (f ≡ fault.OutOfMemory) ⊎ (fault_of (items_with name (h.around x) s.items) s.external ≡ Some f) → (f ≡ fault.OutOfMemory) ⊎ IsFaultAt s name h text f
+check_told s name h text ts x f tokens offered read (inl m) = inl m
+check_told s name h text ts x f tokens offered read (inr g) = inr (inr (inr (ts, tokens, offered, record { tree = x; read = read; is = g })))
+
+-- ---- the script
+
+pub substituted : (s t : Source) (name : List ℕ) (h : Home) (text : List ℕ) (ts : List Placed) (x : TreeOf h.text) (n : Bool) → HasTokens (state_before name s.items) text ts → first_left_out ts ≡ None → IsReadAs h.text (terminals ts) x
+    → t.items ≡ items_with name (h.around x) s.items → t.external ≡ s.external → WellDeclared t.items t.external → h.keeps_count x ≡ n → IsSubstituted s name h text n t
+substituted s t name h text ts x n tokens offered read items external well counted = record { placed = ts; tree = x; tokens = tokens; offered = offered; read = read; items_are = items; external_is = external; well_declared = well; counted = counted }
+
+-- ---- results
+
+pub if_ok : {X : Type 0} (r : Result X ScriptFault) (P Q : X → Type 0) → ((x : X) → P x → Q x) → IfOk r P → IfOk r Q
+if_ok (Ok x) P Q f h = f x h
+if_ok (Err e) P Q f h = h
+
+pub if_err : {X : Type 0} (r : Result X ScriptFault) (P Q : ScriptFault → Type 0) → ((e : ScriptFault) → P e → Q e) → IfErr r P → IfErr r Q
+if_err (Ok x) P Q f h = h
+if_err (Err e) P Q f h = f e h
+
+pub text_moved : (s : State) (a b : List ℕ) (f : ScriptFault) → a ≡ b → IsTextFault s a f → IsTextFault s b f
+text_moved s a b f e h = subst (λ (x : List ℕ). IsTextFault s x f) e h
+
+pub has_tokens : {X : Type 0} (r : Result X ScriptFault) (placed : X → List Placed) (e f : InForce) (text bytes own : List ℕ) → e ≡ f → text ≡ bytes → bytes ≡ own → length bytes ≤ max_length → IsUtf8 bytes
+    → IfOk r (λ x. ArePlacedFrom (start_under e) (chars text) (placed x)) → IfOk r (λ x. HasTokens (start_under f) own (placed x))
+has_tokens r placed e f text bytes own same is there short utf8 h =
+    if_ok r (λ x. ArePlacedFrom (start_under e) (chars text) (placed x)) (λ x. HasTokens (start_under f) own (placed x))
+      (λ x cut. tokens_there e f text own (placed x) same (is ∙ there) (subst (λ (b : List ℕ). length b ≤ max_length) there short) (subst IsUtf8 there utf8) cut) h
+
+pub no_tokens : {X : Type 0} (r : Result X ScriptFault) (e f : InForce) (text bytes own : List ℕ) → e ≡ f → text ≡ bytes → bytes ≡ own → length bytes ≤ max_length → IsUtf8 bytes
+    → IfErr r (λ g. (g ≡ fault.OutOfMemory) ⊎ IsFirstFaultFrom (start_under e) (chars text) g) → IfErr r (λ g. (g ≡ fault.OutOfMemory) ⊎ IsTextFault (start_under f) own g)
+no_tokens r e f text bytes own same is there short utf8 h =
+    if_err r (λ g. (g ≡ fault.OutOfMemory) ⊎ IsFirstFaultFrom (start_under e) (chars text) g) (λ g. (g ≡ fault.OutOfMemory) ⊎ IsTextFault (start_under f) own g) (λ g x. go g x) h where
+  go : (g : ScriptFault) → (g ≡ fault.OutOfMemory) ⊎ IsFirstFaultFrom (start_under e) (chars text) g → (g ≡ fault.OutOfMemory) ⊎ IsTextFault (start_under f) own g
+  go g (inl m) = inl m
+  go g (inr x) = inr (inr (inr (subst (λ (b : List ℕ). length b ≤ max_length) there short, subst IsUtf8 there utf8, subst (λ (i : InForce). IsFirstFaultFrom (start_under i) (chars own) g) same (subst (λ (b : List ℕ). IsFirstFaultFrom (start_under e) (chars b) g) (is ∙ there) x))))

@@ -8,4 +8,5 @@ pub mod Sound
 pub mod Resolving
 pub mod OneReading
 pub mod Editing
+pub mod Shallow
 pub mod OneEdit

@@ -1,78 +1,128 @@
 -- A text makes one script of a script, or has one fault.
-use Rattle.std.proofs.Common.{◌≡◌, ◌⊎◌, ℕ, List, length, Option, Some, None, refl, sym, ap, subst, ◌∙◌, inl, inr}
+use Rattle.std.proofs.Common.{◌≡◌, ◌⊎◌, ℕ, Bool, true, false, List, length, Option, Some, None, Result, Ok, Err, refl, sym, ap, subst, ◌∙◌, inl, inr}
 use Rattle.sbl_text.specs.declared.fault.ScriptFault.{ScriptFault}
 use Rattle.sbl_text.specs.Tokens.{Placed}
 use Rattle.sbl_grammar.specs.Tree.{Item}
-use Rattle.sbl_grammar.specs.View.{RowView}
-use Rattle.sbl_grammar.specs.Texts.{body}
+use Rattle.sbl_grammar.specs.Texts.{Text, TreeOf}
 use Rattle.sbl_grammar.specs.Reading.{IsReadAs}
 use Rattle.sbl_script.specs.declared.edit_fault.EditFault.{EditFault}
 use Rattle.sbl_script.specs.declared.edit_fault.EditFault.TheVariants as edits
 use Rattle.sbl_script.specs.Parsed.{Source}
 use Rattle.sbl_script.specs.Checks.{fault_of}
 use Rattle.sbl_script.specs.Reading.{IsUnread, first_left_out, terminals}
-use Rattle.sbl_script.specs.Edits.{IsEdited, IsRewritten, IsRewriteFault, IsCheckFaultWith, IsEditFault, items_with, state_before, routine_of}
+use Rattle.sbl_script.specs.Edits.{ScriptEdit, Home, IsEdited, IsSubstituted, IsFaultAt, IsCheckFaultWith, IsEditFault, home, items_with, routine_name, state_before}
 use Rattle.sbl_script.proofs.OneReading.{Known, placed_one, text_is_one, no_text_fault, unread_is_one, no_unread, some_one, some_none, same_source}
 
-body_one : Known → (ts : List Placed) (b c : RowView) → IsReadAs body (terminals ts) b → IsReadAs body (terminals ts) c → b ≡ c
-body_one k ts b c h g = k.tree body b c (h.0 ∙ sym g.0)
+tree_one : Known → (w : Text) (ts : List Placed) (x y : TreeOf w) → IsReadAs w (terminals ts) x → IsReadAs w (terminals ts) y → x ≡ y
+tree_one k w ts x y h g = k.tree w x y (h.0 ∙ sym g.0)
 
-check_is_one : Known → (s : Source) (name : List ℕ) (ts : List Placed) (f g : ScriptFault) → IsCheckFaultWith s name ts f → IsCheckFaultWith s name ts g → f ≡ g
-check_is_one k s name ts f g h j =
-    some_one f g (sym h.is ∙ ap (λ (b : RowView). fault_of (items_with name b s.items) s.external) (body_one k ts h.body j.body h.tree j.tree) ∙ j.is)
+-- ---- at one home
 
-rewrite_fault_is_one : Known → (s : Source) (name text : List ℕ) (f g : ScriptFault) → IsRewriteFault s name text f → IsRewriteFault s name text g → f ≡ g
-rewrite_fault_is_one k s name text f g (inl a) (inl b) = text_is_one k (state_before name s.items) text f g a b
-rewrite_fault_is_one k s name text f g (inl a) (inr (inl b)) = absurd (no_text_fault k (state_before name s.items) text b.0 f b.1 a)
-rewrite_fault_is_one k s name text f g (inl a) (inr (inr b)) = absurd (no_text_fault k (state_before name s.items) text b.0 f b.1 a)
-rewrite_fault_is_one k s name text f g (inr (inl a)) (inl b) = absurd (no_text_fault k (state_before name s.items) text a.0 g a.1 b)
-rewrite_fault_is_one k s name text f g (inr (inr a)) (inl b) = absurd (no_text_fault k (state_before name s.items) text a.0 g a.1 b)
-rewrite_fault_is_one k s name text f g (inr (inl a)) (inr (inl b)) =
+check_is_one : Known → (s : Source) (name : List ℕ) (h : Home) (ts : List Placed) (f g : ScriptFault) → IsCheckFaultWith s name h ts f → IsCheckFaultWith s name h ts g → f ≡ g
+check_is_one k s name h ts f g a b =
+    some_one f g (sym a.is ∙ ap (λ (x : TreeOf h.text). fault_of (items_with name (h.around x) s.items) s.external) (tree_one k h.text ts a.tree b.tree a.read b.read) ∙ b.is)
+
+fault_is_one : Known → (s : Source) (name : List ℕ) (h : Home) (text : List ℕ) (f g : ScriptFault) → IsFaultAt s name h text f → IsFaultAt s name h text g → f ≡ g
+fault_is_one k s name h text f g (inl a) (inl b) = text_is_one k (state_before name s.items) text f g a b
+fault_is_one k s name h text f g (inl a) (inr (inl b)) = absurd (no_text_fault k (state_before name s.items) text b.0 f b.1 a)
+fault_is_one k s name h text f g (inl a) (inr (inr b)) = absurd (no_text_fault k (state_before name s.items) text b.0 f b.1 a)
+fault_is_one k s name h text f g (inr (inl a)) (inl b) = absurd (no_text_fault k (state_before name s.items) text a.0 g a.1 b)
+fault_is_one k s name h text f g (inr (inr a)) (inl b) = absurd (no_text_fault k (state_before name s.items) text a.0 g a.1 b)
+fault_is_one k s name h text f g (inr (inl a)) (inr (inl b)) =
     let same = placed_one k (state_before name s.items) text a.0 b.0 a.1 b.1 in
-    unread_is_one k body b.0 (length text) f g (subst (λ (ts : List Placed). IsUnread body ts (length text) f) same a.2) b.2
-rewrite_fault_is_one k s name text f g (inr (inl a)) (inr (inr b)) =
+    unread_is_one k h.text b.0 (length text) f g (subst (λ (ts : List Placed). IsUnread h.text ts (length text) f) same a.2) b.2
+fault_is_one k s name h text f g (inr (inl a)) (inr (inr b)) =
     let same = placed_one k (state_before name s.items) text a.0 b.0 a.1 b.1 in
-    absurd (no_unread k body b.0 (length text) f b.3.body b.2 b.3.tree (subst (λ (ts : List Placed). IsUnread body ts (length text) f) same a.2))
-rewrite_fault_is_one k s name text f g (inr (inr a)) (inr (inl b)) =
+    absurd (no_unread k h.text b.0 (length text) f b.3.tree b.2 b.3.read (subst (λ (ts : List Placed). IsUnread h.text ts (length text) f) same a.2))
+fault_is_one k s name h text f g (inr (inr a)) (inr (inl b)) =
     let same = placed_one k (state_before name s.items) text b.0 a.0 b.1 a.1 in
-    absurd (no_unread k body a.0 (length text) g a.3.body a.2 a.3.tree (subst (λ (ts : List Placed). IsUnread body ts (length text) g) same b.2))
-rewrite_fault_is_one k s name text f g (inr (inr a)) (inr (inr b)) =
+    absurd (no_unread k h.text a.0 (length text) g a.3.tree a.2 a.3.read (subst (λ (ts : List Placed). IsUnread h.text ts (length text) g) same b.2))
+fault_is_one k s name h text f g (inr (inr a)) (inr (inr b)) =
     let same = placed_one k (state_before name s.items) text a.0 b.0 a.1 b.1 in
-    check_is_one k s name b.0 f g (subst (λ (ts : List Placed). IsCheckFaultWith s name ts f) same a.3) b.3
+    check_is_one k s name h b.0 f g (subst (λ (ts : List Placed). IsCheckFaultWith s name h ts f) same a.3) b.3
 
-rewritten_or_fault : Known → (s : Source) (name text : List ℕ) (t : Source) (f : ScriptFault) → IsRewritten s name text t → IsRewriteFault s name text f → ⊥
-rewritten_or_fault k s name text t f h (inl a) = no_text_fault k (state_before name s.items) text h.placed f h.tokens a
-rewritten_or_fault k s name text t f h (inr (inl a)) =
-    let same = placed_one k (state_before name s.items) text a.0 h.placed a.1 h.tokens in
-    no_unread k body h.placed (length text) f h.body h.offered h.tree (subst (λ (ts : List Placed). IsUnread body ts (length text) f) same a.2)
-rewritten_or_fault k s name text t f h (inr (inr a)) =
-    let same = placed_one k (state_before name s.items) text h.placed a.0 h.tokens a.1 in
-    let tree = subst (λ (ts : List Placed). IsReadAs body (terminals ts) h.body) same h.tree in
-    let one : h.body ≡ a.3.body = body_one k a.0 h.body a.3.body tree a.3.tree in
-    let items : t.items ≡ items_with name a.3.body s.items = h.items_are ∙ ap (λ (b : RowView). items_with name b s.items) one in
-    let named : fault_of t.items t.external ≡ fault_of (items_with name a.3.body s.items) s.external = ap (λ (is : List Item). fault_of is t.external) items ∙ ap (λ (e : List ℕ). fault_of (items_with name a.3.body s.items) e) h.external_is in
-    some_none f (fault_of t.items t.external) h.well_declared (named ∙ a.3.is)
+-- the tree and the script are one
+substituted_tree : Known → (s : Source) (name : List ℕ) (h : Home) (text : List ℕ) (m n : Bool) (t u : Source) (a : IsSubstituted s name h text m t) (b : IsSubstituted s name h text n u) → a.tree ≡ b.tree
+substituted_tree k s name h text m n t u a b =
+    let same = placed_one k (state_before name s.items) text a.placed b.placed a.tokens b.tokens in
+    tree_one k h.text b.placed a.tree b.tree (subst (λ (ts : List Placed). IsReadAs h.text (terminals ts) a.tree) same a.read) b.read
 
-pub edit_is_one : Known → (s : Source) (name text : List ℕ) (t u : Source) → IsEdited s name text t → IsEdited s name text u → t ≡ u
-edit_is_one k s name text t u (found, h) (too, g) =
-    let same = placed_one k (state_before name s.items) text h.placed g.placed h.tokens g.tokens in
-    let tree = subst (λ (ts : List Placed). IsReadAs body (terminals ts) h.body) same h.tree in
-    let one : h.body ≡ g.body = body_one k g.placed h.body g.body tree g.tree in
-    same_source t u (h.items_are ∙ ap (λ (b : RowView). items_with name b s.items) one ∙ sym g.items_are) (h.external_is ∙ sym g.external_is)
+substituted_is_one : Known → (s : Source) (name : List ℕ) (h : Home) (text : List ℕ) (m n : Bool) (t u : Source) → IsSubstituted s name h text m t → IsSubstituted s name h text n u → t ≡ u
+substituted_is_one k s name h text m n t u a b =
+    same_source t u (a.items_are ∙ ap (λ (z : TreeOf h.text). items_with name (h.around z) s.items) (substituted_tree k s name h text m n t u a b) ∙ sym b.items_are) (a.external_is ∙ sym b.external_is)
 
-found_none : (o : Option RowView) (b : RowView) → o ≡ None → o ≡ Some b → ⊥
-found_none o b e f = some_none b o e f
+substituted_or_fault : Known → (s : Source) (name : List ℕ) (h : Home) (text : List ℕ) (m : Bool) (t : Source) (f : ScriptFault) → IsSubstituted s name h text m t → IsFaultAt s name h text f → ⊥
+substituted_or_fault k s name h text m t f a (inl b) = no_text_fault k (state_before name s.items) text a.placed f a.tokens b
+substituted_or_fault k s name h text m t f a (inr (inl b)) =
+    let same = placed_one k (state_before name s.items) text b.0 a.placed b.1 a.tokens in
+    no_unread k h.text a.placed (length text) f a.tree a.offered a.read (subst (λ (ts : List Placed). IsUnread h.text ts (length text) f) same b.2)
+substituted_or_fault k s name h text m t f a (inr (inr b)) =
+    let same = placed_one k (state_before name s.items) text a.placed b.0 a.tokens b.1 in
+    let one : a.tree ≡ b.3.tree = tree_one k h.text b.0 a.tree b.3.tree (subst (λ (ts : List Placed). IsReadAs h.text (terminals ts) a.tree) same a.read) b.3.read in
+    let items : t.items ≡ items_with name (h.around b.3.tree) s.items = a.items_are ∙ ap (λ (z : TreeOf h.text). items_with name (h.around z) s.items) one in
+    let named : fault_of t.items t.external ≡ fault_of (items_with name (h.around b.3.tree) s.items) s.external = ap (λ (is : List Item). fault_of is t.external) items ∙ ap (λ (n : List ℕ). fault_of (items_with name (h.around b.3.tree) s.items) n) a.external_is in
+    some_none f (fault_of t.items t.external) a.well_declared (named ∙ b.3.is)
 
-pub edit_fault_is_one : Known → (s : Source) (name text : List ℕ) (f g : EditFault) → IsEditFault s name text f → IsEditFault s name text g → f ≡ g
-edit_fault_is_one k s name text edits.NoRoutine edits.NoRoutine h j = refl
-edit_fault_is_one k s name text edits.NoRoutine (edits.Script g) h j = absurd (found_none (routine_of name s.items) j.0.0 h j.0.1)
-edit_fault_is_one k s name text edits.NoRoutine edits.OutOfMemory h j = absurd j
-edit_fault_is_one k s name text (edits.Script f) edits.NoRoutine h j = absurd (found_none (routine_of name s.items) h.0.0 j h.0.1)
-edit_fault_is_one k s name text (edits.Script f) (edits.Script g) h j = ap edits.Script (rewrite_fault_is_one k s name text f g h.1 j.1)
-edit_fault_is_one k s name text (edits.Script f) edits.OutOfMemory h j = absurd j
-edit_fault_is_one k s name text edits.OutOfMemory g h j = absurd h
+-- there are as many amongs, or not
+kept_or_not : Known → (s : Source) (name : List ℕ) (h : Home) (text : List ℕ) (t u : Source) → IsSubstituted s name h text true t → IsSubstituted s name h text false u → ⊥
+kept_or_not k s name h text t u a b =
+    let clash : true ≡ false = sym a.counted ∙ ap h.keeps_count (substituted_tree k s name h text true false t u a b) ∙ b.counted in
+    absurd cc
 
-pub edit_or_fault : Known → (s : Source) (name text : List ℕ) (t : Source) (f : EditFault) → IsEdited s name text t → IsEditFault s name text f → ⊥
-edit_or_fault k s name text t edits.NoRoutine h j = found_none (routine_of name s.items) h.0.0 j h.0.1
-edit_or_fault k s name text t (edits.Script f) h j = rewritten_or_fault k s name text t f h.1 j.1
-edit_or_fault k s name text t edits.OutOfMemory h j = j
+-- ---- the home is one
+
+ok_one : (r : Result Home EditFault) (h g : Home) → r ≡ Ok h → r ≡ Ok g → g ≡ h
+ok_one r h g a b = cc
+
+ok_or_err : (r : Result Home EditFault) (h : Home) (f : EditFault) → r ≡ Ok h → r ≡ Err f → ⊥
+ok_or_err r h f a b = cc
+
+err_one : (r : Result Home EditFault) (f g : EditFault) → r ≡ Err f → r ≡ Err g → f ≡ g
+err_one r f g a b = cc
+
+pub edit_is_one : Known → (s : Source) (e : ScriptEdit) (text : List ℕ) (t u : Source) → IsEdited s e text t → IsEdited s e text u → t ≡ u
+edit_is_one k s e text t u a b =
+    let same = ok_one (home s.items e) a.0 b.0 a.1 b.1 in
+    substituted_is_one k s (routine_name e) a.0 text true true t u a.2 (subst (λ (z : Home). IsSubstituted s (routine_name e) z text true u) same b.2)
+
+-- two faults at one home, of which one is the number of amongs
+count_or_fault : Known → (s : Source) (e : ScriptEdit) (text : List ℕ) (f : ScriptFault) → IsEditFault s e text edits.AmongCount → IsEditFault s e text (edits.Script f) → ⊥
+count_or_fault k s e text f a b =
+    let same = ok_one (home s.items e) a.0 b.0 a.1 b.1 in
+    substituted_or_fault k s (routine_name e) a.0 text false a.2 f a.3 (subst (λ (z : Home). IsFaultAt s (routine_name e) z text f) same b.2)
+
+pub edit_fault_is_one : Known → (s : Source) (e : ScriptEdit) (text : List ℕ) (f g : EditFault) → IsEditFault s e text f → IsEditFault s e text g → f ≡ g
+edit_fault_is_one k s e text edits.NoRoutine edits.NoRoutine a b = refl
+edit_fault_is_one k s e text edits.NoRoutine edits.NoAmong a b = err_one (home s.items e) edits.NoRoutine edits.NoAmong a b
+edit_fault_is_one k s e text edits.NoRoutine edits.AmongCount a b = absurd (ok_or_err (home s.items e) b.0 edits.NoRoutine b.1 a)
+edit_fault_is_one k s e text edits.NoRoutine (edits.Script g) a b = absurd (ok_or_err (home s.items e) b.0 edits.NoRoutine b.1 a)
+edit_fault_is_one k s e text edits.NoAmong edits.NoRoutine a b = err_one (home s.items e) edits.NoAmong edits.NoRoutine a b
+edit_fault_is_one k s e text edits.NoAmong edits.NoAmong a b = refl
+edit_fault_is_one k s e text edits.NoAmong edits.AmongCount a b = absurd (ok_or_err (home s.items e) b.0 edits.NoAmong b.1 a)
+edit_fault_is_one k s e text edits.NoAmong (edits.Script g) a b = absurd (ok_or_err (home s.items e) b.0 edits.NoAmong b.1 a)
+edit_fault_is_one k s e text edits.AmongCount edits.NoRoutine a b = absurd (ok_or_err (home s.items e) a.0 edits.NoRoutine a.1 b)
+edit_fault_is_one k s e text edits.AmongCount edits.NoAmong a b = absurd (ok_or_err (home s.items e) a.0 edits.NoAmong a.1 b)
+edit_fault_is_one k s e text edits.AmongCount edits.AmongCount a b = refl
+edit_fault_is_one k s e text edits.AmongCount (edits.Script g) a b = absurd (count_or_fault k s e text g a b)
+edit_fault_is_one k s e text (edits.Script f) edits.NoRoutine a b = absurd (ok_or_err (home s.items e) a.0 edits.NoRoutine a.1 b)
+edit_fault_is_one k s e text (edits.Script f) edits.NoAmong a b = absurd (ok_or_err (home s.items e) a.0 edits.NoAmong a.1 b)
+edit_fault_is_one k s e text (edits.Script f) edits.AmongCount a b = absurd (count_or_fault k s e text f b a)
+edit_fault_is_one k s e text (edits.Script f) (edits.Script g) a b =
+    let same = ok_one (home s.items e) a.0 b.0 a.1 b.1 in
+    ap edits.Script (fault_is_one k s (routine_name e) a.0 text f g a.2 (subst (λ (z : Home). IsFaultAt s (routine_name e) z text g) same b.2))
+edit_fault_is_one k s e text edits.OutOfMemory g a b = absurd a
+edit_fault_is_one k s e text edits.NoRoutine edits.OutOfMemory a b = absurd b
+edit_fault_is_one k s e text edits.NoAmong edits.OutOfMemory a b = absurd b
+edit_fault_is_one k s e text edits.AmongCount edits.OutOfMemory a b = absurd b
+edit_fault_is_one k s e text (edits.Script f) edits.OutOfMemory a b = absurd b
+
+pub edit_or_fault : Known → (s : Source) (e : ScriptEdit) (text : List ℕ) (t : Source) (f : EditFault) → IsEdited s e text t → IsEditFault s e text f → ⊥
+edit_or_fault k s e text t edits.NoRoutine a b = ok_or_err (home s.items e) a.0 edits.NoRoutine a.1 b
+edit_or_fault k s e text t edits.NoAmong a b = ok_or_err (home s.items e) a.0 edits.NoAmong a.1 b
+edit_or_fault k s e text t edits.AmongCount a b =
+    let same = ok_one (home s.items e) a.0 b.0 a.1 b.1 in
+    kept_or_not k s (routine_name e) a.0 text t b.2 a.2 (subst (λ (z : Home). IsSubstituted s (routine_name e) z text false b.2) same b.3)
+edit_or_fault k s e text t (edits.Script f) a b =
+    let same = ok_one (home s.items e) a.0 b.0 a.1 b.1 in
+    substituted_or_fault k s (routine_name e) a.0 text true t f a.2 (subst (λ (z : Home). IsFaultAt s (routine_name e) z text f) same b.2)
+edit_or_fault k s e text t edits.OutOfMemory a b = b

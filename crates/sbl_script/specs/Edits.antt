@@ -1,5 +1,5 @@
--- What it is to give a routine another body, and why a text is none.
-use Rattle.std.specs.Prelude.{◌≡◌, ◌⊎◌, ℕ, Bool, true, false, List, [], ◌∷◌, length, Option, Some, None, if◌then◌else◌}
+-- What a text may replace in a script, where it comes to stand, which script it makes, and why it makes none.
+use Rattle.std.specs.Prelude.{◌≡◌, ◌⊎◌, ℕ, Bool, true, false, List, [], ◌∷◌, length, Option, Some, None, Result, Ok, Err, nat_eq, if◌then◌else◌}
 use Rattle.std.specs.Option.{option_or}
 use Rattle.std.specs.Str.{bytes_eq, chars}
 use Rattle.sbl_text.specs.declared.fault.ScriptFault.{ScriptFault}
@@ -10,8 +10,10 @@ use Rattle.sbl_text.specs.States.{State, start_under, coded, defined_as}
 use Rattle.sbl_text.specs.Tokens.{Placed}
 use Rattle.sbl_grammar.specs.declared.tree.Base.{Base}
 use Rattle.sbl_grammar.specs.declared.tree.Base.TheVariants as bases
+use Rattle.sbl_grammar.specs.Amongs.{Held, amongs_of_body, count_in_among, nth_held, put_in_body}
 use Rattle.sbl_grammar.specs.Tree.{Plain, escapes, macro, routine, Item, plain, backward}
 use Rattle.sbl_grammar.specs.View.{RowView}
+use Rattle.sbl_grammar.specs.Texts.{Text, TreeOf}
 use Rattle.sbl_grammar.specs.Texts as texts
 use Rattle.sbl_grammar.specs.Reading.{IsReadAs}
 use Rattle.sbl_script.specs.declared.edit_fault.EditFault.{EditFault}
@@ -19,6 +21,18 @@ use Rattle.sbl_script.specs.declared.edit_fault.EditFault.TheVariants as edits
 use Rattle.sbl_script.specs.Parsed.{Source}
 use Rattle.sbl_script.specs.Checks.{WellDeclared, fault_of}
 use Rattle.sbl_script.specs.Reading.{HasTokens, IsTextFault, IsUnread, first_left_out, terminals}
+
+-- ---- what may be replaced
+
+-- the body of the routine of this name; in that body the among of this number, counted from 1 in the order of the words `among`
+pub data ScriptEdit : Type 0 where
+  body : List ℕ → ScriptEdit
+  among : List ℕ → ℕ → ScriptEdit
+
+-- the routine whose body is changed
+abbrev pub routine_name : ScriptEdit → List ℕ
+routine_name (body n) = n
+routine_name (among n k) = n
 
 -- ---- the routine
 
@@ -88,38 +102,73 @@ items_with n b [] = []
 items_with n b (plain x ∷ is) = plain (plain_with n b x) ∷ items_with n b is
 items_with n b (backward xs ∷ is) = backward (plains_with n b xs) ∷ items_with n b is
 
--- ---- edits
+-- ---- where the text comes to stand
 
--- The text is read as the body of this routine of the script, and the script with it is well declared: this script.
-pub record IsRewritten (s : Source) (name text : List ℕ) (t : Source) : Type 0 where
+-- what the text is read as; the routine's body with the tree of the text in its place; whether that tree holds as many amongs as what it replaces
+pub record Home : Type 0 where
+  pub text : Text
+  pub around : TreeOf text → RowView
+  pub keeps_count : TreeOf text → Bool
+
+-- a body may hold as many amongs as it likes
+abbrev pub home_of_body : Home
+home_of_body = record { text = texts.body; around = λ c. c; keeps_count = λ c. true }
+
+-- an among is read at the depth of the one that it replaces
+abbrev pub home_of_among : RowView → ℕ → Held → Home
+home_of_among b k h = record { text = texts.among h.0; around = λ a. put_in_body b k a; keeps_count = λ a. nat_eq (count_in_among a) (count_in_among (h.1, h.2)) }
+
+abbrev pub home_of_held : RowView → ℕ → Option Held → Result Home EditFault
+home_of_held b k None = Err edits.NoAmong
+home_of_held b k (Some h) = Ok (home_of_among b k h)
+
+abbrev pub home_in : Option RowView → ScriptEdit → Result Home EditFault
+home_in None e = Err edits.NoRoutine
+home_in (Some b) (body n) = Ok home_of_body
+home_in (Some b) (among n k) = home_of_held b k (nth_held k (amongs_of_body b))
+
+-- the home of an edit's text in a script, or what it lacks: the routine, else the among
+abbrev pub home : List Item → ScriptEdit → Result Home EditFault
+home items e = home_in (routine_of (routine_name e) items) e
+
+-- ---- the script after an edit
+
+-- At this home in this routine the text is read, the script with the tree in its place passes all checks and is this script, and there are
+-- as many amongs as before, or there are not.
+pub record IsSubstituted (s : Source) (name : List ℕ) (h : Home) (text : List ℕ) (as_many : Bool) (t : Source) : Type 0 where
   pub placed : List Placed
-  pub body : RowView
+  pub tree : TreeOf h.text
   pub tokens : HasTokens (state_before name s.items) text placed
   pub offered : first_left_out placed ≡ None
-  pub tree : IsReadAs texts.body (terminals placed) body
-  pub items_are : t.items ≡ items_with name body s.items
+  pub read : IsReadAs h.text (terminals placed) tree
+  pub items_are : t.items ≡ items_with name (h.around tree) s.items
   pub external_is : t.external ≡ s.external
   pub well_declared : WellDeclared t.items t.external
+  pub counted : h.keeps_count tree ≡ as_many
 
--- the script has this routine, and with the text for its body it is this script
-abbrev pub IsEdited : Source → List ℕ → List ℕ → Source → Type 0
-IsEdited s name text t = ((b : RowView) × (routine_of name s.items ≡ Some b)) × IsRewritten s name text t
+-- the text has a home, and read there it makes this script
+abbrev pub IsEdited : Source → ScriptEdit → List ℕ → Source → Type 0
+IsEdited s e text t = (h : Home) × (home s.items e ≡ Ok h) × IsSubstituted s (routine_name e) h text true t
 
--- the tokens are those of this body, and a check of the script with it fails
-pub record IsCheckFaultWith (s : Source) (name : List ℕ) (ts : List Placed) (f : ScriptFault) : Type 0 where
-  pub body : RowView
-  pub tree : IsReadAs texts.body (terminals ts) body
-  pub is : fault_of (items_with name body s.items) s.external ≡ Some f
+-- ---- faults, in the order in which they are looked for: no routine, no among, a fault of the text at its home, another number of amongs
 
--- the text has this fault where the routine stands: as a text, else as tokens, else in a check
-abbrev pub IsRewriteFault : Source → List ℕ → List ℕ → ScriptFault → Type 0
-IsRewriteFault s name text f =
+-- the tokens are those of this tree, and a check of the script with it fails
+pub record IsCheckFaultWith (s : Source) (name : List ℕ) (h : Home) (ts : List Placed) (f : ScriptFault) : Type 0 where
+  pub tree : TreeOf h.text
+  pub read : IsReadAs h.text (terminals ts) tree
+  pub is : fault_of (items_with name (h.around tree) s.items) s.external ≡ Some f
+
+-- at this home the text has this fault: as a text, else as tokens, else in a check of the script with it
+abbrev pub IsFaultAt : Source → List ℕ → Home → List ℕ → ScriptFault → Type 0
+IsFaultAt s name h text f =
     IsTextFault (state_before name s.items) text f
-    ⊎ ((ts : List Placed) × HasTokens (state_before name s.items) text ts × IsUnread texts.body ts (length text) f)
-    ⊎ ((ts : List Placed) × HasTokens (state_before name s.items) text ts × (first_left_out ts ≡ None) × IsCheckFaultWith s name ts f)
+    ⊎ ((ts : List Placed) × HasTokens (state_before name s.items) text ts × IsUnread h.text ts (length text) f)
+    ⊎ ((ts : List Placed) × HasTokens (state_before name s.items) text ts × (first_left_out ts ≡ None) × IsCheckFaultWith s name h ts f)
 
--- the script has no such routine, or it has, and the text has a fault there
-abbrev pub IsEditFault : Source → List ℕ → List ℕ → EditFault → Type 0
-IsEditFault s name text edits.NoRoutine = routine_of name s.items ≡ None
-IsEditFault s name text (edits.Script f) = ((b : RowView) × (routine_of name s.items ≡ Some b)) × IsRewriteFault s name text f
-IsEditFault s name text edits.OutOfMemory = ⊥
+-- want of memory is no fault of an edit
+abbrev pub IsEditFault : Source → ScriptEdit → List ℕ → EditFault → Type 0
+IsEditFault s e text edits.NoRoutine = home s.items e ≡ Err edits.NoRoutine
+IsEditFault s e text edits.NoAmong = home s.items e ≡ Err edits.NoAmong
+IsEditFault s e text edits.AmongCount = (h : Home) × (home s.items e ≡ Ok h) × (t : Source) × IsSubstituted s (routine_name e) h text false t
+IsEditFault s e text (edits.Script f) = (h : Home) × (home s.items e ≡ Ok h) × IsFaultAt s (routine_name e) h text f
+IsEditFault s e text edits.OutOfMemory = ⊥

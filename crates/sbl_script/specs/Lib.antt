@@ -9,3 +9,4 @@ pub mod Met
 pub mod Amongs
 pub mod OneReading
 pub mod OneEdit
+pub mod Refusals

@@ -1,6 +1,7 @@
 //! Why an edit of a script is refused.
 
 use sbl_text::ScriptFault;
+use std::alloc::AllocError;
 use thiserror::Error;
 
 /// Why an edit is refused, with its number. Numbers and names are our own choice.
@@ -9,10 +10,41 @@ pub enum EditFault {
     /// The name is not that of a routine or external that the script defines.
     #[error("45 NoRoutine")]
     NoRoutine,
+    /// The number is 0, or above the number of amongs in the routine.
+    #[error("46 NoAmong")]
+    NoAmong,
+    /// The new among, those inside it counted, holds another number of amongs than the one that it replaces.
+    #[error("47 AmongCount")]
+    AmongCount,
     /// The text, or the script with it, has a fault.
     #[error("48 {0}")]
     Script(ScriptFault),
     /// Memory was refused.
     #[error("49 OutOfMemory")]
     OutOfMemory,
+}
+
+impl From<AllocError> for EditFault {
+    ghost use Rattle.std.specs.Prelude.{◌≡◌};
+    ghost use Rattle.sbl_script.specs.declared.edit_fault.EditFault.TheVariants.{OutOfMemory};
+
+    ghost from_gives = { λ _ refused. refused ≡ OutOfMemory };
+
+    fn from(_error: AllocError) -> EditFault {
+        EditFault::OutOfMemory
+    }
+}
+
+impl From<ScriptFault> for EditFault {
+    ghost use Rattle.sbl_script.specs.Refusals.{Refuses};
+
+    ghost from_gives = { λ fault refused. Refuses fault refused };
+
+    fn from(fault: ScriptFault) -> EditFault {
+        if fault == ScriptFault::OutOfMemory {
+            EditFault::OutOfMemory
+        } else {
+            EditFault::Script(fault)
+        }
+    }
 }

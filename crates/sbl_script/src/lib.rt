@@ -4,6 +4,8 @@
 mod bodies;
 mod checks;
 mod edit_fault;
+#[cfg(test)]
+mod edit_tests;
 mod edits;
 pub mod laws;
 mod marking;

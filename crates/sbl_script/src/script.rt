@@ -2,9 +2,12 @@
 
 ghost use Rattle.std.specs.Prelude.{◌≡◌, ◌⊎◌, ◌≤◌, None, Some, length, map, IfOk, IfErr};
 ghost use Rattle.std.specs.Str.{IsUtf8};
-ghost use Rattle.sbl_grammar.specs.Reading.{IsReadAs};
+ghost use Rattle.sbl_grammar.specs.Reading.{AreShallow, IsReadAs};
 ghost use Rattle.sbl_grammar.specs.Texts as texts;
-ghost use Rattle.sbl_grammar.specs.View.{view_items, view_row};
+ghost use Rattle.sbl_grammar.specs.View.{view_among, view_items, view_row};
+ghost use Rattle.sbl_grammar.specs.Amongs.{count_in_among};
+ghost use Rattle.sbl_grammar.specs.Places.{places};
+ghost use Rattle.sbl_grammar.specs.Steps.{max_depth};
 ghost use Rattle.sbl_script.specs.Checks.{WellDeclared, fault_of};
 ghost use Rattle.sbl_text.specs.Lexemes.{lexeme_of};
 ghost use Rattle.sbl_text.specs.States.{start, State};
@@ -16,7 +19,9 @@ use crate::checks::check;
 use crate::edit_fault::EditFault;
 use crate::edits;
 use crate::edits::{escapes_before, items_with};
-use sbl_grammar::{Item, Row, parse, parse_body};
+use sbl_grammar::{
+    Among, Item, Row, has_as_many_amongs, nth_among, parse, parse_among, parse_body, put_in_place,
+};
 use sbl_text::{Kind, ScriptFault, Sign, Token, Word, tokens, tokens_under};
 use std::alloc::Global;
 use std::marker::Model;
@@ -97,6 +102,25 @@ fn body_of_tokens(alloc: Global, tokens: &[Token], end: usize) -> Result<Row, Sc
     parse_body(alloc, tokens, end)
 }
 
+/// The among that some tokens are, in a text of so many bytes that is to stand in the place of one at `depth`.
+fn among_of_tokens(
+    alloc: Global,
+    tokens: &[Token],
+    end: usize,
+    depth: u8,
+) -> Result<Among, ScriptFault>
+    requires { depth ≤ max_depth }
+    ensures offered { IfOk result (λ a. spec.first_left_out (map placed_of tokens.now) ≡ None) }
+    ensures tree { IfOk result (λ a. IsReadAs (texts.among depth) (spec.terminals (map placed_of tokens.now)) (view_among a)) }
+    ensures few { IfOk result (λ a. count_in_among (view_among a) ≤ length tokens.now) }
+    ensures fault { IfErr result (λ f. (f ≡ ScriptFault.OutOfMemory) ⊎ spec.IsUnread (texts.among depth) (map placed_of tokens.now) end f) }
+{
+    if let Some(place) = first_left_out(tokens) {
+        return Err(ScriptFault::OutOfProfile { place });
+    }
+    parse_among(alloc, tokens, end, depth)
+}
+
 /// A script that has passed all checks, and the name of the external that is run.
 #[derive(Drop)]
 pub struct Script {
@@ -111,6 +135,8 @@ impl Model for Script {
     ghost use Rattle.sbl_grammar.specs.View.{view_items};
     ghost use Rattle.sbl_script.specs.Parsed.{Parsed};
     ghost use Rattle.sbl_script.specs.Checks.{WellDeclared};
+    ghost use Rattle.sbl_grammar.specs.Places.{places};
+    ghost use Rattle.sbl_grammar.specs.Reading.{AreShallow};
 
     ghost Value = { Parsed };
 
@@ -118,16 +144,21 @@ impl Model for Script {
 
     ghost view = { λ s. record { items = s.items.items; external = string_bytes s.external } };
 
-    ghost invariant = { λ s. WellDeclared (view_items s.items.items) (string_bytes s.external) };
+    ghost invariant = { λ s. WellDeclared (view_items s.items.items) (string_bytes s.external) × AreShallow (places (view_items s.items.items)) };
 }
 
 impl Script {
     ghost use Rattle.sbl_script.specs.Parsed.{source_of, body_of};
     ghost use Rattle.std.specs.Prelude.{Err};
-    ghost use Rattle.sbl_script.specs.Edits.{IsEditFault, IsEdited, IsRewriteFault, IsRewritten, routine_of};
+    ghost use Rattle.sbl_grammar.specs.Texts.{places_in};
+    ghost use Rattle.sbl_grammar.specs.Reading.{AreShallow};
+    ghost use Rattle.sbl_text.specs.Tokens.{placed_of};
+    ghost use Rattle.sbl_script.specs.Reading.{HasTokens};
+    ghost use Rattle.sbl_script.specs.Edits.{IsEditFault, IsEdited, among, body, home, items_with, state_before};
 
     /// The script of a tree.
     fn checked(alloc: Global, items: Vec<Item>, external: &str) -> Result<Script, ScriptFault>
+        requires { AreShallow (places (view_items items.items)) }
         ensures tree { IfOk result (λ s. source_of s ≡ record { items = view_items items.items; external = external.now }) }
         ensures well_declared { IfOk result (λ s. WellDeclared (view_items items.items) external.now) }
         ensures fault { IfErr result (λ f. (f ≡ ScriptFault.OutOfMemory) ⊎ (fault_of (view_items items.items) external.now ≡ Some f)) }
@@ -153,41 +184,86 @@ impl Script {
     }
 
     /// The script in which the routine of this name has the text for its body: a row of the grammar, which is read at
-    /// depth 1 under what the items before the routine set.
+    /// depth 1 under what the items before the routine set. This script stays as it is.
     ///
     /// Errors: `NoRoutine` exactly where the script defines no routine of this name, which takes no memory; else `Script`
     /// with the first fault of the text, its place counted in the text, or with the fault of the check that fails in the
     /// script with the text; `OutOfMemory` where memory was refused.
     pub fn with_routine(&self, alloc: Global, name: &str, text: &str) -> Result<Script, EditFault>
-        ensures script { IfOk result (λ s. IsEdited (source_of self.now) name.now text.now (source_of s)) }
-        ensures fault { IfErr result (λ f. (f ≡ EditFault.OutOfMemory) ⊎ IsEditFault (source_of self.now) name.now text.now f) }
-        ensures none { routine_of name.now (source_of self.now).items ≡ None → result ≡ Err EditFault.NoRoutine }
+        ensures script { IfOk result (λ s. IsEdited (source_of self.now) (body name.now) text.now (source_of s)) }
+        ensures fault { IfErr result (λ f. (f ≡ EditFault.OutOfMemory) ⊎ IsEditFault (source_of self.now) (body name.now) text.now f) }
+        ensures missing { (f : EditFault) → home (source_of self.now).items (body name.now) ≡ Err f → result ≡ Err f }
     {
-        match edits::routine_of(&self.items, name) {
-            None => Err(EditFault::NoRoutine),
-            Some(_body) => match self.rewritten(alloc, name, text.as_bytes()) {
-                Ok(script) => Ok(script),
-                Err(fault) => {
-                    if fault == ScriptFault::OutOfMemory {
-                        Err(EditFault::OutOfMemory)
-                    } else {
-                        Err(EditFault::Script(fault))
-                    }
-                }
-            },
+        if edits::routine_of(&self.items, name).is_none() {
+            return Err(EditFault::NoRoutine);
+        }
+        let found = self.tokens_in(alloc, name, text)?;
+        let body = body_of_tokens(alloc, &found, text.len())?;
+        let script = self.with_body(alloc, name, &body)?;
+        Ok(script)
+    }
+
+    /// The script in which the text stands in the place of the `k`-th among of a routine, counted from 1 in the order of
+    /// the words `among`. The text is one whole `among ( .. )`, which is read at the depth of the one that it replaces,
+    /// under what the items before the routine set. This script stays as it is.
+    ///
+    /// Errors, the first of them: `NoRoutine` exactly where the script defines no routine of this name, and `NoAmong`
+    /// exactly where this routine has no such among, which take no memory; `Script` with the first fault of the text, its
+    /// place counted in the text, or with the fault of the check that fails in the script with the text; `AmongCount` where
+    /// the text, amongs inside it counted, holds another number of amongs than what it replaces; `OutOfMemory` where
+    /// memory was refused.
+    pub fn with_among(
+        &self,
+        alloc: Global,
+        routine: &str,
+        k: u64,
+        text: &str,
+    ) -> Result<Script, EditFault>
+        ensures script { IfOk result (λ s. IsEdited (source_of self.now) (among routine.now k) text.now (source_of s)) }
+        ensures fault { IfErr result (λ f. (f ≡ EditFault.OutOfMemory) ⊎ IsEditFault (source_of self.now) (among routine.now k) text.now f) }
+        ensures missing { (f : EditFault) → home (source_of self.now).items (among routine.now k) ≡ Err f → result ≡ Err f }
+    {
+        let Some(body) = edits::routine_of(&self.items, routine) else {
+            return Err(EditFault::NoRoutine);
+        };
+        let Some((depth, replaced)) = nth_among(body, k) else {
+            return Err(EditFault::NoAmong);
+        };
+        let found = self.tokens_in(alloc, routine, text)?;
+        let among = among_of_tokens(alloc, &found, text.len(), depth)?;
+        let body = put_in_place(alloc, body, k, &among)?;
+        let script = self.with_body(alloc, routine, &body)?;
+        if has_as_many_amongs(&among, replaced) {
+            Ok(script)
+        } else {
+            Err(EditFault::AmongCount)
         }
     }
 
-    /// The script in which the routine has the text for its body.
-    fn rewritten(&self, alloc: Global, name: &str, bytes: &[u8]) -> Result<Script, ScriptFault>
-        ensures script { IfOk result (λ s. IsRewritten (source_of self.now) name.now bytes.now (source_of s)) }
-        ensures fault { IfErr result (λ f. (f ≡ ScriptFault.OutOfMemory) ⊎ IsRewriteFault (source_of self.now) name.now bytes.now f) }
+    /// The tokens of a text that is to stand in the routine.
+    fn tokens_in<'a>(
+        &self,
+        alloc: Global,
+        routine: &str,
+        text: &'a str,
+    ) -> Result<Vec<Token<'a>>, ScriptFault>
+        ensures tokens { IfOk result (λ ts. HasTokens (state_before routine.now (source_of self.now).items) text.now (map placed_of ts.items)) }
+        ensures fault { IfErr result (λ f. (f ≡ ScriptFault.OutOfMemory) ⊎ spec.IsTextFault (state_before routine.now (source_of self.now).items) text.now f) }
     {
-        let text = text_of(bytes)?;
-        let escapes = escapes_before(alloc, &self.items, name)?;
-        let found = tokens_under(alloc, text, escapes)?;
-        let body = body_of_tokens(alloc, &found, text.len())?;
-        let items = items_with(alloc, &self.items, name, &body)?;
+        let text = text_of(text.as_bytes())?;
+        let escapes = escapes_before(alloc, &self.items, routine)?;
+        tokens_under(alloc, text, escapes)
+    }
+
+    /// The script in which the routine has this body.
+    fn with_body(&self, alloc: Global, routine: &str, body: &Row) -> Result<Script, ScriptFault>
+        requires { AreShallow (places_in texts.body (view_row body.now)) }
+        ensures items { IfOk result (λ s. (source_of s).items ≡ items_with routine.now (view_row body.now) (source_of self.now).items) }
+        ensures external { IfOk result (λ s. (source_of s).external ≡ (source_of self.now).external) }
+        ensures well_declared { IfOk result (λ s. WellDeclared (source_of s).items (source_of s).external) }
+        ensures fault { IfErr result (λ f. (f ≡ ScriptFault.OutOfMemory) ⊎ (fault_of (items_with routine.now (view_row body.now) (source_of self.now).items) (source_of self.now).external ≡ Some f)) }
+    {
+        let items = items_with(alloc, &self.items, routine, body)?;
         Script::checked(alloc, items, self.external())
     }
 
