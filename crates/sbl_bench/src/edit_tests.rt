@@ -2,6 +2,7 @@
 
 use crate::tests::{bench_of, classes_shown, shown, text_of, word_of};
 use crate::{Bench, EditFault};
+use sbl_machine::Outcome;
 use sbl_script::ScriptFault;
 use std::alloc::Global;
 use std::test::Fail;
@@ -21,6 +22,17 @@ const AT_FIRST: &str = "box:boxes,;cak:cake,cakes,;cat:cats,;dog:dog,;";
 
 fn plurals(alloc: Global) -> Result<Bench, Fail> {
     bench_of(alloc, PLURALS, &["cats", "boxes", "cakes", "cake", "dog"])
+}
+
+/// How long the stem of the word at this place is.
+fn stem_length(bench: &Bench, i: usize) -> usize {
+    match bench.row(i) {
+        Some(row) => match row.outcome {
+            Outcome::Stem(stem) => stem.len(),
+            Outcome::Refused(_) => 0,
+        },
+        None => 0,
+    }
 }
 
 /// The rows as `WORD STEM;`.
@@ -69,12 +81,32 @@ fn refused_edits_of_the_script_change_nothing(rt: HostRuntime) -> Result<(), Fai
         bench.replace_routine("tail", ""),
         Err(EditFault::Script(ScriptFault::Syntax { place: 0 }))
     );
+    assert_eq!(rt; bench.replace_among("nope", 1, "among ( 's' () )"), Err(EditFault::NoRoutine));
+    for k in [0, 2] {
+        assert_eq!(rt; bench.replace_among("tail", k, "among ( 's' () )"), Err(EditFault::NoAmong));
+    }
+    assert_eq!(rt;
+        bench.replace_among("tail", 1, "among ( 's' (among ( 'e' (delete) )) )\n"),
+        Err(EditFault::AmongCount)
+    );
     assert_eq!(rt; classes_shown(rt.alloc(), &bench)?.as_str(), AT_FIRST);
     assert_eq!(rt;
         rows_shown(rt.alloc(), &bench)?.as_str(),
         "cats cat;boxes box;cakes cak;cake cak;dog dog;"
     );
     assert_eq!(rt; bench.runs(), 5);
+    Ok(())
+}
+
+#[test]
+fn an_among_without_its_command_takes_nothing_off(rt: HostRuntime) -> Result<(), Fail> {
+    let mut bench = plurals(rt.alloc())?;
+    assert_eq!(rt; bench.replace_among("tail", 1, "among ( 's' () )"), Ok(()));
+    assert_eq!(rt;
+        rows_shown(rt.alloc(), &bench)?.as_str(),
+        "cats cats;boxes boxes;cakes cakes;cake cak;dog dog;"
+    );
+    assert_eq!(rt; bench.runs(), 10);
     Ok(())
 }
 
@@ -118,5 +150,25 @@ fn a_word_whose_steps_are_spent_has_no_class(rt: HostRuntime) -> Result<(), Fail
     )?;
     assert_eq!(rt; rows_shown(rt.alloc(), &bench)?.as_str(), "a 60 Steps;");
     assert_eq!(rt; classes_shown(rt.alloc(), &bench)?.as_str(), "");
+    Ok(())
+}
+
+// An edit whose memory is refused leaves the bench as it was, but for the count, and is taken afterwards.
+#[test]
+fn a_refused_growth_keeps_the_among(rt: HostRuntime) -> Result<(), Fail> {
+    let Ok(mut bench) = plurals(rt.alloc()) else {
+        println!(rt; "the bench was refused")?;
+        return Ok(());
+    };
+    assert_eq!(rt; stem_length(&bench, 2), 3);
+    if let Err(fault) = bench.replace_among("tail", 1, "among ( 's' () )") {
+        println!(rt; "the edit was refused")?;
+        assert_eq!(rt; fault, EditFault::OutOfMemory);
+        assert_eq!(rt; stem_length(&bench, 2), 3);
+        assert!(rt; bench.runs() <= 10);
+        assert_eq!(rt; classes_shown(rt.alloc(), &bench)?.as_str(), AT_FIRST);
+        assert_eq!(rt; bench.replace_among("tail", 1, "among ( 's' () )"), Ok(()));
+    }
+    assert_eq!(rt; stem_length(&bench, 2), 5);
     Ok(())
 }
