@@ -4,7 +4,7 @@ use Rattle.std.proofs.lemmas.Option.{none-some, same_Some}
 use Rattle.sbl_script.specs.OneEdit.{EditFaultIsOne, EditIsOne, EditOrFault}
 use Rattle.sbl_script.specs.Parsed.{Source}
 use Rattle.sbl_bench.specs.declared.fault.EditFault.{EditFault}
-use Rattle.sbl_bench.specs.Edits.{Edit, Add, Remove, Routine, IsAccepted, IsMeterFull, IsRefused, IsScriptAfter, IsVerdict, edited, fault_of_script}
+use Rattle.sbl_bench.specs.Edits.{Edit, Add, Remove, Replace, IsAccepted, IsMeterFull, IsRefused, IsScriptAfter, IsVerdict, edited, fault_of_script}
 use Rattle.sbl_bench.specs.State.{State}
 
 -- the laws of the edits of a script
@@ -16,17 +16,17 @@ pub record Known : Type 0 where
 script_is_one : Known → (s : State) (e : Edit) (p q : Source) → IsScriptAfter s e p → IsScriptAfter s e q → p ≡ q
 script_is_one k s (Add word) p q h j = h.1 ∙ sym j.1
 script_is_one k s (Remove word) p q h j = h.1 ∙ sym j.1
-script_is_one k s (Routine name text) p q h j = k.script s.script name text p q h j
+script_is_one k s (Replace what text) p q h j = k.script s.script what text p q h j
 
 refusal_is_one : Known → (s : State) (e : Edit) (f g : EditFault) → IsRefused s e f → IsRefused s e g → f ≡ g
 refusal_is_one k s (Add word) f g h j = same_Some f g (sym h ∙ j)
 refusal_is_one k s (Remove word) f g h j = h.1 ∙ sym j.1
-refusal_is_one k s (Routine name text) f g h j = h.2 ∙ ap fault_of_script (k.fault s.script name text h.0 j.0 h.1 j.1) ∙ sym j.2
+refusal_is_one k s (Replace what text) f g h j = h.2 ∙ ap fault_of_script (k.fault s.script what text h.0 j.0 h.1 j.1) ∙ sym j.2
 
 script_or_refusal : Known → (s : State) (e : Edit) (p : Source) (f : EditFault) → IsScriptAfter s e p → IsRefused s e f → ⊥
 script_or_refusal k s (Add word) p f h j = none-some f (sym h.0 ∙ j)
 script_or_refusal k s (Remove word) p f h j = cc
-script_or_refusal k s (Routine name text) p f h j = k.either s.script name text p j.0 h j.1
+script_or_refusal k s (Replace what text) p f h j = k.either s.script what text p j.0 h j.1
 
 accepted_or_refused : Known → (s : State) (e : Edit) (t : State) (f : EditFault) → IsAccepted s e t → IsRefused s e f ⊎ IsMeterFull s e f → ⊥
 accepted_or_refused k s e t f h (inl j) = script_or_refusal k s e h.script f h.after j

@@ -13,7 +13,7 @@ use Rattle.sbl_bench.specs.Kept.{Entry, words_in}
 use Rattle.sbl_bench.specs.declared.fault.EditFault.{EditFault}
 use Rattle.sbl_bench.specs.declared.fault.EditFault.TheVariants as fault
 use Rattle.sbl_bench.specs.State.{State, most_runs}
-use Rattle.sbl_bench.specs.Edits.{Edit, Edits, Add, Remove, Routine, IsScriptAfter, edited, is_of_script, lacks_counts, refusal_of_add, runs_needed, wants_memory, words_after}
+use Rattle.sbl_bench.specs.Edits.{Edit, Edits, Add, Remove, Replace, IsScriptAfter, edited, is_of_script, lacks_counts, refusal_of_add, runs_needed, wants_memory, words_after}
 use Rattle.sbl_bench.specs.Stops.{IsStop}
 use Rattle.sbl_bench.specs.Vocabulary.{is_word, without}
 
@@ -64,17 +64,17 @@ not_true h = cc
 pub all_run : (s : State) (e : Edit) → is_of_script e ≡ true → runs_needed s e ≡ length s.words
 all_run s (Add word) h = absurd (not_true h)
 all_run s (Remove word) h = absurd (not_true h)
-all_run s (Routine name text) h = ap length (filter_on s.words)
+all_run s (Replace what text) h = ap length (filter_on s.words)
 
 same_words : (s : State) (e : Edit) → is_of_script e ≡ true → words_after s e ≡ s.words
 same_words s (Add word) h = absurd (not_true h)
 same_words s (Remove word) h = absurd (not_true h)
-same_words s (Routine name text) h = refl
+same_words s (Replace what text) h = refl
 
 wants : (e : Edit) → is_of_script e ≡ true → wants_memory e ≡ true
 wants (Add word) h = absurd (not_true h)
 wants (Remove word) h = absurd (not_true h)
-wants (Routine name text) h = refl
+wants (Replace what text) h = refl
 
 -- ---- adding a word
 

@@ -4,18 +4,26 @@ use Rattle.std.specs.List.{filter}
 use Rattle.std.specs.Str.{bytes_eq}
 use Rattle.sbl_script.specs.declared.edit_fault.EditFault as declared
 use Rattle.sbl_script.specs.declared.edit_fault.EditFault.TheVariants as script
-use Rattle.sbl_script.specs.Edits.{IsEdited, IsEditFault}
+use Rattle.sbl_script.specs.Edits.{ScriptEdit, body, among, IsEdited, IsEditFault}
 use Rattle.sbl_script.specs.Parsed.{Source}
 use Rattle.sbl_bench.specs.State.{State, is_full, most_characters, most_runs}
 use Rattle.sbl_bench.specs.Vocabulary.{is_word, without}
 use Rattle.sbl_bench.specs.declared.fault.EditFault.{EditFault}
 use Rattle.sbl_bench.specs.declared.fault.EditFault.TheVariants as fault
 
--- a word is added or removed, or the routine of this name gets this text for its body
+-- a word is added or removed, or a text replaces something in the script
 pub data Edit : Type 0 where
   Add : List ℕ → Edit
   Remove : List ℕ → Edit
-  Routine : List ℕ → List ℕ → Edit
+  Replace : ScriptEdit → List ℕ → Edit
+
+-- the body of the routine of this name is replaced
+abbrev pub Routine : List ℕ → List ℕ → Edit
+Routine name text = Replace (body name) text
+
+-- the among of this number in the routine of this name is replaced
+abbrev pub Among : List ℕ → ℕ → List ℕ → Edit
+Among name k text = Replace (among name k) text
 
 -- ---- what refuses an edit
 
@@ -29,6 +37,8 @@ refusal_of_add s word =
 -- the fault of an edit of a script, as the bench answers it
 abbrev pub fault_of_script : declared.EditFault → EditFault
 fault_of_script script.NoRoutine = fault.NoRoutine
+fault_of_script script.NoAmong = fault.NoAmong
+fault_of_script script.AmongCount = fault.AmongCount
 fault_of_script (script.Script f) = fault.Script f
 fault_of_script script.OutOfMemory = fault.OutOfMemory
 
@@ -36,19 +46,19 @@ fault_of_script script.OutOfMemory = fault.OutOfMemory
 abbrev pub IsRefused : State → Edit → EditFault → Type 0
 IsRefused s (Add word) f = refusal_of_add s word ≡ Some f
 IsRefused s (Remove word) f = (is_word word s.words ≡ false) × (f ≡ fault.Absent)
-IsRefused s (Routine name text) f = (g : declared.EditFault) × IsEditFault s.script name text g × (f ≡ fault_of_script g)
+IsRefused s (Replace what text) f = (g : declared.EditFault) × IsEditFault s.script what text g × (f ≡ fault_of_script g)
 
 -- the edit is not refused so, and this is the script after it
 abbrev pub IsScriptAfter : State → Edit → Source → Type 0
 IsScriptAfter s (Add word) p = (refusal_of_add s word ≡ None) × (p ≡ s.script)
 IsScriptAfter s (Remove word) p = (is_word word s.words ≡ true) × (p ≡ s.script)
-IsScriptAfter s (Routine name text) p = IsEdited s.script name text p
+IsScriptAfter s (Replace what text) p = IsEdited s.script what text p
 
 -- whether it is an edit of the script
 abbrev pub is_of_script : Edit → Bool
 is_of_script (Add word) = false
 is_of_script (Remove word) = false
-is_of_script (Routine name text) = true
+is_of_script (Replace what text) = true
 
 -- ---- words and runs
 
@@ -56,13 +66,13 @@ is_of_script (Routine name text) = true
 abbrev pub words_after : State → Edit → List (List ℕ)
 words_after s (Add word) = s.words ++ word ∷ []
 words_after s (Remove word) = without word s.words
-words_after s (Routine name text) = s.words
+words_after s (Replace what text) = s.words
 
 -- whether the edit has to run this word: the added one alone, and after an edit of the script every word
 abbrev pub met : State → Edit → List ℕ → Bool
 met s (Add word) w = bytes_eq word w
 met s (Remove word) w = false
-met s (Routine name text) w = true
+met s (Replace what text) w = true
 
 -- how many words of the vocabulary after it the edit has to run
 abbrev pub runs_needed : State → Edit → ℕ
@@ -107,7 +117,7 @@ IsVerdict s e (Some f) t = (IsRefused s e f ⊎ IsMeterFull s e f) × (t ≡ s)
 abbrev pub wants_memory : Edit → Bool
 wants_memory (Add word) = true
 wants_memory (Remove word) = false
-wants_memory (Routine name text) = true
+wants_memory (Replace what text) = true
 
 -- whether it is for its text that the edit is refused; to find any other refusal takes no memory
 abbrev pub is_of_text : EditFault → Bool

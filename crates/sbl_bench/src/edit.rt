@@ -12,7 +12,7 @@ use sbl_script::Script;
 
 impl Bench {
     ghost use Rattle.sbl_bench.specs.Kept.{state_of};
-    ghost use Rattle.sbl_bench.specs.Edits.{Edit, Edits, Add, Remove, Routine, IsScriptAfter, is_of_script};
+    ghost use Rattle.sbl_bench.specs.Edits.{Edit, Edits, Add, Remove, Routine, Among, IsScriptAfter, is_of_script};
     ghost use Rattle.sbl_script.specs.Parsed.{source_of};
 
     /// Puts a word last in the vocabulary and runs it once.
@@ -76,6 +76,24 @@ impl Bench {
         ensures { Edits result (state_of self.old) (Routine name.now text.now) (state_of self.new) }
     {
         let script = self.script.with_routine(self.alloc, name, text)?;
+        self.replace_script(script)
+    }
+
+    /// Puts the text in the place of the `k`-th among of the routine or external of this name, counted from 1 in the order of the
+    /// words `among`, and runs every word once. The text is one whole `among ( .. )`, and is read in the mode, under the escapes
+    /// and at the depth of the among that it replaces.
+    ///
+    /// It answers NoRoutine where the script defines no routine of this name, and NoAmong where `k` is 0 or above the number of
+    /// amongs in it; these take no memory. Then it answers Script with the fault of the text or of the script with it,
+    /// AmongCount where the text, amongs inside it counted, holds another number of amongs than what it replaces, and
+    /// MeterFull where fewer counts of runs are left than there are words. It may answer OutOfMemory, where a growth is
+    /// refused, in place of all but NoRoutine and NoAmong. Whatever it answers but `Ok`, script, vocabulary, rows and classes
+    /// are left as they were, and the count of runs too, but that it may be higher at OutOfMemory, by at most the number of
+    /// words, if the edit would have been accepted. (Our own choice.)
+    pub fn replace_among(&mut self, name: &str, k: u64, text: &str) -> Result<(), EditFault>
+        ensures { Edits result (state_of self.old) (Among name.now k text.now) (state_of self.new) }
+    {
+        let script = self.script.with_among(self.alloc, name, k, text)?;
         self.replace_script(script)
     }
 

@@ -100,6 +100,8 @@ impl From<sbl_script::EditFault> for EditFault {
     fn from(fault: sbl_script::EditFault) -> EditFault {
         match fault {
             sbl_script::EditFault::NoRoutine => EditFault::NoRoutine,
+            sbl_script::EditFault::NoAmong => EditFault::NoAmong,
+            sbl_script::EditFault::AmongCount => EditFault::AmongCount,
             sbl_script::EditFault::Script(fault) => EditFault::Script(fault),
             sbl_script::EditFault::OutOfMemory => EditFault::OutOfMemory,
         }
