@@ -42,6 +42,41 @@ fn classes_follow_the_edits_of_routines(rt: HostRuntime) -> Result<(), Fail> {
 }
 
 #[test]
+fn an_among_without_its_command_takes_nothing_off(rt: HostRuntime) -> Result<(), Fail> {
+    let alloc = rt.alloc();
+    let mut bench = plurals(alloc)?;
+    assert_eq!(rt; bench.replace_among("tail", 1, "among ( 's' () )"), Ok(()));
+    assert_eq!(rt;
+        rows_shown(alloc, &bench)?.as_str(),
+        "cats cats;boxes boxes;cakes cakes;cake cak;dog dog;"
+    );
+    assert_eq!(rt; bench.runs(), 10);
+    Ok(())
+}
+
+#[test]
+fn refused_edits_of_an_among_change_nothing(rt: HostRuntime) -> Result<(), Fail> {
+    let alloc = rt.alloc();
+    let mut bench = plurals(alloc)?;
+    for (name, k, text, want) in [
+        ("nope", 1, "among ( 's' () )", EditFault::NoRoutine),
+        ("tail", 0, "among ( 's' () )", EditFault::NoAmong),
+        ("tail", 2, "among ( 's' () )", EditFault::NoAmong),
+        (
+            "tail",
+            1,
+            "among ( 's' (among ( 'e' (delete) )) )",
+            EditFault::AmongCount,
+        ),
+    ] {
+        assert_eq!(rt; bench.replace_among(name, k, text), Err(want));
+    }
+    assert_eq!(rt; classes_shown(alloc, &bench)?.as_str(), AT_FIRST);
+    assert_eq!(rt; bench.runs(), 5);
+    Ok(())
+}
+
+#[test]
 fn refused_edits_of_the_script_change_nothing(rt: HostRuntime) -> Result<(), Fail> {
     let alloc = rt.alloc();
     let mut bench = plurals(alloc)?;
