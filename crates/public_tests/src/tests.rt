@@ -12,6 +12,7 @@ mod porter;
 mod rewritten;
 mod runs;
 mod script;
+mod script_edits;
 mod scripts;
 mod slices;
 mod stems;

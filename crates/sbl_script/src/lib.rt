@@ -4,8 +4,6 @@
 mod bodies;
 mod checks;
 mod edit_fault;
-#[cfg(test)]
-mod edit_tests;
 mod edits;
 pub mod laws;
 mod marking;

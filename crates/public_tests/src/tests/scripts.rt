@@ -15,7 +15,7 @@ pub const PREFIXES: &str =
     "externals ( stem ) define stem as ( [ among ( 'un' () 're' () ) ] delete )";
 
 /// Three routines in a `backwardmode`, one with an among, one a condition of it. The external's body is left out.
-const SUFFIX_ROUTINES: &str = "externals ( stem )
+pub const SUFFIX_ROUTINES: &str = "externals ( stem )
 routines ( tail last sib )
 backwardmode (
   define sib as ( 'x' or 's' )

@@ -1,7 +1,7 @@
 //! Edits of scripts, and why they are refused.
 
-use crate::scripts::{FRONT, SUFFIXES};
-use crate::{EditFault, Script, ScriptFault};
+use crate::tests::scripts::{FRONT, SUFFIX_ROUTINES};
+use sbl_script::{EditFault, Script, ScriptFault};
 use std::alloc::Global;
 use std::process::Abort;
 
@@ -71,7 +71,7 @@ fn an_among_is_told_by_its_number(rt: HostRuntime) {
 
 #[test]
 fn what_is_missing_comes_before_the_text(rt: HostRuntime) {
-    let script = with_body(&rt, rt.alloc(), SUFFIXES, "backwards tail");
+    let script = with_body(&rt, rt.alloc(), SUFFIX_ROUTINES, "backwards tail");
     for (name, k, text, want) in [
         ("nope", 1, "", EditFault::NoRoutine),
         ("nope", 0, "among ( 's' )", EditFault::NoRoutine),
