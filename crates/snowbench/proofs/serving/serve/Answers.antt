@@ -22,7 +22,7 @@ loop-bench-preserved-in_ok-write_reply g c = record {
   session =
       session_goes_on _ (input_of g.R.Source.left c.loop-bench.lines) (input_of g.R.Source.left c.next_line.new.self) _ _ (g.W.Sink.held c.loop-bench.writer) _ _ (state_of c.loop-bench.bench) _ _ c.in_ok-reply.reply
       c.loop-bench.invariant.session (c.in_ok-next_line.ensures.more c.if-branch.true) (c.in_ok-next_line.ensures.fits c.if-branch.true) c.in_ok-reply.ensures.answered c.in_ok-write_reply.ensures.all;
-  fault = c.answer.ensures.remembered ∙ sym c.in_ok-next_line.ensures.ready.0 ∙ c.loop-bench.invariant.fault;
+  fault = c.in_ok-reply.ensures.remembered ∙ sym c.in_ok-next_line.ensures.ready.0 ∙ c.loop-bench.invariant.fault;
   read = c.in_ok-reply.ensures.steady ∙ c.in_ok-next_line.ensures.steady ∙ c.loop-bench.invariant.read;
   written = c.in_ok-write_reply.ensures.steady ∙ c.loop-bench.invariant.written;
   bound = c.answer.ensures.bound ∙ c.next_line.ensures.bound ∙ c.loop-bench.invariant.bound;
@@ -34,7 +34,7 @@ loop-bench-preserved g c = record {
   session =
       session_goes_on _ (input_of g.R.Source.left c.loop-bench.lines) (input_of g.R.Source.left c.next_line.new.self) _ _ (g.W.Sink.held c.loop-bench.writer) _ _ (state_of c.loop-bench.bench) _ _ c.in_ok-reply.reply
       c.loop-bench.invariant.session (c.in_ok-next_line.ensures.more c.if-branch.true) (c.in_ok-next_line.ensures.fits c.if-branch.true) c.in_ok-reply.ensures.answered c.in_ok-write_reply.ensures.all;
-  fault = c.answer.ensures.remembered ∙ sym c.in_ok-next_line.ensures.ready.0 ∙ c.loop-bench.invariant.fault;
+  fault = c.in_ok-reply.ensures.remembered ∙ sym c.in_ok-next_line.ensures.ready.0 ∙ c.loop-bench.invariant.fault;
   read = c.in_ok-reply.ensures.steady ∙ c.in_ok-next_line.ensures.steady ∙ c.loop-bench.invariant.read;
   written = c.in_ok-write_reply.ensures.steady ∙ c.loop-bench.invariant.written;
   bound = c.answer.ensures.bound ∙ c.next_line.ensures.bound ∙ c.loop-bench.invariant.bound;
