@@ -1,7 +1,7 @@
 -- A session goes on request by request.
 use Rattle.std.proofs.Common.{◌⊎◌, Bool, true, false, ◌≡◌, ◌∙◌, ◌++◌, ◌≤◌, ℕ, List, [], ◌∷◌, Option, Some, None, Ok, Err, refl, take, sym, ap, subst, append_assoc, arith, length}
 use Rattle.std.proofs.lemmas.List.{append-nil}
-use Rattle.std.proofs.lemmas.List.Elements.{All-append}
+use Rattle.std.proofs.lemmas.List.Elements.{All-append, All-cons, All-nil}
 use Rattle.std.proofs.lemmas.Grind.{flat_map-append}
 use Rattle.std.specs.Io.KnownBytes.{Appends, IsAtEnd, Keeps}
 use Rattle.std.proofs.KnownBytes.{Appends-nil, Appends-trans}
@@ -65,7 +65,7 @@ half-more s t u done r h i j q reply n so writes is = record {
 -- ---- requests
 
 none_taken : (a : Option (List ℕ)) → TookRequests a a []
-none_taken a = record { each = tt; fit = tt; lines = took-none a }
+none_taken a = record { each = All-nil IsRequest; fit = tt; lines = took-none a }
 
 one_more : (a b c d : Option (List ℕ)) (done : List Request) (line : List ℕ) (block : Option (List (List ℕ)))
     → TookRequests a b done → GivesLine b c line → length line ≤ 65536 → IsRequest (record { line = line; block = block }) → AllFit (block_lines block)
@@ -74,7 +74,7 @@ one_more a b c d done line block so gives fits formed fit took =
     let r : Request = record { line = line; block = block } in
     let all : lines_in_all (done ++ r ∷ []) ≡ lines_in_all done ++ lines_in r = flat_map-append lines_in done (r ∷ []) ∙ ap (λ (x : List (List ℕ)). lines_in_all done ++ x) (append-nil (lines_in r)) in
     record {
-      each = All-append IsRequest done (r ∷ []) so.each (formed, tt);
+      each = All-append IsRequest done (r ∷ []) so.each (All-cons IsRequest r [] formed (All-nil IsRequest));
       fit = subst AllFit (sym all) (all_fit-append (lines_in_all done) (lines_in r) so.fit (fits, fit));
       lines = subst (Took a d) (sym all) (took-trans a b d (lines_in_all done) (lines_in r) so.lines (took-trans b c d (line ∷ []) (block_lines block) gives took));
     }

@@ -1,9 +1,11 @@
-use Rattle.std.proofs.Common.{◌≡◌, ◌∙◌, ◌<◌, List, ℕ, None, true, length, subst, sym, ap}
+use Rattle.std.proofs.Common.{◌≡◌, ◌∙◌, ◌<◌, List, [], ℕ, None, Some, true, rules, length, subst, sym, ap}
 use Rattle.std.specs.Str.{is_utf8}
 use Rattle.std.proofs.lemmas.Str.{is_utf8-from_IsUtf8}
 use Rattle.sbl_bench.specs.Kept.{state_of}
 use Rattle.sbl_bench.specs.Edits.{Routine}
 use Rattle.snowbench.specs.Block.{HasText, made_text, most_bytes}
+use Rattle.snowbench.specs.declared.block_text.BlockFault.{BlockFault}
+use Rattle.snowbench.specs.declared.block_text.BlockFault.TheVariants.{TooLong}
 use Rattle.snowbench.specs.CommandViews.{IsEditAnswer, IsTextAnswer}
 use Rattle.snowbench.specs.Commands.{block_command}
 use Rattle.snowbench.specs.Words.{argument}
@@ -30,7 +32,8 @@ returns-in-Err-TooLong c = λ lines holds.
     let s = state_of c.args.bench.now in
     let line = c.args.line.now in
     let utf8 : is_utf8 line ≡ true = is_utf8-from_IsUtf8 line c.in-Ok.ensures.cases.1 in
-    let long : most_bytes < length (made_text lines) = c.in-Err-TooLong.ensures.fault lines holds in
+    let is : c.in-Err-TooLong.field-0 ≡ TooLong = search rules in
+    let long : most_bytes < length (made_text lines) = subst (λ (f : BlockFault). HasText (Some f) [] lines) is (c.in-Err-TooLong.ensures.fault lines holds) in
     subst (λ (x : List ℕ). IsTextAnswer s (block_command line lines) x s) (sym c.edit_text.ensures) (block_too_long s line lines utf8 long)
 
 pub returns-in-Err-OutOfMemory : goal.returns-in-Err-OutOfMemory

@@ -22,10 +22,10 @@ loop-bench-preserved-in_ok-write_reply g c = record {
   session =
       session_goes_on _ (input_of g.R.Source.left c.loop-bench.lines) (input_of g.R.Source.left c.next_line.new.self) _ _ (g.W.Sink.held c.loop-bench.writer) _ _ (state_of c.loop-bench.bench) _ _ c.in_ok-reply.reply
       c.loop-bench.invariant.session (c.in_ok-next_line.ensures.more c.if-branch.true) (c.in_ok-next_line.ensures.fits c.if-branch.true) c.in_ok-reply.ensures.answered c.in_ok-write_reply.ensures.all;
-  fault = c.answer-reply.ensures.remembered ∙ sym c.in_ok-next_line.ensures.ready.0 ∙ c.loop-bench.invariant.fault;
+  fault = c.in_ok-reply.ensures.remembered ∙ sym c.in_ok-next_line.ensures.ready.0 ∙ c.loop-bench.invariant.fault;
   read = c.in_ok-reply.ensures.steady ∙ c.in_ok-next_line.ensures.steady ∙ c.loop-bench.invariant.read;
   written = c.in_ok-write_reply.ensures.steady ∙ c.loop-bench.invariant.written;
-  bound = c.answer-reply.ensures.bound ∙ c.next_line.ensures.bound ∙ c.loop-bench.invariant.bound;
+  bound = c.answer.ensures.bound ∙ c.next_line.ensures.bound ∙ c.loop-bench.invariant.bound;
   untouched = λ some. absurd (no_fault (sym c.loop-bench.invariant.fault ∙ c.in_ok-next_line.ensures.ready.0) some);
 }
 
@@ -34,10 +34,10 @@ loop-bench-preserved g c = record {
   session =
       session_goes_on _ (input_of g.R.Source.left c.loop-bench.lines) (input_of g.R.Source.left c.next_line.new.self) _ _ (g.W.Sink.held c.loop-bench.writer) _ _ (state_of c.loop-bench.bench) _ _ c.in_ok-reply.reply
       c.loop-bench.invariant.session (c.in_ok-next_line.ensures.more c.if-branch.true) (c.in_ok-next_line.ensures.fits c.if-branch.true) c.in_ok-reply.ensures.answered c.in_ok-write_reply.ensures.all;
-  fault = c.answer-reply.ensures.remembered ∙ sym c.in_ok-next_line.ensures.ready.0 ∙ c.loop-bench.invariant.fault;
+  fault = c.in_ok-reply.ensures.remembered ∙ sym c.in_ok-next_line.ensures.ready.0 ∙ c.loop-bench.invariant.fault;
   read = c.in_ok-reply.ensures.steady ∙ c.in_ok-next_line.ensures.steady ∙ c.loop-bench.invariant.read;
   written = c.in_ok-write_reply.ensures.steady ∙ c.loop-bench.invariant.written;
-  bound = c.answer-reply.ensures.bound ∙ c.next_line.ensures.bound ∙ c.loop-bench.invariant.bound;
+  bound = c.answer.ensures.bound ∙ c.next_line.ensures.bound ∙ c.loop-bench.invariant.bound;
   untouched = λ some. absurd (no_fault (sym c.loop-bench.invariant.fault ∙ c.in_ok-next_line.ensures.ready.0) some);
 }
 
@@ -61,7 +61,7 @@ returns-in_err-reply-clause-session g c = λ _.
     let p = err_from_is_err_and c.from_residual-in_err-reply.result c.from_residual-in_err-reply.ensures.1 in
     let broken = c.in_err-reply.ensures.broken in
     rw (p.1, p.2)
-    (subst (λ (x : State). IsSession (input_of left c.args.lines.now) (input_of left c.answer-reply.new.lines) (held c.args.writer.now) (held c.loop-bench.writer) (state_of c.args.bench.now) x (Err f)) (sym broken.1)
+    (subst (λ (x : State). IsSession (input_of left c.args.lines.now) (input_of left c.answer.new.lines) (held c.args.writer.now) (held c.loop-bench.writer) (state_of c.args.bench.now) x (Err f)) (sym broken.1)
     (session_open _ (input_of left c.loop-bench.lines) (input_of left c.next_line.new.self) _ _ _ _ _ (line_of c.next_line.new.self) f c.loop-bench.invariant.session
     (c.in_ok-next_line.ensures.more c.if-branch.true) (c.in_ok-next_line.ensures.fits c.if-branch.true) broken.0.0 broken.0.1))
 
