@@ -2,7 +2,7 @@ use Rattle.std.proofs.Common.{◌≡◌, ◌+◌, drop, suc, true, false, Some, 
 use Rattle.std.specs.Prelude.{slice_get, ◌-◌}
 use Rattle.sbl_machine.specs.Kept.{Follows}
 use Rattle.sbl_machine.specs.Moves.{next}
-use Rattle.sbl_machine.proofs.Arms.{by_fault, stops_at, either_way, turn_is, time_stops, sequence_does, not_does, test_does, try_does, do_does, fail_does, backwards_does, follows_at, repeat_does, loop_does, atleast_does, or_does, and_does, goto_does, gopast_does, setlimit_does, limited_signals, limited_halts, one_time, search_does, among_does, nth_is, nth_past, one_turn, one_try, one_more, halted, called, leave_signals, leave_halts, after_halts}
+use Rattle.sbl_machine.proofs.Arms.{by_fault, stops_at, either_way, turn_is, time_stops, sequence_does, not_does, test_does, try_does, do_does, fail_does, backwards_does, follows_at, repeat_does, loop_does, atleast_does, goto_does, gopast_does, setlimit_does, limited_signals, limited_halts, one_time, search_does, among_does, nth_is, nth_past, one_turn, one_try, one_more, halted, called, leave_signals, leave_halts, after_halts}
 use Rattle.sbl_machine.specs.Standing.{Standing, Ending, Signals, after, then_on, mark, put_back}
 use Rattle.sbl_program.specs.declared.node.Node.{Node}
 use Rattle.sbl_program.specs.declared.node.Routine.{Routine}
@@ -242,44 +242,6 @@ run_call-returns-in_ok-signal-in-Some-clause-follows g t c =
     let kept : c.in_ok-kept-in-Some.kept.items ≡ s.choices = c.in_ok-kept-in-Some.ensures.kept in
     q ∙ leave_signals s.choices body b new h ∙ ap (λ cs. Signals b (record new { choices = cs })) (sym kept) ∙ ap (Signals b) (sym c.leave.ensures)
 
-pub run_command-returns-in_ok-put_back-in-Or-clause-follows : goal.run_command-returns-in_ok-put_back-in-Or-clause-follows
-run_command-returns-in_ok-put_back-in-Or-clause-follows g t c =
-    let T = g.T.Tables.listed c.args.tables.now in
-    let P = plan_of T c.args.program.now in
-    let levels = c.args.levels in
-    let D = λ (n : Node). runs P levels (view_node T n) in
-    let m = c.args.mode in
-    let s = c.args.state.now in
-    let q = c.pay.new.self in
-    let a = c.in-Or in
-    let u = c.run_command.new.state in
-    let w = c.put_back.new.self in
-    let p = ap (λ n. D n m s) a.is ∙ or_does T P levels a.first a.second m s ∙ ap (λ r. then_on r (λ q. after (D a.first.value m q) (Signals true) (λ f. then_on (put_back m (mark q) f) (D a.second.value m)))) c.in_ok-pay.ensures in
-    let b : c.in_ok-run_command-in-Or.field-0 ≡ false = search rules in
-    let e : D a.first.value m q ≡ Signals false u = ap (λ n. D n m q) (sym c.deref-in-Or.ensures) ∙ c.in_ok-run_command-in-Or.ensures.follows ∙ ap (λ v. Signals v u) b in
-    let k : put_back m (mark q) u ≡ Signals true w = ap (λ r. put_back m r u) (sym c.mark-from.ensures.value) ∙ c.in_ok-put_back-in-Or.ensures.leads in
-    let x = p ∙ ap (λ r. after r (Signals true) (λ f. then_on (put_back m (mark q) f) (D a.second.value m))) e ∙ ap (λ r. then_on r (D a.second.value m)) k ∙ ap (λ n. D n m w) (sym c.deref-in-Or-2.ensures) in
-    follows_at c.run_command-in-Or.result c.run_command-in-Or.new.state _ _ x c.run_command-in-Or.ensures.follows
-
-pub run_command-returns-in_ok-put_back-in-And-clause-follows : goal.run_command-returns-in_ok-put_back-in-And-clause-follows
-run_command-returns-in_ok-put_back-in-And-clause-follows g t c =
-    let T = g.T.Tables.listed c.args.tables.now in
-    let P = plan_of T c.args.program.now in
-    let levels = c.args.levels in
-    let D = λ (n : Node). runs P levels (view_node T n) in
-    let m = c.args.mode in
-    let s = c.args.state.now in
-    let q = c.pay.new.self in
-    let a = c.in-And in
-    let u = c.run_command-in-And.new.state in
-    let w = c.put_back-in-And.new.self in
-    let p = ap (λ n. D n m s) a.is ∙ and_does T P levels a.first a.second m s ∙ ap (λ r. then_on r (λ q. after (D a.first.value m q) (λ t. then_on (put_back m (mark q) t) (D a.second.value m)) (Signals false))) c.in_ok-pay.ensures in
-    let b : c.in_ok-run_command-in-And.field-0 ≡ true = search rules in
-    let e : D a.first.value m q ≡ Signals true u = ap (λ n. D n m q) (sym c.deref-in-And.ensures) ∙ c.in_ok-run_command-in-And.ensures.follows ∙ ap (λ v. Signals v u) b in
-    let k : put_back m (mark q) u ≡ Signals true w = ap (λ r. put_back m r u) (sym c.mark-from-in-And.ensures.value) ∙ c.in_ok-put_back-in-And.ensures.leads in
-    let x = p ∙ ap (λ r. after r (λ t. then_on (put_back m (mark q) t) (D a.second.value m)) (Signals false)) e ∙ ap (λ r. then_on r (D a.second.value m)) k ∙ ap (λ n. D n m w) (sym c.deref-in-And-2.ensures) in
-    follows_at c.run_command-in-And-2.result c.run_command-in-And-2.new.state _ _ x c.run_command-in-And-2.ensures.follows
-
 pub run_command-returns-in-Goto-clause-follows : goal.run_command-returns-in-Goto-clause-follows
 run_command-returns-in-Goto-clause-follows g t c =
     let T = g.T.Tables.listed c.args.tables.now in
@@ -398,84 +360,6 @@ run_times-loop-left-preserved g t c =
     let fewer : new.steps < s.steps = c.in_ok-run_command.ensures.fewer in
     let steps : new.steps ≤ c.args.state.now.steps = omega (arith, fewer, inv.1) in
     (one_time c.loop-left.left D m s new _ some e inv.0, steps)
-
-pub run_command-returns-in_err-run_command-in-Or-clause-follows : goal.run_command-returns-in_err-run_command-in-Or-clause-follows
-run_command-returns-in_err-run_command-in-Or-clause-follows g t c =
-    let T = g.T.Tables.listed c.args.tables.now in
-    let P = plan_of T c.args.program.now in
-    let levels = c.args.levels in
-    let D = λ (n : Node). runs P levels (view_node T n) in
-    let m = c.args.mode in
-    let s = c.args.state.now in
-    let q = c.pay.new.self in
-    let a = c.in-Or in
-    let u = c.run_command.new.state in
-    let on_t : Standing → Standing → Ending = λ (q : Standing). Signals true in
-    let on_f : Standing → Standing → Ending = λ (q : Standing). λ (f : Standing). then_on (put_back m (mark q) f) (D a.second.value m) in
-    let p = ap (λ n. D n m s) a.is ∙ or_does T P levels a.first a.second m s ∙ ap (λ r. then_on r (λ q. after (D a.first.value m q) (on_t q) (on_f q))) c.in_ok-pay.ensures in
-    let halt = c.in_err-run_command-in-Or.field-0.0 in
-    let r : c.from_residual-in_err-run_command-in-Or.result ≡ Err halt = search rules in
-    rw r (by_fault halt u _ (λ fault is. p ∙ ap (λ r. after r (on_t q) (on_f q)) (ap (λ n. D n m q) (sym c.deref-in-Or.ensures) ∙ stops_at halt u _ fault is c.in_err-run_command-in-Or.ensures.follows)))
-
-pub run_command-returns-in_err-put_back-in-Or-clause-follows : goal.run_command-returns-in_err-put_back-in-Or-clause-follows
-run_command-returns-in_err-put_back-in-Or-clause-follows g t c =
-    let T = g.T.Tables.listed c.args.tables.now in
-    let P = plan_of T c.args.program.now in
-    let levels = c.args.levels in
-    let D = λ (n : Node). runs P levels (view_node T n) in
-    let m = c.args.mode in
-    let s = c.args.state.now in
-    let q = c.pay.new.self in
-    let a = c.in-Or in
-    let u = c.run_command.new.state in
-    let on_t : Standing → Standing → Ending = λ (q : Standing). Signals true in
-    let on_f : Standing → Standing → Ending = λ (q : Standing). λ (f : Standing). then_on (put_back m (mark q) f) (D a.second.value m) in
-    let p = ap (λ n. D n m s) a.is ∙ or_does T P levels a.first a.second m s ∙ ap (λ r. then_on r (λ q. after (D a.first.value m q) (on_t q) (on_f q))) c.in_ok-pay.ensures in
-    let w = c.put_back.new.self in
-    let b : c.in_ok-run_command-in-Or.field-0 ≡ false = search rules in
-    let e : D a.first.value m q ≡ Signals false u = ap (λ n. D n m q) (sym c.deref-in-Or.ensures) ∙ c.in_ok-run_command-in-Or.ensures.follows ∙ ap (λ v. Signals v u) b in
-    let halt = c.in_err-put_back-in-Or.field-0.0 in
-    let r : c.from_residual-in_err-put_back-in-Or.result ≡ Err halt = search rules in
-    rw r (by_fault halt w _ (λ fault is. p ∙ ap (λ r. after r (on_t q) (on_f q)) e ∙ ap (λ r. then_on r (D a.second.value m)) (ap (λ r. put_back m r u) (sym c.mark-from.ensures.value) ∙ stops_at halt w _ fault is c.in_err-put_back-in-Or.ensures.leads)))
-
-pub run_command-returns-in_err-run_command-in-And-clause-follows : goal.run_command-returns-in_err-run_command-in-And-clause-follows
-run_command-returns-in_err-run_command-in-And-clause-follows g t c =
-    let T = g.T.Tables.listed c.args.tables.now in
-    let P = plan_of T c.args.program.now in
-    let levels = c.args.levels in
-    let D = λ (n : Node). runs P levels (view_node T n) in
-    let m = c.args.mode in
-    let s = c.args.state.now in
-    let q = c.pay.new.self in
-    let a = c.in-And in
-    let u = c.run_command-in-And.new.state in
-    let on_t : Standing → Standing → Ending = λ (q : Standing). λ (t : Standing). then_on (put_back m (mark q) t) (D a.second.value m) in
-    let on_f : Standing → Standing → Ending = λ (q : Standing). Signals false in
-    let p = ap (λ n. D n m s) a.is ∙ and_does T P levels a.first a.second m s ∙ ap (λ r. then_on r (λ q. after (D a.first.value m q) (on_t q) (on_f q))) c.in_ok-pay.ensures in
-    let halt = c.in_err-run_command-in-And.field-0.0 in
-    let r : c.from_residual-in_err-run_command-in-And.result ≡ Err halt = search rules in
-    rw r (by_fault halt u _ (λ fault is. p ∙ ap (λ r. after r (on_t q) (on_f q)) (ap (λ n. D n m q) (sym c.deref-in-And.ensures) ∙ stops_at halt u _ fault is c.in_err-run_command-in-And.ensures.follows)))
-
-pub run_command-returns-in_err-put_back-in-And-clause-follows : goal.run_command-returns-in_err-put_back-in-And-clause-follows
-run_command-returns-in_err-put_back-in-And-clause-follows g t c =
-    let T = g.T.Tables.listed c.args.tables.now in
-    let P = plan_of T c.args.program.now in
-    let levels = c.args.levels in
-    let D = λ (n : Node). runs P levels (view_node T n) in
-    let m = c.args.mode in
-    let s = c.args.state.now in
-    let q = c.pay.new.self in
-    let a = c.in-And in
-    let u = c.run_command-in-And.new.state in
-    let on_t : Standing → Standing → Ending = λ (q : Standing). λ (t : Standing). then_on (put_back m (mark q) t) (D a.second.value m) in
-    let on_f : Standing → Standing → Ending = λ (q : Standing). Signals false in
-    let p = ap (λ n. D n m s) a.is ∙ and_does T P levels a.first a.second m s ∙ ap (λ r. then_on r (λ q. after (D a.first.value m q) (on_t q) (on_f q))) c.in_ok-pay.ensures in
-    let w = c.put_back-in-And.new.self in
-    let b : c.in_ok-run_command-in-And.field-0 ≡ true = search rules in
-    let e : D a.first.value m q ≡ Signals true u = ap (λ n. D n m q) (sym c.deref-in-And.ensures) ∙ c.in_ok-run_command-in-And.ensures.follows ∙ ap (λ v. Signals v u) b in
-    let halt = c.in_err-put_back-in-And.field-0.0 in
-    let r : c.from_residual-in_err-put_back-in-And.result ≡ Err halt = search rules in
-    rw r (by_fault halt w _ (λ fault is. p ∙ ap (λ r. after r (on_t q) (on_f q)) e ∙ ap (λ r. then_on r (D a.second.value m)) (ap (λ r. put_back m r u) (sym c.mark-from-in-And.ensures.value) ∙ stops_at halt w _ fault is c.in_err-put_back-in-And.ensures.leads)))
 
 pub run_command-returns-in_err-run_command-in-Not-clause-follows : goal.run_command-returns-in_err-run_command-in-Not-clause-follows
 run_command-returns-in_err-run_command-in-Not-clause-follows g t c =
