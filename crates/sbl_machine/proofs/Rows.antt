@@ -1,7 +1,7 @@
 -- A row, a sum and a product grouped from the left do what their parts do one after another.
 use Rattle.std.proofs.Common.{◌≡◌, ℕ, zero, suc, ◌+◌, ◌-◌, ◌<◌, Bool, true, false, List, [], ◌∷◌, length, map, drop, get_or, Ok, Err, refl, sym, ap, ◌∙◌, arith, Box, Vec, Global, rules}
 use Rattle.std.proofs.Math.Path.{fun_ext}
-use Rattle.std.proofs.lemmas.List.{drop_more, length-map}
+use Rattle.std.proofs.lemmas.List.{drop_more}
 use Rattle.sbl_grammar.specs.declared.tree.Joiner.{Joiner}
 use Rattle.sbl_grammar.specs.declared.tree.Joiner.TheVariants.{Or, And}
 use Rattle.sbl_grammar.specs.declared.tree.Additive.{Additive}
@@ -9,6 +9,9 @@ use Rattle.sbl_grammar.specs.declared.tree.Additive.TheVariants as additives
 use Rattle.sbl_grammar.specs.declared.tree.Multiplicative.{Multiplicative}
 use Rattle.sbl_grammar.specs.declared.tree.Multiplicative.TheVariants as multiplicatives
 use Rattle.sbl_program.specs.declared.action.Arithmetic.{Arithmetic}
+use Rattle.sbl_program.specs.declared.action.Arithmetic.TheVariants.{Sum, Product}
+use Rattle.sbl_program.specs.declared.action.Arithmetic.TheFolds.{fold_out-Arithmetic}
+use Rattle.sbl_program.specs.declared.action.Arithmetic.TheViews.{the_lemmas as number_lemmas}
 use Rattle.sbl_program.specs.declared.action.Added.{Added}
 use Rattle.sbl_program.specs.declared.action.Scaled.{Scaled}
 use Rattle.sbl_program.specs.declared.node.Node.{Node}
@@ -19,7 +22,7 @@ use Rattle.sbl_program.specs.declared.node.Node.TheViews.{the_lemmas}
 use Rattle.sbl_program.specs.Grouped.{AddedView, JoinedView, ScaledView, added, added_all, grouped, join, joined_all, scaled, scaled_all}
 use Rattle.sbl_program.specs.Listed.{Listed}
 use Rattle.sbl_program.specs.Plan as plan
-use Rattle.sbl_program.specs.PlanOf.{view_added, view_joined, view_node, view_scaled}
+use Rattle.sbl_program.specs.PlanOf.{view_added, view_joined, view_node, view_number, view_scaled}
 use Rattle.sbl_machine.specs.declared.fault.RunFault.{RunFault}
 use Rattle.sbl_machine.specs.declared.fault.RunFault.TheVariants.{Steps}
 use Rattle.sbl_machine.specs.declared.state.Mark.{Mark}
@@ -54,6 +57,18 @@ scales_done (o ∷ os) a m s = scales_done os (scaled o.0 a o.1) m s ∙ ap (λ 
 pub scales_stop : (os : List ScaledView) (fault : RunFault) (m : Mode) (s : Standing) → scales_to os (Err fault) m s ≡ Err fault
 scales_stop [] fault m s = refl
 scales_stop (o ∷ os) fault m s = scales_stop os fault m s
+
+view_sum : (first : Box Arithmetic Global) (others : Vec Added Global) → view_number (Sum first others) ≡ added_all (map view_added others.items) (view_number first.value)
+view_sum first others = first_of (search (rules, number_lemmas), search (rules, number_lemmas, fold_out-Arithmetic))
+
+pub sum_value : (first : Box Arithmetic Global) (others : Vec Added Global) (m : Mode) (s : Standing) → value (view_number (Sum first others)) m s ≡ sums_to (map view_added others.items) (value (view_number first.value) m s) m s
+sum_value first others m s = ap (λ n. value n m s) (view_sum first others) ∙ sums_done (map view_added others.items) (view_number first.value) m s
+
+view_product : (first : Box Arithmetic Global) (others : Vec Scaled Global) → view_number (Product first others) ≡ scaled_all (map view_scaled others.items) (view_number first.value)
+view_product first others = first_of (search (rules, number_lemmas), search (rules, number_lemmas, fold_out-Arithmetic))
+
+pub product_value : (first : Box Arithmetic Global) (others : Vec Scaled Global) (m : Mode) (s : Standing) → value (view_number (Product first others)) m s ≡ scales_to (map view_scaled others.items) (value (view_number first.value) m s) m s
+product_value first others m s = ap (λ n. value n m s) (view_product first others) ∙ scales_done (map view_scaled others.items) (view_number first.value) m s
 
 -- the i-th of some parts, and then those that follow it
 pub part_is : {X Y : Type 0} (f : X → Y) (xs : List X) (i : ℕ) (x : X) → i < length xs → x ≡ get_or xs i x → map f (drop i xs) ≡ f x ∷ map f (drop (i + 1) xs)

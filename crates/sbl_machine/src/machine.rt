@@ -10,15 +10,14 @@ ghost use Rattle.sbl_machine.specs.Standing.{Ending};
 use crate::fault::{RunFault, RunStop};
 use crate::halt::Halt;
 use crate::meter::Meter;
-use sbl_program::node::Program;
-use crate::table::tables_of;
-use sbl_program::{Made, numbered};
 use crate::outcome::{Outcome, Ran};
 use crate::run::run_call;
-use sbl_tables::AmongSearch;
 use crate::state::State;
-use crate::table::TableList;
+use crate::table::{TableList, tables_of};
+use sbl_program::node::Program;
+use sbl_program::{Made, numbered};
 use sbl_script::{Mode, Script};
+use sbl_tables::AmongSearch;
 use std::alloc::{AllocError, Global};
 
 /// How deep the calls of routines may go, the external counted as one.

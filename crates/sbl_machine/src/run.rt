@@ -9,13 +9,13 @@ ghost use Rattle.sbl_machine.specs.Rows.{is_settled, joined_runs, row_runs};
 ghost use Rattle.sbl_machine.specs.Search.{choice, search_all, try_one};
 ghost use Rattle.sbl_machine.specs.Standing.{Standing, Ending, Signals, after, then_on, mark, put_back};
 
-use sbl_program::action::Arithmetic;
 use crate::halt::Halt;
-use sbl_grammar::Joiner;
-use sbl_program::node::{Entry, Joined, Node, Program};
 use crate::state::numbers::count_of;
 use crate::state::{Mark, State};
 use crate::table::Tables;
+use sbl_grammar::Joiner;
+use sbl_program::action::Arithmetic;
+use sbl_program::node::{Entry, Joined, Node, Program};
 use sbl_script::Mode;
 
 /// Runs a command: its signal, or why it has none.

@@ -16,8 +16,8 @@ mod moves;
 pub mod numbers;
 mod slices;
 
-use sbl_program::action::StringTerm;
 use crate::halt::Halt;
+use sbl_program::action::StringTerm;
 use sbl_program::node::Program;
 use sbl_script::Mode;
 use std::alloc::{AllocError, Global};

@@ -7,8 +7,8 @@ ghost use Rattle.sbl_program.specs.NumberedAmongs as spec;
 ghost use Rattle.sbl_program.specs.NumberedView.{view_names, view_placed, view_found, texts};
 ghost use Rattle.sbl_program.specs.Regions.{mode_behind as spec_mode_behind};
 
-use crate::node;
 use crate::names::{Names, Placed, number_of};
+use crate::node;
 use sbl_grammar::{Among, Command, Entry, Group, Joined, Plain, Prefix, Row};
 use sbl_script::Mode;
 use std::alloc::{AllocError, Global};

@@ -12,9 +12,9 @@ ghost use Rattle.sbl_program.specs.Grouped.{joined_all};
 ghost use Rattle.sbl_program.specs.PlanOf.{view_action, view_joined, view_node, view_number, view_text, commands_of};
 
 use crate::action::{Action, Arithmetic, Change, Relation, StringTerm};
-use crate::node::{self, Entry, Node};
 use crate::amongs::Found;
 use crate::names::{Names, is_one_of, number_of};
+use crate::node::{self, Entry, Node};
 use crate::numbers::{number_of_expression, text};
 use crate::place::{Place, begun, closed, inside, left_of, past_rows};
 use sbl_grammar::{

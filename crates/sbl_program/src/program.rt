@@ -7,10 +7,10 @@ ghost use Rattle.sbl_program.specs.NumberedView.{strings_at, view_found, view_na
 ghost use Rattle.sbl_program.specs.PlanOf.{plan_of, view_routine};
 ghost use Rattle.sbl_script.specs.Parsed.{source_of};
 
-use crate::node::{Program, Routine};
 use crate::amongs::{Found, amongs_of};
 use crate::commands::row_of;
 use crate::names::{Names, Placed, names_of, number_of, place_all};
+use crate::node::{Program, Routine};
 use crate::place::{Place, begun, closed, left_of, past_row};
 use crate::sets::sets_of;
 use sbl_grammar::{Plain, Row};

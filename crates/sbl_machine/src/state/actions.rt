@@ -6,10 +6,10 @@ ghost use Rattle.sbl_machine.specs.Numbers.{value, natural};
 ghost use Rattle.sbl_program.specs.PlanOf.{view_action};
 ghost use Rattle.sbl_machine.specs.Kept.{Follows};
 
-use sbl_program::action::Action;
 use crate::halt::Halt;
 use crate::state::State;
 use crate::state::numbers::natural;
+use sbl_program::action::Action;
 use sbl_script::Mode;
 
 impl State {

@@ -7,8 +7,8 @@ ghost use Rattle.sbl_machine.specs.Standing.{Signals, ahead, room, moved};
 ghost use Rattle.sbl_program.specs.PlanOf.{view_text};
 ghost use Rattle.sbl_machine.specs.Moves.{characters, match, next_is, one_of, next, hop, at_limit, set_mark, at_mark, to_mark, set_boolean, test_boolean};
 
-use sbl_program::action::StringTerm;
 use crate::state::State;
+use sbl_program::action::StringTerm;
 use sbl_script::Mode;
 
 impl State {

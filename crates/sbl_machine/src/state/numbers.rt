@@ -2,17 +2,17 @@
 
 ghost use Rattle.std.specs.Prelude.{◌≡◌, ◌+◌, ◌≤◌, ◌<◌, ◌^◌, ℤ, pos, ◌+ℤ◌, ◌-ℤ◌, ◌*ℤ◌, neg_ℤ, length, map, Ok, SomeIff, FitsSigned, IfOk};
 ghost use Rattle.std.specs.Int.{w32};
-ghost use Rattle.sbl_machine.specs.Numbers.{value, fitted, divided, limit_value, integer_at, changed, holds, assign, compare, natural};
+ghost use Rattle.sbl_machine.specs.Numbers.{value, with_both, fitted, divided, limit_value, integer_at, changed, holds, assign, compare, natural};
 ghost use Rattle.sbl_program.specs.PlanOf.{view_added, view_number, view_scaled};
 ghost use Rattle.sbl_machine.specs.Rows.{product_of, scales_to, sum_of, sums_to};
 ghost use Rattle.sbl_machine.specs.Run.{count_of};
 ghost use Rattle.sbl_machine.specs.Kept.{Leads, Follows};
 
-use sbl_program::action::{Added, Arithmetic, Change, Relation, Scaled};
 use crate::fault::RunFault;
 use crate::halt::Halt;
 use crate::state::State;
 use sbl_grammar::{Additive, Multiplicative};
+use sbl_program::action::{Added, Arithmetic, Change, Relation, Scaled};
 use sbl_script::Mode;
 
 impl State {
@@ -52,10 +52,18 @@ impl State {
     {
         let mut total = start;
         for other in others {
-            let number = self.value(mode, &other.number)?;
-            total = sum_of(other.operator, total, number)?;
+            total = self.sum_with(mode, total, other)?;
         }
         Ok(total)
+    }
+
+    // One further number.
+    #[cycle(value)]
+    fn sum_with(&self, mode: Mode, total: i32, other: &Added) -> Result<i32, RunFault>
+        ensures { result ≡ with_both (Ok total) (value (view_added other.now).1 mode self.now) (sum_of (view_added other.now).0) }
+    {
+        let number = self.value(mode, &other.number)?;
+        sum_of(other.operator, total, number)
     }
 
     // Further numbers, by which what there is is multiplied and divided.
@@ -65,10 +73,18 @@ impl State {
     {
         let mut total = start;
         for other in others {
-            let number = self.value(mode, &other.number)?;
-            total = product_of(other.operator, total, number)?;
+            total = self.product_with(mode, total, other)?;
         }
         Ok(total)
+    }
+
+    // One further number.
+    #[cycle(value)]
+    fn product_with(&self, mode: Mode, total: i32, other: &Scaled) -> Result<i32, RunFault>
+        ensures { result ≡ with_both (Ok total) (value (view_scaled other.now).1 mode self.now) (product_of (view_scaled other.now).0) }
+    {
+        let number = self.value(mode, &other.number)?;
+        product_of(other.operator, total, number)
     }
 
     // What an integer variable holds.

@@ -7,9 +7,9 @@ ghost use Rattle.sbl_program.specs.PlanOf.{view_text};
 ghost use Rattle.sbl_machine.specs.Moves.{characters};
 ghost use Rattle.sbl_machine.specs.Kept.{Leads};
 
-use sbl_program::action::StringTerm;
 use crate::halt::Halt;
 use crate::state::{MOST_CHARS, State};
+use sbl_program::action::StringTerm;
 use sbl_script::Mode;
 use std::alloc::AllocError;
 use std::mem;

@@ -3,9 +3,9 @@
 use crate::fault::RunFault;
 use crate::machine::Machine;
 use crate::outcome::Outcome;
-use sbl_tables::PlainTable;
 use crate::tests::{letters, ran};
 use sbl_script::Script;
+use sbl_tables::PlainTable;
 use std::alloc::Global;
 use std::process::Abort;
 use std::test::Fail;

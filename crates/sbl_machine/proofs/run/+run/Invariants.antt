@@ -54,7 +54,7 @@ abbrev pub invariant-run_row-loop-joined : goal.invariant-run_row-loop-joined
 invariant-run_row-loop-joined g l =
     let T = g.T.Tables.listed l.tables in
     let p = plan_of T l.program in
-    (others_run p l.levels l.mode l.from (map (view_joined T) (drop l.joined-index l.others)) (Signals l.signal l.state) ≡ row_runs p l.levels (view_node T l.first) (map (view_joined T) l.others) l.mode l.initial.state) × (l.state.steps ≤ l.initial.state.steps)
+    (others_run p l.levels l.mode l.from (map (view_joined T) (drop l.joined-index l.others)) (Signals l.signal l.state) ≡ row_runs p l.levels (view_node T l.first) (map (view_joined T) l.others) l.mode l.fn.state) × (l.state.steps ≤ l.fn.state.steps)
 
 -- turns enough for the steps that are left do from here what all of them do from the start
 abbrev pub invariant-run_turns-loop-state : goal.invariant-run_turns-loop-state

@@ -1,7 +1,7 @@
 use Rattle.std.proofs.Common.{◌≡◌, drop, map, Ok}
 use Rattle.sbl_program.specs.PlanOf.{view_added, view_scaled}
 use Rattle.sbl_machine.specs.Rows.{scales_to, sums_to}
-use Rattle.sbl_machine.proofs.state.numbers.+value.Given as goal
+use Rattle.sbl_machine.proofs.state.State.+value.Given as goal
 
 -- the numbers that are left give from here what all of them give from the start
 abbrev pub invariant-sum-loop-other : goal.invariant-sum-loop-other
