@@ -7,7 +7,7 @@ use Rattle.sbl_machine.specs.declared.fault.RunFault.{RunFault}
 use Rattle.sbl_machine.specs.declared.halt.Halt.{Halt}
 use Rattle.sbl_program.specs.declared.node.Entry.{Entry}
 use Rattle.sbl_program.specs.declared.node.Node.{Node}
-use Rattle.sbl_program.specs.declared.node.Node.TheVariants.{Or, And, Not, Test, Try, Do, Fail, Backwards, Goto, GoPast, SetLimit, Repeat, Loop, AtLeast, Search, Among, Sequence}
+use Rattle.sbl_program.specs.declared.node.Node.TheVariants.{Not, Test, Try, Do, Fail, Backwards, Goto, GoPast, SetLimit, Repeat, Loop, AtLeast, Search, Among, Sequence}
 use Rattle.sbl_machine.specs.declared.state.Limits.{Limits}
 use Rattle.sbl_program.specs.declared.node.Node.TheFolds.{fold_out-Node}
 use Rattle.sbl_program.specs.declared.node.Node.TheViews.{the_lemmas}
@@ -66,12 +66,6 @@ view_among T k before bodies = first_of (search (rules, the_lemmas), search (rul
 view_sequence : (T : ℕ → Listed) (cs : Vec Node Global) → view_node T (Sequence cs) ≡ plan.sequence (view_nodes T cs.items)
 view_sequence T cs = first_of (search (rules, the_lemmas), search (rules, the_lemmas, fold_out-Node))
 
-view_or : (T : ℕ → Listed) (a b : Box Node Global) → view_node T (Or a b) ≡ plan.either (view_node T a.value) (view_node T b.value)
-view_or T a b = first_of (search (rules, the_lemmas), search (rules, the_lemmas, fold_out-Node))
-
-view_and : (T : ℕ → Listed) (a b : Box Node Global) → view_node T (And a b) ≡ plan.both (view_node T a.value) (view_node T b.value)
-view_and T a b = first_of (search (rules, the_lemmas), search (rules, the_lemmas, fold_out-Node))
-
 view_goto : (T : ℕ → Listed) (inner : Box Node Global) → view_node T (Goto inner) ≡ plan.goto (view_node T inner.value)
 view_goto T inner = first_of (search (rules, the_lemmas), search (rules, the_lemmas, fold_out-Node))
 
@@ -80,12 +74,6 @@ view_gopast T inner = first_of (search (rules, the_lemmas), search (rules, the_l
 
 view_setlimit : (T : ℕ → Listed) (a b : Box Node Global) → view_node T (SetLimit a b) ≡ plan.setlimit (view_node T a.value) (view_node T b.value)
 view_setlimit T a b = first_of (search (rules, the_lemmas), search (rules, the_lemmas, fold_out-Node))
-
-pub or_does : (T : ℕ → Listed) (p : plan.Plan) (levels : ℕ) (a b : Box Node Global) (m : Mode) (s : Standing) → runs p levels (view_node T (Or a b)) m s ≡ then_on (pay s.steps s) (λ q. after (runs p levels (view_node T a.value) m q) (Signals true) (λ f. then_on (put_back m (mark q) f) (runs p levels (view_node T b.value) m)))
-or_does T p levels a b m s = ap (λ c. runs p levels c m s) (view_or T a b)
-
-pub and_does : (T : ℕ → Listed) (p : plan.Plan) (levels : ℕ) (a b : Box Node Global) (m : Mode) (s : Standing) → runs p levels (view_node T (And a b)) m s ≡ then_on (pay s.steps s) (λ q. after (runs p levels (view_node T a.value) m q) (λ t. then_on (put_back m (mark q) t) (runs p levels (view_node T b.value) m)) (Signals false))
-and_does T p levels a b m s = ap (λ c. runs p levels c m s) (view_and T a b)
 
 pub goto_does : (T : ℕ → Listed) (p : plan.Plan) (levels : ℕ) (inner : Box Node Global) (m : Mode) (s : Standing) → runs p levels (view_node T (Goto inner)) m s ≡ then_on (pay s.steps s) (λ q. seeks (suc q.steps) false (runs p levels (view_node T inner.value)) m q)
 goto_does T p levels inner m s = ap (λ c. runs p levels c m s) (view_goto T inner)

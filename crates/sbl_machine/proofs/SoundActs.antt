@@ -25,7 +25,8 @@ use Rattle.sbl_program.specs.Items.{Known, place_of, is_among}
 use Rattle.sbl_machine.specs.Meaning.{prefixed_does, counted_does, joined_does, limited_does, simple_does, moved_does, named_does, edited_does, assigned_does, compared_does, class_does, next_has, begins, worth}
 use Rattle.sbl_machine.specs.Meaning as meaning
 use Rattle.sbl_machine.specs.Moves.{characters, one_of, next_is, match, set_mark, set_boolean, test_boolean}
-use Rattle.sbl_program.specs.Numbered.{name_alone, behind_prefix, behind_count, move, change_named, edit, change_of, relation_of, join}
+use Rattle.sbl_program.specs.Numbered.{name_alone, behind_prefix, behind_count, move, change_named, edit, change_of, relation_of}
+use Rattle.sbl_program.specs.Grouped.{join}
 use Rattle.sbl_program.specs.NumberedNames.{Names, is_one_of, number_of}
 use Rattle.sbl_program.specs.NumberedNumbers.{expression, text}
 use Rattle.sbl_program.specs.NumberedSets.{has}

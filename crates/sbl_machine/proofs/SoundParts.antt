@@ -29,8 +29,9 @@ use Rattle.sbl_machine.specs.Meaning.{Offer, offer, offers}
 use Rattle.sbl_machine.specs.Moves.{characters}
 use Rattle.sbl_program.specs.Numbered.{change_of, relation_of}
 use Rattle.sbl_program.specs.NumberedAmongs.{strings_in, strings_behind, condition_of, entries_in, entries_behind}
+use Rattle.sbl_program.specs.Grouped.{added, added_all, scaled, scaled_all}
 use Rattle.sbl_program.specs.NumberedNames.{Names, number_of}
-use Rattle.sbl_program.specs.NumberedNumbers.{text, constant, added, scaled, expression, with_sums, product, with_scales, factor}
+use Rattle.sbl_program.specs.NumberedNumbers.{text, constant, expression, sums_in, product, scales_in, factor}
 use Rattle.sbl_machine.specs.Numbers.{Value, value, fitted, with_value, changed, holds, integer_at}
 use Rattle.sbl_program.specs.Plan as plan
 use Rattle.sbl_program.specs.Regions.{Among}
@@ -85,14 +86,14 @@ module _ (ns : Names) (known : Known) (agree : Agree ns known) where
     pub worth_same : (e : trees.Expression) (m : Mode) (s : Standing) → value (expression ns e) m s ≡ meaning.worth known e m s
     worth_same (trees.expression p ss) m s = sums_same ss (product ns p) _ m s (product_same p m s)
 
-    sums_same : (ss : trees.Sums) (a : plan.Number) (v : Value) (m : Mode) (s : Standing) → value a m s ≡ v → value (with_sums ns ss a) m s ≡ meaning.summed known ss v m s
+    sums_same : (ss : trees.Sums) (a : plan.Number) (v : Value) (m : Mode) (s : Standing) → value a m s ≡ v → value (added_all (sums_in ns ss) a) m s ≡ meaning.summed known ss v m s
     sums_same trees.no_sums a v m s h = h
     sums_same (trees.sum o p ss) a v m s h = sums_same ss (added o a (product ns p)) _ m s (added_same o a (product ns p) m s v _ h (product_same p m s))
 
     product_same : (p : trees.Product) (m : Mode) (s : Standing) → value (product ns p) m s ≡ meaning.product_worth known p m s
     product_same (trees.product f ss) m s = scales_same ss (factor ns f) _ m s (factor_same f m s)
 
-    scales_same : (ss : trees.Scales) (a : plan.Number) (v : Value) (m : Mode) (s : Standing) → value a m s ≡ v → value (with_scales ns ss a) m s ≡ meaning.multiplied known ss v m s
+    scales_same : (ss : trees.Scales) (a : plan.Number) (v : Value) (m : Mode) (s : Standing) → value a m s ≡ v → value (scaled_all (scales_in ns ss) a) m s ≡ meaning.multiplied known ss v m s
     scales_same trees.no_scales a v m s h = h
     scales_same (trees.scale o f ss) a v m s h = scales_same ss (scaled o a (factor ns f)) _ m s (scaled_same o a (factor ns f) m s v _ h (factor_same f m s))
 

@@ -7,6 +7,7 @@ pub mod Numbers
 pub mod Actions
 pub mod Search
 pub mod Run
+pub mod Rows
 pub mod Meaning
 pub mod Outcome
 pub mod Sound

@@ -1,10 +1,11 @@
 //! Runs commands over a state.
 
-ghost use Rattle.std.specs.Prelude.{◌≡◌, ◌+◌, ◌<◌, ◌≤◌, Bool, false, suc, IfOk, slice_get};
+ghost use Rattle.std.specs.Prelude.{◌≡◌, ◌+◌, ◌<◌, ◌≤◌, Bool, false, suc, map, IfOk, slice_get};
 ghost use Rattle.sbl_machine.specs.Kept.{Follows, Tried};
 ghost use Rattle.sbl_machine.specs.Numbers.{value, given};
-ghost use Rattle.sbl_program.specs.PlanOf.{plan_of, view_node, view_nodes, view_number};
+ghost use Rattle.sbl_program.specs.PlanOf.{plan_of, view_joined, view_node, view_nodes, view_number};
 ghost use Rattle.sbl_machine.specs.Run.{runs, all_run, group_runs, calls, turns, times, count_of, seeks};
+ghost use Rattle.sbl_machine.specs.Rows.{is_settled, joined_runs, row_runs};
 ghost use Rattle.sbl_machine.specs.Search.{choice, search_all, try_one};
 ghost use Rattle.sbl_machine.specs.Standing.{Standing, Ending, Signals, after, then_on, mark, put_back};
 
@@ -12,8 +13,9 @@ use crate::halt::Halt;
 use crate::state::numbers::count_of;
 use crate::state::{Mark, State};
 use crate::table::Tables;
+use sbl_grammar::Joiner;
 use sbl_program::action::Arithmetic;
-use sbl_program::node::{Entry, Node, Program};
+use sbl_program::node::{Entry, Joined, Node, Program};
 use sbl_script::Mode;
 
 /// Runs a command: its signal, or why it has none.
@@ -33,21 +35,8 @@ fn run_command<T: Tables>(
     match command {
         Node::Act(action) => state.act(&program.groupings, mode, action),
         Node::Sequence(commands) => run_in_turn(tables, program, levels, mode, commands, state),
-        Node::Or(first, second) => {
-            let from = state.mark();
-            if run_command(tables, program, levels, mode, first, state)? {
-                return Ok(true);
-            }
-            state.put_back(mode, from)?;
-            run_command(tables, program, levels, mode, second, state)
-        }
-        Node::And(first, second) => {
-            let from = state.mark();
-            if !run_command(tables, program, levels, mode, first, state)? {
-                return Ok(false);
-            }
-            state.put_back(mode, from)?;
-            run_command(tables, program, levels, mode, second, state)
+        Node::Row { first, others } => {
+            run_row(tables, program, levels, mode, first, others, state)
         }
         Node::Not(inner) => {
             let from = state.mark();
@@ -125,6 +114,62 @@ fn run_command<T: Tables>(
             before,
             bodies,
         } => run_among(tables, program, levels, mode, *among, before, bodies, state),
+    }
+}
+
+/// Runs a row, grouped from the left, whose first step is paid.
+#[cycle(run)]
+fn run_row<T: Tables>(
+    tables: &T,
+    program: &Program,
+    levels: u32,
+    mode: Mode,
+    first: &Node,
+    others: &[Joined],
+    state: &mut State,
+) -> Result<bool, Halt>
+    ensures follows { Follows result state.new (row_runs (plan_of (T.listed tables.now) program.now) levels (view_node (T.listed tables.now) first.now) (map (view_joined (T.listed tables.now)) others.now) mode state.old) }
+    ensures no_more { IfOk result (λ _. state.new.steps ≤ state.old.steps) }
+{
+    state.pay_for(others.len().saturating_sub(1))?;
+    let from = state.mark();
+    let mut signal = run_command(tables, program, levels, mode, first, state)?;
+    for joined in others {
+        signal = run_joined(tables, program, levels, mode, from, signal, joined, state)?;
+    }
+    Ok(signal)
+}
+
+/// Runs the next command of a row from the mark at its beginning, unless the signal before it settles the row so far.
+#[cycle(run)]
+fn run_joined<T: Tables>(
+    tables: &T,
+    program: &Program,
+    levels: u32,
+    mode: Mode,
+    from: Mark,
+    signal: bool,
+    joined: &Joined,
+    state: &mut State,
+) -> Result<bool, Halt>
+    requires { from.cursor + from.beyond + from.length ≤ 4096 }
+    ensures follows { Follows result state.new (joined_runs (plan_of (T.listed tables.now) program.now) levels mode from (view_joined (T.listed tables.now) joined.now) signal state.old) }
+    ensures no_more { IfOk result (λ _. state.new.steps ≤ state.old.steps) }
+{
+    if is_settled(joined.joiner, signal) {
+        return Ok(signal);
+    }
+    state.put_back(mode, from)?;
+    run_command(tables, program, levels, mode, &joined.command, state)
+}
+
+// Whether a signal is that of the row so far, whatever its next command would do.
+fn is_settled(joiner: Joiner, signal: bool) -> bool
+    ensures { result ≡ is_settled joiner signal }
+{
+    match joiner {
+        Joiner::Or => signal,
+        Joiner::And => !signal,
     }
 }
 

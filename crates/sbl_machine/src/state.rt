@@ -7,6 +7,7 @@ ghost use Rattle.sbl_program.specs.Listed.{Listed};
 ghost use Rattle.sbl_program.specs.PlanOf.{plan_of, view_text};
 ghost use Rattle.sbl_machine.specs.Moves.{characters};
 ghost use Rattle.sbl_machine.specs.Kept.{Leads};
+ghost use Rattle.sbl_machine.specs.Rows.{pays};
 ghost use Rattle.sbl_machine.specs.Outcome.{start};
 
 mod actions;
@@ -161,6 +162,19 @@ impl State {
             return Err(Halt::Steps);
         }
         self.steps -= 1;
+        Ok(())
+    }
+
+    /// Pays so many steps. `Steps` where fewer are left, which are paid then.
+    pub fn pay_for(&mut self, count: usize) -> Result<(), Halt>
+        ensures leads { Leads result self.new (pays count self.old) }
+        ensures no_more { IfOk result (λ _. self.new.steps ≤ self.old.steps) }
+    {
+        let mut left = count;
+        while 0 < left {
+            self.pay()?;
+            left -= 1;
+        }
         Ok(())
     }
 

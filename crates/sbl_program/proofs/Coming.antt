@@ -13,7 +13,8 @@ use Rattle.sbl_program.specs.NumberedAmongs.{Found, found_of, found, found_rows,
 use Rattle.sbl_program.specs.NumberedNames.{Names, Placed}
 use Rattle.sbl_program.specs.Regions.{Among, among_at, mode_behind, behind, behind_rows, behind_others, behind_starter, behind_groups, first, first_rows, first_others, waits_simple, waits, waits_rows, waits_others}
 use Rattle.sbl_program.specs.NumberedNumbers.{expression}
-use Rattle.sbl_program.specs.Numbered.{Place, next_of, inside, closed, past, past_simple, past_rows, past_others, past_starter, past_groups, past_body, past_plain, begun, region, body_begun, search_next, simple, behind_prefix, behind_count, join, numbered, numbered_rows, numbered_others, numbered_starter, numbered_groups, routine_of, with_routine, routines_behind}
+use Rattle.sbl_program.specs.Grouped.{join}
+use Rattle.sbl_program.specs.Numbered.{Place, next_of, inside, closed, past, past_simple, past_rows, past_others, past_starter, past_groups, past_body, past_plain, begun, region, body_begun, search_next, simple, behind_prefix, behind_count, numbered, numbered_rows, numbered_others, numbered_starter, numbered_groups, routine_of, with_routine, routines_behind}
 use Rattle.sbl_program.specs.PlanOf.{commands_of}
 use Rattle.sbl_program.specs.Plan as plan
 use Rattle.sbl_grammar.specs.Tree.{Tree, Rows, Others, Starter, Groups, Plain, declaration, escapes, macro, routine, grouping, bracket, single, quoted, called, excluded, prefixed, counted, moved, named, edited, limited, assigned, compared, values_compared, chosen, no_rows, row, no_others, joined, no_starter, starter, bare, group}

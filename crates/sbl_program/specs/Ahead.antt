@@ -5,7 +5,8 @@ use Rattle.sbl_grammar.specs.declared.tree.Simple.TheVariants as simples
 use Rattle.sbl_grammar.specs.Tree as trees
 use Rattle.sbl_grammar.specs.Tree.{bracket, single, quoted, called, excluded, prefixed, counted, moved, named, edited, limited, assigned, compared, values_compared, chosen, no_rows, row, no_others, joined, no_starter, starter, bare, group, declaration, escapes, macro, routine, grouping}
 use Rattle.sbl_program.specs.Listed.{listing}
-use Rattle.sbl_program.specs.Numbered.{name_alone, behind_prefix, behind_count, move, change_named, edit, change_of, relation_of, join}
+use Rattle.sbl_program.specs.Grouped.{join}
+use Rattle.sbl_program.specs.Numbered.{name_alone, behind_prefix, behind_count, move, change_named, edit, change_of, relation_of}
 use Rattle.sbl_program.specs.NumberedAmongs.{Found, strings_behind, entries_behind}
 use Rattle.sbl_program.specs.NumberedNames.{Names, Placed, number_of}
 use Rattle.sbl_program.specs.NumberedNumbers.{expression, text}

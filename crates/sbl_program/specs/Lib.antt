@@ -2,6 +2,7 @@ pub mod Items
 pub mod Regions
 pub mod Listed
 pub mod Plan
+pub mod Grouped
 pub mod PlanOf
 pub mod NumberedNames
 pub mod NumberedSets

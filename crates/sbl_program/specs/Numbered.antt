@@ -1,7 +1,5 @@
 -- The program of a script: numbers for names, each `substring` tied to its among, groupings as sets.
 use Rattle.std.specs.Prelude.{ℕ, ◌-◌, nat_lt, Bool, true, false, List, [], ◌∷◌, ◌++◌, length, drop, if◌then◌else◌}
-use Rattle.sbl_grammar.specs.declared.tree.Joiner.{Joiner}
-use Rattle.sbl_grammar.specs.declared.tree.Joiner.TheVariants.{Or, And}
 use Rattle.sbl_grammar.specs.declared.tree.Simple.{Simple}
 use Rattle.sbl_grammar.specs.declared.tree.Simple.TheVariants as simples
 use Rattle.sbl_grammar.specs.declared.tree.Prefix.{Prefix}
@@ -26,6 +24,7 @@ use Rattle.sbl_program.specs.declared.action.Change.{Change}
 use Rattle.sbl_program.specs.declared.action.Change.TheVariants as changes
 use Rattle.sbl_program.specs.declared.action.Relation.{Relation}
 use Rattle.sbl_program.specs.declared.action.Relation.TheVariants as relations
+use Rattle.sbl_program.specs.Grouped.{JoinedView, joined_all}
 use Rattle.sbl_program.specs.Listed.{listing}
 use Rattle.sbl_program.specs.NumberedAmongs.{Found, found_behind}
 use Rattle.sbl_program.specs.NumberedNames.{Names, Placed, is_one_of, names_behind, no_names, number_of, placed}
@@ -186,10 +185,6 @@ relation_of comparisons.AtMost = relations.LessOrEqual
 relation_of comparisons.Greater = relations.Greater
 relation_of comparisons.AtLeast = relations.GreaterOrEqual
 
-abbrev pub join : Joiner → plan.Command → plan.Command → plan.Command
-join Or c d = plan.either c d
-join And c d = plan.both c d
-
 -- an among makes its search itself, and then comes its starter, unless a `substring` waits for it
 abbrev pub search_first : Place → List plan.Command → List plan.Command
 search_first p cs = if p.waits then [] else search_next p ∷ cs
@@ -217,12 +212,12 @@ abbrev mutual
   -- the rows of a bracket
   pub numbered_rows : Names → trees.Rows → Place → List plan.Command
   numbered_rows ns no_rows p = []
-  numbered_rows ns (row c os rs) p = numbered_others ns os (past c p) (numbered ns c p) ∷ numbered_rows ns rs (past_others os (past c p))
+  numbered_rows ns (row c os rs) p = joined_all (joins_in ns os (past c p)) (numbered ns c p) ∷ numbered_rows ns rs (past_others os (past c p))
 
-  -- commands joined from the left to the one so far
-  pub numbered_others : Names → trees.Others → Place → plan.Command → plan.Command
-  numbered_others ns no_others p sofar = sofar
-  numbered_others ns (joined j c os) p sofar = numbered_others ns os (past c p) (join j sofar (numbered ns c p))
+  -- the further commands of a row
+  pub joins_in : Names → trees.Others → Place → List JoinedView
+  joins_in ns no_others p = []
+  joins_in ns (joined j c os) p = (j, numbered ns c p) ∷ joins_in ns os (past c p)
 
   pub numbered_starter : Names → trees.Starter → Place → List plan.Command
   numbered_starter ns no_starter p = []
@@ -233,6 +228,10 @@ abbrev mutual
   numbered_groups ns (bare es) p = []
   numbered_groups ns (group e es rs gs) p =
       plan.sequence (commands_of (numbered_rows ns rs (region rs p))) ∷ numbered_groups ns gs (past_rows rs (closed p))
+
+-- commands joined from the left to the one so far
+abbrev pub numbered_others : Names → trees.Others → Place → plan.Command → plan.Command
+numbered_others ns os p sofar = joined_all (joins_in ns os p) sofar
 
 -- ---- routines
 

@@ -3,17 +3,21 @@ use Rattle.std.specs.Prelude.{ℕ, List, [], ◌∷◌, map}
 use Rattle.sbl_program.specs.declared.action.StringTerm.{StringTerm}
 use Rattle.sbl_program.specs.declared.action.StringTerm.TheVariants as terms
 use Rattle.sbl_program.specs.declared.action.Arithmetic.{Arithmetic}
-use Rattle.sbl_program.specs.declared.action.Arithmetic.TheOpen.{Arithmetic-F}
+use Rattle.sbl_program.specs.declared.action.Arithmetic.TheOpen.{Arithmetic-F, Added-F, Scaled-F}
 use Rattle.sbl_program.specs.declared.action.Arithmetic.TheOpen as sums
-use Rattle.sbl_program.specs.declared.action.Arithmetic.TheFolds.{fold-Arithmetic}
+use Rattle.sbl_program.specs.declared.action.Arithmetic.TheFolds.{fold-Arithmetic, fold-Added, fold-Scaled}
+use Rattle.sbl_program.specs.declared.action.Added.{Added}
+use Rattle.sbl_program.specs.declared.action.Scaled.{Scaled}
 use Rattle.sbl_program.specs.declared.action.Action.{Action}
 use Rattle.sbl_program.specs.declared.action.Action.TheVariants as actions
 use Rattle.sbl_program.specs.declared.node.Node.{Node}
-use Rattle.sbl_program.specs.declared.node.Node.TheOpen.{Node-F}
+use Rattle.sbl_program.specs.declared.node.Node.TheOpen.{Node-F, Joined-F}
 use Rattle.sbl_program.specs.declared.node.Node.TheOpen as nodes
-use Rattle.sbl_program.specs.declared.node.Node.TheFolds.{fold-Node}
+use Rattle.sbl_program.specs.declared.node.Node.TheFolds.{fold-Node, fold-Joined}
+use Rattle.sbl_program.specs.declared.node.Joined.{Joined}
 use Rattle.sbl_program.specs.declared.node.Program.{Program}
 use Rattle.sbl_program.specs.declared.node.Routine.{Routine}
+use Rattle.sbl_program.specs.Grouped.{AddedView, JoinedView, ScaledView, added_all, grouped, scaled_all}
 use Rattle.sbl_program.specs.Listed.{Listed}
 use Rattle.sbl_program.specs.Plan as plan
 
@@ -22,7 +26,7 @@ view_text (terms.Literal cs) = plan.literal cs.items
 view_text (terms.Variable x) = plan.variable x
 
 -- one level, with the view of each child in its place
-abbrev pub number_step : Arithmetic-F plan.Number → plan.Number
+abbrev pub number_step : Arithmetic-F plan.Number AddedView ScaledView → plan.Number
 number_step (sums.Number n) = plan.number n
 number_step (sums.Integer x) = plan.integer x
 number_step sums.Cursor = plan.cursor
@@ -32,13 +36,23 @@ number_step (sums.LengthOf t) = plan.lenof (view_text t)
 number_step sums.Greatest = plan.maxint
 number_step sums.Least = plan.minint
 number_step (sums.Negative a) = plan.negative a.value
-number_step (sums.Sum a b) = plan.sum a.value b.value
-number_step (sums.Difference a b) = plan.difference a.value b.value
-number_step (sums.Product a b) = plan.product a.value b.value
-number_step (sums.Quotient a b) = plan.quotient a.value b.value
+number_step (sums.Sum a others) = added_all others.items a.value
+number_step (sums.Product a others) = scaled_all others.items a.value
+
+abbrev pub added_step : Added-F plan.Number AddedView ScaledView → AddedView
+added_step a = (a.operator, a.number)
+
+abbrev pub scaled_step : Scaled-F plan.Number AddedView ScaledView → ScaledView
+scaled_step a = (a.operator, a.number)
 
 abbrev pub view_number : Arithmetic → plan.Number
-view_number = fold-Arithmetic plan.Number number_step
+view_number = fold-Arithmetic plan.Number AddedView ScaledView number_step added_step scaled_step
+
+abbrev pub view_added : Added → AddedView
+view_added = fold-Added plan.Number AddedView ScaledView number_step added_step scaled_step
+
+abbrev pub view_scaled : Scaled → ScaledView
+view_scaled = fold-Scaled plan.Number AddedView ScaledView number_step added_step scaled_step
 
 abbrev pub view_action : Action → plan.Action
 view_action (actions.Match t) = plan.match (view_text t)
@@ -71,11 +85,10 @@ commands_of [] = plan.no_commands
 commands_of (c ∷ cs) = plan.command c (commands_of cs)
 
 -- by the strings that each table lists
-abbrev pub node_step : (ℕ → Listed) → Node-F plan.Command → plan.Command
+abbrev pub node_step : (ℕ → Listed) → Node-F plan.Command JoinedView → plan.Command
 node_step tables (nodes.Act a) = plan.act (view_action a)
 node_step tables (nodes.Sequence cs) = plan.sequence (commands_of cs.items)
-node_step tables (nodes.Or a b) = plan.either a.value b.value
-node_step tables (nodes.And a b) = plan.both a.value b.value
+node_step tables (nodes.Row a others) = grouped a.value others.items
 node_step tables (nodes.Not a) = plan.not a.value
 node_step tables (nodes.Test a) = plan.test a.value
 node_step tables (nodes.Try a) = plan.try a.value
@@ -92,8 +105,14 @@ node_step tables (nodes.Call i) = plan.call i
 node_step tables (nodes.Search k table entries) = plan.search k (tables table) entries.items
 node_step tables (nodes.Among k before bodies) = plan.among k (commands_of before.items) (commands_of bodies.items)
 
+abbrev pub joined_step : Joined-F plan.Command JoinedView → JoinedView
+joined_step o = (o.joiner, o.command)
+
 abbrev pub view_node : (ℕ → Listed) → Node → plan.Command
-view_node tables = fold-Node plan.Command (node_step tables)
+view_node tables = fold-Node plan.Command JoinedView (node_step tables) joined_step
+
+abbrev pub view_joined : (ℕ → Listed) → Joined → JoinedView
+view_joined tables = fold-Joined plan.Command JoinedView (node_step tables) joined_step
 
 abbrev pub view_nodes : (ℕ → Listed) → List Node → plan.Commands
 view_nodes tables ns = commands_of (map (view_node tables) ns)

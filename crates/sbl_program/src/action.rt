@@ -1,5 +1,7 @@
 //! The commands that hold no command, and what they are made of. Names are numbers.
 
+use sbl_grammar::{Additive, Multiplicative};
+
 /// A string: a literal, or what a string variable holds.
 #[derive(Drop)]
 pub enum StringTerm {
@@ -10,6 +12,7 @@ pub enum StringTerm {
 }
 
 /// An arithmetic expression.
+#[cycle(arithmetic)]
 #[derive(Drop)]
 pub enum Arithmetic {
     /// A number.
@@ -30,14 +33,40 @@ pub enum Arithmetic {
     Least,
     /// `- A`
     Negative(Box<Arithmetic>),
-    /// `A + B`
-    Sum(Box<Arithmetic>, Box<Arithmetic>),
-    /// `A - B`
-    Difference(Box<Arithmetic>, Box<Arithmetic>),
-    /// `A * B`
-    Product(Box<Arithmetic>, Box<Arithmetic>),
-    /// `A / B`
-    Quotient(Box<Arithmetic>, Box<Arithmetic>),
+    /// `A + B - C ..`: added and taken away from the left.
+    Sum {
+        /// The first number.
+        first: Box<Arithmetic>,
+        /// The numbers after it.
+        others: Vec<Added>,
+    },
+    /// `A * B / C ..`: multiplied and divided from the left.
+    Product {
+        /// The first number.
+        first: Box<Arithmetic>,
+        /// The numbers after it.
+        others: Vec<Scaled>,
+    },
+}
+
+/// A further number of a sum.
+#[cycle(arithmetic)]
+#[derive(Drop)]
+pub struct Added {
+    /// The sign before it.
+    pub operator: Additive,
+    /// The number.
+    pub number: Arithmetic,
+}
+
+/// A further number of a product.
+#[cycle(arithmetic)]
+#[derive(Drop)]
+pub struct Scaled {
+    /// The sign before it.
+    pub operator: Multiplicative,
+    /// The number.
+    pub number: Arithmetic,
 }
 
 /// How an assignment changes an integer.

@@ -8,12 +8,13 @@ ghost use Rattle.sbl_program.specs.NumberedView.{view_names, view_place, strings
 ghost use Rattle.sbl_program.specs.NumberedNames.{number_of as spec_number_of};
 ghost use Rattle.sbl_program.specs.NumberedNumbers.{expression as spec_expression, text as spec_text};
 ghost use Rattle.sbl_program.specs.Plan as plan;
-ghost use Rattle.sbl_program.specs.PlanOf.{view_action, view_node, view_number, view_text, commands_of};
+ghost use Rattle.sbl_program.specs.Grouped.{joined_all};
+ghost use Rattle.sbl_program.specs.PlanOf.{view_action, view_joined, view_node, view_number, view_text, commands_of};
 
 use crate::action::{Action, Arithmetic, Change, Relation, StringTerm};
 use crate::amongs::Found;
 use crate::names::{Names, is_one_of, number_of};
-use crate::node::{Entry, Node};
+use crate::node::{self, Entry, Node};
 use crate::numbers::{number_of_expression, text};
 use crate::place::{Place, begun, closed, inside, left_of, past_rows};
 use sbl_grammar::{
@@ -208,20 +209,28 @@ fn relation_of(comparison: Comparison) -> Relation
     }
 }
 
-fn join(
+// A further command of a row.
+fn joined_command(_amongs: &Vec<Found>, joiner: Joiner, command: Node) -> node::Joined
+    ensures { view_joined (strings_at _amongs.now.items) result ≡ (joiner, view_node (strings_at _amongs.now.items) command) }
+{
+    node::Joined { joiner, command }
+}
+
+// The first command and those after it; the first alone where there are none.
+fn whole_row(
     alloc: Global,
     _amongs: &Vec<Found>,
-    joiner: Joiner,
     first: Node,
-    second: Node,
+    others: Vec<node::Joined>,
 ) -> Result<Node, AllocError>
-    ensures { IfOk result (λ n. view_node (strings_at _amongs.now.items) n ≡ spec.join joiner (view_node (strings_at _amongs.now.items) first) (view_node (strings_at _amongs.now.items) second)) }
+    ensures { IfOk result (λ n. view_node (strings_at _amongs.now.items) n ≡ joined_all (map (view_joined (strings_at _amongs.now.items)) others.items) (view_node (strings_at _amongs.now.items) first)) }
 {
-    let first = Box::new(alloc, first)?;
-    let second = Box::new(alloc, second)?;
-    Ok(match joiner {
-        Joiner::Or => Node::Or(first, second),
-        Joiner::And => Node::And(first, second),
+    if others.is_empty() {
+        return Ok(first);
+    }
+    Ok(Node::Row {
+        first: Box::new(alloc, first)?,
+        others,
     })
 }
 
@@ -384,7 +393,7 @@ fn rows_of(
     Ok(nodes)
 }
 
-/// A row, grouped from the left.
+/// A row.
 #[cycle(commands)]
 pub fn row_of(
     alloc: Global,
@@ -397,7 +406,8 @@ pub fn row_of(
     ensures behind { OnOk result (view_place amongs.now.items place.new ≡ spec.past_others (view_row row.now).1 (spec.past (view_row row.now).0 (view_place amongs.now.items place.old))) }
 {
     let first = node_of(alloc, names, amongs, &row.first, place)?;
-    others_of(alloc, names, amongs, &row.others, first, place)
+    let others = others_of(alloc, names, amongs, &row.others, place)?;
+    whole_row(alloc, amongs, first, others)
 }
 
 #[cycle(commands)]
@@ -406,18 +416,17 @@ fn others_of(
     names: &Names,
     amongs: &Vec<Found>,
     others: &Vec<Joined>,
-    first: Node,
     place: &mut Place,
-) -> Result<Node, AllocError>
-    ensures made { IfOk result (λ n. view_node (strings_at amongs.now.items) n ≡ spec.numbered_others (view_names names.now) (view_others others.now.items) (view_place amongs.now.items place.old) (view_node (strings_at amongs.now.items) first)) }
+) -> Result<Vec<node::Joined>, AllocError>
+    ensures made { IfOk result (λ v. map (view_joined (strings_at amongs.now.items)) v.items ≡ spec.joins_in (view_names names.now) (view_others others.now.items) (view_place amongs.now.items place.old)) }
     ensures behind { OnOk result (view_place amongs.now.items place.new ≡ spec.past_others (view_others others.now.items) (view_place amongs.now.items place.old)) }
 {
-    let mut whole = first;
-    for joined in others {
-        let next = node_of(alloc, names, amongs, &joined.command, place)?;
-        whole = join(alloc, amongs, joined.joiner, whole, next)?;
+    let mut joins = Vec::new(alloc);
+    for other in others {
+        let command = node_of(alloc, names, amongs, &other.command, place)?;
+        joins.push(joined_command(amongs, other.joiner, command))?;
     }
-    Ok(whole)
+    Ok(joins)
 }
 
 #[cycle(commands)]

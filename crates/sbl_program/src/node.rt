@@ -6,18 +6,23 @@ ghost use Rattle.sbl_program.specs.Listed.{Listed};
 ghost use Rattle.sbl_program.specs.PlanOf.{plan_of, view_routine};
 
 use crate::action::{Action, Arithmetic};
+use sbl_grammar::Joiner;
 
 /// A command of a routine's body.
+#[cycle(node)]
 #[derive(Drop)]
 pub enum Node {
     /// A command without a command inside it.
     Act(Action),
     /// `( C1 C2 .. )`
     Sequence(Vec<Node>),
-    /// `C1 or C2`
-    Or(Box<Node>, Box<Node>),
-    /// `C1 and C2`
-    And(Box<Node>, Box<Node>),
+    /// `C1 or C2 and C3 ..`: a row of commands, grouped from the left. One without others is a bracket around the first.
+    Row {
+        /// The first command.
+        first: Box<Node>,
+        /// The commands after it.
+        others: Vec<Joined>,
+    },
     /// `not C`
     Not(Box<Node>),
     /// `test C`
@@ -63,6 +68,16 @@ pub enum Node {
         /// Each group's command.
         bodies: Vec<Node>,
     },
+}
+
+/// A further command of a row.
+#[cycle(node)]
+#[derive(Drop)]
+pub struct Joined {
+    /// The word before it.
+    pub joiner: Joiner,
+    /// The command.
+    pub command: Node,
 }
 
 /// What stands beside a string of an among.

@@ -4,9 +4,10 @@ ghost use Rattle.std.specs.Prelude.{◌≡◌, List, map, IfOk, string_bytes};
 ghost use Rattle.sbl_grammar.specs.View.{view_argument, view_expression, view_product, view_factor, view_sums, view_scales};
 ghost use Rattle.sbl_program.specs.NumberedNumbers as spec;
 ghost use Rattle.sbl_program.specs.NumberedView.{view_names};
-ghost use Rattle.sbl_program.specs.PlanOf.{view_number, view_text};
+ghost use Rattle.sbl_program.specs.Grouped.{added_all, scaled_all};
+ghost use Rattle.sbl_program.specs.PlanOf.{view_added, view_number, view_scaled, view_text};
 
-use crate::action::{Arithmetic, StringTerm};
+use crate::action::{self, Arithmetic, StringTerm};
 use crate::names::{Names, number_of};
 use sbl_grammar::{
     Added, Additive, Argument, Constant, Expression, Factor, Multiplicative, Product, Scaled,
@@ -35,32 +36,52 @@ fn constant(constant: Constant) -> Arithmetic
     }
 }
 
-fn add(
-    alloc: Global,
-    operator: Additive,
-    a: Arithmetic,
-    b: Arithmetic,
-) -> Result<Arithmetic, AllocError>
-    ensures { IfOk result (λ x. view_number x ≡ spec.added operator (view_number a) (view_number b)) }
+// A further number of a sum.
+fn added_number(operator: Additive, number: Arithmetic) -> action::Added
+    ensures { view_added result ≡ (operator, view_number number) }
 {
-    match operator {
-        Additive::Plus => Ok(Arithmetic::Sum(Box::new(alloc, a)?, Box::new(alloc, b)?)),
-        Additive::Minus => Ok(Arithmetic::Difference(Box::new(alloc, a)?, Box::new(alloc, b)?)),
-    }
+    action::Added { operator, number }
 }
 
-fn scale(
-    alloc: Global,
-    operator: Multiplicative,
-    a: Arithmetic,
-    b: Arithmetic,
-) -> Result<Arithmetic, AllocError>
-    ensures { IfOk result (λ x. view_number x ≡ spec.scaled operator (view_number a) (view_number b)) }
+// A further number of a product.
+fn scaled_number(operator: Multiplicative, number: Arithmetic) -> action::Scaled
+    ensures { view_scaled result ≡ (operator, view_number number) }
 {
-    match operator {
-        Multiplicative::Times => Ok(Arithmetic::Product(Box::new(alloc, a)?, Box::new(alloc, b)?)),
-        Multiplicative::Over => Ok(Arithmetic::Quotient(Box::new(alloc, a)?, Box::new(alloc, b)?)),
+    action::Scaled { operator, number }
+}
+
+// The first number and those after it; the first alone where there are none.
+fn whole_sum(
+    alloc: Global,
+    first: Arithmetic,
+    others: Vec<action::Added>,
+) -> Result<Arithmetic, AllocError>
+    ensures { IfOk result (λ x. view_number x ≡ added_all (map view_added others.items) (view_number first)) }
+{
+    if others.is_empty() {
+        return Ok(first);
     }
+    Ok(Arithmetic::Sum {
+        first: Box::new(alloc, first)?,
+        others,
+    })
+}
+
+// The same of a product.
+fn whole_product(
+    alloc: Global,
+    first: Arithmetic,
+    others: Vec<action::Scaled>,
+) -> Result<Arithmetic, AllocError>
+    ensures { IfOk result (λ x. view_number x ≡ scaled_all (map view_scaled others.items) (view_number first)) }
+{
+    if others.is_empty() {
+        return Ok(first);
+    }
+    Ok(Arithmetic::Product {
+        first: Box::new(alloc, first)?,
+        others,
+    })
 }
 
 /// An expression.
@@ -73,24 +94,24 @@ pub fn number_of_expression(
     ensures { IfOk result (λ x. view_number x ≡ spec.expression (view_names names.now) (view_expression expression.now)) }
 {
     let first = number_of_product(alloc, names, &expression.first)?;
-    with_sums(alloc, names, &expression.others, first)
+    let others = sums_of(alloc, names, &expression.others)?;
+    whole_sum(alloc, first, others)
 }
 
 #[cycle(arithmetic)]
-fn with_sums(
+fn sums_of(
     alloc: Global,
     names: &Names,
     others: &Vec<Added>,
-    first: Arithmetic,
-) -> Result<Arithmetic, AllocError>
-    ensures { IfOk result (λ x. view_number x ≡ spec.with_sums (view_names names.now) (view_sums others.now.items) (view_number first)) }
+) -> Result<Vec<action::Added>, AllocError>
+    ensures { IfOk result (λ v. map view_added v.items ≡ spec.sums_in (view_names names.now) (view_sums others.now.items)) }
 {
-    let mut total = first;
+    let mut sums = Vec::new(alloc);
     for other in others {
-        let more = number_of_product(alloc, names, &other.product)?;
-        total = add(alloc, other.operator, total, more)?;
+        let number = number_of_product(alloc, names, &other.product)?;
+        sums.push(added_number(other.operator, number))?;
     }
-    Ok(total)
+    Ok(sums)
 }
 
 #[cycle(arithmetic)]
@@ -102,24 +123,24 @@ fn number_of_product(
     ensures { IfOk result (λ x. view_number x ≡ spec.product (view_names names.now) (view_product product.now)) }
 {
     let first = number_of_factor(alloc, names, &product.first)?;
-    with_scales(alloc, names, &product.others, first)
+    let others = scales_of(alloc, names, &product.others)?;
+    whole_product(alloc, first, others)
 }
 
 #[cycle(arithmetic)]
-fn with_scales(
+fn scales_of(
     alloc: Global,
     names: &Names,
     others: &Vec<Scaled>,
-    first: Arithmetic,
-) -> Result<Arithmetic, AllocError>
-    ensures { IfOk result (λ x. view_number x ≡ spec.with_scales (view_names names.now) (view_scales others.now.items) (view_number first)) }
+) -> Result<Vec<action::Scaled>, AllocError>
+    ensures { IfOk result (λ v. map view_scaled v.items ≡ spec.scales_in (view_names names.now) (view_scales others.now.items)) }
 {
-    let mut total = first;
+    let mut scales = Vec::new(alloc);
     for other in others {
-        let more = number_of_factor(alloc, names, &other.factor)?;
-        total = scale(alloc, other.operator, total, more)?;
+        let number = number_of_factor(alloc, names, &other.factor)?;
+        scales.push(scaled_number(other.operator, number))?;
     }
-    Ok(total)
+    Ok(scales)
 }
 
 #[cycle(arithmetic)]

@@ -1,20 +1,23 @@
 //! Arithmetic, and the integer variables.
 
-ghost use Rattle.std.specs.Prelude.{◌≡◌, ◌+◌, ◌≤◌, ◌<◌, ◌^◌, ℤ, pos, ◌+ℤ◌, ◌-ℤ◌, ◌*ℤ◌, neg_ℤ, length, SomeIff, FitsSigned, IfOk};
+ghost use Rattle.std.specs.Prelude.{◌≡◌, ◌+◌, ◌≤◌, ◌<◌, ◌^◌, ℤ, pos, ◌+ℤ◌, ◌-ℤ◌, ◌*ℤ◌, neg_ℤ, length, map, Ok, SomeIff, FitsSigned, IfOk};
 ghost use Rattle.std.specs.Int.{w32};
-ghost use Rattle.sbl_machine.specs.Numbers.{value, fitted, divided, limit_value, integer_at, changed, holds, assign, compare, natural};
-ghost use Rattle.sbl_program.specs.PlanOf.{view_number};
+ghost use Rattle.sbl_machine.specs.Numbers.{value, with_both, fitted, divided, limit_value, integer_at, changed, holds, assign, compare, natural};
+ghost use Rattle.sbl_program.specs.PlanOf.{view_added, view_number, view_scaled};
+ghost use Rattle.sbl_machine.specs.Rows.{product_of, scales_to, sum_of, sums_to};
 ghost use Rattle.sbl_machine.specs.Run.{count_of};
 ghost use Rattle.sbl_machine.specs.Kept.{Leads, Follows};
 
 use crate::fault::RunFault;
 use crate::halt::Halt;
 use crate::state::State;
-use sbl_program::action::{Arithmetic, Change, Relation};
+use sbl_grammar::{Additive, Multiplicative};
+use sbl_program::action::{Added, Arithmetic, Change, Relation, Scaled};
 use sbl_script::Mode;
 
 impl State {
     /// What an expression is worth. `Integer` where a number is out of range, `Divide` where a divisor is zero.
+    #[cycle(value)]
     pub fn value(&self, mode: Mode, expression: &Arithmetic) -> Result<i32, RunFault>
         ensures { result ≡ value (view_number expression.now) mode self.now }
     {
@@ -31,27 +34,57 @@ impl State {
                 let x = self.value(mode, inner)?;
                 fitted(x.checked_neg())
             }
-            Arithmetic::Sum(left, right) => {
-                let x = self.value(mode, left)?;
-                let y = self.value(mode, right)?;
-                fitted(x.checked_add(y))
+            Arithmetic::Sum { first, others } => {
+                let start = self.value(mode, first)?;
+                self.sum(mode, start, others)
             }
-            Arithmetic::Difference(left, right) => {
-                let x = self.value(mode, left)?;
-                let y = self.value(mode, right)?;
-                fitted(x.checked_sub(y))
-            }
-            Arithmetic::Product(left, right) => {
-                let x = self.value(mode, left)?;
-                let y = self.value(mode, right)?;
-                fitted(x.checked_mul(y))
-            }
-            Arithmetic::Quotient(left, right) => {
-                let x = self.value(mode, left)?;
-                let y = self.value(mode, right)?;
-                divided(x, y)
+            Arithmetic::Product { first, others } => {
+                let start = self.value(mode, first)?;
+                self.product(mode, start, others)
             }
         }
+    }
+
+    // Further numbers, added to what there is and taken away from it.
+    #[cycle(value)]
+    fn sum(&self, mode: Mode, start: i32, others: &[Added]) -> Result<i32, RunFault>
+        ensures { result ≡ sums_to (map view_added others.now) (Ok start) mode self.now }
+    {
+        let mut total = start;
+        for other in others {
+            total = self.sum_with(mode, total, other)?;
+        }
+        Ok(total)
+    }
+
+    // One further number.
+    #[cycle(value)]
+    fn sum_with(&self, mode: Mode, total: i32, other: &Added) -> Result<i32, RunFault>
+        ensures { result ≡ with_both (Ok total) (value (view_added other.now).1 mode self.now) (sum_of (view_added other.now).0) }
+    {
+        let number = self.value(mode, &other.number)?;
+        sum_of(other.operator, total, number)
+    }
+
+    // Further numbers, by which what there is is multiplied and divided.
+    #[cycle(value)]
+    fn product(&self, mode: Mode, start: i32, others: &[Scaled]) -> Result<i32, RunFault>
+        ensures { result ≡ scales_to (map view_scaled others.now) (Ok start) mode self.now }
+    {
+        let mut total = start;
+        for other in others {
+            total = self.product_with(mode, total, other)?;
+        }
+        Ok(total)
+    }
+
+    // One further number.
+    #[cycle(value)]
+    fn product_with(&self, mode: Mode, total: i32, other: &Scaled) -> Result<i32, RunFault>
+        ensures { result ≡ with_both (Ok total) (value (view_scaled other.now).1 mode self.now) (product_of (view_scaled other.now).0) }
+    {
+        let number = self.value(mode, &other.number)?;
+        product_of(other.operator, total, number)
     }
 
     // What an integer variable holds.
@@ -131,6 +164,26 @@ fn counted(n: usize) -> Result<i32, RunFault>
         Ok(n as i32)
     } else {
         Err(RunFault::Integer)
+    }
+}
+
+// A sum or a difference.
+fn sum_of(operator: Additive, x: i32, y: i32) -> Result<i32, RunFault>
+    ensures { result ≡ sum_of operator x y }
+{
+    match operator {
+        Additive::Plus => fitted(x.checked_add(y)),
+        Additive::Minus => fitted(x.checked_sub(y)),
+    }
+}
+
+// A product or a quotient.
+fn product_of(operator: Multiplicative, x: i32, y: i32) -> Result<i32, RunFault>
+    ensures { result ≡ product_of operator x y }
+{
+    match operator {
+        Multiplicative::Times => fitted(x.checked_mul(y)),
+        Multiplicative::Over => divided(x, y),
     }
 }
 

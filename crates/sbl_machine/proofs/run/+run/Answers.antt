@@ -1,12 +1,15 @@
-use Rattle.std.proofs.Common.{◌≡◌, ◌+◌, drop, suc, true, false, Some, Ok, Err, option_map, refl, length, get_or, ◌<◌, [], ◌∷◌, ◌++◌, ◌≤◌, sym, ap, ◌∙◌, arith, rules, append_assoc, Bor}
+use Rattle.std.proofs.Common.{◌≡◌, ◌+◌, drop, map, suc, true, false, Some, Ok, Err, option_map, refl, length, get_or, ◌<◌, [], ◌∷◌, ◌++◌, ◌≤◌, sym, ap, ◌∙◌, arith, rules, append_assoc, Bor}
 use Rattle.std.specs.Prelude.{slice_get, ◌-◌}
 use Rattle.sbl_machine.specs.Kept.{Follows}
 use Rattle.sbl_machine.specs.Moves.{next}
-use Rattle.sbl_machine.proofs.Arms.{by_fault, stops_at, either_way, turn_is, time_stops, sequence_does, not_does, test_does, try_does, do_does, fail_does, backwards_does, follows_at, repeat_does, loop_does, atleast_does, or_does, and_does, goto_does, gopast_does, setlimit_does, limited_signals, limited_halts, one_time, search_does, among_does, nth_is, nth_past, one_turn, one_try, one_more, halted, called, leave_signals, leave_halts, after_halts}
+use Rattle.sbl_machine.proofs.Arms.{by_fault, stops_at, either_way, turn_is, time_stops, sequence_does, not_does, test_does, try_does, do_does, fail_does, backwards_does, follows_at, repeat_does, loop_does, atleast_does, goto_does, gopast_does, setlimit_does, limited_signals, limited_halts, one_time, search_does, among_does, nth_is, nth_past, one_turn, one_try, one_more, halted, called, leave_signals, leave_halts, after_halts}
+use Rattle.sbl_machine.proofs.Rows.{after_signal, others_stop, part_is, row_does}
+use Rattle.sbl_machine.specs.Rows.{joined_runs, others_run, pays, row_runs}
+use Rattle.std.proofs.lemmas.List.{drop_all, length-map}
 use Rattle.sbl_machine.specs.Standing.{Standing, Ending, Signals, after, then_on, mark, put_back}
 use Rattle.sbl_program.specs.declared.node.Node.{Node}
 use Rattle.sbl_program.specs.declared.node.Routine.{Routine}
-use Rattle.sbl_program.specs.PlanOf.{plan_of, view_node, view_nodes, view_number, view_routine}
+use Rattle.sbl_program.specs.PlanOf.{plan_of, view_joined, view_node, view_nodes, view_number, view_routine}
 use Rattle.sbl_machine.specs.Run.{backwards_from, backwards_end, runs, all_run, group_runs, nth_runs, calls, turns, times, seeks, count_of, enter, limits, limited, limit_here, limit_back}
 use Rattle.sbl_machine.specs.Numbers.{value, given}
 use Rattle.sbl_machine.specs.Search.{tries, try_one, search_all, bound_in, choice}
@@ -74,8 +77,8 @@ run_command-returns-in_err-run_times-in-AtLeast-clause-follows g t c =
     let h : Follows (Err halt) new (given (value (view_number a.count) m q) q (λ z. times (count_of z) (D c.deref-in-AtLeast.result.now) m q)) = search rules in
     rw r (follows_at (Err halt) new _ _ (p ∙ d) (after_halts halt new _ on_t on_f h))
 
-pub run_command-returns-then-not-branch-4-clause-follows : goal.run_command-returns-then-not-branch-4-clause-follows
-run_command-returns-then-not-branch-4-clause-follows g t c =
+pub run_command-returns-then-not-branch-3-clause-follows : goal.run_command-returns-then-not-branch-3-clause-follows
+run_command-returns-then-not-branch-3-clause-follows g t c =
     let T = g.T.Tables.listed c.args.tables.now in
     let P = plan_of T c.args.program.now in
     let levels = c.args.levels in
@@ -90,8 +93,8 @@ run_command-returns-then-not-branch-4-clause-follows g t c =
     let b : c.in_ok-run_times-in-AtLeast.field-0 ≡ false = search rules in
     p ∙ d ∙ ap rest (c.in_ok-run_times-in-AtLeast.ensures.follows ∙ ap (λ v. Signals v c.run_times-in-AtLeast.new.state) b)
 
-pub run_command-returns-else-not-branch-4-clause-follows : goal.run_command-returns-else-not-branch-4-clause-follows
-run_command-returns-else-not-branch-4-clause-follows g t c =
+pub run_command-returns-else-not-branch-3-clause-follows : goal.run_command-returns-else-not-branch-3-clause-follows
+run_command-returns-else-not-branch-3-clause-follows g t c =
     let T = g.T.Tables.listed c.args.tables.now in
     let P = plan_of T c.args.program.now in
     let levels = c.args.levels in
@@ -242,44 +245,6 @@ run_call-returns-in_ok-signal-in-Some-clause-follows g t c =
     let kept : c.in_ok-kept-in-Some.kept.items ≡ s.choices = c.in_ok-kept-in-Some.ensures.kept in
     q ∙ leave_signals s.choices body b new h ∙ ap (λ cs. Signals b (record new { choices = cs })) (sym kept) ∙ ap (Signals b) (sym c.leave.ensures)
 
-pub run_command-returns-in_ok-put_back-in-Or-clause-follows : goal.run_command-returns-in_ok-put_back-in-Or-clause-follows
-run_command-returns-in_ok-put_back-in-Or-clause-follows g t c =
-    let T = g.T.Tables.listed c.args.tables.now in
-    let P = plan_of T c.args.program.now in
-    let levels = c.args.levels in
-    let D = λ (n : Node). runs P levels (view_node T n) in
-    let m = c.args.mode in
-    let s = c.args.state.now in
-    let q = c.pay.new.self in
-    let a = c.in-Or in
-    let u = c.run_command.new.state in
-    let w = c.put_back.new.self in
-    let p = ap (λ n. D n m s) a.is ∙ or_does T P levels a.first a.second m s ∙ ap (λ r. then_on r (λ q. after (D a.first.value m q) (Signals true) (λ f. then_on (put_back m (mark q) f) (D a.second.value m)))) c.in_ok-pay.ensures in
-    let b : c.in_ok-run_command-in-Or.field-0 ≡ false = search rules in
-    let e : D a.first.value m q ≡ Signals false u = ap (λ n. D n m q) (sym c.deref-in-Or.ensures) ∙ c.in_ok-run_command-in-Or.ensures.follows ∙ ap (λ v. Signals v u) b in
-    let k : put_back m (mark q) u ≡ Signals true w = ap (λ r. put_back m r u) (sym c.mark-from.ensures.value) ∙ c.in_ok-put_back-in-Or.ensures.leads in
-    let x = p ∙ ap (λ r. after r (Signals true) (λ f. then_on (put_back m (mark q) f) (D a.second.value m))) e ∙ ap (λ r. then_on r (D a.second.value m)) k ∙ ap (λ n. D n m w) (sym c.deref-in-Or-2.ensures) in
-    follows_at c.run_command-in-Or.result c.run_command-in-Or.new.state _ _ x c.run_command-in-Or.ensures.follows
-
-pub run_command-returns-in_ok-put_back-in-And-clause-follows : goal.run_command-returns-in_ok-put_back-in-And-clause-follows
-run_command-returns-in_ok-put_back-in-And-clause-follows g t c =
-    let T = g.T.Tables.listed c.args.tables.now in
-    let P = plan_of T c.args.program.now in
-    let levels = c.args.levels in
-    let D = λ (n : Node). runs P levels (view_node T n) in
-    let m = c.args.mode in
-    let s = c.args.state.now in
-    let q = c.pay.new.self in
-    let a = c.in-And in
-    let u = c.run_command-in-And.new.state in
-    let w = c.put_back-in-And.new.self in
-    let p = ap (λ n. D n m s) a.is ∙ and_does T P levels a.first a.second m s ∙ ap (λ r. then_on r (λ q. after (D a.first.value m q) (λ t. then_on (put_back m (mark q) t) (D a.second.value m)) (Signals false))) c.in_ok-pay.ensures in
-    let b : c.in_ok-run_command-in-And.field-0 ≡ true = search rules in
-    let e : D a.first.value m q ≡ Signals true u = ap (λ n. D n m q) (sym c.deref-in-And.ensures) ∙ c.in_ok-run_command-in-And.ensures.follows ∙ ap (λ v. Signals v u) b in
-    let k : put_back m (mark q) u ≡ Signals true w = ap (λ r. put_back m r u) (sym c.mark-from-in-And.ensures.value) ∙ c.in_ok-put_back-in-And.ensures.leads in
-    let x = p ∙ ap (λ r. after r (λ t. then_on (put_back m (mark q) t) (D a.second.value m)) (Signals false)) e ∙ ap (λ r. then_on r (D a.second.value m)) k ∙ ap (λ n. D n m w) (sym c.deref-in-And-2.ensures) in
-    follows_at c.run_command-in-And-2.result c.run_command-in-And-2.new.state _ _ x c.run_command-in-And-2.ensures.follows
-
 pub run_command-returns-in-Goto-clause-follows : goal.run_command-returns-in-Goto-clause-follows
 run_command-returns-in-Goto-clause-follows g t c =
     let T = g.T.Tables.listed c.args.tables.now in
@@ -399,84 +364,6 @@ run_times-loop-left-preserved g t c =
     let steps : new.steps ≤ c.args.state.now.steps = omega (arith, fewer, inv.1) in
     (one_time c.loop-left.left D m s new _ some e inv.0, steps)
 
-pub run_command-returns-in_err-run_command-in-Or-clause-follows : goal.run_command-returns-in_err-run_command-in-Or-clause-follows
-run_command-returns-in_err-run_command-in-Or-clause-follows g t c =
-    let T = g.T.Tables.listed c.args.tables.now in
-    let P = plan_of T c.args.program.now in
-    let levels = c.args.levels in
-    let D = λ (n : Node). runs P levels (view_node T n) in
-    let m = c.args.mode in
-    let s = c.args.state.now in
-    let q = c.pay.new.self in
-    let a = c.in-Or in
-    let u = c.run_command.new.state in
-    let on_t : Standing → Standing → Ending = λ (q : Standing). Signals true in
-    let on_f : Standing → Standing → Ending = λ (q : Standing). λ (f : Standing). then_on (put_back m (mark q) f) (D a.second.value m) in
-    let p = ap (λ n. D n m s) a.is ∙ or_does T P levels a.first a.second m s ∙ ap (λ r. then_on r (λ q. after (D a.first.value m q) (on_t q) (on_f q))) c.in_ok-pay.ensures in
-    let halt = c.in_err-run_command-in-Or.field-0.0 in
-    let r : c.from_residual-in_err-run_command-in-Or.result ≡ Err halt = search rules in
-    rw r (by_fault halt u _ (λ fault is. p ∙ ap (λ r. after r (on_t q) (on_f q)) (ap (λ n. D n m q) (sym c.deref-in-Or.ensures) ∙ stops_at halt u _ fault is c.in_err-run_command-in-Or.ensures.follows)))
-
-pub run_command-returns-in_err-put_back-in-Or-clause-follows : goal.run_command-returns-in_err-put_back-in-Or-clause-follows
-run_command-returns-in_err-put_back-in-Or-clause-follows g t c =
-    let T = g.T.Tables.listed c.args.tables.now in
-    let P = plan_of T c.args.program.now in
-    let levels = c.args.levels in
-    let D = λ (n : Node). runs P levels (view_node T n) in
-    let m = c.args.mode in
-    let s = c.args.state.now in
-    let q = c.pay.new.self in
-    let a = c.in-Or in
-    let u = c.run_command.new.state in
-    let on_t : Standing → Standing → Ending = λ (q : Standing). Signals true in
-    let on_f : Standing → Standing → Ending = λ (q : Standing). λ (f : Standing). then_on (put_back m (mark q) f) (D a.second.value m) in
-    let p = ap (λ n. D n m s) a.is ∙ or_does T P levels a.first a.second m s ∙ ap (λ r. then_on r (λ q. after (D a.first.value m q) (on_t q) (on_f q))) c.in_ok-pay.ensures in
-    let w = c.put_back.new.self in
-    let b : c.in_ok-run_command-in-Or.field-0 ≡ false = search rules in
-    let e : D a.first.value m q ≡ Signals false u = ap (λ n. D n m q) (sym c.deref-in-Or.ensures) ∙ c.in_ok-run_command-in-Or.ensures.follows ∙ ap (λ v. Signals v u) b in
-    let halt = c.in_err-put_back-in-Or.field-0.0 in
-    let r : c.from_residual-in_err-put_back-in-Or.result ≡ Err halt = search rules in
-    rw r (by_fault halt w _ (λ fault is. p ∙ ap (λ r. after r (on_t q) (on_f q)) e ∙ ap (λ r. then_on r (D a.second.value m)) (ap (λ r. put_back m r u) (sym c.mark-from.ensures.value) ∙ stops_at halt w _ fault is c.in_err-put_back-in-Or.ensures.leads)))
-
-pub run_command-returns-in_err-run_command-in-And-clause-follows : goal.run_command-returns-in_err-run_command-in-And-clause-follows
-run_command-returns-in_err-run_command-in-And-clause-follows g t c =
-    let T = g.T.Tables.listed c.args.tables.now in
-    let P = plan_of T c.args.program.now in
-    let levels = c.args.levels in
-    let D = λ (n : Node). runs P levels (view_node T n) in
-    let m = c.args.mode in
-    let s = c.args.state.now in
-    let q = c.pay.new.self in
-    let a = c.in-And in
-    let u = c.run_command-in-And.new.state in
-    let on_t : Standing → Standing → Ending = λ (q : Standing). λ (t : Standing). then_on (put_back m (mark q) t) (D a.second.value m) in
-    let on_f : Standing → Standing → Ending = λ (q : Standing). Signals false in
-    let p = ap (λ n. D n m s) a.is ∙ and_does T P levels a.first a.second m s ∙ ap (λ r. then_on r (λ q. after (D a.first.value m q) (on_t q) (on_f q))) c.in_ok-pay.ensures in
-    let halt = c.in_err-run_command-in-And.field-0.0 in
-    let r : c.from_residual-in_err-run_command-in-And.result ≡ Err halt = search rules in
-    rw r (by_fault halt u _ (λ fault is. p ∙ ap (λ r. after r (on_t q) (on_f q)) (ap (λ n. D n m q) (sym c.deref-in-And.ensures) ∙ stops_at halt u _ fault is c.in_err-run_command-in-And.ensures.follows)))
-
-pub run_command-returns-in_err-put_back-in-And-clause-follows : goal.run_command-returns-in_err-put_back-in-And-clause-follows
-run_command-returns-in_err-put_back-in-And-clause-follows g t c =
-    let T = g.T.Tables.listed c.args.tables.now in
-    let P = plan_of T c.args.program.now in
-    let levels = c.args.levels in
-    let D = λ (n : Node). runs P levels (view_node T n) in
-    let m = c.args.mode in
-    let s = c.args.state.now in
-    let q = c.pay.new.self in
-    let a = c.in-And in
-    let u = c.run_command-in-And.new.state in
-    let on_t : Standing → Standing → Ending = λ (q : Standing). λ (t : Standing). then_on (put_back m (mark q) t) (D a.second.value m) in
-    let on_f : Standing → Standing → Ending = λ (q : Standing). Signals false in
-    let p = ap (λ n. D n m s) a.is ∙ and_does T P levels a.first a.second m s ∙ ap (λ r. then_on r (λ q. after (D a.first.value m q) (on_t q) (on_f q))) c.in_ok-pay.ensures in
-    let w = c.put_back-in-And.new.self in
-    let b : c.in_ok-run_command-in-And.field-0 ≡ true = search rules in
-    let e : D a.first.value m q ≡ Signals true u = ap (λ n. D n m q) (sym c.deref-in-And.ensures) ∙ c.in_ok-run_command-in-And.ensures.follows ∙ ap (λ v. Signals v u) b in
-    let halt = c.in_err-put_back-in-And.field-0.0 in
-    let r : c.from_residual-in_err-put_back-in-And.result ≡ Err halt = search rules in
-    rw r (by_fault halt w _ (λ fault is. p ∙ ap (λ r. after r (on_t q) (on_f q)) e ∙ ap (λ r. then_on r (D a.second.value m)) (ap (λ r. put_back m r u) (sym c.mark-from-in-And.ensures.value) ∙ stops_at halt w _ fault is c.in_err-put_back-in-And.ensures.leads)))
-
 pub run_command-returns-in_err-run_command-in-Not-clause-follows : goal.run_command-returns-in_err-run_command-in-Not-clause-follows
 run_command-returns-in_err-run_command-in-Not-clause-follows g t c =
     let T = g.T.Tables.listed c.args.tables.now in
@@ -487,7 +374,7 @@ run_command-returns-in_err-run_command-in-Not-clause-follows g t c =
     let s = c.args.state.now in
     let q = c.pay.new.self in
     let a = c.in-Not in
-    let u = c.run_command-in-Not.new.state in
+    let u = c.run_command.new.state in
     let on_t : Standing → Standing → Ending = λ (q : Standing). Signals false in
     let on_f : Standing → Standing → Ending = λ (q : Standing). put_back m (mark q) in
     let p = ap (λ n. D n m s) a.is ∙ not_does T P levels a.inner m s ∙ ap (λ r. then_on r (λ q. after (D a.inner.value m q) (on_t q) (on_f q))) c.in_ok-pay.ensures in
@@ -505,16 +392,16 @@ run_command-returns-in_err-put_back-in-Not-clause-follows g t c =
     let s = c.args.state.now in
     let q = c.pay.new.self in
     let a = c.in-Not in
-    let u = c.run_command-in-Not.new.state in
+    let u = c.run_command.new.state in
     let on_t : Standing → Standing → Ending = λ (q : Standing). Signals false in
     let on_f : Standing → Standing → Ending = λ (q : Standing). put_back m (mark q) in
     let p = ap (λ n. D n m s) a.is ∙ not_does T P levels a.inner m s ∙ ap (λ r. then_on r (λ q. after (D a.inner.value m q) (on_t q) (on_f q))) c.in_ok-pay.ensures in
-    let w = c.put_back-in-Not.new.self in
+    let w = c.put_back.new.self in
     let b : c.in_ok-run_command-in-Not.field-0 ≡ false = search rules in
     let e : D a.inner.value m q ≡ Signals false u = ap (λ n. D n m q) (sym c.deref-in-Not.ensures) ∙ c.in_ok-run_command-in-Not.ensures.follows ∙ ap (λ v. Signals v u) b in
     let halt = c.in_err-put_back-in-Not.field-0.0 in
     let r : c.from_residual-in_err-put_back-in-Not.result ≡ Err halt = search rules in
-    rw r (by_fault halt w _ (λ fault is. p ∙ ap (λ r. after r (on_t q) (on_f q)) e ∙ ap (λ r. put_back m r u) (sym c.mark-from-in-Not.ensures.value) ∙ stops_at halt w _ fault is c.in_err-put_back-in-Not.ensures.leads))
+    rw r (by_fault halt w _ (λ fault is. p ∙ ap (λ r. after r (on_t q) (on_f q)) e ∙ ap (λ r. put_back m r u) (sym c.mark-from.ensures.value) ∙ stops_at halt w _ fault is c.in_err-put_back-in-Not.ensures.leads))
 
 pub run_command-returns-in_err-run_command-in-Test-clause-follows : goal.run_command-returns-in_err-run_command-in-Test-clause-follows
 run_command-returns-in_err-run_command-in-Test-clause-follows g t c =
@@ -587,7 +474,7 @@ run_command-returns-in_err-put_back-in-Try-clause-follows g t c =
     let on_t : Standing → Standing → Ending = λ (q : Standing). Signals true in
     let on_f : Standing → Standing → Ending = λ (q : Standing). put_back m (mark q) in
     let p = ap (λ n. D n m s) a.is ∙ try_does T P levels a.inner m s ∙ ap (λ r. then_on r (λ q. after (D a.inner.value m q) (on_t q) (on_f q))) c.in_ok-pay.ensures in
-    let w = c.put_back-then-not-branch-3.new.self in
+    let w = c.put_back-then-not-branch-2.new.self in
     let b : c.in_ok-run_command-in-Try.field-0 ≡ false = search rules in
     let e : D a.inner.value m q ≡ Signals false u = ap (λ n. D n m q) (sym c.deref-in-Try.ensures) ∙ c.in_ok-run_command-in-Try.ensures.follows ∙ ap (λ v. Signals v u) b in
     let halt = c.in_err-put_back-in-Try.field-0.0 in
@@ -776,3 +663,270 @@ run_times-returns-in_err-run_command-clause-follows g t c =
     let v : value (view_number c.args.count.now) m c.args.state.now ≡ Ok number = search rules in
     let left : c.count_of-left.result ≡ count_of number = search rules in
     rw r (by_fault halt u _ (λ fault is. ap (λ r. given r c.args.state.now (λ z. times (count_of z) D m c.args.state.now)) v ∙ ap (λ n. times n D m c.args.state.now) (sym left) ∙ sym inv.0 ∙ time_stops c.loop-left.left D m s u fault some (stops_at halt u _ fault is c.in_err-run_command.ensures.follows)))
+
+pub run_command-returns-then-branch-clause-follows : goal.run_command-returns-then-branch-clause-follows
+run_command-returns-then-branch-clause-follows g t c =
+    let T = g.T.Tables.listed c.args.tables.now in
+    let P = plan_of T c.args.program.now in
+    let levels = c.args.levels in
+    let D = λ (n : Node). runs P levels (view_node T n) in
+    let m = c.args.mode in
+    let s = c.args.state.now in
+    let q = c.pay.new.self in
+    let a = c.in-Not in
+    let u = c.run_command.new.state in
+    let on_t : Standing → Standing → Ending = λ (q : Standing). Signals false in
+    let on_f : Standing → Standing → Ending = λ (q : Standing). put_back m (mark q) in
+    let p = ap (λ n. D n m s) a.is ∙ not_does T P levels a.inner m s ∙ ap (λ r. then_on r (λ q. after (D a.inner.value m q) (on_t q) (on_f q))) c.in_ok-pay.ensures in
+    let b : c.in_ok-run_command-in-Not.field-0 ≡ true = search rules in
+    let e : D a.inner.value m q ≡ Signals true u = ap (λ n. D n m q) (sym c.deref-in-Not.ensures) ∙ c.in_ok-run_command-in-Not.ensures.follows ∙ ap (λ v. Signals v u) b in
+    p ∙ ap (λ r. after r (on_t q) (on_f q)) e
+
+pub run_command-returns-in_ok-put_back-in-Not-clause-follows : goal.run_command-returns-in_ok-put_back-in-Not-clause-follows
+run_command-returns-in_ok-put_back-in-Not-clause-follows g t c =
+    let T = g.T.Tables.listed c.args.tables.now in
+    let P = plan_of T c.args.program.now in
+    let levels = c.args.levels in
+    let D = λ (n : Node). runs P levels (view_node T n) in
+    let m = c.args.mode in
+    let s = c.args.state.now in
+    let q = c.pay.new.self in
+    let a = c.in-Not in
+    let u = c.run_command.new.state in
+    let on_t : Standing → Standing → Ending = λ (q : Standing). Signals false in
+    let on_f : Standing → Standing → Ending = λ (q : Standing). put_back m (mark q) in
+    let p = ap (λ n. D n m s) a.is ∙ not_does T P levels a.inner m s ∙ ap (λ r. then_on r (λ q. after (D a.inner.value m q) (on_t q) (on_f q))) c.in_ok-pay.ensures in
+    let b : c.in_ok-run_command-in-Not.field-0 ≡ false = search rules in
+    let e : D a.inner.value m q ≡ Signals false u = ap (λ n. D n m q) (sym c.deref-in-Not.ensures) ∙ c.in_ok-run_command-in-Not.ensures.follows ∙ ap (λ v. Signals v u) b in
+    p ∙ ap (λ r. after r (on_t q) (on_f q)) e ∙ ap (λ r. put_back m r u) (sym c.mark-from.ensures.value) ∙ c.in_ok-put_back-in-Not.ensures.leads
+
+pub run_command-returns-in_ok-put_back-in-Test-clause-follows : goal.run_command-returns-in_ok-put_back-in-Test-clause-follows
+run_command-returns-in_ok-put_back-in-Test-clause-follows g t c =
+    let T = g.T.Tables.listed c.args.tables.now in
+    let P = plan_of T c.args.program.now in
+    let levels = c.args.levels in
+    let D = λ (n : Node). runs P levels (view_node T n) in
+    let m = c.args.mode in
+    let s = c.args.state.now in
+    let q = c.pay.new.self in
+    let a = c.in-Test in
+    let u = c.run_command-in-Test.new.state in
+    let on_t : Standing → Standing → Ending = λ (q : Standing). put_back m (mark q) in
+    let on_f : Standing → Standing → Ending = λ (q : Standing). Signals false in
+    let p = ap (λ n. D n m s) a.is ∙ test_does T P levels a.inner m s ∙ ap (λ r. then_on r (λ q. after (D a.inner.value m q) (on_t q) (on_f q))) c.in_ok-pay.ensures in
+    let b : c.in_ok-run_command-in-Test.field-0 ≡ true = search rules in
+    let e : D a.inner.value m q ≡ Signals true u = ap (λ n. D n m q) (sym c.deref-in-Test.ensures) ∙ c.in_ok-run_command-in-Test.ensures.follows ∙ ap (λ v. Signals v u) b in
+    p ∙ ap (λ r. after r (on_t q) (on_f q)) e ∙ ap (λ r. put_back m r u) (sym c.mark-from-in-Test.ensures.value) ∙ c.in_ok-put_back-in-Test.ensures.leads
+
+pub run_command-returns-in_ok-put_back-in-Try-clause-follows : goal.run_command-returns-in_ok-put_back-in-Try-clause-follows
+run_command-returns-in_ok-put_back-in-Try-clause-follows g t c =
+    let T = g.T.Tables.listed c.args.tables.now in
+    let P = plan_of T c.args.program.now in
+    let levels = c.args.levels in
+    let D = λ (n : Node). runs P levels (view_node T n) in
+    let m = c.args.mode in
+    let s = c.args.state.now in
+    let q = c.pay.new.self in
+    let a = c.in-Try in
+    let u = c.run_command-in-Try.new.state in
+    let on_t : Standing → Standing → Ending = λ (q : Standing). Signals true in
+    let on_f : Standing → Standing → Ending = λ (q : Standing). put_back m (mark q) in
+    let p = ap (λ n. D n m s) a.is ∙ try_does T P levels a.inner m s ∙ ap (λ r. then_on r (λ q. after (D a.inner.value m q) (on_t q) (on_f q))) c.in_ok-pay.ensures in
+    let b : c.in_ok-run_command-in-Try.field-0 ≡ false = search rules in
+    let e : D a.inner.value m q ≡ Signals false u = ap (λ n. D n m q) (sym c.deref-in-Try.ensures) ∙ c.in_ok-run_command-in-Try.ensures.follows ∙ ap (λ v. Signals v u) b in
+    p ∙ ap (λ r. after r (on_t q) (on_f q)) e ∙ ap (λ r. put_back m r u) (sym c.mark-from-in-Try.ensures.value) ∙ c.in_ok-put_back-in-Try.ensures.leads
+
+pub run_command-returns-in_ok-put_back-in-Do-clause-follows : goal.run_command-returns-in_ok-put_back-in-Do-clause-follows
+run_command-returns-in_ok-put_back-in-Do-clause-follows g t c =
+    let T = g.T.Tables.listed c.args.tables.now in
+    let P = plan_of T c.args.program.now in
+    let levels = c.args.levels in
+    let D = λ (n : Node). runs P levels (view_node T n) in
+    let m = c.args.mode in
+    let s = c.args.state.now in
+    let q = c.pay.new.self in
+    let a = c.in-Do in
+    let u = c.run_command-in-Do.new.state in
+    let on_t : Standing → Standing → Ending = λ (q : Standing). put_back m (mark q) in
+    let on_f : Standing → Standing → Ending = λ (q : Standing). put_back m (mark q) in
+    let p = ap (λ n. D n m s) a.is ∙ do_does T P levels a.inner m s ∙ ap (λ r. then_on r (λ q. after (D a.inner.value m q) (on_t q) (on_f q))) c.in_ok-pay.ensures in
+    let b = c.in_ok-run_command-in-Do.field-0 in
+    let e : D a.inner.value m q ≡ Signals b u = ap (λ n. D n m q) (sym c.deref-in-Do.ensures) ∙ c.in_ok-run_command-in-Do.ensures.follows in
+    p ∙ ap (λ r. after r (on_t q) (on_f q)) e ∙ either_way b u (put_back m (mark q)) ∙ ap (λ r. put_back m r u) (sym c.mark-from-in-Do.ensures.value) ∙ c.in_ok-put_back-in-Do.ensures.leads
+
+pub run_command-returns-in_ok-run_command-in-Fail-clause-follows : goal.run_command-returns-in_ok-run_command-in-Fail-clause-follows
+run_command-returns-in_ok-run_command-in-Fail-clause-follows g t c =
+    let T = g.T.Tables.listed c.args.tables.now in
+    let P = plan_of T c.args.program.now in
+    let levels = c.args.levels in
+    let D = λ (n : Node). runs P levels (view_node T n) in
+    let m = c.args.mode in
+    let s = c.args.state.now in
+    let q = c.pay.new.self in
+    let a = c.in-Fail in
+    let u = c.run_command-in-Fail.new.state in
+    let on_t : Standing → Standing → Ending = λ (q : Standing). Signals false in
+    let on_f : Standing → Standing → Ending = λ (q : Standing). Signals false in
+    let p = ap (λ n. D n m s) a.is ∙ fail_does T P levels a.inner m s ∙ ap (λ r. then_on r (λ q. after (D a.inner.value m q) (on_t q) (on_f q))) c.in_ok-pay.ensures in
+    let b = c.in_ok-run_command-in-Fail.field-0 in
+    let e : D a.inner.value m q ≡ Signals b u = ap (λ n. D n m q) (sym c.deref-in-Fail.ensures) ∙ c.in_ok-run_command-in-Fail.ensures.follows in
+    p ∙ ap (λ r. after r (on_t q) (on_f q)) e ∙ either_way b u (Signals false)
+
+pub run_command-returns-in_ok-end_backwards-in-Backwards-clause-follows : goal.run_command-returns-in_ok-end_backwards-in-Backwards-clause-follows
+run_command-returns-in_ok-end_backwards-in-Backwards-clause-follows g t c =
+    let T = g.T.Tables.listed c.args.tables.now in
+    let P = plan_of T c.args.program.now in
+    let levels = c.args.levels in
+    let D = λ (n : Node). runs P levels (view_node T n) in
+    let m = c.args.mode in
+    let s = c.args.state.now in
+    let q = c.pay.new.self in
+    let a = c.in-Backwards in
+    let k = c.begin_backwards.new.self in
+    let u = c.run_command-in-Backwards.new.state in
+    let go = λ (b : Standing). after (D a.inner.value Backward b) backwards_end (Signals false) in
+    let p = ap (λ n. D n m s) a.is ∙ backwards_does T P levels a.inner m s ∙ ap (λ r. then_on r (λ q. then_on (backwards_from q) go)) c.in_ok-pay.ensures in
+    let b : c.in_ok-run_command-in-Backwards.field-0 ≡ true = search rules in
+    let e : D a.inner.value Backward k ≡ Signals true u = ap (λ n. D n Backward k) (sym c.deref-in-Backwards.ensures) ∙ c.in_ok-run_command-in-Backwards.ensures.follows ∙ ap (λ v. Signals v u) b in
+    let x = p ∙ ap (λ r. then_on r go) c.in_ok-begin_backwards-in-Backwards.ensures.leads ∙ ap (λ r. after r backwards_end (Signals false)) e in
+    x ∙ c.in_ok-end_backwards-in-Backwards.ensures.leads
+
+pub run_command-returns-in_err-end_backwards-in-Backwards-clause-follows : goal.run_command-returns-in_err-end_backwards-in-Backwards-clause-follows
+run_command-returns-in_err-end_backwards-in-Backwards-clause-follows g t c =
+    let T = g.T.Tables.listed c.args.tables.now in
+    let P = plan_of T c.args.program.now in
+    let levels = c.args.levels in
+    let D = λ (n : Node). runs P levels (view_node T n) in
+    let m = c.args.mode in
+    let s = c.args.state.now in
+    let q = c.pay.new.self in
+    let a = c.in-Backwards in
+    let k = c.begin_backwards.new.self in
+    let u = c.run_command-in-Backwards.new.state in
+    let go = λ (b : Standing). after (D a.inner.value Backward b) backwards_end (Signals false) in
+    let p = ap (λ n. D n m s) a.is ∙ backwards_does T P levels a.inner m s ∙ ap (λ r. then_on r (λ q. then_on (backwards_from q) go)) c.in_ok-pay.ensures in
+    let b : c.in_ok-run_command-in-Backwards.field-0 ≡ true = search rules in
+    let e : D a.inner.value Backward k ≡ Signals true u = ap (λ n. D n Backward k) (sym c.deref-in-Backwards.ensures) ∙ c.in_ok-run_command-in-Backwards.ensures.follows ∙ ap (λ v. Signals v u) b in
+    let x = p ∙ ap (λ r. then_on r go) c.in_ok-begin_backwards-in-Backwards.ensures.leads ∙ ap (λ r. after r backwards_end (Signals false)) e in
+    let w = c.end_backwards.new.self in
+    let halt = c.in_err-end_backwards-in-Backwards.field-0.0 in
+    let r : c.from_residual-in_err-end_backwards-in-Backwards.result ≡ Err halt = search rules in
+    rw r (by_fault halt w _ (λ fault is. x ∙ stops_at halt w _ fault is c.in_err-end_backwards-in-Backwards.ensures.leads))
+
+pub run_command-returns-in-Row-clause-follows : goal.run_command-returns-in-Row-clause-follows
+run_command-returns-in-Row-clause-follows g t c =
+    let T = g.T.Tables.listed c.args.tables.now in
+    let P = plan_of T c.args.program.now in
+    let levels = c.args.levels in
+    let D = λ (n : Node). runs P levels (view_node T n) in
+    let m = c.args.mode in
+    let s = c.args.state.now in
+    let q = c.pay.new.self in
+    let a = c.in-Row in
+    let os = map (view_joined T) a.others.items in
+    let first = c.deref-in-Row.result.now in
+    let p = ap (λ n. D n m s) a.is ∙ row_does T P levels a.first a.others m s ∙ ap (λ r. then_on r (row_runs P levels (view_node T a.first.value) os m)) c.in_ok-pay.ensures in
+    let d = ap (λ n. row_runs P levels (view_node T n) os m q) (sym c.deref-in-Row.ensures) ∙ ap (λ xs. row_runs P levels (view_node T first) (map (view_joined T) xs) m q) (sym c.deref-in-Row-2.ensures.value) in
+    follows_at c.run_row.result c.run_row.new.state _ _ (p ∙ d) c.run_row.ensures.follows
+
+pub run_row-returns-in_err-signal-clause-follows : goal.run_row-returns-in_err-signal-clause-follows
+run_row-returns-in_err-signal-clause-follows g t c =
+    let T = g.T.Tables.listed c.args.tables.now in
+    let P = plan_of T c.args.program.now in
+    let levels = c.args.levels in
+    let m = c.args.mode in
+    let s = c.args.state.now in
+    let xs = c.args.others.now in
+    let os = map (view_joined T) xs in
+    let first = view_node T c.args.first.now in
+    let from = c.mark-from.result in
+    let q = c.pay_for.new.self in
+    let go = λ (v : Standing). others_run P levels m (mark v) os (runs P levels first m v) in
+    let n0 : c.saturating_sub.result ≡ length xs - 1 = search rules in
+    let n : c.saturating_sub.result ≡ length os - 1 = n0 ∙ ap (λ k. k - 1) (sym (length-map xs (view_joined T))) in
+    let paid : pays (length os - 1) s ≡ Signals true q = ap (λ k. pays k s) (sym n) ∙ c.in_ok-pay_for.ensures.leads in
+    let begun : row_runs P levels first os m s ≡ others_run P levels m from os (runs P levels first m q) = ap (λ r. then_on r go) paid ∙ ap (λ k. others_run P levels m k os (runs P levels first m q)) (sym c.mark-from.ensures.value) in
+    let u = c.run_command.new.state in
+    let halt = c.in_err-signal.field-0.0 in
+    let r : c.from_residual-in_err-signal.result ≡ Err halt = search rules in
+    rw r (by_fault halt u _ (λ fault is. begun ∙ ap (λ e. others_run P levels m from os e) (stops_at halt u _ fault is c.in_err-signal.ensures.follows) ∙ others_stop P levels m from os fault u))
+
+pub run_row-loop-joined-init : goal.run_row-loop-joined-init
+run_row-loop-joined-init g t c =
+    let T = g.T.Tables.listed c.args.tables.now in
+    let P = plan_of T c.args.program.now in
+    let levels = c.args.levels in
+    let m = c.args.mode in
+    let s = c.args.state.now in
+    let xs = c.args.others.now in
+    let os = map (view_joined T) xs in
+    let first = view_node T c.args.first.now in
+    let from = c.mark-from.result in
+    let q = c.pay_for.new.self in
+    let go = λ (v : Standing). others_run P levels m (mark v) os (runs P levels first m v) in
+    let n0 : c.saturating_sub.result ≡ length xs - 1 = search rules in
+    let n : c.saturating_sub.result ≡ length os - 1 = n0 ∙ ap (λ k. k - 1) (sym (length-map xs (view_joined T))) in
+    let paid : pays (length os - 1) s ≡ Signals true q = ap (λ k. pays k s) (sym n) ∙ c.in_ok-pay_for.ensures.leads in
+    let begun : row_runs P levels first os m s ≡ others_run P levels m from os (runs P levels first m q) = ap (λ r. then_on r go) paid ∙ ap (λ k. others_run P levels m k os (runs P levels first m q)) (sym c.mark-from.ensures.value) in
+    let u = c.run_command.new.state in
+    let b = c.in_ok-signal.signal in
+    let e : runs P levels first m q ≡ Signals b u = c.in_ok-signal.ensures.follows in
+    let fewer : u.steps < q.steps = c.in_ok-signal.ensures.fewer in
+    let no_more : q.steps ≤ s.steps = c.in_ok-pay_for.ensures.no_more in
+    let steps : u.steps ≤ s.steps = omega (arith, fewer, no_more) in
+    (sym (begun ∙ ap (λ e. others_run P levels m from os e) e), steps)
+
+pub run_row-returns-in_err-signal-2-clause-follows : goal.run_row-returns-in_err-signal-2-clause-follows
+run_row-returns-in_err-signal-2-clause-follows g t c =
+    let T = g.T.Tables.listed c.args.tables.now in
+    let P = plan_of T c.args.program.now in
+    let levels = c.args.levels in
+    let m = c.args.mode in
+    let xs = c.args.others.now in
+    let i = c.loop-joined.joined-index in
+    let x = c.joined-item.result in
+    let o = view_joined T x in
+    let b = c.loop-joined.signal in
+    let v = c.loop-joined.state in
+    let from = c.mark-from.result in
+    let inv = c.loop-joined.invariant in
+    let rest = map (view_joined T) (drop (i + 1) xs) in
+    let at = part_is (view_joined T) xs i x c.loop-joined-test.true c.joined-item.is in
+    let step : others_run P levels m from (map (view_joined T) (drop i xs)) (Signals b v) ≡ others_run P levels m from rest (joined_runs P levels m from o b v) = ap (λ ys. others_run P levels m from ys (Signals b v)) at ∙ ap (others_run P levels m from rest) (after_signal P levels m from o b v) in
+    let u = c.run_joined.new.state in
+    let halt = c.in_err-signal-2.field-0.0 in
+    let r : c.from_residual-in_err-signal-2.result ≡ Err halt = search rules in
+    rw r (by_fault halt u _ (λ fault is. sym inv.0 ∙ step ∙ ap (others_run P levels m from rest) (stops_at halt u _ fault is c.in_err-signal-2.ensures.follows) ∙ others_stop P levels m from rest fault u))
+
+pub run_row-loop-joined-preserved : goal.run_row-loop-joined-preserved
+run_row-loop-joined-preserved g t c =
+    let T = g.T.Tables.listed c.args.tables.now in
+    let P = plan_of T c.args.program.now in
+    let levels = c.args.levels in
+    let m = c.args.mode in
+    let xs = c.args.others.now in
+    let i = c.loop-joined.joined-index in
+    let x = c.joined-item.result in
+    let o = view_joined T x in
+    let b = c.loop-joined.signal in
+    let v = c.loop-joined.state in
+    let from = c.mark-from.result in
+    let inv = c.loop-joined.invariant in
+    let rest = map (view_joined T) (drop (i + 1) xs) in
+    let at = part_is (view_joined T) xs i x c.loop-joined-test.true c.joined-item.is in
+    let step : others_run P levels m from (map (view_joined T) (drop i xs)) (Signals b v) ≡ others_run P levels m from rest (joined_runs P levels m from o b v) = ap (λ ys. others_run P levels m from ys (Signals b v)) at ∙ ap (others_run P levels m from rest) (after_signal P levels m from o b v) in
+    let u = c.run_joined.new.state in
+    let k : joined_runs P levels m from o b v ≡ Signals c.in_ok-signal-2.signal u = c.in_ok-signal-2.ensures.follows in
+    let no_more : u.steps ≤ v.steps = c.in_ok-signal-2.ensures.no_more in
+    let steps : u.steps ≤ c.args.state.now.steps = omega (arith, no_more, inv.1) in
+    (sym (step ∙ ap (others_run P levels m from rest) k) ∙ inv.0, steps)
+
+pub run_row-returns-clause-follows : goal.run_row-returns-clause-follows
+run_row-returns-clause-follows g t c =
+    let T = g.T.Tables.listed c.args.tables.now in
+    let P = plan_of T c.args.program.now in
+    let xs = c.args.others.now in
+    let i = c.loop-joined.joined-index in
+    let inv = c.loop-joined.invariant in
+    let none : drop i xs ≡ [] = drop_all i xs (omega arith) in
+    sym inv.0 ∙ ap (λ ys. others_run P c.args.levels c.args.mode c.mark-from.result (map (view_joined T) ys) (Signals c.loop-joined.signal c.loop-joined.state)) none

@@ -1,14 +1,22 @@
-use Rattle.std.proofs.Common.{◌≡◌, ℕ, suc, ◌+◌, ◌*◌, ◌≤◌, ◌++◌, drop}
+use Rattle.std.proofs.Common.{◌≡◌, ℕ, suc, ◌+◌, ◌*◌, ◌≤◌, ◌++◌, drop, map}
 use Rattle.std.specs.Prelude.{List}
 use Rattle.sbl_tables.specs.Fitting.{first}
 use Rattle.sbl_machine.specs.Listing.{fits_at}
-use Rattle.sbl_program.specs.PlanOf.{plan_of, view_node, view_nodes}
+use Rattle.sbl_program.specs.PlanOf.{plan_of, view_joined, view_node, view_nodes}
 use Rattle.sbl_machine.specs.Run.{runs, all_run, calls, turns, times, seeks}
+use Rattle.sbl_machine.specs.Rows.{others_run, row_runs}
+use Rattle.sbl_machine.specs.Standing.{Signals}
 use Rattle.sbl_machine.specs.Search.{tries, search_all, bound_in}
 use Rattle.sbl_machine.proofs.run.+run.Given as goal
 
 abbrev pub decreases-run_command : goal.decreases-run_command
 decreases-run_command g l = 4 * l.state.now.steps
+
+abbrev pub decreases-run_row : goal.decreases-run_row
+decreases-run_row g l = 4 * l.state.now.steps + 3
+
+abbrev pub decreases-run_joined : goal.decreases-run_joined
+decreases-run_joined g l = 4 * l.state.now.steps + 1
 
 abbrev pub decreases-run_in_turn : goal.decreases-run_in_turn
 decreases-run_in_turn g l = 4 * l.state.now.steps + 1
@@ -40,6 +48,13 @@ invariant-run_in_turn-loop-one g l =
     let T = g.T.Tables.listed l.tables in
     let p = plan_of T l.program in
     (all_run p l.levels (view_nodes T (drop l.one-index l.commands)) l.mode l.state ≡ all_run p l.levels (view_nodes T l.commands) l.mode l.initial.state) × (l.state.steps ≤ l.initial.state.steps)
+
+-- the others that are left do from here what the row does from the start
+abbrev pub invariant-run_row-loop-joined : goal.invariant-run_row-loop-joined
+invariant-run_row-loop-joined g l =
+    let T = g.T.Tables.listed l.tables in
+    let p = plan_of T l.program in
+    (others_run p l.levels l.mode l.from (map (view_joined T) (drop l.joined-index l.others)) (Signals l.signal l.state) ≡ row_runs p l.levels (view_node T l.first) (map (view_joined T) l.others) l.mode l.fn.state) × (l.state.steps ≤ l.fn.state.steps)
 
 -- turns enough for the steps that are left do from here what all of them do from the start
 abbrev pub invariant-run_turns-loop-state : goal.invariant-run_turns-loop-state
