@@ -1,5 +1,5 @@
 -- What is found of an edit's text.
-use Rattle.std.proofs.Common.{◌≡◌, ◌⊎◌, ◌≤◌, ℕ, Bool, true, false, List, length, Option, None, Some, Result, Ok, Err, IfOk, IfErr, inl, inr, refl, sym, ap, subst, ◌∙◌}
+use Rattle.std.proofs.Common.{◌≡◌, ◌⊎◌, ◌≤◌, ℕ, Bool, List, length, Option, None, Some, Result, Ok, Err, IfOk, IfErr, inl, inr, sym, ap, subst, ◌∙◌}
 use Rattle.std.specs.Str.{IsUtf8, chars}
 use Rattle.sbl_text.specs.declared.fault.ScriptFault.{ScriptFault}
 use Rattle.sbl_text.specs.declared.fault.ScriptFault.TheVariants as fault
@@ -17,7 +17,7 @@ use Rattle.sbl_script.specs.Parsed.{Source}
 use Rattle.sbl_script.specs.Checks.{WellDeclared, fault_of}
 use Rattle.sbl_script.specs.Reading.{HasTokens, IsTextFault, IsUnread, first_left_out, max_length, terminals}
 use Rattle.sbl_script.specs.Refusals.{Refuses}
-use Rattle.sbl_script.specs.Edits.{ScriptEdit, body, among, Home, IsEdited, IsEditFault, IsFaultAt, IsSubstituted, home, home_in, home_of_among, home_of_body, home_of_held, items_with, routine_name, routine_of, state_before}
+use Rattle.sbl_script.specs.Edits.{ScriptEdit, body, among, Home, IsEditFault, IsFaultAt, IsSubstituted, home, home_in, home_of_among, home_of_body, home_of_held, items_with, routine_name, routine_of, state_before}
 
 pub tokens_there : (e f : InForce) (text bytes : List ℕ) (ts : List Placed) → e ≡ f → text ≡ bytes → length bytes ≤ max_length → IsUtf8 bytes → ArePlacedFrom (start_under e) (chars text) ts → HasTokens (start_under f) bytes ts
 tokens_there e f text bytes ts same is short utf8 cut = record {
