@@ -97,12 +97,12 @@ pub has_tokens : {X : Type 0} (r : Result X ScriptFault) (placed : X → List Pl
     → IfOk r (λ x. ArePlacedFrom (start_under e) (chars text) (placed x)) → IfOk r (λ x. HasTokens (start_under f) own (placed x))
 has_tokens r placed e f text bytes own same is there short utf8 h =
     if_ok r (λ x. ArePlacedFrom (start_under e) (chars text) (placed x)) (λ x. HasTokens (start_under f) own (placed x))
-      (λ x cut. tokens_there e f text own (placed x) same (is ∙ there) (subst (λ (b : List ℕ). length b ≤ max_length) there short) (subst IsUtf8 there utf8) cut) h
+    (λ x cut. tokens_there e f text own (placed x) same (is ∙ there) (subst (λ (b : List ℕ). length b ≤ max_length) there short) (subst IsUtf8 there utf8) cut) h
 
 pub no_tokens : {X : Type 0} (r : Result X ScriptFault) (e f : InForce) (text bytes own : List ℕ) → e ≡ f → text ≡ bytes → bytes ≡ own → length bytes ≤ max_length → IsUtf8 bytes
     → IfErr r (λ g. (g ≡ fault.OutOfMemory) ⊎ IsFirstFaultFrom (start_under e) (chars text) g) → IfErr r (λ g. (g ≡ fault.OutOfMemory) ⊎ IsTextFault (start_under f) own g)
 no_tokens r e f text bytes own same is there short utf8 h =
     if_err r (λ g. (g ≡ fault.OutOfMemory) ⊎ IsFirstFaultFrom (start_under e) (chars text) g) (λ g. (g ≡ fault.OutOfMemory) ⊎ IsTextFault (start_under f) own g) (λ g x. go g x) h where
-  go : (g : ScriptFault) → (g ≡ fault.OutOfMemory) ⊎ IsFirstFaultFrom (start_under e) (chars text) g → (g ≡ fault.OutOfMemory) ⊎ IsTextFault (start_under f) own g
-  go g (inl m) = inl m
-  go g (inr x) = inr (inr (inr (subst (λ (b : List ℕ). length b ≤ max_length) there short, subst IsUtf8 there utf8, subst (λ (i : InForce). IsFirstFaultFrom (start_under i) (chars own) g) same (subst (λ (b : List ℕ). IsFirstFaultFrom (start_under e) (chars b) g) (is ∙ there) x))))
+      go : (g : ScriptFault) → (g ≡ fault.OutOfMemory) ⊎ IsFirstFaultFrom (start_under e) (chars text) g → (g ≡ fault.OutOfMemory) ⊎ IsTextFault (start_under f) own g
+      go g (inl m) = inl m
+      go g (inr x) = inr (inr (inr (subst (λ (b : List ℕ). length b ≤ max_length) there short, subst IsUtf8 there utf8, subst (λ (i : InForce). IsFirstFaultFrom (start_under i) (chars own) g) same (subst (λ (b : List ℕ). IsFirstFaultFrom (start_under e) (chars b) g) (is ∙ there) x))))
