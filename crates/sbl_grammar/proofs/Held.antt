@@ -1,13 +1,13 @@
 -- The among with a number, part by part: those of a part come before those behind it.
-use Rattle.std.proofs.Common.{◌≡◌, ℕ, zero, suc, ◌+◌, ◌-◌, ◌≤◌, ◌<◌, Bool, true, false, nat_eq, List, [], ◌∷◌, ◌++◌, Option, Some, None, length, if◌then◌else◌, refl, sym, ap, subst, ◌∙◌, arith}
+use Rattle.std.proofs.Common.{◌≡◌, ℕ, zero, suc, ◌+◌, ◌-◌, Bool, true, false, nat_eq, List, [], ◌∷◌, Some, None, if◌then◌else◌, refl, sym, ap, ◌∙◌, arith}
 use Rattle.std.proofs.lemmas.Bool.{ne_eqb}
 use Rattle.sbl_grammar.specs.Tree.{Tree, bracket, single, quoted, called, excluded, prefixed, counted, moved, named, edited, limited, assigned, compared, values_compared, chosen, Rows, no_rows, row, Others, no_others, joined, Starter, no_starter, starter, Groups, bare, group}
 use Rattle.sbl_grammar.specs.Terminal as t
 use Rattle.sbl_grammar.specs.Amongs.{FitsAt, Held, amongs, amongs_of_rows, amongs_of_others, amongs_of_starter, amongs_of_groups, amongs_of_body, nth_held, count_amongs, count_in_rows, count_in_others, count_in_starter, count_in_groups, put_among, put_in_rows, put_in_others, put_in_starter, put_in_groups, put_in_body}
-use Rattle.sbl_grammar.specs.Places.{Placed, placed, placed_rows, placed_others, placed_starter, placed_groups, placed_entry, placed_entries, placed_expression}
+use Rattle.sbl_grammar.specs.Places.{placed, placed_rows, placed_others, placed_starter, placed_groups, placed_entry, placed_entries, placed_expression}
 use Rattle.sbl_grammar.specs.Reading.{AreShallow}
-use Rattle.sbl_grammar.specs.Texts.{body, among, places_in}
-use Rattle.sbl_grammar.proofs.Behind.{IsBefore, by_itself, behind_it, with_behind, entry_before, entries_before, expression_before, tree_before, rows_before, others_before, starter_before, groups_before}
+use Rattle.sbl_grammar.specs.Texts.{body, places_in}
+use Rattle.sbl_grammar.proofs.Behind.{by_itself, behind_it, with_behind, entry_before, entries_before, expression_before, tree_before, rows_before, others_before, starter_before, groups_before}
 
 abbrev Hs : Type 0
 Hs = List Held
@@ -66,7 +66,7 @@ mutual
   rows_count no_rows d rest k = none_more rest k
   rows_count (row c os rs) d rest k =
       both_count (count_amongs c) (count_in_others os + count_in_rows rs) (λ r. amongs c d r) (λ r. amongs_of_others os d (amongs_of_rows rs d r)) (tree_counts c d)
-        (both_count (count_in_others os) (count_in_rows rs) (λ r. amongs_of_others os d r) (λ r. amongs_of_rows rs d r) (others_count os d) (rows_count rs d)) rest k
+      (both_count (count_in_others os) (count_in_rows rs) (λ r. amongs_of_others os d r) (λ r. amongs_of_rows rs d r) (others_count os d) (rows_count rs d)) rest k
 
   pub others_count : (os : Others) (d : ℕ) → Counts (count_in_others os) (λ rest. amongs_of_others os d rest)
   others_count no_others d rest k = none_more rest k
@@ -105,9 +105,14 @@ chosen_put s gs d k rest a h fits starts groups = go (nat_eq k 1) refl where
       let inside = fits_inside k (d, s, gs) (amongs_of_starter s d (amongs_of_groups gs d rest)) a e fits in
       let g1 = placed_groups (put_in_groups gs (k - 1 - count_in_starter s) a) d in
       let s1 = placed_starter (put_in_starter s (k - 1) a) d in
-      let tail = behind_it (placed_starter s d) (starter_before s d) (placed_groups gs d close) h.1.1 in
-      (h.0, (h.1.0, with_behind s1 (starter_before (put_in_starter s (k - 1) a) d) (g1 close) (starts inside)
-        (with_behind g1 (groups_before (put_in_groups gs (k - 1 - count_in_starter s) a) d) close (groups inside) (behind_it (placed_groups gs d) (groups_before gs d) close tail))))
+      let tail = behind_it (placed_starter s d) (starter_before s d) (placed_groups gs d close) h.1.1 in (
+        h.0,
+        (
+          h.1.0,
+          with_behind s1 (starter_before (put_in_starter s (k - 1) a) d) (g1 close) (starts inside)
+              (with_behind g1 (groups_before (put_in_groups gs (k - 1 - count_in_starter s) a) d) close (groups inside) (behind_it (placed_groups gs d) (groups_before gs d) close tail)),
+        ),
+      )
 
 mutual
   pub tree_put : (c : Tree) (d k : ℕ) (rest : Hs) (a : Starter × Groups) → AreShallow (placed c d []) → FitsAt k (amongs c d rest) a → AreShallow (placed (put_among c k a) d [])
@@ -141,7 +146,7 @@ mutual
       let s0 = placed_starter s d in
       let tail = behind_it s0 (starter_before s d) (g0 close) h.1.1 in
       chosen_put s gs d k rest a h fits (λ inside. starter_put s d (k - 1) (amongs_of_groups gs d rest) a (by_itself s0 (starter_before s d) (g0 close) h.1.1) inside)
-        (λ inside. groups_put gs d (k - 1 - count_in_starter s) rest a (by_itself g0 (groups_before gs d) close tail) (fits_behind (count_in_starter s) (λ r. amongs_of_starter s d r) (starter_counts s d) (k - 1) (amongs_of_groups gs d rest) a inside))
+      (λ inside. groups_put gs d (k - 1 - count_in_starter s) rest a (by_itself g0 (groups_before gs d) close tail) (fits_behind (count_in_starter s) (λ r. amongs_of_starter s d r) (starter_counts s d) (k - 1) (amongs_of_groups gs d rest) a inside))
 
   pub rows_put : (rs : Rows) (d k : ℕ) (rest : Hs) (a : Starter × Groups) → AreShallow (placed_rows rs d []) → FitsAt k (amongs_of_rows rs d rest) a → AreShallow (placed_rows (put_in_rows rs k a) d [])
   rows_put no_rows d k rest a h fits = h
@@ -193,7 +198,7 @@ mutual
       let now = (t.open_, d + 1) ∷ new ((t.close_, d + 1) ∷ placed_groups next d []) in
       let whole : AreShallow now = (inner.0, with_behind new (rows_before (put_in_rows rs k a) (d + 1 + 1)) ((t.close_, d + 1) ∷ placed_groups next d []) first (tail.0, second)) in
       with_behind (placed_entry e d) (entry_before e d) (placed_entries es d now) (by_itself (placed_entry e d) (entry_before e d) (placed_entries es d bracketed_) h)
-        (with_behind (placed_entries es d) (entries_before es d) now (by_itself (placed_entries es d) (entries_before es d) bracketed_ strings) whole)
+      (with_behind (placed_entries es d) (entries_before es d) now (by_itself (placed_entries es d) (entries_before es d) bracketed_ strings) whole)
 
 -- a routine's body with another among that is shallow where the old one is
 pub body_put : (b : Tree × Others) (k : ℕ) (a : Starter × Groups) → AreShallow (places_in body b) → FitsAt k (amongs_of_body b) a → AreShallow (places_in body (put_in_body b k a))

@@ -1,7 +1,7 @@
 -- Two trees of a text with the same tokens are one.
-use Rattle.std.proofs.Common.{◌≡◌, List, [], ◌∷◌, ◌∙◌, sym, ap}
+use Rattle.std.proofs.Common.{List, [], ◌∷◌, ◌∙◌, sym, ap}
 use Rattle.sbl_grammar.specs.Terminal.{Terminal}
-use Rattle.sbl_grammar.specs.Tree.{Argument, Term, Tree, Others, Starter, Groups, chosen, argument_terminal}
+use Rattle.sbl_grammar.specs.Tree.{chosen, argument_terminal}
 use Rattle.sbl_grammar.specs.Texts.{Text, TreeOf, tokens_of}
 use Rattle.sbl_grammar.specs.Texts as texts
 use Rattle.sbl_grammar.specs.Laws.{TreesAreOne}

@@ -1,5 +1,5 @@
 -- One step of the walk to an among, and what is shallow there.
-use Rattle.std.proofs.Common.{◌≡◌, ℕ, ◌+◌, ◌-◌, ◌^◌, ◌≤◌, min, Bool, true, false, nat_eq, List, [], ◌∷◌, map, Option, Some, None, if◌then◌else◌, refl, sym, ap, subst, ◌∙◌, arith}
+use Rattle.std.proofs.Common.{◌≡◌, ℕ, ◌+◌, ◌-◌, ◌^◌, ◌≤◌, min, Bool, false, nat_eq, List, [], ◌∷◌, map, Option, Some, if◌then◌else◌, sym, ap, subst, ◌∙◌, arith}
 use denote.Ref.{Bor}
 use Rattle.sbl_grammar.specs.declared.tree.Count.{Count}
 use Rattle.sbl_grammar.specs.declared.tree.Among.{Among}
@@ -9,7 +9,6 @@ use Rattle.sbl_grammar.specs.declared.tree.Row.{Row}
 use Rattle.sbl_grammar.specs.declared.finding.Found.{Found}
 use Rattle.sbl_grammar.specs.declared.finding.Found.TheVariants as found
 use Rattle.sbl_grammar.specs.Terminal as t
-use Rattle.sbl_grammar.specs.Tree as trees
 use Rattle.sbl_grammar.specs.Tree.{Tree, bracket, counted, limited, chosen, Rows, Others, Starter, starter, Groups, Entry, Expression}
 use Rattle.sbl_grammar.specs.Amongs.{Held, amongs, amongs_of_rows, amongs_of_others, amongs_of_starter, amongs_of_groups, nth_held}
 use Rattle.sbl_grammar.specs.Found.{Finds}
@@ -194,7 +193,7 @@ found_in_groups r n inside m d s all gs bare ne is same f g h =
     let found_ = g (groups_in s all gs bare d same h) bare in
     let first : (rest : Hs) → nth_held n ((d, s, all) ∷ amongs_of_starter s d rest) ≡ nth_held m rest = λ rest. past_first n inside d m s all (amongs_of_starter s d rest) _ ne is (f (starter_in s all d h) rest) in
     finds_there r n (λ rest. (d, s, all) ∷ amongs_of_starter s d (amongs_of_groups (groups_of gs bare) d rest)) (λ rest. amongs (chosen s all) d rest) (λ rest. ap (λ (x : Groups). (d, s, all) ∷ amongs_of_starter s d (amongs_of_groups x d rest)) (sym same))
-      (find_both r n m (λ rest. (d, s, all) ∷ amongs_of_starter s d rest) (λ rest. amongs_of_groups (groups_of gs bare) d rest) first found_)
+    (find_both r n m (λ rest. (d, s, all) ∷ amongs_of_starter s d rest) (λ rest. amongs_of_groups (groups_of gs bare) d rest) first found_)
 
 -- ---- one turn of a loop: what holds before it
 

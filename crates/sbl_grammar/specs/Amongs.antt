@@ -1,6 +1,6 @@
 -- The amongs of a tree, in the order of the word `among`, and a tree in which another stands in the place of one.
-use Rattle.std.specs.Prelude.{◌≡◌, ℕ, zero, suc, ◌+◌, ◌-◌, List, [], ◌∷◌, Option, Some, None, nat_eq, if◌then◌else◌}
-use Rattle.sbl_grammar.specs.Tree.{Tree, bracket, single, quoted, called, excluded, prefixed, counted, moved, named, edited, limited, assigned, compared, values_compared, chosen, Rows, no_rows, row, Others, no_others, joined, Starter, no_starter, starter, Groups, bare, group}
+use Rattle.std.specs.Prelude.{◌≡◌, ℕ, ◌+◌, ◌-◌, List, [], ◌∷◌, Option, Some, None, nat_eq, if◌then◌else◌}
+use Rattle.sbl_grammar.specs.Tree.{Tree, bracket, prefixed, counted, limited, chosen, Rows, no_rows, row, Others, no_others, joined, Starter, no_starter, starter, Groups, bare, group}
 use Rattle.sbl_grammar.specs.Places.{placed}
 use Rattle.sbl_grammar.specs.Reading.{AreShallow}
 

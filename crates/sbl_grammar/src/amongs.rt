@@ -148,12 +148,7 @@ fn put_in_rows(
 }
 
 #[cycle(put_among)]
-fn put_in_row(
-    alloc: Global,
-    row: &Row,
-    at: u64,
-    among: &Among,
-) -> Result<(Row, u64), AllocError>
+fn put_in_row(alloc: Global, row: &Row, at: u64, among: &Among) -> Result<(Row, u64), AllocError>
     ensures put { IfOk result (λ x. view_row x.0 ≡ put_in_body (view_row row.now) at (view_among among.now)) }
     ensures rest { IfOk result (λ x. x.1 ≡ at - count_amongs (view_row row.now).0 - count_in_others (view_row row.now).1) }
 {

@@ -19,9 +19,9 @@ mod tokens;
 mod tree;
 
 pub use amongs::put_in_place;
+pub use copies::{copy_among, copy_name, copy_plain, copy_row};
 pub use counting::has_as_many_amongs;
 pub use finding::nth_among;
-pub use copies::{copy_among, copy_name, copy_plain, copy_row};
 pub use reading::{one_fault, one_part, one_tree, parse, parse_among, parse_body, parse_terms};
 pub use role::Role;
 pub use tree::{

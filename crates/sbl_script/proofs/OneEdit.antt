@@ -1,5 +1,5 @@
 -- A text makes one script of a script, or has one fault.
-use Rattle.std.proofs.Common.{◌≡◌, ◌⊎◌, ℕ, Bool, true, false, List, length, Option, Some, None, Result, Ok, Err, refl, sym, ap, subst, ◌∙◌, inl, inr}
+use Rattle.std.proofs.Common.{◌≡◌, ℕ, Bool, true, false, List, length, Result, Ok, Err, refl, sym, ap, subst, ◌∙◌, inl, inr}
 use Rattle.sbl_text.specs.declared.fault.ScriptFault.{ScriptFault}
 use Rattle.sbl_text.specs.Tokens.{Placed}
 use Rattle.sbl_grammar.specs.Tree.{Item}
@@ -9,7 +9,7 @@ use Rattle.sbl_script.specs.declared.edit_fault.EditFault.{EditFault}
 use Rattle.sbl_script.specs.declared.edit_fault.EditFault.TheVariants as edits
 use Rattle.sbl_script.specs.Parsed.{Source}
 use Rattle.sbl_script.specs.Checks.{fault_of}
-use Rattle.sbl_script.specs.Reading.{IsUnread, first_left_out, terminals}
+use Rattle.sbl_script.specs.Reading.{IsUnread, terminals}
 use Rattle.sbl_script.specs.Edits.{ScriptEdit, Home, IsEdited, IsSubstituted, IsFaultAt, IsCheckFaultWith, IsEditFault, home, items_with, routine_name, state_before}
 use Rattle.sbl_script.proofs.OneReading.{Known, placed_one, text_is_one, no_text_fault, unread_is_one, no_unread, some_one, some_none, same_source}
 

@@ -21,8 +21,8 @@ pub fn one_reading()
     one_fault();
 }
 
-/// A text makes one script of a script, or it has one fault as an edit, and never both: `Script::with_routine` is a function
-/// of the script, the name and the text, want of memory aside.
+/// A text makes one script of a script, or it has one fault as an edit, and never both: `Script::with_routine` and
+/// `Script::with_among` are functions of the script, of what is replaced and of the text, want of memory aside.
 pub fn one_edit()
     ensures script { EditIsOne }
     ensures fault { EditFaultIsOne }

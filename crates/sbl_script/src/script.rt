@@ -150,6 +150,7 @@ impl Model for Script {
 impl Script {
     ghost use Rattle.sbl_script.specs.Parsed.{source_of, body_of};
     ghost use Rattle.std.specs.Prelude.{Err};
+    ghost use Rattle.sbl_grammar.specs.Places.{places};
     ghost use Rattle.sbl_grammar.specs.Texts.{places_in};
     ghost use Rattle.sbl_grammar.specs.Reading.{AreShallow};
     ghost use Rattle.sbl_text.specs.Tokens.{placed_of};
@@ -294,6 +295,13 @@ impl Script {
     /// A script is well declared: nothing that uses it checks it again.
     pub fn is_well_declared(&self)
         ensures { WellDeclared (source_of self.now).items (source_of self.now).external }
+    {
+        let _ = &self.external;
+    }
+
+    /// Nothing in a script stands deeper than 64.
+    pub fn is_shallow(&self)
+        ensures { AreShallow (places (source_of self.now).items) }
     {
         let _ = &self.external;
     }

@@ -52,12 +52,7 @@ fn an_among_is_told_by_its_number(rt: HostRuntime) {
             Some(EditFault::AmongCount),
         ),
         ("next", 1, "among ( 'x' )", Some(EditFault::NoAmong)),
-        (
-            "among ( ( among ( 'b' ) ) 'a' )",
-            2,
-            "among ( 'x' )",
-            None,
-        ),
+        ("among ( ( among ( 'b' ) ) 'a' )", 2, "among ( 'x' )", None),
         (
             "among ( ( among ( 'b' ) ) 'a' )",
             1,
@@ -65,7 +60,11 @@ fn an_among_is_told_by_its_number(rt: HostRuntime) {
             None,
         ),
     ] {
-        assert_eq!(rt; refused_among(&rt, rt.alloc(), body, k, text), want, "{body}: {k}: {text}");
+        assert_eq!(rt;
+            refused_among(&rt, rt.alloc(), body, k, text),
+            want,
+            "{body}: {k}: {text}"
+        );
     }
 }
 
@@ -90,11 +89,18 @@ fn what_is_missing_comes_before_the_text(rt: HostRuntime) {
             EditFault::Script(ScriptFault::Undeclared { item: 4 }),
         ),
     ] {
-        assert_eq!(rt; script.with_among(rt.alloc(), name, k, text).err(), Some(want), "{name} {k} {text}");
+        assert_eq!(rt;
+            script.with_among(rt.alloc(), name, k, text).err(),
+            Some(want),
+            "{name} {k} {text}"
+        );
     }
-    assert_eq!(rt; script.with_routine(rt.alloc(), "nope", "").err(), Some(EditFault::NoRoutine));
-    assert_eq!(
-        rt; script.with_routine(rt.alloc(), "tail", "nowhere").err(),
+    assert_eq!(rt;
+        script.with_routine(rt.alloc(), "nope", "").err(),
+        Some(EditFault::NoRoutine)
+    );
+    assert_eq!(rt;
+        script.with_routine(rt.alloc(), "tail", "nowhere").err(),
         Some(EditFault::Script(ScriptFault::Undeclared { item: 4 }))
     );
 }
@@ -144,23 +150,35 @@ fn depth_counts_from_the_place(rt: HostRuntime) {
     let at_65 = "among ( 'a' ( not not not next ) )";
     let place = 26;
     assert_eq!(rt; refused_among(&rt, rt.alloc(), deep, 1, at_64), None);
-    assert_eq!(
-        rt; refused_among(&rt, rt.alloc(), deep, 1, at_65),
+    assert_eq!(rt;
+        refused_among(&rt, rt.alloc(), deep, 1, at_65),
         Some(EditFault::Script(ScriptFault::TooDeep { place }))
     );
-    assert_eq!(rt; refused_among(&rt, rt.alloc(), "among ( 'a' )", 1, at_65), None);
+    assert_eq!(rt;
+        refused_among(&rt, rt.alloc(), "among ( 'a' )", 1, at_65),
+        None
+    );
 }
 
 #[test]
 fn escapes_are_those_before_the_item(rt: HostRuntime) {
-    let text = "stringescapes {} stringdef a 'x' externals ( stem ) define stem as among ( 'b' ) stringdef a 'y' stringdef c 'z' stringescapes []";
+    let text =
+        "stringescapes {} stringdef a 'x' externals ( stem ) define stem as among ( 'b' ) stringdef a 'y' stringdef c 'z' stringescapes []";
     let script = Script::parse(rt.alloc(), text.as_bytes(), "stem").expect(&rt, "a script");
     let taken = script.with_among(rt.alloc(), "stem", 1, "among ( '{a}' 'x' )");
-    assert_eq!(rt; taken.err(), Some(EditFault::Script(ScriptFault::RepeatedString { item: 4 })));
+    assert_eq!(rt;
+        taken.err(),
+        Some(EditFault::Script(ScriptFault::RepeatedString { item: 4 }))
+    );
     let taken = script.with_among(rt.alloc(), "stem", 1, "among ( '{a}' '[a]' 'y' )");
     assert_eq!(rt; taken.err(), None);
     let taken = script.with_routine(rt.alloc(), "stem", "'{c}'");
-    assert!(rt; matches!(taken.err(), Some(EditFault::Script(ScriptFault::UnknownEscape { place: _ }))));
+    assert!(rt;
+        matches!(
+            taken.err(),
+            Some(EditFault::Script(ScriptFault::UnknownEscape { place: _ }))
+        )
+    );
 }
 
 #[test]
@@ -172,20 +190,56 @@ fn the_whole_item_is_checked(rt: HostRuntime) {
             "among ( ( next ) 'a' )",
             ScriptFault::Starter { item },
         ),
-        ("among ( 'a' )", "among ( 'a' stem nowhere )", ScriptFault::Syntax { place: 17 }),
-        ("among ( 'a' )", "among ( 'a' nowhere )", ScriptFault::Undeclared { item }),
-        ("among ( 'a' )", "among ( 'a' ( set stem ) )", ScriptFault::WrongKind { item }),
-        ("among ( 'a' )", "among ( 'a' 'b' ( next ) 'a' )", ScriptFault::RepeatedString { item }),
-        ("among ( 'a' )", "among ( )", ScriptFault::EmptyAmong { item }),
-        ("among ( 'a' )", "among ( 'a' ( substring ) )", ScriptFault::Substring { item }),
-        ("backwards among ( 'a' )", "among ( 'a' stem )", ScriptFault::WrongMode { item }),
+        (
+            "among ( 'a' )",
+            "among ( 'a' stem nowhere )",
+            ScriptFault::Syntax { place: 17 },
+        ),
+        (
+            "among ( 'a' )",
+            "among ( 'a' nowhere )",
+            ScriptFault::Undeclared { item },
+        ),
+        (
+            "among ( 'a' )",
+            "among ( 'a' ( set stem ) )",
+            ScriptFault::WrongKind { item },
+        ),
+        (
+            "among ( 'a' )",
+            "among ( 'a' 'b' ( next ) 'a' )",
+            ScriptFault::RepeatedString { item },
+        ),
+        (
+            "among ( 'a' )",
+            "among ( )",
+            ScriptFault::EmptyAmong { item },
+        ),
+        (
+            "among ( 'a' )",
+            "among ( 'a' ( substring ) )",
+            ScriptFault::Substring { item },
+        ),
+        (
+            "backwards among ( 'a' )",
+            "among ( 'a' stem )",
+            ScriptFault::WrongMode { item },
+        ),
         (
             "backwards among ( 'a' )",
             "among ( 'a' ( backwards next ) )",
             ScriptFault::NestedBackwards { item },
         ),
-        ("among ( 'a' )", "among ( 'a' ( get ) )", ScriptFault::OutOfProfile { place: 14 }),
-        ("among ( 'a' )", "among ( 'a", ScriptFault::UnclosedString { place: 8 }),
+        (
+            "among ( 'a' )",
+            "among ( 'a' ( get ) )",
+            ScriptFault::OutOfProfile { place: 14 },
+        ),
+        (
+            "among ( 'a' )",
+            "among ( 'a",
+            ScriptFault::UnclosedString { place: 8 },
+        ),
     ] {
         let found = refused_among(&rt, rt.alloc(), body, 1, text);
         assert_eq!(rt; found, Some(EditFault::Script(want)), "{body}: {text}");

@@ -1,7 +1,6 @@
-use Rattle.std.proofs.Common.{◌≡◌, ◌-◌, ◌+◌, ◌∷◌, ◌++◌, ℕ, List, [], drop, map, refl, sym, ap, ◌∙◌}
+use Rattle.std.proofs.Common.{◌+◌, ◌∷◌, List, drop, map, ap, ◌∙◌}
 use Rattle.std.proofs.lemmas.Bool.{ne_eqb}
 use Rattle.sbl_grammar.specs.Tree as trees
-use Rattle.sbl_grammar.specs.Amongs.{put_among, put_in_rows}
 use Rattle.sbl_grammar.specs.View as view
 use Rattle.sbl_grammar.proofs.Views as views
 use Rattle.sbl_grammar.proofs.Putting as p

@@ -1,4 +1,4 @@
-use Rattle.std.proofs.Common.{rules, ◌≡◌, ◌+◌, ◌∷◌, List, drop, map, sym, ap, ◌∙◌}
+use Rattle.std.proofs.Common.{◌+◌, ◌∷◌, drop, map, sym, ap, ◌∙◌}
 use Rattle.std.proofs.lemmas.Bool.{ne_eqb}
 use Rattle.sbl_grammar.specs.Tree as trees
 use Rattle.sbl_grammar.specs.View as view
@@ -12,7 +12,7 @@ use Rattle.sbl_grammar.proofs.finding.+find.Goals as goal
 pub in_among-returns-in-Behind : goal.in_among-returns-in-Behind
 in_among-returns-in-Behind t c =
     f.found_in_groups c.in_groups.result c.args.number c.saturating_sub-inside.result c.in-Behind.number c.args.depth (view.view_among c.args.among.now).0 (view.view_among c.args.among.now).1 (map view.view_group (out-Among c.args.among.now).groups.items) (map view.view_entry (out-Among c.args.among.now).bare.items)
-      (ne_eqb c.args.number 1 c.if-number-eq1.false) c.saturating_sub-inside.ensures (f.seen_groups c.args.among.now) c.in-Behind.ensures c.in_groups.ensures
+    (ne_eqb c.args.number 1 c.if-number-eq1.false) c.saturating_sub-inside.ensures (f.seen_groups c.args.among.now) c.in-Behind.ensures c.in_groups.ensures
 
 pub in_among-returns-in-There : goal.in_among-returns-in-There
 in_among-returns-in-There t c =

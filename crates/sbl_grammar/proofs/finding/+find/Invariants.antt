@@ -1,4 +1,4 @@
-use Rattle.std.proofs.Common.{◌≡◌, ◌≤◌, List, [], drop}
+use Rattle.std.proofs.Common.{◌≡◌, List, [], drop}
 use Rattle.sbl_grammar.specs.Amongs.{Held, nth_held, amongs_of_rows, amongs_of_others, amongs_of_groups}
 use Rattle.sbl_grammar.specs.Places.{placed_rows, placed_others, placed_groups}
 use Rattle.sbl_grammar.specs.Reading.{AreShallow}

@@ -1,4 +1,4 @@
-use Rattle.std.proofs.Common.{◌≡◌, ◌∷◌, List, ap, sym, ◌∙◌}
+use Rattle.std.proofs.Common.{◌∷◌, List, ap, sym, ◌∙◌}
 use Rattle.std.proofs.lemmas.Result.{err_from_is_err_and}
 use Rattle.sbl_grammar.specs.Terminal.{Terminal, left}
 use Rattle.sbl_grammar.specs.Tree as trees

@@ -1,8 +1,6 @@
 use Rattle.std.proofs.Common.{[], arith, ◌∙◌}
 use Rattle.sbl_grammar.specs.View.{view_among}
-use Rattle.sbl_grammar.proofs.Descent as d
 use Rattle.sbl_grammar.proofs.Whole.{some_left, read_among}
-use Rattle.std.proofs.lemmas.Result.{err_from_is_err_and}
 use Rattle.sbl_grammar.proofs.reading.whole_among.Goals as goal
 
 pub returns-then-rest-tokens-clause-fault : goal.returns-then-rest-tokens-clause-fault

@@ -1,9 +1,9 @@
-use Rattle.std.proofs.Common.{rules, ◌≡◌, ◌⊎◌, List, ℕ, None, Some, true, false, length, map, inr, refl, sym, ap, subst, ◌∙◌}
+use Rattle.std.proofs.Common.{rules, ◌≡◌, ◌⊎◌, List, None, Some, true, false, length, map, inr, ap, subst, ◌∙◌}
 use Rattle.std.proofs.lemmas.Result.{err_from_is_err_and}
 use Rattle.sbl_text.specs.declared.fault.ScriptFault.TheVariants as fault
 use Rattle.sbl_text.specs.declared.token.Token.{Token}
 use Rattle.sbl_text.specs.Tokens.{placed_of}
-use Rattle.sbl_grammar.specs.Amongs.{Held, amongs_of_body, count_in_among, put_in_body}
+use Rattle.sbl_grammar.specs.Amongs.{Held, amongs_of_body}
 use Rattle.sbl_grammar.specs.Places.{places}
 use Rattle.sbl_grammar.specs.Reading.{AreShallow, IsReadAs}
 use Rattle.sbl_grammar.specs.Texts as texts
@@ -12,7 +12,7 @@ use Rattle.sbl_grammar.specs.View.{RowView, view_among, view_items, view_row}
 use Rattle.sbl_script.specs.Checks.{fault_of}
 use Rattle.sbl_script.specs.Parsed.{source_of}
 use Rattle.sbl_script.specs.Reading.{IsUnread, first_left_out, terminals}
-use Rattle.sbl_script.specs.Edits.{among, body, home, home_of_among, home_of_body, items_with, routine_of}
+use Rattle.sbl_script.specs.Edits.{among, home_of_among, items_with, routine_of}
 use Rattle.sbl_script.proofs.Editing as editing
 use Rattle.sbl_script.proofs.Shallow.{fits, routine_shallow}
 use Rattle.sbl_script.proofs.script.Script.with_among.Goals as goal
