@@ -22,7 +22,7 @@ use Rattle.sbl_machine.specs.Outcome.{Outcome', Stem, Refused, outcome_of}
 use Rattle.sbl_machine.specs.declared.outcome.Outcome.{Outcome}
 use Rattle.sbl_machine.specs.declared.outcome.Outcome.TheVariants as code
 use Rattle.sbl_bench.specs.Classes.{Pair, class_at, class_of, pair_cmp, sorted, stem_pairs, with_pair}
-use Rattle.sbl_bench.specs.Kept.{Entry, AreFresh, words_in}
+use Rattle.sbl_bench.specs.Kept.{KeptWord, AreFresh, words_in}
 use Rattle.sbl_bench.specs.Pairs.{ArePaired, Key, Text, find, has, has_stem, is_stem, key_cmp, plain}
 use Rattle.sbl_bench.specs.Rows.{Row, rows_of}
 use Rattle.sbl_bench.proofs.PairFacts.{then_eq}
@@ -58,7 +58,7 @@ mem-sorted (p ∷ ps) = All-cons (λ q. is_in q (sorted (p ∷ ps)) ≡ true) p 
 
 -- ---- the pairs of the entries
 
-abbrev pairs_of : List Entry → List Pair
+abbrev pairs_of : List KeptWord → List Pair
 pairs_of es = stem_pairs (map shown es)
 
 -- a stem and a word, taken together
@@ -66,7 +66,7 @@ tied : (p q : Pair) → is_eq (pair_cmp p q) ≡ (bytes_eq p.0 q.0 && bytes_eq p
 tied p q = then_eq (slice_cmp nat_cmp p.0 q.0) (slice_cmp nat_cmp p.1 q.1) ∙ ap₂ (λ (a b : Bool). a && b) (is_eq-slice_cmp p.0 q.0) (is_eq-slice_cmp p.1 q.1)
 
 -- a word that an entry gives a stem has its pair
-has_pair : (es : List Entry) (s w : List ℕ) → has_stem s (find w es) ≡ true → is_in (s, w) (pairs_of es) ≡ true
+has_pair : (es : List KeptWord) (s w : List ℕ) → has_stem s (find w es) ≡ true → is_in (s, w) (pairs_of es) ≡ true
 has_pair [] s w h = cc h
 has_pair (e ∷ es) s w h = by (bytes_eq w e.0.items) refl (has_pair es s w)
   where
@@ -90,7 +90,7 @@ has_pair (e ∷ es) s w h = by (bytes_eq w e.0.items) refl (has_pair es s w)
     by false other rest = later (outcome_of e.1) (rest (sym (ap (λ (b : Bool). has_stem s (cond b (Some e.1) (find w es))) other) ∙ h))
 
 -- each pair of the entries, where no word stands twice, is one that the set has
-all_kept : (set : List Pair) (es : List Entry) → IsDistinct (λ (x y : Text). bytes_eq x.items y.items) (keys_of es)
+all_kept : (set : List Pair) (es : List KeptWord) → IsDistinct (λ (x y : Text). bytes_eq x.items y.items) (keys_of es)
     → ((t w : Text) → has_stem t.items (find w.items es) ≡ true → is_in (t.items, w.items) set ≡ true)
     → All (λ p. is_in p set ≡ true) (pairs_of es)
 unfolding IsDistinct
@@ -98,7 +98,7 @@ all_kept set [] unique there = λ k d h. absurd (omega (arith, h))
 all_kept set (e ∷ es) unique there = by e.1 refl (all_kept set es unique.1 (λ t w h. there t w (behind t w h)))
   where
     -- a word is not found behind its own place
-    absent : (fs : List Entry) → AllByRecursion (λ (y : Text). bytes_eq e.0.items y.items ≡ false) (keys_of fs) → find e.0.items fs ≡ None
+    absent : (fs : List KeptWord) → AllByRecursion (λ (y : Text). bytes_eq e.0.items y.items ≡ false) (keys_of fs) → find e.0.items fs ≡ None
     absent [] a = refl
     absent (f ∷ fs) a = rw a.0 (absent fs a.1)
 
@@ -135,7 +135,7 @@ mem-plain [] q = refl
 mem-plain (k ∷ ks) q = ap (λ (b : Bool). is_eq (key_cmp q k) || b) (mem-plain ks q)
 
 -- the pairs that are kept are those of the rows in order
-pub kept_sorted : (script : Source) (es : List Entry) (set : BTreeSet Key) → AreFresh script es → IsDistinct (λ (x y : Text). bytes_eq x.items y.items) (keys_of es)
+pub kept_sorted : (script : Source) (es : List KeptWord) (set : BTreeSet Key) → AreFresh script es → IsDistinct (λ (x y : Text). bytes_eq x.items y.items) (keys_of es)
     → ArePaired es set → IsStrictlySortedBy key_cmp set.keys → All (λ k. has set k ≡ true) set.keys
     → map plain set.keys ≡ sorted (stem_pairs (rows_of script (words_in es)))
 kept_sorted script es set fresh unique paired ordered found =
@@ -156,7 +156,7 @@ kept_sorted script es set fresh unique paired ordered found =
 -- ---- the class of one word
 
 -- the row of a word that has an entry
-pub row_found : (script : Source) (word : List ℕ) (es : List Entry) → AreFresh script es → find_row (λ (r : Row). bytes_eq word r.word) (rows_of script (words_in es)) ≡ option_map (λ o. record { word = word; outcome = outcome_of o }) (find word es)
+pub row_found : (script : Source) (word : List ℕ) (es : List KeptWord) → AreFresh script es → find_row (λ (r : Row). bytes_eq word r.word) (rows_of script (words_in es)) ≡ option_map (λ o. record { word = word; outcome = outcome_of o }) (find word es)
 row_found script word [] fresh = refl
 row_found script word (e ∷ es) fresh = by (bytes_eq word e.0.items) refl (row_found script word es fresh.1)
   where
@@ -166,14 +166,14 @@ row_found script word (e ∷ es) fresh = by (bytes_eq word e.0.items) refl (row_
     by false other rest = rw other rest
 
 -- the class of a word with this outcome, or of a word that has no entry
-pub class_sorted : (script : Source) (es : List Entry) (word : List ℕ) → AreFresh script es → (o : Option Outcome) → o ≡ find word es
+pub class_sorted : (script : Source) (es : List KeptWord) (word : List ℕ) → AreFresh script es → (o : Option Outcome) → o ≡ find word es
     → class_at (sorted (stem_pairs (rows_of script (words_in es)))) (option_map (λ o. record { word = word; outcome = outcome_of o }) o) ≡ class_of (rows_of script (words_in es)) word
 class_sorted script es word fresh o is =
     ap (λ (x : Option Outcome). class_at (sorted (stem_pairs (rows_of script (words_in es)))) (option_map (λ o. record { word = word; outcome = outcome_of o }) x)) is
     ∙ ap (class_at (sorted (stem_pairs (rows_of script (words_in es))))) (sym (row_found script word es fresh))
 
 -- the same by the pairs that are kept
-pub class_kept : (script : Source) (es : List Entry) (set : BTreeSet Key) (word : List ℕ) → AreFresh script es → IsDistinct (λ (x y : Text). bytes_eq x.items y.items) (keys_of es)
+pub class_kept : (script : Source) (es : List KeptWord) (set : BTreeSet Key) (word : List ℕ) → AreFresh script es → IsDistinct (λ (x y : Text). bytes_eq x.items y.items) (keys_of es)
     → ArePaired es set → IsStrictlySortedBy key_cmp set.keys → All (λ k. has set k ≡ true) set.keys
     → (o : Option Outcome) → o ≡ find word es → class_at (map plain set.keys) (option_map (λ o. record { word = word; outcome = outcome_of o }) o) ≡ class_of (rows_of script (words_in es)) word
 class_kept script es set word fresh unique paired ordered found o is =

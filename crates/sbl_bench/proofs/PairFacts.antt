@@ -10,7 +10,7 @@ use Rattle.std.proofs.lemmas.Slice.Eq.{bytes_eq-Decides}
 use Rattle.sbl_machine.specs.Outcome as rows
 use Rattle.sbl_machine.specs.Outcome.{outcome_of}
 use Rattle.sbl_machine.specs.declared.outcome.Outcome.{Outcome}
-use Rattle.sbl_bench.specs.Kept.{Entry}
+use Rattle.sbl_bench.specs.Kept.{KeptWord}
 use Rattle.sbl_bench.specs.Pairs.{Key, Text, ArePaired, find, has, has_stem, is_pair_of, is_stem, key_cmp}
 
 pub then_eq : (a b : Ordering) → is_eq (ordering_then a b) ≡ (is_eq a && is_eq b)
@@ -56,7 +56,7 @@ removed_away : (a x : Bool) → (not (a && false) && x) ≡ x
 removed_away true x = refl
 removed_away false x = refl
 
-module _ (es fs : List Entry) (s n : BTreeSet Key) (word : List ℕ) (o : Outcome) (paired : ArePaired es s) where
+module _ (es fs : List KeptWord) (s n : BTreeSet Key) (word : List ℕ) (o : Outcome) (paired : ArePaired es s) where
   -- a new word comes with its outcome and its pair
   pub paired_add : find word es ≡ None
       → ((w : Text) → find w.items fs ≡ cond (bytes_eq word w.items) (Some o) (find w.items es))

@@ -9,22 +9,22 @@ use Rattle.std.proofs.lemmas.Bool.Decides.{nat_tests}
 use Rattle.std.proofs.lemmas.List.{length-map}
 use Rattle.std.proofs.lemmas.Option.{none-some}
 use Rattle.sbl_script.specs.Parsed.{Source}
-use Rattle.sbl_bench.specs.Kept.{Entry, words_in}
+use Rattle.sbl_bench.specs.Kept.{KeptWord, words_in}
 use Rattle.sbl_bench.specs.declared.fault.EditFault.{EditFault}
 use Rattle.sbl_bench.specs.declared.fault.EditFault.TheVariants as fault
-use Rattle.sbl_bench.specs.State.{State, most_runs}
+use Rattle.sbl_bench.specs.Contents.{Contents, max_runs}
 use Rattle.sbl_bench.specs.Edits.{Edit, Edits, Add, Remove, Replace, IsScriptAfter, edited, is_of_script, lacks_counts, refusal_of_add, runs_needed, wants_memory, words_after}
 use Rattle.sbl_bench.specs.Stops.{IsStop}
 use Rattle.sbl_bench.specs.Vocabulary.{is_word, without}
 
 -- behind all the tests a word is not refused
-accepted : (s : State) (word : List ℕ) → 0 < length word → length word ≤ 255 → is_word word s.words ≡ false → length s.words < 100000
+accepted : (s : Contents) (word : List ℕ) → 0 < length word → length word ≤ 255 → is_word word s.words ≡ false → length s.words < 100000
     → refusal_of_add s word ≡ None
 accepted s [] h most new room = absurd (omega (arith, h))
 accepted s (c ∷ cs) h most new room = rw (le-ltb 255 (length (c ∷ cs)) most, new, lt-leb 100000 (length s.words) room) refl
 
 -- the same of the words of some entries, by what the tests answered
-pub accepted_among : (script : Source) (es : List Entry) (count : ℕ) (word : List ℕ) (known : Bool) (n : ℕ) → 0 < length word → length word ≤ 255
+pub accepted_among : (script : Source) (es : List KeptWord) (count : ℕ) (word : List ℕ) (known : Bool) (n : ℕ) → 0 < length word → length word ≤ 255
     → known ≡ is_word word (words_in es) → known ≡ false → n ≡ length es → n < 100000
     → refusal_of_add (record { script = script; words = words_in es; count = count }) word ≡ None
 accepted_among script es count word known n some most there new size room =
@@ -40,7 +40,7 @@ filter_none word (w ∷ words) h =
     rw p.0 (filter_none word words p.1)
 
 -- a new word is the one that is run
-pub one_run : (s : State) (word : List ℕ) → is_word word s.words ≡ false → runs_needed s (Add word) ≡ 1
+pub one_run : (s : Contents) (word : List ℕ) → is_word word s.words ≡ false → runs_needed s (Add word) ≡ 1
 one_run s word new =
     ap length (filter-append (bytes_eq word) s.words (word ∷ []) ∙ ap (λ (ws : List (List ℕ)). ws ++ filter (bytes_eq word) (word ∷ [])) (filter_none word s.words new))
     ∙ rw ((bytes_eq-Decides word word).1 refl) refl
@@ -50,7 +50,7 @@ filter_off : (words : List (List ℕ)) → filter (λ w. false) words ≡ []
 filter_off [] = refl
 filter_off (w ∷ words) = filter_off words
 
-pub no_run : (s : State) (word : List ℕ) → runs_needed s (Remove word) ≡ 0
+pub no_run : (s : Contents) (word : List ℕ) → runs_needed s (Remove word) ≡ 0
 no_run s word = ap length (filter_off (without word s.words))
 
 -- an edit of the script runs them all
@@ -61,12 +61,12 @@ filter_on (w ∷ words) = ap (λ (ws : List (List ℕ)). w ∷ ws) (filter_on wo
 not_true : false ≡ true → ⊥
 not_true h = cc
 
-pub all_run : (s : State) (e : Edit) → is_of_script e ≡ true → runs_needed s e ≡ length s.words
+pub all_run : (s : Contents) (e : Edit) → is_of_script e ≡ true → runs_needed s e ≡ length s.words
 all_run s (Add word) h = absurd (not_true h)
 all_run s (Remove word) h = absurd (not_true h)
 all_run s (Replace what text) h = ap length (filter_on s.words)
 
-same_words : (s : State) (e : Edit) → is_of_script e ≡ true → words_after s e ≡ s.words
+same_words : (s : Contents) (e : Edit) → is_of_script e ≡ true → words_after s e ≡ s.words
 same_words s (Add word) h = absurd (not_true h)
 same_words s (Remove word) h = absurd (not_true h)
 same_words s (Replace what text) h = refl
@@ -79,21 +79,21 @@ wants (Replace what text) h = refl
 -- ---- adding a word
 
 -- where memory was refused before anything was run
-pub edits_nothing : (s : State) (word : List ℕ) → refusal_of_add s word ≡ None → Edits (Err fault.OutOfMemory) s (Add word) s
+pub edits_nothing : (s : Contents) (word : List ℕ) → refusal_of_add s word ≡ None → Edits (Err fault.OutOfMemory) s (Add word) s
 edits_nothing s word free = record { wanted = refl; is = inl (λ f refused. absurd (none-some f (sym free ∙ refused)), refl) }
 
 -- where no run can be counted any more
-pub counts_no_more : (s : State) (word : List ℕ) → refusal_of_add s word ≡ None → is_word word s.words ≡ false → s.count ≡ most_runs
+pub counts_no_more : (s : Contents) (word : List ℕ) → refusal_of_add s word ≡ None → is_word word s.words ≡ false → s.count ≡ max_runs
     → Edits (Err fault.MeterFull) s (Add word) s
 counts_no_more s word free new full = (inr (record { script = s.script; after = (free, refl); counts = rw (one_run s word new, full) refl; is = refl }), refl)
 
 -- where one more run can be counted
-one_left : (s : State) (word : List ℕ) → is_word word s.words ≡ false → s.count < most_runs → lacks_counts s (Add word) ≡ false
-one_left s word new small = rw (one_run s word new) (le-ltb (most_runs - s.count) 1 (omega (arith, small)))
+one_left : (s : Contents) (word : List ℕ) → is_word word s.words ≡ false → s.count < max_runs → lacks_counts s (Add word) ≡ false
+one_left s word new small = rw (one_run s word new) (le-ltb (max_runs - s.count) 1 (omega (arith, small)))
 
 -- the answer of the last step, which runs the word and puts it last
-pub adds : (r : Result (Unit {0}) EditFault) (s : State) (word : List ℕ) (words : List (List ℕ)) (count : ℕ) → refusal_of_add s word ≡ None
-    → is_word word s.words ≡ false → s.count < most_runs
+pub adds : (r : Result (Unit {0}) EditFault) (s : Contents) (word : List ℕ) (words : List (List ℕ)) (count : ℕ) → refusal_of_add s word ≡ None
+    → is_word word s.words ≡ false → s.count < max_runs
     → OnOk r (words ≡ s.words ++ word ∷ []) → OnOk r (count ≡ s.count + 1)
     → OnErr r (words ≡ s.words) → IfErr r (λ f. IsStop 1 f s.count count)
     → Edits r s (Add word) (record s { words = words; count = count })
@@ -129,15 +129,15 @@ adds (Err (fault.Script f)) s word words count free new small _ _ same stop = ab
 
 -- ---- removing a word
 
-pub no_word : (s : State) (word : List ℕ) → is_word word s.words ≡ false → Edits (Err fault.Absent) s (Remove word) s
+pub no_word : (s : Contents) (word : List ℕ) → is_word word s.words ≡ false → Edits (Err fault.Absent) s (Remove word) s
 no_word s word absent = (inl (absent, refl), refl)
 
-pub removes : (s : State) (word : List ℕ) (words : List (List ℕ)) → is_word word s.words ≡ true → words ≡ without word s.words
+pub removes : (s : Contents) (word : List ℕ) (words : List (List ℕ)) → is_word word s.words ≡ true → words ≡ without word s.words
     → Edits (Ok tt) s (Remove word) (record s { words = words })
 removes s word words there gone = record {
   script = s.script;
   after = (there, refl);
-  counts = rw (no_run s word) (le-ltb (most_runs - s.count) 0 (omega arith));
+  counts = rw (no_run s word) (le-ltb (max_runs - s.count) 0 (omega arith));
   is = λ i. record { script = s.script; words = gone i; count = kept i };
 }
   where
@@ -147,20 +147,20 @@ removes s word words there gone = record {
 -- ---- editing the script
 
 -- where enough counts are left for all words
-enough : (s : State) (e : Edit) (before needed : ℕ) → is_of_script e ≡ true → before ≡ s.count → needed ≡ length s.words → needed ≤ most_runs - before
+enough : (s : Contents) (e : Edit) (before needed : ℕ) → is_of_script e ≡ true → before ≡ s.count → needed ≡ length s.words → needed ≤ max_runs - before
     → lacks_counts s e ≡ false
-enough s e before needed h so many room = rw (all_run s e h, sym so, sym many) (le-ltb (most_runs - before) needed room)
+enough s e before needed h so many room = rw (all_run s e h, sym so, sym many) (le-ltb (max_runs - before) needed room)
 
 -- where fewer counts are left than there are words
-pub replaces_never : (s : State) (e : Edit) (p : Source) (count needed : ℕ) → is_of_script e ≡ true → IsScriptAfter s e p
-    → count ≡ s.count → needed ≡ length s.words → most_runs - count < needed → Edits (Err fault.MeterFull) s e s
+pub replaces_never : (s : Contents) (e : Edit) (p : Source) (count needed : ℕ) → is_of_script e ≡ true → IsScriptAfter s e p
+    → count ≡ s.count → needed ≡ length s.words → max_runs - count < needed → Edits (Err fault.MeterFull) s e s
 replaces_never s e p count needed h after so many full =
-    let test : nat_lt (most_runs - count) needed ≡ true = grind (arith, nat_tests) in
+    let test : nat_lt (max_runs - count) needed ≡ true = grind (arith, nat_tests) in
     (inr (record { script = p; after = after; counts = rw (all_run s e h, sym so, sym many) test; is = refl }), refl)
 
 -- where memory was refused after some runs
-pub replaces_nothing : (s : State) (e : Edit) (p : Source) (words : List (List ℕ)) (before needed count : ℕ) → is_of_script e ≡ true → IsScriptAfter s e p
-    → before ≡ s.count → needed ≡ length s.words → needed ≤ most_runs - before → words ≡ s.words
+pub replaces_nothing : (s : Contents) (e : Edit) (p : Source) (words : List (List ℕ)) (before needed count : ℕ) → is_of_script e ≡ true → IsScriptAfter s e p
+    → before ≡ s.count → needed ≡ length s.words → needed ≤ max_runs - before → words ≡ s.words
     → ((n : ℕ) × (n ≤ length s.words) × (count ≡ s.count + n))
     → Edits (Err fault.OutOfMemory) s e (record s { words = words; count = count })
 replaces_nothing s e p words before needed count h after so many room same ran = record {
@@ -174,8 +174,8 @@ replaces_nothing s e p words before needed count h after so many room same ran =
   });
 }
 
-pub replaces : (s : State) (e : Edit) (p : Source) (words : List (List ℕ)) (before needed count : ℕ) → is_of_script e ≡ true → IsScriptAfter s e p
-    → before ≡ s.count → needed ≡ length s.words → needed ≤ most_runs - before
+pub replaces : (s : Contents) (e : Edit) (p : Source) (words : List (List ℕ)) (before needed count : ℕ) → is_of_script e ≡ true → IsScriptAfter s e p
+    → before ≡ s.count → needed ≡ length s.words → needed ≤ max_runs - before
     → words ≡ s.words → count ≡ s.count + length s.words → Edits (Ok tt) s e (record { script = p; words = words; count = count })
 replaces s e p words before needed count h after so many room same counts = record {
   script = p;

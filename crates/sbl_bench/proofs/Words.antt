@@ -10,15 +10,15 @@ use Rattle.sbl_script.specs.Parsed.{Source}
 use Rattle.sbl_machine.specs.declared.outcome.Outcome.{Outcome}
 use Rattle.sbl_machine.specs.Outcome.{outcome_of, run_of}
 use Rattle.sbl_bench.specs.declared.fault.EditFault.{EditFault}
-use Rattle.sbl_bench.specs.Kept.{Entry, words_in, AreFresh, IsWord, IsKept}
-use Rattle.sbl_bench.specs.Rows.{Row, rows_of, most_steps}
+use Rattle.sbl_bench.specs.Kept.{KeptWord, words_in, AreFresh, IsWord, IsKept}
+use Rattle.sbl_bench.specs.Rows.{Row, rows_of, max_steps}
 use Rattle.sbl_bench.specs.Vocabulary.{is_word, without}
 
 abbrev pub is_key : List ℕ → Vec ℕ Global → Bool
 is_key word k = bytes_eq word k.items
 
 -- a word has an entry exactly where it is a word of the entries
-pub found_word : (word : List ℕ) (es : List Entry) → is_some (lookup (is_key word) es) ≡ is_word word (words_in es)
+pub found_word : (word : List ℕ) (es : List KeptWord) → is_some (lookup (is_key word) es) ≡ is_word word (words_in es)
 found_word word [] = refl
 found_word word (e ∷ es) = by (is_key word e.0) refl (found_word word es)
   where
@@ -28,24 +28,24 @@ found_word word (e ∷ es) = by (is_key word e.0) refl (found_word word es)
     by false h rest = rw h rest
 
 -- a new word has no entry
-pub not_found : (word : List ℕ) (es : List Entry) → is_word word (words_in es) ≡ false → lookup (is_key word) es ≡ None
+pub not_found : (word : List ℕ) (es : List KeptWord) → is_word word (words_in es) ≡ false → lookup (is_key word) es ≡ None
 not_found word es new = by (lookup (is_key word) es) (found_word word es ∙ new)
   where
     by : (o : Option Outcome) → is_some o ≡ false → o ≡ None
     by None h = refl
     by (Some x) h = cc
 
-pub words-push : (es : List Entry) (e : Entry) → words_in (es ++ e ∷ []) ≡ words_in es ++ e.0.items ∷ []
+pub words-push : (es : List KeptWord) (e : KeptWord) → words_in (es ++ e ∷ []) ≡ words_in es ++ e.0.items ∷ []
 words-push [] e = refl
 words-push (x ∷ es) e = ap (λ (ws : List (List ℕ)). x.0.items ∷ ws) (words-push es e)
 
-fresh-push : (script : Source) (es : List Entry) (e : Entry) → AreFresh script es → outcome_of e.1 ≡ run_of script e.0.items most_steps → AreFresh script (es ++ e ∷ [])
+fresh-push : (script : Source) (es : List KeptWord) (e : KeptWord) → AreFresh script es → outcome_of e.1 ≡ run_of script e.0.items max_steps → AreFresh script (es ++ e ∷ [])
 fresh-push script [] e h p = (p, tt)
 fresh-push script (x ∷ es) e h p = (h.0, fresh-push script es e h.1 p)
 
 -- a word that is run and put last
-pub kept-push : (script : Source) (es : List Entry) (e : Entry) → IsKept script es → IsWord e.0.items → length es < 100000
-    → outcome_of e.1 ≡ run_of script e.0.items most_steps → IsKept script (es ++ e ∷ [])
+pub kept-push : (script : Source) (es : List KeptWord) (e : KeptWord) → IsKept script es → IsWord e.0.items → length es < 100000
+    → outcome_of e.1 ≡ run_of script e.0.items max_steps → IsKept script (es ++ e ∷ [])
 kept-push script es e h word room ran = record {
   fresh = fresh-push script es e h.fresh ran;
   sound = subst (All IsWord) (sym (words-push es e)) (All-push IsWord (words_in es) e.0.items h.sound word);
@@ -53,23 +53,23 @@ kept-push script es e h word room ran = record {
 }
 
 -- the row that an entry shows
-abbrev pub shown : Entry → Row
+abbrev pub shown : KeptWord → Row
 shown e = record { word = e.0.items; outcome = outcome_of e.1 }
 
 -- fresh entries show the rows of their words
-pub rows_shown : (script : Source) (es : List Entry) → AreFresh script es → map shown es ≡ rows_of script (words_in es)
+pub rows_shown : (script : Source) (es : List KeptWord) → AreFresh script es → map shown es ≡ rows_of script (words_in es)
 rows_shown script [] h = refl
 rows_shown script (e ∷ es) h = λ i. record { word = e.0.items; outcome = h.0 i } ∷ rows_shown script es h.1 i
 
 -- entries that are kept, whether a word was put last or not
-pub kept_either : (script : Source) (es new : List Entry) (r : Result (Unit {0}) EditFault) → IsKept script es
+pub kept_either : (script : Source) (es new : List KeptWord) (r : Result (Unit {0}) EditFault) → IsKept script es
     → OnOk r (IsKept script new) → OnErr r (new ≡ es) → IsKept script new
 kept_either script es new (Ok u) kept more same = more
 kept_either script es new (Err f) kept more same = subst (IsKept script) (sym same) kept
 
 -- ---- a word that is taken out
 
-pub words-remove : (word : List ℕ) (es : List Entry) → words_in (remove_entry (is_key word) es) ≡ without word (words_in es)
+pub words-remove : (word : List ℕ) (es : List KeptWord) → words_in (remove_entry (is_key word) es) ≡ without word (words_in es)
 words-remove word [] = refl
 words-remove word (e ∷ es) = by (is_key word e.0) refl (words-remove word es)
   where
@@ -78,7 +78,7 @@ words-remove word (e ∷ es) = by (is_key word e.0) refl (words-remove word es)
     by true h rest = rw h refl
     by false h rest = rw h (ap (λ (ws : List (List ℕ)). e.0.items ∷ ws) rest)
 
-fresh-remove : (script : Source) (word : List ℕ) (es : List Entry) → AreFresh script es → AreFresh script (remove_entry (is_key word) es)
+fresh-remove : (script : Source) (word : List ℕ) (es : List KeptWord) → AreFresh script es → AreFresh script (remove_entry (is_key word) es)
 fresh-remove script word [] h = tt
 fresh-remove script word (e ∷ es) h = by (is_key word e.0) refl (fresh-remove script word es h.1)
   where
@@ -94,7 +94,7 @@ all-without P word (w ∷ ws) h = by (bytes_eq word w) refl (all-without P word 
     by true k rest = rw k (All-tail P w ws h)
     by false k rest = rw k (All-cons P w (without word ws) (All-head P w ws h) rest)
 
-short-remove : (word : List ℕ) (es : List Entry) → length (remove_entry (is_key word) es) ≤ length es
+short-remove : (word : List ℕ) (es : List KeptWord) → length (remove_entry (is_key word) es) ≤ length es
 short-remove word [] = omega arith
 short-remove word (e ∷ es) = by (is_key word e.0) refl (short-remove word es)
   where
@@ -102,7 +102,7 @@ short-remove word (e ∷ es) = by (is_key word e.0) refl (short-remove word es)
     by true k rest = rw k (omega arith)
     by false k rest = rw k (omega (arith, rest))
 
-pub kept-remove : (script : Source) (word : List ℕ) (es : List Entry) → IsKept script es → IsKept script (remove_entry (is_key word) es)
+pub kept-remove : (script : Source) (word : List ℕ) (es : List KeptWord) → IsKept script es → IsKept script (remove_entry (is_key word) es)
 kept-remove script word es h = record {
   fresh = fresh-remove script word es h.fresh;
   sound = subst (All IsWord) (sym (words-remove word es)) (all-without IsWord word (words_in es) h.sound);

@@ -8,9 +8,9 @@ use Rattle.sbl_machine.specs.declared.fault.RunFault.{RunFault}
 use Rattle.sbl_machine.specs.declared.outcome.Outcome.{Outcome}
 use Rattle.sbl_machine.specs.Names.{name_of}
 use Rattle.sbl_machine.specs.Outcome.{Outcome', Stem, Refused, outcome_of, run_of}
-use Rattle.sbl_bench.specs.Kept.{Entry}
+use Rattle.sbl_bench.specs.Kept.{KeptWord}
 use Rattle.sbl_bench.specs.Pairs.{Key, Text, find, has, has_stem, is_pair_of}
-use Rattle.sbl_bench.specs.Rows.{Row, row_of, most_steps}
+use Rattle.sbl_bench.specs.Rows.{Row, row_of, max_steps}
 use Rattle.sbl_bench.specs.declared.change.Change.{Change}
 
 -- a word and its new outcome, without where they lie in memory
@@ -37,9 +37,9 @@ is_outcome o None = false
 is_outcome o (Some p) = same_outcome (outcome_of p) o
 
 -- the words whose outcome under this script is another, in their order, with that outcome
-abbrev pub changes_of : Source → List Entry → List Row
+abbrev pub changes_of : Source → List KeptWord → List Row
 changes_of script [] = []
-changes_of script (e ∷ es) = with_change (same_outcome (outcome_of e.1) (run_of script e.0.items most_steps)) (row_of script e.0.items) (changes_of script es)
+changes_of script (e ∷ es) = with_change (same_outcome (outcome_of e.1) (run_of script e.0.items max_steps)) (row_of script e.0.items) (changes_of script es)
 
 -- whether q is the pair of a change
 abbrev pub any_pair : List Change → Key → Bool
@@ -50,15 +50,15 @@ abbrev pub is_changed : List Change → List ℕ → Bool
 is_changed changes word = list_any (λ c. bytes_eq c.word.items word) changes
 
 -- each change is that of a word in the vocabulary, with the outcome of a run under the script
-abbrev pub AreRun : Source → List Entry → List Change → Type 0
-AreRun script entries changes = All (λ c. (outcome_of c.outcome ≡ run_of script c.word.items most_steps) × IsSome (find c.word.items entries)) changes
+abbrev pub AreRun : Source → List KeptWord → List Change → Type 0
+AreRun script entries changes = All (λ c. (outcome_of c.outcome ≡ run_of script c.word.items max_steps) × IsSome (find c.word.items entries)) changes
 
 -- once the changes are made, each outcome is fresh, and the set has the pairs of the changes besides those of the entries
-pub record IsReady (script : Source) (entries : List Entry) (set : BTreeSet Key) (changes : List Change) : Type 0 where
+pub record IsReady (script : Source) (entries : List KeptWord) (set : BTreeSet Key) (changes : List Change) : Type 0 where
   pub run : AreRun script entries changes
-  pub fresh : (w : Text) → IfSome (find w.items entries) (λ o. (outcome_of o ≡ run_of script w.items most_steps) ⊎ (is_changed changes w.items ≡ true))
+  pub fresh : (w : Text) → IfSome (find w.items entries) (λ o. (outcome_of o ≡ run_of script w.items max_steps) ⊎ (is_changed changes w.items ≡ true))
   pub pairs : (q : Key) → has set q ≡ (any_pair changes q || has_stem q.0.items (find q.1.items entries))
 
 -- each outcome is that of a fresh run of its word
-abbrev pub AreAllFresh : Source → List Entry → Type 0
-AreAllFresh script entries = (w : Text) → IfSome (find w.items entries) (λ o. outcome_of o ≡ run_of script w.items most_steps)
+abbrev pub AreAllFresh : Source → List KeptWord → Type 0
+AreAllFresh script entries = (w : Text) → IfSome (find w.items entries) (λ o. outcome_of o ≡ run_of script w.items max_steps)

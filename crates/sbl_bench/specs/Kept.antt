@@ -5,8 +5,8 @@ use Rattle.std.specs.declared.alloc.Global.{Global}
 use Rattle.sbl_script.specs.Parsed.{Parsed, Source, source_of}
 use Rattle.sbl_machine.specs.declared.outcome.Outcome.{Outcome}
 use Rattle.sbl_machine.specs.Outcome.{outcome_of, run_of}
-use Rattle.sbl_bench.specs.Rows.{most_steps}
-use Rattle.sbl_bench.specs.State.{State, most_characters, most_words}
+use Rattle.sbl_bench.specs.Rows.{max_steps}
+use Rattle.sbl_bench.specs.Contents.{Contents, max_word_length, max_words}
 
 pub record Kept : Type 0 where
   pub script : Parsed
@@ -14,27 +14,27 @@ pub record Kept : Type 0 where
   pub count : ℕ
 
 -- the bench without where it lies in memory
-abbrev pub state_of : Kept → State
-state_of k = record { script = source_of k.script; words = k.words; count = k.count }
+abbrev pub contents_of : Kept → Contents
+contents_of k = record { script = source_of k.script; words = k.words; count = k.count }
 
 -- a word and its outcome, as they lie in memory
-abbrev pub Entry : Type 0
-Entry = Vec ℕ Global × Outcome
+abbrev pub KeptWord : Type 0
+KeptWord = Vec ℕ Global × Outcome
 
-abbrev pub words_in : List Entry → List (List ℕ)
+abbrev pub words_in : List KeptWord → List (List ℕ)
 words_in entries = map (λ e. e.0.items) entries
 
 -- a word that a vocabulary can have
 abbrev pub IsWord : List ℕ → Type 0
-IsWord word = (0 < length word) × (length word ≤ most_characters)
+IsWord word = (0 < length word) × (length word ≤ max_word_length)
 
 -- each outcome is that of a fresh run of its word
-abbrev pub AreFresh : Source → List Entry → Type 0
+abbrev pub AreFresh : Source → List KeptWord → Type 0
 AreFresh script [] = ⊤
-AreFresh script (e ∷ entries) = (outcome_of e.1 ≡ run_of script e.0.items most_steps) × AreFresh script entries
+AreFresh script (e ∷ entries) = (outcome_of e.1 ≡ run_of script e.0.items max_steps) × AreFresh script entries
 
 -- what holds of the entries at all times
-pub record IsKept (script : Source) (entries : List Entry) : Type 0 where
+pub record IsKept (script : Source) (entries : List KeptWord) : Type 0 where
   pub fresh : AreFresh script entries
   pub sound : All IsWord (words_in entries)
-  pub room : length entries ≤ most_words
+  pub room : length entries ≤ max_words

@@ -1,6 +1,6 @@
 pub mod Vocabulary
 pub mod Rows
-pub mod State
+pub mod Contents
 pub mod Edits
 pub mod OneVerdict
 pub mod Names

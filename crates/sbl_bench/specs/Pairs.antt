@@ -10,7 +10,7 @@ use Rattle.std.specs.Map.{lookup}
 use Rattle.std.specs.BTreeSet.{BTreeSet, contains}
 use Rattle.sbl_machine.specs.declared.outcome.Outcome.{Outcome}
 use Rattle.sbl_machine.specs.Outcome.{Outcome', Stem, Refused, outcome_of}
-use Rattle.sbl_bench.specs.Kept.{Entry}
+use Rattle.sbl_bench.specs.Kept.{KeptWord}
 
 abbrev pub Text : Type 0
 Text = Vec ℕ Global
@@ -20,7 +20,7 @@ abbrev pub Key : Type 0
 Key = Text × Text
 
 -- what the word's run gave
-abbrev pub find : List ℕ → List Entry → Option Outcome
+abbrev pub find : List ℕ → List KeptWord → Option Outcome
 find word entries = lookup (λ k. bytes_eq word k.items) entries
 
 -- whether the outcome is this stem
@@ -44,7 +44,7 @@ abbrev pub has : BTreeSet Key → Key → Bool
 has set q = contains key_cmp set q
 
 -- the set has exactly the pairs of the words that have a stem
-abbrev pub ArePaired : List Entry → BTreeSet Key → Type 0
+abbrev pub ArePaired : List KeptWord → BTreeSet Key → Type 0
 ArePaired entries set = (q : Key) → has set q ≡ has_stem q.0.items (find q.1.items entries)
 
 -- a pair without where it lies in memory

@@ -11,10 +11,10 @@ use std::collections::BTreeSet;
 use std::marker::Model;
 
 /// The most characters of a word (our own choice).
-pub const MOST_CHARACTERS: usize = 255;
+pub const MAX_WORD_LENGTH: usize = 255;
 
 /// The most words of a vocabulary (our own choice).
-pub const MOST_WORDS: usize = 100_000;
+pub const MAX_WORDS: usize = 100_000;
 
 /// A script, a vocabulary, and what the script makes of each of its words.
 #[derive(Drop)]
@@ -30,7 +30,7 @@ pub struct Bench {
 
 impl Model for Bench {
     ghost use Rattle.std.specs.Coded.{codes};
-    ghost use Rattle.sbl_grammar.specs.contracts.tree.Item as e;
+    ghost use Rattle.sbl_tree.specs.contracts.tree.Item as e;
     ghost use Rattle.sbl_script.specs.Parsed.{source_of};
     ghost use Rattle.sbl_machine.specs.MachineOf.{IsLinkedMachineOf};
     ghost use Rattle.sbl_bench.specs.Kept.{Kept, words_in, IsKept};

@@ -10,9 +10,9 @@ ghost use Rattle.sbl_bench.specs.Changes as spec;
 ghost use Rattle.sbl_bench.specs.Changes.{any_pair, is_outcome, same_outcome, view_change, with_change, AreAllFresh, IsReady};
 ghost use Rattle.sbl_bench.specs.Kept.{words_in, AreFresh, IsWord};
 ghost use Rattle.sbl_bench.specs.Pairs.{Key, Text, ArePaired, find, has, has_stem, is_pair_of};
-ghost use Rattle.sbl_bench.specs.State.{most_runs};
+ghost use Rattle.sbl_bench.specs.Contents.{max_runs};
 
-use crate::outcomes::MOST_STEPS;
+use crate::outcomes::MAX_STEPS;
 use crate::pairs::{insert_pair, remove_pair};
 use indexmap::IndexMap;
 use sbl_machine::{Machine, Meter, Outcome, Table};
@@ -189,7 +189,7 @@ pub(crate) fn changes_of(
     outcomes: &IndexMap<Vec<char>, Outcome>,
 ) -> Result<Vec<Change>, AllocError>
     requires sound { All IsWord (words_in outcomes.now.entries) }
-    requires room { meter.old + length outcomes.now.entries ≤ most_runs }
+    requires room { meter.old + length outcomes.now.entries ≤ max_runs }
     ensures changes { (script : Source) → IsLinkedMachineOf machine.now script → IfOk result (λ changes. map view_change changes.items ≡ spec.changes_of script outcomes.now.entries) }
     ensures counted { OnOk result (meter.new ≡ meter.old + length outcomes.now.entries) }
     ensures some { OnErr result ((n : ℕ) × (n ≤ length outcomes.now.entries) × (meter.new ≡ meter.old + n)) }
@@ -198,7 +198,7 @@ pub(crate) fn changes_of(
     let _count = outcomes.len();
     let mut changes = Vec::new(alloc);
     for (word, old) in outcomes.iter() {
-        match machine.run(alloc, meter, word.as_slice(), MOST_STEPS) {
+        match machine.run(alloc, meter, word.as_slice(), MAX_STEPS) {
             Ok(ran) => push_change(alloc, &mut changes, word.as_slice(), old, ran.outcome)?,
             Err(_) => return Err(AllocError),
         }

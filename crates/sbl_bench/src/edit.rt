@@ -2,7 +2,7 @@
 
 ghost use Rattle.std.specs.Prelude.{◌≡◌, ◌≤◌, ◌<◌, ◌+◌, ◌^◌, true};
 
-use crate::bench::{Bench, MOST_CHARACTERS, MOST_WORDS};
+use crate::bench::{Bench, MAX_WORD_LENGTH, MAX_WORDS};
 use crate::change::{changes_of, make_changes};
 use crate::fault::EditFault;
 use crate::outcomes::{has_word, put_last};
@@ -11,7 +11,7 @@ use sbl_machine::Machine;
 use sbl_script::Script;
 
 impl Bench {
-    ghost use Rattle.sbl_bench.specs.Kept.{state_of};
+    ghost use Rattle.sbl_bench.specs.Kept.{contents_of};
     ghost use Rattle.sbl_bench.specs.Edits.{Edit, Edits, Add, Remove, Routine, Among, IsScriptAfter, is_of_script};
     ghost use Rattle.sbl_script.specs.Parsed.{source_of};
 
@@ -23,18 +23,18 @@ impl Bench {
     /// script, vocabulary, rows and classes are left as they were, and the count of runs too, but that it may be one higher
     /// at OutOfMemory. (Our own choice.)
     pub fn add(&mut self, word: &[char]) -> Result<(), EditFault>
-        ensures { Edits result (state_of self.old) (Add word.now) (state_of self.new) }
+        ensures { Edits result (contents_of self.old) (Add word.now) (contents_of self.new) }
     {
         if word.is_empty() {
             return Err(EditFault::EmptyWord);
         }
-        if word.len() > MOST_CHARACTERS {
+        if word.len() > MAX_WORD_LENGTH {
             return Err(EditFault::WordTooLong);
         }
         if has_word(&self.outcomes, word) {
             return Err(EditFault::Present);
         }
-        if self.outcomes.len() >= MOST_WORDS {
+        if self.outcomes.len() >= MAX_WORDS {
             return Err(EditFault::Full);
         }
         if self.meter.is_full() {
@@ -54,7 +54,7 @@ impl Bench {
     /// Takes a word out of the vocabulary and closes the gap. It answers Absent where the word is not there, and then changes
     /// nothing. Takes no memory.
     pub fn remove(&mut self, word: &[char]) -> Result<(), EditFault>
-        ensures { Edits result (state_of self.old) (Remove word.now) (state_of self.new) }
+        ensures { Edits result (contents_of self.old) (Remove word.now) (contents_of self.new) }
     {
         let Some((key, outcome)) = self.outcomes.shift_remove_entry(word) else {
             return Err(EditFault::Absent);
@@ -73,7 +73,7 @@ impl Bench {
     /// it may be higher at OutOfMemory, by at most the number of words, if the edit would have been accepted. (Our own
     /// choice.)
     pub fn replace_routine(&mut self, name: &str, text: &str) -> Result<(), EditFault>
-        ensures { Edits result (state_of self.old) (Routine name.now text.now) (state_of self.new) }
+        ensures { Edits result (contents_of self.old) (Routine name.now text.now) (contents_of self.new) }
     {
         let script = self.script.with_routine(self.alloc, name, text)?;
         self.replace_script(script)
@@ -91,7 +91,7 @@ impl Bench {
     /// are left as they were, and the count of runs too, but that it may be higher at OutOfMemory, by at most the number of
     /// words, if the edit would have been accepted. (Our own choice.)
     pub fn replace_among(&mut self, name: &str, k: u64, text: &str) -> Result<(), EditFault>
-        ensures { Edits result (state_of self.old) (Among name.now k text.now) (state_of self.new) }
+        ensures { Edits result (contents_of self.old) (Among name.now k text.now) (contents_of self.new) }
     {
         let script = self.script.with_among(self.alloc, name, k, text)?;
         self.replace_script(script)
@@ -103,7 +103,7 @@ impl Bench {
     /// OutOfMemory where a growth is refused. Whatever it answers but `Ok`, script, vocabulary, rows and classes are left as they
     /// were, and the count of runs too, but that it may be higher at OutOfMemory, by at most the number of words.
     pub(crate) fn replace_script(&mut self, script: Script) -> Result<(), EditFault>
-        ensures { (e : Edit) → is_of_script e ≡ true → IsScriptAfter (state_of self.old) e (source_of script) → Edits result (state_of self.old) e (state_of self.new) }
+        ensures { (e : Edit) → is_of_script e ≡ true → IsScriptAfter (contents_of self.old) e (source_of script) → Edits result (contents_of self.old) e (contents_of self.new) }
     {
         if u64::MAX - self.meter.count() < self.outcomes.len() as u64 {
             return Err(EditFault::MeterFull);

@@ -5,11 +5,11 @@ ghost use Rattle.sbl_script.specs.Parsed.{Source};
 ghost use Rattle.sbl_machine.specs.MachineOf.{IsLinkedMachineOf};
 ghost use Rattle.sbl_bench.specs.Vocabulary as vocabulary;
 ghost use Rattle.sbl_bench.specs.Vocabulary.{with_word};
-ghost use Rattle.sbl_bench.specs.State.{word_fault, IsFaultOrMemory};
+ghost use Rattle.sbl_bench.specs.Contents.{word_fault, IsFaultOrMemory};
 ghost use Rattle.sbl_bench.specs.Kept.{words_in, IsKept};
 ghost use Rattle.sbl_bench.specs.Pairs.{ArePaired};
 
-use crate::bench::{Bench, MOST_CHARACTERS, MOST_WORDS};
+use crate::bench::{Bench, MAX_WORD_LENGTH, MAX_WORDS};
 use crate::fault::EditFault;
 use crate::outcomes::{has_word, put_last};
 use indexmap::IndexMap;
@@ -19,8 +19,8 @@ use std::alloc::Global;
 use std::collections::BTreeSet;
 
 impl Bench {
-    ghost use Rattle.sbl_bench.specs.Kept.{state_of};
-    ghost use Rattle.sbl_bench.specs.State.{Opens};
+    ghost use Rattle.sbl_bench.specs.Kept.{contents_of};
+    ghost use Rattle.sbl_bench.specs.Contents.{Opens};
     ghost use Rattle.sbl_script.specs.Parsed.{source_of};
 
     /// The bench of a script and a list of words. The words are taken in order: empty words and repeats are skipped, so that a
@@ -29,7 +29,7 @@ impl Bench {
     /// It answers WordTooLong at a word of more than 255 characters, a repeat too, and Full at a new word behind 100,000
     /// others, whichever is met first, and OutOfMemory where a growth is refused. Then there is no bench. (Our own choice.)
     pub fn open(alloc: Global, script: Script, words: Vec<Vec<char>>) -> Result<Bench, EditFault>
-        ensures { Opens (source_of script) (map (λ w. w.items) words.items) (λ b. state_of b) result }
+        ensures { Opens (source_of script) (map (λ w. w.items) words.items) (λ b. contents_of b) result }
     {
         let machine = Machine::new(alloc, &script)?;
         let mut meter = Meter::new();
@@ -75,13 +75,13 @@ fn take_word(
     ensures ok { OnOk result (word_fault (words_in outcomes.old.entries) word.items ≡ None) }
     ensures fault { IfErr result (λ f. IsFaultOrMemory (word_fault (words_in outcomes.old.entries) word.items) f) }
 {
-    if word.len() > MOST_CHARACTERS {
+    if word.len() > MAX_WORD_LENGTH {
         return Err(EditFault::WordTooLong);
     }
     if is_skipped(outcomes, word.as_slice()) {
         return Ok(());
     }
-    if outcomes.len() >= MOST_WORDS {
+    if outcomes.len() >= MAX_WORDS {
         return Err(EditFault::Full);
     }
     put_last(alloc, machine, meter, outcomes, pairs, word)

@@ -16,7 +16,7 @@ use std::alloc::Global;
 use std::collections::BTreeSet;
 
 /// The most steps of a run (our own choice).
-pub(crate) const MOST_STEPS: u32 = 100_000;
+pub(crate) const MAX_STEPS: u32 = 100_000;
 
 /// Whether the word is one of those that are kept. Takes no memory.
 pub(crate) fn has_word(outcomes: &IndexMap<Vec<char>, Outcome>, word: &[char]) -> bool
@@ -47,7 +47,7 @@ pub(crate) fn put_last(
     ensures stop { IfErr result (λ f. IsStop 1 f meter.old meter.new) }
 {
     outcomes.reserve(1)?;
-    let ran = machine.run(alloc, meter, word.as_slice(), MOST_STEPS)?;
+    let ran = machine.run(alloc, meter, word.as_slice(), MAX_STEPS)?;
     insert_pair(alloc, pairs, word.as_slice(), &ran.outcome)?;
     outcomes.insert(word, ran.outcome).unwrap();
     Ok(())

@@ -1,19 +1,19 @@
 -- What stands behind a part of a tree stands behind its tokens: so a part is shallow by itself, and another may stand in its place.
 use Rattle.std.proofs.Common.{◌≡◌, ℕ, ◌+◌, true, false, List, [], ◌∷◌, ◌++◌, Some, None, refl, sym, ap, subst, ◌∙◌}
-use Rattle.sbl_grammar.specs.declared.tree.Additive.TheVariants as additives
-use Rattle.sbl_grammar.specs.Terminal as t
-use Rattle.sbl_grammar.specs.Tree.{Expression, expression, Sums, no_sums, sum, Product, product, Scales, no_scales, scale, Factor, negated, bracketed, numeral, variable, fixed, length_of, Entry, entry, Tree, bracket, single, quoted, called, excluded, prefixed, counted, moved, named, edited, limited, assigned, compared, values_compared, chosen, Rows, no_rows, row, Others, no_others, joined, Starter, no_starter, starter, Groups, bare, group, Term, term, Plain, declaration, escapes, macro, routine, grouping, argument_terminal}
-use Rattle.sbl_grammar.specs.Places.{Placed, placed_expression, placed_sums, placed_product, placed_scales, placed_factor, placed_entry, placed_entries, placed, placed_rows, placed_others, placed_starter, placed_groups, placed_names, placed_terms, placed_plain}
+use Rattle.sbl_tree.specs.declared.tree.Additive.TheVariants as additives
+use Rattle.sbl_tree.specs.Terminal as t
+use Rattle.sbl_tree.specs.Tree.{Expression, expression, Sums, no_sums, sum, Product, product, Scales, no_scales, scale, Factor, negated, bracketed, numeral, variable, fixed, length_of, Entry, entry, Command, bracket, simple_, literal_, name_, non_, prefixed, counted, move_, named, splice_, setlimit_, assign_, compare_, compare_values_, among_, Rows, no_rows, row, Others, no_others, joined, Starter, no_starter, starter, Groups, bare, group, Term, term, Plain, declaration, escapes, macro, routine, grouping, argument_terminal}
+use Rattle.sbl_grammar.specs.Places.{AtDepth, placed_expression, placed_sums, placed_product, placed_scales, placed_factor, placed_entry, placed_entries, placed, placed_rows, placed_others, placed_starter, placed_groups, placed_names, placed_terms, placed_plain}
 use Rattle.sbl_grammar.specs.Reading.{AreShallow}
 
 abbrev Ps : Type 0
-Ps = List Placed
+Ps = List AtDepth
 
 -- tokens are put before those behind, whatever those are
 abbrev pub IsBefore : (Ps → Ps) → Type 0
 IsBefore part = (r q : Ps) → part (r ++ q) ≡ part r ++ q
 
-cons : {r q : Ps} (x : Placed) → r ≡ q → x ∷ r ≡ x ∷ q
+cons : {r q : Ps} (x : AtDepth) → r ≡ q → x ∷ r ≡ x ∷ q
 cons x e = ap (λ (z : Ps). x ∷ z) e
 
 mutual
@@ -48,23 +48,23 @@ entries_before [] d r q = refl
 entries_before (x ∷ xs) d r q = ap (placed_entry x d) (entries_before xs d r q) ∙ entry_before x d (placed_entries xs d r) q
 
 mutual
-  pub tree_before : (c : Tree) (d : ℕ) → IsBefore (placed c d)
+  pub tree_before : (c : Command) (d : ℕ) → IsBefore (placed c d)
   tree_before (bracket rs) d r q = cons (t.open_, d) (rows_before rs (d + 1) ((t.close_, d) ∷ r) q)
-  tree_before (single s) d r q = refl
-  tree_before (quoted s) d r q = refl
-  tree_before (called n) d r q = refl
-  tree_before (excluded true n) d r q = refl
-  tree_before (excluded false n) d r q = refl
+  tree_before (simple_ s) d r q = refl
+  tree_before (literal_ s) d r q = refl
+  tree_before (name_ n) d r q = refl
+  tree_before (non_ true n) d r q = refl
+  tree_before (non_ false n) d r q = refl
   tree_before (prefixed p c) d r q = cons (t.prefix p, d) (tree_before c (d + 1) r q)
   tree_before (counted n e c) d r q = cons (t.count n, d) (ap (placed_expression e d) (tree_before c (d + 1) r q) ∙ expression_before e d (placed c (d + 1) r) q)
-  tree_before (moved m e) d r q = cons (t.move m, d) (expression_before e d r q)
+  tree_before (move_ m e) d r q = cons (t.move m, d) (expression_before e d r q)
   tree_before (named x n) d r q = refl
-  tree_before (edited x a) d r q = refl
-  tree_before (limited b c) d r q = cons (t.set_limit, d) (ap (λ (z : Ps). placed b (d + 1) ((t.for_, d) ∷ z)) (tree_before c (d + 1) r q) ∙ tree_before b (d + 1) ((t.for_, d) ∷ placed c (d + 1) r) q)
-  tree_before (assigned n o e) d r q = cons (t.dollar, d) (cons (t.name n, d) (cons (t.assigns o, d) (expression_before e d r q)))
-  tree_before (compared n o e) d r q = cons (t.dollar, d) (cons (t.name n, d) (cons (t.compares o, d) (expression_before e d r q)))
-  tree_before (values_compared e o f) d r q = cons (t.dollar, d) (cons (t.open_, d) (ap (λ (z : Ps). placed_expression e d ((t.compares o, d) ∷ z)) (expression_before f d ((t.close_, d) ∷ r) q) ∙ expression_before e d ((t.compares o, d) ∷ placed_expression f d ((t.close_, d) ∷ r)) q))
-  tree_before (chosen s gs) d r q = cons (t.among, d) (cons (t.open_, d) (ap (placed_starter s d) (groups_before gs d ((t.close_, d) ∷ r) q) ∙ starter_before s d (placed_groups gs d ((t.close_, d) ∷ r)) q))
+  tree_before (splice_ x a) d r q = refl
+  tree_before (setlimit_ b c) d r q = cons (t.set_limit, d) (ap (λ (z : Ps). placed b (d + 1) ((t.for_, d) ∷ z)) (tree_before c (d + 1) r q) ∙ tree_before b (d + 1) ((t.for_, d) ∷ placed c (d + 1) r) q)
+  tree_before (assign_ n o e) d r q = cons (t.dollar, d) (cons (t.name n, d) (cons (t.assigns o, d) (expression_before e d r q)))
+  tree_before (compare_ n o e) d r q = cons (t.dollar, d) (cons (t.name n, d) (cons (t.compares o, d) (expression_before e d r q)))
+  tree_before (compare_values_ e o f) d r q = cons (t.dollar, d) (cons (t.open_, d) (ap (λ (z : Ps). placed_expression e d ((t.compares o, d) ∷ z)) (expression_before f d ((t.close_, d) ∷ r) q) ∙ expression_before e d ((t.compares o, d) ∷ placed_expression f d ((t.close_, d) ∷ r)) q))
+  tree_before (among_ s gs) d r q = cons (t.among, d) (cons (t.open_, d) (ap (placed_starter s d) (groups_before gs d ((t.close_, d) ∷ r) q) ∙ starter_before s d (placed_groups gs d ((t.close_, d) ∷ r)) q))
 
   pub rows_before : (rs : Rows) (d : ℕ) → IsBefore (placed_rows rs d)
   rows_before no_rows d r q = refl

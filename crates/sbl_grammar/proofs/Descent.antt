@@ -14,26 +14,28 @@ use Rattle.sbl_text.specs.Lexemes.{lexeme_by, number_in, inserts_in}
 use Rattle.sbl_grammar.specs.declared.role.Role.{Role}
 use Rattle.sbl_grammar.specs.declared.role.Role.TheVariants as roles
 use Rattle.sbl_grammar.specs.declared.error.ReadError.{ReadError}
-use Rattle.sbl_grammar.specs.declared.tree.Additive.TheVariants as additives
-use Rattle.sbl_grammar.specs.declared.tree.DeclarationKind.{DeclarationKind}
-use Rattle.sbl_grammar.specs.declared.tree.Base.{Base}
-use Rattle.sbl_grammar.specs.declared.tree.Joiner.{Joiner}
-use Rattle.sbl_grammar.specs.declared.tree.Simple.{Simple}
-use Rattle.sbl_grammar.specs.declared.tree.Prefix.{Prefix}
-use Rattle.sbl_grammar.specs.declared.tree.Count.{Count}
-use Rattle.sbl_grammar.specs.declared.tree.Move.{Move}
-use Rattle.sbl_grammar.specs.declared.tree.Naming.{Naming}
-use Rattle.sbl_grammar.specs.declared.tree.Edit.{Edit}
-use Rattle.sbl_grammar.specs.declared.tree.Additive.{Additive}
-use Rattle.sbl_grammar.specs.declared.tree.Multiplicative.{Multiplicative}
-use Rattle.sbl_grammar.specs.declared.tree.Assignment.{Assignment}
-use Rattle.sbl_grammar.specs.declared.tree.Comparison.{Comparison}
-use Rattle.sbl_grammar.specs.declared.tree.Constant.{Constant}
-use Rattle.sbl_grammar.specs.Terminal.{Terminal, terminal_of, terminals_of, role_as, role_of, word_terminal, sign_terminal}
-use Rattle.sbl_grammar.specs.Terminal as t
+use Rattle.sbl_tree.specs.declared.tree.Additive.TheVariants as additives
+use Rattle.sbl_tree.specs.declared.tree.DeclarationKind.{DeclarationKind}
+use Rattle.sbl_tree.specs.declared.tree.Base.{Base}
+use Rattle.sbl_tree.specs.declared.tree.Joiner.{Joiner}
+use Rattle.sbl_tree.specs.declared.tree.Simple.{Simple}
+use Rattle.sbl_tree.specs.declared.tree.Prefix.{Prefix}
+use Rattle.sbl_tree.specs.declared.tree.Count.{Count}
+use Rattle.sbl_tree.specs.declared.tree.Move.{Move}
+use Rattle.sbl_tree.specs.declared.tree.Naming.{Naming}
+use Rattle.sbl_tree.specs.declared.tree.Splice.{Splice}
+use Rattle.sbl_tree.specs.declared.tree.Additive.{Additive}
+use Rattle.sbl_tree.specs.declared.tree.Multiplicative.{Multiplicative}
+use Rattle.sbl_tree.specs.declared.tree.Assignment.{Assignment}
+use Rattle.sbl_tree.specs.declared.tree.Comparison.{Comparison}
+use Rattle.sbl_tree.specs.declared.tree.Constant.{Constant}
+use Rattle.sbl_tree.specs.Terminal.{Terminal, terminal_of, terminals_of, word_terminal, sign_terminal}
+use Rattle.sbl_grammar.specs.Roles.{role_as, role_of}
+use Rattle.sbl_tree.specs.Terminal as t
 use Rattle.sbl_grammar.specs.First.{first_text, first_number, first_inserts, first_literal, quoted_in}
 use Rattle.sbl_grammar.specs.Starts.{begins_command, begins_plain, begins_item, begins_argument}
-use Rattle.sbl_grammar.specs.Steps.{Stack, Step, goes, stuck, step, Fault, syntax, too_deep, no_operator, fault, after_step, max_depth}
+use Rattle.sbl_grammar.specs.Places.{max_depth}
+use Rattle.sbl_grammar.specs.Steps.{Stack, Step, goes, stuck, step, Fault, syntax, too_deep, no_operator, fault, after_step}
 use Rattle.sbl_grammar.specs.Steps as s
 use Rattle.sbl_grammar.specs.Gives.{Fails}
 
@@ -64,7 +66,7 @@ undo (roles.Prefix o) = Some (t.prefix o)
 undo (roles.Count o) = Some (t.count o)
 undo (roles.Move o) = Some (t.move o)
 undo (roles.Naming o) = Some (t.naming o)
-undo (roles.Edit o) = Some (t.edit o)
+undo (roles.Splice o) = Some (t.edit o)
 undo (roles.Additive o) = Some (t.additive o)
 undo (roles.Multiplicative o) = Some (t.multiplicative o)
 undo (roles.Assignment o) = Some (t.assigns o)
@@ -632,7 +634,7 @@ deep_command (t.dollar ∷ ts) d k e lt = sinks (t.dollar ∷ ts) t.dollar ts (s
 deep_command (t.among ∷ ts) d k e lt = sinks (t.among ∷ ts) t.among ts (s.command d ∷ k) (s.opening d ∷ s.starter d ∷ s.groups d ∷ s.closing d ∷ k) d refl refl lt
 deep_command (_ ∷ ts) d k e lt = absurd cc
 
-pub refused_all : (ts : Ts) (d : ℕ) (k : Stack) → (role_of ts ≡ roles.Open → ⊥) → ((o : Simple) → role_of ts ≡ roles.Simple o → ⊥) → (role_of ts ≡ roles.Literal → ⊥) → (role_of ts ≡ roles.Name → ⊥) → (role_of ts ≡ roles.Non → ⊥) → ((o : Prefix) → role_of ts ≡ roles.Prefix o → ⊥) → ((o : Count) → role_of ts ≡ roles.Count o → ⊥) → ((o : Move) → role_of ts ≡ roles.Move o → ⊥) → ((o : Naming) → role_of ts ≡ roles.Naming o → ⊥) → ((o : Edit) → role_of ts ≡ roles.Edit o → ⊥) → (role_of ts ≡ roles.SetLimit → ⊥) → (role_of ts ≡ roles.Dollar → ⊥) → (role_of ts ≡ roles.Among → ⊥) → fault ts (s.command d ∷ k) ≡ Some (syntax ts)
+pub refused_all : (ts : Ts) (d : ℕ) (k : Stack) → (role_of ts ≡ roles.Open → ⊥) → ((o : Simple) → role_of ts ≡ roles.Simple o → ⊥) → (role_of ts ≡ roles.Literal → ⊥) → (role_of ts ≡ roles.Name → ⊥) → (role_of ts ≡ roles.Non → ⊥) → ((o : Prefix) → role_of ts ≡ roles.Prefix o → ⊥) → ((o : Count) → role_of ts ≡ roles.Count o → ⊥) → ((o : Move) → role_of ts ≡ roles.Move o → ⊥) → ((o : Naming) → role_of ts ≡ roles.Naming o → ⊥) → ((o : Splice) → role_of ts ≡ roles.Splice o → ⊥) → (role_of ts ≡ roles.SetLimit → ⊥) → (role_of ts ≡ roles.Dollar → ⊥) → (role_of ts ≡ roles.Among → ⊥) → fault ts (s.command d ∷ k) ≡ Some (syntax ts)
 refused_all [] d k n0 n1 n2 n3 n4 n5 n6 n7 n8 n9 n10 n11 n12 = refl
 refused_all (t.open_ ∷ ts) d k n0 n1 n2 n3 n4 n5 n6 n7 n8 n9 n10 n11 n12 = absurd (n0 refl)
 refused_all ((t.simple o) ∷ ts) d k n0 n1 n2 n3 n4 n5 n6 n7 n8 n9 n10 n11 n12 = absurd (n1 o refl)

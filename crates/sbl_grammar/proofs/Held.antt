@@ -1,8 +1,8 @@
 -- The among with a number, part by part: those of a part come before those behind it.
 use Rattle.std.proofs.Common.{◌≡◌, ℕ, zero, suc, ◌+◌, ◌-◌, Bool, true, false, nat_eq, List, [], ◌∷◌, Some, None, if◌then◌else◌, refl, sym, ap, ◌∙◌, arith}
 use Rattle.std.proofs.lemmas.Bool.{ne_eqb}
-use Rattle.sbl_grammar.specs.Tree.{Tree, bracket, single, quoted, called, excluded, prefixed, counted, moved, named, edited, limited, assigned, compared, values_compared, chosen, Rows, no_rows, row, Others, no_others, joined, Starter, no_starter, starter, Groups, bare, group}
-use Rattle.sbl_grammar.specs.Terminal as t
+use Rattle.sbl_tree.specs.Tree.{Command, bracket, simple_, literal_, name_, non_, prefixed, counted, move_, named, splice_, setlimit_, assign_, compare_, compare_values_, among_, Rows, no_rows, row, Others, no_others, joined, Starter, no_starter, starter, Groups, bare, group}
+use Rattle.sbl_tree.specs.Terminal as t
 use Rattle.sbl_grammar.specs.Amongs.{FitsAt, Held, amongs, amongs_of_rows, amongs_of_others, amongs_of_starter, amongs_of_groups, amongs_of_body, nth_held, count_amongs, count_in_rows, count_in_others, count_in_starter, count_in_groups, put_among, put_in_rows, put_in_others, put_in_starter, put_in_groups, put_in_body}
 use Rattle.sbl_grammar.specs.Places.{placed, placed_rows, placed_others, placed_starter, placed_groups, placed_entry, placed_entries, placed_expression}
 use Rattle.sbl_grammar.specs.Reading.{AreShallow}
@@ -43,22 +43,22 @@ next_is : (hs : Hs) (k : ℕ) → nth_held (1 + k) hs ≡ nth_held (suc k) hs
 next_is hs k = moved_on (1 + k) (suc k) k hs (omega arith)
 
 mutual
-  pub tree_counts : (c : Tree) (d : ℕ) → Counts (count_amongs c) (λ rest. amongs c d rest)
+  pub tree_counts : (c : Command) (d : ℕ) → Counts (count_amongs c) (λ rest. amongs c d rest)
   tree_counts (bracket rs) d rest k = rows_count rs (d + 1) rest k
-  tree_counts (single x) d rest k = none_more rest k
-  tree_counts (quoted x) d rest k = none_more rest k
-  tree_counts (called x) d rest k = none_more rest k
-  tree_counts (excluded x y) d rest k = none_more rest k
+  tree_counts (simple_ x) d rest k = none_more rest k
+  tree_counts (literal_ x) d rest k = none_more rest k
+  tree_counts (name_ x) d rest k = none_more rest k
+  tree_counts (non_ x y) d rest k = none_more rest k
   tree_counts (prefixed p c) d rest k = tree_counts c (d + 1) rest k
   tree_counts (counted n e c) d rest k = tree_counts c (d + 1) rest k
-  tree_counts (moved x y) d rest k = none_more rest k
+  tree_counts (move_ x y) d rest k = none_more rest k
   tree_counts (named x y) d rest k = none_more rest k
-  tree_counts (edited x y) d rest k = none_more rest k
-  tree_counts (limited b c) d rest k = both_count (count_amongs b) (count_amongs c) (λ r. amongs b (d + 1) r) (λ r. amongs c (d + 1) r) (tree_counts b (d + 1)) (tree_counts c (d + 1)) rest k
-  tree_counts (assigned x y z) d rest k = none_more rest k
-  tree_counts (compared x y z) d rest k = none_more rest k
-  tree_counts (values_compared x y z) d rest k = none_more rest k
-  tree_counts (chosen s gs) d rest k =
+  tree_counts (splice_ x y) d rest k = none_more rest k
+  tree_counts (setlimit_ b c) d rest k = both_count (count_amongs b) (count_amongs c) (λ r. amongs b (d + 1) r) (λ r. amongs c (d + 1) r) (tree_counts b (d + 1)) (tree_counts c (d + 1)) rest k
+  tree_counts (assign_ x y z) d rest k = none_more rest k
+  tree_counts (compare_ x y z) d rest k = none_more rest k
+  tree_counts (compare_values_ x y z) d rest k = none_more rest k
+  tree_counts (among_ s gs) d rest k =
       one_more (count_in_starter s + count_in_groups gs) (d, s, gs) (amongs_of_starter s d (amongs_of_groups gs d rest)) k
       ∙ both_count (count_in_starter s) (count_in_groups gs) (λ r. amongs_of_starter s d r) (λ r. amongs_of_groups gs d r) (starter_counts s d) (groups_count gs d) rest k
 
@@ -85,7 +85,7 @@ mutual
 -- what fits behind a part
 fits_behind : (n : ℕ) (part : Hs → Hs) → Counts n part → (k : ℕ) (rest : Hs) (a : Starter × Groups) → FitsAt k (part rest) a → FitsAt (k - n) rest a
 fits_behind n part counts k rest a fits h is = go (k - n) refl is where
-  go : (m : ℕ) → k - n ≡ m → nth_held m rest ≡ Some h → AreShallow (placed (chosen a.0 a.1) h.0 [])
+  go : (m : ℕ) → k - n ≡ m → nth_held m rest ≡ Some h → AreShallow (placed (among_ a.0 a.1) h.0 [])
   go zero e there = let never : None ≡ Some h = sym (none_is_first rest) ∙ there in absurd cc
   go (suc m) e there = fits h (ap (λ (x : ℕ). nth_held x (part rest)) (omega (arith, e)) ∙ counts rest m ∙ next_is rest m ∙ there)
 
@@ -94,11 +94,11 @@ fits_inside : (k : ℕ) (g : Held) (rest : Hs) (a : Starter × Groups) → nat_e
 fits_inside k g rest a ne fits h is = fits h (ap (λ (b : Bool). if b then Some g else nth_held (k - 1) rest) ne ∙ is)
 
 -- an among with others inside, where those are known to be shallow
-chosen_put : (s : Starter) (gs : Groups) (d k : ℕ) (rest : Hs) (a : Starter × Groups) → AreShallow (placed (chosen s gs) d []) → FitsAt k (amongs (chosen s gs) d rest) a
+chosen_put : (s : Starter) (gs : Groups) (d k : ℕ) (rest : Hs) (a : Starter × Groups) → AreShallow (placed (among_ s gs) d []) → FitsAt k (amongs (among_ s gs) d rest) a
     → (FitsAt (k - 1) (amongs_of_starter s d (amongs_of_groups gs d rest)) a → AreShallow (placed_starter (put_in_starter s (k - 1) a) d []))
-    → (FitsAt (k - 1) (amongs_of_starter s d (amongs_of_groups gs d rest)) a → AreShallow (placed_groups (put_in_groups gs (k - 1 - count_in_starter s) a) d [])) → AreShallow (placed (put_among (chosen s gs) k a) d [])
+    → (FitsAt (k - 1) (amongs_of_starter s d (amongs_of_groups gs d rest)) a → AreShallow (placed_groups (put_in_groups gs (k - 1 - count_in_starter s) a) d [])) → AreShallow (placed (put_among (among_ s gs) k a) d [])
 chosen_put s gs d k rest a h fits starts groups = go (nat_eq k 1) refl where
-  go : (b : Bool) → nat_eq k 1 ≡ b → AreShallow (placed (if b then chosen a.0 a.1 else chosen (put_in_starter s (k - 1) a) (put_in_groups gs (k - 1 - count_in_starter s) a)) d [])
+  go : (b : Bool) → nat_eq k 1 ≡ b → AreShallow (placed (if b then among_ a.0 a.1 else among_ (put_in_starter s (k - 1) a) (put_in_groups gs (k - 1 - count_in_starter s) a)) d [])
   go true e = fits (d, s, gs) (ap (λ (b : Bool). if b then Some (d, s, gs) else nth_held (k - 1) (amongs_of_starter s d (amongs_of_groups gs d rest))) e)
   go false e =
       let close = (t.close_, d) ∷ [] in
@@ -115,32 +115,32 @@ chosen_put s gs d k rest a h fits starts groups = go (nat_eq k 1) refl where
       )
 
 mutual
-  pub tree_put : (c : Tree) (d k : ℕ) (rest : Hs) (a : Starter × Groups) → AreShallow (placed c d []) → FitsAt k (amongs c d rest) a → AreShallow (placed (put_among c k a) d [])
+  pub tree_put : (c : Command) (d k : ℕ) (rest : Hs) (a : Starter × Groups) → AreShallow (placed c d []) → FitsAt k (amongs c d rest) a → AreShallow (placed (put_among c k a) d [])
   tree_put (bracket rs) d k rest a h fits =
       let close = (t.close_, d) ∷ [] in
       (h.0, with_behind (placed_rows (put_in_rows rs k a) (d + 1)) (rows_before (put_in_rows rs k a) (d + 1)) close (rows_put rs (d + 1) k rest a (by_itself (placed_rows rs (d + 1)) (rows_before rs (d + 1)) close h.1) fits) (behind_it (placed_rows rs (d + 1)) (rows_before rs (d + 1)) close h.1))
-  tree_put (single x) d k rest a h fits = h
-  tree_put (quoted x) d k rest a h fits = h
-  tree_put (called x) d k rest a h fits = h
-  tree_put (excluded x y) d k rest a h fits = h
+  tree_put (simple_ x) d k rest a h fits = h
+  tree_put (literal_ x) d k rest a h fits = h
+  tree_put (name_ x) d k rest a h fits = h
+  tree_put (non_ x y) d k rest a h fits = h
   tree_put (prefixed p c) d k rest a h fits = (h.0, tree_put c (d + 1) k rest a h.1 fits)
   tree_put (counted n e c) d k rest a h fits =
       let whole = placed c (d + 1) [] in
       (h.0, with_behind (placed_expression e d) (expression_before e d) (placed (put_among c k a) (d + 1) []) (by_itself (placed_expression e d) (expression_before e d) whole h.1) (tree_put c (d + 1) k rest a (behind_it (placed_expression e d) (expression_before e d) whole h.1) fits))
-  tree_put (moved x y) d k rest a h fits = h
+  tree_put (move_ x y) d k rest a h fits = h
   tree_put (named x y) d k rest a h fits = h
-  tree_put (edited x y) d k rest a h fits = h
-  tree_put (limited b c) d k rest a h fits =
+  tree_put (splice_ x y) d k rest a h fits = h
+  tree_put (setlimit_ b c) d k rest a h fits =
       let m = k - count_amongs b in
       let left = (t.for_, d) ∷ placed c (d + 1) [] in
       let tail = behind_it (placed b (d + 1)) (tree_before b (d + 1)) left h.1 in
       let second = tree_put c (d + 1) m rest a tail.1 (fits_behind (count_amongs b) (λ r. amongs b (d + 1) r) (tree_counts b (d + 1)) k (amongs c (d + 1) rest) a fits) in
       let first = tree_put b (d + 1) k (amongs c (d + 1) rest) a (by_itself (placed b (d + 1)) (tree_before b (d + 1)) left h.1) fits in
       (h.0, with_behind (placed (put_among b k a) (d + 1)) (tree_before (put_among b k a) (d + 1)) ((t.for_, d) ∷ placed (put_among c m a) (d + 1) []) first (tail.0, second))
-  tree_put (assigned x y z) d k rest a h fits = h
-  tree_put (compared x y z) d k rest a h fits = h
-  tree_put (values_compared x y z) d k rest a h fits = h
-  tree_put (chosen s gs) d k rest a h fits =
+  tree_put (assign_ x y z) d k rest a h fits = h
+  tree_put (compare_ x y z) d k rest a h fits = h
+  tree_put (compare_values_ x y z) d k rest a h fits = h
+  tree_put (among_ s gs) d k rest a h fits =
       let close = (t.close_, d) ∷ [] in
       let g0 = placed_groups gs d in
       let s0 = placed_starter s d in
@@ -201,7 +201,7 @@ mutual
       (with_behind (placed_entries es d) (entries_before es d) now (by_itself (placed_entries es d) (entries_before es d) bracketed_ strings) whole)
 
 -- a routine's body with another among that is shallow where the old one is
-pub body_put : (b : Tree × Others) (k : ℕ) (a : Starter × Groups) → AreShallow (places_in body b) → FitsAt k (amongs_of_body b) a → AreShallow (places_in body (put_in_body b k a))
+pub body_put : (b : Command × Others) (k : ℕ) (a : Starter × Groups) → AreShallow (places_in body b) → FitsAt k (amongs_of_body b) a → AreShallow (places_in body (put_in_body b k a))
 body_put b k a h fits =
     let m = k - count_amongs b.0 in
     let more = placed_others b.1 1 [] in

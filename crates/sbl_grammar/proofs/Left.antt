@@ -1,7 +1,7 @@
 -- The tokens from a place on.
 use Rattle.std.proofs.Common.{◌≡◌, ℕ, zero, suc, ◌+◌, List, [], ◌∷◌, drop, refl, ap, ◌∙◌, add-one}
 use Rattle.sbl_text.specs.declared.token.Token.{Token}
-use Rattle.sbl_grammar.specs.Terminal.{left}
+use Rattle.sbl_tree.specs.Terminal.{left}
 
 next_suc : (at : ℕ) (ts : List Token) → left ts (suc at) ≡ drop 1 (left ts at)
 next_suc zero [] = refl

@@ -1,10 +1,10 @@
 -- The fault of some tokens is one, and the tokens of a tree have none.
 use Rattle.std.proofs.Common.{◌≡◌, ◌⊎◌, inl, inr, ℕ, List, [], ◌∷◌, ◌++◌, length, refl, sym, ap, subst, ◌∙◌, append_assoc, arith, length-append}
 use Rattle.std.proofs.lemmas.List.{append-nil, map-append}
-use Rattle.sbl_grammar.specs.Terminal.{Terminal}
-use Rattle.sbl_grammar.specs.Terminal as t
+use Rattle.sbl_tree.specs.Terminal.{Terminal}
+use Rattle.sbl_tree.specs.Terminal as t
 use Rattle.sbl_grammar.specs.Texts.{Text, TreeOf, places_in, tokens_of}
-use Rattle.sbl_grammar.specs.Places.{Placed, tokens}
+use Rattle.sbl_grammar.specs.Places.{AtDepth, tokens}
 use Rattle.sbl_grammar.specs.Reading.{IsFront, IsTooDeep, HasNoneTooDeep, IsReadAs, CannotFollow, LacksOperator, StopsAt, IsSyntaxAt, IsTooDeepAt, IsOutOfProfileAt}
 use Rattle.sbl_grammar.specs.Laws.{Wrong, syntax, too_deep, out_of_profile, IsWrongAt}
 use Rattle.sbl_grammar.proofs.Runs.{IsDone, text_runs}
@@ -57,7 +57,7 @@ front_of_front k p x c h = (h.0, c ++ h.1, h.2 ∙ append_assoc p (x ∷ c) h.1 
 deep_front : (k : Text) (p : Ts) (x : Terminal) → IsTooDeep k p x → IsFront k (p ++ x ∷ [])
 deep_front k p x h =
     let rest : Ts = tokens h.3 in
-    let whole : tokens_of k h.0 ≡ tokens h.1 ++ x ∷ rest = ap (λ (r : List Placed). tokens r) h.4 ∙ map-append (λ q. q.0) h.1 ((x, h.2) ∷ h.3) in
+    let whole : tokens_of k h.0 ≡ tokens h.1 ++ x ∷ rest = ap (λ (r : List AtDepth). tokens r) h.4 ∙ map-append (λ q. q.0) h.1 ((x, h.2) ∷ h.3) in
     (h.0, rest, whole ∙ ap (λ (r : Ts). r ++ x ∷ rest) h.5 ∙ sym (append_assoc p (x ∷ []) rest))
 
 -- what cannot follow is no front

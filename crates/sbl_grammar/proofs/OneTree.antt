@@ -1,7 +1,7 @@
 -- Two trees of a text with the same tokens are one.
 use Rattle.std.proofs.Common.{List, [], ◌∷◌, ◌∙◌, sym, ap}
-use Rattle.sbl_grammar.specs.Terminal.{Terminal}
-use Rattle.sbl_grammar.specs.Tree.{chosen, argument_terminal}
+use Rattle.sbl_tree.specs.Terminal.{Terminal}
+use Rattle.sbl_tree.specs.Tree.{among_, argument_terminal}
 use Rattle.sbl_grammar.specs.Texts.{Text, TreeOf, tokens_of}
 use Rattle.sbl_grammar.specs.Texts as texts
 use Rattle.sbl_grammar.specs.Laws.{TreesAreOne}
@@ -17,5 +17,5 @@ trees_are_one texts.terms (p, xs) (q, ys) e =
     let m = one_row_of_terms p q xs ys (sym (ap (λ (r : List Terminal). argument_terminal p ∷ r) (terms_tokens xs [])) ∙ e ∙ ap (λ (r : List Terminal). argument_terminal q ∷ r) (terms_tokens ys [])) in
     cc
 trees_are_one (texts.among d) (x, gs) (y, hs) e =
-    let m = one_among x y gs hs (sym (tree_tokens (chosen x gs) d []) ∙ e ∙ tree_tokens (chosen y hs) d []) in
+    let m = one_among x y gs hs (sym (tree_tokens (among_ x gs) d []) ∙ e ∙ tree_tokens (among_ y hs) d []) in
     cc

@@ -1,10 +1,10 @@
 -- Where an operator is wanted, and only there, the tokens end with `$` and a name.
 use Rattle.std.proofs.Common.{◌≡◌, ℕ, Bool, true, false, List, [], ◌∷◌, ◌++◌, refl, sym, ap, subst, ◌∙◌, ◌⊎◌, inl, inr}
 use Rattle.std.specs.Prelude.{if◌then◌else◌, ◌&&◌}
-use Rattle.sbl_grammar.specs.declared.tree.Additive.TheVariants as additives
-use Rattle.sbl_grammar.specs.Terminal.{Terminal}
-use Rattle.sbl_grammar.specs.Terminal as t
-use Rattle.sbl_grammar.specs.Places.{Placed, tokens}
+use Rattle.sbl_tree.specs.declared.tree.Additive.TheVariants as additives
+use Rattle.sbl_tree.specs.Terminal.{Terminal}
+use Rattle.sbl_tree.specs.Terminal as t
+use Rattle.sbl_grammar.specs.Places.{AtDepth, tokens}
 use Rattle.sbl_grammar.specs.Steps.{Symbol, Stack, Step, goes, stuck, unassigned, is_optional, behind, behind_opening, behind_closing, behind_name, behind_argument, behind_for, behind_excluded, behind_comparison, behind_factor, behind_scales, behind_sums, behind_command, behind_among, behind_others, behind_starter, behind_groups, behind_entries, behind_inserts, behind_macro, behind_base, behind_literal, behind_definition, behind_terms, behind_names, behind_plain, behind_item, or_else, step}
 use Rattle.sbl_grammar.specs.Steps as s
 use Rattle.sbl_grammar.specs.Texts.{Text, first_stack}
@@ -226,20 +226,20 @@ operator_stuck e (t.compares o) k i = cc
 operator_stuck e _ k i = cc
 
 -- the tokens end with `$` and a name
-abbrev pub EndsSo : List Placed → Type 0
-EndsSo ps = (qs : List Placed) × (d : ℕ) × (n : List ℕ) × (e : ℕ) × (ps ≡ qs ++ (t.dollar, d) ∷ (t.name n, e) ∷ [])
+abbrev pub EndsSo : List AtDepth → Type 0
+EndsSo ps = (qs : List AtDepth) × (d : ℕ) × (n : List ℕ) × (e : ℕ) × (ps ≡ qs ++ (t.dollar, d) ∷ (t.name n, e) ∷ [])
 
 abbrev Unassigned : Terminal → Stack → Type 0
 Unassigned x end = step end x ≡ unassigned
 
-further : (p : Placed) (ps : List Placed) → EndsSo ps → EndsSo (p ∷ ps)
-further p ps h = (p ∷ h.0, h.1, h.2, h.3, ap (λ (r : List Placed). p ∷ r) h.4)
+further : (p : AtDepth) (ps : List AtDepth) → EndsSo ps → EndsSo (p ∷ ps)
+further p ps h = (p ∷ h.0, h.1, h.2, h.3, ap (λ (r : List AtDepth). p ∷ r) h.4)
 
-two : (p q : Placed) (n : List ℕ) → p.0 ≡ t.dollar → q.0 ≡ t.name n → EndsSo (p ∷ q ∷ [])
+two : (p q : AtDepth) (n : List ℕ) → p.0 ≡ t.dollar → q.0 ≡ t.name n → EndsSo (p ∷ q ∷ [])
 two p q n a b = ([], p.1, n, q.1, ap (λ (x : Terminal). (x, p.1) ∷ q ∷ []) a ∙ ap (λ (x : Terminal). (t.dollar, p.1) ∷ (x, q.1) ∷ []) b)
 
 mutual
-  from_clear : (ps : List Placed) (k : Stack) (x : Terminal) → clear k ≡ true → Runs ps k (Unassigned x) → EndsSo ps
+  from_clear : (ps : List AtDepth) (k : Stack) (x : Terminal) → clear k ≡ true → Runs ps k (Unassigned x) → EndsSo ps
   from_clear [] k x c h = absurd (never (step k x) (step_kept k x c) h) where
     never : (b : Step) → Kept x b → b ≡ unassigned → ⊥
     never (goes d n) g e = cc
@@ -250,14 +250,14 @@ mutual
     go (inl e) f g = f e
     go (inr e) f g = g e.0 e.1 e.2 e.3 e.4
 
-  from_subject : (p : Placed) (ps : List Placed) (e : ℕ) (k : Stack) (x : Terminal) → p.0 ≡ t.dollar → clear k ≡ true → Runs ps (s.subject e ∷ k) (Unassigned x) → EndsSo (p ∷ ps)
+  from_subject : (p : AtDepth) (ps : List AtDepth) (e : ℕ) (k : Stack) (x : Terminal) → p.0 ≡ t.dollar → clear k ≡ true → Runs ps (s.subject e ∷ k) (Unassigned x) → EndsSo (p ∷ ps)
   from_subject p [] e k x is c h = absurd (subject_assigned e x k h)
   from_subject p (q ∷ ps) e k x is c h = go (subject_step e q.1 q.0 k h.0 c h.1) (λ n named so. from_operator p q ps n e k x is named c (subst (λ (m : Stack). Runs ps m (Unassigned x)) so h.2)) (λ d. further p (q ∷ ps) (further q ps (from_clear ps h.0 x d h.2))) where
     go : ((n : List ℕ) × (q.0 ≡ t.name n) × (h.0 ≡ s.operator e ∷ k)) ⊎ (clear h.0 ≡ true) → ((n : List ℕ) → q.0 ≡ t.name n → h.0 ≡ s.operator e ∷ k → EndsSo (p ∷ q ∷ ps)) → (clear h.0 ≡ true → EndsSo (p ∷ q ∷ ps)) → EndsSo (p ∷ q ∷ ps)
     go (inl d) f g = f d.0 d.1 d.2
     go (inr d) f g = g d
 
-  from_operator : (p q : Placed) (ps : List Placed) (n : List ℕ) (e : ℕ) (k : Stack) (x : Terminal) → p.0 ≡ t.dollar → q.0 ≡ t.name n → clear k ≡ true → Runs ps (s.operator e ∷ k) (Unassigned x) → EndsSo (p ∷ q ∷ ps)
+  from_operator : (p q : AtDepth) (ps : List AtDepth) (n : List ℕ) (e : ℕ) (k : Stack) (x : Terminal) → p.0 ≡ t.dollar → q.0 ≡ t.name n → clear k ≡ true → Runs ps (s.operator e ∷ k) (Unassigned x) → EndsSo (p ∷ q ∷ ps)
   from_operator p q [] n e k x is named c h = two p q n is named
   from_operator p q (r ∷ ps) n e k x is named c h =
       further p (q ∷ r ∷ ps) (further q (r ∷ ps) (further r ps (from_clear ps h.0 x (operator_step e r.1 r.0 k h.0 c h.1) h.2)))
@@ -269,7 +269,7 @@ first_clear texts.body = refl
 first_clear texts.terms = refl
 first_clear (texts.among d) = refl
 
-pub came : (w : Text) (ps : List Placed) (x : Terminal) → Runs ps (first_stack w) (λ end. step end x ≡ unassigned) → EndsSo ps
+pub came : (w : Text) (ps : List AtDepth) (x : Terminal) → Runs ps (first_stack w) (λ end. step end x ≡ unassigned) → EndsSo ps
 came w ps x h = from_clear ps (first_stack w) x (first_clear w) h
 
 -- ---- and the other way round
@@ -308,7 +308,7 @@ dollar_step (s.plains ∷ k) d next h = dollar_step k d next h
 dollar_step (s.item ∷ k) d next h = absurd cc
 dollar_step (s.items ∷ k) d next h = dollar_step k d next h
 
-last_two : (k : Stack) (p q : Placed) (n : List ℕ) (x : Terminal) → p.0 ≡ t.dollar → q.0 ≡ t.name n → Runs (p ∷ q ∷ []) k (λ end. step end x ≡ stuck) → ⊥
+last_two : (k : Stack) (p q : AtDepth) (n : List ℕ) (x : Terminal) → p.0 ≡ t.dollar → q.0 ≡ t.name n → Runs (p ∷ q ∷ []) k (λ end. step end x ≡ stuck) → ⊥
 last_two k p q n x is named h =
     let first : step k t.dollar ≡ goes p.1 h.0 = subst (λ (y : Terminal). step k y ≡ goes p.1 h.0) is h.1 in
     let at = dollar_step k p.1 h.0 first in
@@ -317,7 +317,7 @@ last_two k p q n x is named h =
     operator_stuck at.0 x at.1 (subst (λ (m : Stack). step m x ≡ stuck) (sym last) h.2.2)
 
 -- nothing is stuck there
-pub wants : (front : List Terminal) (n : List ℕ) (ps : List Placed) (k : Stack) (x : Terminal) → tokens ps ≡ front ++ t.dollar ∷ t.name n ∷ [] → Runs ps k (λ end. step end x ≡ stuck) → ⊥
+pub wants : (front : List Terminal) (n : List ℕ) (ps : List AtDepth) (k : Stack) (x : Terminal) → tokens ps ≡ front ++ t.dollar ∷ t.name n ∷ [] → Runs ps k (λ end. step end x ≡ stuck) → ⊥
 wants [] n [] k x e h = cc
 wants [] n (p ∷ []) k x e h = cc
 wants [] n (p ∷ q ∷ []) k x e h =

@@ -4,22 +4,22 @@ use Rattle.sbl_text.specs.Lexemes.{Lexeme, word, sign}
 use Rattle.sbl_text.specs.Lexemes as lexemes
 use Rattle.sbl_text.specs.declared.words.Word.TheVariants as w
 use Rattle.sbl_text.specs.declared.signs.Sign.TheVariants as g
-use Rattle.sbl_grammar.specs.declared.tree.DeclarationKind.TheVariants as declarations
-use Rattle.sbl_grammar.specs.declared.tree.Base.TheVariants as bases
-use Rattle.sbl_grammar.specs.declared.tree.Joiner.TheVariants as joiners
-use Rattle.sbl_grammar.specs.declared.tree.Simple.TheVariants as simples
-use Rattle.sbl_grammar.specs.declared.tree.Prefix.TheVariants as prefixes
-use Rattle.sbl_grammar.specs.declared.tree.Count.TheVariants as counts
-use Rattle.sbl_grammar.specs.declared.tree.Move.TheVariants as moves
-use Rattle.sbl_grammar.specs.declared.tree.Naming.TheVariants as namings
-use Rattle.sbl_grammar.specs.declared.tree.Edit.TheVariants as edits
-use Rattle.sbl_grammar.specs.declared.tree.Additive.TheVariants as additives
-use Rattle.sbl_grammar.specs.declared.tree.Multiplicative.TheVariants as multiplicatives
-use Rattle.sbl_grammar.specs.declared.tree.Assignment.TheVariants as assignments
-use Rattle.sbl_grammar.specs.declared.tree.Comparison.TheVariants as comparisons
-use Rattle.sbl_grammar.specs.declared.tree.Constant.TheVariants as constants
-use Rattle.sbl_grammar.specs.Terminal.{Terminal, terminal_of, lexeme_as, get, reverse, size, size_of, question, equals_greater}
-use Rattle.sbl_grammar.specs.Terminal as t
+use Rattle.sbl_tree.specs.declared.tree.DeclarationKind.TheVariants as declarations
+use Rattle.sbl_tree.specs.declared.tree.Base.TheVariants as bases
+use Rattle.sbl_tree.specs.declared.tree.Joiner.TheVariants as joiners
+use Rattle.sbl_tree.specs.declared.tree.Simple.TheVariants as simples
+use Rattle.sbl_tree.specs.declared.tree.Prefix.TheVariants as prefixes
+use Rattle.sbl_tree.specs.declared.tree.Count.TheVariants as counts
+use Rattle.sbl_tree.specs.declared.tree.Move.TheVariants as moves
+use Rattle.sbl_tree.specs.declared.tree.Naming.TheVariants as namings
+use Rattle.sbl_tree.specs.declared.tree.Splice.TheVariants as edits
+use Rattle.sbl_tree.specs.declared.tree.Additive.TheVariants as additives
+use Rattle.sbl_tree.specs.declared.tree.Multiplicative.TheVariants as multiplicatives
+use Rattle.sbl_tree.specs.declared.tree.Assignment.TheVariants as assignments
+use Rattle.sbl_tree.specs.declared.tree.Comparison.TheVariants as comparisons
+use Rattle.sbl_tree.specs.declared.tree.Constant.TheVariants as constants
+use Rattle.sbl_tree.specs.Terminal.{Terminal, terminal_of, lexeme_as, get, reverse, size, size_of, question, equals_greater}
+use Rattle.sbl_tree.specs.Terminal as t
 
 pub there : (x : Lexeme) → lexeme_as (terminal_of x) ≡ x
 there (word w.Among) = refl

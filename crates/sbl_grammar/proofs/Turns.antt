@@ -1,10 +1,10 @@
 -- One more at the end of each list.
 use Rattle.std.proofs.Common.{◌≡◌, ℕ, suc, ◌<◌, ◌≤◌, List, [], ◌∷◌, ◌++◌, length, drop, Option, Some, None, refl, ap, arith, length-drop}
-use Rattle.sbl_grammar.specs.declared.tree.Additive.{Additive}
-use Rattle.sbl_grammar.specs.Terminal.{Terminal}
-use Rattle.sbl_grammar.specs.Terminal as t
-use Rattle.sbl_grammar.specs.Tree.{Argument, Entry, entry, Term, term, Plain, Item, argument_terminal, spelled_sums, spelled_product, spelled_scales, spelled_factor, spelled_condition, spelled_entry, spelled_entries, spelled, spelled_rows, spelled_others, spelled_groups, spelled_names, spelled_terms, spelled_plain, spelled_plains, spelled_item, spelled_items}
-use Rattle.sbl_grammar.specs.View.{AddedView, ScaledView, RowView, JoinedView, GroupView, sums_of, scales_of, rows_of, others_of, groups_of}
+use Rattle.sbl_tree.specs.declared.tree.Additive.{Additive}
+use Rattle.sbl_tree.specs.Terminal.{Terminal}
+use Rattle.sbl_tree.specs.Terminal as t
+use Rattle.sbl_tree.specs.Tree.{Argument, Entry, entry, Term, term, Plain, Item, argument_terminal, spelled_sums, spelled_product, spelled_scales, spelled_factor, spelled_condition, spelled_entry, spelled_entries, spelled, spelled_rows, spelled_others, spelled_groups, spelled_names, spelled_terms, spelled_plain, spelled_plains, spelled_item, spelled_items}
+use Rattle.sbl_tree.specs.View.{AddedView, ScaledView, RowView, JoinedView, GroupView, sums_of, scales_of, rows_of, others_of, groups_of}
 
 abbrev Ts : Type 0
 Ts = List Terminal

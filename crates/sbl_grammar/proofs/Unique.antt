@@ -1,9 +1,9 @@
 -- Two trees with the same tokens are one.
 use Rattle.std.proofs.Common.{◌≡◌, ℕ, Bool, true, false, List, [], ◌∷◌, Option, Some, None, refl, sym, ap}
-use Rattle.sbl_grammar.specs.declared.tree.Base.{Base}
-use Rattle.sbl_grammar.specs.Terminal.{Terminal, Quoted}
-use Rattle.sbl_grammar.specs.Terminal as t
-use Rattle.sbl_grammar.specs.Tree.{Argument, written_out, by_name, Expression, expression, Sums, no_sums, sum, Product, product, Scales, no_scales, scale, Factor, negated, bracketed, numeral, variable, fixed, length_of, Entry, entry, Tree, bracket, single, quoted, called, excluded, prefixed, counted, moved, named, edited, limited, assigned, compared, values_compared, chosen, Rows, no_rows, row, Others, no_others, joined, Starter, no_starter, starter, Groups, bare, group, Term, term, Plain, declaration, escapes, macro, routine, grouping, Item, plain, backward, argument_terminal, spelled_expression, spelled_sums, spelled_product, spelled_scales, spelled_factor, spelled_entry, spelled_entries, spelled, spelled_rows, spelled_others, spelled_starter, spelled_groups, spelled_names, spelled_base, spelled_terms, spelled_plain, spelled_plains, spelled_item, spelled_items, written}
+use Rattle.sbl_tree.specs.declared.tree.Base.{Base}
+use Rattle.sbl_tree.specs.Terminal.{Terminal, Quoted}
+use Rattle.sbl_tree.specs.Terminal as t
+use Rattle.sbl_tree.specs.Tree.{Argument, written_out, by_name, Expression, expression, Sums, no_sums, sum, Product, product, Scales, no_scales, scale, Factor, negated, bracketed, numeral, variable, fixed, length_of, Entry, entry, Command, bracket, simple_, literal_, name_, non_, prefixed, counted, move_, named, splice_, setlimit_, assign_, compare_, compare_values_, among_, Rows, no_rows, row, Others, no_others, joined, Starter, no_starter, starter, Groups, bare, group, Term, term, Plain, declaration, escapes, macro, routine, grouping, Item, plain, backward, argument_terminal, spelled_expression, spelled_sums, spelled_product, spelled_scales, spelled_factor, spelled_entry, spelled_entries, spelled, spelled_rows, spelled_others, spelled_starter, spelled_groups, spelled_names, spelled_base, spelled_terms, spelled_plain, spelled_plains, spelled_item, spelled_items, written}
 
 abbrev Ts : Type 0
 Ts = List Terminal
@@ -211,41 +211,41 @@ same_entries (x ∷ xs) (y ∷ ys) a b ha hb e =
 closed : (ts : Ts) → EndsRow (t.close_ ∷ ts)
 closed ts = record { ends = calm t.close_ ts refl refl; joins_not = refl }
 
-tree_begins : (c : Tree) (rest : Ts) → is_begin (sort (spelled c rest)) ≡ true
+tree_begins : (c : Command) (rest : Ts) → is_begin (sort (spelled c rest)) ≡ true
 tree_begins (bracket rs) rest = refl
-tree_begins (single x) rest = refl
-tree_begins (quoted q) rest = refl
-tree_begins (called n) rest = refl
-tree_begins (excluded true n) rest = refl
-tree_begins (excluded false n) rest = refl
+tree_begins (simple_ x) rest = refl
+tree_begins (literal_ q) rest = refl
+tree_begins (name_ n) rest = refl
+tree_begins (non_ true n) rest = refl
+tree_begins (non_ false n) rest = refl
 tree_begins (prefixed p c) rest = refl
 tree_begins (counted n e c) rest = refl
-tree_begins (moved m e) rest = refl
+tree_begins (move_ m e) rest = refl
 tree_begins (named x n) rest = refl
-tree_begins (edited x a) rest = refl
-tree_begins (limited b c) rest = refl
-tree_begins (assigned n o e) rest = refl
-tree_begins (compared n o e) rest = refl
-tree_begins (values_compared e o f) rest = refl
-tree_begins (chosen x gs) rest = refl
+tree_begins (splice_ x a) rest = refl
+tree_begins (setlimit_ b c) rest = refl
+tree_begins (assign_ n o e) rest = refl
+tree_begins (compare_ n o e) rest = refl
+tree_begins (compare_values_ e o f) rest = refl
+tree_begins (among_ x gs) rest = refl
 
-tree_ends : (c : Tree) (rest : Ts) → EndsRow (spelled c rest)
+tree_ends : (c : Command) (rest : Ts) → EndsRow (spelled c rest)
 tree_ends (bracket rs) rest = record { ends = record { adds_not = refl; multiplies_not = refl }; joins_not = refl }
-tree_ends (single x) rest = record { ends = record { adds_not = refl; multiplies_not = refl }; joins_not = refl }
-tree_ends (quoted q) rest = record { ends = record { adds_not = refl; multiplies_not = refl }; joins_not = refl }
-tree_ends (called n) rest = record { ends = record { adds_not = refl; multiplies_not = refl }; joins_not = refl }
-tree_ends (excluded true n) rest = record { ends = record { adds_not = refl; multiplies_not = refl }; joins_not = refl }
-tree_ends (excluded false n) rest = record { ends = record { adds_not = refl; multiplies_not = refl }; joins_not = refl }
+tree_ends (simple_ x) rest = record { ends = record { adds_not = refl; multiplies_not = refl }; joins_not = refl }
+tree_ends (literal_ q) rest = record { ends = record { adds_not = refl; multiplies_not = refl }; joins_not = refl }
+tree_ends (name_ n) rest = record { ends = record { adds_not = refl; multiplies_not = refl }; joins_not = refl }
+tree_ends (non_ true n) rest = record { ends = record { adds_not = refl; multiplies_not = refl }; joins_not = refl }
+tree_ends (non_ false n) rest = record { ends = record { adds_not = refl; multiplies_not = refl }; joins_not = refl }
 tree_ends (prefixed p c) rest = record { ends = record { adds_not = refl; multiplies_not = refl }; joins_not = refl }
 tree_ends (counted n e c) rest = record { ends = record { adds_not = refl; multiplies_not = refl }; joins_not = refl }
-tree_ends (moved m e) rest = record { ends = record { adds_not = refl; multiplies_not = refl }; joins_not = refl }
+tree_ends (move_ m e) rest = record { ends = record { adds_not = refl; multiplies_not = refl }; joins_not = refl }
 tree_ends (named x n) rest = record { ends = record { adds_not = refl; multiplies_not = refl }; joins_not = refl }
-tree_ends (edited x a) rest = record { ends = record { adds_not = refl; multiplies_not = refl }; joins_not = refl }
-tree_ends (limited b c) rest = record { ends = record { adds_not = refl; multiplies_not = refl }; joins_not = refl }
-tree_ends (assigned n o e) rest = record { ends = record { adds_not = refl; multiplies_not = refl }; joins_not = refl }
-tree_ends (compared n o e) rest = record { ends = record { adds_not = refl; multiplies_not = refl }; joins_not = refl }
-tree_ends (values_compared e o f) rest = record { ends = record { adds_not = refl; multiplies_not = refl }; joins_not = refl }
-tree_ends (chosen x gs) rest = record { ends = record { adds_not = refl; multiplies_not = refl }; joins_not = refl }
+tree_ends (splice_ x a) rest = record { ends = record { adds_not = refl; multiplies_not = refl }; joins_not = refl }
+tree_ends (setlimit_ b c) rest = record { ends = record { adds_not = refl; multiplies_not = refl }; joins_not = refl }
+tree_ends (assign_ n o e) rest = record { ends = record { adds_not = refl; multiplies_not = refl }; joins_not = refl }
+tree_ends (compare_ n o e) rest = record { ends = record { adds_not = refl; multiplies_not = refl }; joins_not = refl }
+tree_ends (compare_values_ e o f) rest = record { ends = record { adds_not = refl; multiplies_not = refl }; joins_not = refl }
+tree_ends (among_ x gs) rest = record { ends = record { adds_not = refl; multiplies_not = refl }; joins_not = refl }
 
 rows_end : (rs : Rows) (rest : Ts) → EndsRow rest → EndsRow (spelled_rows rs rest)
 rows_end no_rows rest h = h
@@ -270,83 +270,83 @@ bare_block : (xs ys : List Entry) (a ts : Ts) → EndsEntries (t.close_ ∷ a) �
 bare_block xs ys a ts h e = let m = same_entries xs ys (t.close_ ∷ a) (t.open_ ∷ ts) h (behind_block ts) e in let f = m.1 in cc
 
 mutual
-  same_tree : (c u : Tree) (a b : Ts) → Ends a → Ends b → spelled c a ≡ spelled u b → (c ≡ u) × (a ≡ b)
+  same_tree : (c u : Command) (a b : Ts) → Ends a → Ends b → spelled c a ≡ spelled u b → (c ≡ u) × (a ≡ b)
   same_tree (bracket rs) (bracket qs) a b ha hb e =
       let m = same_rows rs qs (t.close_ ∷ a) (t.close_ ∷ b) (closed a) (closed b) refl refl (tail _ _ _ _ e) in (ap (λ (r : Rows). bracket r) m.0, tail _ _ _ _ m.1)
-  same_tree (single x) (single y) a b ha hb e = (cc, cc)
-  same_tree (quoted p) (quoted q) a b ha hb e = (cc, cc)
-  same_tree (called n) (called m) a b ha hb e = (cc, cc)
-  same_tree (excluded true n) (excluded true m) a b ha hb e = (cc, cc)
-  same_tree (excluded false n) (excluded false m) a b ha hb e = (cc, cc)
+  same_tree (simple_ x) (simple_ y) a b ha hb e = (cc, cc)
+  same_tree (literal_ p) (literal_ q) a b ha hb e = (cc, cc)
+  same_tree (name_ n) (name_ m) a b ha hb e = (cc, cc)
+  same_tree (non_ true n) (non_ true m) a b ha hb e = (cc, cc)
+  same_tree (non_ false n) (non_ false m) a b ha hb e = (cc, cc)
   same_tree (prefixed p c) (prefixed q u) a b ha hb e = let m = same_tree c u a b ha hb (tail _ _ _ _ e) in let heads : p ≡ q = cc in (cc, m.1)
   same_tree (counted n x c) (counted l y u) a b ha hb e =
       let m = same_expression x y (spelled c a) (spelled u b) (tree_ends c a).ends (tree_ends u b).ends (tail _ _ _ _ e) in
       let r = same_tree c u a b ha hb m.1 in
       let heads : n ≡ l = cc in
       (cc, r.1)
-  same_tree (moved n x) (moved l y) a b ha hb e = let m = same_expression x y a b ha hb (tail _ _ _ _ e) in let heads : n ≡ l = cc in (cc, m.1)
+  same_tree (move_ n x) (move_ l y) a b ha hb e = let m = same_expression x y a b ha hb (tail _ _ _ _ e) in let heads : n ≡ l = cc in (cc, m.1)
   same_tree (named x n) (named y m) a b ha hb e = (cc, cc)
-  same_tree (edited x p) (edited y q) a b ha hb e =
+  same_tree (splice_ x p) (splice_ y q) a b ha hb e =
       let heads : argument_terminal p ≡ argument_terminal q = cc in
       let same = same_argument p q heads in
       let words : x ≡ y = cc in
       (cc, cc)
-  same_tree (limited c x) (limited u y) a b ha hb e =
+  same_tree (setlimit_ c x) (setlimit_ u y) a b ha hb e =
       let m = same_tree c u (t.for_ ∷ spelled x a) (t.for_ ∷ spelled y b) (calm t.for_ _ refl refl) (calm t.for_ _ refl refl) (tail _ _ _ _ e) in
       let r = same_tree x y a b ha hb (tail _ _ _ _ m.1) in
       (cc, r.1)
-  same_tree (assigned n o x) (assigned l u y) a b ha hb e =
+  same_tree (assign_ n o x) (assign_ l u y) a b ha hb e =
       let m = same_expression x y a b ha hb (tail _ _ _ _ (tail _ _ _ _ (tail _ _ _ _ e))) in
       let heads : n ≡ l = cc in
       let words : o ≡ u = cc in
       (cc, m.1)
-  same_tree (compared n o x) (compared l u y) a b ha hb e =
+  same_tree (compare_ n o x) (compare_ l u y) a b ha hb e =
       let m = same_expression x y a b ha hb (tail _ _ _ _ (tail _ _ _ _ (tail _ _ _ _ e))) in
       let heads : n ≡ l = cc in
       let words : o ≡ u = cc in
       (cc, m.1)
-  same_tree (values_compared x o y) (values_compared z u w) a b ha hb e =
+  same_tree (compare_values_ x o y) (compare_values_ z u w) a b ha hb e =
       let m = same_expression x z (t.compares o ∷ spelled_expression y (t.close_ ∷ a)) (t.compares u ∷ spelled_expression w (t.close_ ∷ b)) (calm (t.compares o) _ refl refl) (calm (t.compares u) _ refl refl) (tail _ _ _ _ (tail _ _ _ _ e)) in
       let both = m.1 in
       let words : o ≡ u = cc in
       let r = same_expression y w (t.close_ ∷ a) (t.close_ ∷ b) (calm t.close_ a refl refl) (calm t.close_ b refl refl) (tail _ _ _ _ both) in
       (cc, tail _ _ _ _ r.1)
-  same_tree (chosen x gs) (chosen y hs) a b ha hb e =
+  same_tree (among_ x gs) (among_ y hs) a b ha hb e =
       let m = same_starter x y (spelled_groups gs (t.close_ ∷ a)) (spelled_groups hs (t.close_ ∷ b)) (groups_no_open gs (t.close_ ∷ a) refl) (groups_no_open hs (t.close_ ∷ b) refl) (tail _ _ _ _ (tail _ _ _ _ e)) in
       let r = same_groups gs hs a b m.1 in
       (cc, r.1)
-  same_tree (excluded true n) (excluded false m) a b ha hb e = absurd cc
-  same_tree (excluded false n) (excluded true m) a b ha hb e = absurd cc
-  same_tree (bracket x0) (excluded true m) a b ha hb e = absurd cc
-  same_tree (bracket x0) (excluded false m) a b ha hb e = absurd cc
-  same_tree (single x0) (excluded true m) a b ha hb e = absurd cc
-  same_tree (single x0) (excluded false m) a b ha hb e = absurd cc
-  same_tree (quoted x0) (excluded true m) a b ha hb e = absurd cc
-  same_tree (quoted x0) (excluded false m) a b ha hb e = absurd cc
-  same_tree (called x0) (excluded true m) a b ha hb e = absurd cc
-  same_tree (called x0) (excluded false m) a b ha hb e = absurd cc
-  same_tree (prefixed x0 x1) (excluded true m) a b ha hb e = absurd cc
-  same_tree (prefixed x0 x1) (excluded false m) a b ha hb e = absurd cc
-  same_tree (counted x0 x1 x2) (excluded true m) a b ha hb e = absurd cc
-  same_tree (counted x0 x1 x2) (excluded false m) a b ha hb e = absurd cc
-  same_tree (moved x0 x1) (excluded true m) a b ha hb e = absurd cc
-  same_tree (moved x0 x1) (excluded false m) a b ha hb e = absurd cc
-  same_tree (named x0 x1) (excluded true m) a b ha hb e = absurd cc
-  same_tree (named x0 x1) (excluded false m) a b ha hb e = absurd cc
-  same_tree (edited x0 x1) (excluded true m) a b ha hb e = absurd cc
-  same_tree (edited x0 x1) (excluded false m) a b ha hb e = absurd cc
-  same_tree (limited x0 x1) (excluded true m) a b ha hb e = absurd cc
-  same_tree (limited x0 x1) (excluded false m) a b ha hb e = absurd cc
-  same_tree (assigned x0 x1 x2) (excluded true m) a b ha hb e = absurd cc
-  same_tree (assigned x0 x1 x2) (excluded false m) a b ha hb e = absurd cc
-  same_tree (compared x0 x1 x2) (excluded true m) a b ha hb e = absurd cc
-  same_tree (compared x0 x1 x2) (excluded false m) a b ha hb e = absurd cc
-  same_tree (values_compared x0 x1 x2) (excluded true m) a b ha hb e = absurd cc
-  same_tree (values_compared x0 x1 x2) (excluded false m) a b ha hb e = absurd cc
-  same_tree (chosen x0 x1) (excluded true m) a b ha hb e = absurd cc
-  same_tree (chosen x0 x1) (excluded false m) a b ha hb e = absurd cc
-  same_tree (excluded true n) _ a b ha hb e = absurd cc
-  same_tree (excluded false n) _ a b ha hb e = absurd cc
+  same_tree (non_ true n) (non_ false m) a b ha hb e = absurd cc
+  same_tree (non_ false n) (non_ true m) a b ha hb e = absurd cc
+  same_tree (bracket x0) (non_ true m) a b ha hb e = absurd cc
+  same_tree (bracket x0) (non_ false m) a b ha hb e = absurd cc
+  same_tree (simple_ x0) (non_ true m) a b ha hb e = absurd cc
+  same_tree (simple_ x0) (non_ false m) a b ha hb e = absurd cc
+  same_tree (literal_ x0) (non_ true m) a b ha hb e = absurd cc
+  same_tree (literal_ x0) (non_ false m) a b ha hb e = absurd cc
+  same_tree (name_ x0) (non_ true m) a b ha hb e = absurd cc
+  same_tree (name_ x0) (non_ false m) a b ha hb e = absurd cc
+  same_tree (prefixed x0 x1) (non_ true m) a b ha hb e = absurd cc
+  same_tree (prefixed x0 x1) (non_ false m) a b ha hb e = absurd cc
+  same_tree (counted x0 x1 x2) (non_ true m) a b ha hb e = absurd cc
+  same_tree (counted x0 x1 x2) (non_ false m) a b ha hb e = absurd cc
+  same_tree (move_ x0 x1) (non_ true m) a b ha hb e = absurd cc
+  same_tree (move_ x0 x1) (non_ false m) a b ha hb e = absurd cc
+  same_tree (named x0 x1) (non_ true m) a b ha hb e = absurd cc
+  same_tree (named x0 x1) (non_ false m) a b ha hb e = absurd cc
+  same_tree (splice_ x0 x1) (non_ true m) a b ha hb e = absurd cc
+  same_tree (splice_ x0 x1) (non_ false m) a b ha hb e = absurd cc
+  same_tree (setlimit_ x0 x1) (non_ true m) a b ha hb e = absurd cc
+  same_tree (setlimit_ x0 x1) (non_ false m) a b ha hb e = absurd cc
+  same_tree (assign_ x0 x1 x2) (non_ true m) a b ha hb e = absurd cc
+  same_tree (assign_ x0 x1 x2) (non_ false m) a b ha hb e = absurd cc
+  same_tree (compare_ x0 x1 x2) (non_ true m) a b ha hb e = absurd cc
+  same_tree (compare_ x0 x1 x2) (non_ false m) a b ha hb e = absurd cc
+  same_tree (compare_values_ x0 x1 x2) (non_ true m) a b ha hb e = absurd cc
+  same_tree (compare_values_ x0 x1 x2) (non_ false m) a b ha hb e = absurd cc
+  same_tree (among_ x0 x1) (non_ true m) a b ha hb e = absurd cc
+  same_tree (among_ x0 x1) (non_ false m) a b ha hb e = absurd cc
+  same_tree (non_ true n) _ a b ha hb e = absurd cc
+  same_tree (non_ false n) _ a b ha hb e = absurd cc
   same_tree _ _ a b ha hb e = absurd cc
 
   same_rows : (rs qs : Rows) (a b : Ts) → EndsRow a → EndsRow b → Never is_begin a → Never is_begin b → spelled_rows rs a ≡ spelled_rows qs b → (rs ≡ qs) × (a ≡ b)
@@ -532,7 +532,7 @@ one_tree (x ∷ xs) (y ∷ ys) e =
 none_ends : EndsRow []
 none_ends = record { ends = record { adds_not = refl; multiplies_not = refl }; joins_not = refl }
 
-pub one_body : (c u : Tree) (os ps : Others) → spelled c (spelled_others os []) ≡ spelled u (spelled_others ps []) → (c ≡ u) × (os ≡ ps)
+pub one_body : (c u : Command) (os ps : Others) → spelled c (spelled_others os []) ≡ spelled u (spelled_others ps []) → (c ≡ u) × (os ≡ ps)
 one_body c u os ps e =
     let m = same_tree c u (spelled_others os []) (spelled_others ps []) (others_end os [] none_ends.ends) (others_end ps [] none_ends.ends) e in
     (m.0, (same_others os ps [] [] none_ends none_ends m.1).0)
@@ -542,7 +542,7 @@ one_row_of_terms p q xs ys e =
     let heads : argument_terminal p ≡ argument_terminal q = cc in
     (same_argument p q heads, (same_terms xs ys [] [] refl refl (tail _ _ _ _ e)).0)
 
-pub one_among : (x y : Starter) (gs hs : Groups) → spelled (chosen x gs) [] ≡ spelled (chosen y hs) [] → (x ≡ y) × (gs ≡ hs)
-one_among x y gs hs e = go (same_tree (chosen x gs) (chosen y hs) [] [] none_ends.ends none_ends.ends e).0 where
-  go : chosen x gs ≡ chosen y hs → (x ≡ y) × (gs ≡ hs)
+pub one_among : (x y : Starter) (gs hs : Groups) → spelled (among_ x gs) [] ≡ spelled (among_ y hs) [] → (x ≡ y) × (gs ≡ hs)
+one_among x y gs hs e = go (same_tree (among_ x gs) (among_ y hs) [] [] none_ends.ends none_ends.ends e).0 where
+  go : among_ x gs ≡ among_ y hs → (x ≡ y) × (gs ≡ hs)
   go f = let a : x ≡ y = cc in let b : gs ≡ hs = cc in (a, b)

@@ -1,15 +1,15 @@
 -- What is wanted can always come: the tokens passed so far are the front of some tree's.
 use Rattle.std.proofs.Common.{◌≡◌, ℕ, ◌+◌, Bool, true, false, List, [], ◌∷◌, ◌++◌, Option, Some, None, refl, sym, ap, subst, ◌∙◌}
 use Rattle.std.specs.Prelude.{if◌then◌else◌}
-use Rattle.sbl_grammar.specs.declared.tree.Base.{Base}
-use Rattle.sbl_grammar.specs.declared.tree.Comparison.{Comparison}
-use Rattle.sbl_grammar.specs.declared.tree.Comparison.TheVariants as comparisons
-use Rattle.sbl_grammar.specs.declared.tree.Assignment.TheVariants as assignments
-use Rattle.sbl_grammar.specs.declared.tree.Additive.TheVariants as additives
-use Rattle.sbl_grammar.specs.Terminal.{Terminal, Quoted}
-use Rattle.sbl_grammar.specs.Terminal as t
-use Rattle.sbl_grammar.specs.Tree.{Argument, written_out, by_name, Expression, expression, Sums, no_sums, sum, product, Scales, no_scales, scale, Factor, negated, bracketed, numeral, variable, fixed, length_of, Entry, entry, Tree, bracket, single, quoted, called, excluded, prefixed, counted, moved, named, edited, limited, assigned, compared, values_compared, chosen, Rows, no_rows, row, Others, no_others, joined, Starter, no_starter, starter, Groups, bare, group, Term, term, Plain, declaration, escapes, macro, routine, grouping, Item, plain, backward, argument_terminal, spelled_expression, spelled_sums, spelled_scales, spelled_factor, spelled_entry, spelled, spelled_rows, spelled_others, spelled_starter, spelled_groups, spelled_names, spelled_base, spelled_terms, spelled_plain, spelled_plains, spelled_item, spelled_items}
-use Rattle.sbl_grammar.specs.Places.{Placed, tokens}
+use Rattle.sbl_tree.specs.declared.tree.Base.{Base}
+use Rattle.sbl_tree.specs.declared.tree.Comparison.{Comparison}
+use Rattle.sbl_tree.specs.declared.tree.Comparison.TheVariants as comparisons
+use Rattle.sbl_tree.specs.declared.tree.Assignment.TheVariants as assignments
+use Rattle.sbl_tree.specs.declared.tree.Additive.TheVariants as additives
+use Rattle.sbl_tree.specs.Terminal.{Terminal, Quoted}
+use Rattle.sbl_tree.specs.Terminal as t
+use Rattle.sbl_tree.specs.Tree.{Argument, written_out, by_name, Expression, expression, Sums, no_sums, sum, product, Scales, no_scales, scale, Factor, negated, bracketed, numeral, variable, fixed, length_of, Entry, entry, Command, bracket, simple_, literal_, name_, non_, prefixed, counted, move_, named, splice_, setlimit_, assign_, compare_, compare_values_, among_, Rows, no_rows, row, Others, no_others, joined, Starter, no_starter, starter, Groups, bare, group, Term, term, Plain, declaration, escapes, macro, routine, grouping, Item, plain, backward, argument_terminal, spelled_expression, spelled_sums, spelled_scales, spelled_factor, spelled_entry, spelled, spelled_rows, spelled_others, spelled_starter, spelled_groups, spelled_names, spelled_base, spelled_terms, spelled_plain, spelled_plains, spelled_item, spelled_items}
+use Rattle.sbl_grammar.specs.Places.{AtDepth, tokens}
 use Rattle.sbl_grammar.specs.Steps.{Symbol, Stack, Step, goes, stuck, unassigned, is_optional, behind, behind_opening, behind_closing, behind_name, behind_argument, behind_for, behind_excluded, behind_subject, behind_operator, behind_comparison, behind_factor, behind_scales, behind_sums, behind_command, behind_among, behind_others, behind_starter, behind_groups, behind_entries, behind_inserts, behind_macro, behind_base, behind_literal, behind_definition, behind_terms, behind_names, behind_plain, behind_item, or_else, step}
 use Rattle.sbl_grammar.specs.Steps as s
 use Rattle.sbl_grammar.proofs.Runs.{Runs}
@@ -23,13 +23,13 @@ MakesOne (s.opening d) More ts = (rest : List Terminal) × (ts ≡ t.open_ ∷ r
 MakesOne (s.closing d) More ts = (rest : List Terminal) × (ts ≡ t.close_ ∷ rest) × More rest
 MakesOne (s.name d) More ts = (n : List ℕ) × (rest : List Terminal) × (ts ≡ t.name n ∷ rest) × More rest
 MakesOne (s.argument d) More ts = (a : Argument) × (rest : List Terminal) × (ts ≡ argument_terminal a ∷ rest) × More rest
-MakesOne (s.command d) More ts = (c : Tree) × (rest : List Terminal) × (ts ≡ spelled c rest) × More rest
+MakesOne (s.command d) More ts = (c : Command) × (rest : List Terminal) × (ts ≡ spelled c rest) × More rest
 MakesOne (s.others d) More ts = (os : Others) × (rest : List Terminal) × (ts ≡ spelled_others os rest) × More rest
 MakesOne (s.rows d) More ts = (rs : Rows) × (rest : List Terminal) × (ts ≡ spelled_rows rs rest) × More rest
 MakesOne (s.for_ d) More ts = (rest : List Terminal) × (ts ≡ t.for_ ∷ rest) × More rest
-MakesOne (s.excluded d) More ts = (b : Bool) × (n : List ℕ) × (rest : List Terminal) × (t.non ∷ ts ≡ spelled (excluded b n) rest) × More rest
-MakesOne (s.subject d) More ts = (c : Tree) × (rest : List Terminal) × (t.dollar ∷ ts ≡ spelled c rest) × More rest
-MakesOne (s.operator d) More ts = (f : List ℕ → Tree) × (rest : List Terminal) × ((n : List ℕ) → t.dollar ∷ t.name n ∷ ts ≡ spelled (f n) rest) × More rest
+MakesOne (s.excluded d) More ts = (b : Bool) × (n : List ℕ) × (rest : List Terminal) × (t.non ∷ ts ≡ spelled (non_ b n) rest) × More rest
+MakesOne (s.subject d) More ts = (c : Command) × (rest : List Terminal) × (t.dollar ∷ ts ≡ spelled c rest) × More rest
+MakesOne (s.operator d) More ts = (f : List ℕ → Command) × (rest : List Terminal) × ((n : List ℕ) → t.dollar ∷ t.name n ∷ ts ≡ spelled (f n) rest) × More rest
 MakesOne (s.comparison d) More ts = (o : Comparison) × (rest : List Terminal) × (ts ≡ t.compares o ∷ rest) × More rest
 MakesOne (s.factor d) More ts = (f : Factor) × (rest : List Terminal) × (ts ≡ spelled_factor f rest) × More rest
 MakesOne (s.scales d) More ts = (ss : Scales) × (rest : List Terminal) × (ts ≡ spelled_scales ss rest) × More rest
@@ -38,7 +38,7 @@ MakesOne (s.starter d) More ts = (x : Starter) × (rest : List Terminal) × (ts 
 MakesOne (s.groups d) More ts = (gs : Groups) × (rest : List Terminal) × (ts ≡ spelled_groups gs rest) × More rest
 MakesOne (s.entries d) More ts = (f : Entry → Groups) × (rest : List Terminal) × ((x : Entry) → spelled_entry x ts ≡ spelled_groups (f x) rest) × More rest
 MakesOne (s.condition d) More ts = (c : Option (List ℕ)) × (rest : List Terminal) × ((q : Quoted) → t.literal q ∷ ts ≡ spelled_entry (entry q c) rest) × More rest
-MakesOne (s.among d) More ts = (x : Starter) × (gs : Groups) × (rest : List Terminal) × (ts ≡ spelled (chosen x gs) rest) × More rest
+MakesOne (s.among d) More ts = (x : Starter) × (gs : Groups) × (rest : List Terminal) × (ts ≡ spelled (among_ x gs) rest) × More rest
 MakesOne s.inserts More ts = (a : ℕ) × (b : ℕ) × (rest : List Terminal) × (ts ≡ t.inserts a b ∷ rest) × More rest
 MakesOne s.macro More ts = (n : List ℕ) × (rest : List Terminal) × (ts ≡ t.macro_name n ∷ rest) × More rest
 MakesOne s.base More ts = (b : Option Base) × (rest : List Terminal) × (ts ≡ spelled_base b rest) × More rest
@@ -115,7 +115,7 @@ subject_made d (t.name n) k = λ ts m. (m.0 n, m.1, m.2 n, m.3)
 subject_made d t.open_ k = λ ts m.
     let e = expression_made d (s.comparison d ∷ s.expression d (s.closing d ∷ k)) ts m in
     let g = expression_made d (s.closing d ∷ k) e.3.1 e.3.3 in (
-      values_compared e.0 e.3.0 g.0,
+      compare_values_ e.0 e.3.0 g.0,
       g.3.0,
       cons t.dollar (cons t.open_ (e.2 ∙ ap (λ (r : Ts). spelled_expression e.0 r) (e.3.2 ∙ cons (t.compares e.3.0) (g.2 ∙ ap (λ (r : Ts). spelled_expression g.0 r) g.3.1)))),
       g.3.2,
@@ -124,9 +124,9 @@ subject_made d _ k = tt
 
 operator_made : (d : ℕ) (x : Terminal) (k : Stack) → Assembles (s.operator d ∷ k) x (behind_operator d x k)
 operator_made d (t.assigns o) k = λ ts m. let e = expression_made d k ts m in
-    (λ n. assigned n o e.0, e.1, λ n. cons t.dollar (cons (t.name n) (cons (t.assigns o) e.2)), e.3)
+    (λ n. assign_ n o e.0, e.1, λ n. cons t.dollar (cons (t.name n) (cons (t.assigns o) e.2)), e.3)
 operator_made d (t.compares o) k = λ ts m. let e = expression_made d k ts m in
-    (λ n. compared n o e.0, e.1, λ n. cons t.dollar (cons (t.name n) (cons (t.compares o) e.2)), e.3)
+    (λ n. compare_ n o e.0, e.1, λ n. cons t.dollar (cons (t.name n) (cons (t.compares o) e.2)), e.3)
 operator_made d _ k = tt
 
 comparison_made : (d : ℕ) (x : Terminal) (k : Stack) → Assembles (s.comparison d ∷ k) x (behind_comparison d x k)
@@ -158,20 +158,20 @@ sums_made d _ k = tt
 
 command_made : (d : ℕ) (x : Terminal) (k : Stack) → Assembles (s.command d ∷ k) x (behind_command d x k)
 command_made d t.open_ k = λ ts m. (bracket m.0, m.3.0, cons t.open_ (m.2 ∙ ap (λ (r : Ts). spelled_rows m.0 r) m.3.1), m.3.2)
-command_made d (t.simple x) k = λ ts m. (single x, ts, refl, m)
-command_made d (t.literal q) k = λ ts m. (quoted q, ts, refl, m)
-command_made d (t.name n) k = λ ts m. (called n, ts, refl, m)
-command_made d t.non k = λ ts m. (excluded m.0 m.1, m.2, m.3, m.4)
+command_made d (t.simple x) k = λ ts m. (simple_ x, ts, refl, m)
+command_made d (t.literal q) k = λ ts m. (literal_ q, ts, refl, m)
+command_made d (t.name n) k = λ ts m. (name_ n, ts, refl, m)
+command_made d t.non k = λ ts m. (non_ m.0 m.1, m.2, m.3, m.4)
 command_made d (t.prefix p) k = λ ts m. (prefixed p m.0, m.1, cons (t.prefix p) m.2, m.3)
 command_made d (t.count n) k = λ ts m. let e = expression_made d (s.command (d + 1) ∷ k) ts m in
     (counted n e.0 e.3.0, e.3.1, cons (t.count n) (e.2 ∙ ap (λ (r : Ts). spelled_expression e.0 r) e.3.2), e.3.3)
-command_made d (t.move o) k = λ ts m. let e = expression_made d k ts m in (moved o e.0, e.1, cons (t.move o) e.2, e.3)
+command_made d (t.move o) k = λ ts m. let e = expression_made d k ts m in (move_ o e.0, e.1, cons (t.move o) e.2, e.3)
 command_made d (t.naming x) k = λ ts m. (named x m.0, m.1, cons (t.naming x) m.2, m.3)
-command_made d (t.edit x) k = λ ts m. (edited x m.0, m.1, cons (t.edit x) m.2, m.3)
-command_made d t.set_limit k = λ ts m. (limited m.0 m.3.2.0, m.3.2.1, cons t.set_limit (m.2 ∙ ap (λ (r : Ts). spelled m.0 r) (m.3.1 ∙ cons t.for_ m.3.2.2)), m.3.2.3)
+command_made d (t.edit x) k = λ ts m. (splice_ x m.0, m.1, cons (t.edit x) m.2, m.3)
+command_made d t.set_limit k = λ ts m. (setlimit_ m.0 m.3.2.0, m.3.2.1, cons t.set_limit (m.2 ∙ ap (λ (r : Ts). spelled m.0 r) (m.3.1 ∙ cons t.for_ m.3.2.2)), m.3.2.3)
 command_made d t.dollar k = λ ts m. (m.0, m.1, m.2, m.3)
 command_made d t.among k = λ ts m. (
-  chosen m.2.0 m.2.3.0,
+  among_ m.2.0 m.2.3.0,
   m.2.3.3.0,
   cons t.among (m.1 ∙ cons t.open_ (m.2.2 ∙ ap (λ (r : Ts). spelled_starter m.2.0 r) (m.2.3.2 ∙ ap (λ (r : Ts). spelled_groups m.2.3.0 r) m.2.3.3.1))),
   m.2.3.3.2,
@@ -362,15 +362,15 @@ complete (s.opening d ∷ k) = let m = complete k in (t.open_ ∷ m.0, (m.0, ref
 complete (s.closing d ∷ k) = let m = complete k in (t.close_ ∷ m.0, (m.0, refl, m.1))
 complete (s.name d ∷ k) = let m = complete k in (t.name [] ∷ m.0, ([], m.0, refl, m.1))
 complete (s.argument d ∷ k) = let m = complete k in (t.name [] ∷ m.0, (by_name [], m.0, refl, m.1))
-complete (s.command d ∷ k) = let m = complete k in (t.name [] ∷ m.0, (called [], m.0, refl, m.1))
+complete (s.command d ∷ k) = let m = complete k in (t.name [] ∷ m.0, (name_ [], m.0, refl, m.1))
 complete (s.others d ∷ k) = let m = complete k in (m.0, (no_others, m.0, refl, m.1))
 complete (s.rows d ∷ k) = let m = complete k in (m.0, (no_rows, m.0, refl, m.1))
 complete (s.for_ d ∷ k) = let m = complete k in (t.for_ ∷ m.0, (m.0, refl, m.1))
 complete (s.excluded d ∷ k) = let m = complete k in (t.name [] ∷ m.0, (false, [], m.0, refl, m.1))
 complete (s.subject d ∷ k) = let m = complete k in
-    (t.name [] ∷ t.assigns assignments.Equals ∷ t.number 0 ∷ m.0, (assigned [] assignments.Equals zero, m.0, refl, m.1))
+    (t.name [] ∷ t.assigns assignments.Equals ∷ t.number 0 ∷ m.0, (assign_ [] assignments.Equals zero, m.0, refl, m.1))
 complete (s.operator d ∷ k) = let m = complete k in
-    (t.assigns assignments.Equals ∷ t.number 0 ∷ m.0, (λ n. assigned n assignments.Equals zero, m.0, λ n. refl, m.1))
+    (t.assigns assignments.Equals ∷ t.number 0 ∷ m.0, (λ n. assign_ n assignments.Equals zero, m.0, λ n. refl, m.1))
 complete (s.comparison d ∷ k) = let m = complete k in (t.compares comparisons.Same ∷ m.0, (comparisons.Same, m.0, refl, m.1))
 complete (s.factor d ∷ k) = let m = complete k in (t.number 0 ∷ m.0, (numeral 0, m.0, refl, m.1))
 complete (s.scales d ∷ k) = let m = complete k in (m.0, (no_scales, m.0, refl, m.1))
@@ -392,6 +392,6 @@ complete (s.plains ∷ k) = let m = complete k in (m.0, ([], m.0, refl, m.1))
 complete (s.item ∷ k) = let m = complete k in (t.string_escapes ∷ t.inserts 0 0 ∷ m.0, (plain (escapes 0 0), m.0, refl, m.1))
 complete (s.items ∷ k) = let m = complete k in (m.0, ([], m.0, refl, m.1))
 
-pub runs_made : (ps : List Placed) (k : Stack) (End : Stack → Type 0) → Runs ps k End → (rest : List Terminal) × Makes k (tokens ps ++ rest)
+pub runs_made : (ps : List AtDepth) (k : Stack) (End : Stack → Type 0) → Runs ps k End → (rest : List Terminal) × Makes k (tokens ps ++ rest)
 runs_made [] k End h = complete k
 runs_made (p ∷ ps) k End h = let m = runs_made ps h.0 End h.2 in (m.0, step_made k h.0 p.0 p.1 (tokens ps ++ m.0) h.1 m.1)

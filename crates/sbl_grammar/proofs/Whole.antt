@@ -6,10 +6,10 @@ use Rattle.sbl_text.specs.declared.fault.ScriptFault.TheVariants as script
 use Rattle.sbl_grammar.specs.declared.error.Fault.TheVariants.{Syntax, TooDeep, OutOfProfile}
 use Rattle.sbl_grammar.specs.declared.error.ReadError.{ReadError}
 use Rattle.sbl_grammar.specs.declared.error.ReadError.TheVariants as errors
-use Rattle.sbl_grammar.specs.Terminal.{Terminal, terminal_of, terminals_of, left}
-use Rattle.sbl_grammar.specs.Terminal as t
+use Rattle.sbl_tree.specs.Terminal.{Terminal, terminal_of, terminals_of, left}
+use Rattle.sbl_tree.specs.Terminal as t
 use Rattle.sbl_text.specs.Lexemes.{lexeme_of}
-use Rattle.sbl_grammar.specs.Tree.{Item, Tree, Others, Starter, Groups, chosen, Argument, Term, argument_terminal, spelled, spelled_terms, spelled_others, spelled_items}
+use Rattle.sbl_tree.specs.Tree.{Item, Command, Others, Starter, Groups, among_, Argument, Term, argument_terminal, spelled, spelled_terms, spelled_others, spelled_items}
 use Rattle.sbl_grammar.specs.Texts.{Text, TreeOf, tokens_of, first_stack}
 use Rattle.sbl_grammar.specs.Texts as texts
 use Rattle.sbl_grammar.specs.Steps.{Stack, items, fault, syntax, no_operator}
@@ -83,15 +83,15 @@ fault_of w ts end (errors.Fault (Syntax at)) h = inr (at, refl, is_syntax w (ter
 fault_of w ts end (errors.Fault (TooDeep at)) h = inr (at, refl, is_too_deep w (terminals_of ts) (left ts at) h)
 fault_of w ts end (errors.Fault (OutOfProfile at)) h = inr (at, refl, out_of_profile w ts at h)
 
-pub read_body : (ts : List Token) (at : ℕ) (b : Tree × Others) → length ts ≤ at → terminals_of ts ≡ spelled b.0 (spelled_others b.1 (left ts at)) → ((k : Stack) → fault (terminals_of ts) (s.command 1 ∷ s.others 1 ∷ k) ≡ fault (left ts at) k) → IsReadAs texts.body (terminals_of ts) b
+pub read_body : (ts : List Token) (at : ℕ) (b : Command × Others) → length ts ≤ at → terminals_of ts ≡ spelled b.0 (spelled_others b.1 (left ts at)) → ((k : Stack) → fault (terminals_of ts) (s.command 1 ∷ s.others 1 ∷ k) ≡ fault (left ts at) k) → IsReadAs texts.body (terminals_of ts) b
 read_body ts at b le h g =
     let none = none_left ts at le in
     is_read texts.body (terminals_of ts) b (h ∙ ap (λ (r : Ts). spelled b.0 (spelled_others b.1 r)) none ∙ sym (body_tokens b.0 b.1)) (g [] ∙ ap (λ (r : Ts). fault r []) none)
 
-pub read_among : (ts : List Token) (at d : ℕ) (a : Starter × Groups) → length ts ≤ at → terminals_of ts ≡ spelled (chosen a.0 a.1) (left ts at) → ((k : Stack) → fault (terminals_of ts) (s.among d ∷ k) ≡ fault (left ts at) k) → IsReadAs (texts.among d) (terminals_of ts) a
+pub read_among : (ts : List Token) (at d : ℕ) (a : Starter × Groups) → length ts ≤ at → terminals_of ts ≡ spelled (among_ a.0 a.1) (left ts at) → ((k : Stack) → fault (terminals_of ts) (s.among d ∷ k) ≡ fault (left ts at) k) → IsReadAs (texts.among d) (terminals_of ts) a
 read_among ts at d a le h g =
     let none = none_left ts at le in
-    is_read (texts.among d) (terminals_of ts) a (h ∙ ap (λ (r : Ts). spelled (chosen a.0 a.1) r) none ∙ sym (tree_tokens (chosen a.0 a.1) d [])) (g [] ∙ ap (λ (r : Ts). fault r []) none)
+    is_read (texts.among d) (terminals_of ts) a (h ∙ ap (λ (r : Ts). spelled (among_ a.0 a.1) r) none ∙ sym (tree_tokens (among_ a.0 a.1) d [])) (g [] ∙ ap (λ (r : Ts). fault r []) none)
 
 pub read_terms : (ts : List Token) (at : ℕ) (x : Argument × List Term) → length ts ≤ at → terminals_of ts ≡ argument_terminal x.0 ∷ spelled_terms x.1 (left ts at) → ((k : Stack) → fault (terminals_of ts) (s.argument 0 ∷ s.terms ∷ k) ≡ fault (left ts at) k) → IsReadAs texts.terms (terminals_of ts) x
 read_terms ts at x le h g =

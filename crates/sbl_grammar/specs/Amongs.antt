@@ -1,6 +1,6 @@
 -- The amongs of a tree, in the order of the word `among`, and a tree in which another stands in the place of one.
 use Rattle.std.specs.Prelude.{◌≡◌, ℕ, ◌+◌, ◌-◌, List, [], ◌∷◌, Option, Some, None, nat_eq, if◌then◌else◌}
-use Rattle.sbl_grammar.specs.Tree.{Tree, bracket, prefixed, counted, limited, chosen, Rows, no_rows, row, Others, no_others, joined, Starter, no_starter, starter, Groups, bare, group}
+use Rattle.sbl_tree.specs.Tree.{Command, bracket, prefixed, counted, setlimit_, among_, Rows, no_rows, row, Others, no_others, joined, Starter, no_starter, starter, Groups, bare, group}
 use Rattle.sbl_grammar.specs.Places.{placed}
 use Rattle.sbl_grammar.specs.Reading.{AreShallow}
 
@@ -10,12 +10,12 @@ Held = ℕ × Starter × Groups
 
 -- the amongs of a command that stands at a depth, and then the rest
 abbrev mutual
-  pub amongs : Tree → ℕ → List Held → List Held
+  pub amongs : Command → ℕ → List Held → List Held
   amongs (bracket rs) d rest = amongs_of_rows rs (d + 1) rest
   amongs (prefixed p c) d rest = amongs c (d + 1) rest
   amongs (counted n e c) d rest = amongs c (d + 1) rest
-  amongs (limited b c) d rest = amongs b (d + 1) (amongs c (d + 1) rest)
-  amongs (chosen s gs) d rest = (d, s, gs) ∷ amongs_of_starter s d (amongs_of_groups gs d rest)
+  amongs (setlimit_ b c) d rest = amongs b (d + 1) (amongs c (d + 1) rest)
+  amongs (among_ s gs) d rest = (d, s, gs) ∷ amongs_of_starter s d (amongs_of_groups gs d rest)
   amongs _ d rest = rest
 
   pub amongs_of_rows : Rows → ℕ → List Held → List Held
@@ -35,7 +35,7 @@ abbrev mutual
   amongs_of_groups (group e es rs gs) d rest = amongs_of_rows rs (d + 1 + 1) (amongs_of_groups gs d rest)
 
 -- the amongs of a routine's body
-abbrev pub amongs_of_body : Tree × Others → List Held
+abbrev pub amongs_of_body : Command × Others → List Held
 amongs_of_body b = amongs b.0 1 (amongs_of_others b.1 1 [])
 
 -- the k-th, counted from 1
@@ -45,12 +45,12 @@ nth_held k (h ∷ hs) = if nat_eq k 1 then Some h else nth_held (k - 1) hs
 
 -- how many there are
 abbrev mutual
-  pub count_amongs : Tree → ℕ
+  pub count_amongs : Command → ℕ
   count_amongs (bracket rs) = count_in_rows rs
   count_amongs (prefixed p c) = count_amongs c
   count_amongs (counted n e c) = count_amongs c
-  count_amongs (limited b c) = count_amongs b + count_amongs c
-  count_amongs (chosen s gs) = 1 + (count_in_starter s + count_in_groups gs)
+  count_amongs (setlimit_ b c) = count_amongs b + count_amongs c
+  count_amongs (among_ s gs) = 1 + (count_in_starter s + count_in_groups gs)
   count_amongs _ = 0
 
   pub count_in_rows : Rows → ℕ
@@ -76,12 +76,12 @@ count_in_among a = 1 + (count_in_starter a.0 + count_in_groups a.1)
 -- The tree with another among in the place of the k-th, counted from 1: for what stands behind a part, k is less by the
 -- part's amongs. There is no 0-th.
 abbrev mutual
-  pub put_among : Tree → ℕ → Starter × Groups → Tree
+  pub put_among : Command → ℕ → Starter × Groups → Command
   put_among (bracket rs) k a = bracket (put_in_rows rs k a)
   put_among (prefixed p c) k a = prefixed p (put_among c k a)
   put_among (counted n e c) k a = counted n e (put_among c k a)
-  put_among (limited b c) k a = limited (put_among b k a) (put_among c (k - count_amongs b) a)
-  put_among (chosen s gs) k a = if nat_eq k 1 then chosen a.0 a.1 else chosen (put_in_starter s (k - 1) a) (put_in_groups gs (k - 1 - count_in_starter s) a)
+  put_among (setlimit_ b c) k a = setlimit_ (put_among b k a) (put_among c (k - count_amongs b) a)
+  put_among (among_ s gs) k a = if nat_eq k 1 then among_ a.0 a.1 else among_ (put_in_starter s (k - 1) a) (put_in_groups gs (k - 1 - count_in_starter s) a)
   put_among c k a = c
 
   pub put_in_rows : Rows → ℕ → Starter × Groups → Rows
@@ -101,7 +101,7 @@ abbrev mutual
   put_in_groups (group e es rs gs) k a = group e es (put_in_rows rs k a) (put_in_groups gs (k - count_in_rows rs) a)
 
 -- a routine's body with another among in the place of the k-th
-abbrev pub put_in_body : Tree × Others → ℕ → Starter × Groups → Tree × Others
+abbrev pub put_in_body : Command × Others → ℕ → Starter × Groups → Command × Others
 put_in_body b k a = (put_among b.0 k a, put_in_others b.1 (k - count_amongs b.0) a)
 
 -- an among in which another stands in the place of itself, the first, or of one inside
@@ -110,4 +110,4 @@ put_in_among b k a = if nat_eq k 1 then a else (put_in_starter b.0 (k - 1) a, pu
 
 -- an among may stand where the one with this number does: none of its tokens is too deep there
 abbrev pub FitsAt : ℕ → List Held → Starter × Groups → Type 0
-FitsAt k hs a = (h : Held) → nth_held k hs ≡ Some h → AreShallow (placed (chosen a.0 a.1) h.0 [])
+FitsAt k hs a = (h : Held) → nth_held k hs ≡ Some h → AreShallow (placed (among_ a.0 a.1) h.0 [])

@@ -7,7 +7,8 @@ use Rattle.sbl_text.specs.declared.token.Token.{Token}
 use Rattle.sbl_text.specs.Lexemes.{number_in, spelling_in, characters_in, inserts_in}
 use Rattle.sbl_grammar.specs.declared.role.Role.{Role}
 use Rattle.sbl_grammar.specs.declared.role.Role.TheVariants as roles
-use Rattle.sbl_grammar.specs.Terminal.{Quoted, role_as, word_terminal, sign_terminal}
+use Rattle.sbl_tree.specs.Terminal.{Quoted, word_terminal, sign_terminal}
+use Rattle.sbl_grammar.specs.Roles.{role_as}
 
 abbrev pub kind_role : Kind → Role
 kind_role (kinds.Word w) = role_as (word_terminal w)

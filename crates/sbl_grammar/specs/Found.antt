@@ -3,8 +3,8 @@ use Rattle.std.specs.Prelude.{◌≡◌, ℕ, ◌≤◌, List, Some}
 use Rattle.sbl_grammar.specs.declared.finding.Found.{Found}
 use Rattle.sbl_grammar.specs.declared.finding.Found.TheVariants as found
 use Rattle.sbl_grammar.specs.Amongs.{Held, nth_held}
-use Rattle.sbl_grammar.specs.Steps.{max_depth}
-use Rattle.sbl_grammar.specs.View.{view_among}
+use Rattle.sbl_grammar.specs.Places.{max_depth}
+use Rattle.sbl_tree.specs.View.{view_among}
 
 -- the among is in the part, or it has another number behind it
 abbrev pub Finds : Found → ℕ → (List Held → List Held) → Type 0

@@ -4,7 +4,7 @@ use Rattle.sbl_text.specs.declared.token.Token.{Token}
 use Rattle.sbl_grammar.specs.declared.error.Fault.TheVariants.{Syntax, TooDeep, OutOfProfile}
 use Rattle.sbl_grammar.specs.declared.error.ReadError.{ReadError}
 use Rattle.sbl_grammar.specs.declared.error.ReadError.TheVariants as errors
-use Rattle.sbl_grammar.specs.Terminal.{Terminal, left}
+use Rattle.sbl_tree.specs.Terminal.{Terminal, left}
 use Rattle.sbl_grammar.specs.Steps.{Stack, Fault, fault, syntax, too_deep, no_operator}
 
 -- the error tells the fault, by the number of tokens before its place

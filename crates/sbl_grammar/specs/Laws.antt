@@ -1,7 +1,7 @@
 -- What is shown of the trees and the faults of some tokens.
 use Rattle.std.specs.Prelude.{◌≡◌, List}
-use Rattle.sbl_grammar.specs.Terminal.{Terminal}
-use Rattle.sbl_grammar.specs.Tree.{Item, written}
+use Rattle.sbl_tree.specs.Terminal.{Terminal}
+use Rattle.sbl_tree.specs.Tree.{Item, written}
 use Rattle.sbl_grammar.specs.Texts.{Text, TreeOf, script, tokens_of}
 use Rattle.sbl_grammar.specs.Reading.{IsReadAs, IsSyntaxAt, IsTooDeepAt, IsOutOfProfileAt}
 

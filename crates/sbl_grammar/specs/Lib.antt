@@ -1,7 +1,5 @@
-pub mod Terminal
-pub mod Tree
+pub mod Roles
 pub mod Places
-pub mod View
 pub mod Amongs
 pub mod Steps
 pub mod Texts

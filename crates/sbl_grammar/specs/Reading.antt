@@ -1,10 +1,9 @@
 -- What reading is: a condition on all trees.
 use Rattle.std.specs.Prelude.{◌≡◌, ℕ, ◌<◌, ◌≤◌, List, [], ◌∷◌, ◌++◌}
 use Rattle.std.specs.List.{AllByRecursion}
-use Rattle.sbl_grammar.specs.Terminal.{Terminal, dollar, name}
+use Rattle.sbl_tree.specs.Terminal.{Terminal, dollar, name}
 use Rattle.sbl_grammar.specs.Texts.{Text, TreeOf, places_in, tokens_of}
-use Rattle.sbl_grammar.specs.Places.{Placed, tokens}
-use Rattle.sbl_grammar.specs.Steps.{max_depth}
+use Rattle.sbl_grammar.specs.Places.{AtDepth, tokens, max_depth}
 
 -- these tokens are the front of a tree's
 abbrev pub IsFront : Text → List Terminal → Type 0
@@ -12,7 +11,7 @@ IsFront t before = (tree : TreeOf t) × (rest : List Terminal) × (tokens_of t t
 
 -- the token after these stands too deep in a tree whose tokens so begin
 abbrev pub IsTooDeep : Text → List Terminal → Terminal → Type 0
-IsTooDeep t before x = (tree : TreeOf t) × (front : List Placed) × (depth : ℕ) × (rest : List Placed)
+IsTooDeep t before x = (tree : TreeOf t) × (front : List AtDepth) × (depth : ℕ) × (rest : List AtDepth)
     × (places_in t tree ≡ front ++ (x, depth) ∷ rest) × (tokens front ≡ before) × (max_depth < depth)
 
 -- none of these tokens does
@@ -20,7 +19,7 @@ abbrev pub HasNoneTooDeep : Text → List Terminal → Type 0
 HasNoneTooDeep t before = (b c : List Terminal) (x : Terminal) → before ≡ b ++ x ∷ c → IsTooDeep t b x → ⊥
 
 -- none stands too deep
-abbrev pub AreShallow : List Placed → Type 0
+abbrev pub AreShallow : List AtDepth → Type 0
 AreShallow ps = AllByRecursion (λ p. p.1 ≤ max_depth) ps
 
 -- the tree of the tokens, nowhere too deep

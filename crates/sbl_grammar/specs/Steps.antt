@@ -1,8 +1,9 @@
 -- What may come next, token by token: a stack of what is still wanted.
 use Rattle.std.specs.Prelude.{ℕ, ◌+◌, Bool, true, false, ◌&&◌, List, [], ◌∷◌, Option, Some, None, nat_lt, if◌then◌else◌}
-use Rattle.sbl_grammar.specs.declared.tree.Additive.TheVariants as additives
-use Rattle.sbl_grammar.specs.Terminal.{Terminal}
-use Rattle.sbl_grammar.specs.Terminal as t
+use Rattle.sbl_grammar.specs.Places.{max_depth}
+use Rattle.sbl_tree.specs.declared.tree.Additive.TheVariants as additives
+use Rattle.sbl_tree.specs.Terminal.{Terminal}
+use Rattle.sbl_tree.specs.Terminal as t
 
 -- what is wanted, with the depth of what holds it
 pub data Symbol : Type 0 where
@@ -227,9 +228,6 @@ step (s ∷ k) x = or_else (behind s x k) (if is_optional s then step k x else s
 abbrev pub is_done : Stack → Bool
 is_done [] = true
 is_done (s ∷ k) = is_optional s && is_done k
-
-abbrev pub max_depth : ℕ
-max_depth = 64
 
 -- The fault, with the tokens from the one on that cannot come or stands too deep.
 pub data Fault : Type 0 where

@@ -1,8 +1,8 @@
 -- The texts that are read: a whole script, or what is to stand in the place of a part of one.
 use Rattle.std.specs.Prelude.{ℕ, List, [], ◌∷◌}
-use Rattle.sbl_grammar.specs.Terminal.{Terminal}
-use Rattle.sbl_grammar.specs.Tree.{Item, Tree, Others, Starter, Groups, chosen, Argument, Term, argument_terminal}
-use Rattle.sbl_grammar.specs.Places.{Placed, placed, placed_others, placed_terms, places, tokens}
+use Rattle.sbl_tree.specs.Terminal.{Terminal}
+use Rattle.sbl_tree.specs.Tree.{Item, Command, Others, Starter, Groups, among_, Argument, Term, argument_terminal}
+use Rattle.sbl_grammar.specs.Places.{AtDepth, placed, placed_others, placed_terms, places, tokens}
 use Rattle.sbl_grammar.specs.Steps.{Stack, command, others, argument, items}
 use Rattle.sbl_grammar.specs.Steps as wanted
 
@@ -14,16 +14,16 @@ pub data Text : Type 0 where
 -- what each is read as
 abbrev pub TreeOf : Text → Type 0
 TreeOf script = List Item
-TreeOf body = Tree × Others
+TreeOf body = Command × Others
 TreeOf terms = Argument × List Term
 TreeOf (among d) = Starter × Groups
 
 -- its tokens with the depth at which each stands
-abbrev pub places_in : (t : Text) → TreeOf t → List Placed
+abbrev pub places_in : (t : Text) → TreeOf t → List AtDepth
 places_in script is = places is
 places_in body b = placed b.0 1 (placed_others b.1 1 [])
 places_in terms x = (argument_terminal x.0, 0) ∷ placed_terms x.1 []
-places_in (among d) a = placed (chosen a.0 a.1) d []
+places_in (among d) a = placed (among_ a.0 a.1) d []
 
 abbrev pub tokens_of : (t : Text) → TreeOf t → List Terminal
 tokens_of t x = tokens (places_in t x)

@@ -6,7 +6,7 @@ use Rattle.sbl_text.specs.declared.fault.ScriptFault.TheVariants as script
 use Rattle.sbl_grammar.specs.declared.error.Fault.TheVariants.{Syntax, TooDeep, OutOfProfile}
 use Rattle.sbl_grammar.specs.declared.error.ReadError.{ReadError}
 use Rattle.sbl_grammar.specs.declared.error.ReadError.TheVariants as errors
-use Rattle.sbl_grammar.specs.Terminal.{terminals_of, left}
+use Rattle.sbl_tree.specs.Terminal.{terminals_of, left}
 use Rattle.sbl_grammar.specs.Texts.{Text}
 use Rattle.sbl_grammar.specs.Reading.{IsSyntaxAt, IsTooDeepAt, IsOutOfProfileAt}
 

@@ -5,11 +5,11 @@ ghost use Rattle.sbl_grammar.specs.Amongs.{FitsAt, amongs_of_body, count_amongs,
 ghost use Rattle.sbl_grammar.specs.Amongs as spec;
 ghost use Rattle.sbl_grammar.specs.Reading.{AreShallow};
 ghost use Rattle.sbl_grammar.specs.Texts.{body, places_in};
-ghost use Rattle.sbl_grammar.specs.View.{view_among, view_command, view_groups, view_others, view_row, view_rows};
-ghost use Rattle.sbl_grammar.specs.Tree as trees;
+ghost use Rattle.sbl_tree.specs.View.{view_among, view_command, view_groups, view_others, view_row, view_rows};
+ghost use Rattle.sbl_tree.specs.Tree as trees;
 
-use crate::copies::{copy_among, copy_command, copy_entries, copy_entry, copy_expression};
-use crate::tree::{Among, Command, Group, Joined, Row};
+use sbl_tree::{copy_among, copy_command, copy_entries, copy_entry, copy_expression};
+use sbl_tree::{Among, Command, Group, Joined, Row};
 use std::alloc::{AllocError, Global};
 
 /// A copy with `among` in the place of the `at`-th among, counted from 1, and `at` less the number of amongs.
@@ -61,7 +61,7 @@ fn put_in_command(
         }
         | Command::Move(_, _)
         | Command::Named(_, _)
-        | Command::Edit(_, _)
+        | Command::Splice(_, _)
         | Command::Assign(_, _, _)
         | Command::Compare(_, _, _)
         | Command::CompareValues(_, _, _) => Ok((copy_command(alloc, command)?, at)),

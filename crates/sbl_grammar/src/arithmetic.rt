@@ -1,18 +1,19 @@
 //! Arithmetic expressions.
 
 ghost use Rattle.std.specs.Prelude.{◌≡◌, ◌≤◌, ◌∷◌, [], string_bytes};
-ghost use Rattle.sbl_grammar.specs.Terminal.{role_of, left};
+ghost use Rattle.sbl_tree.specs.Terminal.{left};
+ghost use Rattle.sbl_grammar.specs.Roles.{role_of};
 ghost use Rattle.sbl_grammar.specs.Steps as wanted;
-ghost use Rattle.sbl_grammar.specs.Steps.{max_depth};
-ghost use Rattle.sbl_grammar.specs.Tree.{spelled_expression, spelled_sums, spelled_product, spelled_scales, spelled_factor};
-ghost use Rattle.sbl_grammar.specs.View.{view_expression, view_sums, view_product, view_scales, view_factor};
+ghost use Rattle.sbl_grammar.specs.Places.{max_depth};
+ghost use Rattle.sbl_tree.specs.Tree.{spelled_expression, spelled_sums, spelled_product, spelled_scales, spelled_factor};
+ghost use Rattle.sbl_tree.specs.View.{view_expression, view_sums, view_product, view_scales, view_factor};
 ghost use Rattle.sbl_grammar.specs.Gives.{Gives};
 
-use crate::cursor::{behind, number, role, text};
+use crate::front::{behind, number, role, text};
 use crate::error::{MAX_DEPTH, ReadError, syntax, too_deep};
 use crate::role::Role;
 use crate::tokens::{argument, close};
-use crate::tree::{Added, Additive, Expression, Factor, Product, Scaled};
+use sbl_tree::{Added, Additive, Expression, Factor, Product, Scaled};
 use sbl_text::Token;
 use std::alloc::Global;
 

@@ -1,24 +1,25 @@
 //! Commands, by recursive descent.
 
 ghost use Rattle.std.specs.Prelude.{◌≡◌, ◌≤◌, ◌+◌, ◌∷◌, [], drop, string_bytes, OnOk};
-ghost use Rattle.sbl_grammar.specs.Terminal.{role_of, left};
-ghost use Rattle.sbl_grammar.specs.Terminal as t;
+ghost use Rattle.sbl_tree.specs.Terminal.{left};
+ghost use Rattle.sbl_grammar.specs.Roles.{role_of};
+ghost use Rattle.sbl_tree.specs.Terminal as t;
 ghost use Rattle.sbl_grammar.specs.Steps as wanted;
-ghost use Rattle.sbl_grammar.specs.Steps.{max_depth};
-ghost use Rattle.sbl_grammar.specs.Tree.{chosen, spelled, spelled_rows, spelled_others, spelled_starter, spelled_groups};
-ghost use Rattle.sbl_grammar.specs.View.{view_among, view_command, view_rows, view_others, view_starter, view_groups, view_entry};
+ghost use Rattle.sbl_grammar.specs.Places.{max_depth};
+ghost use Rattle.sbl_tree.specs.Tree.{among_, spelled, spelled_rows, spelled_others, spelled_starter, spelled_groups};
+ghost use Rattle.sbl_tree.specs.View.{view_among, view_command, view_rows, view_others, view_starter, view_groups, view_entry};
 ghost use Rattle.sbl_grammar.specs.Gives.{Gives};
 ghost use Rattle.std.specs.Prelude.{map};
 
 use crate::arithmetic::expression;
-use crate::cursor::{behind, literal, role, text};
+use crate::front::{behind, literal, role, text};
 use crate::entries::{entries, entry};
 use crate::error::{MAX_DEPTH, ReadError, syntax, too_deep};
 use crate::leaves::{dollar, edited, moved, named, non};
 use crate::role::Role;
 use crate::starts::begins_command;
 use crate::tokens::{close, for_word, open};
-use crate::tree::{Among, Command, Count, Entry, Group, Joined, Prefix, Row};
+use sbl_tree::{Among, Command, Count, Entry, Group, Joined, Prefix, Row};
 use sbl_text::Token;
 use std::alloc::Global;
 
@@ -54,7 +55,7 @@ pub fn command(
         Role::Count(count) => counted(alloc, tokens, at, depth, count),
         Role::Move(word) => moved(alloc, tokens, at, depth, word),
         Role::Naming(word) => named(alloc, tokens, at, depth, word),
-        Role::Edit(word) => edited(alloc, tokens, at, depth, word),
+        Role::Splice(word) => edited(alloc, tokens, at, depth, word),
         Role::SetLimit => set_limit(alloc, tokens, at, depth),
         Role::Dollar => dollar(alloc, tokens, at, depth),
         Role::Among => {
@@ -150,7 +151,7 @@ pub fn among(
 ) -> Result<(Among, usize), ReadError>
     requires first { role_of (left tokens.now at) ≡ Role.Among }
     requires shallow { depth ≤ max_depth }
-    ensures { Gives tokens.now at (wanted.among depth ∷ []) (λ x. spelled (chosen (view_among x.0).0 (view_among x.0).1) (left tokens.now x.1)) (λ x. x.1) result }
+    ensures { Gives tokens.now at (wanted.among depth ∷ []) (λ x. spelled (among_ (view_among x.0).0 (view_among x.0).1) (left tokens.now x.1)) (λ x. x.1) result }
 {
     let inside = open(tokens, behind(tokens, at), depth)?;
     let (starter, rest) = starter(alloc, tokens, inside, depth)?;

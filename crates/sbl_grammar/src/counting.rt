@@ -2,10 +2,10 @@
 
 ghost use Rattle.std.specs.Prelude.{◌≡◌, ◌<◌, ◌-◌, List, nat_eq};
 ghost use Rattle.sbl_grammar.specs.Amongs as spec;
-ghost use Rattle.sbl_grammar.specs.Tree as trees;
-ghost use Rattle.sbl_grammar.specs.View.{view_among, view_command, view_groups, view_others, view_row, view_rows};
+ghost use Rattle.sbl_tree.specs.Tree as trees;
+ghost use Rattle.sbl_tree.specs.View.{view_among, view_command, view_groups, view_others, view_row, view_rows};
 
-use crate::tree::{Among, Command, Group, Joined, Row};
+use sbl_tree::{Among, Command, Group, Joined, Row};
 
 /// A number less the count of amongs in a command; 0 where there are more.
 #[cycle(less)]
@@ -27,7 +27,7 @@ fn less_command(command: &Command, number: u64) -> u64
         }
         | Command::Move(_, _)
         | Command::Named(_, _)
-        | Command::Edit(_, _)
+        | Command::Splice(_, _)
         | Command::Assign(_, _, _)
         | Command::Compare(_, _, _)
         | Command::CompareValues(_, _, _) => number,

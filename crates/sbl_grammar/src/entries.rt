@@ -1,17 +1,18 @@
 //! The strings of an `among`.
 
 ghost use Rattle.std.specs.Prelude.{◌≡◌, ◌≤◌, ◌∷◌, [], drop, map, IfOk, IfErr};
-ghost use Rattle.sbl_grammar.specs.Terminal.{role_of, left};
+ghost use Rattle.sbl_tree.specs.Terminal.{left};
+ghost use Rattle.sbl_grammar.specs.Roles.{role_of};
 ghost use Rattle.sbl_grammar.specs.Steps as wanted;
-ghost use Rattle.sbl_grammar.specs.Steps.{max_depth};
-ghost use Rattle.sbl_grammar.specs.Tree.{spelled_condition, spelled_entry, spelled_entries};
-ghost use Rattle.sbl_grammar.specs.View.{view_name, view_entry};
+ghost use Rattle.sbl_grammar.specs.Places.{max_depth};
+ghost use Rattle.sbl_tree.specs.Tree.{spelled_condition, spelled_entry, spelled_entries};
+ghost use Rattle.sbl_tree.specs.View.{view_name, view_entry};
 ghost use Rattle.sbl_grammar.specs.Gives.{Gives};
 
-use crate::cursor::{behind, literal, role, text};
+use crate::front::{behind, literal, role, text};
 use crate::error::ReadError;
 use crate::role::Role;
-use crate::tree::Entry;
+use sbl_tree::Entry;
 use sbl_text::Token;
 use std::alloc::Global;
 

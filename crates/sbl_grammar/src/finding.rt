@@ -4,14 +4,13 @@ ghost use Rattle.std.specs.Prelude.{◌≡◌, ◌≤◌, ◌<◌, ◌-◌, List
 ghost use Rattle.sbl_grammar.specs.Amongs as spec;
 ghost use Rattle.sbl_grammar.specs.Amongs.{Held, amongs_of_body, count_amongs, count_in_among, count_in_groups, count_in_others, count_in_rows, nth_held};
 ghost use Rattle.sbl_grammar.specs.Found.{Finds};
-ghost use Rattle.sbl_grammar.specs.Places.{placed, placed_groups, placed_others, placed_rows, placed_starter};
+ghost use Rattle.sbl_grammar.specs.Places.{placed, placed_groups, placed_others, placed_rows, placed_starter, max_depth};
 ghost use Rattle.sbl_grammar.specs.Reading.{AreShallow};
-ghost use Rattle.sbl_grammar.specs.Steps.{max_depth};
 ghost use Rattle.sbl_grammar.specs.Texts.{body, places_in};
-ghost use Rattle.sbl_grammar.specs.Tree as trees;
-ghost use Rattle.sbl_grammar.specs.View.{view_among, view_command, view_groups, view_others, view_row, view_rows};
+ghost use Rattle.sbl_tree.specs.Tree as trees;
+ghost use Rattle.sbl_tree.specs.View.{view_among, view_command, view_groups, view_others, view_row, view_rows};
 
-use crate::tree::{Among, Command, Group, Joined, Row};
+use sbl_tree::{Among, Command, Group, Joined, Row};
 
 /// What is found in a part of a tree.
 pub(crate) enum Found<'a> {
@@ -45,7 +44,7 @@ fn in_command(command: &Command, depth: u8, number: u64) -> Found<'_>
         }
         | Command::Move(_, _)
         | Command::Named(_, _)
-        | Command::Edit(_, _)
+        | Command::Splice(_, _)
         | Command::Assign(_, _, _)
         | Command::Compare(_, _, _)
         | Command::CompareValues(_, _, _) => Found::Behind(number),
@@ -55,7 +54,7 @@ fn in_command(command: &Command, depth: u8, number: u64) -> Found<'_>
 /// An among comes before those in its starter, and these before those in its groups.
 #[cycle(find)]
 fn in_among(among: &Among, depth: u8, number: u64) -> Found<'_>
-    ensures { AreShallow (placed (trees.chosen (view_among among.now).0 (view_among among.now).1) depth []) → Finds result number (λ rest. spec.amongs (trees.chosen (view_among among.now).0 (view_among among.now).1) depth rest) }
+    ensures { AreShallow (placed (trees.among_ (view_among among.now).0 (view_among among.now).1) depth []) → Finds result number (λ rest. spec.amongs (trees.among_ (view_among among.now).0 (view_among among.now).1) depth rest) }
 {
     if number == 1 {
         return Found::There(depth, among);

@@ -1,20 +1,21 @@
 //! Items, by recursive descent.
 
 ghost use Rattle.std.specs.Prelude.{◌≡◌, ◌≤◌, ◌∷◌, [], map, string_bytes};
-ghost use Rattle.sbl_grammar.specs.Terminal.{role_of, left};
-ghost use Rattle.sbl_grammar.specs.Terminal as t;
+ghost use Rattle.sbl_tree.specs.Terminal.{left};
+ghost use Rattle.sbl_grammar.specs.Roles.{role_of};
+ghost use Rattle.sbl_tree.specs.Terminal as t;
 ghost use Rattle.sbl_grammar.specs.Steps as wanted;
-ghost use Rattle.sbl_grammar.specs.Tree.{argument_terminal, spelled, spelled_others, spelled_names, spelled_base, spelled_terms, spelled_plain, spelled_plains, spelled_item, spelled_items};
-ghost use Rattle.sbl_grammar.specs.View.{view_argument, view_literal, view_term, view_plain, view_row, view_item, view_items};
+ghost use Rattle.sbl_tree.specs.Tree.{argument_terminal, spelled, spelled_others, spelled_names, spelled_base, spelled_terms, spelled_plain, spelled_plains, spelled_item, spelled_items};
+ghost use Rattle.sbl_tree.specs.View.{view_argument, view_literal, view_term, view_plain, view_row, view_item, view_items};
 ghost use Rattle.sbl_grammar.specs.Gives.{Gives};
 
 use crate::commands::{command, others};
-use crate::cursor::{behind, inserts, literal, role, text};
+use crate::front::{behind, inserts, literal, role, text};
 use crate::error::{ReadError, syntax};
 use crate::role::Role;
 use crate::starts::{begins_argument, begins_item, begins_plain};
 use crate::tokens::{argument, close, name, open};
-use crate::tree::{Argument, Base, DeclarationKind, Item, Literal, Plain, Row, Term};
+use sbl_tree::{Argument, Base, DeclarationKind, Item, Literal, Plain, Row, Term};
 use sbl_text::Token;
 use std::alloc::Global;
 

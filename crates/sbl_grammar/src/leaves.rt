@@ -1,19 +1,20 @@
 //! Commands that hold no command.
 
 ghost use Rattle.std.specs.Prelude.{◌≡◌, ◌≤◌, ◌∷◌, [], drop, string_bytes};
-ghost use Rattle.sbl_grammar.specs.Terminal.{role_of, left};
+ghost use Rattle.sbl_tree.specs.Terminal.{left};
+ghost use Rattle.sbl_grammar.specs.Roles.{role_of};
 ghost use Rattle.sbl_grammar.specs.Steps as wanted;
-ghost use Rattle.sbl_grammar.specs.Steps.{max_depth};
-ghost use Rattle.sbl_grammar.specs.Tree.{spelled};
-ghost use Rattle.sbl_grammar.specs.View.{view_command};
+ghost use Rattle.sbl_grammar.specs.Places.{max_depth};
+ghost use Rattle.sbl_tree.specs.Tree.{spelled};
+ghost use Rattle.sbl_tree.specs.View.{view_command};
 ghost use Rattle.sbl_grammar.specs.Gives.{Gives};
 
 use crate::arithmetic::expression;
-use crate::cursor::{behind, role, text};
+use crate::front::{behind, role, text};
 use crate::error::{ReadError, out_of_profile, syntax};
 use crate::role::Role;
 use crate::tokens::{argument, close, comparison, name};
-use crate::tree::{Additive, Command, Edit, Move, Naming};
+use sbl_tree::{Additive, Command, Splice, Move, Naming};
 use sbl_text::Token;
 use std::alloc::Global;
 
@@ -109,14 +110,14 @@ pub fn edited(
     tokens: &[Token<'_>],
     at: usize,
     depth: u8,
-    word: Edit,
+    word: Splice,
 ) -> Result<(Command, usize), ReadError>
-    requires first { role_of (left tokens.now at) ≡ Role.Edit word }
+    requires first { role_of (left tokens.now at) ≡ Role.Splice word }
     requires shallow { depth ≤ max_depth }
     ensures { Gives tokens.now at (wanted.command depth ∷ []) (λ x. spelled (view_command x.0) (left tokens.now x.1)) (λ x. x.1) result }
 {
     let (string, rest) = argument(alloc, tokens, behind(tokens, at), depth)?;
-    Ok((Command::Edit(word, string), rest))
+    Ok((Command::Splice(word, string), rest))
 }
 
 /// `$ X = E`, `$ X == E`, `$ ( E1 == E2 )` and their like

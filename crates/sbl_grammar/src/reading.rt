@@ -2,27 +2,28 @@
 
 ghost use Rattle.std.specs.Prelude.{◌≡◌, ◌⊎◌, ◌≤◌, ◌∷◌, [], List, IfOk, IfErr, length, map};
 ghost use Rattle.sbl_text.specs.Lexemes.{Lexeme};
-ghost use Rattle.sbl_grammar.specs.Terminal.{Terminal, terminals_of, terminal_of, lexeme_as};
-ghost use Rattle.sbl_grammar.specs.Tree as trees;
-ghost use Rattle.sbl_grammar.specs.Tree.{written};
+ghost use Rattle.sbl_tree.specs.Terminal.{Terminal, terminals_of, terminal_of, lexeme_as};
+ghost use Rattle.sbl_tree.specs.Tree as trees;
+ghost use Rattle.sbl_tree.specs.Tree.{written};
 ghost use Rattle.sbl_grammar.specs.Texts.{script, body, first_stack};
 ghost use Rattle.sbl_grammar.specs.Texts as texts;
 ghost use Rattle.sbl_grammar.specs.Reading.{IsReadAs};
-ghost use Rattle.sbl_grammar.specs.View.{view_among, view_argument, view_items, view_row, view_term};
+ghost use Rattle.sbl_tree.specs.View.{view_among, view_argument, view_items, view_row, view_term};
 ghost use Rattle.sbl_grammar.specs.Amongs.{count_in_among};
 ghost use Rattle.sbl_grammar.specs.Told.{IsFaultOf, place_at, fault_told};
 ghost use Rattle.sbl_grammar.specs.Gives.{Fails};
 ghost use Rattle.sbl_grammar.specs.Laws.{FaultIsOne, PlacesAreWritten, TreeOrFault, TreesAreOne};
-ghost use Rattle.sbl_grammar.specs.Steps.{fault, max_depth};
+ghost use Rattle.sbl_grammar.specs.Places.{max_depth};
+ghost use Rattle.sbl_grammar.specs.Steps.{fault};
 ghost use Rattle.sbl_grammar.specs.Steps as wanted;
 
 use crate::commands::among;
-use crate::cursor::role;
+use crate::front::role;
 use crate::error::{Fault, ReadError, syntax};
 use crate::items::{items, row, terms};
 use crate::role::Role;
 use crate::tokens::argument;
-use crate::tree::{Among, Argument, Item, Row, Term};
+use sbl_tree::{Among, Argument, Item, Row, Term};
 use sbl_text::{ScriptFault, Token};
 use std::alloc::Global;
 

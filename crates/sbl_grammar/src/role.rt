@@ -1,7 +1,7 @@
 //! The part that a token plays in the grammar.
 
-use crate::tree::{
-    Additive, Assignment, Base, Comparison, Constant, Count, DeclarationKind, Edit, Joiner, Move,
+use sbl_tree::{
+    Additive, Assignment, Base, Comparison, Constant, Count, DeclarationKind, Splice, Joiner, Move,
     Multiplicative, Naming, Prefix, Simple,
 };
 
@@ -51,7 +51,7 @@ pub enum Role {
     /// `set` and its like
     Naming(Naming),
     /// `<-` and its like
-    Edit(Edit),
+    Splice(Splice),
     /// `+` or `-`
     Additive(Additive),
     /// `*` or `/`

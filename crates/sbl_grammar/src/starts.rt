@@ -19,7 +19,7 @@ pub fn begins_command(role: Role) -> bool
         | Role::Count(_)
         | Role::Move(_)
         | Role::Naming(_)
-        | Role::Edit(_)
+        | Role::Splice(_)
         | Role::SetLimit
         | Role::Dollar
         | Role::Among => true,

@@ -1,18 +1,18 @@
 //! Parts of one or two tokens.
 
 ghost use Rattle.std.specs.Prelude.{◌≡◌, ◌≤◌, ◌∷◌, [], string_bytes};
-ghost use Rattle.sbl_grammar.specs.Terminal.{left};
-ghost use Rattle.sbl_grammar.specs.Terminal as t;
+ghost use Rattle.sbl_tree.specs.Terminal.{left};
+ghost use Rattle.sbl_tree.specs.Terminal as t;
 ghost use Rattle.sbl_grammar.specs.Steps as wanted;
-ghost use Rattle.sbl_grammar.specs.Steps.{max_depth};
-ghost use Rattle.sbl_grammar.specs.Tree.{argument_terminal};
-ghost use Rattle.sbl_grammar.specs.View.{view_argument};
+ghost use Rattle.sbl_grammar.specs.Places.{max_depth};
+ghost use Rattle.sbl_tree.specs.Tree.{argument_terminal};
+ghost use Rattle.sbl_tree.specs.View.{view_argument};
 ghost use Rattle.sbl_grammar.specs.Gives.{Gives};
 
-use crate::cursor::{behind, literal, role, text};
+use crate::front::{behind, literal, role, text};
 use crate::error::{ReadError, syntax};
 use crate::role::Role;
-use crate::tree::{Argument, Comparison};
+use sbl_tree::{Argument, Comparison};
 use sbl_text::Token;
 use std::alloc::Global;
 

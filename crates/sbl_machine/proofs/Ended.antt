@@ -4,7 +4,7 @@ use Rattle.std.specs.Prelude.{IfOk}
 use Rattle.std.specs.declared.alloc.AllocError.{AllocError}
 use Rattle.sbl_machine.specs.declared.outcome.Ran.{Ran}
 use Rattle.sbl_machine.specs.Outcome.{outcome_at, outcome_of, used_at}
-use Rattle.sbl_machine.specs.Standing.{Ending}
+use Rattle.sbl_machine.specs.State.{Ending}
 
 pub same_outcome : (r : Result Ran AllocError) (e f : Ending) → IfOk r (λ ran. outcome_of ran.outcome ≡ outcome_at e) → e ≡ f → IfOk r (λ ran. outcome_of ran.outcome ≡ outcome_at f)
 same_outcome (Ok ran) e f h p = h ∙ ap outcome_at p

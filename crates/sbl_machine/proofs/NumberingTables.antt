@@ -4,8 +4,8 @@ use Rattle.std.specs.Prelude.{slice_get}
 use Rattle.std.proofs.Math.Path.{fun_ext}
 use Rattle.std.proofs.lemmas.List.{take_more, take_all, get_or-map, length-map}
 use Rattle.std.proofs.lemmas.Option.{slice_get-map}
-use Rattle.sbl_script.specs.declared.marks.Mode.{Mode}
-use Rattle.sbl_script.specs.declared.marks.Mode.TheVariants.{Forward}
+use Rattle.sbl_tree.specs.declared.mode.Mode.{Mode}
+use Rattle.sbl_tree.specs.declared.mode.Mode.TheVariants.{Forward}
 use Rattle.sbl_program.specs.declared.amongs.Found.{Found}
 use Rattle.sbl_program.specs.Listed.{Listed, listing}
 use Rattle.sbl_machine.specs.Listing.{listed_by, listed_of}

@@ -2,24 +2,24 @@
 use Rattle.std.proofs.Common.{◌≡◌, ℕ, zero, suc, Bool, true, false, List, [], Option, Some, None, refl, ap, ◌∙◌}
 use Rattle.std.specs.Prelude.{ℤ, Ok, if◌then◌else◌, slice_get, slice_index_or, slice_set}
 use Rattle.std.proofs.Math.Path.{fun_ext}
-use Rattle.sbl_grammar.specs.declared.tree.Assignment.{Assignment}
-use Rattle.sbl_grammar.specs.declared.tree.Comparison.{Comparison}
-use Rattle.sbl_grammar.specs.declared.tree.Joiner.{Joiner}
-use Rattle.sbl_grammar.specs.declared.tree.Joiner.TheVariants.{Or, And}
-use Rattle.sbl_grammar.specs.declared.tree.Simple.{Simple}
-use Rattle.sbl_grammar.specs.declared.tree.Simple.TheVariants as simples
-use Rattle.sbl_grammar.specs.declared.tree.Prefix.{Prefix}
-use Rattle.sbl_grammar.specs.declared.tree.Prefix.TheVariants as prefixes
-use Rattle.sbl_grammar.specs.declared.tree.Count.{Count}
-use Rattle.sbl_grammar.specs.declared.tree.Count.TheVariants as counts
-use Rattle.sbl_grammar.specs.declared.tree.Move.{Move}
-use Rattle.sbl_grammar.specs.declared.tree.Move.TheVariants as moves
-use Rattle.sbl_grammar.specs.declared.tree.Naming.{Naming}
-use Rattle.sbl_grammar.specs.declared.tree.Naming.TheVariants as namings
-use Rattle.sbl_grammar.specs.declared.tree.Edit.{Edit}
-use Rattle.sbl_grammar.specs.declared.tree.Edit.TheVariants as edits
-use Rattle.sbl_grammar.specs.Tree as trees
-use Rattle.sbl_grammar.specs.Tree.{bracket, single, quoted, called, excluded, prefixed, counted, moved, named, edited, limited, assigned, compared, values_compared, chosen, no_rows, row, no_others, joined, no_starter, starter, bare, group}
+use Rattle.sbl_tree.specs.declared.tree.Assignment.{Assignment}
+use Rattle.sbl_tree.specs.declared.tree.Comparison.{Comparison}
+use Rattle.sbl_tree.specs.declared.tree.Joiner.{Joiner}
+use Rattle.sbl_tree.specs.declared.tree.Joiner.TheVariants.{Or, And}
+use Rattle.sbl_tree.specs.declared.tree.Simple.{Simple}
+use Rattle.sbl_tree.specs.declared.tree.Simple.TheVariants as simples
+use Rattle.sbl_tree.specs.declared.tree.Prefix.{Prefix}
+use Rattle.sbl_tree.specs.declared.tree.Prefix.TheVariants as prefixes
+use Rattle.sbl_tree.specs.declared.tree.Count.{Count}
+use Rattle.sbl_tree.specs.declared.tree.Count.TheVariants as counts
+use Rattle.sbl_tree.specs.declared.tree.Move.{Move}
+use Rattle.sbl_tree.specs.declared.tree.Move.TheVariants as moves
+use Rattle.sbl_tree.specs.declared.tree.Naming.{Naming}
+use Rattle.sbl_tree.specs.declared.tree.Naming.TheVariants as namings
+use Rattle.sbl_tree.specs.declared.tree.Splice.{Splice}
+use Rattle.sbl_tree.specs.declared.tree.Splice.TheVariants as edits
+use Rattle.sbl_tree.specs.Tree as trees
+use Rattle.sbl_tree.specs.Tree.{bracket, simple_, literal_, name_, non_, prefixed, counted, move_, named, splice_, setlimit_, assign_, compare_, compare_values_, among_, no_rows, row, no_others, joined, no_starter, starter, bare, group}
 use Rattle.sbl_program.specs.Ahead.{search_next, search_of, found_as, search_then, simple_by, made, made_rows, made_others, made_starter, made_groups}
 use Rattle.sbl_program.specs.Items.{Known, place_of, is_among}
 use Rattle.sbl_machine.specs.Meaning.{prefixed_does, counted_does, joined_does, limited_does, simple_does, moved_does, named_does, edited_does, assigned_does, compared_does, class_does, next_has, begins, worth}
@@ -31,16 +31,16 @@ use Rattle.sbl_program.specs.NumberedNames.{Names, is_one_of, number_of}
 use Rattle.sbl_program.specs.NumberedNumbers.{expression, text}
 use Rattle.sbl_program.specs.NumberedSets.{has}
 use Rattle.sbl_machine.specs.Numbers.{Value, value, given, changed, holds, integer_at, with_value}
-use Rattle.sbl_program.specs.Plan as plan
+use Rattle.sbl_program.specs.Program as programs
 use Rattle.sbl_program.specs.Regions.{Among, among_at, behind, behind_rows, behind_others, behind_starter, first, first_rows, first_others, mode_behind, waits, waits_others}
 use Rattle.sbl_machine.specs.Run as run
 use Rattle.sbl_machine.specs.Run.{paid, in_turn, nth_does}
 use Rattle.sbl_machine.specs.Search.{choice}
 use Rattle.sbl_machine.specs.Slices.{keep}
-use Rattle.sbl_machine.specs.Standing.{Standing, Ending, Signals, Stops, Doing, after, ahead, moved as further}
+use Rattle.sbl_machine.specs.State.{State, Ending, Signals, Stops, Doing, after, ahead, moved as further}
 use Rattle.sbl_program.proofs.SoundItems.{among_is, placed_by}
 use Rattle.sbl_machine.proofs.SoundParts.{Agree, text_same, worth_same, search_same, changed_same, holds_same}
-use Rattle.sbl_script.specs.declared.marks.Mode.{Mode}
+use Rattle.sbl_tree.specs.declared.mode.Mode.{Mode}
 
 after_same : (e : Ending) → after e (Signals true) (Signals false) ≡ e
 after_same (Signals true s) = refl
@@ -57,13 +57,13 @@ next_same false set (Some c) = refl
 
 module _ (ns : Names) (known : Known) (agree : Agree ns known) (sets : List (List ℕ)) (class : List ℕ → ℕ → Bool) (call : ℕ → Doing) (call' : List ℕ → Doing)
     (same_class : (n : List ℕ) (c : ℕ) → has (slice_index_or sets (number_of ns.groupings n) []) c ≡ class n c) (same_call : (n : List ℕ) → call (number_of ns.routines n) ≡ call' n) where
-  abbrev does_as : plan.Command → Doing → Type 0
-  does_as x d = (m : Mode) (s : Standing) → run.act sets call x m s ≡ d m s
+  abbrev does_as : programs.Node → Doing → Type 0
+  does_as x d = (m : Mode) (s : State) → run.act sets call x m s ≡ d m s
 
-  same : (x : plan.Command) (d : Doing) → does_as x d → run.act sets call x ≡ d
+  same : (x : programs.Node) (d : Doing) → does_as x d → run.act sets call x ≡ d
   same x d h = fun_ext (λ m. fun_ext (h m))
 
-  if_does : (b : Bool) (x y : plan.Command) (m : Mode) (s : Standing) → run.act sets call (if b then x else y) m s ≡ (if b then run.act sets call x m s else run.act sets call y m s)
+  if_does : (b : Bool) (x y : programs.Node) (m : Mode) (s : State) → run.act sets call (if b then x else y) m s ≡ (if b then run.act sets call x m s else run.act sets call y m s)
   if_does true x y m s = refl
   if_does false x y m s = refl
 
@@ -79,18 +79,18 @@ module _ (ns : Names) (known : Known) (agree : Agree ns known) (sets : List (Lis
   one_kind : (xs ys : List (List ℕ)) (n : List ℕ) → xs ≡ ys → is_one_of xs n ≡ is_among ys n
   one_kind xs ys n e = among_is xs n ∙ ap (λ zs. is_among zs n) e
 
-  grouping_same : (w : Bool) (n : List ℕ) (m : Mode) (s : Standing) → one_of w (slice_index_or sets (number_of ns.groupings n) []) m s ≡ class_does w (class n) m s
+  grouping_same : (w : Bool) (n : List ℕ) (m : Mode) (s : State) → one_of w (slice_index_or sets (number_of ns.groupings n) []) m s ≡ class_does w (class n) m s
   grouping_same w n m s =
       let set = slice_index_or sets (number_of ns.groupings n) [] in
       let o = slice_get (ahead m s) 0 in
       ap (λ b. if b then Signals true (further m 1 s) else Signals false s) (next_same w set o ∙ ap (λ h. next_has w h o) (fun_ext (same_class n)))
 
-  name_same : (n : List ℕ) (m : Mode) (s : Standing) → run.act sets call (name_alone ns n) m s ≡ meaning.name_does known class call' n m s
+  name_same : (n : List ℕ) (m : Mode) (s : State) → run.act sets call (name_alone ns n) m s ≡ meaning.name_does known class call' n m s
   name_same n m s =
-      let r = plan.call (number_of ns.routines n) in
-      let g = plan.act (plan.grouping (number_of ns.groupings n)) in
-      let b = plan.act (plan.boolean (number_of ns.booleans n)) in
-      let t = plan.act (plan.match (plan.variable (number_of ns.strings n))) in
+      let r = programs.call (number_of ns.routines n) in
+      let g = programs.act (programs.grouping (number_of ns.groupings n)) in
+      let b = programs.act (programs.boolean (number_of ns.booleans n)) in
+      let t = programs.act (programs.match (programs.variable (number_of ns.strings n))) in
       if_does (is_one_of ns.strings n) t (if is_one_of ns.booleans n then b else (if is_one_of ns.groupings n then g else r)) m s
       ∙ if_same _ _ _ _ _ _ (one_kind _ _ n agree.strings) (ap (λ i. match (slice_index_or s.strings i []) m s) (string_at n))
       (if_does (is_one_of ns.booleans n) b (if is_one_of ns.groupings n then g else r) m s
@@ -116,7 +116,7 @@ module _ (ns : Names) (known : Known) (agree : Agree ns known) (sets : List (Lis
   simple_same simples.True n m s = refl
   simple_same simples.False n m s = refl
 
-  prefix_same : (x : Prefix) (c : plan.Command) (d : Doing) → run.act sets call c ≡ d → does_as (behind_prefix x c) (prefixed_does x (paid d))
+  prefix_same : (x : Prefix) (c : programs.Node) (d : Doing) → run.act sets call c ≡ d → does_as (behind_prefix x c) (prefixed_does x (paid d))
   prefix_same prefixes.Not c d h m s = ap (λ d. prefixed_does prefixes.Not (paid d) m s) h
   prefix_same prefixes.Test c d h m s = ap (λ d. prefixed_does prefixes.Test (paid d) m s) h
   prefix_same prefixes.Try c d h m s = ap (λ d. prefixed_does prefixes.Try (paid d) m s) h
@@ -127,85 +127,85 @@ module _ (ns : Names) (known : Known) (agree : Agree ns known) (sets : List (Lis
   prefix_same prefixes.GoPast c d h m s = ap (λ d. prefixed_does prefixes.GoPast (paid d) m s) h
   prefix_same prefixes.Backwards c d h m s = ap (λ d. prefixed_does prefixes.Backwards (paid d) m s) h
 
-  count_same : (x : Count) (e : plan.Number) (v : Value) (c : plan.Command) (d : Doing) (m : Mode) (s : Standing) → value e m s ≡ v → run.act sets call c ≡ d → run.act sets call (behind_count x e c) m s ≡ counted_does x v (paid d) m s
+  count_same : (x : Count) (e : programs.Arithmetic) (v : Value) (c : programs.Node) (d : Doing) (m : Mode) (s : State) → value e m s ≡ v → run.act sets call c ≡ d → run.act sets call (behind_count x e c) m s ≡ counted_does x v (paid d) m s
   count_same counts.Loop e v c d m s h k = ap (λ v. counted_does counts.Loop v (paid (run.act sets call c)) m s) h ∙ ap (λ d. counted_does counts.Loop v (paid d) m s) k
   count_same counts.AtLeast e v c d m s h k = ap (λ v. counted_does counts.AtLeast v (paid (run.act sets call c)) m s) h ∙ ap (λ d. counted_does counts.AtLeast v (paid d) m s) k
 
-  join_same : (j : Joiner) (x y : plan.Command) (d e : Doing) → run.act sets call x ≡ d → run.act sets call y ≡ e → does_as (join j x y) (joined_does j (paid d) (paid e))
+  join_same : (j : Joiner) (x y : programs.Node) (d e : Doing) → run.act sets call x ≡ d → run.act sets call y ≡ e → does_as (join j x y) (joined_does j (paid d) (paid e))
   join_same Or x y d e h k m s = ap (λ d. joined_does Or (paid d) (paid (run.act sets call y)) m s) h ∙ ap (λ e. joined_does Or (paid d) (paid e) m s) k
   join_same And x y d e h k m s = ap (λ d. joined_does And (paid d) (paid (run.act sets call y)) m s) h ∙ ap (λ e. joined_does And (paid d) (paid e) m s) k
 
-  move_same : (x : Move) (e : plan.Number) (v : Value) (m : Mode) (s : Standing) → value e m s ≡ v → run.act sets call (plan.act (move x e)) m s ≡ moved_does x v m s
+  move_same : (x : Move) (e : programs.Arithmetic) (v : Value) (m : Mode) (s : State) → value e m s ≡ v → run.act sets call (programs.act (move x e)) m s ≡ moved_does x v m s
   move_same moves.Hop e v m s h = ap (λ v. moved_does moves.Hop v m s) h
   move_same moves.AtMark e v m s h = ap (λ v. moved_does moves.AtMark v m s) h
   move_same moves.ToMark e v m s h = ap (λ v. moved_does moves.ToMark v m s) h
 
-  naming_same : (x : Naming) (n : List ℕ) → does_as (plan.act (change_named ns x n)) (named_does known x n)
+  naming_same : (x : Naming) (n : List ℕ) → does_as (programs.act (change_named ns x n)) (named_does known x n)
   naming_same namings.SetMark n m s = ap (λ i. Signals true (set_mark i s)) (integer_of n)
   naming_same namings.Set n m s = ap (λ i. Signals true (set_boolean i true s)) (boolean_of n)
   naming_same namings.Unset n m s = ap (λ i. Signals true (set_boolean i false s)) (boolean_of n)
   naming_same namings.Arrow n m s = ap (λ i. keep i s) (string_at n)
 
-  edit_same : (x : Edit) (t : plan.Text) (cs : List ℕ) (m : Mode) (s : Standing) → characters t s ≡ cs → run.act sets call (plan.act (edit x t)) m s ≡ edited_does x cs m s
+  edit_same : (x : Splice) (t : programs.StringTerm) (cs : List ℕ) (m : Mode) (s : State) → characters t s ≡ cs → run.act sets call (programs.act (edit x t)) m s ≡ edited_does x cs m s
   edit_same edits.Replace t cs m s h = ap (λ cs. edited_does edits.Replace cs m s) h
   edit_same edits.InsertSign t cs m s h = ap (λ cs. edited_does edits.InsertSign cs m s) h
   edit_same edits.Insert t cs m s h = ap (λ cs. edited_does edits.Insert cs m s) h
   edit_same edits.Attach t cs m s h = ap (λ cs. edited_does edits.Attach cs m s) h
 
-  abbrev assigning : ℕ → (ℤ → ℤ → Value) → Value → Standing → Ending
+  abbrev assigning : ℕ → (ℤ → ℤ → Value) → Value → State → Ending
   assigning x f v s = given (with_value v (f (integer_at x s))) s (λ z. Signals true (record s { integers = slice_set s.integers x z }))
 
-  assign_same : (n : List ℕ) (o : Assignment) (e : trees.Expression) → does_as (plan.act (plan.assign (number_of ns.integers n) (change_of o) (expression ns e))) (λ m s. assigned_does (place_of known.integers n) o (worth known e m s) s)
+  assign_same : (n : List ℕ) (o : Assignment) (e : trees.Expression) → does_as (programs.act (programs.assign (number_of ns.integers n) (change_of o) (expression ns e))) (λ m s. assigned_does (place_of known.integers n) o (worth known e m s) s)
   assign_same n o e m s =
       ap (λ x. assigning x (changed (change_of o)) (value (expression ns e) m s) s) (integer_of n)
       ∙ ap (λ f. assigning (place_of known.integers n) f (value (expression ns e) m s) s) (changed_same o)
       ∙ ap (λ v. assigning (place_of known.integers n) (meaning.altered o) v s) (worth_same ns known agree e m s)
 
-  abbrev comparing : Value → (ℤ → ℤ → Bool) → Value → Standing → Ending
+  abbrev comparing : Value → (ℤ → ℤ → Bool) → Value → State → Ending
   comparing v f w s = given v s (λ x. given w s (λ y. Signals (f x y) s))
 
-  compare_same : (a b : plan.Number) (o : Comparison) (v w : Value) (m : Mode) (s : Standing) → value a m s ≡ v → value b m s ≡ w → run.act sets call (plan.act (plan.compare a (relation_of o) b)) m s ≡ compared_does v o w s
+  compare_same : (a b : programs.Arithmetic) (o : Comparison) (v w : Value) (m : Mode) (s : State) → value a m s ≡ v → value b m s ≡ w → run.act sets call (programs.act (programs.compare a (relation_of o) b)) m s ≡ compared_does v o w s
   compare_same a b o v w m s h k =
       ap (λ v. comparing v (holds (relation_of o)) (value b m s) s) h
       ∙ ap (λ f. comparing v f (value b m s) s) (holds_same o)
       ∙ ap (λ w. comparing v (meaning.is_so o) w s) k
 
-  before_same : (w : Bool) (a : Among) (cs : plan.Commands) (d : Doing) (m : Mode) (s : Standing) → in_turn sets call cs m ≡ d m → in_turn sets call (search_then ns w a cs) m s ≡ begins w (meaning.search call' a) d m s
+  before_same : (w : Bool) (a : Among) (cs : programs.Nodes) (d : Doing) (m : Mode) (s : State) → in_turn sets call cs m ≡ d m → in_turn sets call (search_then ns w a cs) m s ≡ begins w (meaning.search call' a) d m s
   before_same true a cs d m s h = refl
   before_same false a cs d m s h =
       ap (λ e. after (paid e m s) (in_turn sets call cs m) (Signals false)) (same (search_of (found_as ns a)) (meaning.search call' a) (search_is a))
       ∙ ap (λ f. after (paid (meaning.search call' a) m s) f (Signals false)) h
 
-  abbrev does : Mode → ℕ → Bool → Option Among → trees.Tree → Doing
+  abbrev does : Mode → ℕ → Bool → Option Among → trees.Command → Doing
   does r k w n t = meaning.act known class call' r k w n t
 
   mutual
-    pub sound : (t : trees.Tree) (r : Mode) (k : ℕ) (w : Bool) (n : Option Among) → does_as (made ns r k w n t) (does r k w n t)
+    pub sound : (t : trees.Command) (r : Mode) (k : ℕ) (w : Bool) (n : Option Among) → does_as (made ns r k w n t) (does r k w n t)
     sound (bracket rs) r k w n m s = rows_sound rs r k w n m s
-    sound (single x) r k w n m s = simple_same x n m s
-    sound (quoted q) r k w n m s = refl
-    sound (called x) r k w n m s = name_same x m s
-    sound (excluded b x) r k w n m s = grouping_same false x m s
+    sound (simple_ x) r k w n m s = simple_same x n m s
+    sound (literal_ q) r k w n m s = refl
+    sound (name_ x) r k w n m s = name_same x m s
+    sound (non_ b x) r k w n m s = grouping_same false x m s
     sound (prefixed x c) r k w n m s = prefix_same x (made ns (mode_behind x r) k w n c) (does (mode_behind x r) k w n c) (fun_ext (λ m. fun_ext (λ s. sound c (mode_behind x r) k w n m s))) m s
     sound (counted x e c) r k w n m s = count_same x (expression ns e) _ (made ns r k w n c) (does r k w n c) m s (worth_same ns known agree e m s) (fun_ext (λ m. fun_ext (λ s. sound c r k w n m s)))
-    sound (moved x e) r k w n m s = move_same x (expression ns e) _ m s (worth_same ns known agree e m s)
+    sound (move_ x e) r k w n m s = move_same x (expression ns e) _ m s (worth_same ns known agree e m s)
     sound (named x y) r k w n m s = naming_same x y m s
-    sound (edited x a) r k w n m s = edit_same x (text ns a) _ m s (text_same ns known agree a s)
-    sound (limited b c) r k w n m s =
+    sound (splice_ x a) r k w n m s = edit_same x (text ns a) _ m s (text_same ns known agree a s)
+    sound (setlimit_ b c) r k w n m s =
         let n' = first r c (behind b k) n in
         ap (λ d. limited_does (paid d) (paid (run.act sets call (made ns r (behind b k) (waits b w) n c))) m s) (fun_ext (λ m. fun_ext (λ s. sound b r k w n' m s)))
         ∙ ap (λ d. limited_does (paid (does r k w n' b)) (paid d) m s) (fun_ext (λ m. fun_ext (λ s. sound c r (behind b k) (waits b w) n m s)))
-    sound (assigned x o e) r k w n m s = assign_same x o e m s
-    sound (compared x o e) r k w n m s = compare_same (plan.integer (number_of ns.integers x)) (expression ns e) o _ _ m s (ap (λ i. Ok (integer_at i s)) (integer_of x)) (worth_same ns known agree e m s)
-    sound (values_compared e o f) r k w n m s = compare_same (expression ns e) (expression ns f) o _ _ m s (worth_same ns known agree e m s) (worth_same ns known agree f m s)
-    sound (chosen st gs) r k w n m s =
+    sound (assign_ x o e) r k w n m s = assign_same x o e m s
+    sound (compare_ x o e) r k w n m s = compare_same (programs.integer (number_of ns.integers x)) (expression ns e) o _ _ m s (ap (λ i. Ok (integer_at i s)) (integer_of x)) (worth_same ns known agree e m s)
+    sound (compare_values_ e o f) r k w n m s = compare_same (expression ns e) (expression ns f) o _ _ m s (worth_same ns known agree e m s) (worth_same ns known agree f m s)
+    sound (among_ st gs) r k w n m s =
         let k' = behind_starter st (suc k) in
         let bodies = made_groups ns r k' gs in
-        let on_t = λ (t : Standing). run.chosen (choice k t) t (λ g. nth_does sets call bodies g m t) in
+        let on_t = λ (t : State). run.chosen (choice k t) t (λ g. nth_does sets call bodies g m t) in
         ap (λ e. after e on_t (Signals false)) (before_same w (among_at r k gs) (made_starter ns r (suc k) st) (meaning.starter_does known class call' r (suc k) st) m s (fun_ext (λ t. starter_sound st r (suc k) m t)))
         ∙ ap (λ f. after (begins w (meaning.search call' (among_at r k gs)) (meaning.starter_does known class call' r (suc k) st) m s) (λ t. run.chosen (choice k t) t (λ g. f g t)) (Signals false)) (fun_ext (λ g. fun_ext (λ t. groups_sound gs r k' g m t)))
 
-    rows_sound : (rs : trees.Rows) (r : Mode) (k : ℕ) (w : Bool) (n : Option Among) (m : Mode) (s : Standing) → in_turn sets call (made_rows ns r k w n rs) m s ≡ meaning.rows_do known class call' r k w n rs m s
+    rows_sound : (rs : trees.Rows) (r : Mode) (k : ℕ) (w : Bool) (n : Option Among) (m : Mode) (s : State) → in_turn sets call (made_rows ns r k w n rs) m s ≡ meaning.rows_do known class call' r k w n rs m s
     rows_sound no_rows r k w n m s = refl
     rows_sound (row c os rs) r k w n m s =
         let k1 = behind c k in
@@ -218,7 +218,7 @@ module _ (ns : Names) (known : Known) (agree : Agree ns known) (sets : List (Lis
         ∙ ap (λ f. after (paid (meaning.others_do known class call' r k1 (waits c w) n2 os (does r k w n1 c)) m s) f (Signals false))
         (fun_ext (λ t. rows_sound rs r k2 (waits_others os (waits c w)) n m t))
 
-    pub others_sound : (os : trees.Others) (r : Mode) (k : ℕ) (w : Bool) (n : Option Among) (x : plan.Command) (d : Doing) → run.act sets call x ≡ d → run.act sets call (made_others ns r k w n os x) ≡ meaning.others_do known class call' r k w n os d
+    pub others_sound : (os : trees.Others) (r : Mode) (k : ℕ) (w : Bool) (n : Option Among) (x : programs.Node) (d : Doing) → run.act sets call x ≡ d → run.act sets call (made_others ns r k w n os x) ≡ meaning.others_do known class call' r k w n os d
     others_sound no_others r k w n x d h = h
     others_sound (joined j c os) r k w n x d h =
         let n1 = first_others r os (behind c k) n in
@@ -226,18 +226,18 @@ module _ (ns : Names) (known : Known) (agree : Agree ns known) (sets : List (Lis
         let e = does r k w n1 c in
         others_sound os r (behind c k) (waits c w) n (join j x y) (joined_does j (paid d) (paid e)) (fun_ext (λ m. fun_ext (λ s. join_same j x y d e h (fun_ext (λ m. fun_ext (λ s. sound c r k w n1 m s))) m s)))
 
-    starter_sound : (st : trees.Starter) (r : Mode) (k : ℕ) (m : Mode) (s : Standing) → in_turn sets call (made_starter ns r k st) m s ≡ meaning.starter_does known class call' r k st m s
+    starter_sound : (st : trees.Starter) (r : Mode) (k : ℕ) (m : Mode) (s : State) → in_turn sets call (made_starter ns r k st) m s ≡ meaning.starter_does known class call' r k st m s
     starter_sound no_starter r k m s = refl
     starter_sound (starter rs) r k m s =
         after_same _ ∙ ap (λ d. paid d m s) (fun_ext (λ m. fun_ext (λ s. rows_sound rs r k false None m s)))
 
-    groups_sound : (gs : trees.Groups) (r : Mode) (k : ℕ) (g : ℕ) (m : Mode) (s : Standing) → nth_does sets call (made_groups ns r k gs) g m s ≡ meaning.group_does known class call' r k gs g m s
+    groups_sound : (gs : trees.Groups) (r : Mode) (k : ℕ) (g : ℕ) (m : Mode) (s : State) → nth_does sets call (made_groups ns r k gs) g m s ≡ meaning.group_does known class call' r k gs g m s
     groups_sound (bare es) r k g m s = refl
     groups_sound (group e es rs gs) r k zero m s = ap (λ d. paid d m s) (fun_ext (λ m. fun_ext (λ s. rows_sound rs r k false None m s)))
     groups_sound (group e es rs gs) r k (suc g) m s = groups_sound gs r (behind_rows rs k) g m s
 
   -- a routine's body
-  pub row_sound : (r : Mode) (c : trees.Tree) (os : trees.Others) → run.act sets call (made_others ns r (behind c 0) (waits c false) None os (made ns r 0 false (first_others r os (behind c 0) None) c)) ≡ meaning.row_does known class call' r c os
+  pub row_sound : (r : Mode) (c : trees.Command) (os : trees.Others) → run.act sets call (made_others ns r (behind c 0) (waits c false) None os (made ns r 0 false (first_others r os (behind c 0) None) c)) ≡ meaning.row_does known class call' r c os
   row_sound r c os =
       let n1 = first_others r os (behind c 0) None in
       others_sound os r (behind c 0) (waits c false) None (made ns r 0 false n1 c) (does r 0 false n1 c) (fun_ext (λ m. fun_ext (λ s. sound c r 0 false n1 m s)))

@@ -8,19 +8,19 @@ use Rattle.std.specs.Prelude.{Bool, true, false, cond, if◌then◌else◌, take
 use Rattle.std.proofs.Math.Path.{fun_ext}
 use Rattle.std.proofs.lemmas.List.{map-append}
 use Rattle.std.proofs.lemmas.Option.{slice_get-map}
-use Rattle.sbl_grammar.specs.declared.tree.Additive.{Additive}
-use Rattle.sbl_grammar.specs.declared.tree.Additive.TheVariants as additives
-use Rattle.sbl_grammar.specs.declared.tree.Assignment.{Assignment}
-use Rattle.sbl_grammar.specs.declared.tree.Assignment.TheVariants as assignments
-use Rattle.sbl_grammar.specs.declared.tree.Comparison.{Comparison}
-use Rattle.sbl_grammar.specs.declared.tree.Comparison.TheVariants as comparisons
-use Rattle.sbl_grammar.specs.declared.tree.Multiplicative.{Multiplicative}
-use Rattle.sbl_grammar.specs.declared.tree.Multiplicative.TheVariants as multiplicatives
-use Rattle.sbl_grammar.specs.declared.tree.Constant.{Constant}
-use Rattle.sbl_grammar.specs.declared.tree.Constant.TheVariants as constants
-use Rattle.sbl_grammar.specs.Tree as trees
-use Rattle.sbl_grammar.specs.Tree.{bare, group}
-use Rattle.sbl_program.specs.declared.node.Entry as code
+use Rattle.sbl_tree.specs.declared.tree.Additive.{Additive}
+use Rattle.sbl_tree.specs.declared.tree.Additive.TheVariants as additives
+use Rattle.sbl_tree.specs.declared.tree.Assignment.{Assignment}
+use Rattle.sbl_tree.specs.declared.tree.Assignment.TheVariants as assignments
+use Rattle.sbl_tree.specs.declared.tree.Comparison.{Comparison}
+use Rattle.sbl_tree.specs.declared.tree.Comparison.TheVariants as comparisons
+use Rattle.sbl_tree.specs.declared.tree.Multiplicative.{Multiplicative}
+use Rattle.sbl_tree.specs.declared.tree.Multiplicative.TheVariants as multiplicatives
+use Rattle.sbl_tree.specs.declared.tree.Constant.{Constant}
+use Rattle.sbl_tree.specs.declared.tree.Constant.TheVariants as constants
+use Rattle.sbl_tree.specs.Tree as trees
+use Rattle.sbl_tree.specs.Tree.{bare, group}
+use Rattle.sbl_program.specs.declared.node.Candidate as code
 use Rattle.sbl_program.specs.Ahead.{found_as}
 use Rattle.sbl_tables.specs.Fitting.{below, fitting, onto, read_as, read_all, ahead_at}
 use Rattle.sbl_program.specs.Items.{Known, place_of}
@@ -33,12 +33,12 @@ use Rattle.sbl_program.specs.Grouped.{added, added_all, scaled, scaled_all}
 use Rattle.sbl_program.specs.NumberedNames.{Names, number_of}
 use Rattle.sbl_program.specs.NumberedNumbers.{text, constant, expression, sums_in, product, scales_in, factor}
 use Rattle.sbl_machine.specs.Numbers.{Value, value, fitted, with_value, changed, holds, integer_at}
-use Rattle.sbl_program.specs.Plan as plan
+use Rattle.sbl_program.specs.Program as programs
 use Rattle.sbl_program.specs.Regions.{Among}
 use Rattle.sbl_machine.specs.Search.{bound_in, choose, condition_does, try_one, tries, search_all}
-use Rattle.sbl_machine.specs.Standing.{Standing, Ending, Signals, Doing, after, mark, place_after, then_on, pay}
+use Rattle.sbl_machine.specs.State.{State, Ending, Signals, Doing, after, saved_cursor, place_after, then_on, pay}
 use Rattle.sbl_program.proofs.SoundItems.{less_suc, placed_by}
-use Rattle.sbl_script.specs.declared.marks.Mode.{Mode}
+use Rattle.sbl_tree.specs.declared.mode.Mode.{Mode}
 
 pub changed_same : (o : Assignment) → changed (change_of o) ≡ meaning.altered o
 changed_same assignments.Equals = refl
@@ -63,41 +63,41 @@ pub record Agree (ns : Names) (known : Known) : Type 0 where
   pub groupings : ns.groupings ≡ known.groupings
 
 module _ (ns : Names) (known : Known) (agree : Agree ns known) where
-  pub text_same : (a : trees.Argument) (s : Standing) → characters (text ns a) s ≡ meaning.text known a s
+  pub text_same : (a : trees.Argument) (s : State) → characters (text ns a) s ≡ meaning.text known a s
   text_same (trees.written_out q) s = refl
   text_same (trees.by_name n) s = ap (λ i. slice_index_or s.strings i []) (placed_by _ _ n agree.strings)
 
-  constant_same : (c : Constant) (m : Mode) (s : Standing) → value (constant c) m s ≡ meaning.constant_worth known c m s
+  constant_same : (c : Constant) (m : Mode) (s : State) → value (constant c) m s ≡ meaning.constant_worth known c m s
   constant_same constants.MaxInt m s = refl
   constant_same constants.MinInt m s = refl
   constant_same constants.Cursor m s = refl
   constant_same constants.Limit m s = refl
   constant_same constants.Len m s = refl
 
-  added_same : (o : Additive) (a b : plan.Number) (m : Mode) (s : Standing) (v w : Value) → value a m s ≡ v → value b m s ≡ w → value (added o a b) m s ≡ meaning.added known o v w
+  added_same : (o : Additive) (a b : programs.Arithmetic) (m : Mode) (s : State) (v w : Value) → value a m s ≡ v → value b m s ≡ w → value (added o a b) m s ≡ meaning.added known o v w
   added_same additives.Plus a b m s v w h k = ap (λ v. meaning.added known additives.Plus v (value b m s)) h ∙ ap (λ w. meaning.added known additives.Plus v w) k
   added_same additives.Minus a b m s v w h k = ap (λ v. meaning.added known additives.Minus v (value b m s)) h ∙ ap (λ w. meaning.added known additives.Minus v w) k
 
-  scaled_same : (o : Multiplicative) (a b : plan.Number) (m : Mode) (s : Standing) (v w : Value) → value a m s ≡ v → value b m s ≡ w → value (scaled o a b) m s ≡ meaning.scaled known o v w
+  scaled_same : (o : Multiplicative) (a b : programs.Arithmetic) (m : Mode) (s : State) (v w : Value) → value a m s ≡ v → value b m s ≡ w → value (scaled o a b) m s ≡ meaning.scaled known o v w
   scaled_same multiplicatives.Times a b m s v w h k = ap (λ v. meaning.scaled known multiplicatives.Times v (value b m s)) h ∙ ap (λ w. meaning.scaled known multiplicatives.Times v w) k
   scaled_same multiplicatives.Over a b m s v w h k = ap (λ v. meaning.scaled known multiplicatives.Over v (value b m s)) h ∙ ap (λ w. meaning.scaled known multiplicatives.Over v w) k
 
   mutual
-    pub worth_same : (e : trees.Expression) (m : Mode) (s : Standing) → value (expression ns e) m s ≡ meaning.worth known e m s
+    pub worth_same : (e : trees.Expression) (m : Mode) (s : State) → value (expression ns e) m s ≡ meaning.worth known e m s
     worth_same (trees.expression p ss) m s = sums_same ss (product ns p) _ m s (product_same p m s)
 
-    sums_same : (ss : trees.Sums) (a : plan.Number) (v : Value) (m : Mode) (s : Standing) → value a m s ≡ v → value (added_all (sums_in ns ss) a) m s ≡ meaning.summed known ss v m s
+    sums_same : (ss : trees.Sums) (a : programs.Arithmetic) (v : Value) (m : Mode) (s : State) → value a m s ≡ v → value (added_all (sums_in ns ss) a) m s ≡ meaning.summed known ss v m s
     sums_same trees.no_sums a v m s h = h
     sums_same (trees.sum o p ss) a v m s h = sums_same ss (added o a (product ns p)) _ m s (added_same o a (product ns p) m s v _ h (product_same p m s))
 
-    product_same : (p : trees.Product) (m : Mode) (s : Standing) → value (product ns p) m s ≡ meaning.product_worth known p m s
+    product_same : (p : trees.Product) (m : Mode) (s : State) → value (product ns p) m s ≡ meaning.product_worth known p m s
     product_same (trees.product f ss) m s = scales_same ss (factor ns f) _ m s (factor_same f m s)
 
-    scales_same : (ss : trees.Scales) (a : plan.Number) (v : Value) (m : Mode) (s : Standing) → value a m s ≡ v → value (scaled_all (scales_in ns ss) a) m s ≡ meaning.multiplied known ss v m s
+    scales_same : (ss : trees.Scales) (a : programs.Arithmetic) (v : Value) (m : Mode) (s : State) → value a m s ≡ v → value (scaled_all (scales_in ns ss) a) m s ≡ meaning.multiplied known ss v m s
     scales_same trees.no_scales a v m s h = h
     scales_same (trees.scale o f ss) a v m s h = scales_same ss (scaled o a (factor ns f)) _ m s (scaled_same o a (factor ns f) m s v _ h (factor_same f m s))
 
-    factor_same : (f : trees.Factor) (m : Mode) (s : Standing) → value (factor ns f) m s ≡ meaning.factor_worth known f m s
+    factor_same : (f : trees.Factor) (m : Mode) (s : State) → value (factor ns f) m s ≡ meaning.factor_worth known f m s
     factor_same (trees.negated f) m s = ap (λ v. with_value v (λ x. fitted (neg_ℤ x))) (factor_same f m s)
     factor_same (trees.bracketed e) m s = worth_same e m s
     factor_same (trees.numeral n) m s = refl
@@ -107,17 +107,17 @@ module _ (ns : Names) (known : Known) (agree : Agree ns known) where
 
   -- ---- searches
 
-  entry_by : Offer → code.Entry
+  entry_by : Offer → code.Candidate
   entry_by o = record { condition = condition_of ns o.condition; group = o.group; length = length o.string }
 
-  entries_in_are : (g : ℕ) (es : List trees.Entry) (sofar : List code.Entry) → entries_in ns g es sofar ≡ sofar ++ map entry_by (map (offer g) es)
+  entries_in_are : (g : ℕ) (es : List trees.Entry) (sofar : List code.Candidate) → entries_in ns g es sofar ≡ sofar ++ map entry_by (map (offer g) es)
   unfolding entry_by
   entries_in_are g [] sofar = sym (append-nil sofar)
   entries_in_are g (trees.entry q c ∷ es) sofar =
       let e = entry_by (offer g (trees.entry q c)) in
       entries_in_are g es (sofar ++ (e ∷ [])) ∙ append_assoc sofar (e ∷ []) (map entry_by (map (offer g) es))
 
-  entries_are : (g : ℕ) (gs : trees.Groups) (sofar : List code.Entry) → entries_behind ns g gs sofar ≡ sofar ++ map entry_by (offers g gs)
+  entries_are : (g : ℕ) (gs : trees.Groups) (sofar : List code.Candidate) → entries_behind ns g gs sofar ≡ sofar ++ map entry_by (offers g gs)
   unfolding entry_by
   entries_are g (bare es) sofar = entries_in_are g es sofar
   entries_are g (group (trees.entry q c) es rs gs) sofar =
@@ -187,13 +187,13 @@ module _ (ns : Names) (known : Known) (agree : Agree ns known) where
     condition_same None = refl
     condition_same (Some n) = ap (λ d m s. then_on (pay s.steps s) (d m)) (same n)
 
-    take_same : (k : ℕ) (o : Offer) (m : Mode) (from s : Standing) (next next' : Standing → Ending) → next ≡ next' → try_one call k (Some (entry_by o)) m from s next ≡ meaning.takes call' k (Some o) m from s next'
+    take_same : (k : ℕ) (o : Offer) (m : Mode) (from s : State) (next next' : State → Ending) → next ≡ next' → try_one call k (Some (entry_by o)) m from s next ≡ meaning.takes call' k (Some o) m from s next'
     unfolding entry_by
     take_same k o m from s next next' h =
-        ap (λ (c : Doing). then_on (place_after m (mark from) (length o.string) s) (λ a. after (c m a) (λ b. then_on (place_after m (mark from) (length o.string) b) (λ d. Signals true (choose k (Some o.group) d))) next)) (condition_same o.condition)
+        ap (λ (c : Doing). then_on (place_after m (saved_cursor from) (length o.string) s) (λ a. after (c m a) (λ b. then_on (place_after m (saved_cursor from) (length o.string) b) (λ d. Signals true (choose k (Some o.group) d))) next)) (condition_same o.condition)
         ∙ ap (meaning.takes call' k (Some o) m from s) h
 
-    onto_same : (t : Bool) (i : ℕ) (o : Option Offer) (is : List ℕ) (k : ℕ) (os : List Offer) (m : Mode) (from s : Standing) (next : Standing → Ending) → slice_get os i ≡ o → t ≡ there o → tries call k (map entry_by os) m from is ≡ next → tries call k (map entry_by os) m from (onto (cond t (Some i) None) is) s ≡ meaning.takes call' k o m from s next
+    onto_same : (t : Bool) (i : ℕ) (o : Option Offer) (is : List ℕ) (k : ℕ) (os : List Offer) (m : Mode) (from s : State) (next : State → Ending) → slice_get os i ≡ o → t ≡ there o → tries call k (map entry_by os) m from is ≡ next → tries call k (map entry_by os) m from (onto (cond t (Some i) None) is) s ≡ meaning.takes call' k o m from s next
     onto_same true i None is k os m from s next h e l = absurd (true≢false e)
     onto_same true i (Some o) is k os m from s next h e l =
         ap (λ o. try_one call k o m from s (tries call k (map entry_by os) m from is)) (slice_get-map entry_by os i ∙ ap (option_map entry_by) h)
@@ -201,7 +201,7 @@ module _ (ns : Names) (known : Known) (agree : Agree ns known) where
     onto_same false i None is k os m from s next h e l = ap (λ f. f s) l
     onto_same false i (Some o) is k os m from s next h e l = absurd (true≢false (sym e))
 
-    tries_same : (k : ℕ) (os : List Offer) (r m : Mode) (from : Standing) (x : List ℕ) (b : ℕ) (s : Standing) → tries call k (map entry_by os) m from (below (as_read r os) x b) s ≡ meaning.tried call' k os r m from x b s
+    tries_same : (k : ℕ) (os : List Offer) (r m : Mode) (from : State) (x : List ℕ) (b : ℕ) (s : State) → tries call k (map entry_by os) m from (below (as_read r os) x b) s ≡ meaning.tried call' k os r m from x b s
     tries_same k os r m from x zero s = refl
     tries_same k os r m from x (suc l) s =
         let w = take l x in
@@ -212,7 +212,7 @@ module _ (ns : Names) (known : Known) (agree : Agree ns known) where
         (ap (λ i. nat_lt i (length (as_read r os))) (sym e) ∙ offer_there r w os)
         (fun_ext (tries_same k os r m from x l))
 
-    pub search_same : (a : Among) (m : Mode) (s : Standing) → search_all call (found_as ns a).number (found_as ns a).entries (found_as ns a).strings m s ≡ meaning.search call' a m s
+    pub search_same : (a : Among) (m : Mode) (s : State) → search_all call (found_as ns a).number (found_as ns a).entries (found_as ns a).strings m s ≡ meaning.search call' a m s
     unfolding fitting
     search_same a m s =
         let os = offers 0 a.groups in

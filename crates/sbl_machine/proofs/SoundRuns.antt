@@ -1,25 +1,25 @@
 -- A run of the numbered script is a run of the script.
 use Rattle.std.proofs.Common.{◌≡◌, ℕ, zero, suc, Bool, List, [], Option, Some, None, option_map, refl, ap, ◌∙◌}
 use Rattle.std.proofs.Math.Path.{fun_ext}
-use Rattle.sbl_program.specs.Items.{Known, Placed, Body, in_order, known_in, class_of, classes_behind, body_named}
+use Rattle.sbl_program.specs.Items.{Known, ItemInMode, Body, in_order, known_in, class_of, classes_behind, body_named}
 use Rattle.sbl_machine.specs.Meaning as meaning
 use Rattle.sbl_program.specs.Numbered.{numbered_script, plan_in, plan_with}
 use Rattle.sbl_program.specs.NumberedNames.{Names, names_behind, no_names, number_of}
 use Rattle.sbl_machine.specs.Outcome.{ending_of, start}
-use Rattle.sbl_program.specs.Plan as plan
+use Rattle.sbl_program.specs.Program as programs
 use Rattle.sbl_program.specs.Regions.{behind, behind_others}
 use Rattle.sbl_machine.specs.Run as run
 use Rattle.sbl_machine.specs.Run.{enter, leave, paid, does}
-use Rattle.sbl_machine.specs.Standing.{Standing, Doing}
+use Rattle.sbl_machine.specs.State.{State, Doing}
 use Rattle.sbl_machine.proofs.SoundActs.{row_sound}
 use Rattle.sbl_program.proofs.SoundItems.{placed_is, strings_are, integers_are, booleans_are, groupings_are, as_made}
 use Rattle.sbl_machine.proofs.SoundParts.{Agree}
 use Rattle.sbl_program.proofs.Own.{class_same, routine_same}
 use Rattle.sbl_script.specs.Parsed.{Source}
-use Rattle.sbl_script.specs.declared.marks.Mode.{Mode}
-use Rattle.sbl_script.specs.declared.marks.Mode.TheVariants.{Forward}
+use Rattle.sbl_tree.specs.declared.mode.Mode.{Mode}
+use Rattle.sbl_tree.specs.declared.mode.Mode.TheVariants.{Forward}
 
-module _ (items : List Placed) (external : List ℕ) where
+module _ (items : List ItemInMode) (external : List ℕ) where
   abbrev ns : Names
   ns = names_behind items no_names
 
@@ -29,7 +29,7 @@ module _ (items : List Placed) (external : List ℕ) where
   abbrev class : List ℕ → ℕ → Bool
   class = class_of (classes_behind items [])
 
-  abbrev program : plan.Plan
+  abbrev program : programs.Program
   program = plan_with ns items external
 
   agree : Agree ns known
@@ -40,12 +40,12 @@ module _ (items : List Placed) (external : List ℕ) where
     groupings = groupings_are items no_names;
   }
 
-  body_same : (call : ℕ → Doing) (call' : List ℕ → Doing) (o : Option Body) (m : Mode) (s : Standing) → ((n : List ℕ) → call (number_of ns.routines n) ≡ call' n) → run.body_does (does program.groupings call) (option_map (as_made ns) o) m s ≡ meaning.body_does known class call' o m s
+  body_same : (call : ℕ → Doing) (call' : List ℕ → Doing) (o : Option Body) (m : Mode) (s : State) → ((n : List ℕ) → call (number_of ns.routines n) ≡ call' n) → run.body_does (does program.groupings call) (option_map (as_made ns) o) m s ≡ meaning.body_does known class call' o m s
   body_same call call' None m s h = refl
   body_same call call' (Some b) m s h =
       ap (λ d. leave s.choices (paid d m (enter (behind_others b.others (behind b.first 0)) s))) (row_sound ns known agree program.groupings class call call' (class_same items external) h b.mode b.first b.others)
 
-  calls_same : (l : ℕ) (n : List ℕ) (m : Mode) (s : Standing) → run.calls program l (number_of ns.routines n) m s ≡ meaning.calls known class (body_named items) l n m s
+  calls_same : (l : ℕ) (n : List ℕ) (m : Mode) (s : State) → run.calls program l (number_of ns.routines n) m s ≡ meaning.calls known class (body_named items) l n m s
   calls_same zero n m s = refl
   calls_same (suc l) n m s =
       ap (λ o. run.body_does (does program.groupings (run.calls program l)) o m s) (routine_same items external n)

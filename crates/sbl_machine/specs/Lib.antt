@@ -1,6 +1,6 @@
 pub mod Names
 pub mod Listing
-pub mod Standing
+pub mod State
 pub mod Moves
 pub mod Slices
 pub mod Numbers

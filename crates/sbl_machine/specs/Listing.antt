@@ -1,7 +1,7 @@
 -- What the tables of a machine list.
 use Rattle.std.specs.Prelude.{ℕ, List, [], Option, Some, None}
-use Rattle.sbl_script.specs.declared.marks.Mode.{Mode}
-use Rattle.sbl_script.specs.declared.marks.Mode.TheVariants.{Forward}
+use Rattle.sbl_tree.specs.declared.mode.Mode.{Mode}
+use Rattle.sbl_tree.specs.declared.mode.Mode.TheVariants.{Forward}
 use Rattle.sbl_program.specs.Listed.{Listed, listing}
 use Rattle.sbl_tables.specs.Fitting.{fitting, read_all, ahead_at}
 

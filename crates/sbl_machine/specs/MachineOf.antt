@@ -1,13 +1,13 @@
 -- When a machine is that of a script.
 use Rattle.std.specs.Prelude.{◌≡◌, ℕ, List, slice_get}
-use Rattle.sbl_script.specs.declared.marks.Mode.{Mode}
+use Rattle.sbl_tree.specs.declared.mode.Mode.{Mode}
 use Rattle.sbl_machine.specs.declared.machine.Machine.{Machine}
 use Rattle.sbl_program.specs.Listed.{Listed}
 use Rattle.sbl_machine.specs.Listing.{listed_by}
 use Rattle.sbl_tables.specs.declared.linked.LinkedTable.{LinkedTable}
 use Rattle.sbl_program.specs.Numbered.{numbered_script}
-use Rattle.sbl_program.specs.Plan.{Plan}
-use Rattle.sbl_program.specs.PlanOf.{plan_of}
+use Rattle.sbl_program.specs.Program.{Program}
+use Rattle.sbl_program.specs.ProgramOf.{program_of}
 use Rattle.sbl_tables.specs.LinkedStrings.{entries_of, mode_of}
 use Rattle.sbl_script.specs.Parsed.{Source}
 
@@ -16,8 +16,8 @@ abbrev pub listed_in : (S : Type 0) → (S → List (List ℕ)) → (S → Mode)
 listed_in S entries mode m k = listed_by S entries mode (slice_get m.tables.tables.items k)
 
 -- a machine's program
-abbrev pub machine_plan : (S : Type 0) → (S → List (List ℕ)) → (S → Mode) → Machine S → Plan
-machine_plan S entries mode m = plan_of (listed_in S entries mode m) m.program
+abbrev pub machine_plan : (S : Type 0) → (S → List (List ℕ)) → (S → Mode) → Machine S → Program
+machine_plan S entries mode m = program_of (listed_in S entries mode m) m.program
 
 -- a machine is that of a script when its program is the script's
 unfoldable pub IsMachineOf : (S : Type 0) → (S → List (List ℕ)) → (S → Mode) → Machine S → Source → Type 0

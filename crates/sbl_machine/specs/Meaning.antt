@@ -1,32 +1,32 @@
 -- What a run of a script does: each command of its trees by what its parts do.
 use Rattle.std.specs.Prelude.{ℕ, ℤ, pos, negsuc, zero, suc, ◌+◌, ◌+ℤ◌, ◌-ℤ◌, ◌*ℤ◌, neg_ℤ, Bool, true, false, not, List, [], ◌∷◌, ◌++◌, length, map, take, replicate, nat_eq, int_lt, if◌then◌else◌, Option, Some, None, Ok, slice_get, slice_index_or, slice_set}
 use Rattle.std.specs.Ordering.{int_eq}
-use Rattle.sbl_grammar.specs.declared.tree.Joiner.{Joiner}
-use Rattle.sbl_grammar.specs.declared.tree.Joiner.TheVariants.{Or, And}
-use Rattle.sbl_grammar.specs.declared.tree.Simple.{Simple}
-use Rattle.sbl_grammar.specs.declared.tree.Simple.TheVariants as simples
-use Rattle.sbl_grammar.specs.declared.tree.Prefix.{Prefix}
-use Rattle.sbl_grammar.specs.declared.tree.Prefix.TheVariants as prefixes
-use Rattle.sbl_grammar.specs.declared.tree.Count.{Count}
-use Rattle.sbl_grammar.specs.declared.tree.Count.TheVariants as counts
-use Rattle.sbl_grammar.specs.declared.tree.Move.{Move}
-use Rattle.sbl_grammar.specs.declared.tree.Move.TheVariants as moves
-use Rattle.sbl_grammar.specs.declared.tree.Naming.{Naming}
-use Rattle.sbl_grammar.specs.declared.tree.Naming.TheVariants as namings
-use Rattle.sbl_grammar.specs.declared.tree.Edit.{Edit}
-use Rattle.sbl_grammar.specs.declared.tree.Edit.TheVariants as edits
-use Rattle.sbl_grammar.specs.declared.tree.Additive.{Additive}
-use Rattle.sbl_grammar.specs.declared.tree.Additive.TheVariants as additives
-use Rattle.sbl_grammar.specs.declared.tree.Multiplicative.{Multiplicative}
-use Rattle.sbl_grammar.specs.declared.tree.Multiplicative.TheVariants as multiplicatives
-use Rattle.sbl_grammar.specs.declared.tree.Constant.{Constant}
-use Rattle.sbl_grammar.specs.declared.tree.Constant.TheVariants as constants
-use Rattle.sbl_grammar.specs.declared.tree.Assignment.{Assignment}
-use Rattle.sbl_grammar.specs.declared.tree.Assignment.TheVariants as assignments
-use Rattle.sbl_grammar.specs.declared.tree.Comparison.{Comparison}
-use Rattle.sbl_grammar.specs.declared.tree.Comparison.TheVariants as comparisons
-use Rattle.sbl_grammar.specs.Tree as trees
-use Rattle.sbl_grammar.specs.Tree.{bracket, single, quoted, called, excluded, prefixed, counted, moved, named, edited, limited, assigned, compared, values_compared, chosen, no_rows, row, no_others, joined, no_starter, starter, bare, group}
+use Rattle.sbl_tree.specs.declared.tree.Joiner.{Joiner}
+use Rattle.sbl_tree.specs.declared.tree.Joiner.TheVariants.{Or, And}
+use Rattle.sbl_tree.specs.declared.tree.Simple.{Simple}
+use Rattle.sbl_tree.specs.declared.tree.Simple.TheVariants as simples
+use Rattle.sbl_tree.specs.declared.tree.Prefix.{Prefix}
+use Rattle.sbl_tree.specs.declared.tree.Prefix.TheVariants as prefixes
+use Rattle.sbl_tree.specs.declared.tree.Count.{Count}
+use Rattle.sbl_tree.specs.declared.tree.Count.TheVariants as counts
+use Rattle.sbl_tree.specs.declared.tree.Move.{Move}
+use Rattle.sbl_tree.specs.declared.tree.Move.TheVariants as moves
+use Rattle.sbl_tree.specs.declared.tree.Naming.{Naming}
+use Rattle.sbl_tree.specs.declared.tree.Naming.TheVariants as namings
+use Rattle.sbl_tree.specs.declared.tree.Splice.{Splice}
+use Rattle.sbl_tree.specs.declared.tree.Splice.TheVariants as edits
+use Rattle.sbl_tree.specs.declared.tree.Additive.{Additive}
+use Rattle.sbl_tree.specs.declared.tree.Additive.TheVariants as additives
+use Rattle.sbl_tree.specs.declared.tree.Multiplicative.{Multiplicative}
+use Rattle.sbl_tree.specs.declared.tree.Multiplicative.TheVariants as multiplicatives
+use Rattle.sbl_tree.specs.declared.tree.Constant.{Constant}
+use Rattle.sbl_tree.specs.declared.tree.Constant.TheVariants as constants
+use Rattle.sbl_tree.specs.declared.tree.Assignment.{Assignment}
+use Rattle.sbl_tree.specs.declared.tree.Assignment.TheVariants as assignments
+use Rattle.sbl_tree.specs.declared.tree.Comparison.{Comparison}
+use Rattle.sbl_tree.specs.declared.tree.Comparison.TheVariants as comparisons
+use Rattle.sbl_tree.specs.Tree as trees
+use Rattle.sbl_tree.specs.Tree.{bracket, simple_, literal_, name_, non_, prefixed, counted, move_, named, splice_, setlimit_, assign_, compare_, compare_values_, among_, no_rows, row, no_others, joined, no_starter, starter, bare, group}
 use Rattle.std.specs.Cmp.Lexicographic.{pointwise}
 use Rattle.sbl_tables.specs.Fitting.{read_as, ahead_at}
 use Rattle.sbl_program.specs.Items.{Known, Body, is_among, place_of, body_named, class_of, classes_behind, in_order, known_in}
@@ -36,20 +36,20 @@ use Rattle.sbl_program.specs.Regions.{Among, among_at, behind, behind_rows, behi
 use Rattle.sbl_machine.specs.Run.{turns, times, count_of, seeks, limits, limited as within, limit_here, backwards_from, backwards_end, chosen as go_on, enter, leave, paid}
 use Rattle.sbl_machine.specs.Search.{choose, choice, bound_in}
 use Rattle.sbl_machine.specs.Slices.{left_bracket, right_bracket, replace, keep, insert, attach}
-use Rattle.sbl_machine.specs.Standing.{Standing, Ending, Signals, Stops, Doing, ahead, after, moved as further, then_on, pay, mark, place_after, put_back, to_limit}
+use Rattle.sbl_machine.specs.State.{State, Ending, Signals, Stops, Doing, ahead, after, moved as further, then_on, pay, saved_cursor, place_after, put_back, to_limit}
 use Rattle.sbl_machine.specs.declared.fault.RunFault.TheVariants.{Depth}
 use Rattle.sbl_script.specs.Parsed.{Source}
-use Rattle.sbl_script.specs.declared.marks.Mode.{Mode}
-use Rattle.sbl_script.specs.declared.marks.Mode.TheVariants.{Forward, Backward}
+use Rattle.sbl_tree.specs.declared.mode.Mode.{Mode}
+use Rattle.sbl_tree.specs.declared.mode.Mode.TheVariants.{Forward, Backward}
 
 -- ---- commands, by what their parts do
 
 -- `not C` and its like, by what C does
 abbrev pub prefixed_does : Prefix → Doing → Doing
-prefixed_does prefixes.Not c m s = after (c m s) (Signals false) (put_back m (mark s))
-prefixed_does prefixes.Test c m s = after (c m s) (put_back m (mark s)) (Signals false)
-prefixed_does prefixes.Try c m s = after (c m s) (Signals true) (put_back m (mark s))
-prefixed_does prefixes.Do c m s = after (c m s) (put_back m (mark s)) (put_back m (mark s))
+prefixed_does prefixes.Not c m s = after (c m s) (Signals false) (put_back m (saved_cursor s))
+prefixed_does prefixes.Test c m s = after (c m s) (put_back m (saved_cursor s)) (Signals false)
+prefixed_does prefixes.Try c m s = after (c m s) (Signals true) (put_back m (saved_cursor s))
+prefixed_does prefixes.Do c m s = after (c m s) (put_back m (saved_cursor s)) (put_back m (saved_cursor s))
 prefixed_does prefixes.Fail c m s = after (c m s) (Signals false) (Signals false)
 prefixed_does prefixes.Repeat c m s = turns (suc s.steps) c m s
 prefixed_does prefixes.GoTo c m s = seeks (suc s.steps) false c m s
@@ -64,12 +64,12 @@ counted_does counts.AtLeast v c m s =
 
 -- `C1 or C2`, `C1 and C2`
 abbrev pub joined_does : Joiner → Doing → Doing → Doing
-joined_does Or a b m s = after (a m s) (Signals true) (λ f. then_on (put_back m (mark s) f) (b m))
-joined_does And a b m s = after (a m s) (λ t. then_on (put_back m (mark s) t) (b m)) (Signals false)
+joined_does Or a b m s = after (a m s) (Signals true) (λ f. then_on (put_back m (saved_cursor s) f) (b m))
+joined_does And a b m s = after (a m s) (λ t. then_on (put_back m (saved_cursor s) t) (b m)) (Signals false)
 
 -- `setlimit C1 for C2`
 abbrev pub limited_does : Doing → Doing → Doing
-limited_does a b m s = after (a m s) (λ t. then_on (put_back m (mark s) (limit_here m t)) (λ u. within m (limits s) (b m u))) (Signals false)
+limited_does a b m s = after (a m s) (λ t. then_on (put_back m (saved_cursor s) (limit_here m t)) (λ u. within m (limits s) (b m u))) (Signals false)
 
 -- the words that stand alone, by the search of the next among
 abbrev pub simple_does : Doing → Simple → Doing
@@ -96,7 +96,7 @@ altered assignments.Minus x y = fitted (x -ℤ y)
 altered assignments.Times x y = fitted (x *ℤ y)
 altered assignments.Over x y = divided x y
 
-abbrev pub assigned_does : ℕ → Assignment → Value → Standing → Ending
+abbrev pub assigned_does : ℕ → Assignment → Value → State → Ending
 assigned_does x o v s =
     given (with_value v (altered o (integer_at x s))) s (λ z. Signals true (record s { integers = slice_set s.integers x z }))
 
@@ -108,7 +108,7 @@ is_so comparisons.AtMost x y = not (int_lt y x)
 is_so comparisons.Greater x y = int_lt y x
 is_so comparisons.AtLeast x y = not (int_lt x y)
 
-abbrev pub compared_does : Value → Comparison → Value → Standing → Ending
+abbrev pub compared_does : Value → Comparison → Value → State → Ending
 compared_does v o w s = given v s (λ x. given w s (λ y. Signals (is_so o x y) s))
 
 -- `non` is `false`: whether a character is ahead that is of a class or, as is wanted, not of it
@@ -127,7 +127,7 @@ named_does ns namings.Unset n m s = Signals true (set_boolean (place_of ns.boole
 named_does ns namings.Arrow n m s = keep (place_of ns.strings n) s
 
 -- `<+` is `insert`
-abbrev pub edited_does : Edit → List ℕ → Doing
+abbrev pub edited_does : Splice → List ℕ → Doing
 edited_does edits.Replace cs m s = replace cs s
 edited_does edits.InsertSign cs m s = insert cs m s
 edited_does edits.Insert cs m s = insert cs m s
@@ -141,11 +141,11 @@ begins false search begun m s = after (paid search m s) (begun m) (Signals false
 -- ---- strings and numbers, by the variables' names
 
 module _ (ns : Known) where
-  abbrev pub text : trees.Argument → Standing → List ℕ
+  abbrev pub text : trees.Argument → State → List ℕ
   text (trees.written_out q) s = q.value
   text (trees.by_name n) s = slice_index_or s.strings (place_of ns.strings n) []
 
-  abbrev pub constant_worth : Constant → Mode → Standing → Value
+  abbrev pub constant_worth : Constant → Mode → State → Value
   constant_worth constants.MaxInt m s = Ok (pos 2147483647)
   constant_worth constants.MinInt m s = Ok (negsuc 2147483647)
   constant_worth constants.Cursor m s = fitted (pos s.cursor)
@@ -162,23 +162,23 @@ module _ (ns : Known) where
 
   abbrev mutual
     -- what an expression is worth
-    pub worth : trees.Expression → Mode → Standing → Value
+    pub worth : trees.Expression → Mode → State → Value
     worth (trees.expression p ss) m s = summed ss (product_worth p m s) m s
 
     -- products are added and taken away from the left
-    pub summed : trees.Sums → Value → Mode → Standing → Value
+    pub summed : trees.Sums → Value → Mode → State → Value
     summed trees.no_sums v m s = v
     summed (trees.sum o p ss) v m s = summed ss (added o v (product_worth p m s)) m s
 
-    pub product_worth : trees.Product → Mode → Standing → Value
+    pub product_worth : trees.Product → Mode → State → Value
     product_worth (trees.product f ss) m s = multiplied ss (factor_worth f m s) m s
 
     -- factors are multiplied and divided from the left
-    pub multiplied : trees.Scales → Value → Mode → Standing → Value
+    pub multiplied : trees.Scales → Value → Mode → State → Value
     multiplied trees.no_scales v m s = v
     multiplied (trees.scale o f ss) v m s = multiplied ss (scaled o v (factor_worth f m s)) m s
 
-    pub factor_worth : trees.Factor → Mode → Standing → Value
+    pub factor_worth : trees.Factor → Mode → State → Value
     factor_worth (trees.negated f) m s = with_value (factor_worth f m s) (λ x. fitted (neg_ℤ x))
     factor_worth (trees.bracketed e) m s = worth e m s
     factor_worth (trees.numeral n) m s = fitted (pos n)
@@ -215,17 +215,17 @@ module _ (call : List ℕ → Doing) where
 
   -- One string, if there is one: the cursor goes just after it, and its condition is called. At t it is taken, and the cursor
   -- set just after it again; at f what comes next goes on from the state that the condition left.
-  abbrev pub takes : ℕ → Option Offer → Mode → Standing → Standing → (Standing → Ending) → Ending
+  abbrev pub takes : ℕ → Option Offer → Mode → State → State → (State → Ending) → Ending
   takes k None m from s next = next s
   takes k (Some o) m from s next =
-      then_on (place_after m (mark from) (length o.string) s) (λ a.
+      then_on (place_after m (saved_cursor from) (length o.string) s) (λ a.
       after (condition_does o.condition m a)
-      (λ b. then_on (place_after m (mark from) (length o.string) b) (λ c. Signals true (choose k (Some o.group) c)))
+      (λ b. then_on (place_after m (saved_cursor from) (length o.string) b) (λ c. Signals true (choose k (Some o.group) c)))
       next)
 
   -- The strings of fewer than b characters that are a front of x, the longest first, from the state in which the search began;
   -- where none is taken, nothing is chosen.
-  abbrev pub tried : ℕ → List Offer → Mode → Mode → Standing → List ℕ → ℕ → Standing → Ending
+  abbrev pub tried : ℕ → List Offer → Mode → Mode → State → List ℕ → ℕ → State → Ending
   tried k os r m from x zero s = Signals false (choose k None s)
   tried k os r m from x (suc l) s = takes k (offering r (take l x) os) m from s (tried k os r m from x l)
 
@@ -254,23 +254,23 @@ module _ (ns : Known) (class : List ℕ → ℕ → Bool) (call : List ℕ → D
   abbrev mutual
     -- What a command does once its step is paid: `r` is the mode of its place, k amongs of its routine stand before it, w says whether
     -- a `substring` of its region waits, and n is the next among of its region behind it.
-    pub act : Mode → ℕ → Bool → Option Among → trees.Tree → Doing
+    pub act : Mode → ℕ → Bool → Option Among → trees.Command → Doing
     act r k w n (bracket rs) m s = rows_do r k w n rs m s
-    act r k w n (single x) m s = simple_does (search_ahead n) x m s
-    act r k w n (quoted q) m s = match q.value m s
-    act r k w n (called x) m s = name_does x m s
-    act r k w n (excluded b x) m s = class_does false (class x) m s
+    act r k w n (simple_ x) m s = simple_does (search_ahead n) x m s
+    act r k w n (literal_ q) m s = match q.value m s
+    act r k w n (name_ x) m s = name_does x m s
+    act r k w n (non_ b x) m s = class_does false (class x) m s
     act r k w n (prefixed x c) m s = prefixed_does x (paid (act (mode_behind x r) k w n c)) m s
     act r k w n (counted x e c) m s = counted_does x (worth ns e m s) (paid (act r k w n c)) m s
-    act r k w n (moved x e) m s = moved_does x (worth ns e m s) m s
+    act r k w n (move_ x e) m s = moved_does x (worth ns e m s) m s
     act r k w n (named x y) m s = named_does ns x y m s
-    act r k w n (edited x a) m s = edited_does x (text ns a s) m s
-    act r k w n (limited b c) m s =
+    act r k w n (splice_ x a) m s = edited_does x (text ns a s) m s
+    act r k w n (setlimit_ b c) m s =
         limited_does (paid (act r k w (first r c (behind b k) n) b)) (paid (act r (behind b k) (waits b w) n c)) m s
-    act r k w n (assigned x o e) m s = assigned_does (place_of ns.integers x) o (worth ns e m s) s
-    act r k w n (compared x o e) m s = compared_does (Ok (integer_at (place_of ns.integers x) s)) o (worth ns e m s) s
-    act r k w n (values_compared e o f) m s = compared_does (worth ns e m s) o (worth ns f m s) s
-    act r k w n (chosen st gs) m s =
+    act r k w n (assign_ x o e) m s = assigned_does (place_of ns.integers x) o (worth ns e m s) s
+    act r k w n (compare_ x o e) m s = compared_does (Ok (integer_at (place_of ns.integers x) s)) o (worth ns e m s) s
+    act r k w n (compare_values_ e o f) m s = compared_does (worth ns e m s) o (worth ns f m s) s
+    act r k w n (among_ st gs) m s =
         after (begins w (search call (among_at r k gs)) (starter_does r (suc k) st) m s)
         (λ t. go_on (choice k t) t (λ g. group_does r (behind_starter st (suc k)) gs g m t)) (Signals false)
 
@@ -300,7 +300,7 @@ module _ (ns : Known) (class : List ℕ → ℕ → Bool) (call : List ℕ → D
     group_does r k (group e es rs gs) (suc g) m s = group_does r (behind_rows rs k) gs g m s
 
   -- a routine's body: its row, grouped from the left
-  abbrev pub row_does : Mode → trees.Tree → trees.Others → Doing
+  abbrev pub row_does : Mode → trees.Command → trees.Others → Doing
   row_does r c os = others_do r (behind c 0) (waits c false) None os (act r 0 false (first_others r os (behind c 0) None) c)
 
   -- a call begins with nothing chosen, and at its return the caller's choices are back
@@ -317,7 +317,7 @@ calls ns class bodies zero n m s = Stops Depth s
 calls ns class bodies (suc l) n m s = body_does ns class (calls ns class bodies l) (bodies n) m s
 
 -- where a run of a word begins: integers 0, booleans false, strings empty
-abbrev pub start : Known → List ℕ → ℕ → Standing
+abbrev pub start : Known → List ℕ → ℕ → State
 start ns word steps = record {
   text = word;
   cursor = 0;

@@ -8,10 +8,10 @@ use Rattle.sbl_program.specs.declared.action.Relation.TheVariants.{Equal, Unequa
 use Rattle.sbl_machine.specs.declared.fault.RunFault.{RunFault}
 use Rattle.sbl_machine.specs.declared.fault.RunFault.TheVariants as faults
 use Rattle.sbl_machine.specs.Moves.{characters}
-use Rattle.sbl_program.specs.Plan as plan
-use Rattle.sbl_machine.specs.Standing.{Standing, Ending, Signals, Stops}
-use Rattle.sbl_script.specs.declared.marks.Mode.{Mode}
-use Rattle.sbl_script.specs.declared.marks.Mode.TheVariants.{Forward, Backward}
+use Rattle.sbl_program.specs.Program as programs
+use Rattle.sbl_machine.specs.State.{State, Ending, Signals, Stops}
+use Rattle.sbl_tree.specs.declared.mode.Mode.{Mode}
+use Rattle.sbl_tree.specs.declared.mode.Mode.TheVariants.{Forward, Backward}
 
 -- a number, or why there is none
 abbrev pub Value : Type 0
@@ -36,29 +36,29 @@ abbrev pub with_both : Value → Value → (ℤ → ℤ → Value) → Value
 with_both a b go = with_value a (λ x. with_value b (go x))
 
 -- the limit of the direction
-abbrev pub limit_value : Mode → Standing → Value
+abbrev pub limit_value : Mode → State → Value
 limit_value Forward s = fitted (pos (length s.text) -ℤ pos s.beyond)
 limit_value Backward s = fitted (pos s.left)
 
 -- what an integer variable holds
-abbrev pub integer_at : ℕ → Standing → ℤ
+abbrev pub integer_at : ℕ → State → ℤ
 integer_at x s = slice_index_or s.integers x (pos 0)
 
 -- what an expression is worth
-abbrev pub value : plan.Number → Mode → Standing → Value
-value (plan.number n) m s = fitted (pos n)
-value (plan.integer x) m s = Ok (integer_at x s)
-value plan.cursor m s = fitted (pos s.cursor)
-value plan.limit m s = limit_value m s
-value plan.len m s = fitted (pos (length s.text))
-value (plan.lenof t) m s = fitted (pos (length (characters t s)))
-value plan.maxint m s = Ok (pos 2147483647)
-value plan.minint m s = Ok (negsuc 2147483647)
-value (plan.negative a) m s = with_value (value a m s) (λ x. fitted (neg_ℤ x))
-value (plan.sum a b) m s = with_both (value a m s) (value b m s) (λ x y. fitted (x +ℤ y))
-value (plan.difference a b) m s = with_both (value a m s) (value b m s) (λ x y. fitted (x -ℤ y))
-value (plan.product a b) m s = with_both (value a m s) (value b m s) (λ x y. fitted (x *ℤ y))
-value (plan.quotient a b) m s = with_both (value a m s) (value b m s) divided
+abbrev pub value : programs.Arithmetic → Mode → State → Value
+value (programs.number n) m s = fitted (pos n)
+value (programs.integer x) m s = Ok (integer_at x s)
+value programs.cursor m s = fitted (pos s.cursor)
+value programs.limit m s = limit_value m s
+value programs.len m s = fitted (pos (length s.text))
+value (programs.lenof t) m s = fitted (pos (length (characters t s)))
+value programs.maxint m s = Ok (pos 2147483647)
+value programs.minint m s = Ok (negsuc 2147483647)
+value (programs.negative a) m s = with_value (value a m s) (λ x. fitted (neg_ℤ x))
+value (programs.sum a b) m s = with_both (value a m s) (value b m s) (λ x y. fitted (x +ℤ y))
+value (programs.difference a b) m s = with_both (value a m s) (value b m s) (λ x y. fitted (x -ℤ y))
+value (programs.product a b) m s = with_both (value a m s) (value b m s) (λ x y. fitted (x *ℤ y))
+value (programs.quotient a b) m s = with_both (value a m s) (value b m s) divided
 
 -- what an integer becomes
 abbrev pub changed : Change → ℤ → ℤ → Value
@@ -77,17 +77,17 @@ holds Greater x y = int_lt y x
 holds GreaterOrEqual x y = not (int_lt x y)
 
 -- a command goes on with a number, or the run is refused
-abbrev pub given : Value → Standing → (ℤ → Ending) → Ending
+abbrev pub given : Value → State → (ℤ → Ending) → Ending
 given (Ok z) s go = go z
 given (Err fault) s go = Stops fault s
 
 -- `$x = AE` and its like: the expression first
-abbrev pub assign : ℕ → Change → plan.Number → Mode → Standing → Ending
+abbrev pub assign : ℕ → Change → programs.Arithmetic → Mode → State → Ending
 assign x change a m s =
     given (with_value (value a m s) (changed change (integer_at x s))) s (λ z. Signals true (record s { integers = slice_set s.integers x z }))
 
 -- a comparison of two expressions
-abbrev pub compare : plan.Number → Relation → plan.Number → Mode → Standing → Ending
+abbrev pub compare : programs.Arithmetic → Relation → programs.Arithmetic → Mode → State → Ending
 compare a relation b m s = given (value a m s) s (λ x. given (value b m s) s (λ y. Signals (holds relation x y) s))
 
 -- a number that is no less than zero

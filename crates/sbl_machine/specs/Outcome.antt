@@ -5,11 +5,11 @@ use Rattle.sbl_machine.specs.declared.fault.RunFault.TheVariants as faults
 use Rattle.sbl_machine.specs.declared.outcome.Outcome.{Outcome}
 use Rattle.sbl_machine.specs.declared.outcome.Outcome.TheVariants as code
 use Rattle.sbl_machine.specs.Meaning.{ending}
-use Rattle.sbl_program.specs.Plan as plan
+use Rattle.sbl_program.specs.Program as programs
 use Rattle.sbl_machine.specs.Run.{calls}
-use Rattle.sbl_machine.specs.Standing.{Standing, Ending, Signals, Stops}
+use Rattle.sbl_machine.specs.State.{State, Ending, Signals, Stops}
 use Rattle.sbl_script.specs.Parsed.{Source}
-use Rattle.sbl_script.specs.declared.marks.Mode.TheVariants.{Forward}
+use Rattle.sbl_tree.specs.declared.mode.Mode.TheVariants.{Forward}
 
 -- a stem, or why there is none
 pub data Outcome' : Type 0 where
@@ -22,7 +22,7 @@ outcome_of (code.Stem text) = Stem text.items
 outcome_of (code.Refused fault) = Refused fault
 
 -- where a run of a word begins: integers 0, booleans false, strings empty
-abbrev pub start : plan.Plan → List ℕ → ℕ → Standing
+abbrev pub start : programs.Program → List ℕ → ℕ → State
 start p word steps = record {
   text = word;
   cursor = 0;
@@ -38,7 +38,7 @@ start p word steps = record {
 }
 
 -- how a run of a word ends: the external's body runs forwards, on the first of 32 levels
-abbrev pub ending_of : plan.Plan → List ℕ → ℕ → Ending
+abbrev pub ending_of : programs.Program → List ℕ → ℕ → Ending
 ending_of p word limit = calls p 32 p.external Forward (start p word limit)
 
 -- the text as it stands at the end is the stem, whatever the signal

@@ -5,7 +5,7 @@ ghost use Rattle.sbl_machine.specs.Kept.{Follows};
 ghost use Rattle.sbl_machine.specs.MachineOf.{IsMachineOf};
 ghost use Rattle.sbl_machine.specs.Outcome.{outcome_at, outcome_of, run_of, used_at, used_of};
 ghost use Rattle.sbl_script.specs.Parsed.{Source, source_of};
-ghost use Rattle.sbl_machine.specs.Standing.{Ending};
+ghost use Rattle.sbl_machine.specs.State.{Ending};
 
 use crate::fault::{RunFault, RunStop};
 use crate::halt::Halt;
@@ -16,12 +16,13 @@ use crate::state::State;
 use crate::table::{TableList, tables_of};
 use sbl_program::node::Program;
 use sbl_program::{Made, numbered};
-use sbl_script::{Mode, Script};
+use sbl_script::Script;
+use sbl_tree::Mode;
 use sbl_tables::AmongSearch;
 use std::alloc::{AllocError, Global};
 
 /// How deep the calls of routines may go, the external counted as one.
-const MOST_LEVELS: u32 = 32;
+const MAX_LEVELS: u32 = 32;
 
 /// A script, ready to run.
 #[derive(Drop)]
@@ -83,7 +84,7 @@ impl<S: AmongSearch> Machine<S> {
         let end = run_call(
             &self.tables,
             &self.program,
-            MOST_LEVELS,
+            MAX_LEVELS,
             Mode::Forward,
             self.program.external,
             &mut state,

@@ -3,20 +3,20 @@
 ghost use Rattle.std.specs.Prelude.{◌≡◌, ◌+◌, ◌<◌, ◌≤◌, Bool, false, suc, map, IfOk, slice_get};
 ghost use Rattle.sbl_machine.specs.Kept.{Follows, Tried};
 ghost use Rattle.sbl_machine.specs.Numbers.{value, given};
-ghost use Rattle.sbl_program.specs.PlanOf.{plan_of, view_joined, view_node, view_nodes, view_number};
+ghost use Rattle.sbl_program.specs.ProgramOf.{program_of, view_joined, view_node, view_nodes, view_number};
 ghost use Rattle.sbl_machine.specs.Run.{runs, all_run, group_runs, calls, turns, times, count_of, seeks};
 ghost use Rattle.sbl_machine.specs.Rows.{is_settled, joined_runs, row_runs};
 ghost use Rattle.sbl_machine.specs.Search.{choice, search_all, try_one};
-ghost use Rattle.sbl_machine.specs.Standing.{Standing, Ending, Signals, after, then_on, mark, put_back};
+ghost use Rattle.sbl_machine.specs.State.{State as RunState, Ending, Signals, after, then_on, saved_cursor, put_back};
 
 use crate::halt::Halt;
 use crate::state::numbers::count_of;
-use crate::state::{Mark, State};
+use crate::state::{SavedCursor, State};
 use crate::table::Tables;
-use sbl_grammar::Joiner;
+use sbl_tree::Joiner;
 use sbl_program::action::Arithmetic;
-use sbl_program::node::{Entry, Joined, Node, Program};
-use sbl_script::Mode;
+use sbl_program::node::{Candidate, Joined, Node, Program};
+use sbl_tree::Mode;
 
 /// Runs a command: its signal, or why it has none.
 #[cycle(run)]
@@ -28,7 +28,7 @@ fn run_command<T: Tables>(
     command: &Node,
     state: &mut State,
 ) -> Result<bool, Halt>
-    ensures follows { Follows result state.new (runs (plan_of (T.listed tables.now) program.now) levels (view_node (T.listed tables.now) command.now) mode state.old) }
+    ensures follows { Follows result state.new (runs (program_of (T.listed tables.now) program.now) levels (view_node (T.listed tables.now) command.now) mode state.old) }
     ensures fewer { IfOk result (λ _. state.new.steps < state.old.steps) }
 {
     state.pay()?;
@@ -39,7 +39,7 @@ fn run_command<T: Tables>(
             run_row(tables, program, levels, mode, first, others, state)
         }
         Node::Not(inner) => {
-            let from = state.mark();
+            let from = state.saved_cursor();
             if run_command(tables, program, levels, mode, inner, state)? {
                 return Ok(false);
             }
@@ -47,7 +47,7 @@ fn run_command<T: Tables>(
             Ok(true)
         }
         Node::Test(inner) => {
-            let from = state.mark();
+            let from = state.saved_cursor();
             if !run_command(tables, program, levels, mode, inner, state)? {
                 return Ok(false);
             }
@@ -55,14 +55,14 @@ fn run_command<T: Tables>(
             Ok(true)
         }
         Node::Try(inner) => {
-            let from = state.mark();
+            let from = state.saved_cursor();
             if !run_command(tables, program, levels, mode, inner, state)? {
                 state.put_back(mode, from)?;
             }
             Ok(true)
         }
         Node::Do(inner) => {
-            let from = state.mark();
+            let from = state.saved_cursor();
             run_command(tables, program, levels, mode, inner, state)?;
             state.put_back(mode, from)?;
             Ok(true)
@@ -90,7 +90,7 @@ fn run_command<T: Tables>(
             Ok(true)
         }
         Node::SetLimit(first, second) => {
-            let from = state.mark();
+            let from = state.saved_cursor();
             let limits = state.limits();
             if !run_command(tables, program, levels, mode, first, state)? {
                 return Ok(false);
@@ -128,11 +128,11 @@ fn run_row<T: Tables>(
     others: &[Joined],
     state: &mut State,
 ) -> Result<bool, Halt>
-    ensures follows { Follows result state.new (row_runs (plan_of (T.listed tables.now) program.now) levels (view_node (T.listed tables.now) first.now) (map (view_joined (T.listed tables.now)) others.now) mode state.old) }
+    ensures follows { Follows result state.new (row_runs (program_of (T.listed tables.now) program.now) levels (view_node (T.listed tables.now) first.now) (map (view_joined (T.listed tables.now)) others.now) mode state.old) }
     ensures no_more { IfOk result (λ _. state.new.steps ≤ state.old.steps) }
 {
     state.pay_for(others.len().saturating_sub(1))?;
-    let from = state.mark();
+    let from = state.saved_cursor();
     let mut signal = run_command(tables, program, levels, mode, first, state)?;
     for joined in others {
         signal = run_joined(tables, program, levels, mode, from, signal, joined, state)?;
@@ -140,20 +140,20 @@ fn run_row<T: Tables>(
     Ok(signal)
 }
 
-/// Runs the next command of a row from the mark at its beginning, unless the signal before it settles the row so far.
+/// Runs the next command of a row from the saved cursor at its beginning, unless the signal before it settles the row so far.
 #[cycle(run)]
 fn run_joined<T: Tables>(
     tables: &T,
     program: &Program,
     levels: u32,
     mode: Mode,
-    from: Mark,
+    from: SavedCursor,
     signal: bool,
     joined: &Joined,
     state: &mut State,
 ) -> Result<bool, Halt>
     requires { from.cursor + from.beyond + from.length ≤ 4096 }
-    ensures follows { Follows result state.new (joined_runs (plan_of (T.listed tables.now) program.now) levels mode from (view_joined (T.listed tables.now) joined.now) signal state.old) }
+    ensures follows { Follows result state.new (joined_runs (program_of (T.listed tables.now) program.now) levels mode from (view_joined (T.listed tables.now) joined.now) signal state.old) }
     ensures no_more { IfOk result (λ _. state.new.steps ≤ state.old.steps) }
 {
     if is_settled(joined.joiner, signal) {
@@ -183,7 +183,7 @@ fn run_in_turn<T: Tables>(
     commands: &[Node],
     state: &mut State,
 ) -> Result<bool, Halt>
-    ensures follows { Follows result state.new (all_run (plan_of (T.listed tables.now) program.now) levels (view_nodes (T.listed tables.now) commands.now) mode state.old) }
+    ensures follows { Follows result state.new (all_run (program_of (T.listed tables.now) program.now) levels (view_nodes (T.listed tables.now) commands.now) mode state.old) }
     ensures no_more { IfOk result (λ _. state.new.steps ≤ state.old.steps) }
 {
     for one in commands {
@@ -204,11 +204,11 @@ fn run_turns<T: Tables>(
     inner: &Node,
     state: &mut State,
 ) -> Result<bool, Halt>
-    ensures follows { Follows result state.new (turns (suc state.old.steps) (runs (plan_of (T.listed tables.now) program.now) levels (view_node (T.listed tables.now) inner.now)) mode state.old) }
+    ensures follows { Follows result state.new (turns (suc state.old.steps) (runs (program_of (T.listed tables.now) program.now) levels (view_node (T.listed tables.now) inner.now)) mode state.old) }
     ensures no_more { IfOk result (λ _. state.new.steps ≤ state.old.steps) }
 {
     loop {
-        let from = state.mark();
+        let from = state.saved_cursor();
         if !run_command(tables, program, levels, mode, inner, state)? {
             state.put_back(mode, from)?;
             return Ok(true);
@@ -227,7 +227,7 @@ fn run_times<T: Tables>(
     inner: &Node,
     state: &mut State,
 ) -> Result<bool, Halt>
-    ensures follows { Follows result state.new (given (value (view_number count.now) mode state.old) state.old (λ z. times (count_of z) (runs (plan_of (T.listed tables.now) program.now) levels (view_node (T.listed tables.now) inner.now)) mode state.old)) }
+    ensures follows { Follows result state.new (given (value (view_number count.now) mode state.old) state.old (λ z. times (count_of z) (runs (program_of (T.listed tables.now) program.now) levels (view_node (T.listed tables.now) inner.now)) mode state.old)) }
     ensures no_more { IfOk result (λ _. state.new.steps ≤ state.old.steps) }
 {
     let number = state.value(mode, count)?;
@@ -252,11 +252,11 @@ fn run_seek<T: Tables>(
     inner: &Node,
     state: &mut State,
 ) -> Result<bool, Halt>
-    ensures follows { Follows result state.new (seeks (suc state.old.steps) past (runs (plan_of (T.listed tables.now) program.now) levels (view_node (T.listed tables.now) inner.now)) mode state.old) }
+    ensures follows { Follows result state.new (seeks (suc state.old.steps) past (runs (program_of (T.listed tables.now) program.now) levels (view_node (T.listed tables.now) inner.now)) mode state.old) }
     ensures no_more { IfOk result (λ _. state.new.steps ≤ state.old.steps) }
 {
     loop {
-        let from = state.mark();
+        let from = state.saved_cursor();
         if run_command(tables, program, levels, mode, inner, state)? {
             if !past {
                 state.put_back(mode, from)?;
@@ -280,7 +280,7 @@ pub fn run_call<T: Tables>(
     number: usize,
     state: &mut State,
 ) -> Result<bool, Halt>
-    ensures follows { Follows result state.new (calls (plan_of (T.listed tables.now) program.now) levels number mode state.old) }
+    ensures follows { Follows result state.new (calls (program_of (T.listed tables.now) program.now) levels number mode state.old) }
     ensures no_more { IfOk result (λ _. state.new.steps ≤ state.old.steps) }
 {
     if levels == 0 {
@@ -309,7 +309,7 @@ fn run_among<T: Tables>(
     bodies: &Vec<Node>,
     state: &mut State,
 ) -> Result<bool, Halt>
-    ensures follows { Follows result state.new (after (all_run (plan_of (T.listed tables.now) program.now) levels (view_nodes (T.listed tables.now) before.now.items) mode state.old) (λ t. group_runs (plan_of (T.listed tables.now) program.now) levels (view_nodes (T.listed tables.now) bodies.now.items) (choice among t) mode t) (Signals false)) }
+    ensures follows { Follows result state.new (after (all_run (program_of (T.listed tables.now) program.now) levels (view_nodes (T.listed tables.now) before.now.items) mode state.old) (λ t. group_runs (program_of (T.listed tables.now) program.now) levels (view_nodes (T.listed tables.now) bodies.now.items) (choice among t) mode t) (Signals false)) }
     ensures no_more { IfOk result (λ _. state.new.steps ≤ state.old.steps) }
 {
     if !run_in_turn(tables, program, levels, mode, before, state)? {
@@ -333,13 +333,13 @@ fn run_search<T: Tables>(
     mode: Mode,
     among: usize,
     table: usize,
-    entries: &[Entry],
+    entries: &[Candidate],
     state: &mut State,
 ) -> Result<bool, Halt>
-    ensures follows { Follows result state.new (search_all (calls (plan_of (T.listed tables.now) program.now) levels) among entries.now (T.listed tables.now table) mode state.old) }
+    ensures follows { Follows result state.new (search_all (calls (program_of (T.listed tables.now) program.now) levels) among entries.now (T.listed tables.now table) mode state.old) }
     ensures no_more { IfOk result (λ _. state.new.steps ≤ state.old.steps) }
 {
-    let from = state.mark();
+    let from = state.saved_cursor();
     let mut place = tables.longest(table, state.text(), state.place(), state.bound(mode));
     while let Some(i) = place {
         match run_try(
@@ -363,13 +363,13 @@ fn run_try<T: Tables>(
     levels: u32,
     mode: Mode,
     among: usize,
-    from: Mark,
-    entries: &[Entry],
+    from: SavedCursor,
+    entries: &[Candidate],
     i: usize,
     state: &mut State,
 ) -> Result<bool, Halt>
     requires { from.cursor + from.beyond + from.length ≤ 4096 }
-    ensures tried { (begun : Standing) (follow : Standing → Ending) → from ≡ mark begun → Tried result state.new (try_one (calls (plan_of (T.listed tables.now) program.now) levels) among (slice_get entries.now i) mode begun state.old follow) (follow state.new) }
+    ensures tried { (begun : RunState) (follow : RunState → Ending) → from ≡ saved_cursor begun → Tried result state.new (try_one (calls (program_of (T.listed tables.now) program.now) levels) among (slice_get entries.now i) mode begun state.old follow) (follow state.new) }
     ensures no_more { IfOk result (λ _. state.new.steps ≤ state.old.steps) }
     ensures fewer { IfOk result (λ b. b ≡ false → state.new.steps < state.old.steps) }
 {

@@ -2,9 +2,9 @@
 
 ghost use Rattle.std.specs.Prelude.{◌≡◌, ℕ, ◌+◌, ◌-◌, ◌<◌, ◌≤◌, ◌^◌, [], length, map, replicate, IfOk};
 ghost use Rattle.sbl_tables.specs.Fitting.{read_as};
-ghost use Rattle.sbl_machine.specs.Standing.{Standing, pay, at_place, at_difference, to_limit, mark, put_back, step_over, place_after, ahead, room};
+ghost use Rattle.sbl_machine.specs.State.{State as RunState, pay, at_place, at_difference, to_limit, saved_cursor, put_back, step_over, place_after, ahead, room};
 ghost use Rattle.sbl_program.specs.Listed.{Listed};
-ghost use Rattle.sbl_program.specs.PlanOf.{plan_of, view_text};
+ghost use Rattle.sbl_program.specs.ProgramOf.{program_of, view_text};
 ghost use Rattle.sbl_machine.specs.Moves.{characters};
 ghost use Rattle.sbl_machine.specs.Kept.{Leads};
 ghost use Rattle.sbl_machine.specs.Rows.{pays};
@@ -19,12 +19,12 @@ mod slices;
 use crate::halt::Halt;
 use sbl_program::action::StringTerm;
 use sbl_program::node::Program;
-use sbl_script::Mode;
+use sbl_tree::Mode;
 use std::alloc::{AllocError, Global};
 use std::marker::Model;
 
 /// The most characters that the text of a run may have.
-const MOST_CHARS: usize = 1024;
+const MAX_TEXT_LENGTH: usize = 1024;
 
 /// Where a run stands.
 #[derive(Drop)]
@@ -47,10 +47,10 @@ pub struct State {
 
 impl Model for State {
     ghost use Rattle.std.specs.Prelude.{map};
-    ghost use Rattle.sbl_machine.specs.Standing.{Standing};
+    ghost use Rattle.sbl_machine.specs.State.{State as RunState};
     ghost use Rattle.sbl_machine.specs.Kept.{IsWithin};
 
-    ghost Value = { Standing };
+    ghost Value = { RunState };
 
     ghost view = { λ s. record { text = s.text.items; cursor = s.cursor; left = s.left; beyond = s.beyond; bra = s.bra; ket = s.ket; integers = s.integers.items; booleans = s.booleans.items; strings = map (λ v. v.items) s.strings.items; choices = s.choices.items; steps = s.steps } };
 
@@ -68,7 +68,7 @@ pub struct Limits {
 
 /// What putting the cursor back needs of a state.
 #[derive(Clone, Copy)]
-pub struct Mark {
+pub struct SavedCursor {
     /// The cursor.
     pub cursor: usize,
     /// How many characters stand beyond the limit.
@@ -107,7 +107,7 @@ impl State {
         steps: u32,
     ) -> Result<State, AllocError>
         requires { length word.now ≤ 255 }
-        ensures { (tables : ℕ → Listed) → IfOk result (λ s. s ≡ start (plan_of tables program.now) word.now steps) }
+        ensures { (tables : ℕ → Listed) → IfOk result (λ s. s ≡ start (program_of tables program.now) word.now steps) }
     {
         let earlier = match earlier {
             None => State::empty(alloc),
@@ -200,19 +200,19 @@ impl State {
     }
 
     /// What has to be kept to put the cursor back here.
-    pub fn mark(&self) -> Mark
-        ensures value { result ≡ mark self.now }
+    pub fn saved_cursor(&self) -> SavedCursor
+        ensures value { result ≡ saved_cursor self.now }
         ensures small { result.cursor + result.beyond + result.length ≤ 4096 }
     {
-        Mark {
+        SavedCursor {
             cursor: self.cursor,
             beyond: self.beyond,
             length: self.text.len(),
         }
     }
 
-    /// Puts the cursor back to a mark. `Cursor` where that place is outside the text.
-    pub fn put_back(&mut self, mode: Mode, from: Mark) -> Result<(), Halt>
+    /// Puts the cursor back to a saved cursor. `Cursor` where that place is outside the text.
+    pub fn put_back(&mut self, mode: Mode, from: SavedCursor) -> Result<(), Halt>
         requires { from.cursor + from.beyond + from.length ≤ 4096 }
         ensures leads { Leads result self.new (put_back mode from self.old) }
         ensures same_steps { IfOk result (λ _. self.new.steps ≡ self.old.steps) }
@@ -247,9 +247,9 @@ impl State {
         }
     }
 
-    /// Sets the cursor just after a string of so many characters that begins at a mark. `Cursor` where one of the two
+    /// Sets the cursor just after a string of so many characters that begins at a saved cursor. `Cursor` where one of the two
     /// places is outside the text.
-    pub fn place_after(&mut self, mode: Mode, from: Mark, n: usize) -> Result<(), Halt>
+    pub fn place_after(&mut self, mode: Mode, from: SavedCursor, n: usize) -> Result<(), Halt>
         requires { from.cursor + from.beyond + from.length ≤ 4096 }
         ensures leads { Leads result self.new (place_after mode from n self.old) }
         ensures same_steps { IfOk result (λ _. self.new.steps ≡ self.old.steps) }

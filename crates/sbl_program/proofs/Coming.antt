@@ -3,41 +3,41 @@ use Rattle.std.proofs.lemmas.Bool.{lt-ltb, ltb-true}
 use Rattle.std.proofs.lemmas.Option.{none-some}
 use Rattle.sbl_program.specs.Laws.{OwnIsMade}
 use Rattle.std.proofs.Common.{◌≡◌, ◌≤◌, lt_irrefl, ℕ, suc, Bool, true, false, List, [], ◌∷◌, ◌++◌, refl, sym, ap, ◌∙◌, drop, length, ◌+◌, append_assoc, append-nil, arith}
-use Rattle.sbl_script.specs.declared.marks.Mode.{Mode}
-use Rattle.sbl_grammar.specs.declared.tree.Joiner.{Joiner}
+use Rattle.sbl_tree.specs.declared.mode.Mode.{Mode}
+use Rattle.sbl_tree.specs.declared.tree.Joiner.{Joiner}
 use Rattle.std.specs.Prelude.{if◌then◌else◌, ◌-◌, nat_lt, Option, Some, None, option_map}
-use Rattle.sbl_grammar.specs.declared.tree.Simple.{Simple}
-use Rattle.sbl_grammar.specs.declared.tree.Simple.TheVariants as simples
+use Rattle.sbl_tree.specs.declared.tree.Simple.{Simple}
+use Rattle.sbl_tree.specs.declared.tree.Simple.TheVariants as simples
 use Rattle.sbl_program.specs.Ahead.{found_as, search_of, search_then, search_next as search_by, simple_by, made, made_rows, made_others, made_starter, made_groups, routine_made, routine_in, routines_in}
 use Rattle.sbl_program.specs.NumberedAmongs.{Found, found_of, found, found_rows, found_others, found_starter, found_groups, found_plain, found_behind}
-use Rattle.sbl_program.specs.NumberedNames.{Names, Placed}
+use Rattle.sbl_program.specs.NumberedNames.{Names, ItemInMode}
 use Rattle.sbl_program.specs.Regions.{Among, among_at, mode_behind, behind, behind_rows, behind_others, behind_starter, behind_groups, first, first_rows, first_others, waits_simple, waits, waits_rows, waits_others}
 use Rattle.sbl_program.specs.NumberedNumbers.{expression}
 use Rattle.sbl_program.specs.Grouped.{join}
-use Rattle.sbl_program.specs.Numbered.{Place, next_of, inside, closed, past, past_simple, past_rows, past_others, past_starter, past_groups, past_body, past_plain, begun, region, body_begun, search_next, simple, behind_prefix, behind_count, numbered, numbered_rows, numbered_others, numbered_starter, numbered_groups, routine_of, with_routine, routines_behind}
-use Rattle.sbl_program.specs.PlanOf.{commands_of}
-use Rattle.sbl_program.specs.Plan as plan
-use Rattle.sbl_grammar.specs.Tree.{Tree, Rows, Others, Starter, Groups, Plain, declaration, escapes, macro, routine, grouping, bracket, single, quoted, called, excluded, prefixed, counted, moved, named, edited, limited, assigned, compared, values_compared, chosen, no_rows, row, no_others, joined, no_starter, starter, bare, group}
+use Rattle.sbl_program.specs.Numbered.{Position, next_of, inside, closed, past, past_simple, past_rows, past_others, past_starter, past_groups, past_body, past_plain, begun, region, body_begun, search_next, simple, behind_prefix, behind_count, numbered, numbered_rows, numbered_others, numbered_starter, numbered_groups, routine_of, with_routine, routines_behind}
+use Rattle.sbl_program.specs.ProgramOf.{commands_of}
+use Rattle.sbl_program.specs.Program as programs
+use Rattle.sbl_tree.specs.Tree.{Command, Rows, Others, Starter, Groups, Plain, declaration, escapes, macro, routine, grouping, bracket, simple_, literal_, name_, non_, prefixed, counted, move_, named, splice_, setlimit_, assign_, compare_, compare_values_, among_, no_rows, row, no_others, joined, no_starter, starter, bare, group}
 
 module _ (ns : Names) where
   abbrev mutual
     -- the amongs of a command before which there are k, in front of others
-    pub founds : Mode → Tree → ℕ → List Found → List Found
+    pub founds : Mode → Command → ℕ → List Found → List Found
     founds m (bracket rs) k rest = founds_rows m rs k rest
     founds m (prefixed x c) k rest = founds (mode_behind x m) c k rest
     founds m (counted x e c) k rest = founds m c k rest
-    founds m (limited b c) k rest = founds m b k (founds m c (behind b k) rest)
-    founds m (chosen s gs) k rest = found_as ns (among_at m k gs) ∷ founds_starter m s (suc k) (founds_groups m gs (behind_starter s (suc k)) rest)
-    founds m (quoted q) k rest = rest
-    founds m (called n) k rest = rest
-    founds m (excluded b n) k rest = rest
-    founds m (moved x e) k rest = rest
+    founds m (setlimit_ b c) k rest = founds m b k (founds m c (behind b k) rest)
+    founds m (among_ s gs) k rest = found_as ns (among_at m k gs) ∷ founds_starter m s (suc k) (founds_groups m gs (behind_starter s (suc k)) rest)
+    founds m (literal_ q) k rest = rest
+    founds m (name_ n) k rest = rest
+    founds m (non_ b n) k rest = rest
+    founds m (move_ x e) k rest = rest
     founds m (named x n) k rest = rest
-    founds m (edited x a) k rest = rest
-    founds m (assigned n o e) k rest = rest
-    founds m (compared n o e) k rest = rest
-    founds m (values_compared e o f) k rest = rest
-    founds m (single s) k rest = rest
+    founds m (splice_ x a) k rest = rest
+    founds m (assign_ n o e) k rest = rest
+    founds m (compare_ n o e) k rest = rest
+    founds m (compare_values_ e o f) k rest = rest
+    founds m (simple_ s) k rest = rest
 
     pub founds_rows : Mode → Rows → ℕ → List Found → List Found
     founds_rows m no_rows k rest = rest
@@ -58,24 +58,24 @@ module _ (ns : Names) where
   -- ---- they are no fewer with a command in front
 
   mutual
-    longer : (t : Tree) (m : Mode) (k b : ℕ) (rest : List Found) → b ≤ length rest → b ≤ length (founds m t k rest)
+    longer : (t : Command) (m : Mode) (k b : ℕ) (rest : List Found) → b ≤ length rest → b ≤ length (founds m t k rest)
     longer (bracket rs) m k b rest l = longer_rows rs m k b rest l
     longer (prefixed x c) m k b rest l = longer c (mode_behind x m) k b rest l
     longer (counted x e c) m k b rest l = longer c m k b rest l
-    longer (limited c d) m k b rest l = longer c m k b _ (longer d m (behind c k) b rest l)
-    longer (chosen s gs) m k b rest l =
+    longer (setlimit_ c d) m k b rest l = longer c m k b _ (longer d m (behind c k) b rest l)
+    longer (among_ s gs) m k b rest l =
         let h = longer_starter s m (suc k) b _ (longer_groups gs m (behind_starter s (suc k)) b rest l) in
         omega (arith, h)
-    longer (quoted q) m k b rest l = l
-    longer (called n) m k b rest l = l
-    longer (excluded x n) m k b rest l = l
-    longer (moved x e) m k b rest l = l
+    longer (literal_ q) m k b rest l = l
+    longer (name_ n) m k b rest l = l
+    longer (non_ x n) m k b rest l = l
+    longer (move_ x e) m k b rest l = l
     longer (named x n) m k b rest l = l
-    longer (edited x a) m k b rest l = l
-    longer (assigned n o e) m k b rest l = l
-    longer (compared n o e) m k b rest l = l
-    longer (values_compared e o f) m k b rest l = l
-    longer (single s) m k b rest l = l
+    longer (splice_ x a) m k b rest l = l
+    longer (assign_ n o e) m k b rest l = l
+    longer (compare_ n o e) m k b rest l = l
+    longer (compare_values_ e o f) m k b rest l = l
+    longer (simple_ s) m k b rest l = l
 
     longer_rows : (rs : Rows) (m : Mode) (k b : ℕ) (rest : List Found) → b ≤ length rest → b ≤ length (founds_rows m rs k rest)
     longer_rows no_rows m k b rest l = l
@@ -116,23 +116,23 @@ module _ (ns : Names) where
   one_ahead b f fs l = ap (λ t. if t then Some f else None) (less_is b (length fs) l)
 
   mutual
-    head_is : (t : Tree) (m : Mode) (k b : ℕ) (rest : List Found) (n : Option Among) → b ≤ length rest → ahead_in b rest ≡ option_map (found_as ns) n → ahead_in b (founds m t k rest) ≡ option_map (found_as ns) (first m t k n)
+    head_is : (t : Command) (m : Mode) (k b : ℕ) (rest : List Found) (n : Option Among) → b ≤ length rest → ahead_in b rest ≡ option_map (found_as ns) n → ahead_in b (founds m t k rest) ≡ option_map (found_as ns) (first m t k n)
     head_is (bracket rs) m k b rest n l h = head_rows rs m k b rest n l h
     head_is (prefixed x c) m k b rest n l h = head_is c (mode_behind x m) k b rest n l h
     head_is (counted x e c) m k b rest n l h = head_is c m k b rest n l h
-    head_is (limited c d) m k b rest n l h = head_is c m k b _ _ (longer d m (behind c k) b rest l) (head_is d m (behind c k) b rest n l h)
-    head_is (chosen s gs) m k b rest n l h =
+    head_is (setlimit_ c d) m k b rest n l h = head_is c m k b _ _ (longer d m (behind c k) b rest l) (head_is d m (behind c k) b rest n l h)
+    head_is (among_ s gs) m k b rest n l h =
         one_ahead b (found_as ns (among_at m k gs)) _ (longer_starter s m (suc k) b _ (longer_groups gs m (behind_starter s (suc k)) b rest l))
-    head_is (quoted q) m k b rest n l h = h
-    head_is (called x) m k b rest n l h = h
-    head_is (excluded x y) m k b rest n l h = h
-    head_is (moved x e) m k b rest n l h = h
+    head_is (literal_ q) m k b rest n l h = h
+    head_is (name_ x) m k b rest n l h = h
+    head_is (non_ x y) m k b rest n l h = h
+    head_is (move_ x e) m k b rest n l h = h
     head_is (named x y) m k b rest n l h = h
-    head_is (edited x a) m k b rest n l h = h
-    head_is (assigned x o e) m k b rest n l h = h
-    head_is (compared x o e) m k b rest n l h = h
-    head_is (values_compared e o f) m k b rest n l h = h
-    head_is (single s) m k b rest n l h = h
+    head_is (splice_ x a) m k b rest n l h = h
+    head_is (assign_ x o e) m k b rest n l h = h
+    head_is (compare_ x o e) m k b rest n l h = h
+    head_is (compare_values_ e o f) m k b rest n l h = h
+    head_is (simple_ s) m k b rest n l h = h
 
     head_rows : (rs : Rows) (m : Mode) (k b : ℕ) (rest : List Found) (n : Option Among) → b ≤ length rest → ahead_in b rest ≡ option_map (found_as ns) n → ahead_in b (founds_rows m rs k rest) ≡ option_map (found_as ns) (first_rows m rs k n)
     head_rows no_rows m k b rest n l h = h
@@ -148,7 +148,7 @@ module _ (ns : Names) where
 
   -- ---- what is still to come behind a command
 
-  past_simple_coming : (s : Simple) (p : Place) → (past_simple s p).coming ≡ p.coming
+  past_simple_coming : (s : Simple) (p : Position) → (past_simple s p).coming ≡ p.coming
   past_simple_coming simples.Substring p = refl
   past_simple_coming simples.LeftBracket p = refl
   past_simple_coming simples.RightBracket p = refl
@@ -160,44 +160,44 @@ module _ (ns : Names) where
   past_simple_coming simples.False p = refl
 
   mutual
-    coming_is : (t : Tree) (m : Mode) (k : ℕ) (p : Place) (rest : List Found) → p.coming ≡ founds m t k rest → (past t p).coming ≡ rest
+    coming_is : (t : Command) (m : Mode) (k : ℕ) (p : Position) (rest : List Found) → p.coming ≡ founds m t k rest → (past t p).coming ≡ rest
     coming_is (bracket rs) m k p rest e = coming_rows rs m k p rest e
-    coming_is (single s) m k p rest e = past_simple_coming s p ∙ e
+    coming_is (simple_ s) m k p rest e = past_simple_coming s p ∙ e
     coming_is (prefixed x c) m k p rest e = coming_is c (mode_behind x m) k p rest e
     coming_is (counted x n c) m k p rest e = coming_is c m k p rest e
-    coming_is (limited b c) m k p rest e = coming_is c m (behind b k) (past b p) rest (coming_is b m k p (founds m c (behind b k) rest) e)
-    coming_is (chosen s gs) m k p rest e =
+    coming_is (setlimit_ b c) m k p rest e = coming_is c m (behind b k) (past b p) rest (coming_is b m k p (founds m c (behind b k) rest) e)
+    coming_is (among_ s gs) m k p rest e =
         coming_groups gs m (behind_starter s (suc k)) (past_starter s (inside p)) rest (coming_starter s m (suc k) (inside p) _ (ap (drop 1) e))
-    coming_is (quoted q) m k p rest h = h
-    coming_is (called n) m k p rest h = h
-    coming_is (excluded b n) m k p rest h = h
-    coming_is (moved x e) m k p rest h = h
+    coming_is (literal_ q) m k p rest h = h
+    coming_is (name_ n) m k p rest h = h
+    coming_is (non_ b n) m k p rest h = h
+    coming_is (move_ x e) m k p rest h = h
     coming_is (named x n) m k p rest h = h
-    coming_is (edited x a) m k p rest h = h
-    coming_is (assigned n o e) m k p rest h = h
-    coming_is (compared n o e) m k p rest h = h
-    coming_is (values_compared e o f) m k p rest h = h
+    coming_is (splice_ x a) m k p rest h = h
+    coming_is (assign_ n o e) m k p rest h = h
+    coming_is (compare_ n o e) m k p rest h = h
+    coming_is (compare_values_ e o f) m k p rest h = h
 
-    coming_rows : (rs : Rows) (m : Mode) (k : ℕ) (p : Place) (rest : List Found) → p.coming ≡ founds_rows m rs k rest → (past_rows rs p).coming ≡ rest
+    coming_rows : (rs : Rows) (m : Mode) (k : ℕ) (p : Position) (rest : List Found) → p.coming ≡ founds_rows m rs k rest → (past_rows rs p).coming ≡ rest
     coming_rows no_rows m k p rest e = e
     coming_rows (row c os rs) m k p rest e =
         coming_rows rs m (behind_others os (behind c k)) (past_others os (past c p)) rest (coming_others os m (behind c k) (past c p) _ (coming_is c m k p _ e))
 
-    coming_others : (os : Others) (m : Mode) (k : ℕ) (p : Place) (rest : List Found) → p.coming ≡ founds_others m os k rest → (past_others os p).coming ≡ rest
+    coming_others : (os : Others) (m : Mode) (k : ℕ) (p : Position) (rest : List Found) → p.coming ≡ founds_others m os k rest → (past_others os p).coming ≡ rest
     coming_others no_others m k p rest e = e
     coming_others (joined j c os) m k p rest e = coming_others os m (behind c k) (past c p) rest (coming_is c m k p _ e)
 
-    coming_starter : (s : Starter) (m : Mode) (k : ℕ) (p : Place) (rest : List Found) → p.coming ≡ founds_starter m s k rest → (past_starter s p).coming ≡ rest
+    coming_starter : (s : Starter) (m : Mode) (k : ℕ) (p : Position) (rest : List Found) → p.coming ≡ founds_starter m s k rest → (past_starter s p).coming ≡ rest
     coming_starter no_starter m k p rest e = e
     coming_starter (starter rs) m k p rest e = coming_rows rs m k p rest e
 
-    coming_groups : (gs : Groups) (m : Mode) (k : ℕ) (p : Place) (rest : List Found) → p.coming ≡ founds_groups m gs k rest → (past_groups gs p).coming ≡ rest
+    coming_groups : (gs : Groups) (m : Mode) (k : ℕ) (p : Position) (rest : List Found) → p.coming ≡ founds_groups m gs k rest → (past_groups gs p).coming ≡ rest
     coming_groups (bare es) m k p rest e = e
     coming_groups (group e es rs gs) m k p rest h = coming_groups gs m (behind_rows rs k) (past_rows rs (closed p)) rest (coming_rows rs m k (closed p) _ h)
 
   -- ---- and whether a `substring` waits there
 
-  past_simple_waits : (s : Simple) (p : Place) → (past_simple s p).waits ≡ waits_simple s p.waits
+  past_simple_waits : (s : Simple) (p : Position) → (past_simple s p).waits ≡ waits_simple s p.waits
   past_simple_waits simples.Substring p = refl
   past_simple_waits simples.LeftBracket p = refl
   past_simple_waits simples.RightBracket p = refl
@@ -209,34 +209,34 @@ module _ (ns : Names) where
   past_simple_waits simples.False p = refl
 
   mutual
-    waits_is : (t : Tree) (p : Place) → (past t p).waits ≡ waits t p.waits
+    waits_is : (t : Command) (p : Position) → (past t p).waits ≡ waits t p.waits
     waits_is (bracket rs) p = waits_rows_is rs p
-    waits_is (single s) p = past_simple_waits s p
+    waits_is (simple_ s) p = past_simple_waits s p
     waits_is (prefixed x c) p = waits_is c p
     waits_is (counted x n c) p = waits_is c p
-    waits_is (limited b c) p = waits_is c (past b p) ∙ ap (waits c) (waits_is b p)
-    waits_is (chosen s gs) p = refl
-    waits_is (quoted q) p = refl
-    waits_is (called n) p = refl
-    waits_is (excluded b n) p = refl
-    waits_is (moved x e) p = refl
+    waits_is (setlimit_ b c) p = waits_is c (past b p) ∙ ap (waits c) (waits_is b p)
+    waits_is (among_ s gs) p = refl
+    waits_is (literal_ q) p = refl
+    waits_is (name_ n) p = refl
+    waits_is (non_ b n) p = refl
+    waits_is (move_ x e) p = refl
     waits_is (named x n) p = refl
-    waits_is (edited x a) p = refl
-    waits_is (assigned n o e) p = refl
-    waits_is (compared n o e) p = refl
-    waits_is (values_compared e o f) p = refl
+    waits_is (splice_ x a) p = refl
+    waits_is (assign_ n o e) p = refl
+    waits_is (compare_ n o e) p = refl
+    waits_is (compare_values_ e o f) p = refl
 
-    waits_rows_is : (rs : Rows) (p : Place) → (past_rows rs p).waits ≡ waits_rows rs p.waits
+    waits_rows_is : (rs : Rows) (p : Position) → (past_rows rs p).waits ≡ waits_rows rs p.waits
     waits_rows_is no_rows p = refl
     waits_rows_is (row c os rs) p = waits_rows_is rs (past_others os (past c p)) ∙ ap (waits_rows rs) (waits_others_is os (past c p) ∙ ap (waits_others os) (waits_is c p))
 
-    waits_others_is : (os : Others) (p : Place) → (past_others os p).waits ≡ waits_others os p.waits
+    waits_others_is : (os : Others) (p : Position) → (past_others os p).waits ≡ waits_others os p.waits
     waits_others_is no_others p = refl
     waits_others_is (joined j c os) p = waits_others_is os (past c p) ∙ ap (waits_others os) (waits_is c p)
 
   -- ---- and how many stand behind the region
 
-  past_simple_behind : (s : Simple) (p : Place) → (past_simple s p).behind ≡ p.behind
+  past_simple_behind : (s : Simple) (p : Position) → (past_simple s p).behind ≡ p.behind
   past_simple_behind simples.Substring p = refl
   past_simple_behind simples.LeftBracket p = refl
   past_simple_behind simples.RightBracket p = refl
@@ -248,52 +248,52 @@ module _ (ns : Names) where
   past_simple_behind simples.False p = refl
 
   mutual
-    behind_is : (t : Tree) (p : Place) → (past t p).behind ≡ p.behind
+    behind_is : (t : Command) (p : Position) → (past t p).behind ≡ p.behind
     behind_is (bracket rs) p = behind_rows_is rs p
-    behind_is (single s) p = past_simple_behind s p
+    behind_is (simple_ s) p = past_simple_behind s p
     behind_is (prefixed x c) p = behind_is c p
     behind_is (counted x n c) p = behind_is c p
-    behind_is (limited b c) p = behind_is c (past b p) ∙ behind_is b p
-    behind_is (chosen s gs) p = behind_groups_is gs (past_starter s (inside p)) ∙ behind_starter_is s (inside p)
-    behind_is (quoted q) p = refl
-    behind_is (called n) p = refl
-    behind_is (excluded b n) p = refl
-    behind_is (moved x e) p = refl
+    behind_is (setlimit_ b c) p = behind_is c (past b p) ∙ behind_is b p
+    behind_is (among_ s gs) p = behind_groups_is gs (past_starter s (inside p)) ∙ behind_starter_is s (inside p)
+    behind_is (literal_ q) p = refl
+    behind_is (name_ n) p = refl
+    behind_is (non_ b n) p = refl
+    behind_is (move_ x e) p = refl
     behind_is (named x n) p = refl
-    behind_is (edited x a) p = refl
-    behind_is (assigned n o e) p = refl
-    behind_is (compared n o e) p = refl
-    behind_is (values_compared e o f) p = refl
+    behind_is (splice_ x a) p = refl
+    behind_is (assign_ n o e) p = refl
+    behind_is (compare_ n o e) p = refl
+    behind_is (compare_values_ e o f) p = refl
 
-    behind_rows_is : (rs : Rows) (p : Place) → (past_rows rs p).behind ≡ p.behind
+    behind_rows_is : (rs : Rows) (p : Position) → (past_rows rs p).behind ≡ p.behind
     behind_rows_is no_rows p = refl
     behind_rows_is (row c os rs) p = behind_rows_is rs (past_others os (past c p)) ∙ behind_others_is os (past c p) ∙ behind_is c p
 
-    behind_others_is : (os : Others) (p : Place) → (past_others os p).behind ≡ p.behind
+    behind_others_is : (os : Others) (p : Position) → (past_others os p).behind ≡ p.behind
     behind_others_is no_others p = refl
     behind_others_is (joined j c os) p = behind_others_is os (past c p) ∙ behind_is c p
 
-    behind_starter_is : (s : Starter) (p : Place) → (past_starter s p).behind ≡ p.behind
+    behind_starter_is : (s : Starter) (p : Position) → (past_starter s p).behind ≡ p.behind
     behind_starter_is no_starter p = refl
     behind_starter_is (starter rs) p = behind_rows_is rs p
 
-    behind_groups_is : (gs : Groups) (p : Place) → (past_groups gs p).behind ≡ p.behind
+    behind_groups_is : (gs : Groups) (p : Position) → (past_groups gs p).behind ≡ p.behind
     behind_groups_is (bare es) p = refl
     behind_groups_is (group e es rs gs) p = behind_groups_is gs (past_rows rs (closed p)) ∙ behind_rows_is rs (closed p)
 
   -- ---- commands
 
-  abbrev found_next : Option Found → plan.Command
-  found_next None = plan.act plan.f
+  abbrev found_next : Option Found → programs.Node
+  found_next None = programs.act programs.f
   found_next (Some f) = search_of f
 
-  searched_if : (t : Bool) (p : Place) (n : Option Among) → (if t then Some (next_of p.coming) else None) ≡ option_map (found_as ns) n → (if t then search_next p else plan.act plan.f) ≡ search_by ns n
+  searched_if : (t : Bool) (p : Position) (n : Option Among) → (if t then Some (next_of p.coming) else None) ≡ option_map (found_as ns) n → (if t then search_next p else programs.act programs.f) ≡ search_by ns n
   searched_if true p None h = absurd (none-some _ (sym h))
   searched_if true p (Some a) h = ap (found_next) h
   searched_if false p None h = refl
   searched_if false p (Some a) h = ap (found_next) h
 
-  simple_is : (s : Simple) (p : Place) (n : Option Among) → ahead_in p.behind p.coming ≡ option_map (found_as ns) n → simple s p ≡ simple_by ns s n
+  simple_is : (s : Simple) (p : Position) (n : Option Among) → ahead_in p.behind p.coming ≡ option_map (found_as ns) n → simple s p ≡ simple_by ns s n
   simple_is simples.Substring p n e = searched_if (nat_lt p.behind (length p.coming)) p n e
   simple_is simples.LeftBracket p n e = refl
   simple_is simples.RightBracket p n e = refl
@@ -304,32 +304,32 @@ module _ (ns : Names) where
   simple_is simples.True p n e = refl
   simple_is simples.False p n e = refl
 
-  first_is : (w : Bool) (p : Place) (a : Among) (xs : List plan.Command) → next_of p.coming ≡ found_as ns a → commands_of (if w then [] else search_next p ∷ xs) ≡ search_then ns w a (commands_of xs)
+  first_is : (w : Bool) (p : Position) (a : Among) (xs : List programs.Node) → next_of p.coming ≡ found_as ns a → commands_of (if w then [] else search_next p ∷ xs) ≡ search_then ns w a (commands_of xs)
   first_is true p a xs e = refl
-  first_is false p a xs e = ap (λ g. plan.command (search_of g) (commands_of xs)) e
+  first_is false p a xs e = ap (λ g. programs.command (search_of g) (commands_of xs)) e
 
-  among_are : (k k' : ℕ) (cs cs' ds ds' : plan.Commands) → k ≡ k' → cs ≡ cs' → ds ≡ ds' → plan.among k cs ds ≡ plan.among k' cs' ds'
-  among_are k k' cs cs' ds ds' p q r = ap (λ x. plan.among x cs ds) p ∙ ap (λ x. plan.among k' x ds) q ∙ ap (plan.among k' cs') r
+  among_are : (k k' : ℕ) (cs cs' ds ds' : programs.Nodes) → k ≡ k' → cs ≡ cs' → ds ≡ ds' → programs.among k cs ds ≡ programs.among k' cs' ds'
+  among_are k k' cs cs' ds ds' p q r = ap (λ x. programs.among x cs ds) p ∙ ap (λ x. programs.among k' x ds) q ∙ ap (programs.among k' cs') r
 
-  commands_are : (c c' : plan.Command) (cs cs' : plan.Commands) → c ≡ c' → cs ≡ cs' → plan.command c cs ≡ plan.command c' cs'
-  commands_are c c' cs cs' p q = ap (λ x. plan.command x cs) p ∙ ap (plan.command c') q
+  commands_are : (c c' : programs.Node) (cs cs' : programs.Nodes) → c ≡ c' → cs ≡ cs' → programs.command c cs ≡ programs.command c' cs'
+  commands_are c c' cs cs' p q = ap (λ x. programs.command x cs) p ∙ ap (programs.command c') q
 
-  setlimit_are : (c c' d d' : plan.Command) → c ≡ c' → d ≡ d' → plan.setlimit c d ≡ plan.setlimit c' d'
-  setlimit_are c c' d d' p q = ap (λ x. plan.setlimit x d) p ∙ ap (plan.setlimit c') q
+  setlimit_are : (c c' d d' : programs.Node) → c ≡ c' → d ≡ d' → programs.setlimit c d ≡ programs.setlimit c' d'
+  setlimit_are c c' d d' p q = ap (λ x. programs.setlimit x d) p ∙ ap (programs.setlimit c') q
 
-  join_are : (j : Joiner) (c c' d d' : plan.Command) → c ≡ c' → d ≡ d' → join j c d ≡ join j c' d'
+  join_are : (j : Joiner) (c c' d d' : programs.Node) → c ≡ c' → d ≡ d' → join j c d ≡ join j c' d'
   join_are j c c' d d' p q = ap (λ x. join j x d) p ∙ ap (join j c') q
 
   -- A place before which there are k: behind it come these and then the rest, so many of which stand behind the region,
   -- in which n is what comes next.
-  pub record At (p : Place) (xs rest : List Found) (w : Bool) (n : Option Among) : Type 0 where
+  pub record At (p : Position) (xs rest : List Found) (w : Bool) (n : Option Among) : Type 0 where
     pub coming : p.coming ≡ xs
     pub waiting : p.waits ≡ w
     pub few : p.behind ≤ length rest
     pub next : ahead_in p.behind rest ≡ option_map (found_as ns) n
 
   -- the beginning of a region
-  begun_at : (p q : Place) (xs rest : List Found) → p.coming ≡ xs → q.coming ≡ rest → At (begun p q) xs rest false None
+  begun_at : (p q : Position) (xs rest : List Found) → p.coming ≡ xs → q.coming ≡ rest → At (begun p q) xs rest false None
   begun_at p q xs rest e h = record {
     coming = e;
     waiting = refl;
@@ -338,7 +338,7 @@ module _ (ns : Names) where
   }
 
   -- with less of the rest
-  nearer : (t : Tree) (p : Place) (m : Mode) (k : ℕ) (rest : List Found) (w : Bool) (n : Option Among) (xs : List Found) → At p xs rest w n → At p xs (founds m t k rest) w (first m t k n)
+  nearer : (t : Command) (p : Position) (m : Mode) (k : ℕ) (rest : List Found) (w : Bool) (n : Option Among) (xs : List Found) → At p xs rest w n → At p xs (founds m t k rest) w (first m t k n)
   nearer t p m k rest w n xs a = record {
     coming = a.coming;
     waiting = a.waiting;
@@ -346,7 +346,7 @@ module _ (ns : Names) where
     next = head_is t m k p.behind rest n a.few a.next;
   }
 
-  nearer_others : (os : Others) (p : Place) (m : Mode) (k : ℕ) (rest : List Found) (w : Bool) (n : Option Among) (xs : List Found) → At p xs rest w n → At p xs (founds_others m os k rest) w (first_others m os k n)
+  nearer_others : (os : Others) (p : Position) (m : Mode) (k : ℕ) (rest : List Found) (w : Bool) (n : Option Among) (xs : List Found) → At p xs rest w n → At p xs (founds_others m os k rest) w (first_others m os k n)
   nearer_others os p m k rest w n xs a = record {
     coming = a.coming;
     waiting = a.waiting;
@@ -354,7 +354,7 @@ module _ (ns : Names) where
     next = head_others os m k p.behind rest n a.few a.next;
   }
 
-  nearer_rows : (rs : Rows) (p : Place) (m : Mode) (k : ℕ) (rest : List Found) (w : Bool) (n : Option Among) (xs : List Found) → At p xs rest w n → At p xs (founds_rows m rs k rest) w (first_rows m rs k n)
+  nearer_rows : (rs : Rows) (p : Position) (m : Mode) (k : ℕ) (rest : List Found) (w : Bool) (n : Option Among) (xs : List Found) → At p xs rest w n → At p xs (founds_rows m rs k rest) w (first_rows m rs k n)
   nearer_rows rs p m k rest w n xs a = record {
     coming = a.coming;
     waiting = a.waiting;
@@ -363,7 +363,7 @@ module _ (ns : Names) where
   }
 
   -- behind a command
-  further : (t : Tree) (p : Place) (m : Mode) (k : ℕ) (xs rest : List Found) (w : Bool) (n : Option Among) → At p (founds m t k xs) rest w n → At (past t p) xs rest (waits t w) n
+  further : (t : Command) (p : Position) (m : Mode) (k : ℕ) (xs rest : List Found) (w : Bool) (n : Option Among) → At p (founds m t k xs) rest w n → At (past t p) xs rest (waits t w) n
   further t p m k xs rest w n a = record {
     coming = coming_is t m k p xs a.coming;
     waiting = waits_is t p ∙ ap (waits t) a.waiting;
@@ -371,7 +371,7 @@ module _ (ns : Names) where
     next = ap (λ b. ahead_in b rest) (behind_is t p) ∙ a.next;
   }
 
-  further_others : (os : Others) (p : Place) (m : Mode) (k : ℕ) (xs rest : List Found) (w : Bool) (n : Option Among) → At p (founds_others m os k xs) rest w n → At (past_others os p) xs rest (waits_others os w) n
+  further_others : (os : Others) (p : Position) (m : Mode) (k : ℕ) (xs rest : List Found) (w : Bool) (n : Option Among) → At p (founds_others m os k xs) rest w n → At (past_others os p) xs rest (waits_others os w) n
   further_others os p m k xs rest w n a = record {
     coming = coming_others os m k p xs a.coming;
     waiting = waits_others_is os p ∙ ap (waits_others os) a.waiting;
@@ -379,19 +379,19 @@ module _ (ns : Names) where
     next = ap (λ b. ahead_in b rest) (behind_others_is os p) ∙ a.next;
   }
 
-  region_at : (rs : Rows) (m : Mode) (k : ℕ) (p : Place) (rest : List Found) → p.coming ≡ founds_rows m rs k rest → At (region rs p) (founds_rows m rs k rest) rest false None
+  region_at : (rs : Rows) (m : Mode) (k : ℕ) (p : Position) (rest : List Found) → p.coming ≡ founds_rows m rs k rest → At (region rs p) (founds_rows m rs k rest) rest false None
   region_at rs m k p rest e = begun_at p (past_rows rs (closed p)) _ rest e (coming_rows rs m k (closed p) rest e)
 
   mutual
-    pub made_is : (t : Tree) (m : Mode) (k : ℕ) (w : Bool) (n : Option Among) (p : Place) (rest : List Found) → At p (founds m t k rest) rest w n → numbered ns t p ≡ made ns m k w n t
-    made_is (bracket rs) m k w n p rest a = ap plan.sequence (rows_is rs m k w n p rest a)
-    made_is (single s) m k w n p rest a = simple_is s p n (ap (ahead_in p.behind) a.coming ∙ a.next)
+    pub made_is : (t : Command) (m : Mode) (k : ℕ) (w : Bool) (n : Option Among) (p : Position) (rest : List Found) → At p (founds m t k rest) rest w n → numbered ns t p ≡ made ns m k w n t
+    made_is (bracket rs) m k w n p rest a = ap programs.sequence (rows_is rs m k w n p rest a)
+    made_is (simple_ s) m k w n p rest a = simple_is s p n (ap (ahead_in p.behind) a.coming ∙ a.next)
     made_is (prefixed x c) m k w n p rest a = ap (behind_prefix x) (made_is c (mode_behind x m) k w n p rest a)
     made_is (counted x e c) m k w n p rest a = ap (behind_count x (expression ns e)) (made_is c m k w n p rest a)
-    made_is (limited b c) m k w n p rest a =
+    made_is (setlimit_ b c) m k w n p rest a =
         setlimit_are _ _ _ _ (made_is b m k w _ p _ (nearer c p m (behind b k) rest w n _ a))
         (made_is c m (behind b k) (waits b w) n (past b p) rest (further b p m k _ rest w n a))
-    made_is (chosen s gs) m k w n p rest a =
+    made_is (among_ s gs) m k w n p rest a =
         let e = a.coming in
         let inner = ap (drop 1) e in
         let begun' = coming_starter s m (suc k) (inside p) (founds_groups m gs (behind_starter s (suc k)) rest) inner in
@@ -400,17 +400,17 @@ module _ (ns : Names) where
         ∙ first_is w p (among_at m k gs) (numbered_starter ns s (inside p)) (ap next_of e)
         ∙ ap (search_then ns w (among_at m k gs)) (starter_is s m (suc k) (inside p) _ inner))
         (groups_is gs m (behind_starter s (suc k)) (past_starter s (inside p)) rest begun')
-    made_is (quoted q) m k w n p rest a = refl
-    made_is (called x) m k w n p rest a = refl
-    made_is (excluded b x) m k w n p rest a = refl
-    made_is (moved x e) m k w n p rest a = refl
+    made_is (literal_ q) m k w n p rest a = refl
+    made_is (name_ x) m k w n p rest a = refl
+    made_is (non_ b x) m k w n p rest a = refl
+    made_is (move_ x e) m k w n p rest a = refl
     made_is (named x y) m k w n p rest a = refl
-    made_is (edited x y) m k w n p rest a = refl
-    made_is (assigned x o e) m k w n p rest a = refl
-    made_is (compared x o e) m k w n p rest a = refl
-    made_is (values_compared e o f) m k w n p rest a = refl
+    made_is (splice_ x y) m k w n p rest a = refl
+    made_is (assign_ x o e) m k w n p rest a = refl
+    made_is (compare_ x o e) m k w n p rest a = refl
+    made_is (compare_values_ e o f) m k w n p rest a = refl
 
-    rows_is : (rs : Rows) (m : Mode) (k : ℕ) (w : Bool) (n : Option Among) (p : Place) (rest : List Found) → At p (founds_rows m rs k rest) rest w n → commands_of (numbered_rows ns rs p) ≡ made_rows ns m k w n rs
+    rows_is : (rs : Rows) (m : Mode) (k : ℕ) (w : Bool) (n : Option Among) (p : Position) (rest : List Found) → At p (founds_rows m rs k rest) rest w n → commands_of (numbered_rows ns rs p) ≡ made_rows ns m k w n rs
     rows_is no_rows m k w n p rest a = refl
     rows_is (row c os rs) m k w n p rest a =
         let k1 = behind c k in
@@ -422,22 +422,22 @@ module _ (ns : Names) where
         let one = others_is os m k1 (waits c w) _ (past c p) _ _ _ (nearer_rows rs (past c p) m k2 rest (waits c w) n _ b1) (made_is c m k w _ p _ a1) in
         commands_are _ _ _ _ one (rows_is rs m k2 (waits_others os (waits c w)) n (past_others os (past c p)) rest b2)
 
-    others_is : (os : Others) (m : Mode) (k : ℕ) (w : Bool) (n : Option Among) (p : Place) (rest : List Found) (c c' : plan.Command) → At p (founds_others m os k rest) rest w n → c ≡ c' → numbered_others ns os p c ≡ made_others ns m k w n os c'
+    others_is : (os : Others) (m : Mode) (k : ℕ) (w : Bool) (n : Option Among) (p : Position) (rest : List Found) (c c' : programs.Node) → At p (founds_others m os k rest) rest w n → c ≡ c' → numbered_others ns os p c ≡ made_others ns m k w n os c'
     others_is no_others m k w n p rest c c' a g = g
     others_is (joined j t os) m k w n p rest c c' a g =
         let one = made_is t m k w _ p _ (nearer_others os p m (behind t k) rest w n _ a) in
         others_is os m (behind t k) (waits t w) n (past t p) rest _ _ (further t p m k _ rest w n a) (join_are j _ _ _ _ g one)
 
-    starter_is : (s : Starter) (m : Mode) (k : ℕ) (p : Place) (rest : List Found) → p.coming ≡ founds_starter m s k rest → commands_of (numbered_starter ns s p) ≡ made_starter ns m k s
+    starter_is : (s : Starter) (m : Mode) (k : ℕ) (p : Position) (rest : List Found) → p.coming ≡ founds_starter m s k rest → commands_of (numbered_starter ns s p) ≡ made_starter ns m k s
     starter_is no_starter m k p rest e = refl
-    starter_is (starter rs) m k p rest e = ap (λ cs. plan.command (plan.sequence cs) plan.no_commands) (rows_is rs m k false None (region rs p) rest (region_at rs m k p rest e))
+    starter_is (starter rs) m k p rest e = ap (λ cs. programs.command (programs.sequence cs) programs.no_commands) (rows_is rs m k false None (region rs p) rest (region_at rs m k p rest e))
 
-    groups_is : (gs : Groups) (m : Mode) (k : ℕ) (p : Place) (rest : List Found) → p.coming ≡ founds_groups m gs k rest → commands_of (numbered_groups ns gs p) ≡ made_groups ns m k gs
+    groups_is : (gs : Groups) (m : Mode) (k : ℕ) (p : Position) (rest : List Found) → p.coming ≡ founds_groups m gs k rest → commands_of (numbered_groups ns gs p) ≡ made_groups ns m k gs
     groups_is (bare es) m k p rest e = refl
     groups_is (group x es rs gs) m k p rest e =
-        commands_are _ _ _ _ (ap plan.sequence (rows_is rs m k false None (region rs p) _ (region_at rs m k p _ e))) (groups_is gs m (behind_rows rs k) (past_rows rs (closed p)) rest (coming_rows rs m k (closed p) _ e))
+        commands_are _ _ _ _ (ap programs.sequence (rows_is rs m k false None (region rs p) _ (region_at rs m k p _ e))) (groups_is gs m (behind_rows rs k) (past_rows rs (closed p)) rest (coming_rows rs m k (closed p) _ e))
 
-  abbrev routine_by : plan.Command → ℕ → plan.Routine
+  abbrev routine_by : programs.Node → ℕ → programs.Routine
   routine_by c n = record { body = c; amongs = n }
 
   -- ---- today's list of amongs
@@ -450,23 +450,23 @@ module _ (ns : Names) where
   more a k n e = omega (arith, e)
 
   mutual
-    len_is : (t : Tree) (m : Mode) (a k : ℕ) (xs : List Found) → length xs ≡ a + k → length (found ns a m t xs) ≡ a + behind t k
+    len_is : (t : Command) (m : Mode) (a k : ℕ) (xs : List Found) → length xs ≡ a + k → length (found ns a m t xs) ≡ a + behind t k
     len_is (bracket rs) m a k xs l = len_rows rs m a k xs l
     len_is (prefixed x c) m a k xs l = len_is c (mode_behind x m) a k xs l
     len_is (counted x e c) m a k xs l = len_is c m a k xs l
-    len_is (limited b c) m a k xs l = len_is c m a (behind b k) (found ns a m b xs) (len_is b m a k xs l)
-    len_is (chosen s gs) m a k xs l =
+    len_is (setlimit_ b c) m a k xs l = len_is c m a (behind b k) (found ns a m b xs) (len_is b m a k xs l)
+    len_is (among_ s gs) m a k xs l =
         len_groups gs m a (behind_starter s (suc k)) _ (len_starter s m a (suc k) (xs ++ (found_of ns a m gs xs ∷ [])) (last_len xs (found_of ns a m gs xs) ∙ more a k (length xs) l))
-    len_is (quoted q) m a k xs l = l
-    len_is (called n) m a k xs l = l
-    len_is (excluded b n) m a k xs l = l
-    len_is (moved y e) m a k xs l = l
+    len_is (literal_ q) m a k xs l = l
+    len_is (name_ n) m a k xs l = l
+    len_is (non_ b n) m a k xs l = l
+    len_is (move_ y e) m a k xs l = l
     len_is (named x n) m a k xs l = l
-    len_is (edited x b) m a k xs l = l
-    len_is (assigned n o e) m a k xs l = l
-    len_is (compared n o e) m a k xs l = l
-    len_is (values_compared e o f) m a k xs l = l
-    len_is (single s) m a k xs l = l
+    len_is (splice_ x b) m a k xs l = l
+    len_is (assign_ n o e) m a k xs l = l
+    len_is (compare_ n o e) m a k xs l = l
+    len_is (compare_values_ e o f) m a k xs l = l
+    len_is (simple_ s) m a k xs l = l
 
     len_rows : (rs : Rows) (m : Mode) (a k : ℕ) (xs : List Found) → length xs ≡ a + k → length (found_rows ns a m rs xs) ≡ a + behind_rows rs k
     len_rows no_rows m a k xs l = l
@@ -490,13 +490,13 @@ module _ (ns : Names) where
       ap (λ j. found_as ns (among_at m j gs)) e
 
   mutual
-    found_is : (t : Tree) (m : Mode) (a k : ℕ) (xs rest : List Found) → length xs ≡ a + k → found ns a m t xs ++ rest ≡ xs ++ founds m t k rest
+    found_is : (t : Command) (m : Mode) (a k : ℕ) (xs rest : List Found) → length xs ≡ a + k → found ns a m t xs ++ rest ≡ xs ++ founds m t k rest
     found_is (bracket rs) m a k xs rest l = found_rows_is rs m a k xs rest l
     found_is (prefixed x c) m a k xs rest l = found_is c (mode_behind x m) a k xs rest l
     found_is (counted x e c) m a k xs rest l = found_is c m a k xs rest l
-    found_is (limited b c) m a k xs rest l =
+    found_is (setlimit_ b c) m a k xs rest l =
         found_is c m a (behind b k) (found ns a m b xs) rest (len_is b m a k xs l) ∙ found_is b m a k xs (founds m c (behind b k) rest) l
-    found_is (chosen s gs) m a k xs rest l =
+    found_is (among_ s gs) m a k xs rest l =
         let f = found_of ns a m gs xs in
         let ys = xs ++ (f ∷ []) in
         let l1 = last_len xs f ∙ more a k (length xs) l in
@@ -505,16 +505,16 @@ module _ (ns : Names) where
         ∙ found_starter_is s m a (suc k) ys _ l1
         ∙ append_assoc xs (f ∷ []) inner
         ∙ ap (λ g. xs ++ (g ∷ inner)) (number_is m a k gs xs l)
-    found_is (quoted q) m a k xs rest l = refl
-    found_is (called n) m a k xs rest l = refl
-    found_is (excluded b n) m a k xs rest l = refl
-    found_is (moved y e) m a k xs rest l = refl
+    found_is (literal_ q) m a k xs rest l = refl
+    found_is (name_ n) m a k xs rest l = refl
+    found_is (non_ b n) m a k xs rest l = refl
+    found_is (move_ y e) m a k xs rest l = refl
     found_is (named x n) m a k xs rest l = refl
-    found_is (edited x b) m a k xs rest l = refl
-    found_is (assigned n o e) m a k xs rest l = refl
-    found_is (compared n o e) m a k xs rest l = refl
-    found_is (values_compared e o f) m a k xs rest l = refl
-    found_is (single s) m a k xs rest l = refl
+    found_is (splice_ x b) m a k xs rest l = refl
+    found_is (assign_ n o e) m a k xs rest l = refl
+    found_is (compare_ n o e) m a k xs rest l = refl
+    found_is (compare_values_ e o f) m a k xs rest l = refl
+    found_is (simple_ s) m a k xs rest l = refl
 
     found_rows_is : (rs : Rows) (m : Mode) (a k : ℕ) (xs rest : List Found) → length xs ≡ a + k → found_rows ns a m rs xs ++ rest ≡ xs ++ founds_rows m rs k rest
     found_rows_is no_rows m a k xs rest l = refl
@@ -540,35 +540,35 @@ module _ (ns : Names) where
 
   -- ---- a routine, and all
 
-  routine_are : (c c' : plan.Command) (n n' : ℕ) → c ≡ c' → n ≡ n' → routine_by c n ≡ routine_by c' n'
+  routine_are : (c c' : programs.Node) (n n' : ℕ) → c ≡ c' → n ≡ n' → routine_by c n ≡ routine_by c' n'
   routine_are c c' n n' p q = ap (λ x. routine_by x n) p ∙ ap (routine_by c') q
 
-  abbrev body_founds : Mode → Tree → Others → List Found → List Found
+  abbrev body_founds : Mode → Command → Others → List Found → List Found
   body_founds m c os rest = founds m c 0 (founds_others m os (behind c 0) rest)
 
-  behind_body : (m : Mode) (c : Tree) (os : Others) (p : Place) (rest : List Found) → p.coming ≡ body_founds m c os rest → (past_body c os p).coming ≡ rest
+  behind_body : (m : Mode) (c : Command) (os : Others) (p : Position) (rest : List Found) → p.coming ≡ body_founds m c os rest → (past_body c os p).coming ≡ rest
   behind_body m c os p rest e = coming_others os m (behind c 0) (past c (closed p)) rest (coming_is c m 0 (closed p) _ e)
 
   one_in_front : (l k r : ℕ) → l + suc k ≡ r → suc l + k ≡ r
   one_in_front l k r e = omega (arith, e)
 
   mutual
-    count_is : (t : Tree) (m : Mode) (k : ℕ) (rest : List Found) → length (founds m t k rest) + k ≡ length rest + behind t k
+    count_is : (t : Command) (m : Mode) (k : ℕ) (rest : List Found) → length (founds m t k rest) + k ≡ length rest + behind t k
     count_is (bracket rs) m k rest = count_rows rs m k rest
     count_is (prefixed x c) m k rest = count_is c (mode_behind x m) k rest
     count_is (counted x e c) m k rest = count_is c m k rest
-    count_is (limited b c) m k rest = count_is b m k _ ∙ count_is c m (behind b k) rest
-    count_is (chosen s gs) m k rest = one_in_front _ k _ (count_starter s m (suc k) _ ∙ count_groups gs m (behind_starter s (suc k)) rest)
-    count_is (quoted q) m k rest = refl
-    count_is (called n) m k rest = refl
-    count_is (excluded b n) m k rest = refl
-    count_is (moved x e) m k rest = refl
+    count_is (setlimit_ b c) m k rest = count_is b m k _ ∙ count_is c m (behind b k) rest
+    count_is (among_ s gs) m k rest = one_in_front _ k _ (count_starter s m (suc k) _ ∙ count_groups gs m (behind_starter s (suc k)) rest)
+    count_is (literal_ q) m k rest = refl
+    count_is (name_ n) m k rest = refl
+    count_is (non_ b n) m k rest = refl
+    count_is (move_ x e) m k rest = refl
     count_is (named x n) m k rest = refl
-    count_is (edited x a) m k rest = refl
-    count_is (assigned n o e) m k rest = refl
-    count_is (compared n o e) m k rest = refl
-    count_is (values_compared e o f) m k rest = refl
-    count_is (single s) m k rest = refl
+    count_is (splice_ x a) m k rest = refl
+    count_is (assign_ n o e) m k rest = refl
+    count_is (compare_ n o e) m k rest = refl
+    count_is (compare_values_ e o f) m k rest = refl
+    count_is (simple_ s) m k rest = refl
 
     count_rows : (rs : Rows) (m : Mode) (k : ℕ) (rest : List Found) → length (founds_rows m rs k rest) + k ≡ length rest + behind_rows rs k
     count_rows no_rows m k rest = refl
@@ -589,7 +589,7 @@ module _ (ns : Names) where
   so_many : (l r n : ℕ) → l + 0 ≡ r + n → l - r ≡ n
   so_many l r n e = omega (arith, e)
 
-  pub routine_is : (m : Mode) (c : Tree) (os : Others) (p : Place) (rest : List Found) → p.coming ≡ body_founds m c os rest → routine_of ns c os p ≡ routine_made ns m c os
+  pub routine_is : (m : Mode) (c : Command) (os : Others) (p : Position) (rest : List Found) → p.coming ≡ body_founds m c os rest → routine_of ns c os p ≡ routine_made ns m c os
   routine_is m c os p rest e =
       let k = behind c 0 in
       let b = behind_body m c os p rest e in
@@ -606,7 +606,7 @@ module _ (ns : Names) where
   plain_founds m (macro n b q) rest = rest
   plain_founds m (grouping n a ts) rest = rest
 
-  abbrev all_founds : List Placed → List Found
+  abbrev all_founds : List ItemInMode → List Found
   all_founds [] = []
   all_founds (x ∷ xs) = plain_founds x.mode x.plain (all_founds xs)
 
@@ -623,18 +623,18 @@ module _ (ns : Names) where
   plain_is m (macro n b q) sofar rest = refl
   plain_is m (grouping n a ts) sofar rest = refl
 
-  all_is : (xs : List Placed) (sofar : List Found) → found_behind ns xs sofar ≡ sofar ++ all_founds xs
+  all_is : (xs : List ItemInMode) (sofar : List Found) → found_behind ns xs sofar ≡ sofar ++ all_founds xs
   all_is [] sofar = sym (append-nil sofar)
   all_is (x ∷ xs) sofar = all_is xs (found_plain ns x.mode x.plain sofar) ∙ plain_is x.mode x.plain sofar (all_founds xs)
 
-  behind_plain : (m : Mode) (x : Plain) (p : Place) (rest : List Found) → p.coming ≡ plain_founds m x rest → (past_plain x p).coming ≡ rest
+  behind_plain : (m : Mode) (x : Plain) (p : Position) (rest : List Found) → p.coming ≡ plain_founds m x rest → (past_plain x p).coming ≡ rest
   behind_plain m (routine n c os) p rest e = behind_body m c os p rest e
   behind_plain m (declaration k xs) p rest e = e
   behind_plain m (escapes a b) p rest e = e
   behind_plain m (macro n b q) p rest e = e
   behind_plain m (grouping n a ts) p rest e = e
 
-  with_is : (m : Mode) (x : Plain) (p : Place) (rest : List Found) (sofar more : List plan.Routine) → p.coming ≡ plain_founds m x rest → with_routine ns x p sofar ++ more ≡ sofar ++ routine_in ns m x more
+  with_is : (m : Mode) (x : Plain) (p : Position) (rest : List Found) (sofar more : List programs.Routine) → p.coming ≡ plain_founds m x rest → with_routine ns x p sofar ++ more ≡ sofar ++ routine_in ns m x more
   with_is m (routine n c os) p rest sofar more e =
       append_assoc sofar (routine_of ns c os p ∷ []) more ∙ ap (λ r. sofar ++ (r ∷ more)) (routine_is m c os p rest e)
   with_is m (declaration k xs) p rest sofar more e = refl
@@ -642,7 +642,7 @@ module _ (ns : Names) where
   with_is m (macro n b q) p rest sofar more e = refl
   with_is m (grouping n a ts) p rest sofar more e = refl
 
-  routines_are : (xs : List Placed) (p : Place) (sofar : List plan.Routine) → p.coming ≡ all_founds xs → routines_behind ns xs p sofar ≡ sofar ++ routines_in ns xs
+  routines_are : (xs : List ItemInMode) (p : Position) (sofar : List programs.Routine) → p.coming ≡ all_founds xs → routines_behind ns xs p sofar ≡ sofar ++ routines_in ns xs
   routines_are [] p sofar e = sym (append-nil sofar)
   routines_are (x ∷ xs) p sofar e =
       routines_are xs (past_plain x.plain p) (with_routine ns x.plain p sofar) (behind_plain x.mode x.plain p (all_founds xs) e)

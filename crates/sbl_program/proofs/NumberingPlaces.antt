@@ -1,6 +1,6 @@
 -- The next among of a place.
 use Rattle.std.proofs.Common.{◌≡◌, ℕ, zero, suc, ◌+◌, List, [], ◌∷◌, map, drop, refl, add-one, rules, Vec, Global}
-use Rattle.sbl_program.specs.declared.node.Entry.{Entry}
+use Rattle.sbl_program.specs.declared.node.Candidate.{Candidate}
 use Rattle.sbl_program.specs.declared.node.Node.TheVariants.{Search}
 use Rattle.sbl_program.specs.declared.node.Node.TheFolds.{fold_out-Node}
 use Rattle.sbl_program.specs.declared.node.Node.TheViews.{the_lemmas}
@@ -8,8 +8,8 @@ use Rattle.sbl_program.specs.declared.amongs.Found.{Found}
 use Rattle.sbl_program.specs.Listed.{Listed}
 use Rattle.sbl_program.specs.Numbered.{next_of}
 use Rattle.sbl_program.specs.NumberedView.{strings_at, view_found}
-use Rattle.sbl_program.specs.Plan as plan
-use Rattle.sbl_program.specs.PlanOf.{view_node}
+use Rattle.sbl_program.specs.Program as programs
+use Rattle.sbl_program.specs.ProgramOf.{view_node}
 
 dropped_after : {A B : Type 0} (f : A → B) (n : ℕ) (xs : List A) → map f (drop (suc n) xs) ≡ drop 1 (map f (drop n xs))
 dropped_after f zero [] = refl
@@ -28,5 +28,5 @@ strings_next [] (suc n) = refl
 strings_next (f ∷ fs) zero = refl
 strings_next (f ∷ fs) (suc n) = strings_next fs n
 
-pub search_view : (T : ℕ → Listed) (k table : ℕ) (entries : Vec Entry Global) → view_node T (Search k table entries) ≡ plan.search k (T table) entries.items
+pub search_view : (T : ℕ → Listed) (k table : ℕ) (entries : Vec Candidate Global) → view_node T (Search k table entries) ≡ programs.search k (T table) entries.items
 search_view T k table entries = first_of (search (rules, the_lemmas), search (rules, the_lemmas, fold_out-Node))

@@ -2,21 +2,21 @@
 use Rattle.std.proofs.Common.{◌≡◌, ℕ, List, [], option_map, sym, ap, ◌∙◌}
 use Rattle.std.specs.Prelude.{slice_get, slice_index_or}
 use Rattle.sbl_program.specs.Ahead.{routines_in}
-use Rattle.sbl_program.specs.Items.{Placed, Known, in_order, known_in, class_of, classes_behind, body_named}
+use Rattle.sbl_program.specs.Items.{ItemInMode, Known, in_order, known_in, class_of, classes_behind, body_named}
 use Rattle.sbl_program.specs.Numbered.{numbered_script, plan_in, plan_with}
 use Rattle.sbl_program.specs.NumberedNames.{Names, names_behind, no_names, number_of}
 use Rattle.sbl_program.specs.NumberedSets.{has, sets_behind}
-use Rattle.sbl_program.specs.Plan as plan
+use Rattle.sbl_program.specs.Program as programs
 use Rattle.sbl_program.specs.Laws.{RoutineIsItsOwn, SetsAreClasses, names_in}
 use Rattle.sbl_program.proofs.Coming.{own_is_made}
 use Rattle.sbl_program.proofs.SoundItems.{placed_by, placed_is, groupings_are, routines_are, routine_names, sets_are, as_made, body_at}
 use Rattle.sbl_script.specs.Parsed.{Source}
 
-module _ (items : List Placed) (external : List ℕ) where
+module _ (items : List ItemInMode) (external : List ℕ) where
   abbrev ns : Names
   ns = names_behind items no_names
 
-  abbrev program : plan.Plan
+  abbrev program : programs.Program
   program = plan_with ns items external
 
   pub class_same : (n : List ℕ) (c : ℕ) → has (slice_index_or (sets_behind ns items []) (number_of ns.groupings n) []) c ≡ class_of (classes_behind items []) n c
@@ -36,13 +36,13 @@ pub routine_is_its_own : RoutineIsItsOwn
 routine_is_its_own s s' n e h =
     let i = number_of (names_in s).routines n in
     let i' = number_of (names_in s').routines n in
-    ap (λ (p : plan.Plan). slice_get p.routines i) (program_is s)
+    ap (λ (p : programs.Program). slice_get p.routines i) (program_is s)
     ∙ routine_same (in_order s.items) s.external n
     ∙ ap (λ ns. option_map (as_made ns) (body_named (in_order s.items) n)) e
     ∙ ap (option_map (as_made (names_in s'))) h
-    ∙ sym (ap (λ (p : plan.Plan). slice_get p.routines i') (program_is s') ∙ routine_same (in_order s'.items) s'.external n)
+    ∙ sym (ap (λ (p : programs.Program). slice_get p.routines i') (program_is s') ∙ routine_same (in_order s'.items) s'.external n)
 
 pub sets_are_classes : SetsAreClasses
 sets_are_classes script n c =
-    ap (λ (p : plan.Plan). has (slice_index_or p.groupings (number_of (names_in script).groupings n) []) c) (program_is script)
+    ap (λ (p : programs.Program). has (slice_index_or p.groupings (number_of (names_in script).groupings n) []) c) (program_is script)
     ∙ class_same (in_order script.items) script.external n c

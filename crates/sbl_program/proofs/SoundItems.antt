@@ -4,29 +4,29 @@ use Rattle.std.specs.Prelude.{⊤, not, ◌&&◌, ◌||◌, nat_eq, nat_lt, if�
 use Rattle.std.specs.Str.{bytes_eq}
 use Rattle.std.proofs.lemmas.Bool.{eqb-true, lt-ltb, ltb-true, true≢false}
 use Rattle.std.proofs.lemmas.List.Folds.{list_any-append}
-use Rattle.sbl_grammar.specs.declared.tree.Additive.TheVariants.{Plus, Minus}
-use Rattle.sbl_grammar.specs.declared.tree.DeclarationKind.TheVariants as kinds
-use Rattle.sbl_grammar.specs.Tree.{Argument, written_out, by_name, Term, term, Item, Plain, declaration, escapes, macro, routine, grouping, plain, backward}
+use Rattle.sbl_tree.specs.declared.tree.Additive.TheVariants.{Plus, Minus}
+use Rattle.sbl_tree.specs.declared.tree.DeclarationKind.TheVariants as kinds
+use Rattle.sbl_tree.specs.Tree.{Argument, written_out, by_name, Term, term, Item, Plain, declaration, escapes, macro, routine, grouping, plain, backward}
 use Rattle.sbl_program.specs.Ahead.{routine_made, routine_in, routines_in}
-use Rattle.sbl_program.specs.Items.{Placed, in_mode, in_order, is_among, place_of, strings_with, integers_with, booleans_with, groupings_with, strings_in, integers_in, booleans_in, groupings_in, Grouping, class_of, term_has, terms_have, and_grouping, classes_behind, Body, body_or, body_named}
+use Rattle.sbl_program.specs.Items.{ItemInMode, in_mode, in_order, is_among, place_of, strings_with, integers_with, booleans_with, groupings_with, strings_in, integers_in, booleans_in, groupings_in, Grouping, class_of, term_has, terms_have, and_grouping, classes_behind, Body, body_or, body_named}
 use Rattle.sbl_program.specs.NumberedNames.{Names, placed_in, placed, naming, names_behind, number_from, number_of, is_one_of}
 use Rattle.sbl_program.specs.NumberedSets.{has, united, lessened, characters_of, with_terms, with_set, sets_behind}
-use Rattle.sbl_program.specs.Plan as plan
-use Rattle.sbl_script.specs.declared.marks.Mode.{Mode}
-use Rattle.sbl_script.specs.declared.marks.Mode.TheVariants.{Forward, Backward}
+use Rattle.sbl_program.specs.Program as programs
+use Rattle.sbl_tree.specs.declared.mode.Mode.{Mode}
+use Rattle.sbl_tree.specs.declared.mode.Mode.TheVariants.{Forward, Backward}
 
 -- ---- items in order
 
-in_mode_is : (m : Mode) (xs : List Plain) (sofar rest : List Placed) → placed_in m xs sofar ++ rest ≡ sofar ++ in_mode m xs rest
+in_mode_is : (m : Mode) (xs : List Plain) (sofar rest : List ItemInMode) → placed_in m xs sofar ++ rest ≡ sofar ++ in_mode m xs rest
 in_mode_is m [] sofar rest = refl
 in_mode_is m (x ∷ xs) sofar rest =
-    let p : Placed = record { mode = m; plain = x } in
+    let p : ItemInMode = record { mode = m; plain = x } in
     in_mode_is m xs (sofar ++ (p ∷ [])) rest ∙ append_assoc sofar (p ∷ []) (in_mode m xs rest)
 
-order_is : (is : List Item) (sofar : List Placed) → placed is sofar ≡ sofar ++ in_order is
+order_is : (is : List Item) (sofar : List ItemInMode) → placed is sofar ≡ sofar ++ in_order is
 order_is [] sofar = sym (append-nil sofar)
 order_is (plain x ∷ is) sofar =
-    let p : Placed = record { mode = Forward; plain = x } in
+    let p : ItemInMode = record { mode = Forward; plain = x } in
     order_is is (sofar ++ (p ∷ [])) ∙ append_assoc sofar (p ∷ []) (in_order is)
 order_is (backward xs ∷ is) sofar = order_is is (placed_in Backward xs sofar) ∙ in_mode_is Backward xs sofar (in_order is)
 
@@ -39,7 +39,7 @@ abbrev pub routines_with : Plain → List (List ℕ) → List (List ℕ)
 routines_with (routine n c os) rest = n ∷ rest
 routines_with x rest = rest
 
-abbrev pub routine_names : List Placed → List (List ℕ)
+abbrev pub routine_names : List ItemInMode → List (List ℕ)
 routine_names [] = []
 routine_names (x ∷ xs) = routines_with x.plain (routine_names xs)
 
@@ -55,7 +55,7 @@ strings_more (macro n b q) all more = refl
 strings_more (routine n c os) all more = refl
 strings_more (grouping n a ts) all more = refl
 
-pub strings_are : (xs : List Placed) (all : Names) → (names_behind xs all).strings ≡ all.strings ++ strings_in xs
+pub strings_are : (xs : List ItemInMode) (all : Names) → (names_behind xs all).strings ≡ all.strings ++ strings_in xs
 strings_are [] all = sym (append-nil all.strings)
 strings_are (x ∷ xs) all = strings_are xs (naming x.plain all) ∙ strings_more x.plain all (strings_in xs)
 
@@ -71,7 +71,7 @@ integers_more (macro n b q) all more = refl
 integers_more (routine n c os) all more = refl
 integers_more (grouping n a ts) all more = refl
 
-pub integers_are : (xs : List Placed) (all : Names) → (names_behind xs all).integers ≡ all.integers ++ integers_in xs
+pub integers_are : (xs : List ItemInMode) (all : Names) → (names_behind xs all).integers ≡ all.integers ++ integers_in xs
 integers_are [] all = sym (append-nil all.integers)
 integers_are (x ∷ xs) all = integers_are xs (naming x.plain all) ∙ integers_more x.plain all (integers_in xs)
 
@@ -87,7 +87,7 @@ booleans_more (macro n b q) all more = refl
 booleans_more (routine n c os) all more = refl
 booleans_more (grouping n a ts) all more = refl
 
-pub booleans_are : (xs : List Placed) (all : Names) → (names_behind xs all).booleans ≡ all.booleans ++ booleans_in xs
+pub booleans_are : (xs : List ItemInMode) (all : Names) → (names_behind xs all).booleans ≡ all.booleans ++ booleans_in xs
 booleans_are [] all = sym (append-nil all.booleans)
 booleans_are (x ∷ xs) all = booleans_are xs (naming x.plain all) ∙ booleans_more x.plain all (booleans_in xs)
 
@@ -103,7 +103,7 @@ groupings_more (macro n b q) all more = refl
 groupings_more (routine n c os) all more = refl
 groupings_more (grouping n a ts) all more = append_assoc all.groupings (n ∷ []) more
 
-pub groupings_are : (xs : List Placed) (all : Names) → (names_behind xs all).groupings ≡ all.groupings ++ groupings_in xs
+pub groupings_are : (xs : List ItemInMode) (all : Names) → (names_behind xs all).groupings ≡ all.groupings ++ groupings_in xs
 groupings_are [] all = sym (append-nil all.groupings)
 groupings_are (x ∷ xs) all = groupings_are xs (naming x.plain all) ∙ groupings_more x.plain all (groupings_in xs)
 
@@ -119,7 +119,7 @@ routines_more (macro n b q) all more = refl
 routines_more (routine n c os) all more = append_assoc all.routines (n ∷ []) more
 routines_more (grouping n a ts) all more = refl
 
-pub routines_are : (xs : List Placed) (all : Names) → (names_behind xs all).routines ≡ all.routines ++ routine_names xs
+pub routines_are : (xs : List ItemInMode) (all : Names) → (names_behind xs all).routines ≡ all.routines ++ routine_names xs
 routines_are [] all = sym (append-nil all.routines)
 routines_are (x ∷ xs) all = routines_are xs (naming x.plain all) ∙ routines_more x.plain all (routine_names xs)
 
@@ -287,32 +287,32 @@ module _ (ns : Names) where
   far_more (macro n b q) ss gs rest f = f
   far_more (routine n c os) ss gs rest f = f
 
-  pub far_all : (xs : List Placed) (ss : List (List ℕ)) (gs : List Grouping) → Far ss gs (groupings_in xs) → Far (sets_behind ns xs ss) (classes_behind xs gs) []
+  pub far_all : (xs : List ItemInMode) (ss : List (List ℕ)) (gs : List Grouping) → Far ss gs (groupings_in xs) → Far (sets_behind ns xs ss) (classes_behind xs gs) []
   far_all [] ss gs f = f
   far_all (x ∷ xs) ss gs f = far_all xs (with_set ns x.plain ss) (and_grouping x.plain gs) (far_more x.plain ss gs (groupings_in xs) f)
 
   -- the set of a grouping has what its terms say
-  pub sets_are : (xs : List Placed) → ns.groupings ≡ groupings_in xs → (n : List ℕ) (c : ℕ) → has (slice_index_or (sets_behind ns xs []) (number_of ns.groupings n) []) c ≡ class_of (classes_behind xs []) n c
+  pub sets_are : (xs : List ItemInMode) → ns.groupings ≡ groupings_in xs → (n : List ℕ) (c : ℕ) → has (slice_index_or (sets_behind ns xs []) (number_of ns.groupings n) []) c ≡ class_of (classes_behind xs []) n c
   sets_are xs e n c =
       let f = far_all xs [] [] (record { same = tt; names = e }) in
       class_is (sets_behind ns xs []) (classes_behind xs []) [] f.names f.same n c
 
   -- ---- routines
 
-  abbrev pub as_made : Body → plan.Routine
+  abbrev pub as_made : Body → programs.Routine
   as_made b = routine_made ns b.mode b.first b.others
 
-  body_step : (b : Bool) (r : plan.Routine) (rs : List plan.Routine) (p : ℕ) (x : Body) (o : Option Body) → r ≡ as_made x → slice_get rs p ≡ option_map as_made o → slice_get (r ∷ rs) (if b then 0 else suc p) ≡ option_map as_made (if b then Some x else o)
+  body_step : (b : Bool) (r : programs.Routine) (rs : List programs.Routine) (p : ℕ) (x : Body) (o : Option Body) → r ≡ as_made x → slice_get rs p ≡ option_map as_made o → slice_get (r ∷ rs) (if b then 0 else suc p) ≡ option_map as_made (if b then Some x else o)
   body_step true r rs p x o h k = ap Some h
   body_step false r rs p x o h k = k
 
-  body_more : (m : Mode) (x : Plain) (n : List ℕ) (rs : List plan.Routine) (rest : List (List ℕ)) (o : Option Body) → slice_get rs (place_of rest n) ≡ option_map as_made o → slice_get (routine_in ns m x rs) (place_of (routines_with x rest) n) ≡ option_map as_made (body_or m x n o)
+  body_more : (m : Mode) (x : Plain) (n : List ℕ) (rs : List programs.Routine) (rest : List (List ℕ)) (o : Option Body) → slice_get rs (place_of rest n) ≡ option_map as_made o → slice_get (routine_in ns m x rs) (place_of (routines_with x rest) n) ≡ option_map as_made (body_or m x n o)
   body_more m (routine r c os) n rs rest o h = body_step (bytes_eq r n) _ rs (place_of rest n) (record { mode = m; first = c; others = os }) o refl h
   body_more m (declaration k xs) n rs rest o h = h
   body_more m (escapes a b) n rs rest o h = h
   body_more m (macro y b q) n rs rest o h = h
   body_more m (grouping y a ts) n rs rest o h = h
 
-  pub body_at : (xs : List Placed) (n : List ℕ) → slice_get (routines_in ns xs) (place_of (routine_names xs) n) ≡ option_map as_made (body_named xs n)
+  pub body_at : (xs : List ItemInMode) (n : List ℕ) → slice_get (routines_in ns xs) (place_of (routine_names xs) n) ≡ option_map as_made (body_named xs n)
   body_at [] n = refl
   body_at (x ∷ xs) n = body_more x.mode x.plain n (routines_in ns xs) (routine_names xs) (body_named xs n) (body_at xs n)

@@ -2,24 +2,24 @@
 use Rattle.std.specs.Prelude.{ℕ, suc, Bool, true, false, not, ◌&&◌, ◌||◌, List, [], ◌∷◌, ◌++◌, nat_eq, if◌then◌else◌, Option, Some, None}
 use Rattle.std.specs.List.{list_any}
 use Rattle.std.specs.Str.{bytes_eq}
-use Rattle.sbl_grammar.specs.declared.tree.Additive.TheVariants.{Plus, Minus}
-use Rattle.sbl_grammar.specs.declared.tree.DeclarationKind.TheVariants as kinds
-use Rattle.sbl_grammar.specs.Tree.{Tree, Others, Argument, written_out, by_name, Term, term, Item, Plain, declaration, routine, grouping, plain, backward}
-use Rattle.sbl_script.specs.declared.marks.Mode.{Mode}
-use Rattle.sbl_script.specs.declared.marks.Mode.TheVariants.{Forward, Backward}
+use Rattle.sbl_tree.specs.declared.tree.Additive.TheVariants.{Plus, Minus}
+use Rattle.sbl_tree.specs.declared.tree.DeclarationKind.TheVariants as kinds
+use Rattle.sbl_tree.specs.Tree.{Command, Others, Argument, written_out, by_name, Term, term, Item, Plain, declaration, routine, grouping, plain, backward}
+use Rattle.sbl_tree.specs.declared.mode.Mode.{Mode}
+use Rattle.sbl_tree.specs.declared.mode.Mode.TheVariants.{Forward, Backward}
 
 -- an item with the mode in which it stands
-pub record Placed : Type 0 where
+pub record ItemInMode : Type 0 where
   pub mode : Mode
   pub plain : Plain
 
 -- items of this mode, before others
-abbrev pub in_mode : Mode → List Plain → List Placed → List Placed
+abbrev pub in_mode : Mode → List Plain → List ItemInMode → List ItemInMode
 in_mode m [] rest = rest
 in_mode m (x ∷ xs) rest = (record { mode = m; plain = x }) ∷ in_mode m xs rest
 
 -- the items in text order, those of a `backwardmode` in its place
-abbrev pub in_order : List Item → List Placed
+abbrev pub in_order : List Item → List ItemInMode
 in_order [] = []
 in_order (plain x ∷ is) = (record { mode = Forward; plain = x }) ∷ in_order is
 in_order (backward xs ∷ is) = in_mode Backward xs (in_order is)
@@ -59,23 +59,23 @@ abbrev pub groupings_with : Plain → List (List ℕ) → List (List ℕ)
 groupings_with (grouping n a ts) rest = n ∷ rest
 groupings_with x rest = rest
 
-abbrev pub strings_in : List Placed → List (List ℕ)
+abbrev pub strings_in : List ItemInMode → List (List ℕ)
 strings_in [] = []
 strings_in (x ∷ xs) = strings_with x.plain (strings_in xs)
 
-abbrev pub integers_in : List Placed → List (List ℕ)
+abbrev pub integers_in : List ItemInMode → List (List ℕ)
 integers_in [] = []
 integers_in (x ∷ xs) = integers_with x.plain (integers_in xs)
 
-abbrev pub booleans_in : List Placed → List (List ℕ)
+abbrev pub booleans_in : List ItemInMode → List (List ℕ)
 booleans_in [] = []
 booleans_in (x ∷ xs) = booleans_with x.plain (booleans_in xs)
 
-abbrev pub groupings_in : List Placed → List (List ℕ)
+abbrev pub groupings_in : List ItemInMode → List (List ℕ)
 groupings_in [] = []
 groupings_in (x ∷ xs) = groupings_with x.plain (groupings_in xs)
 
-abbrev pub known_in : List Placed → Known
+abbrev pub known_in : List ItemInMode → Known
 known_in xs = record { strings = strings_in xs; integers = integers_in xs; booleans = booleans_in xs; groupings = groupings_in xs }
 
 -- ---- groupings
@@ -106,7 +106,7 @@ abbrev pub and_grouping : Plain → List Grouping → List Grouping
 and_grouping (grouping n a ts) gs = gs ++ (record { name = n; has = λ c. terms_have gs ts (term_has gs a c) c }) ∷ []
 and_grouping x gs = gs
 
-abbrev pub classes_behind : List Placed → List Grouping → List Grouping
+abbrev pub classes_behind : List ItemInMode → List Grouping → List Grouping
 classes_behind [] gs = gs
 classes_behind (x ∷ xs) gs = classes_behind xs (and_grouping x.plain gs)
 
@@ -115,7 +115,7 @@ classes_behind (x ∷ xs) gs = classes_behind xs (and_grouping x.plain gs)
 -- a routine's body, and the mode in which it stands
 pub record Body : Type 0 where
   pub mode : Mode
-  pub first : Tree
+  pub first : Command
   pub others : Others
 
 -- that of an item, if it is the routine of this name, or else another
@@ -124,6 +124,6 @@ body_or m (routine r c os) n rest = if bytes_eq r n then Some (record { mode = m
 body_or m x n rest = rest
 
 -- the routine of a name, the first of them
-abbrev pub body_named : List Placed → List ℕ → Option Body
+abbrev pub body_named : List ItemInMode → List ℕ → Option Body
 body_named [] n = None
 body_named (x ∷ xs) n = body_or x.mode x.plain n (body_named xs n)

@@ -1,17 +1,17 @@
 -- What is shown of the program of a script.
 use Rattle.std.specs.Prelude.{◌≡◌, ℕ, false, List, [], Option, slice_get, slice_index_or}
 use Rattle.sbl_program.specs.Ahead.{routines_in}
-use Rattle.sbl_program.specs.Items.{Placed, body_named, class_of, classes_behind, in_order}
+use Rattle.sbl_program.specs.Items.{ItemInMode, body_named, class_of, classes_behind, in_order}
 use Rattle.sbl_program.specs.Numbered.{numbered_script, routines_behind}
 use Rattle.sbl_program.specs.NumberedAmongs.{found_behind}
 use Rattle.sbl_program.specs.NumberedNames.{Names, names_behind, no_names, number_of}
 use Rattle.sbl_program.specs.NumberedSets.{has}
-use Rattle.sbl_program.specs.Plan.{Routine}
+use Rattle.sbl_program.specs.Program.{Routine}
 use Rattle.sbl_script.specs.Parsed.{Source}
 
 -- each routine is numbered by itself
 abbrev pub OwnIsMade : Type 0
-OwnIsMade = (ns : Names) (items : List Placed) → routines_behind ns items (record { coming = found_behind ns items []; behind = 0; waits = false }) [] ≡ routines_in ns items
+OwnIsMade = (ns : Names) (items : List ItemInMode) → routines_behind ns items (record { coming = found_behind ns items []; behind = 0; waits = false }) [] ≡ routines_in ns items
 
 abbrev pub names_in : Source → Names
 names_in script = names_behind (in_order script.items) no_names

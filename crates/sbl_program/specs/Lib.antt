@@ -1,9 +1,9 @@
 pub mod Items
 pub mod Regions
 pub mod Listed
-pub mod Plan
+pub mod Program
 pub mod Grouped
-pub mod PlanOf
+pub mod ProgramOf
 pub mod NumberedNames
 pub mod NumberedSets
 pub mod NumberedAmongs

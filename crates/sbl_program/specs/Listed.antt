@@ -1,6 +1,6 @@
 -- The strings of an among, and the mode that reads them.
 use Rattle.std.specs.Prelude.{ℕ, List}
-use Rattle.sbl_script.specs.declared.marks.Mode.{Mode}
+use Rattle.sbl_tree.specs.declared.mode.Mode.{Mode}
 
 pub record Listed : Type 0 where
   pub mode : Mode

@@ -1,17 +1,17 @@
 -- The amongs of a script in the order of their words `among`: the number of each in its routine, its strings and the mode of the place, and what stands beside each string.
 use Rattle.std.specs.Prelude.{ℕ, ◌+◌, ◌-◌, List, [], ◌∷◌, ◌++◌, length, Option, Some, None}
-use Rattle.sbl_grammar.specs.Tree as trees
-use Rattle.sbl_grammar.specs.Tree.{bracket, single, quoted, called, excluded, prefixed, counted, moved, named, edited, limited, assigned, compared, values_compared, chosen, no_rows, row, no_others, joined, no_starter, starter, bare, group, declaration, escapes, macro, routine, grouping}
-use Rattle.sbl_script.specs.declared.marks.Mode.{Mode}
-use Rattle.sbl_program.specs.declared.node.Entry.{Entry}
+use Rattle.sbl_tree.specs.Tree as trees
+use Rattle.sbl_tree.specs.Tree.{bracket, simple_, literal_, name_, non_, prefixed, counted, move_, named, splice_, setlimit_, assign_, compare_, compare_values_, among_, no_rows, row, no_others, joined, no_starter, starter, bare, group, declaration, escapes, macro, routine, grouping}
+use Rattle.sbl_tree.specs.declared.mode.Mode.{Mode}
+use Rattle.sbl_program.specs.declared.node.Candidate.{Candidate}
 use Rattle.sbl_program.specs.Listed.{Listed, listing}
-use Rattle.sbl_program.specs.NumberedNames.{Names, Placed, number_of}
+use Rattle.sbl_program.specs.NumberedNames.{Names, ItemInMode, number_of}
 use Rattle.sbl_program.specs.Regions.{mode_behind}
 
 pub record Found : Type 0 where
   pub number : ℕ
   pub strings : Listed
-  pub entries : List Entry
+  pub entries : List Candidate
 
 -- Each of the following takes what is so far, and gives it with its own behind it.
 
@@ -29,15 +29,15 @@ abbrev pub condition_of : Names → Option (List ℕ) → Option ℕ
 condition_of ns None = None
 condition_of ns (Some n) = Some (number_of ns.routines n)
 
-abbrev pub entry_of : Names → ℕ → trees.Entry → Entry
+abbrev pub entry_of : Names → ℕ → trees.Entry → Candidate
 entry_of ns g (trees.entry q c) = record { condition = condition_of ns c; group = g; length = length q.value }
 
-abbrev pub entries_in : Names → ℕ → List trees.Entry → List Entry → List Entry
+abbrev pub entries_in : Names → ℕ → List trees.Entry → List Candidate → List Candidate
 entries_in ns g [] sofar = sofar
 entries_in ns g (e ∷ es) sofar = entries_in ns g es (sofar ++ entry_of ns g e ∷ [])
 
 -- the groups are counted from 0; the strings of a last group without a bracket have the number of groups
-abbrev pub entries_behind : Names → ℕ → trees.Groups → List Entry → List Entry
+abbrev pub entries_behind : Names → ℕ → trees.Groups → List Candidate → List Candidate
 entries_behind ns g (bare es) sofar = entries_in ns g es sofar
 entries_behind ns g (group e es rs gs) sofar = entries_behind ns (g + 1) gs (entries_in ns g es (entries_in ns g (e ∷ []) sofar))
 
@@ -48,22 +48,22 @@ found_of ns first m gs sofar =
 
 abbrev mutual
   -- the amongs of a command
-  pub found : Names → ℕ → Mode → trees.Tree → List Found → List Found
+  pub found : Names → ℕ → Mode → trees.Command → List Found → List Found
   found ns first m (bracket rs) sofar = found_rows ns first m rs sofar
-  found ns first m (single s) sofar = sofar
-  found ns first m (quoted q) sofar = sofar
-  found ns first m (called n) sofar = sofar
-  found ns first m (excluded b n) sofar = sofar
+  found ns first m (simple_ s) sofar = sofar
+  found ns first m (literal_ q) sofar = sofar
+  found ns first m (name_ n) sofar = sofar
+  found ns first m (non_ b n) sofar = sofar
   found ns first m (prefixed x c) sofar = found ns first (mode_behind x m) c sofar
   found ns first m (counted n e c) sofar = found ns first m c sofar
-  found ns first m (moved x e) sofar = sofar
+  found ns first m (move_ x e) sofar = sofar
   found ns first m (named x n) sofar = sofar
-  found ns first m (edited x a) sofar = sofar
-  found ns first m (limited b c) sofar = found ns first m c (found ns first m b sofar)
-  found ns first m (assigned n o e) sofar = sofar
-  found ns first m (compared n o e) sofar = sofar
-  found ns first m (values_compared e o f) sofar = sofar
-  found ns first m (chosen s gs) sofar =
+  found ns first m (splice_ x a) sofar = sofar
+  found ns first m (setlimit_ b c) sofar = found ns first m c (found ns first m b sofar)
+  found ns first m (assign_ n o e) sofar = sofar
+  found ns first m (compare_ n o e) sofar = sofar
+  found ns first m (compare_values_ e o f) sofar = sofar
+  found ns first m (among_ s gs) sofar =
       found_groups ns first m gs (found_starter ns first m s (sofar ++ found_of ns first m gs sofar ∷ []))
 
   pub found_rows : Names → ℕ → Mode → trees.Rows → List Found → List Found
@@ -90,6 +90,6 @@ found_plain ns m (escapes a b) sofar = sofar
 found_plain ns m (macro n b q) sofar = sofar
 found_plain ns m (grouping n a ts) sofar = sofar
 
-abbrev pub found_behind : Names → List Placed → List Found → List Found
+abbrev pub found_behind : Names → List ItemInMode → List Found → List Found
 found_behind ns [] sofar = sofar
 found_behind ns (x ∷ xs) sofar = found_behind ns xs (found_plain ns x.mode x.plain sofar)

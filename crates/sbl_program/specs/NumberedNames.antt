@@ -1,20 +1,20 @@
 -- The names of a script by kind, and the number of each: its place among those of its kind.
 use Rattle.std.specs.Prelude.{ℕ, ◌+◌, Bool, List, [], ◌∷◌, ◌++◌, length, nat_lt, if◌then◌else◌}
 use Rattle.std.specs.Str.{bytes_eq}
-use Rattle.sbl_grammar.specs.declared.tree.DeclarationKind.{DeclarationKind}
-use Rattle.sbl_grammar.specs.declared.tree.DeclarationKind.TheVariants as kinds
-use Rattle.sbl_grammar.specs.Tree.{Item, Plain, declaration, escapes, macro, routine, grouping, plain, backward}
-pub use Rattle.sbl_program.specs.Items.{Placed}
-use Rattle.sbl_script.specs.declared.marks.Mode.{Mode}
-use Rattle.sbl_script.specs.declared.marks.Mode.TheVariants.{Forward, Backward}
+use Rattle.sbl_tree.specs.declared.tree.DeclarationKind.{DeclarationKind}
+use Rattle.sbl_tree.specs.declared.tree.DeclarationKind.TheVariants as kinds
+use Rattle.sbl_tree.specs.Tree.{Item, Plain, declaration, escapes, macro, routine, grouping, plain, backward}
+pub use Rattle.sbl_program.specs.Items.{ItemInMode}
+use Rattle.sbl_tree.specs.declared.mode.Mode.{Mode}
+use Rattle.sbl_tree.specs.declared.mode.Mode.TheVariants.{Forward, Backward}
 
 -- items of this mode, behind those so far
-abbrev pub placed_in : Mode → List Plain → List Placed → List Placed
+abbrev pub placed_in : Mode → List Plain → List ItemInMode → List ItemInMode
 placed_in m [] sofar = sofar
 placed_in m (x ∷ xs) sofar = placed_in m xs (sofar ++ (record { mode = m; plain = x }) ∷ [])
 
 -- the items in text order, those of a `backwardmode` in its place, behind those so far
-abbrev pub placed : List Item → List Placed → List Placed
+abbrev pub placed : List Item → List ItemInMode → List ItemInMode
 placed [] sofar = sofar
 placed (plain x ∷ is) sofar = placed is (sofar ++ (record { mode = Forward; plain = x }) ∷ [])
 placed (backward xs ∷ is) sofar = placed is (placed_in Backward xs sofar)
@@ -46,7 +46,7 @@ naming (macro n b q) all = all
 naming (routine n c os) all = record all { routines = all.routines ++ n ∷ [] }
 naming (grouping n a ts) all = record all { groupings = all.groupings ++ n ∷ [] }
 
-abbrev pub names_behind : List Placed → Names → Names
+abbrev pub names_behind : List ItemInMode → Names → Names
 names_behind [] all = all
 names_behind (x ∷ xs) all = names_behind xs (naming x.plain all)
 

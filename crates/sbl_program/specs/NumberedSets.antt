@@ -1,10 +1,10 @@
 -- The sets of the groupings: the terms from the left, each added or taken away.
 use Rattle.std.specs.Prelude.{ℕ, Bool, List, [], ◌∷◌, ◌++◌, nat_eq, if◌then◌else◌, slice_index_or}
 use Rattle.std.specs.List.{list_any}
-use Rattle.sbl_grammar.specs.declared.tree.Additive.{Additive}
-use Rattle.sbl_grammar.specs.declared.tree.Additive.TheVariants.{Plus, Minus}
-use Rattle.sbl_grammar.specs.Tree.{Argument, written_out, by_name, Term, term, Plain, declaration, escapes, macro, routine, grouping}
-use Rattle.sbl_program.specs.NumberedNames.{Names, Placed, number_of}
+use Rattle.sbl_tree.specs.declared.tree.Additive.{Additive}
+use Rattle.sbl_tree.specs.declared.tree.Additive.TheVariants.{Plus, Minus}
+use Rattle.sbl_tree.specs.Tree.{Argument, written_out, by_name, Term, term, Plain, declaration, escapes, macro, routine, grouping}
+use Rattle.sbl_program.specs.NumberedNames.{Names, ItemInMode, number_of}
 
 -- whether a character is in a set
 abbrev pub has : List ℕ → ℕ → Bool
@@ -41,6 +41,6 @@ with_set ns (escapes a b) sets = sets
 with_set ns (macro n b q) sets = sets
 with_set ns (routine n c os) sets = sets
 
-abbrev pub sets_behind : Names → List Placed → List (List ℕ) → List (List ℕ)
+abbrev pub sets_behind : Names → List ItemInMode → List (List ℕ) → List (List ℕ)
 sets_behind ns [] sets = sets
 sets_behind ns (x ∷ xs) sets = sets_behind ns xs (with_set ns x.plain sets)

@@ -1,18 +1,18 @@
 -- The parts of the numbering without where they lie in memory.
 use Rattle.std.specs.Prelude.{ℕ, List, [], map, drop, string_bytes, Vec, Option, Some, None, slice_get}
 use Rattle.std.specs.Global.{Global}
-use Rattle.sbl_grammar.specs.View.{view_plain}
+use Rattle.sbl_tree.specs.View.{view_plain}
 use Rattle.sbl_program.specs.declared.amongs.Found.{Found}
 use Rattle.sbl_program.specs.declared.names.Names.{Names}
-use Rattle.sbl_program.specs.declared.names.Placed.{Placed}
+use Rattle.sbl_program.specs.declared.names.ItemInMode.{ItemInMode}
 use Rattle.sbl_program.specs.Listed.{Listed, listing}
 use Rattle.sbl_program.specs.NumberedAmongs as amongs
 use Rattle.sbl_program.specs.NumberedNames as names
 use Rattle.sbl_program.specs.Numbered as numbered
-use Rattle.sbl_program.specs.declared.place.Place.{Place}
-use Rattle.sbl_script.specs.declared.marks.Mode.TheVariants.{Forward}
+use Rattle.sbl_program.specs.declared.place.Position.{Position}
+use Rattle.sbl_tree.specs.declared.mode.Mode.TheVariants.{Forward}
 
-abbrev pub view_placed : Placed → names.Placed
+abbrev pub view_placed : ItemInMode → names.ItemInMode
 view_placed p = record { mode = p.mode; plain = view_plain p.plain.now }
 
 abbrev pub view_names : Names → names.Names
@@ -42,5 +42,5 @@ strings_or (Some f) = listing_found f
 abbrev pub strings_at : List Found → ℕ → Listed
 strings_at fs k = strings_or (slice_get fs k)
 
-abbrev pub view_place : List Found → Place → numbered.Place
+abbrev pub view_place : List Found → Position → numbered.Position
 view_place fs p = record { coming = map view_found (drop p.next fs); behind = p.behind; waits = p.waits }

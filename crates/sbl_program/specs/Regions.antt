@@ -1,14 +1,14 @@
 -- The regions of a routine, and the amongs in them: a routine's body, a group's bracket and a starter are a region each, and a
 -- `substring` belongs to the next `among` of its own region.
 use Rattle.std.specs.Prelude.{ℕ, suc, Bool, true, false, Option, Some}
-use Rattle.sbl_grammar.specs.declared.tree.Prefix.{Prefix}
-use Rattle.sbl_grammar.specs.declared.tree.Prefix.TheVariants as prefixes
-use Rattle.sbl_grammar.specs.declared.tree.Simple.{Simple}
-use Rattle.sbl_grammar.specs.declared.tree.Simple.TheVariants as simples
-use Rattle.sbl_grammar.specs.Tree as trees
-use Rattle.sbl_grammar.specs.Tree.{bracket, single, prefixed, counted, limited, chosen, no_rows, row, no_others, joined, no_starter, starter, bare, group}
-use Rattle.sbl_script.specs.declared.marks.Mode.{Mode}
-use Rattle.sbl_script.specs.declared.marks.Mode.TheVariants.{Backward}
+use Rattle.sbl_tree.specs.declared.tree.Prefix.{Prefix}
+use Rattle.sbl_tree.specs.declared.tree.Prefix.TheVariants as prefixes
+use Rattle.sbl_tree.specs.declared.tree.Simple.{Simple}
+use Rattle.sbl_tree.specs.declared.tree.Simple.TheVariants as simples
+use Rattle.sbl_tree.specs.Tree as trees
+use Rattle.sbl_tree.specs.Tree.{bracket, simple_, prefixed, counted, setlimit_, among_, no_rows, row, no_others, joined, no_starter, starter, bare, group}
+use Rattle.sbl_tree.specs.declared.mode.Mode.{Mode}
+use Rattle.sbl_tree.specs.declared.mode.Mode.TheVariants.{Backward}
 
 -- the mode of a command behind a prefix
 abbrev pub mode_behind : Prefix → Mode → Mode
@@ -17,12 +17,12 @@ mode_behind x m = m
 
 -- the number of the next among behind a command before which it is k
 abbrev mutual
-  pub behind : trees.Tree → ℕ → ℕ
+  pub behind : trees.Command → ℕ → ℕ
   behind (bracket rs) k = behind_rows rs k
   behind (prefixed x c) k = behind c k
   behind (counted n e c) k = behind c k
-  behind (limited b c) k = behind c (behind b k)
-  behind (chosen s gs) k = behind_groups gs (behind_starter s (suc k))
+  behind (setlimit_ b c) k = behind c (behind b k)
+  behind (among_ s gs) k = behind_groups gs (behind_starter s (suc k))
   behind t k = k
 
   pub behind_rows : trees.Rows → ℕ → ℕ
@@ -47,13 +47,13 @@ waits_simple x w = w
 
 -- whether a `substring` waits behind a command
 abbrev mutual
-  pub waits : trees.Tree → Bool → Bool
+  pub waits : trees.Command → Bool → Bool
   waits (bracket rs) w = waits_rows rs w
-  waits (single s) w = waits_simple s w
+  waits (simple_ s) w = waits_simple s w
   waits (prefixed x c) w = waits c w
   waits (counted n e c) w = waits c w
-  waits (limited b c) w = waits c (waits b w)
-  waits (chosen s gs) w = false
+  waits (setlimit_ b c) w = waits c (waits b w)
+  waits (among_ s gs) w = false
   waits t w = w
 
   pub waits_rows : trees.Rows → Bool → Bool
@@ -75,12 +75,12 @@ among_at m k gs = record { number = k; mode = m; groups = gs }
 
 abbrev mutual
   -- the first among of a command before which there are k in the routine, or else the next of the region behind it, if there is one
-  pub first : Mode → trees.Tree → ℕ → Option Among → Option Among
+  pub first : Mode → trees.Command → ℕ → Option Among → Option Among
   first m (bracket rs) k n = first_rows m rs k n
   first m (prefixed x c) k n = first (mode_behind x m) c k n
   first m (counted x e c) k n = first m c k n
-  first m (limited b c) k n = first m b k (first m c (behind b k) n)
-  first m (chosen s gs) k n = Some (among_at m k gs)
+  first m (setlimit_ b c) k n = first m b k (first m c (behind b k) n)
+  first m (among_ s gs) k n = Some (among_at m k gs)
   first m t k n = n
 
   pub first_rows : Mode → trees.Rows → ℕ → Option Among → Option Among

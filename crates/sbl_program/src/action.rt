@@ -1,6 +1,6 @@
 //! The commands that hold no command, and what they are made of. Names are numbers.
 
-use sbl_grammar::{Additive, Multiplicative};
+use sbl_tree::{Additive, Multiplicative};
 
 /// A string: a literal, or what a string variable holds.
 #[derive(Drop)]

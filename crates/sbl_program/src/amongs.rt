@@ -1,16 +1,16 @@
 //! The amongs of a script in the order of their words `among`.
 
 ghost use Rattle.std.specs.Prelude.{◌≡◌, ◌∷◌, ◌++◌, [], ◌-◌, List, ℕ, map, length, OnOk, IfOk, string_bytes};
-ghost use Rattle.sbl_grammar.specs.View.{view_command, view_rows, view_row, view_others, view_among, view_starter, view_groups, view_entry, view_name, view_plain};
-ghost use Rattle.sbl_grammar.specs.Tree as trees;
+ghost use Rattle.sbl_tree.specs.View.{view_command, view_rows, view_row, view_others, view_among, view_starter, view_groups, view_entry, view_name, view_plain};
+ghost use Rattle.sbl_tree.specs.Tree as trees;
 ghost use Rattle.sbl_program.specs.NumberedAmongs as spec;
 ghost use Rattle.sbl_program.specs.NumberedView.{view_names, view_placed, view_found, texts};
 ghost use Rattle.sbl_program.specs.Regions.{mode_behind as spec_mode_behind};
 
-use crate::names::{Names, Placed, number_of};
+use crate::names::{Names, ItemInMode, number_of};
 use crate::node;
-use sbl_grammar::{Among, Command, Entry, Group, Joined, Plain, Prefix, Row};
-use sbl_script::Mode;
+use sbl_tree::{Among, Command, Entry, Group, Joined, Plain, Prefix, Row};
+use sbl_tree::Mode;
 use std::alloc::{AllocError, Global};
 
 /// An among.
@@ -23,7 +23,7 @@ pub struct Found {
     /// Its strings.
     pub strings: Vec<Vec<char>>,
     /// What stands beside each string.
-    pub entries: Vec<node::Entry>,
+    pub entries: Vec<node::Candidate>,
 }
 
 // A copy of a string.
@@ -93,11 +93,11 @@ fn add_entry(
     names: &Names,
     group: usize,
     entry: &Entry,
-    entries: &mut Vec<node::Entry>,
+    entries: &mut Vec<node::Candidate>,
 ) -> Result<(), AllocError>
     ensures { OnOk result (entries.new.items ≡ spec.entries_in (view_names names.now) group (view_entry entry.now ∷ []) entries.old.items) }
 {
-    entries.push(node::Entry {
+    entries.push(node::Candidate {
         condition: condition_of(names, &entry.condition),
         group,
         length: entry.string.value.len(),
@@ -109,7 +109,7 @@ fn add_entries(
     names: &Names,
     group: usize,
     more: &Vec<Entry>,
-    entries: &mut Vec<node::Entry>,
+    entries: &mut Vec<node::Candidate>,
 ) -> Result<(), AllocError>
     ensures { OnOk result (entries.new.items ≡ spec.entries_in (view_names names.now) group (map view_entry more.now.items) entries.old.items) }
 {
@@ -122,7 +122,7 @@ fn add_entries(
 fn add_group_entries(
     names: &Names,
     groups: &Vec<Group>,
-    entries: &mut Vec<node::Entry>,
+    entries: &mut Vec<node::Candidate>,
 ) -> Result<(), AllocError>
     ensures { OnOk result ((bare : List trees.Entry) → spec.entries_in (view_names names.now) (length groups.now.items) bare entries.new.items ≡ spec.entries_behind (view_names names.now) 0 (view_groups groups.now.items bare) entries.old.items) }
 {
@@ -138,7 +138,7 @@ fn entries_of(
     names: &Names,
     groups: &Vec<Group>,
     bare: &Vec<Entry>,
-) -> Result<Vec<node::Entry>, AllocError>
+) -> Result<Vec<node::Candidate>, AllocError>
     ensures { IfOk result (λ v. v.items ≡ spec.entries_behind (view_names names.now) 0 (view_groups groups.now.items (map view_entry bare.now.items)) []) }
 {
     let mut entries = Vec::new(alloc);
@@ -219,7 +219,7 @@ fn find(
         }
         | Command::Move(_, _)
         | Command::Named(_, _)
-        | Command::Edit(_, _)
+        | Command::Splice(_, _)
         | Command::Assign(_, _, _)
         | Command::Compare(_, _, _)
         | Command::CompareValues(_, _, _) => Ok(()),
@@ -284,7 +284,7 @@ fn find_among(
     among: &Among,
     all: &mut Vec<Found>,
 ) -> Result<(), AllocError>
-    ensures { OnOk result (map view_found all.new.items ≡ spec.found (view_names names.now) first mode (trees.chosen (view_among among.now).0 (view_among among.now).1) (map view_found all.old.items)) }
+    ensures { OnOk result (map view_found all.new.items ≡ spec.found (view_names names.now) first mode (trees.among_ (view_among among.now).0 (view_among among.now).1) (map view_found all.old.items)) }
 {
     add_among(alloc, names, first, mode, among, all)?;
     if let Some(rows) = &among.starter {
@@ -327,7 +327,7 @@ fn find_plain(
 }
 
 /// The amongs of a script.
-pub fn amongs_of(alloc: Global, names: &Names, items: &[Placed]) -> Result<Vec<Found>, AllocError>
+pub fn amongs_of(alloc: Global, names: &Names, items: &[ItemInMode]) -> Result<Vec<Found>, AllocError>
     ensures { IfOk result (λ v. map view_found v.items ≡ spec.found_behind (view_names names.now) (map view_placed items.now) []) }
 {
     let mut all = Vec::new(alloc);

@@ -1,29 +1,26 @@
 //! Commands, with numbers for names.
 
 ghost use Rattle.std.specs.Prelude.{◌≡◌, ◌∷◌, ◌++◌, [], List, map, length, OnOk, IfOk, string_bytes};
-ghost use Rattle.sbl_grammar.specs.View.{view_argument, view_command, view_rows, view_row, view_others, view_among, view_starter, view_groups, view_expression, view_literal};
-ghost use Rattle.sbl_grammar.specs.Tree as trees;
+ghost use Rattle.sbl_tree.specs.View.{view_argument, view_command, view_rows, view_row, view_others, view_among, view_starter, view_groups, view_expression, view_literal};
+ghost use Rattle.sbl_tree.specs.Tree as trees;
 ghost use Rattle.sbl_program.specs.Numbered as spec;
 ghost use Rattle.sbl_program.specs.NumberedView.{view_names, view_place, strings_at};
 ghost use Rattle.sbl_program.specs.NumberedNames.{number_of as spec_number_of};
 ghost use Rattle.sbl_program.specs.NumberedNumbers.{expression as spec_expression, text as spec_text};
-ghost use Rattle.sbl_program.specs.Plan as plan;
+ghost use Rattle.sbl_program.specs.Program as programs;
 ghost use Rattle.sbl_program.specs.Grouped.{joined_all};
-ghost use Rattle.sbl_program.specs.PlanOf.{view_action, view_joined, view_node, view_number, view_text, commands_of};
+ghost use Rattle.sbl_program.specs.ProgramOf.{view_action, view_joined, view_node, view_number, view_text, commands_of};
 
 use crate::action::{Action, Arithmetic, Change, Relation, StringTerm};
 use crate::amongs::Found;
 use crate::names::{Names, is_one_of, number_of};
-use crate::node::{self, Entry, Node};
+use crate::node::{self, Candidate, Node};
 use crate::numbers::{number_of_expression, text};
-use crate::place::{Place, begun, closed, inside, left_of, past_rows};
-use sbl_grammar::{
-    Among, Argument, Assignment, Command, Comparison, Count, Edit, Expression, Group, Joined,
-    Joiner, Literal, Move, Naming, Prefix, Row, Simple,
-};
+use crate::place::{Position, begun, closed, inside, left_of, past_rows};
+use sbl_tree::{Among, Argument, Assignment, Command, Comparison, Count, Splice, Expression, Group, Joined, Joiner, Literal, Move, Naming, Prefix, Row, Simple};
 use std::alloc::{AllocError, Global};
 
-fn copied_entries(alloc: Global, entries: &[Entry]) -> Result<Vec<Entry>, AllocError>
+fn copied_entries(alloc: Global, entries: &[Candidate]) -> Result<Vec<Candidate>, AllocError>
     ensures { IfOk result (λ v. v.items ≡ entries.now) }
 {
     let mut copy = Vec::new(alloc);
@@ -32,7 +29,7 @@ fn copied_entries(alloc: Global, entries: &[Entry]) -> Result<Vec<Entry>, AllocE
 }
 
 // The number of the next among in its routine.
-fn next_number(amongs: &Vec<Found>, place: Place) -> usize
+fn next_number(amongs: &Vec<Found>, place: Position) -> usize
     ensures { result ≡ (spec.next_of (view_place amongs.now.items place).coming).number }
 {
     match amongs.get(place.next) {
@@ -42,7 +39,7 @@ fn next_number(amongs: &Vec<Found>, place: Place) -> usize
 }
 
 // What stands beside each string of the next among.
-fn next_entries(alloc: Global, amongs: &Vec<Found>, place: Place) -> Result<Vec<Entry>, AllocError>
+fn next_entries(alloc: Global, amongs: &Vec<Found>, place: Position) -> Result<Vec<Candidate>, AllocError>
     ensures { IfOk result (λ v. v.items ≡ (spec.next_of (view_place amongs.now.items place).coming).entries) }
 {
     match amongs.get(place.next) {
@@ -52,7 +49,7 @@ fn next_entries(alloc: Global, amongs: &Vec<Found>, place: Place) -> Result<Vec<
 }
 
 // The search of the next among.
-fn search_next(alloc: Global, amongs: &Vec<Found>, place: Place) -> Result<Node, AllocError>
+fn search_next(alloc: Global, amongs: &Vec<Found>, place: Position) -> Result<Node, AllocError>
     ensures { IfOk result (λ n. view_node (strings_at amongs.now.items) n ≡ spec.search_next (view_place amongs.now.items place)) }
 {
     let entries = next_entries(alloc, amongs, place)?;
@@ -64,7 +61,7 @@ fn search_next(alloc: Global, amongs: &Vec<Found>, place: Place) -> Result<Node,
 }
 
 // The same for a `substring`: f where its region has none ahead.
-fn search_ahead(alloc: Global, amongs: &Vec<Found>, place: Place) -> Result<Node, AllocError>
+fn search_ahead(alloc: Global, amongs: &Vec<Found>, place: Position) -> Result<Node, AllocError>
     ensures { IfOk result (λ n. view_node (strings_at amongs.now.items) n ≡ spec.search_ahead (view_place amongs.now.items place)) }
 {
     if place.behind < left_of(amongs, place) {
@@ -78,7 +75,7 @@ fn simple(
     alloc: Global,
     amongs: &Vec<Found>,
     word: Simple,
-    place: &mut Place,
+    place: &mut Position,
 ) -> Result<Node, AllocError>
     ensures made { IfOk result (λ n. view_node (strings_at amongs.now.items) n ≡ spec.simple word (view_place amongs.now.items place.old)) }
     ensures behind { OnOk result (view_place amongs.now.items place.new ≡ spec.past_simple word (view_place amongs.now.items place.old)) }
@@ -174,13 +171,13 @@ fn change_named(names: &Names, naming: Naming, name: &str) -> Action
     }
 }
 
-fn edited(edit: Edit, string: StringTerm) -> Action
+fn edited(edit: Splice, string: StringTerm) -> Action
     ensures { view_action result ≡ spec.edit edit (view_text string) }
 {
     match edit {
-        Edit::Replace => Action::Replace(string),
-        Edit::InsertSign | Edit::Insert => Action::Insert(string),
-        Edit::Attach => Action::Attach(string),
+        Splice::Replace => Action::Replace(string),
+        Splice::InsertSign | Splice::Insert => Action::Insert(string),
+        Splice::Attach => Action::Attach(string),
     }
 }
 
@@ -240,7 +237,7 @@ fn set_limit(
     first: Node,
     second: Node,
 ) -> Result<Node, AllocError>
-    ensures { IfOk result (λ n. view_node (strings_at _amongs.now.items) n ≡ plan.setlimit (view_node (strings_at _amongs.now.items) first) (view_node (strings_at _amongs.now.items) second)) }
+    ensures { IfOk result (λ n. view_node (strings_at _amongs.now.items) n ≡ programs.setlimit (view_node (strings_at _amongs.now.items) first) (view_node (strings_at _amongs.now.items) second)) }
 {
     let first = Box::new(alloc, first)?;
     let second = Box::new(alloc, second)?;
@@ -248,7 +245,7 @@ fn set_limit(
 }
 
 fn literal(alloc: Global, literal: &Literal) -> Result<Action, AllocError>
-    ensures { IfOk result (λ a. view_action a ≡ plan.match (plan.literal (view_literal literal.now).value)) }
+    ensures { IfOk result (λ a. view_action a ≡ programs.match (programs.literal (view_literal literal.now).value)) }
 {
     Ok(Action::Match(StringTerm::Literal(literal.value.clone()?)))
 }
@@ -267,7 +264,7 @@ fn move_to(
 fn edit_text(
     alloc: Global,
     names: &Names,
-    edit: Edit,
+    edit: Splice,
     string: &Argument,
 ) -> Result<Action, AllocError>
     ensures { IfOk result (λ a. view_action a ≡ spec.edit edit (spec_text (view_names names.now) (view_argument string.now))) }
@@ -282,7 +279,7 @@ fn assign(
     assignment: Assignment,
     number: &Expression,
 ) -> Result<Action, AllocError>
-    ensures { IfOk result (λ a. view_action a ≡ plan.assign (spec_number_of (view_names names.now).integers name.now) (spec.change_of assignment) (spec_expression (view_names names.now) (view_expression number.now))) }
+    ensures { IfOk result (λ a. view_action a ≡ programs.assign (spec_number_of (view_names names.now).integers name.now) (spec.change_of assignment) (spec_expression (view_names names.now) (view_expression number.now))) }
 {
     Ok(Action::Assign(
         number_of(&names.integers, name),
@@ -298,7 +295,7 @@ fn compare(
     comparison: Comparison,
     number: &Expression,
 ) -> Result<Action, AllocError>
-    ensures { IfOk result (λ a. view_action a ≡ plan.compare (plan.integer (spec_number_of (view_names names.now).integers name.now)) (spec.relation_of comparison) (spec_expression (view_names names.now) (view_expression number.now))) }
+    ensures { IfOk result (λ a. view_action a ≡ programs.compare (programs.integer (spec_number_of (view_names names.now).integers name.now)) (spec.relation_of comparison) (spec_expression (view_names names.now) (view_expression number.now))) }
 {
     Ok(Action::Compare(
         Arithmetic::Integer(number_of(&names.integers, name)),
@@ -314,7 +311,7 @@ fn compare_values(
     comparison: Comparison,
     second: &Expression,
 ) -> Result<Action, AllocError>
-    ensures { IfOk result (λ a. view_action a ≡ plan.compare (spec_expression (view_names names.now) (view_expression first.now)) (spec.relation_of comparison) (spec_expression (view_names names.now) (view_expression second.now))) }
+    ensures { IfOk result (λ a. view_action a ≡ programs.compare (spec_expression (view_names names.now) (view_expression first.now)) (spec.relation_of comparison) (spec_expression (view_names names.now) (view_expression second.now))) }
 {
     Ok(Action::Compare(
         number_of_expression(alloc, names, first)?,
@@ -330,7 +327,7 @@ fn node_of(
     names: &Names,
     amongs: &Vec<Found>,
     command: &Command,
-    place: &mut Place,
+    place: &mut Position,
 ) -> Result<Node, AllocError>
     ensures made { IfOk result (λ n. view_node (strings_at amongs.now.items) n ≡ spec.numbered (view_names names.now) (view_command command.now) (view_place amongs.now.items place.old)) }
     ensures behind { OnOk result (view_place amongs.now.items place.new ≡ spec.past (view_command command.now) (view_place amongs.now.items place.old)) }
@@ -355,7 +352,7 @@ fn node_of(
         }
         Command::Move(movement, number) => Ok(Node::Act(move_to(alloc, names, *movement, number)?)),
         Command::Named(naming, name) => Ok(Node::Act(change_named(names, *naming, name.as_str()))),
-        Command::Edit(edit, string) => Ok(Node::Act(edit_text(alloc, names, *edit, string)?)),
+        Command::Splice(edit, string) => Ok(Node::Act(edit_text(alloc, names, *edit, string)?)),
         Command::SetLimit(limit, inner) => {
             let limit = node_of(alloc, names, amongs, limit, place)?;
             let inner = node_of(alloc, names, amongs, inner, place)?;
@@ -380,7 +377,7 @@ fn rows_of(
     names: &Names,
     amongs: &Vec<Found>,
     rows: &Vec<Row>,
-    place: &mut Place,
+    place: &mut Position,
 ) -> Result<Vec<Node>, AllocError>
     ensures made { IfOk result (λ ns. map (view_node (strings_at amongs.now.items)) ns.items ≡ spec.numbered_rows (view_names names.now) (view_rows rows.now.items) (view_place amongs.now.items place.old)) }
     ensures behind { OnOk result (view_place amongs.now.items place.new ≡ spec.past_rows (view_rows rows.now.items) (view_place amongs.now.items place.old)) }
@@ -400,7 +397,7 @@ pub fn row_of(
     names: &Names,
     amongs: &Vec<Found>,
     row: &Row,
-    place: &mut Place,
+    place: &mut Position,
 ) -> Result<Node, AllocError>
     ensures made { IfOk result (λ n. view_node (strings_at amongs.now.items) n ≡ spec.numbered_others (view_names names.now) (view_row row.now).1 (spec.past (view_row row.now).0 (view_place amongs.now.items place.old)) (spec.numbered (view_names names.now) (view_row row.now).0 (view_place amongs.now.items place.old))) }
     ensures behind { OnOk result (view_place amongs.now.items place.new ≡ spec.past_others (view_row row.now).1 (spec.past (view_row row.now).0 (view_place amongs.now.items place.old))) }
@@ -416,7 +413,7 @@ fn others_of(
     names: &Names,
     amongs: &Vec<Found>,
     others: &Vec<Joined>,
-    place: &mut Place,
+    place: &mut Position,
 ) -> Result<Vec<node::Joined>, AllocError>
     ensures made { IfOk result (λ v. map (view_joined (strings_at amongs.now.items)) v.items ≡ spec.joins_in (view_names names.now) (view_others others.now.items) (view_place amongs.now.items place.old)) }
     ensures behind { OnOk result (view_place amongs.now.items place.new ≡ spec.past_others (view_others others.now.items) (view_place amongs.now.items place.old)) }
@@ -435,10 +432,10 @@ fn among_of(
     names: &Names,
     amongs: &Vec<Found>,
     among: &Among,
-    place: &mut Place,
+    place: &mut Position,
 ) -> Result<Node, AllocError>
-    ensures made { IfOk result (λ n. view_node (strings_at amongs.now.items) n ≡ spec.numbered (view_names names.now) (trees.chosen (view_among among.now).0 (view_among among.now).1) (view_place amongs.now.items place.old)) }
-    ensures behind { OnOk result (view_place amongs.now.items place.new ≡ spec.past (trees.chosen (view_among among.now).0 (view_among among.now).1) (view_place amongs.now.items place.old)) }
+    ensures made { IfOk result (λ n. view_node (strings_at amongs.now.items) n ≡ spec.numbered (view_names names.now) (trees.among_ (view_among among.now).0 (view_among among.now).1) (view_place amongs.now.items place.old)) }
+    ensures behind { OnOk result (view_place amongs.now.items place.new ≡ spec.past (trees.among_ (view_among among.now).0 (view_among among.now).1) (view_place amongs.now.items place.old)) }
 {
     let number = next_number(amongs, *place);
     let waits = place.waits;
@@ -469,7 +466,7 @@ fn region_of(
     names: &Names,
     amongs: &Vec<Found>,
     rows: &Vec<Row>,
-    place: &mut Place,
+    place: &mut Position,
 ) -> Result<Vec<Node>, AllocError>
     ensures made { IfOk result (λ ns. map (view_node (strings_at amongs.now.items)) ns.items ≡ spec.numbered_rows (view_names names.now) (view_rows rows.now.items) (spec.region (view_rows rows.now.items) (view_place amongs.now.items place.old))) }
     ensures behind { OnOk result (view_place amongs.now.items place.new ≡ spec.past_rows (view_rows rows.now.items) (spec.closed (view_place amongs.now.items place.old))) }
@@ -486,7 +483,7 @@ fn bodies_of(
     names: &Names,
     amongs: &Vec<Found>,
     groups: &Vec<Group>,
-    place: &mut Place,
+    place: &mut Position,
 ) -> Result<Vec<Node>, AllocError>
     ensures made { IfOk result (λ ns. (bare : List trees.Entry) → map (view_node (strings_at amongs.now.items)) ns.items ≡ spec.numbered_groups (view_names names.now) (view_groups groups.now.items bare) (view_place amongs.now.items place.old)) }
     ensures behind { OnOk result ((bare : List trees.Entry) → view_place amongs.now.items place.new ≡ spec.past_groups (view_groups groups.now.items bare) (view_place amongs.now.items place.old)) }

@@ -1,17 +1,17 @@
 //! The names of a script by kind, and the number of each.
 
 ghost use Rattle.std.specs.Prelude.{◌≡◌, ◌∷◌, ◌++◌, [], List, map, length, nat_lt, OnOk, IfOk, string_bytes};
-ghost use Rattle.sbl_grammar.specs.View.{view_items, view_plain};
+ghost use Rattle.sbl_tree.specs.View.{view_items, view_plain};
 ghost use Rattle.sbl_program.specs.NumberedNames as spec;
 ghost use Rattle.sbl_program.specs.NumberedView.{view_names, view_placed};
 
-use sbl_grammar::{DeclarationKind, Item, Plain};
-use sbl_script::Mode;
+use sbl_tree::{DeclarationKind, Item, Plain};
+use sbl_tree::Mode;
 use std::alloc::{AllocError, Global};
 
 /// An item with the mode in which it stands.
 #[derive(Clone, Copy)]
-pub struct Placed<'a> {
+pub struct ItemInMode<'a> {
     /// The mode.
     pub mode: Mode,
     /// The item.
@@ -38,20 +38,20 @@ pub struct Names {
 fn place_in<'a>(
     mode: Mode,
     plains: &'a Vec<Plain>,
-    all: &mut Vec<Placed<'a>>,
+    all: &mut Vec<ItemInMode<'a>>,
 ) -> Result<(), AllocError>
     ensures { OnOk result (map view_placed all.new.items ≡ spec.placed_in mode (map view_plain plains.now.items) (map view_placed all.old.items)) }
 {
     for plain in plains {
-        all.push(Placed { mode, plain })?;
+        all.push(ItemInMode { mode, plain })?;
     }
     Ok(())
 }
 
-fn place_forward<'a>(plain: &'a Plain, all: &mut Vec<Placed<'a>>) -> Result<(), AllocError>
+fn place_forward<'a>(plain: &'a Plain, all: &mut Vec<ItemInMode<'a>>) -> Result<(), AllocError>
     ensures { OnOk result (map view_placed all.new.items ≡ spec.placed_in Mode.Forward (view_plain plain.now ∷ []) (map view_placed all.old.items)) }
 {
-    all.push(Placed {
+    all.push(ItemInMode {
         mode: Mode::Forward,
         plain,
     })?;
@@ -59,7 +59,7 @@ fn place_forward<'a>(plain: &'a Plain, all: &mut Vec<Placed<'a>>) -> Result<(), 
 }
 
 /// The items in text order, those of a `backwardmode` in its place.
-pub fn place_all<'a>(alloc: Global, items: &'a [Item]) -> Result<Vec<Placed<'a>>, AllocError>
+pub fn place_all<'a>(alloc: Global, items: &'a [Item]) -> Result<Vec<ItemInMode<'a>>, AllocError>
     ensures { IfOk result (λ all. map view_placed all.items ≡ spec.placed (view_items items.now) []) }
 {
     let mut all = Vec::new(alloc);
@@ -128,7 +128,7 @@ fn name_item(alloc: Global, plain: &Plain, names: &mut Names) -> Result<(), Allo
 }
 
 /// The names of a script.
-pub fn names_of(alloc: Global, items: &[Placed]) -> Result<Names, AllocError>
+pub fn names_of(alloc: Global, items: &[ItemInMode]) -> Result<Names, AllocError>
     ensures { IfOk result (λ names. view_names names ≡ spec.names_behind (map view_placed items.now) spec.no_names) }
 {
     let mut names = Names {

@@ -3,10 +3,10 @@
 ghost use Rattle.std.specs.Prelude.{◌≡◌, ℕ, slice_get};
 ghost use Rattle.std.specs.Option.{option_map};
 ghost use Rattle.sbl_program.specs.Listed.{Listed};
-ghost use Rattle.sbl_program.specs.PlanOf.{plan_of, view_routine};
+ghost use Rattle.sbl_program.specs.ProgramOf.{program_of, view_routine};
 
 use crate::action::{Action, Arithmetic};
-use sbl_grammar::Joiner;
+use sbl_tree::Joiner;
 
 /// A command of a routine's body.
 #[cycle(node)]
@@ -56,7 +56,7 @@ pub enum Node {
         /// The number of its table.
         table: usize,
         /// What stands beside each string.
-        entries: Vec<Entry>,
+        entries: Vec<Candidate>,
     },
     /// `among ( .. )`
     Among {
@@ -82,7 +82,7 @@ pub struct Joined {
 
 /// What stands beside a string of an among.
 #[derive(Clone, Copy, Debug, PartialEq, Eq)]
-pub struct Entry {
+pub struct Candidate {
     /// The routine that has to signal t.
     pub condition: Option<usize>,
     /// The group, by its number; the number of groups where it has no command.
@@ -120,7 +120,7 @@ pub struct Program {
 impl Program {
     /// The routine of a number.
     pub fn routine(&self, number: usize) -> Option<&Routine>
-        ensures { (tables : ℕ → Listed) → slice_get (plan_of tables self.now).routines number ≡ option_map (λ r. view_routine tables r.now) result }
+        ensures { (tables : ℕ → Listed) → slice_get (program_of tables self.now).routines number ≡ option_map (λ r. view_routine tables r.now) result }
     {
         self.routines.get(number)
     }

@@ -1,17 +1,15 @@
 //! Strings and arithmetic expressions, with numbers for names.
 
 ghost use Rattle.std.specs.Prelude.{◌≡◌, List, map, IfOk, string_bytes};
-ghost use Rattle.sbl_grammar.specs.View.{view_argument, view_expression, view_product, view_factor, view_sums, view_scales};
+ghost use Rattle.sbl_tree.specs.View.{view_argument, view_expression, view_product, view_factor, view_sums, view_scales};
 ghost use Rattle.sbl_program.specs.NumberedNumbers as spec;
 ghost use Rattle.sbl_program.specs.NumberedView.{view_names};
 ghost use Rattle.sbl_program.specs.Grouped.{added_all, scaled_all};
-ghost use Rattle.sbl_program.specs.PlanOf.{view_added, view_number, view_scaled, view_text};
+ghost use Rattle.sbl_program.specs.ProgramOf.{view_added, view_number, view_scaled, view_text};
 
 use crate::action::{self, Arithmetic, StringTerm};
 use crate::names::{Names, number_of};
-use sbl_grammar::{
-    Added, Additive, Argument, Constant, Expression, Factor, Multiplicative, Product, Scaled,
-};
+use sbl_tree::{Added, Additive, Argument, Constant, Expression, Factor, Multiplicative, Product, Scaled};
 use std::alloc::{AllocError, Global};
 
 /// A string.

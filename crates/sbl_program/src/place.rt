@@ -1,17 +1,17 @@
 //! Where a command stands among the amongs of a script.
 
 ghost use Rattle.std.specs.Prelude.{◌≡◌, List, length};
-ghost use Rattle.sbl_grammar.specs.View.{view_command, view_rows, view_row, view_others, view_among, view_groups};
-ghost use Rattle.sbl_grammar.specs.Tree as trees;
+ghost use Rattle.sbl_tree.specs.View.{view_command, view_rows, view_row, view_others, view_among, view_groups};
+ghost use Rattle.sbl_tree.specs.Tree as trees;
 ghost use Rattle.sbl_program.specs.Numbered as spec;
 ghost use Rattle.sbl_program.specs.NumberedView.{view_place};
 
 use crate::amongs::Found;
-use sbl_grammar::{Among, Command, Group, Joined, Row, Simple};
+use sbl_tree::{Among, Command, Group, Joined, Row, Simple};
 
 /// Where a command stands.
 #[derive(Clone, Copy)]
-pub struct Place {
+pub struct Position {
     /// The number of the next among in the script.
     pub next: usize,
     /// How many of those that are to come stand behind its region.
@@ -21,17 +21,17 @@ pub struct Place {
 }
 
 /// How many amongs are still to come.
-pub fn left_of(amongs: &Vec<Found>, place: Place) -> usize
+pub fn left_of(amongs: &Vec<Found>, place: Position) -> usize
     ensures { result ≡ length (view_place amongs.now.items place).coming }
 {
     amongs.len().saturating_sub(place.next)
 }
 
 /// Inside the next among, behind its word.
-pub fn inside(amongs: &Vec<Found>, place: Place) -> Place
+pub fn inside(amongs: &Vec<Found>, place: Position) -> Position
     ensures { view_place amongs.now.items result ≡ spec.inside (view_place amongs.now.items place) }
 {
-    Place {
+    Position {
         next: if place.next < amongs.len() {
             place.next + 1
         } else {
@@ -43,31 +43,31 @@ pub fn inside(amongs: &Vec<Found>, place: Place) -> Place
 }
 
 /// Where nothing waits.
-pub fn closed(_amongs: &Vec<Found>, place: Place) -> Place
+pub fn closed(_amongs: &Vec<Found>, place: Position) -> Position
     ensures { view_place _amongs.now.items result ≡ spec.closed (view_place _amongs.now.items place) }
 {
-    Place {
+    Position {
         waits: false,
         ..place
     }
 }
 
 /// At the beginning of a region, behind which a place is.
-pub fn begun(amongs: &Vec<Found>, place: Place, behind: Place) -> Place
+pub fn begun(amongs: &Vec<Found>, place: Position, behind: Position) -> Position
     ensures { view_place amongs.now.items result ≡ spec.begun (view_place amongs.now.items place) (view_place amongs.now.items behind) }
 {
-    Place {
+    Position {
         next: place.next,
         behind: left_of(amongs, behind),
         waits: false,
     }
 }
 
-fn past_simple(_amongs: &Vec<Found>, word: Simple, place: Place) -> Place
+fn past_simple(_amongs: &Vec<Found>, word: Simple, place: Position) -> Position
     ensures { view_place _amongs.now.items result ≡ spec.past_simple word (view_place _amongs.now.items place) }
 {
     match word {
-        Simple::Substring => Place {
+        Simple::Substring => Position {
             waits: true,
             ..place
         },
@@ -84,7 +84,7 @@ fn past_simple(_amongs: &Vec<Found>, word: Simple, place: Place) -> Place
 
 /// The place behind a command.
 #[cycle(passing)]
-fn past(amongs: &Vec<Found>, command: &Command, place: Place) -> Place
+fn past(amongs: &Vec<Found>, command: &Command, place: Position) -> Position
     ensures { view_place amongs.now.items result ≡ spec.past (view_command command.now) (view_place amongs.now.items place) }
 {
     match command {
@@ -105,7 +105,7 @@ fn past(amongs: &Vec<Found>, command: &Command, place: Place) -> Place
         }
         | Command::Move(_, _)
         | Command::Named(_, _)
-        | Command::Edit(_, _)
+        | Command::Splice(_, _)
         | Command::Assign(_, _, _)
         | Command::Compare(_, _, _)
         | Command::CompareValues(_, _, _) => place,
@@ -114,7 +114,7 @@ fn past(amongs: &Vec<Found>, command: &Command, place: Place) -> Place
 
 /// The place behind the rows of a bracket.
 #[cycle(passing)]
-pub fn past_rows(amongs: &Vec<Found>, rows: &Vec<Row>, place: Place) -> Place
+pub fn past_rows(amongs: &Vec<Found>, rows: &Vec<Row>, place: Position) -> Position
     ensures { view_place amongs.now.items result ≡ spec.past_rows (view_rows rows.now.items) (view_place amongs.now.items place) }
 {
     let mut behind = place;
@@ -126,7 +126,7 @@ pub fn past_rows(amongs: &Vec<Found>, rows: &Vec<Row>, place: Place) -> Place
 
 /// The place behind a row.
 #[cycle(passing)]
-pub fn past_row(amongs: &Vec<Found>, row: &Row, place: Place) -> Place
+pub fn past_row(amongs: &Vec<Found>, row: &Row, place: Position) -> Position
     ensures { view_place amongs.now.items result ≡ spec.past_others (view_row row.now).1 (spec.past (view_row row.now).0 (view_place amongs.now.items place)) }
 {
     let first = past(amongs, &row.first, place);
@@ -134,7 +134,7 @@ pub fn past_row(amongs: &Vec<Found>, row: &Row, place: Place) -> Place
 }
 
 #[cycle(passing)]
-fn past_others(amongs: &Vec<Found>, others: &Vec<Joined>, place: Place) -> Place
+fn past_others(amongs: &Vec<Found>, others: &Vec<Joined>, place: Position) -> Position
     ensures { view_place amongs.now.items result ≡ spec.past_others (view_others others.now.items) (view_place amongs.now.items place) }
 {
     let mut behind = place;
@@ -145,8 +145,8 @@ fn past_others(amongs: &Vec<Found>, others: &Vec<Joined>, place: Place) -> Place
 }
 
 #[cycle(passing)]
-fn past_among(amongs: &Vec<Found>, among: &Among, place: Place) -> Place
-    ensures { view_place amongs.now.items result ≡ spec.past (trees.chosen (view_among among.now).0 (view_among among.now).1) (view_place amongs.now.items place) }
+fn past_among(amongs: &Vec<Found>, among: &Among, place: Position) -> Position
+    ensures { view_place amongs.now.items result ≡ spec.past (trees.among_ (view_among among.now).0 (view_among among.now).1) (view_place amongs.now.items place) }
 {
     let mut behind = inside(amongs, place);
     if let Some(rows) = &among.starter {
@@ -156,7 +156,7 @@ fn past_among(amongs: &Vec<Found>, among: &Among, place: Place) -> Place
 }
 
 #[cycle(passing)]
-fn past_groups(amongs: &Vec<Found>, groups: &Vec<Group>, place: Place) -> Place
+fn past_groups(amongs: &Vec<Found>, groups: &Vec<Group>, place: Position) -> Position
     ensures { (bare : List trees.Entry) → view_place amongs.now.items result ≡ spec.past_groups (view_groups groups.now.items bare) (view_place amongs.now.items place) }
 {
     let mut behind = place;

@@ -1,19 +1,19 @@
 //! The program of a script.
 
 ghost use Rattle.std.specs.Prelude.{◌≡◌, [], false, map, length, OnOk, IfOk};
-ghost use Rattle.sbl_grammar.specs.View.{view_items, view_plain, view_row};
+ghost use Rattle.sbl_tree.specs.View.{view_items, view_plain, view_row};
 ghost use Rattle.sbl_program.specs.Numbered as spec;
 ghost use Rattle.sbl_program.specs.NumberedView.{strings_at, view_found, view_names, view_place, view_placed};
-ghost use Rattle.sbl_program.specs.PlanOf.{plan_of, view_routine};
+ghost use Rattle.sbl_program.specs.ProgramOf.{program_of, view_routine};
 ghost use Rattle.sbl_script.specs.Parsed.{source_of};
 
 use crate::amongs::{Found, amongs_of};
 use crate::commands::row_of;
-use crate::names::{Names, Placed, names_of, number_of, place_all};
+use crate::names::{Names, ItemInMode, names_of, number_of, place_all};
 use crate::node::{Program, Routine};
-use crate::place::{Place, begun, closed, left_of, past_row};
+use crate::place::{Position, begun, closed, left_of, past_row};
 use crate::sets::sets_of;
-use sbl_grammar::{Plain, Row};
+use sbl_tree::{Plain, Row};
 use sbl_script::Script;
 use std::alloc::{AllocError, Global};
 
@@ -22,7 +22,7 @@ fn routine_of(
     names: &Names,
     amongs: &Vec<Found>,
     body: &Row,
-    place: &mut Place,
+    place: &mut Position,
 ) -> Result<Routine, AllocError>
     ensures made { IfOk result (λ r. view_routine (strings_at amongs.now.items) r ≡ spec.routine_of (view_names names.now) (view_row body.now).0 (view_row body.now).1 (view_place amongs.now.items place.old)) }
     ensures behind { OnOk result (view_place amongs.now.items place.new ≡ spec.past_body (view_row body.now).0 (view_row body.now).1 (view_place amongs.now.items place.old)) }
@@ -42,7 +42,7 @@ fn add_routine(
     names: &Names,
     amongs: &Vec<Found>,
     plain: &Plain,
-    place: &mut Place,
+    place: &mut Position,
     routines: &mut Vec<Routine>,
 ) -> Result<(), AllocError>
     ensures made { OnOk result (map (view_routine (strings_at amongs.now.items)) routines.new.items ≡ spec.with_routine (view_names names.now) (view_plain plain.now) (view_place amongs.now.items place.old) (map (view_routine (strings_at amongs.now.items)) routines.old.items)) }
@@ -58,12 +58,12 @@ fn add_routine(
 fn routines_of(
     alloc: Global,
     names: &Names,
-    items: &[Placed],
+    items: &[ItemInMode],
     amongs: &Vec<Found>,
 ) -> Result<Vec<Routine>, AllocError>
     ensures { IfOk result (λ v. map (view_routine (strings_at amongs.now.items)) v.items ≡ spec.routines_behind (view_names names.now) (map view_placed items.now) (view_place amongs.now.items (record { next = 0; behind = 0; waits = false })) []) }
 {
-    let mut place = Place {
+    let mut place = Position {
         next: 0,
         behind: 0,
         waits: false,
@@ -78,11 +78,11 @@ fn routines_of(
 fn program_by(
     alloc: Global,
     names: &Names,
-    items: &[Placed],
+    items: &[ItemInMode],
     amongs: &Vec<Found>,
     external: &str,
 ) -> Result<Program, AllocError>
-    ensures { IfOk result (λ p. plan_of (strings_at amongs.now.items) p ≡ spec.plan_by (view_names names.now) (map view_placed items.now) (map view_found amongs.now.items) external.now) }
+    ensures { IfOk result (λ p. program_of (strings_at amongs.now.items) p ≡ spec.program_by (view_names names.now) (map view_placed items.now) (map view_found amongs.now.items) external.now) }
 {
     let groupings = sets_of(alloc, names, items)?;
     let routines = routines_of(alloc, names, items, amongs)?;
@@ -107,7 +107,7 @@ pub struct Made {
 
 /// The program of a script. AllocError where a growth was refused.
 pub fn numbered(alloc: Global, script: &Script) -> Result<Made, AllocError>
-    ensures { IfOk result (λ n. plan_of (strings_at n.amongs.items) n.program ≡ spec.numbered_script (source_of script.now)) }
+    ensures { IfOk result (λ n. program_of (strings_at n.amongs.items) n.program ≡ spec.numbered_script (source_of script.now)) }
 {
     let items = place_all(alloc, script.items())?;
     let names = names_of(alloc, &items)?;

@@ -4,22 +4,22 @@ use Rattle.std.specs.Str.{IsUtf8, chars}
 use Rattle.sbl_text.specs.declared.fault.ScriptFault.{ScriptFault}
 use Rattle.sbl_text.specs.declared.fault.ScriptFault.TheVariants as fault
 use Rattle.sbl_text.specs.Escapes.{InForce}
-use Rattle.sbl_text.specs.States.{State, start_under}
+use Rattle.sbl_text.specs.Directives.{Directives, start_under}
 use Rattle.sbl_text.specs.Tokens.{Placed, ArePlacedFrom, IsFirstFaultFrom}
 use Rattle.sbl_grammar.specs.Amongs.{Held, amongs_of_body, nth_held}
-use Rattle.sbl_grammar.specs.Tree.{Item}
+use Rattle.sbl_tree.specs.Tree.{Item}
 use Rattle.sbl_grammar.specs.Texts.{TreeOf}
-use Rattle.sbl_grammar.specs.View.{RowView}
+use Rattle.sbl_tree.specs.View.{RowView}
 use Rattle.sbl_grammar.specs.Reading.{IsReadAs}
 use Rattle.sbl_script.specs.declared.edit_fault.EditFault.{EditFault}
 use Rattle.sbl_script.specs.declared.edit_fault.EditFault.TheVariants as edits
 use Rattle.sbl_script.specs.Parsed.{Source}
 use Rattle.sbl_script.specs.Checks.{WellDeclared, fault_of}
-use Rattle.sbl_script.specs.Reading.{HasTokens, IsTextFault, IsUnread, first_left_out, max_length, terminals}
+use Rattle.sbl_script.specs.Reading.{HasTokens, IsTextFault, IsUnread, first_left_out, max_script, terminals}
 use Rattle.sbl_script.specs.Refusals.{Refuses}
 use Rattle.sbl_script.specs.Edits.{ScriptEdit, body, among, Home, IsEditFault, IsFaultAt, IsSubstituted, home, home_in, home_of_among, home_of_body, home_of_held, items_with, routine_name, routine_of, state_before}
 
-pub tokens_there : (e f : InForce) (text bytes : List ℕ) (ts : List Placed) → e ≡ f → text ≡ bytes → length bytes ≤ max_length → IsUtf8 bytes → ArePlacedFrom (start_under e) (chars text) ts → HasTokens (start_under f) bytes ts
+pub tokens_there : (e f : InForce) (text bytes : List ℕ) (ts : List Placed) → e ≡ f → text ≡ bytes → length bytes ≤ max_script → IsUtf8 bytes → ArePlacedFrom (start_under e) (chars text) ts → HasTokens (start_under f) bytes ts
 tokens_there e f text bytes ts same is short utf8 cut = record {
   short = short;
   text = utf8;
@@ -90,19 +90,19 @@ pub if_err : {X : Type 0} (r : Result X ScriptFault) (P Q : ScriptFault → Type
 if_err (Ok x) P Q f h = h
 if_err (Err e) P Q f h = f e h
 
-pub text_moved : (s : State) (a b : List ℕ) (f : ScriptFault) → a ≡ b → IsTextFault s a f → IsTextFault s b f
+pub text_moved : (s : Directives) (a b : List ℕ) (f : ScriptFault) → a ≡ b → IsTextFault s a f → IsTextFault s b f
 text_moved s a b f e h = subst (λ (x : List ℕ). IsTextFault s x f) e h
 
-pub has_tokens : {X : Type 0} (r : Result X ScriptFault) (placed : X → List Placed) (e f : InForce) (text bytes own : List ℕ) → e ≡ f → text ≡ bytes → bytes ≡ own → length bytes ≤ max_length → IsUtf8 bytes
+pub has_tokens : {X : Type 0} (r : Result X ScriptFault) (placed : X → List Placed) (e f : InForce) (text bytes own : List ℕ) → e ≡ f → text ≡ bytes → bytes ≡ own → length bytes ≤ max_script → IsUtf8 bytes
     → IfOk r (λ x. ArePlacedFrom (start_under e) (chars text) (placed x)) → IfOk r (λ x. HasTokens (start_under f) own (placed x))
 has_tokens r placed e f text bytes own same is there short utf8 h =
     if_ok r (λ x. ArePlacedFrom (start_under e) (chars text) (placed x)) (λ x. HasTokens (start_under f) own (placed x))
-    (λ x cut. tokens_there e f text own (placed x) same (is ∙ there) (subst (λ (b : List ℕ). length b ≤ max_length) there short) (subst IsUtf8 there utf8) cut) h
+    (λ x cut. tokens_there e f text own (placed x) same (is ∙ there) (subst (λ (b : List ℕ). length b ≤ max_script) there short) (subst IsUtf8 there utf8) cut) h
 
-pub no_tokens : {X : Type 0} (r : Result X ScriptFault) (e f : InForce) (text bytes own : List ℕ) → e ≡ f → text ≡ bytes → bytes ≡ own → length bytes ≤ max_length → IsUtf8 bytes
+pub no_tokens : {X : Type 0} (r : Result X ScriptFault) (e f : InForce) (text bytes own : List ℕ) → e ≡ f → text ≡ bytes → bytes ≡ own → length bytes ≤ max_script → IsUtf8 bytes
     → IfErr r (λ g. (g ≡ fault.OutOfMemory) ⊎ IsFirstFaultFrom (start_under e) (chars text) g) → IfErr r (λ g. (g ≡ fault.OutOfMemory) ⊎ IsTextFault (start_under f) own g)
 no_tokens r e f text bytes own same is there short utf8 h =
     if_err r (λ g. (g ≡ fault.OutOfMemory) ⊎ IsFirstFaultFrom (start_under e) (chars text) g) (λ g. (g ≡ fault.OutOfMemory) ⊎ IsTextFault (start_under f) own g) (λ g x. go g x) h where
       go : (g : ScriptFault) → (g ≡ fault.OutOfMemory) ⊎ IsFirstFaultFrom (start_under e) (chars text) g → (g ≡ fault.OutOfMemory) ⊎ IsTextFault (start_under f) own g
       go g (inl m) = inl m
-      go g (inr x) = inr (inr (inr (subst (λ (b : List ℕ). length b ≤ max_length) there short, subst IsUtf8 there utf8, subst (λ (i : InForce). IsFirstFaultFrom (start_under i) (chars own) g) same (subst (λ (b : List ℕ). IsFirstFaultFrom (start_under e) (chars b) g) (is ∙ there) x))))
+      go g (inr x) = inr (inr (inr (subst (λ (b : List ℕ). length b ≤ max_script) there short, subst IsUtf8 there utf8, subst (λ (i : InForce). IsFirstFaultFrom (start_under i) (chars own) g) same (subst (λ (b : List ℕ). IsFirstFaultFrom (start_under e) (chars b) g) (is ∙ there) x))))

@@ -1,4 +1,4 @@
-pub mod Marked
+pub mod Noted
 pub mod Keeping
 pub mod Turns
 pub mod Places

@@ -6,10 +6,10 @@ use Rattle.sbl_text.specs.declared.fault.ScriptFault.{ScriptFault}
 use Rattle.sbl_text.specs.declared.fault.ScriptFault.TheVariants as fault
 use Rattle.sbl_text.specs.Lexemes.{Lexeme}
 use Rattle.sbl_text.specs.Literals.{byte_length}
-use Rattle.sbl_text.specs.States.{State, start}
+use Rattle.sbl_text.specs.Directives.{Directives, start}
 use Rattle.sbl_text.specs.Tokens.{Piece, Placed, AreTokensFrom, ArePlacedFrom, and_more, said, put_placed, placed_from}
 use Rattle.sbl_text.specs.Laws.{PlacesAreOne, FirstFaultIsOne, TokensOrFault}
-use Rattle.sbl_grammar.specs.Tree.{Item}
+use Rattle.sbl_tree.specs.Tree.{Item}
 use Rattle.sbl_grammar.specs.Texts.{Text, TreeOf, script}
 use Rattle.sbl_grammar.specs.Reading.{IsReadAs, IsSyntaxAt, IsTooDeepAt, IsOutOfProfileAt}
 use Rattle.sbl_grammar.specs.Laws as grammar
@@ -36,12 +36,12 @@ said_so : (place : ℕ) (ps : List Piece) → map (λ (p : Placed). p.lexeme) (p
 said_so place [] = refl
 said_so place (p ∷ ps) = said_by p.lexeme place p.text (placed_from (place + byte_length p.text) ps) (said ps) (said_so (place + byte_length p.text) ps)
 
-are_tokens : (s : State) (text : List ℕ) (ts : List Placed) → ArePlacedFrom s text ts → AreTokensFrom s text (map (λ (p : Placed). p.lexeme) ts)
+are_tokens : (s : Directives) (text : List ℕ) (ts : List Placed) → ArePlacedFrom s text ts → AreTokensFrom s text (map (λ (p : Placed). p.lexeme) ts)
 are_tokens s text ts h = (h.0, h.1, h.2, h.3, ap (map (λ (p : Placed). p.lexeme)) h.4 ∙ said_so 0 h.0)
 
 -- ---- the text
 
-pub text_is_one : Known → (s : State) (bytes : List ℕ) (f g : ScriptFault) → IsTextFault s bytes f → IsTextFault s bytes g → f ≡ g
+pub text_is_one : Known → (s : Directives) (bytes : List ℕ) (f g : ScriptFault) → IsTextFault s bytes f → IsTextFault s bytes g → f ≡ g
 text_is_one k s bytes f g (inl a) (inl b) = a.1 ∙ sym b.1
 text_is_one k s bytes f g (inl a) (inr (inl b)) = absurd (omega (arith, a.0, b.0))
 text_is_one k s bytes f g (inl a) (inr (inr b)) = absurd (omega (arith, a.0, b.0))
@@ -53,12 +53,12 @@ text_is_one k s bytes f g (inr (inr a)) (inr (inl b)) = absurd (b.1 a.1)
 text_is_one k s bytes f g (inr (inr a)) (inr (inr b)) = k.first s (chars bytes) f g a.2 b.2
 
 -- a text with tokens has no fault
-pub no_text_fault : Known → (s : State) (bytes : List ℕ) (ts : List Placed) (f : ScriptFault) → HasTokens s bytes ts → IsTextFault s bytes f → ⊥
+pub no_text_fault : Known → (s : Directives) (bytes : List ℕ) (ts : List Placed) (f : ScriptFault) → HasTokens s bytes ts → IsTextFault s bytes f → ⊥
 no_text_fault k s bytes ts f h (inl a) = omega (arith, a.0, h.short)
 no_text_fault k s bytes ts f h (inr (inl a)) = a.1 h.text
 no_text_fault k s bytes ts f h (inr (inr a)) = k.either s (chars bytes) (map (λ (p : Placed). p.lexeme) ts) f (are_tokens s (chars bytes) ts h.cut) a.2
 
-pub placed_one : Known → (s : State) (bytes : List ℕ) (ts us : List Placed) → HasTokens s bytes ts → HasTokens s bytes us → ts ≡ us
+pub placed_one : Known → (s : Directives) (bytes : List ℕ) (ts us : List Placed) → HasTokens s bytes ts → HasTokens s bytes us → ts ≡ us
 placed_one k s bytes ts us h g = k.places s (chars bytes) ts us h.cut g.cut
 
 -- ---- the grammar

@@ -6,7 +6,7 @@ use Rattle.sbl_text.specs.declared.fault.ScriptFault.TheVariants as fault
 use Rattle.sbl_text.specs.declared.token.Token.{Token}
 use Rattle.sbl_text.specs.Lexemes.{lexeme_of}
 use Rattle.sbl_text.specs.Tokens.{Placed, placed_of}
-use Rattle.sbl_grammar.specs.Terminal.{Terminal, terminal_of, terminals_of, left}
+use Rattle.sbl_tree.specs.Terminal.{Terminal, terminal_of, terminals_of, left}
 use Rattle.sbl_grammar.specs.Reading.{IsSyntaxAt, IsTooDeepAt, IsOutOfProfileAt}
 use Rattle.sbl_grammar.specs.Texts.{Text}
 use Rattle.sbl_grammar.specs.Told as grammar

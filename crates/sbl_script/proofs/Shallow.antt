@@ -3,17 +3,17 @@ use Rattle.std.proofs.Common.{◌≡◌, ℕ, Bool, true, false, List, [], ◌�
 use Rattle.std.specs.Option.{option_or}
 use Rattle.std.specs.Str.{bytes_eq}
 use Rattle.sbl_grammar.specs.Amongs.{FitsAt, Held, nth_held}
-use Rattle.sbl_grammar.specs.Terminal as t
-use Rattle.sbl_grammar.specs.Tree.{Plain, declaration, escapes, macro, routine, grouping, Item, plain, backward, Starter, Groups, chosen}
-use Rattle.sbl_grammar.specs.Places.{Placed, placed, placed_plain, placed_plains, placed_items}
+use Rattle.sbl_tree.specs.Terminal as t
+use Rattle.sbl_tree.specs.Tree.{Plain, declaration, escapes, macro, routine, grouping, Item, plain, backward, Starter, Groups, among_}
+use Rattle.sbl_grammar.specs.Places.{AtDepth, placed, placed_plain, placed_plains, placed_items}
 use Rattle.sbl_grammar.specs.Reading.{AreShallow}
 use Rattle.sbl_grammar.specs.Texts.{among, body, places_in}
-use Rattle.sbl_grammar.specs.View.{RowView}
+use Rattle.sbl_tree.specs.View.{RowView}
 use Rattle.sbl_grammar.proofs.Behind.{IsBefore, by_itself, behind_it, with_behind, plain_before}
 use Rattle.sbl_script.specs.Edits.{body_if, items_with, plain_with, plains_with, routine_in, routine_of}
 
 abbrev Ps : Type 0
-Ps = List Placed
+Ps = List AtDepth
 
 plain_shallow : (n : List ℕ) (b : RowView) (x : Plain) → AreShallow (places_in body b) → AreShallow (placed_plain x []) → AreShallow (placed_plain (plain_with n b x) [])
 plain_shallow n b (declaration k ns) hb h = h
@@ -86,4 +86,4 @@ held_one : (o : Option Held) (d g : Held) → o ≡ Some d → o ≡ Some g → 
 held_one o d g e f = cc
 
 pub fits : (k : ℕ) (hs : List Held) (d : Held) (a : Starter × Groups) → nth_held k hs ≡ Some d → AreShallow (places_in (among d.0) a) → FitsAt k hs a
-fits k hs d a there h g is = subst (λ (z : Held). AreShallow (placed (chosen a.0 a.1) z.0 [])) (held_one (nth_held k hs) d g there is) h
+fits k hs d a there h g is = subst (λ (z : Held). AreShallow (placed (among_ a.0 a.1) z.0 [])) (held_one (nth_held k hs) d g there is) h

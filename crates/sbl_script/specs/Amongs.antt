@@ -2,8 +2,8 @@
 use Rattle.std.specs.Prelude.{◌≡◌, ℕ, false, List, [], ◌∷◌, ◌++◌, map}
 use Rattle.std.specs.List.{IsDistinct}
 use Rattle.std.specs.Str.{bytes_eq}
-use Rattle.sbl_grammar.specs.Tree.{Entry, entry, Tree, bracket, prefixed, counted, limited, chosen, Rows, no_rows, row, Others, no_others, joined, Starter, no_starter, starter, Groups, bare, group, Plain, routine, Item, plain, backward}
-use Rattle.sbl_script.specs.Marks.{is_empty}
+use Rattle.sbl_tree.specs.Tree.{Entry, entry, Command, bracket, prefixed, counted, setlimit_, among_, Rows, no_rows, row, Others, no_others, joined, Starter, no_starter, starter, Groups, bare, group, Plain, routine, Item, plain, backward}
+use Rattle.sbl_script.specs.Occurrences.{is_empty}
 use Rattle.sbl_script.specs.Checks.{WellDeclared}
 
 -- the characters of a string
@@ -22,12 +22,12 @@ pub record IsSound (gs : Groups) : Type 0 where
 
 -- so it is for each among of a command, those inside an among too
 abbrev mutual
-  pub EachAmong : (Groups → Type 0) → Tree → Type 0
+  pub EachAmong : (Groups → Type 0) → Command → Type 0
   EachAmong P (bracket rs) = EachAmongOfRows P rs
   EachAmong P (prefixed x c) = EachAmong P c
   EachAmong P (counted n e c) = EachAmong P c
-  EachAmong P (limited b c) = EachAmong P b × EachAmong P c
-  EachAmong P (chosen s gs) = P gs × EachAmongOfStarter P s × EachAmongOfGroups P gs
+  EachAmong P (setlimit_ b c) = EachAmong P b × EachAmong P c
+  EachAmong P (among_ s gs) = P gs × EachAmongOfStarter P s × EachAmongOfGroups P gs
   EachAmong P _ = Unit {0}
 
   pub EachAmongOfRows : (Groups → Type 0) → Rows → Type 0

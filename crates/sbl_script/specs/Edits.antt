@@ -3,16 +3,16 @@ use Rattle.std.specs.Prelude.{◌≡◌, ◌⊎◌, ℕ, Bool, true, false, List
 use Rattle.std.specs.Option.{option_or}
 use Rattle.std.specs.Str.{bytes_eq, chars}
 use Rattle.sbl_text.specs.declared.fault.ScriptFault.{ScriptFault}
-use Rattle.sbl_text.specs.declared.states.Coding.{Coding}
-use Rattle.sbl_text.specs.declared.states.Coding.TheVariants as coding
+use Rattle.sbl_text.specs.declared.directives.Coding.{Coding}
+use Rattle.sbl_text.specs.declared.directives.Coding.TheVariants as coding
 use Rattle.sbl_text.specs.Escapes.{InForce, nothing_set, with_inserts}
-use Rattle.sbl_text.specs.States.{State, start_under, coded, defined_as}
+use Rattle.sbl_text.specs.Directives.{Directives, start_under, coded, defined_as}
 use Rattle.sbl_text.specs.Tokens.{Placed}
-use Rattle.sbl_grammar.specs.declared.tree.Base.{Base}
-use Rattle.sbl_grammar.specs.declared.tree.Base.TheVariants as bases
+use Rattle.sbl_tree.specs.declared.tree.Base.{Base}
+use Rattle.sbl_tree.specs.declared.tree.Base.TheVariants as bases
 use Rattle.sbl_grammar.specs.Amongs.{Held, amongs_of_body, count_in_among, nth_held, put_in_body}
-use Rattle.sbl_grammar.specs.Tree.{Plain, escapes, macro, routine, Item, plain, backward}
-use Rattle.sbl_grammar.specs.View.{RowView}
+use Rattle.sbl_tree.specs.Tree.{Plain, escapes, macro, routine, Item, plain, backward}
+use Rattle.sbl_tree.specs.View.{RowView}
 use Rattle.sbl_grammar.specs.Texts.{Text, TreeOf}
 use Rattle.sbl_grammar.specs.Texts as texts
 use Rattle.sbl_grammar.specs.Reading.{IsReadAs}
@@ -84,7 +84,7 @@ reached n (backward xs ∷ is) e = if (reached_in n xs e).1 then reached_in n xs
 abbrev pub escapes_before : List ℕ → List Item → InForce
 escapes_before n is = (reached n is nothing_set).0
 
-abbrev pub state_before : List ℕ → List Item → State
+abbrev pub state_before : List ℕ → List Item → Directives
 state_before n is = start_under (escapes_before n is)
 
 -- ---- the script with another body; in a script that is well declared one routine has the name

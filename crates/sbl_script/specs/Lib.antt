@@ -1,10 +1,10 @@
-pub mod Marks
+pub mod Occurrences
 pub mod Parsed
 pub mod Checks
 pub mod Laws
 pub mod Reading
 pub mod Edits
-pub mod MarkView
+pub mod OccurrenceView
 pub mod Met
 pub mod Amongs
 pub mod OneReading

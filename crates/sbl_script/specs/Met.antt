@@ -1,4 +1,4 @@
--- What the code has met among some marks.
+-- What the code has met among some occurrences.
 use Rattle.std.specs.Prelude.{◌≡◌, ℕ, Bool, false, List, Option, Some, None, Result, Ok, Err, ◌⊎◌, ◌||◌}
 use Rattle.std.specs.Ordering.{nat_cmp, ordering_then}
 use Rattle.std.specs.Cmp.Lexicographic.{slice_cmp}
@@ -8,9 +8,9 @@ use Rattle.std.specs.BTreeSet.{BTreeSet, contains_by}
 use denote.Ref.{Bor}
 use Rattle.sbl_text.specs.declared.fault.ScriptFault.{ScriptFault}
 use Rattle.sbl_text.specs.declared.fault.ScriptFault.TheVariants as fault
-use Rattle.sbl_script.specs.declared.marks.Place.{Place}
+use Rattle.sbl_script.specs.declared.occurrences.Site.{Site}
 use Rattle.sbl_script.specs.declared.checks.Met.{Met}
-use Rattle.sbl_script.specs.Marks.{Mark, Notice}
+use Rattle.sbl_script.specs.Occurrences.{Occurrence, Notice}
 use Rattle.sbl_script.specs.Checks.{kind_of, definition_of, has_text, is_awaited, declared_as, is_text_of, waits_after}
 
 -- what a map with names has at a name
@@ -22,11 +22,11 @@ abbrev pub has_pair : BTreeSet (ℕ × Bor (List ℕ)) → ℕ → List ℕ → 
 has_pair s owner text = contains_by (λ k. ordering_then (nat_cmp owner k.0) (slice_cmp nat_cmp text k.1.now)) s
 
 -- where each name is defined first
-abbrev pub HasPlaces : BTreeMap (Bor (List ℕ)) Place → List Mark → Type 0
+abbrev pub HasPlaces : BTreeMap (Bor (List ℕ)) Site → List Occurrence → Type 0
 HasPlaces m ms = (n : List ℕ) → at_name m n ≡ definition_of n ms
 
 -- the kinds of the names, the strings of the amongs, and whether a substring waits
-pub record HasMet (met : Met) (ms : List Mark) : Type 0 where
+pub record HasMet (met : Met) (ms : List Occurrence) : Type 0 where
   pub kinds : (n : List ℕ) → at_name met.kinds n ≡ kind_of n ms
   pub strings : (owner : ℕ) (text : List ℕ) → has_pair met.strings owner text ≡ has_text owner text ms
   pub waits : met.waits ≡ is_awaited ms false

@@ -1,9 +1,9 @@
 -- A script as it is kept: its items, and the name of the external that is run.
 use Rattle.std.specs.Prelude.{ℕ, List, [], ◌∷◌, Option, Some, None, if◌then◌else◌}
 use Rattle.std.specs.Str.{bytes_eq}
-use Rattle.sbl_grammar.specs.declared.tree.Item as declared
-use Rattle.sbl_grammar.specs.Tree.{Item, plain, routine}
-use Rattle.sbl_grammar.specs.View.{RowView, view_items}
+use Rattle.sbl_tree.specs.declared.tree.Item as declared
+use Rattle.sbl_tree.specs.Tree.{Item, plain, routine}
+use Rattle.sbl_tree.specs.View.{RowView, view_items}
 
 pub record Parsed : Type 0 where
   pub items : List declared.Item

@@ -8,22 +8,22 @@ use Rattle.sbl_text.specs.declared.signs.Sign.TheVariants as signs
 use Rattle.sbl_text.specs.declared.words.Word.{Word}
 use Rattle.sbl_text.specs.declared.words.Word.TheVariants as words
 use Rattle.sbl_text.specs.Lexemes.{Lexeme, word, sign}
-use Rattle.sbl_text.specs.States.{State, start}
+use Rattle.sbl_text.specs.Directives.{Directives, start}
 use Rattle.sbl_text.specs.Tokens.{Placed, ArePlacedFrom, IsFirstFaultFrom}
-use Rattle.sbl_grammar.specs.Terminal.{Terminal, terminal_of}
-use Rattle.sbl_grammar.specs.Tree.{Item}
+use Rattle.sbl_tree.specs.Terminal.{Terminal, terminal_of}
+use Rattle.sbl_tree.specs.Tree.{Item}
 use Rattle.sbl_grammar.specs.Texts.{Text, script}
 use Rattle.sbl_grammar.specs.Reading.{IsReadAs, IsSyntaxAt, IsTooDeepAt, IsOutOfProfileAt}
 use Rattle.sbl_script.specs.Parsed.{Source}
 use Rattle.sbl_script.specs.Checks.{WellDeclared, fault_of}
 
 -- the most bytes of a script
-abbrev pub max_length : ℕ
-max_length = 1048576
+abbrev pub max_script : ℕ
+max_script = 1048576
 
 -- the bytes are a text, not too long, with these tokens where it begins in this state
-pub record HasTokens (s : State) (bytes : List ℕ) (ts : List Placed) : Type 0 where
-  pub short : length bytes ≤ max_length
+pub record HasTokens (s : Directives) (bytes : List ℕ) (ts : List Placed) : Type 0 where
+  pub short : length bytes ≤ max_script
   pub text : IsUtf8 bytes
   pub cut : ArePlacedFrom s (chars bytes) ts
 
@@ -69,11 +69,11 @@ pub record IsScriptOf (bytes external : List ℕ) (s : Source) : Type 0 where
 -- ---- faults, in the order in which they are looked for
 
 -- the bytes are too long, are no text, or have no tokens
-abbrev pub IsTextFault : State → List ℕ → ScriptFault → Type 0
+abbrev pub IsTextFault : Directives → List ℕ → ScriptFault → Type 0
 IsTextFault s bytes f =
-    ((max_length < length bytes) × (f ≡ fault.ScriptTooLong))
-    ⊎ ((length bytes ≤ max_length) × ¬ (IsUtf8 bytes) × (f ≡ fault.NotUtf8))
-    ⊎ ((length bytes ≤ max_length) × IsUtf8 bytes × IsFirstFaultFrom s (chars bytes) f)
+    ((max_script < length bytes) × (f ≡ fault.ScriptTooLong))
+    ⊎ ((length bytes ≤ max_script) × ¬ (IsUtf8 bytes) × (f ≡ fault.NotUtf8))
+    ⊎ ((length bytes ≤ max_script) × IsUtf8 bytes × IsFirstFaultFrom s (chars bytes) f)
 
 -- where the first of some tokens stands; the text's length where there is none
 abbrev pub place_of : ℕ → List Placed → ℕ

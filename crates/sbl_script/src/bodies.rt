@@ -1,10 +1,10 @@
 //! The bodies of routines.
 
 ghost use Rattle.std.specs.Prelude.{◌≡◌, MatchOption, None, Some};
-ghost use Rattle.sbl_grammar.specs.View.{view_row, view_items};
+ghost use Rattle.sbl_tree.specs.View.{view_row, view_items};
 ghost use Rattle.sbl_script.specs.Parsed as spec;
 
-use sbl_grammar::{Item, Plain, Row};
+use sbl_tree::{Item, Plain, Row};
 
 /// The body of the first routine of this name that is defined in forward mode.
 pub fn body_in<'a>(items: &'a [Item], name: &str) -> Option<&'a Row>

@@ -2,17 +2,17 @@
 
 ghost use Rattle.std.specs.Prelude.{◌≡◌, ℕ, ◌∷◌, [], ◌++◌, List, not, is_some, ◌||◌, ◌+◌, ◌<◌, length, drop, nat_eq, ◌&&◌, IfOk, OnOk, if◌then◌else◌, Some, None, ◌==◌};
 ghost use Rattle.sbl_script.specs.Checks as spec;
-ghost use Rattle.sbl_script.specs.Marks.{Mark as PlainMark, marks_of as spec_marks};
-ghost use Rattle.sbl_script.specs.MarkView.{view_notice, view_mark, view_marks};
+ghost use Rattle.sbl_script.specs.Occurrences.{Occurrence as PlainOccurrence, occurrences_of as spec_occurrences};
+ghost use Rattle.sbl_script.specs.OccurrenceView.{view_notice, view_occurrence, view_occurrences};
 ghost use Rattle.sbl_script.specs.Met.{at_name, has_pair, HasPlaces, HasMet, Notes, Finds};
 ghost use Rattle.std.specs.Option.{option_or};
-ghost use Rattle.sbl_grammar.specs.View.{view_items};
+ghost use Rattle.sbl_tree.specs.View.{view_items};
 ghost use Rattle.std.specs.Str.{bytes_eq};
 
 use crate::bodies::body_in;
-use crate::marking::marks_of;
-use crate::marks::{Mark, Mode, Notice, Place, Use};
-use sbl_grammar::{DeclarationKind, Item, Row};
+use crate::noting::occurrences_of;
+use crate::occurrences::{Occurrence, Notice, Site, Use};
+use sbl_tree::{Mode, DeclarationKind, Item, Row};
 use sbl_text::ScriptFault;
 use std::alloc::{AllocError, Global};
 use std::collections::{BTreeMap, BTreeSet};
@@ -53,27 +53,27 @@ fn is_mode(wanted: Mode, mode: Mode) -> bool
 }
 
 /// Whether there is a definition, in an item before this.
-fn is_earlier(item: usize, definition: Option<Place>) -> bool
+fn is_earlier(item: usize, definition: Option<Site>) -> bool
     ensures { result ≡ spec.is_earlier item definition }
 {
     match definition {
         None => false,
-        Some(place) => place.item < item,
+        Some(site) => site.item < item,
     }
 }
 
 /// Whether there is a definition, in the other mode.
-fn is_in_other(mode: Mode, definition: Option<Place>) -> bool
+fn is_in_other(mode: Mode, definition: Option<Site>) -> bool
     ensures { result ≡ spec.is_in_other mode definition }
 {
     match definition {
         None => false,
-        Some(place) => !is_mode(mode, place.mode),
+        Some(site) => !is_mode(mode, site.mode),
     }
 }
 
 /// Whether a use lacks its definition.
-fn lacks_definition(how: Use, item: usize, kind: DeclarationKind, definition: Option<Place>) -> bool
+fn lacks_definition(how: Use, item: usize, kind: DeclarationKind, definition: Option<Site>) -> bool
     ensures { result ≡ spec.lacks_definition how item (Some kind) definition }
 {
     match how {
@@ -98,7 +98,7 @@ fn fault_of_definition(
     item: usize,
     wants_grouping: bool,
     kind: Option<DeclarationKind>,
-    definition: Option<Place>,
+    definition: Option<Site>,
 ) -> Option<ScriptFault>
     ensures { result ≡ spec.fault_of_definition item wants_grouping kind definition }
 {
@@ -116,14 +116,14 @@ fn fault_of_definition(
 
 /// The fault of a name that is used, with what is known of the name.
 fn fault_of_use(
-    place: Place,
+    site: Site,
     how: Use,
     kind: Option<DeclarationKind>,
-    definition: Option<Place>,
+    definition: Option<Site>,
 ) -> Option<ScriptFault>
-    ensures { result ≡ spec.fault_of_use place how kind definition }
+    ensures { result ≡ spec.fault_of_use site how kind definition }
 {
-    let item = place.item;
+    let item = site.item;
     let Some(kind) = kind else {
         return Some(ScriptFault::Undeclared { item });
     };
@@ -133,7 +133,7 @@ fn fault_of_use(
     if lacks_definition(how, item, kind, definition) {
         return Some(ScriptFault::Undefined { item });
     }
-    if is_routine(kind) && is_in_other(place.mode, definition) {
+    if is_routine(kind) && is_in_other(site.mode, definition) {
         return Some(ScriptFault::WrongMode { item });
     }
     None
@@ -157,15 +157,15 @@ fn fault_of_among(item: usize, is_started_twice: bool, is_empty: bool) -> Option
 }
 
 /// Whether the first among, substring or end of a region is an among of this mode.
-fn is_followed(mode: Mode, marks: &[Mark]) -> bool
-    ensures { result ≡ spec.is_followed mode (view_marks marks.now) }
+fn is_followed(mode: Mode, occurrences: &[Occurrence]) -> bool
+    ensures { result ≡ spec.is_followed mode (view_occurrences occurrences.now) }
 {
-    for mark in marks {
-        match mark.notice {
+    for occurrence in occurrences {
+        match occurrence.notice {
             Notice::Among {
                 has_starter: _,
                 is_empty: _,
-            } => return is_mode(mode, mark.place.mode),
+            } => return is_mode(mode, occurrence.site.mode),
             Notice::Substring | Notice::RegionEnd => return false,
             _ => {}
         }
@@ -173,7 +173,7 @@ fn is_followed(mode: Mode, marks: &[Mark]) -> bool
     false
 }
 
-/// What was met among some marks.
+/// What was met among some occurrences.
 #[derive(Drop)]
 pub struct Met<'a> {
     /// What each name is declared as.
@@ -190,24 +190,24 @@ fn kind_of(met: &Met, name: &str) -> Option<DeclarationKind>
     met.kinds.get(name).copied()
 }
 
-fn definition_of(places: &BTreeMap<&str, Place>, name: &str) -> Option<Place>
-    ensures { result ≡ at_name places.now name.now }
+fn definition_of(sites: &BTreeMap<&str, Site>, name: &str) -> Option<Site>
+    ensures { result ≡ at_name sites.now name.now }
 {
-    places.get(name).copied()
+    sites.get(name).copied()
 }
 
-/// The fault of a mark, with the marks behind it, with the places of the definitions, and with what was met before.
+/// The fault of a occurrence, with the occurrences behind it, with the sites of the definitions, and with what was met before.
 fn fault_at<'a>(
-    mark: &Mark<'a>,
-    after: &[Mark<'a>],
-    places: &BTreeMap<&'a str, Place>,
+    occurrence: &Occurrence<'a>,
+    after: &[Occurrence<'a>],
+    sites: &BTreeMap<&'a str, Site>,
     met: &Met<'a>,
 ) -> Option<ScriptFault>
-    ensures { (all before : List PlainMark) → HasPlaces places.now all → HasMet met.now before → result ≡ spec.fault_at all before (view_mark mark.now) (view_marks after.now) }
+    ensures { (all before : List PlainOccurrence) → HasPlaces sites.now all → HasMet met.now before → result ≡ spec.fault_at all before (view_occurrence occurrence.now) (view_occurrences after.now) }
 {
-    let place = mark.place;
-    let item = place.item;
-    match mark.notice {
+    let site = occurrence.site;
+    let item = site.item;
+    match occurrence.notice {
         Notice::Declares(_, name) => fault_if(
             met.kinds.contains_key(name),
             ScriptFault::DeclaredTwice { item },
@@ -216,22 +216,22 @@ fn fault_at<'a>(
             item,
             false,
             kind_of(met, name),
-            definition_of(places, name),
+            definition_of(sites, name),
         ),
         Notice::DefinesGrouping(name) => fault_of_definition(
             item,
             true,
             kind_of(met, name),
-            definition_of(places, name),
+            definition_of(sites, name),
         ),
         Notice::Uses(how, name) => fault_of_use(
-            place,
+            site,
             how,
             kind_of(met, name),
-            definition_of(places, name),
+            definition_of(sites, name),
         ),
         Notice::Substring => fault_if(
-            !is_followed(place.mode, after),
+            !is_followed(site.mode, after),
             ScriptFault::Substring { item },
         ),
         Notice::Among {
@@ -243,7 +243,7 @@ fn fault_at<'a>(
             ScriptFault::RepeatedString { item },
         ),
         Notice::Backwards => fault_if(
-            is_mode(Mode::Backward, place.mode),
+            is_mode(Mode::Backward, site.mode),
             ScriptFault::NestedBackwards { item },
         ),
         Notice::RegionEnd => None,
@@ -276,11 +276,11 @@ fn keep_string<'a>(
     Ok(())
 }
 
-/// Notes what a mark says besides what was met.
-fn note<'a>(mark: &Mark<'a>, met: &mut Met<'a>) -> Result<(), AllocError>
-    ensures { OnOk result (Notes met.old met.new (view_notice mark.now.notice)) }
+/// Notes what a occurrence says besides what was met.
+fn note<'a>(occurrence: &Occurrence<'a>, met: &mut Met<'a>) -> Result<(), AllocError>
+    ensures { OnOk result (Notes met.old met.new (view_notice occurrence.now.notice)) }
 {
-    match mark.notice {
+    match occurrence.notice {
         Notice::Declares(kind, name) => keep_first(&mut met.kinds, name, kind)?,
         Notice::String(owner, text) => keep_string(&mut met.strings, owner, text)?,
         Notice::Substring => met.waits = true,
@@ -294,30 +294,30 @@ fn note<'a>(mark: &Mark<'a>, met: &mut Met<'a>) -> Result<(), AllocError>
     Ok(())
 }
 
-/// Notes where a mark defines a name.
+/// Notes where a occurrence defines a name.
 fn note_definition<'a>(
-    mark: &Mark<'a>,
-    places: &mut BTreeMap<&'a str, Place>,
+    occurrence: &Occurrence<'a>,
+    sites: &mut BTreeMap<&'a str, Site>,
 ) -> Result<(), AllocError>
-    ensures { OnOk result ((n : List ℕ) → at_name places.new n ≡ option_or (at_name places.old n) (spec.defined_at n (view_mark mark.now))) }
+    ensures { OnOk result ((n : List ℕ) → at_name sites.new n ≡ option_or (at_name sites.old n) (spec.defined_at n (view_occurrence occurrence.now))) }
 {
-    match mark.notice {
+    match occurrence.notice {
         Notice::DefinesRoutine(name) | Notice::DefinesGrouping(name) => keep_first(
-            places, name, mark.place,
+            sites, name, occurrence.site,
         ),
         _ => Ok(()),
     }
 }
 
 /// Where each name is defined first.
-fn places_of<'a>(alloc: Global, marks: &[Mark<'a>]) -> Result<BTreeMap<&'a str, Place>, AllocError>
-    ensures { IfOk result (λ places. HasPlaces places (view_marks marks.now)) }
+fn sites_of<'a>(alloc: Global, occurrences: &[Occurrence<'a>]) -> Result<BTreeMap<&'a str, Site>, AllocError>
+    ensures { IfOk result (λ sites. HasPlaces sites (view_occurrences occurrences.now)) }
 {
-    let mut places = BTreeMap::new(alloc);
-    for mark in marks {
-        note_definition(mark, &mut places)?;
+    let mut sites = BTreeMap::new(alloc);
+    for occurrence in occurrences {
+        note_definition(occurrence, &mut sites)?;
     }
-    Ok(places)
+    Ok(sites)
 }
 
 /// Nothing is met yet.
@@ -331,31 +331,31 @@ fn met_nothing<'a>(alloc: Global) -> Met<'a>
     }
 }
 
-/// The marks behind one.
-fn behind<'a, 'b>(marks: &'b [Mark<'a>], index: usize) -> &'b [Mark<'a>]
-    requires { index < length marks.now }
-    ensures { result.now ≡ drop (index + 1) marks.now }
+/// The occurrences behind one.
+fn behind<'a, 'b>(occurrences: &'b [Occurrence<'a>], index: usize) -> &'b [Occurrence<'a>]
+    requires { index < length occurrences.now }
+    ensures { result.now ≡ drop (index + 1) occurrences.now }
 {
-    &marks[index + 1..]
+    &occurrences[index + 1..]
 }
 
-/// The checks of all marks, in their order.
-fn check_marks<'a>(
-    marks: &[Mark<'a>],
-    places: &BTreeMap<&'a str, Place>,
+/// The checks of all occurrences, in their order.
+fn check_occurrences<'a>(
+    occurrences: &[Occurrence<'a>],
+    sites: &BTreeMap<&'a str, Site>,
     met: &mut Met<'a>,
 ) -> Result<(), ScriptFault>
-    requires places { HasPlaces places.now (view_marks marks.now) }
+    requires sites { HasPlaces sites.now (view_occurrences occurrences.now) }
     requires met { HasMet met.old [] }
-    ensures fault { Finds result (spec.fault_behind (view_marks marks.now) [] (view_marks marks.now)) }
-    ensures met { OnOk result (HasMet met.new (view_marks marks.now)) }
+    ensures fault { Finds result (spec.fault_behind (view_occurrences occurrences.now) [] (view_occurrences occurrences.now)) }
+    ensures met { OnOk result (HasMet met.new (view_occurrences occurrences.now)) }
 {
-    for index in 0..marks.len() {
-        let mark = &marks[index];
-        if let Some(fault) = fault_at(mark, behind(marks, index), places, met) {
+    for index in 0..occurrences.len() {
+        let occurrence = &occurrences[index];
+        if let Some(fault) = fault_at(occurrence, behind(occurrences, index), sites, met) {
             return Err(fault);
         }
-        note(mark, met)?;
+        note(occurrence, met)?;
     }
     Ok(())
 }
@@ -364,10 +364,10 @@ fn check_marks<'a>(
 pub fn check(alloc: Global, items: &[Item], external: &str) -> Result<(), ScriptFault>
     ensures { Finds result (spec.fault_of (view_items items.now) external.now) }
 {
-    let marks = marks_of(alloc, items)?;
-    let places = places_of(alloc, &marks)?;
+    let occurrences = occurrences_of(alloc, items)?;
+    let sites = sites_of(alloc, &occurrences)?;
     let mut met = met_nothing(alloc);
-    check_marks(&marks, &places, &mut met)?;
+    check_occurrences(&occurrences, &sites, &mut met)?;
     check_external(kind_of(&met, external), body_in(items, external))
 }
 

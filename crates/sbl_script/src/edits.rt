@@ -1,10 +1,10 @@
 //! A routine of a script, what is in force where it stands, and copies of items in which it has another body.
 
 ghost use Rattle.std.specs.Prelude.{◌≡◌, MatchOption, None, Some, IfOk, IfErr, map};
-ghost use Rattle.sbl_grammar.specs.View.{view_items, view_plain, view_row};
+ghost use Rattle.sbl_tree.specs.View.{view_items, view_plain, view_row};
 ghost use Rattle.sbl_script.specs.Edits as spec;
 
-use sbl_grammar::{Base, Item, Plain, Row, copy_name, copy_plain, copy_row};
+use sbl_tree::{Base, Item, Plain, Row, copy_name, copy_plain, copy_row};
 use sbl_text::{Escapes, ScriptFault, read_codes};
 use std::alloc::{AllocError, Global};
 

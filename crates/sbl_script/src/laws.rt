@@ -34,12 +34,12 @@ pub fn one_edit()
     one_fault();
 }
 
-/// In a script that is well declared no check fails at any mark, and its external is declared and defined in forward mode.
+/// In a script that is well declared no check fails at any occurrence, and its external is declared and defined in forward mode.
 pub fn well_declared_passes()
     ensures { WellDeclaredPasses }
 {}
 
-/// The fault of a script is that of the first mark at which a check fails; that of the external comes last.
+/// The fault of a script is that of the first occurrence at which a check fails; that of the external comes last.
 pub fn fault_is_first()
     ensures { FaultIsFirst }
 {}

@@ -4,13 +4,13 @@ ghost use Rattle.std.specs.Prelude.{◌≡◌, ◌⊎◌, ◌≤◌, None, Some,
 ghost use Rattle.std.specs.Str.{IsUtf8};
 ghost use Rattle.sbl_grammar.specs.Reading.{AreShallow, IsReadAs};
 ghost use Rattle.sbl_grammar.specs.Texts as texts;
-ghost use Rattle.sbl_grammar.specs.View.{view_among, view_items, view_row};
+ghost use Rattle.sbl_tree.specs.View.{view_among, view_items, view_row};
 ghost use Rattle.sbl_grammar.specs.Amongs.{count_in_among};
 ghost use Rattle.sbl_grammar.specs.Places.{places};
-ghost use Rattle.sbl_grammar.specs.Steps.{max_depth};
+ghost use Rattle.sbl_grammar.specs.Places.{max_depth};
 ghost use Rattle.sbl_script.specs.Checks.{WellDeclared, fault_of};
 ghost use Rattle.sbl_text.specs.Lexemes.{lexeme_of};
-ghost use Rattle.sbl_text.specs.States.{start, State};
+ghost use Rattle.sbl_text.specs.Directives.{start, Directives};
 ghost use Rattle.sbl_text.specs.Tokens.{placed_of};
 ghost use Rattle.sbl_script.specs.Reading as spec;
 
@@ -19,15 +19,14 @@ use crate::checks::check;
 use crate::edit_fault::EditFault;
 use crate::edits;
 use crate::edits::{escapes_before, items_with};
-use sbl_grammar::{
-    Among, Item, Row, has_as_many_amongs, nth_among, parse, parse_among, parse_body, put_in_place,
-};
+use sbl_grammar::{has_as_many_amongs, nth_among, parse, parse_among, parse_body, put_in_place};
+use sbl_tree::{Among, Item, Row};
 use sbl_text::{Kind, ScriptFault, Sign, Token, Word, tokens, tokens_under};
 use std::alloc::Global;
 use std::marker::Model;
 
 /// The most bytes of a script (our own choice).
-const MAX_LENGTH: usize = 1_048_576;
+const MAX_SCRIPT: usize = 1_048_576;
 
 fn is_left_out_word(word: Word) -> bool
     ensures { result ≡ spec.is_left_out_word word }
@@ -66,10 +65,10 @@ fn first_left_out(tokens: &[Token]) -> Option<usize>
 
 /// The text of some bytes.
 fn text_of(bytes: &[u8]) -> Result<&str, ScriptFault>
-    ensures ok { IfOk result (λ s. (s.now ≡ bytes.now) × (length bytes.now ≤ spec.max_length) × IsUtf8 bytes.now) }
-    ensures fault { IfErr result (λ f. (s : State) → spec.IsTextFault s bytes.now f) }
+    ensures ok { IfOk result (λ s. (s.now ≡ bytes.now) × (length bytes.now ≤ spec.max_script) × IsUtf8 bytes.now) }
+    ensures fault { IfErr result (λ f. (s : Directives) → spec.IsTextFault s bytes.now f) }
 {
-    if bytes.len() > MAX_LENGTH {
+    if bytes.len() > MAX_SCRIPT {
         return Err(ScriptFault::ScriptTooLong);
     }
     match std::str::from_utf8(bytes) {
@@ -131,8 +130,8 @@ pub struct Script {
 impl Model for Script {
     ghost use Rattle.std.specs.Prelude.{string_bytes};
     ghost use Rattle.std.specs.Coded.{codes};
-    ghost use Rattle.sbl_grammar.specs.contracts.tree.Item as e;
-    ghost use Rattle.sbl_grammar.specs.View.{view_items};
+    ghost use Rattle.sbl_tree.specs.contracts.tree.Item as e;
+    ghost use Rattle.sbl_tree.specs.View.{view_items};
     ghost use Rattle.sbl_script.specs.Parsed.{Parsed};
     ghost use Rattle.sbl_script.specs.Checks.{WellDeclared};
     ghost use Rattle.sbl_grammar.specs.Places.{places};

@@ -1,7 +1,7 @@
 -- The string at a place, as the mode reads it.
 use Rattle.std.proofs.Common.{◌≡◌, ℕ, ◌<◌, List, [], length, map, get_or, sym, ap, ◌∙◌, arith, rules, Vec, Global}
 use Rattle.std.proofs.lemmas.List.{get_or-map, length-map}
-use Rattle.sbl_script.specs.declared.marks.Mode.{Mode}
+use Rattle.sbl_tree.specs.declared.mode.Mode.{Mode}
 use Rattle.sbl_tables.specs.Fitting.{read_as, read_all}
 
 pub next_string : (m : Mode) (items ds : List (Vec ℕ Global)) (v : Vec ℕ Global) (i : ℕ) → ds ≡ items → i < length ds → v ≡ get_or ds i v → (i < length (read_all m (map (λ u. u.items) items))) × (get_or (read_all m (map (λ u. u.items) items)) i [] ≡ read_as m v.items)

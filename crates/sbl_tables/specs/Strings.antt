@@ -1,6 +1,6 @@
 -- The strings of a plain table.
 use Rattle.std.specs.Prelude.{ℕ, List, map}
-use Rattle.sbl_script.specs.declared.marks.Mode.{Mode}
+use Rattle.sbl_tree.specs.declared.mode.Mode.{Mode}
 use Rattle.sbl_tables.specs.Fitting.{read_all}
 use Rattle.sbl_tables.specs.declared.plain.PlainTable.{PlainTable}
 

@@ -11,7 +11,7 @@ use crate::linked::links::{best_of, links_of};
 use crate::linked::rows::rows_of;
 use crate::plain::{ahead, copied_all};
 use crate::search::AmongSearch;
-use sbl_script::Mode;
+use sbl_tree::Mode;
 use std::alloc::{AllocError, Global};
 use std::cmp::Reverse;
 

@@ -7,7 +7,7 @@ ghost use Rattle.sbl_tables.specs.Best.{BestSoFar, IsBest};
 ghost use Rattle.sbl_tables.specs.Strings.{entries_of, mode_of, strings_of};
 
 use crate::search::AmongSearch;
-use sbl_script::Mode;
+use sbl_tree::Mode;
 use std::alloc::{AllocError, Global};
 
 /// A plain list of strings.

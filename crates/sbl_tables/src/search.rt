@@ -2,9 +2,9 @@
 
 ghost use Rattle.std.specs.Prelude.{◌≡◌, ◌++◌, ◌∷◌, ◌≤◌, List, ℕ, length, map, IfOk};
 ghost use Rattle.sbl_tables.specs.Fitting.{ahead_at, first, fitting, read_all};
-ghost use Rattle.sbl_script.specs.declared.marks.Mode.{Mode as ModeOf};
+ghost use Rattle.sbl_tree.specs.declared.mode.Mode.{Mode as ModeOf};
 
-use sbl_script::Mode;
+use sbl_tree::Mode;
 use std::alloc::{AllocError, Global};
 
 /// A search of the strings of an among. Its meaning is its list of entries, which are to differ, and its mode.

@@ -13,7 +13,7 @@ use Rattle.sbl_text.specs.Pieces.{Has, IsPiece, Gap, AreGaps, AfterGaps}
 use Rattle.std.specs.List.{All}
 use Rattle.std.proofs.lemmas.List.Elements.{All-append, All-cons, All-nil}
 use Rattle.sbl_text.specs.Lexemes.{Lexeme, lexeme_of, SaysFitting}
-use Rattle.sbl_text.specs.States.{State, setting_of, after}
+use Rattle.sbl_text.specs.Directives.{Directives, setting_of, after}
 use Rattle.sbl_text.specs.Tokens.{Says, Piece, after_piece, AreCut, and_more, said, AreTokensFrom, Placed, placed_of, put_placed, placed_from, ArePlacedFrom, IsFirstFaultFrom, Stops, IsAt, Advances, Reading, IsAnswer, IsNext}
 use Rattle.sbl_text.proofs.Written.{sign_found_as}
 
@@ -27,8 +27,8 @@ map_append f (y ∷ xs) x = ap (λ t. f y ∷ t) (map_append f xs x)
 
 -- ---- lists of pieces
 
-pub cut_append : (s m t : State) (text mid rest : List ℕ) (ps qs : List Piece) → AreCut s text ps m mid → AreCut m mid qs t rest → AreCut s text (ps ++ qs) t rest
-cut_append s m t text mid rest [] qs a b = subst (λ (u : State). AreCut u text qs t rest) (sym a.1) (subst (λ (x : List ℕ). AreCut m x qs t rest) (sym a.0) b)
+pub cut_append : (s m t : Directives) (text mid rest : List ℕ) (ps qs : List Piece) → AreCut s text ps m mid → AreCut m mid qs t rest → AreCut s text (ps ++ qs) t rest
+cut_append s m t text mid rest [] qs a b = subst (λ (u : Directives). AreCut u text qs t rest) (sym a.1) (subst (λ (x : List ℕ). AreCut m x qs t rest) (sym a.0) b)
 cut_append s m t text mid rest (p ∷ ps) qs a b = (a.0, a.1, a.2, a.3, cut_append (after_piece s p.lexeme) m t a.0 mid rest ps qs a.4 b)
 
 pub said_append : (ps qs : List Piece) → said (ps ++ qs) ≡ said ps ++ said qs
@@ -47,7 +47,7 @@ total (p ∷ ps) = byte_length p.text + total ps
 pub bytes_append : (x y : List ℕ) → byte_length (x ++ y) ≡ byte_length x + byte_length y
 bytes_append x y = ap length (encodes-append x y) ∙ length-append (encode_utf8_all x) (encode_utf8_all y)
 
-pub cut_total : (s t : State) (text rest : List ℕ) (ps : List Piece) → AreCut s text ps t rest → byte_length text ≡ total ps + byte_length rest
+pub cut_total : (s t : Directives) (text rest : List ℕ) (ps : List Piece) → AreCut s text ps t rest → byte_length text ≡ total ps + byte_length rest
 cut_total s t text rest [] h = let k = ap byte_length h.0 in omega arith
 cut_total s t text rest (p ∷ ps) h =
     let k = ap byte_length h.1 ∙ bytes_append p.text h.0 in let r = cut_total (after_piece s p.lexeme) t h.0 rest ps h.4 in omega arith
@@ -68,7 +68,7 @@ pub as_pieces : List Gap → List Piece
 as_pieces [] = []
 as_pieces (g ∷ gs) = record { shape = g.shape; text = g.text; lexeme = None } ∷ as_pieces gs
 
-pub gaps_cut : (s : State) (text rest : List ℕ) (gs : List Gap) → AreGaps (setting_of s) text gs rest → AreCut s text (as_pieces gs) s rest
+pub gaps_cut : (s : Directives) (text rest : List ℕ) (gs : List Gap) → AreGaps (setting_of s) text gs rest → AreCut s text (as_pieces gs) s rest
 unfolding as_pieces
 gaps_cut s text rest [] h = (h, refl)
 gaps_cut s text rest (g ∷ gs) h = (h.0, h.1, h.2, h.3, gaps_cut s h.0 rest gs h.4)
@@ -85,13 +85,13 @@ placed_gaps n (g ∷ gs) = placed_gaps (n + byte_length g.text) gs
 
 -- ---- the tokens so far
 
-abbrev pub SoFar : State → List ℕ → State → List ℕ → List Token → Type 0
+abbrev pub SoFar : Directives → List ℕ → Directives → List ℕ → List Token → Type 0
 SoFar first source s rest ts = (ps : List Piece) × AreCut first source ps s rest × (map lexeme_of ts ≡ said ps) × (map placed_of ts ≡ placed_from 0 ps)
 
-pub none_yet : (first : State) (source : List ℕ) (s : State) → s ≡ first → SoFar first source s source []
+pub none_yet : (first : Directives) (source : List ℕ) (s : Directives) → s ≡ first → SoFar first source s source []
 none_yet first source s h = ([], (refl, sym h), refl, refl)
 
-pub over_gaps : (first : State) (source : List ℕ) (s : State) (rest at : List ℕ) (ts : List Token) → SoFar first source s rest ts → AfterGaps (setting_of s) rest at → SoFar first source s at ts
+pub over_gaps : (first : Directives) (source : List ℕ) (s : Directives) (rest at : List ℕ) (ts : List Token) → SoFar first source s rest ts → AfterGaps (setting_of s) rest at → SoFar first source s at ts
 over_gaps first source s rest at ts b g = (
   b.0 ++ as_pieces g.0,
   cut_append first s s source rest at b.0 (as_pieces g.0) b.1 (gaps_cut s rest at g.0 g.1),
@@ -104,7 +104,7 @@ same_placed t x before n h a =
     let make : List ℕ → ℕ → ℕ → List Placed = λ b i j. record { lexeme = lexeme_of t; text = b; start = i; end = j } ∷ [] in
     ap (λ (b : List ℕ). make b t.start t.end) a.0 ∙ ap (λ (i : ℕ). make (encode_utf8_all x) i t.end) (a.1 ∙ h) ∙ ap (make (encode_utf8_all x) n) (a.2 ∙ ap (λ (m : ℕ). m + byte_length x) h)
 
-one_more : (first : State) (source : List ℕ) (s : State) (at x rest before : List ℕ) (k : Shape) (t : Token) (ts : List Token) → SoFar first source s at ts → at ≡ x ++ rest → source ≡ before ++ at → IsPiece (setting_of s) k x rest
+one_more : (first : Directives) (source : List ℕ) (s : Directives) (at x rest before : List ℕ) (k : Shape) (t : Token) (ts : List Token) → SoFar first source s at ts → at ≡ x ++ rest → source ≡ before ++ at → IsPiece (setting_of s) k x rest
     → Says s k x (lexeme_of t) → IsAt before x t → SoFar first source (after s (lexeme_of t)) rest (ts ++ t ∷ [])
 one_more first source s at x rest before k t ts b is front p says place =
     let n : byte_length before ≡ total b.0 = (let h = cut_total first s source at b.0 b.1 in let j = ap byte_length front ∙ bytes_append before at in omega arith) in
@@ -116,26 +116,26 @@ one_more first source s at x rest before k t ts b is front p says place =
           ∙ sym (placed_append 0 (total b.0) b.0 (q ∷ []) (omega arith)),
     )
 
-pub with_next : (first : State) (source : List ℕ) (s : State) (from : List ℕ) (u : State) (rest : List ℕ) (t : Token) (ts : List Token) → SoFar first source s from ts → Advances source s from u rest (Ok (Some t)) → SoFar first source u rest (ts ++ t ∷ [])
+pub with_next : (first : Directives) (source : List ℕ) (s : Directives) (from : List ℕ) (u : Directives) (rest : List ℕ) (t : Token) (ts : List Token) → SoFar first source s from ts → Advances source s from u rest (Ok (Some t)) → SoFar first source u rest (ts ++ t ∷ [])
 with_next first source s from u rest t ts b h =
     let c = h.0 in
-    subst (λ (v : State). SoFar first source v rest (ts ++ t ∷ [])) (sym h.2)
+    subst (λ (v : Directives). SoFar first source v rest (ts ++ t ∷ [])) (sym h.2)
     (one_more first source s (c.own ++ rest) c.own rest c.before c.kind t ts (over_gaps first source s from (c.own ++ rest) ts b c.gaps) refl c.stands c.piece (c.told, h.1) c.place)
 
-pub next_fits : (source : List ℕ) (s : State) (from : List ℕ) (u : State) (rest : List ℕ) (t : Token) (ts : List Token) → All SaysFitting ts → Advances source s from u rest (Ok (Some t)) → All SaysFitting (ts ++ t ∷ [])
+pub next_fits : (source : List ℕ) (s : Directives) (from : List ℕ) (u : Directives) (rest : List ℕ) (t : Token) (ts : List Token) → All SaysFitting ts → Advances source s from u rest (Ok (Some t)) → All SaysFitting (ts ++ t ∷ [])
 next_fits source s from u rest t ts all h = let c = h.0 in All-append SaysFitting ts (t ∷ []) all (All-cons SaysFitting t [] c.fitting (All-nil SaysFitting))
 
-pub all_tokens : (first : State) (source : List ℕ) (s : State) (from : List ℕ) (u : State) (rest : List ℕ) (ts : List Token) → SoFar first source s from ts → Advances source s from u rest (Ok None) → AreTokensFrom first source (map lexeme_of ts)
+pub all_tokens : (first : Directives) (source : List ℕ) (s : Directives) (from : List ℕ) (u : Directives) (rest : List ℕ) (ts : List Token) → SoFar first source s from ts → Advances source s from u rest (Ok None) → AreTokensFrom first source (map lexeme_of ts)
 all_tokens first source s from u rest ts b h = let r = over_gaps first source s from [] ts b h.0.0 in (r.0, s, r.1, h.0.1, r.2)
 
-pub all_placed : (first : State) (source : List ℕ) (s : State) (from : List ℕ) (u : State) (rest : List ℕ) (ts : List Token) → SoFar first source s from ts → Advances source s from u rest (Ok None) → ArePlacedFrom first source (map placed_of ts)
+pub all_placed : (first : Directives) (source : List ℕ) (s : Directives) (from : List ℕ) (u : Directives) (rest : List ℕ) (ts : List Token) → SoFar first source s from ts → Advances source s from u rest (Ok None) → ArePlacedFrom first source (map placed_of ts)
 all_placed first source s from u rest ts b h = let r = over_gaps first source s from [] ts b h.0.0 in (r.0, s, r.1, h.0.1, r.3)
 
-first_fault : (first : State) (source : List ℕ) (s : State) (from : List ℕ) (f : ScriptFault) (ts : List Token) → SoFar first source s from ts → (f ≡ fault.OutOfMemory) ⊎ Stops source s from f → (f ≡ fault.OutOfMemory) ⊎ IsFirstFaultFrom first source f
+first_fault : (first : Directives) (source : List ℕ) (s : Directives) (from : List ℕ) (f : ScriptFault) (ts : List Token) → SoFar first source s from ts → (f ≡ fault.OutOfMemory) ⊎ Stops source s from f → (f ≡ fault.OutOfMemory) ⊎ IsFirstFaultFrom first source f
 first_fault first source s from f ts b (inl h) = inl h
 first_fault first source s from f ts b (inr h) = let r = over_gaps first source s from h.1 ts b h.3 in inr (h.0, h.1, r.0, s, h.2, r.1, h.4)
 
-pub first_of_all : (first : State) (source : List ℕ) (s : State) (from : List ℕ) (u : State) (rest : List ℕ) (f : ScriptFault) (ts : List Token) → SoFar first source s from ts → Advances source s from u rest (Err f) → (f ≡ fault.OutOfMemory) ⊎ IsFirstFaultFrom first source f
+pub first_of_all : (first : Directives) (source : List ℕ) (s : Directives) (from : List ℕ) (u : Directives) (rest : List ℕ) (f : ScriptFault) (ts : List Token) → SoFar first source s from ts → Advances source s from u rest (Err f) → (f ≡ fault.OutOfMemory) ⊎ IsFirstFaultFrom first source f
 first_of_all first source s from u rest f ts b h = first_fault first source s from f ts b h.2
 
 -- ---- a token takes something
@@ -152,12 +152,12 @@ some_text e shape.MacroName x h = let l = ap length h.2 in omega arith
 some_text e shape.Sign [] h = absurd (let k = sign_found_as [] h.0 h.1 in cc)
 some_text e shape.Sign (c ∷ x) h = omega arith
 
-gaps_shorter : (s : State) (text rest : List ℕ) (gs : List Gap) → AreGaps (setting_of s) text gs rest → length rest ≤ length text
+gaps_shorter : (s : Directives) (text rest : List ℕ) (gs : List Gap) → AreGaps (setting_of s) text gs rest → length rest ≤ length text
 gaps_shorter s text rest [] h = let l = ap length h in omega arith
 gaps_shorter s text rest (g ∷ gs) h =
     let l = ap length h.1 ∙ length-append g.text h.0 in let r = gaps_shorter s h.0 rest gs h.4 in omega arith
 
-pub next_shorter : (source : List ℕ) (s : State) (from : List ℕ) (u : State) (rest : List ℕ) (t : Token) → Advances source s from u rest (Ok (Some t)) → length rest < length from
+pub next_shorter : (source : List ℕ) (s : Directives) (from : List ℕ) (u : Directives) (rest : List ℕ) (t : Token) → Advances source s from u rest (Ok (Some t)) → length rest < length from
 next_shorter source s from u rest t h =
     let c = h.0 in
     let l = gaps_shorter s from (c.own ++ rest) c.gaps.0 c.gaps.1 in

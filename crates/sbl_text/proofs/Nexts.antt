@@ -19,7 +19,7 @@ use Rattle.sbl_text.specs.Literals.{byte_length, Means, FirstWrong, is_closed}
 use Rattle.sbl_text.specs.Pieces.{is_inner, Setting, setting, NoPiece, Gap, AreGaps, AfterGaps}
 use Rattle.sbl_text.specs.Scan.{Piece_at}
 use Rattle.sbl_text.specs.Lexemes.{Lexeme, word, sign, name, number, literal, inserts, macro_name, lexeme_of, SaysFitting}
-use Rattle.sbl_text.specs.States.{State, Defining, setting_of, settled, value_for, defined_by}
+use Rattle.sbl_text.specs.Directives.{Directives, Defining, setting_of, settled, value_for, defined_by}
 use Rattle.sbl_text.specs.Tokens.{digits_value, word_or_name, Told, LacksValue, MayEnd, IsRefused, fault_at, pair_fault, Stops, Comes}
 
 -- ---- numbers
@@ -58,21 +58,21 @@ after_piece source at x rest before s h = (before ++ x, s ∙ ap (λ (t : List �
 
 -- ---- what comes next
 
-pub no_token : (s : State) (source from at : List ℕ) (place : ℕ) (f : ScriptFault) → (before : List ℕ) × (source ≡ before ++ at) → ((x : List ℕ) → source ≡ x ++ at → place ≡ byte_length x)
+pub no_token : (s : Directives) (source from at : List ℕ) (place : ℕ) (f : ScriptFault) → (before : List ℕ) × (source ≡ before ++ at) → ((x : List ℕ) → source ≡ x ++ at → place ≡ byte_length x)
     → AfterGaps (setting_of s) from at → NoPiece (setting_of s) at → (at ≡ [] → s.wanted ≡ wanted.Inserts) × (f ≡ fault_at s.wanted at place) → Stops source s from f
 no_token s source from at place f b p g n h = (b.0, at, b.1, g, inl (h.0, n, h.1 ∙ ap (fault_at s.wanted at) (p b.0 b.1)))
 
-pub refused : (s : State) (source from at rest text : List ℕ) (k : Shape) (place : ℕ) (f : ScriptFault) → (before : List ℕ) × (source ≡ before ++ at) → ((x : List ℕ) → source ≡ x ++ at → place ≡ byte_length x)
+pub refused : (s : Directives) (source from at rest text : List ℕ) (k : Shape) (place : ℕ) (f : ScriptFault) → (before : List ℕ) × (source ≡ before ++ at) → ((x : List ℕ) → source ≡ x ++ at → place ≡ byte_length x)
     → AfterGaps (setting_of s) from at → Piece_at (setting_of s) k at rest → ((x : List ℕ) → at ≡ x ++ rest → text ≡ x)
     → (f ≡ fault.OutOfMemory) ⊎ IsRefused s k text place f → (f ≡ fault.OutOfMemory) ⊎ Stops source s from f
 refused s source from at rest text k place f b p g c t (inl h) = inl h
 refused s source from at rest text k place f b p g c t (inr h) =
     inr (b.0, at, b.1, g, inr (k, c.0, rest, c.1, c.2, subst (λ (n : ℕ). IsRefused s k c.0 n f) (p b.0 b.1) (subst (λ (y : List ℕ). IsRefused s k y place f) (t c.0 c.1) h)))
 
-pub comes_end : (s : State) (source from at : List ℕ) → AfterGaps (setting_of s) from at → at ≡ [] → MayEnd s → Comes source s from at None
+pub comes_end : (s : Directives) (source from at : List ℕ) → AfterGaps (setting_of s) from at → at ≡ [] → MayEnd s → Comes source s from at None
 comes_end s source from at g e m = (subst (AfterGaps (setting_of s) from) e g, m, e)
 
-pub comes : (s : State) (source from at rest text : List ℕ) (k : Shape) (t : Token) → (before : List ℕ) × (source ≡ before ++ at) → ((x : List ℕ) → source ≡ x ++ at → t.start ≡ byte_length x)
+pub comes : (s : Directives) (source from at rest text : List ℕ) (k : Shape) (t : Token) → (before : List ℕ) × (source ≡ before ++ at) → ((x : List ℕ) → source ≡ x ++ at → t.start ≡ byte_length x)
     → ((x : List ℕ) → source ≡ x ++ rest → t.end ≡ byte_length x)
     → AfterGaps (setting_of s) from at → Piece_at (setting_of s) k at rest → ((x : List ℕ) → at ≡ x ++ rest → text ≡ x) → ((x : List ℕ) → at ≡ x ++ rest → t.text.now ≡ encode_utf8_all x)
     → Told s k text (lexeme_of t) → SaysFitting t → Comes source s from rest (Some t)
@@ -93,12 +93,12 @@ comes s source from at rest text k t b p q g c same bytes told fitting = record 
 }
 
 -- what is left after it ends the text
-pub next_ends : (s : State) (source from rest : List ℕ) (o : Option Token) → (x : List ℕ) × (source ≡ x ++ from) → Comes source s from rest o → (x : List ℕ) × (source ≡ x ++ rest)
+pub next_ends : (s : Directives) (source from rest : List ℕ) (o : Option Token) → (x : List ℕ) × (source ≡ x ++ from) → Comes source s from rest o → (x : List ℕ) × (source ≡ x ++ rest)
 next_ends s source from rest None b h = let r = after_gaps (setting_of s) source from [] b h.0 in (r.0, r.1 ∙ ap (λ (t : List ℕ). r.0 ++ t) (sym h.2))
 next_ends s source from rest (Some t) b h = (h.before ++ h.own, h.stands ∙ sym (append_assoc h.before h.own rest))
 
 -- a literal that lacks a value for its macro
-pub lacking : (s : State) (source from rest : List ℕ) (t : Token) (l : Lexeme) (f : ScriptFault) → lexeme_of t ≡ l → Comes source s from rest (Some t) → (f ≡ fault.OutOfMemory) ⊎ (LacksValue s l × (f ≡ fault.BadCode t.start))
+pub lacking : (s : Directives) (source from rest : List ℕ) (t : Token) (l : Lexeme) (f : ScriptFault) → lexeme_of t ≡ l → Comes source s from rest (Some t) → (f ≡ fault.OutOfMemory) ⊎ (LacksValue s l × (f ≡ fault.BadCode t.start))
     → (f ≡ fault.OutOfMemory) ⊎ Stops source s from f
 lacking s source from rest t l f is c (inl h) = inl h
 lacking s source from rest t (literal spelling v) f is c (inr h) =
@@ -148,12 +148,12 @@ inner_room text letters inner place u is same h =
     let d = ap length (encodes-append inner (39 ∷ [])) ∙ length-append (encode_utf8_all inner) (encode_utf8_all (39 ∷ [])) in
     let c = ap byte_length same in omega (arith, a, b, c, d, h, q)
 
-pub told_literal : (s : State) (f : InForce) (text spelling letters inner v : List ℕ) → f ≡ s.escapes → text ≡ 39 ∷ (inner ++ 39 ∷ []) → spelling ≡ encode_utf8_all inner → letters ≡ inner → Means f letters v
+pub told_literal : (s : Directives) (f : InForce) (text spelling letters inner v : List ℕ) → f ≡ s.escapes → text ≡ 39 ∷ (inner ++ 39 ∷ []) → spelling ≡ encode_utf8_all inner → letters ≡ inner → Means f letters v
     → Told s shape.Literal text (literal spelling v)
 told_literal s f text spelling letters inner v same is bytes l m =
     (inner, v, is, subst (λ (t : List ℕ). Means s.escapes t v) l (subst (λ (g : InForce). Means g letters v) same m), ap (λ (t : List ℕ). literal t v) bytes)
 
-pub wrong_literal : (s : State) (e : InForce) (text letters inner : List ℕ) (place : ℕ) (f : ScriptFault) → e ≡ s.escapes → text ≡ 39 ∷ (inner ++ 39 ∷ []) → letters ≡ inner
+pub wrong_literal : (s : Directives) (e : InForce) (text letters inner : List ℕ) (place : ℕ) (f : ScriptFault) → e ≡ s.escapes → text ≡ 39 ∷ (inner ++ 39 ∷ []) → letters ≡ inner
     → (f ≡ fault.OutOfMemory) ⊎ FirstWrong e letters (place + 1) f → (f ≡ fault.OutOfMemory) ⊎ IsRefused s shape.Literal text place f
 wrong_literal s e text letters inner place f same is l (inl h) = inl h
 wrong_literal s e text letters inner place f same is l (inr h) =
@@ -161,14 +161,14 @@ wrong_literal s e text letters inner place f same is l (inr h) =
 
 -- ---- what is set
 
-pub same_setting : (s : State) (f : InForce) (i : Option Inserts) (w : Wanted) → i ≡ f.inserts → f ≡ s.escapes → w ≡ s.wanted → setting i w ≡ setting_of s
+pub same_setting : (s : Directives) (f : InForce) (i : Option Inserts) (w : Wanted) → i ≡ f.inserts → f ≡ s.escapes → w ≡ s.wanted → setting i w ≡ setting_of s
 same_setting s f i w a b c = ap (λ (j : Option Inserts). setting j w) (a ∙ ap (λ (g : InForce). g.inserts) b) ∙ ap (setting s.escapes.inserts) c
 
-pub nothing_defined : (s t : State) (v : List ℕ) → s.defining ≡ None → t ≡ settled s.escapes → (w : List ℕ) × (value_for s.defining v ≡ Some w) × (t ≡ settled (defined_by s.escapes s.defining v))
+pub nothing_defined : (s t : Directives) (v : List ℕ) → s.defining ≡ None → t ≡ settled s.escapes → (w : List ℕ) × (value_for s.defining v ≡ Some w) × (t ≡ settled (defined_by s.escapes s.defining v))
 nothing_defined s t v d h = (v, ap (λ (o : Option Defining). value_for o v) d, h ∙ ap (λ (o : Option Defining). settled (defined_by s.escapes o v)) (sym d))
 
-pub undefined : {D : Type 0} (f : D → Defining) (s : State) (o : Option D) (e : InForce) (w : Wanted) → (let u : State = record { escapes = e; wanted = w; defining = option_map f o } in u) ≡ s → o ≡ None → s.defining ≡ None
-undefined f s o e w is h = ap (λ (u : State). u.defining) (sym is) ∙ ap (option_map f) h
+pub undefined : {D : Type 0} (f : D → Defining) (s : Directives) (o : Option D) (e : InForce) (w : Wanted) → (let u : Directives = record { escapes = e; wanted = w; defining = option_map f o } in u) ≡ s → o ≡ None → s.defining ≡ None
+undefined f s o e w is h = ap (λ (u : Directives). u.defining) (sym is) ∙ ap (option_map f) h
 
 pub after_first : (text cs : List ℕ) (c place n : ℕ) → text ≡ c ∷ cs → (c ≡ 39 → ⊥) → n ≡ byte_length (c ∷ []) → fault.BadCharacter (place + n) ≡ pair_fault text place
 after_first text cs c place n is q m =

@@ -25,7 +25,7 @@ use Rattle.sbl_text.specs.SignCuts.{two, sign_of}
 use Rattle.sbl_text.specs.Pieces.{Has, may_come, setting, Stands, IsPiece, BeginsComment, is_gap}
 use Rattle.sbl_text.specs.Scan.{IsCutFrom, Cut, cut_in, past_literal}
 use Rattle.sbl_text.specs.Lexemes.{Lexeme, number}
-use Rattle.sbl_text.specs.States.{State, after}
+use Rattle.sbl_text.specs.Directives.{Directives, after}
 use Rattle.sbl_text.specs.Tokens.{digits_value, number_of, word_or_name, Told, Says, Piece, MaySay, after_piece, AreCut, and_more, said, MayEnd, AreTokensFrom}
 use Rattle.sbl_text.specs.Spaced.{lexeme_text, IsSaidBy, IsSaid, after_all, AreSaid, Spaced, lexemes_of, are_white, spaced_text}
 use Rattle.sbl_text.proofs.Written.{sign_found_as}
@@ -85,7 +85,7 @@ quoted inner =
     ∙ ap (λ (t : List ℕ). 39 ∷ t) (encodes-append inner (39 ∷ []) ∙ ap (λ (t : List ℕ). encode_utf8_all inner ++ t) (one_byte 39 (omega arith)))
 
 -- but for numbers, whose zeros in front are not kept
-same_text : (s : State) (k : Shape) (t : List ℕ) (l : Lexeme) → IsUtf8 t → (k ≡ shape.Number → ⊥) → Told s k (chars t) l → t ≡ lexeme_text l
+same_text : (s : Directives) (k : Shape) (t : List ℕ) (l : Lexeme) → IsUtf8 t → (k ≡ shape.Number → ⊥) → Told s k (chars t) l → t ≡ lexeme_text l
 same_text s shape.Word t l u n told = word_case (word_of (encode_utf8_all (chars t))) refl
   where
     word_case : (o : Option Word) → word_of (encode_utf8_all (chars t)) ≡ o → t ≡ lexeme_text l
@@ -131,7 +131,7 @@ decimal_number n h = decimal_by_steps (λ m ds. Digits ds × (number_of ds ≡ m
           digits_more 0 ds (48 + m % 10) ∙ value,
         )
 
-number_written : (s : State) (n : ℕ) → n ≤ 2147483647 → may_come s.wanted shape.Number ≡ true → IsSaidBy s (number n) shape.Number (decimal n)
+number_written : (s : Directives) (n : ℕ) → n ≤ 2147483647 → may_come s.wanted shape.Number ≡ true → IsSaidBy s (number n) shape.Number (decimal n)
 number_written s n small may =
     let big : n < 2 ^ 64 = omega arith in
     let d = decimal_number n big in
@@ -144,7 +144,7 @@ number_written s n small may =
 
 -- ---- how a lexeme is written says it
 
-no_gap : (s : State) (k : Shape) (x : List ℕ) (l : Lexeme) → Told s k x l → is_gap k ≡ false
+no_gap : (s : Directives) (k : Shape) (x : List ℕ) (l : Lexeme) → Told s k x l → is_gap k ≡ false
 no_gap s shape.Blank x l h = absurd h
 no_gap s shape.LineComment x l h = absurd h
 no_gap s shape.BlockComment x l h = absurd h
@@ -155,7 +155,7 @@ no_gap s shape.Literal x l h = refl
 no_gap s shape.Inserts x l h = refl
 no_gap s shape.MacroName x l h = refl
 
-written : (s : State) (l : Lexeme) (k : Shape) (t : List ℕ) → IsSaidBy s l k t → IsSaidBy s l k (lexeme_text l)
+written : (s : Directives) (l : Lexeme) (k : Shape) (t : List ℕ) → IsSaidBy s l k t → IsSaidBy s l k (lexeme_text l)
 written s l k t h = by k h
   where
     other : (j : Shape) → (j ≡ shape.Number → ⊥) → IsSaidBy s l j t → IsSaidBy s l j (lexeme_text l)
@@ -300,10 +300,10 @@ space_chars c rest h =
     let u : IsUtf8 (encode_utf8_all (c ∷ [])) = (c ∷ [], (white_scalar c h, refl)) in
     chars-append (encode_utf8_all (c ∷ [])) rest u ∙ ap (λ (t : List ℕ). t ++ chars rest) (sym (chars_from_encodes (c ∷ []) (encode_utf8_all (c ∷ [])) u refl))
 
-abbrev Read : State → List Spaced → Type 0
+abbrev Read : Directives → List Spaced → Type 0
 Read s ps = (qs : List Piece) × AreCut s (chars (spaced_text ps)) qs (after_all s (lexemes_of ps)) [] × (lexemes_of ps ≡ said qs)
 
-read : (s : State) (ps : List Spaced) → are_white ps ≡ true → AreSaid s (lexemes_of ps) → Read s ps
+read : (s : Directives) (ps : List Spaced) → are_white ps ≡ true → AreSaid s (lexemes_of ps) → Read s ps
 read s [] w h = ([], (chars-nil, refl), refl)
 read s (p ∷ ps) w h =
     let l = p.lexeme in
@@ -328,7 +328,7 @@ read s (p ∷ ps) w h =
       ap (λ (ls : List Lexeme). l ∷ ls) r.2,
     )
 
-pub spaced_read : (s : State) (ps : List Spaced) → are_white ps ≡ true → AreSaid s (lexemes_of ps) → MayEnd (after_all s (lexemes_of ps)) → AreTokensFrom s (chars (spaced_text ps)) (lexemes_of ps)
+pub spaced_read : (s : Directives) (ps : List Spaced) → are_white ps ≡ true → AreSaid s (lexemes_of ps) → MayEnd (after_all s (lexemes_of ps)) → AreTokensFrom s (chars (spaced_text ps)) (lexemes_of ps)
 spaced_read s ps w h end = let r = read s ps w h in (r.0, after_all s (lexemes_of ps), r.1, end, r.2)
 
 -- ---- and what a text says is said
@@ -339,13 +339,13 @@ scalars_apart (c ∷ x) y h =
     let a = and_left (scalar c) (all_scalars (x ++ y)) h in
     let r = scalars_apart x y (and_right (scalar c) (all_scalars (x ++ y)) h) in (rw a r.0, r.1)
 
-said_as : (s : State) (k : Shape) (x : List ℕ) (l : Lexeme) → all_scalars x ≡ true → Has s.escapes.inserts k x → may_come s.wanted k ≡ true → Says s k x l → IsSaid s l
+said_as : (s : Directives) (k : Shape) (x : List ℕ) (l : Lexeme) → all_scalars x ≡ true → Has s.escapes.inserts k x → may_come s.wanted k ≡ true → Says s k x l → IsSaid s l
 said_as s k x l h has may says =
     let u : IsUtf8 (encode_utf8_all x) = (x, (h, refl)) in
     let e : x ≡ chars (encode_utf8_all x) = chars_from_encodes x (encode_utf8_all x) u refl in
     (k, encode_utf8_all x, (u, subst (Has s.escapes.inserts k) e has, may, subst (λ (y : List ℕ). Says s k y l) e says))
 
-all_said : (s : State) (text : List ℕ) (ps : List Piece) (t : State) → all_scalars text ≡ true → AreCut s text ps t [] → AreSaid s (said ps) × (after_all s (said ps) ≡ t)
+all_said : (s : Directives) (text : List ℕ) (ps : List Piece) (t : Directives) → all_scalars text ≡ true → AreCut s text ps t [] → AreSaid s (said ps) × (after_all s (said ps) ≡ t)
 all_said s text [] t h c = (tt, c.1)
 all_said s text (p ∷ ps) t h c = by p.lexeme c.3 (all_said (after_piece s p.lexeme) c.0 ps t parts.1 c.4)
   where
@@ -356,7 +356,7 @@ all_said s text (p ∷ ps) t h c = by p.lexeme c.3 (all_said (after_piece s p.le
     by None m r = r
     by (Some l) m r = ((said_as s p.shape p.text l parts.0 c.2.stands.has c.2.stands.comes m, r.0), r.1)
 
-pub tokens_said : (s : State) (text : List ℕ) (ls : List Lexeme) → IsUtf8 text → AreTokensFrom s (chars text) ls → AreSaid s ls × MayEnd (after_all s ls)
+pub tokens_said : (s : Directives) (text : List ℕ) (ls : List Lexeme) → IsUtf8 text → AreTokensFrom s (chars text) ls → AreSaid s ls × MayEnd (after_all s ls)
 tokens_said s text ls u h =
     let r = all_said s (chars text) h.0 h.1 (scalars-chars text u) h.2 in
     (subst (AreSaid s) (sym h.4) r.0, subst (λ (ms : List Lexeme). MayEnd (after_all s ms)) (sym h.4) (subst MayEnd (sym r.1) h.3))

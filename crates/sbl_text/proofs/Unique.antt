@@ -14,7 +14,7 @@ use Rattle.sbl_text.specs.Literals.{Refusal, byte_length, inserted, IsInsertion,
 use Rattle.sbl_text.specs.Pieces.{Setting, IsPiece, is_gap}
 use Rattle.sbl_text.specs.Scan.{Cut, cut_in}
 use Rattle.sbl_text.specs.Lexemes.{Lexeme, lexeme_of, sign, literal, inserts}
-use Rattle.sbl_text.specs.States.{State, setting_of, value_for, after}
+use Rattle.sbl_text.specs.Directives.{Directives, setting_of, value_for, after}
 use Rattle.sbl_text.specs.Tokens.{Told, HasValue, Piece, MaySay, after_piece, AreCut, said, MayEnd, AreTokensFrom, Placed, placed_from, ArePlacedFrom, IsRefused, IsFault, IsFirstFaultFrom, Advances, Reading, IsAnswer, IsNext}
 use Rattle.sbl_text.proofs.Written.{signs_differ}
 use Rattle.sbl_text.proofs.Cuts.{and_left, and_right}
@@ -177,7 +177,7 @@ first_wrong_one e text n f g a b =
 
 -- ---- what pieces say
 
-told_gap : (s : State) (k : Shape) (x : List ℕ) (l : Lexeme) → is_gap k ≡ true → Told s k x l → ⊥
+told_gap : (s : Directives) (k : Shape) (x : List ℕ) (l : Lexeme) → is_gap k ≡ true → Told s k x l → ⊥
 told_gap s shape.Blank x l g h = h
 told_gap s shape.LineComment x l g h = h
 told_gap s shape.BlockComment x l g h = h
@@ -191,7 +191,7 @@ told_gap s shape.MacroName x l g h = cc
 same_inner : (x inner other : List ℕ) → x ≡ 39 ∷ (inner ++ 39 ∷ []) → x ≡ 39 ∷ (other ++ 39 ∷ []) → inner ≡ other
 same_inner x inner other a b = append_cancel_right inner other (39 ∷ []) (let h = sym a ∙ b in cc)
 
-told_one : (s : State) (k : Shape) (x : List ℕ) (l m : Lexeme) → Told s k x l → Told s k x m → l ≡ m
+told_one : (s : Directives) (k : Shape) (x : List ℕ) (l m : Lexeme) → Told s k x l → Told s k x m → l ≡ m
 told_one s shape.Blank x l m a b = absurd a
 told_one s shape.LineComment x l m a b = absurd a
 told_one s shape.BlockComment x l m a b = absurd a
@@ -209,7 +209,7 @@ told_one s shape.Inserts x l m a b =
     a.3 ∙ ap (λ (n : ℕ). inserts n a.1) d ∙ ap (inserts b.0) f ∙ sym b.3
 told_one s shape.MacroName x l m a b = a ∙ sym b
 
-may_say_one : (s : State) (k : Shape) (x : List ℕ) (o u : Option Lexeme) → MaySay s k x o → MaySay s k x u → o ≡ u
+may_say_one : (s : Directives) (k : Shape) (x : List ℕ) (o u : Option Lexeme) → MaySay s k x o → MaySay s k x u → o ≡ u
 may_say_one s k x None None a b = refl
 may_say_one s k x None (Some m) a b = absurd (told_gap s k x m a b.0)
 may_say_one s k x (Some l) None a b = absurd (told_gap s k x l b a.0)
@@ -222,17 +222,17 @@ same_piece p q a b c =
 
 -- ---- two lists of pieces of a text: one goes on where the other ends
 
-abbrev Ahead : List Piece → List Piece → State → List ℕ → State → List ℕ → Type 0
+abbrev Ahead : List Piece → List Piece → Directives → List ℕ → Directives → List ℕ → Type 0
 Ahead ps qs u r v z = (us : List Piece) × (qs ≡ ps ++ us) × AreCut u r us v z
 
-ahead_cons : (p q : Piece) (ps qs : List Piece) (u : State) (r : List ℕ) (v : State) (z : List ℕ) → p ≡ q → Ahead ps qs u r v z ⊎ Ahead qs ps v z u r → Ahead (p ∷ ps) (q ∷ qs) u r v z ⊎ Ahead (q ∷ qs) (p ∷ ps) v z u r
+ahead_cons : (p q : Piece) (ps qs : List Piece) (u : Directives) (r : List ℕ) (v : Directives) (z : List ℕ) → p ≡ q → Ahead ps qs u r v z ⊎ Ahead qs ps v z u r → Ahead (p ∷ ps) (q ∷ qs) u r v z ⊎ Ahead (q ∷ qs) (p ∷ ps) v z u r
 ahead_cons p q ps qs u r v z is (inl h) = inl (h.0, ap (λ (t : List Piece). q ∷ t) h.1 ∙ ap (λ (t : Piece). t ∷ (ps ++ h.0)) (sym is), h.2)
 ahead_cons p q ps qs u r v z is (inr h) = inr (h.0, ap (λ (t : List Piece). p ∷ t) h.1 ∙ ap (λ (t : Piece). t ∷ (qs ++ h.0)) is, h.2)
 
-restart : (s t u : State) (x y r : List ℕ) (ps : List Piece) → s ≡ t → x ≡ y → AreCut s x ps u r → AreCut t y ps u r
-restart s t u x y r ps a b h = subst (λ (z : List ℕ). AreCut t z ps u r) b (subst (λ (k : State). AreCut k x ps u r) a h)
+restart : (s t u : Directives) (x y r : List ℕ) (ps : List Piece) → s ≡ t → x ≡ y → AreCut s x ps u r → AreCut t y ps u r
+restart s t u x y r ps a b h = subst (λ (z : List ℕ). AreCut t z ps u r) b (subst (λ (k : Directives). AreCut k x ps u r) a h)
 
-two_cuts : (s : State) (text : List ℕ) (ps qs : List Piece) (u : State) (r : List ℕ) (v : State) (z : List ℕ) → AreCut s text ps u r → AreCut s text qs v z → Ahead ps qs u r v z ⊎ Ahead qs ps v z u r
+two_cuts : (s : Directives) (text : List ℕ) (ps qs : List Piece) (u : Directives) (r : List ℕ) (v : Directives) (z : List ℕ) → AreCut s text ps u r → AreCut s text qs v z → Ahead ps qs u r v z ⊎ Ahead qs ps v z u r
 two_cuts s text [] qs u r v z a b = inl (qs, refl, restart s u v text r z qs a.1 a.0 b)
 two_cuts s text (p ∷ ps) [] u r v z a b = inr (p ∷ ps, refl, restart s v u text z r (p ∷ ps) b.1 b.0 a)
 two_cuts s text (p ∷ ps) (q ∷ qs) u r v z a b =
@@ -242,25 +242,25 @@ two_cuts s text (p ∷ ps) (q ∷ qs) u r v z a b =
     ahead_cons p q ps qs u r v z (same_piece p q o.0 o.1 l)
     (two_cuts (after_piece s p.lexeme) a.0 ps qs u r v z a.4 (restart (after_piece s q.lexeme) (after_piece s p.lexeme) v b.0 a.0 z qs (ap (after_piece s) (sym l)) (sym o.2) b.4))
 
-no_more : (s t : State) (us : List Piece) (r : List ℕ) → AreCut s [] us t r → (us ≡ []) × (r ≡ []) × (s ≡ t)
+no_more : (s t : Directives) (us : List Piece) (r : List ℕ) → AreCut s [] us t r → (us ≡ []) × (r ≡ []) × (s ≡ t)
 no_more s t [] r h = (refl, sym h.0, h.1)
 no_more s t (u ∷ us) r h = absurd (let l = some_text s.escapes.inserts u.shape u.text h.2.stands.has in omega (arith, ap length (starts_empty u.text h.0 h.1), l))
 
-same_at_end : (ps qs : List Piece) (u v : State) → Ahead ps qs u [] v [] ⊎ Ahead qs ps v [] u [] → qs ≡ ps
+same_at_end : (ps qs : List Piece) (u v : Directives) → Ahead ps qs u [] v [] ⊎ Ahead qs ps v [] u [] → qs ≡ ps
 same_at_end ps qs u v (inl h) = h.1 ∙ ap (λ (t : List Piece). ps ++ t) (no_more u v h.0 [] h.2).0 ∙ append_nil ps
 same_at_end ps qs u v (inr h) = sym (h.1 ∙ ap (λ (t : List Piece). qs ++ t) (no_more v u h.0 [] h.2).0 ∙ append_nil qs)
 
-pub tokens_one : (s : State) (text : List ℕ) (ls ms : List Lexeme) → AreTokensFrom s text ls → AreTokensFrom s text ms → ls ≡ ms
+pub tokens_one : (s : Directives) (text : List ℕ) (ls ms : List Lexeme) → AreTokensFrom s text ls → AreTokensFrom s text ms → ls ≡ ms
 tokens_one s text ls ms a b =
     a.4 ∙ ap said (sym (same_at_end a.0 b.0 a.1 b.1 (two_cuts s text a.0 b.0 a.1 [] b.1 [] a.2 b.2))) ∙ sym b.4
 
-pub placed_tokens_one : (s : State) (text : List ℕ) (ts us : List Placed) → ArePlacedFrom s text ts → ArePlacedFrom s text us → ts ≡ us
+pub placed_tokens_one : (s : Directives) (text : List ℕ) (ts us : List Placed) → ArePlacedFrom s text ts → ArePlacedFrom s text us → ts ≡ us
 placed_tokens_one s text ts us a b =
     a.4 ∙ ap (placed_from 0) (sym (same_at_end a.0 b.0 a.1 b.1 (two_cuts s text a.0 b.0 a.1 [] b.1 [] a.2 b.2))) ∙ sym b.4
 
 -- ---- faults
 
-refused_says : (s : State) (k : Shape) (x : List ℕ) (n : ℕ) (f : ScriptFault) (o : Option Lexeme) → IsRefused s k x n f → MaySay s k x o → ⊥
+refused_says : (s : Directives) (k : Shape) (x : List ℕ) (n : ℕ) (f : ScriptFault) (o : Option Lexeme) → IsRefused s k x n f → MaySay s k x o → ⊥
 refused_says s shape.Number x n f None h m = cc
 refused_says s shape.Number x n f (Some l) h m = omega (arith, h.0, m.0.0)
 refused_says s shape.Literal x n f None h m = cc
@@ -287,14 +287,14 @@ refused_says s shape.Sign x n f o h m = h
 refused_says s shape.Inserts x n f o h m = h
 refused_says s shape.MacroName x n f o h m = h
 
-literal_refused_one : (s : State) (inner : List ℕ) (n : ℕ) (f g : ScriptFault) → FirstWrong s.escapes inner (n + 1) f ⊎ ((v : List ℕ) × Means s.escapes inner v × (value_for s.defining v ≡ None) × (f ≡ fault.BadCode n))
+literal_refused_one : (s : Directives) (inner : List ℕ) (n : ℕ) (f g : ScriptFault) → FirstWrong s.escapes inner (n + 1) f ⊎ ((v : List ℕ) × Means s.escapes inner v × (value_for s.defining v ≡ None) × (f ≡ fault.BadCode n))
     → FirstWrong s.escapes inner (n + 1) g ⊎ ((v : List ℕ) × Means s.escapes inner v × (value_for s.defining v ≡ None) × (g ≡ fault.BadCode n)) → f ≡ g
 literal_refused_one s inner n f g (inl a) (inl b) = first_wrong_one s.escapes inner (n + 1) f g a b
 literal_refused_one s inner n f g (inl a) (inr b) = absurd (wrong_no_meaning s.escapes inner a.1 (n + 1 + byte_length a.0) f a.2 b.1.0 a.4 b.1.1 a.5)
 literal_refused_one s inner n f g (inr a) (inl b) = absurd (wrong_no_meaning s.escapes inner b.1 (n + 1 + byte_length b.0) g b.2 a.1.0 b.4 a.1.1 b.5)
 literal_refused_one s inner n f g (inr a) (inr b) = a.3 ∙ sym b.3
 
-refused_one : (s : State) (k : Shape) (x : List ℕ) (n : ℕ) (f g : ScriptFault) → IsRefused s k x n f → IsRefused s k x n g → f ≡ g
+refused_one : (s : Directives) (k : Shape) (x : List ℕ) (n : ℕ) (f g : ScriptFault) → IsRefused s k x n f → IsRefused s k x n g → f ≡ g
 refused_one s shape.Number x n f g a b = a.1 ∙ sym b.1
 refused_one s shape.Literal x n f g a b =
     let d = same_inner x a.0 b.0 a.1 b.1 in
@@ -309,7 +309,7 @@ refused_one s shape.Inserts x n f g a b = absurd a
 refused_one s shape.MacroName x n f g a b = absurd a
 
 -- no piece without fault stands where a fault does
-fault_stops : (s : State) (text : List ℕ) (n : ℕ) (f : ScriptFault) (u : State) (r : List ℕ) (us : List Piece) → IsFault s text n f → AreCut s text us u r → us ≡ []
+fault_stops : (s : Directives) (text : List ℕ) (n : ℕ) (f : ScriptFault) (u : Directives) (r : List ℕ) (us : List Piece) → IsFault s text n f → AreCut s text us u r → us ≡ []
 fault_stops s text n f u r [] h c = refl
 fault_stops s text n f u r (p ∷ us) (inl h) c = absurd (h.1 p.shape p.text c.0 c.1 c.2.stands)
 fault_stops s text n f u r (p ∷ us) (inr h) c =
@@ -317,7 +317,7 @@ fault_stops s text n f u r (p ∷ us) (inr h) c =
     absurd (refused_says s p.shape p.text n f p.lexeme
     (subst (λ (k : Shape). IsRefused s k p.text n f) (sym o.0) (subst (λ (x : List ℕ). IsRefused s h.0 x n f) (sym o.1) h.5)) c.3)
 
-fault_same : (s : State) (text : List ℕ) (n : ℕ) (f g : ScriptFault) → IsFault s text n f → IsFault s text n g → f ≡ g
+fault_same : (s : Directives) (text : List ℕ) (n : ℕ) (f g : ScriptFault) → IsFault s text n f → IsFault s text n g → f ≡ g
 fault_same s text n f g (inl a) (inl b) = a.2 ∙ sym b.2
 fault_same s text n f g (inl a) (inr b) = absurd (a.1 b.0 b.1 b.2 b.3 b.4.stands)
 fault_same s text n f g (inr a) (inl b) = absurd (b.1 a.0 a.1 a.2 a.3 a.4.stands)
@@ -325,32 +325,32 @@ fault_same s text n f g (inr a) (inr b) =
     let o = piece_one (setting_of s) a.0 b.0 a.1 b.1 a.2 b.2 a.4 b.4 (sym a.3 ∙ b.3) in
     refused_one s b.0 b.1 n f g (subst (λ (k : Shape). IsRefused s k b.1 n f) o.0 (subst (λ (x : List ℕ). IsRefused s a.0 x n f) o.1 a.5)) b.5
 
-fault_not_end : (s : State) (n : ℕ) (f : ScriptFault) → MayEnd s → IsFault s [] n f → ⊥
+fault_not_end : (s : Directives) (n : ℕ) (f : ScriptFault) → MayEnd s → IsFault s [] n f → ⊥
 fault_not_end s n f m (inl h) = m (h.0 refl)
 fault_not_end s n f m (inr h) = let l = some_text s.escapes.inserts h.0 h.1 h.4.stands.has in omega (arith, ap length (starts_empty h.1 h.2 h.3), l)
 
 -- where faults stand after the pieces before them
-abbrev Same : State → List ℕ → State → List ℕ → Type 0
+abbrev Same : Directives → List ℕ → Directives → List ℕ → Type 0
 Same u r v z = (u ≡ v) × (r ≡ z)
 
-same_place : (s : State) (text : List ℕ) (u : State) (r : List ℕ) (v : State) (z : List ℕ) (n m : ℕ) (f g : ScriptFault) (ps qs : List Piece) → AreCut s text ps u r → AreCut s text qs v z → IsFault u r n f → IsFault v z m g → Same u r v z
+same_place : (s : Directives) (text : List ℕ) (u : Directives) (r : List ℕ) (v : Directives) (z : List ℕ) (n m : ℕ) (f g : ScriptFault) (ps qs : List Piece) → AreCut s text ps u r → AreCut s text qs v z → IsFault u r n f → IsFault v z m g → Same u r v z
 same_place s text u r v z n m f g ps qs a b i j = met (two_cuts s text ps qs u r v z a b)
   where
     met : Ahead ps qs u r v z ⊎ Ahead qs ps v z u r → Same u r v z
     met (inl h) = let c = subst (λ (t : List Piece). AreCut u r t v z) (fault_stops u r n f v z h.0 i h.2) h.2 in (c.1, c.0)
     met (inr h) = let c = subst (λ (t : List Piece). AreCut v z t u r) (fault_stops v z m g u r h.0 j h.2) h.2 in (sym c.1, sym c.0)
 
-one_fault : (text before r other z : List ℕ) (u v : State) (f g : ScriptFault) → text ≡ before ++ r → text ≡ other ++ z → Same u r v z → IsFault u r (byte_length before) f → IsFault v z (byte_length other) g → f ≡ g
+one_fault : (text before r other z : List ℕ) (u v : Directives) (f g : ScriptFault) → text ≡ before ++ r → text ≡ other ++ z → Same u r v z → IsFault u r (byte_length before) f → IsFault v z (byte_length other) g → f ≡ g
 one_fault text before r other z u v f g a b e i j =
     let k : before ≡ other = append_cancel_right before other z (ap (λ (t : List ℕ). before ++ t) (sym e.1) ∙ sym a ∙ b) in
     fault_same v z (byte_length other) f g
-    (subst (λ (t : List ℕ). IsFault v z (byte_length t) f) k (subst (λ (t : List ℕ). IsFault v t (byte_length before) f) e.1 (subst (λ (w : State). IsFault w r (byte_length before) f) e.0 i))) j
+    (subst (λ (t : List ℕ). IsFault v z (byte_length t) f) k (subst (λ (t : List ℕ). IsFault v t (byte_length before) f) e.1 (subst (λ (w : Directives). IsFault w r (byte_length before) f) e.0 i))) j
 
-pub first_fault_one : (s : State) (text : List ℕ) (f g : ScriptFault) → IsFirstFaultFrom s text f → IsFirstFaultFrom s text g → f ≡ g
+pub first_fault_one : (s : Directives) (text : List ℕ) (f g : ScriptFault) → IsFirstFaultFrom s text f → IsFirstFaultFrom s text g → f ≡ g
 first_fault_one s text f g a b =
     one_fault text a.0 a.1 b.0 b.1 a.3 b.3 f g a.4 b.4 (same_place s text a.3 a.1 b.3 b.1 (byte_length a.0) (byte_length b.0) f g a.2 b.2 a.5 b.5 a.6 b.6) a.6 b.6
 
-end_or_fault : (s : State) (text : List ℕ) (u : State) (v : State) (r : List ℕ) (n : ℕ) (f : ScriptFault) (ps qs : List Piece) → AreCut s text ps u [] → MayEnd u → AreCut s text qs v r → IsFault v r n f → ⊥
+end_or_fault : (s : Directives) (text : List ℕ) (u : Directives) (v : Directives) (r : List ℕ) (n : ℕ) (f : ScriptFault) (ps qs : List Piece) → AreCut s text ps u [] → MayEnd u → AreCut s text qs v r → IsFault v r n f → ⊥
 end_or_fault s text u v r n f ps qs a m b i = met (two_cuts s text ps qs u [] v r a b)
   where
     met : Ahead ps qs u [] v r ⊎ Ahead qs ps v r u [] → ⊥
@@ -361,7 +361,7 @@ end_or_fault s text u v r n f ps qs a m b i = met (two_cuts s text ps qs u [] v 
         let c = subst (λ (t : List Piece). AreCut v r t u []) (fault_stops v r n f u [] h.0 i h.2) h.2 in
         fault_not_end v n f (subst MayEnd (sym c.1) m) (subst (λ (t : List ℕ). IsFault v t n f) c.0 i)
 
-pub tokens_or_fault : (s : State) (text : List ℕ) (ls : List Lexeme) (f : ScriptFault) → AreTokensFrom s text ls → IsFirstFaultFrom s text f → ⊥
+pub tokens_or_fault : (s : Directives) (text : List ℕ) (ls : List Lexeme) (f : ScriptFault) → AreTokensFrom s text ls → IsFirstFaultFrom s text f → ⊥
 tokens_or_fault s text ls f a b = end_or_fault s text a.1 b.3 b.1 (byte_length b.0) f a.0 b.2 a.2 a.3 b.5 b.6
 
 -- ---- the same fault again
@@ -403,16 +403,16 @@ literal_one e text (Err f) (Err d) (inr h) (inr g) = ap Err (first_wrong_one e t
 
 -- ---- one token after another
 
-advanced_first : (text : List ℕ) (s t : State) (from rest : List ℕ) (token : Token) (ls : List Lexeme) → Advances text s from t rest (Ok (Some token)) → AreTokensFrom t rest ls → AreTokensFrom s from (lexeme_of token ∷ ls)
+advanced_first : (text : List ℕ) (s t : Directives) (from rest : List ℕ) (token : Token) (ls : List Lexeme) → Advances text s from t rest (Ok (Some token)) → AreTokensFrom t rest ls → AreTokensFrom s from (lexeme_of token ∷ ls)
 advanced_first text s t from rest token ls h g =
     let c = h.0 in
     let q : Piece = record { shape = c.kind; text = c.own; lexeme = Some (lexeme_of token) } in
-    let behind : AreCut (after s (lexeme_of token)) rest g.0 g.1 [] = subst (λ (v : State). AreCut v rest g.0 g.1 []) h.2 g.2 in
+    let behind : AreCut (after s (lexeme_of token)) rest g.0 g.1 [] = subst (λ (v : Directives). AreCut v rest g.0 g.1 []) h.2 g.2 in
     let cut : AreCut s from (as_pieces c.gaps.0 ++ q ∷ g.0) g.1 [] = cut_append s s g.1 from (c.own ++ rest) [] (as_pieces c.gaps.0) (q ∷ g.0) (gaps_cut s from (c.own ++ rest) c.gaps.0 c.gaps.1) (rest, refl, c.piece, (c.told, h.1), behind) in
     let says : said (as_pieces c.gaps.0 ++ q ∷ g.0) ≡ lexeme_of token ∷ said g.0 = said_append (as_pieces c.gaps.0) (q ∷ g.0) ∙ ap (λ (l : List Lexeme). l ++ said (q ∷ g.0)) (said_gaps c.gaps.0) in
     (as_pieces c.gaps.0 ++ q ∷ g.0, g.1, cut, g.3, ap (λ (l : List Lexeme). lexeme_of token ∷ l) g.4 ∙ sym says)
 
-advanced_last : (text : List ℕ) (s t : State) (from rest : List ℕ) → Advances text s from t rest (Ok None) → AreTokensFrom s from []
+advanced_last : (text : List ℕ) (s t : Directives) (from rest : List ℕ) → Advances text s from t rest (Ok None) → AreTokensFrom s from []
 advanced_last text s t from rest h = (as_pieces h.0.0.0, s, gaps_cut s from [] h.0.0.0 h.0.0.1, h.0.1, sym (said_gaps h.0.0.0))
 
 pub next_is_first : (r t : Reading) (token : Token) (ls : List Lexeme) → IsNext r t (Ok (Some token)) → AreTokensFrom t.state t.rest ls → AreTokensFrom r.state r.rest (lexeme_of token ∷ ls)

@@ -8,7 +8,7 @@ use Rattle.sbl_text.specs.declared.words.Word.{Word}
 use Rattle.sbl_text.specs.Signs.{sign_text}
 use Rattle.sbl_text.specs.Words.{word_of, word_text}
 use Rattle.sbl_text.specs.Lexemes.{Lexeme, lexeme_of}
-use Rattle.sbl_text.specs.States.{State}
+use Rattle.sbl_text.specs.Directives.{Directives}
 use Rattle.sbl_text.specs.Tokens.{Placed, AreTokensFrom, ArePlacedFrom, IsFirstFaultFrom, Reading, IsNext, MayEnd}
 use Rattle.sbl_text.specs.Escapes.{InForce}
 use Rattle.sbl_text.specs.Literals.{IsLiteral}
@@ -17,19 +17,19 @@ use Rattle.std.specs.Str.{chars, IsUtf8}
 
 -- a text has one list of tokens
 abbrev pub TokensAreOne : Type 0
-TokensAreOne = (s : State) (text : List ℕ) (ls ms : List Lexeme) → AreTokensFrom s text ls → AreTokensFrom s text ms → ls ≡ ms
+TokensAreOne = (s : Directives) (text : List ℕ) (ls ms : List Lexeme) → AreTokensFrom s text ls → AreTokensFrom s text ms → ls ≡ ms
 
 -- with one list of places
 abbrev pub PlacesAreOne : Type 0
-PlacesAreOne = (s : State) (text : List ℕ) (ts us : List Placed) → ArePlacedFrom s text ts → ArePlacedFrom s text us → ts ≡ us
+PlacesAreOne = (s : Directives) (text : List ℕ) (ts us : List Placed) → ArePlacedFrom s text ts → ArePlacedFrom s text us → ts ≡ us
 
 -- or it has one first fault
 abbrev pub FirstFaultIsOne : Type 0
-FirstFaultIsOne = (s : State) (text : List ℕ) (f g : ScriptFault) → IsFirstFaultFrom s text f → IsFirstFaultFrom s text g → f ≡ g
+FirstFaultIsOne = (s : Directives) (text : List ℕ) (f g : ScriptFault) → IsFirstFaultFrom s text f → IsFirstFaultFrom s text g → f ≡ g
 
 -- and never both
 abbrev pub TokensOrFault : Type 0
-TokensOrFault = (s : State) (text : List ℕ) (ls : List Lexeme) (f : ScriptFault) → AreTokensFrom s text ls → IsFirstFaultFrom s text f → ⊥
+TokensOrFault = (s : Directives) (text : List ℕ) (ls : List Lexeme) (f : ScriptFault) → AreTokensFrom s text ls → IsFirstFaultFrom s text f → ⊥
 
 -- after a fault comes the same fault, whatever memory is left
 abbrev pub SameFaultAgain : Type 0
@@ -47,11 +47,11 @@ SignsDiffer = (s t : Sign) → sign_text s ≡ sign_text t → s ≡ t
 -- lexemes that are said, each followed by a white character, are the tokens of that text
 abbrev pub SpacedAreRead : Type 0
 SpacedAreRead =
-    (s : State) (ps : List Spaced) → are_white ps ≡ true → AreSaid s (lexemes_of ps) → MayEnd (after_all s (lexemes_of ps)) → AreTokensFrom s (chars (spaced_text ps)) (lexemes_of ps)
+    (s : Directives) (ps : List Spaced) → are_white ps ≡ true → AreSaid s (lexemes_of ps) → MayEnd (after_all s (lexemes_of ps)) → AreTokensFrom s (chars (spaced_text ps)) (lexemes_of ps)
 
 -- and the tokens of a text are said
 abbrev pub TokensAreSaid : Type 0
-TokensAreSaid = (s : State) (text : List ℕ) (ls : List Lexeme) → IsUtf8 text → AreTokensFrom s (chars text) ls → AreSaid s ls × MayEnd (after_all s ls)
+TokensAreSaid = (s : Directives) (text : List ℕ) (ls : List Lexeme) → IsUtf8 text → AreTokensFrom s (chars text) ls → AreSaid s ls × MayEnd (after_all s ls)
 
 -- a spelling means one list of characters, or it has one fault
 abbrev pub LiteralIsOne : Type 0

@@ -7,7 +7,7 @@ pub mod Codes
 pub mod Literals
 pub mod Pieces
 pub mod Lexemes
-pub mod States
+pub mod Directives
 pub mod Tokens
 pub mod Spaced
 pub mod Laws

@@ -9,7 +9,7 @@ use Rattle.sbl_text.specs.Words.{word_text}
 use Rattle.sbl_text.specs.Signs.{sign_text}
 use Rattle.sbl_text.specs.Pieces.{Has, may_come}
 use Rattle.sbl_text.specs.Lexemes.{Lexeme, word, sign, name, number, literal, inserts, macro_name}
-use Rattle.sbl_text.specs.States.{State, after}
+use Rattle.sbl_text.specs.Directives.{Directives, after}
 use Rattle.sbl_text.specs.Tokens.{Says}
 
 -- How a lexeme is written, as UTF-8 bytes: a number in decimal, a literal by its spelling in quotes.
@@ -23,20 +23,20 @@ lexeme_text (inserts a b) = encode_utf8_all (a ∷ b ∷ [])
 lexeme_text (macro_name n) = n
 
 -- the text is of the shape, which may come in this state, and says the lexeme
-abbrev pub IsSaidBy : State → Lexeme → Shape → List ℕ → Type 0
+abbrev pub IsSaidBy : Directives → Lexeme → Shape → List ℕ → Type 0
 IsSaidBy s l k text = IsUtf8 text × Has s.escapes.inserts k (chars text) × (may_come s.wanted k ≡ true) × Says s k (chars text) l
 
 -- some text says it
-abbrev pub IsSaid : State → Lexeme → Type 0
+abbrev pub IsSaid : Directives → Lexeme → Type 0
 IsSaid s l = (k : Shape) × (text : List ℕ) × IsSaidBy s l k text
 
 -- what some lexemes set, one after another
-abbrev pub after_all : State → List Lexeme → State
+abbrev pub after_all : Directives → List Lexeme → Directives
 after_all s [] = s
 after_all s (l ∷ ls) = after_all (after s l) ls
 
 -- each is said under what those before it have set
-abbrev pub AreSaid : State → List Lexeme → Type 0
+abbrev pub AreSaid : Directives → List Lexeme → Type 0
 AreSaid s [] = Unit {0}
 AreSaid s (l ∷ ls) = IsSaid s l × AreSaid (after s l) ls
 

@@ -12,7 +12,7 @@ use Rattle.sbl_text.specs.Words.{word_of}
 use Rattle.sbl_text.specs.declared.pieces.Wanted.{Wanted}
 use Rattle.sbl_text.specs.declared.pieces.Wanted.TheVariants as wanted
 use Rattle.sbl_text.specs.Pieces.{IsPiece, NoPiece, AfterGaps, is_gap}
-use Rattle.sbl_text.specs.States.{State, start, setting_of, value_for, after}
+use Rattle.sbl_text.specs.Directives.{Directives, start, setting_of, value_for, after}
 use Rattle.sbl_text.specs.Literals.{byte_length, Means, FirstWrong}
 use Rattle.sbl_text.specs.Lexemes.{Lexeme, word, sign, name, number, literal, inserts, macro_name, lexeme_of, SaysFitting}
 use Rattle.sbl_text.specs.Classes.{quote, slash, star}
@@ -30,7 +30,7 @@ word_or_name None text = name text
 word_or_name (Some w) text = word w
 
 -- a shape that says nothing, and one that says what a lexeme tells
-abbrev pub Told : State → Shape → List ℕ → Lexeme → Type 0
+abbrev pub Told : Directives → Shape → List ℕ → Lexeme → Type 0
 Told s shape.Word x l = l ≡ word_or_name (word_of (encode_utf8_all x)) (encode_utf8_all x)
 Told s shape.Number x l = (number_of x ≤ 2147483647) × (l ≡ number (number_of x))
 Told s shape.Sign x l = (g : Sign) × (x ≡ sign_text g) × (l ≡ sign g)
@@ -40,17 +40,17 @@ Told s shape.MacroName x l = l ≡ macro_name (encode_utf8_all x)
 Told s _ x l = ⊥
 
 -- a literal after `stringdef` has a value for the macro
-abbrev pub HasValue : State → Lexeme → Type 0
+abbrev pub HasValue : Directives → Lexeme → Type 0
 HasValue s (literal spelling v) = (w : List ℕ) × (value_for s.defining v ≡ Some w)
 HasValue s _ = Unit {0}
 
 -- and one that has none
-abbrev pub LacksValue : State → Lexeme → Type 0
+abbrev pub LacksValue : Directives → Lexeme → Type 0
 LacksValue s (literal spelling v) = value_for s.defining v ≡ None
 LacksValue s _ = ⊥
 
 -- What a token says: a reserved word is no name, a number is at most 2147483647, a literal means its characters.
-abbrev pub Says : State → Shape → List ℕ → Lexeme → Type 0
+abbrev pub Says : Directives → Shape → List ℕ → Lexeme → Type 0
 Says s k x l = Told s k x l × HasValue s l
 
 -- a piece, and what it says, if it is no gap
@@ -59,16 +59,16 @@ pub record Piece : Type 0 where
   pub text : List ℕ
   pub lexeme : Option Lexeme
 
-abbrev pub MaySay : State → Shape → List ℕ → Option Lexeme → Type 0
+abbrev pub MaySay : Directives → Shape → List ℕ → Option Lexeme → Type 0
 MaySay s k x None = is_gap k ≡ true
 MaySay s k x (Some l) = Says s k x l
 
-abbrev pub after_piece : State → Option Lexeme → State
+abbrev pub after_piece : Directives → Option Lexeme → Directives
 after_piece s None = s
 after_piece s (Some l) = after s l
 
 -- The pieces stand one after another at the front of the text, each the longest under what those before it have set.
-abbrev pub AreCut : State → List ℕ → List Piece → State → List ℕ → Type 0
+abbrev pub AreCut : Directives → List ℕ → List Piece → Directives → List ℕ → Type 0
 AreCut s text [] t rest = (text ≡ rest) × (s ≡ t)
 AreCut s text (p ∷ ps) t rest =
     (behind : List ℕ) × (text ≡ p.text ++ behind) × IsPiece (setting_of s) p.shape p.text behind × MaySay s p.shape p.text p.lexeme × AreCut (after_piece s p.lexeme) behind ps t rest
@@ -83,11 +83,11 @@ said [] = []
 said (p ∷ ps) = and_more p.lexeme (said ps)
 
 -- the text may end here: no insert characters are wanted
-abbrev pub MayEnd : State → Type 0
+abbrev pub MayEnd : Directives → Type 0
 MayEnd s = s.wanted ≡ wanted.Inserts → ⊥
 
-abbrev pub AreTokensFrom : State → List ℕ → List Lexeme → Type 0
-AreTokensFrom s text ls = (ps : List Piece) × (t : State) × AreCut s text ps t [] × MayEnd t × (ls ≡ said ps)
+abbrev pub AreTokensFrom : Directives → List ℕ → List Lexeme → Type 0
+AreTokensFrom s text ls = (ps : List Piece) × (t : Directives) × AreCut s text ps t [] × MayEnd t × (ls ≡ said ps)
 
 -- the tokens of a text
 abbrev pub AreTokens : List ℕ → List Lexeme → Type 0
@@ -115,8 +115,8 @@ placed_from place [] = []
 placed_from place (p ∷ ps) = put_placed place p.text p.lexeme (placed_from (place + byte_length p.text) ps)
 
 -- the tokens of a text with their places
-abbrev pub ArePlacedFrom : State → List ℕ → List Placed → Type 0
-ArePlacedFrom s text ts = (ps : List Piece) × (t : State) × AreCut s text ps t [] × MayEnd t × (ts ≡ placed_from 0 ps)
+abbrev pub ArePlacedFrom : Directives → List ℕ → List Placed → Type 0
+ArePlacedFrom s text ts = (ps : List Piece) × (t : Directives) × AreCut s text ps t [] × MayEnd t × (ts ≡ placed_from 0 ps)
 
 abbrev pub ArePlaced : List ℕ → List Placed → Type 0
 ArePlaced text ts = ArePlacedFrom start text ts
@@ -144,7 +144,7 @@ fault_at wanted.Inserts text place = pair_fault text place
 fault_at _ text place = token_fault text place
 
 -- a number that is too large, a literal with a bad insertion, or one that gives no value to its macro
-abbrev pub IsRefused : State → Shape → List ℕ → ℕ → ScriptFault → Type 0
+abbrev pub IsRefused : Directives → Shape → List ℕ → ℕ → ScriptFault → Type 0
 IsRefused s shape.Number x place f = (2147483647 < number_of x) × (f ≡ fault.NumberTooLarge place)
 IsRefused s shape.Literal x place f =
     (inner : List ℕ) × (x ≡ quote ∷ (inner ++ quote ∷ []))
@@ -152,15 +152,15 @@ IsRefused s shape.Literal x place f =
 IsRefused s _ x place f = ⊥
 
 -- no piece stands at the front of the text, and there is something or insert characters are wanted; or the piece is refused
-abbrev pub IsFault : State → List ℕ → ℕ → ScriptFault → Type 0
+abbrev pub IsFault : Directives → List ℕ → ℕ → ScriptFault → Type 0
 IsFault s text place f =
     ((text ≡ [] → s.wanted ≡ wanted.Inserts) × NoPiece (setting_of s) text × (f ≡ fault_at s.wanted text place))
     ⊎ ((k : Shape) × (x : List ℕ) × (rest : List ℕ) × (text ≡ x ++ rest) × IsPiece (setting_of s) k x rest × IsRefused s k x place f)
 
 -- the first fault of a text: tokens without fault stand before it, and its place counts the bytes before it
-abbrev pub IsFirstFaultFrom : State → List ℕ → ScriptFault → Type 0
+abbrev pub IsFirstFaultFrom : Directives → List ℕ → ScriptFault → Type 0
 IsFirstFaultFrom s text f =
-    (before : List ℕ) × (rest : List ℕ) × (ps : List Piece) × (t : State) × (text ≡ before ++ rest) × AreCut s text ps t rest × IsFault t rest (byte_length before) f
+    (before : List ℕ) × (rest : List ℕ) × (ps : List Piece) × (t : Directives) × (text ≡ before ++ rest) × AreCut s text ps t rest × IsFault t rest (byte_length before) f
 
 abbrev pub IsFirstFault : List ℕ → ScriptFault → Type 0
 IsFirstFault text f = IsFirstFaultFrom start text f
@@ -172,13 +172,13 @@ abbrev pub IsAt : List ℕ → List ℕ → Token → Type 0
 IsAt before x t = (t.text.now ≡ encode_utf8_all x) × (t.start ≡ byte_length before) × (t.end ≡ byte_length before + byte_length x)
 
 -- after gaps a fault stands
-abbrev pub Stops : List ℕ → State → List ℕ → ScriptFault → Type 0
+abbrev pub Stops : List ℕ → Directives → List ℕ → ScriptFault → Type 0
 Stops text s from f =
     (before : List ℕ) × (at : List ℕ) × (text ≡ before ++ at) × AfterGaps (setting_of s) from at × IsFault s at (byte_length before) f
 
 -- The token stands in the text after gaps: its own text is the longest piece there, tells what the token says, and stands
 -- at its places.
-pub record IsToken (text : List ℕ) (s : State) (from rest : List ℕ) (token : Token) : Type 0 where
+pub record IsToken (text : List ℕ) (s : Directives) (from rest : List ℕ) (token : Token) : Type 0 where
   pub before : List ℕ
   pub own : List ℕ
   pub kind : Shape
@@ -190,12 +190,12 @@ pub record IsToken (text : List ℕ) (s : State) (from rest : List ℕ) (token :
   pub fitting : SaysFitting token
 
 -- What stands in the text from `from` on: gaps, then the end or a token. What is left is `rest`.
-abbrev pub Comes : List ℕ → State → List ℕ → List ℕ → Option Token → Type 0
+abbrev pub Comes : List ℕ → Directives → List ℕ → List ℕ → Option Token → Type 0
 Comes text s from rest None = AfterGaps (setting_of s) from [] × MayEnd s × (rest ≡ [])
 Comes text s from rest (Some token) = IsToken text s from rest token
 
 -- The token that comes next, or the end, or a fault. What is set then is t.
-abbrev pub Advances : List ℕ → State → List ℕ → State → List ℕ → Result (Option Token) ScriptFault → Type 0
+abbrev pub Advances : List ℕ → Directives → List ℕ → Directives → List ℕ → Result (Option Token) ScriptFault → Type 0
 Advances text s from t rest (Ok None) = Comes text s from rest None × (t ≡ s)
 Advances text s from t rest (Ok (Some token)) = Comes text s from rest (Some token) × HasValue s (lexeme_of token) × (t ≡ after s (lexeme_of token))
 Advances text s from t rest (Err f) = (rest ≡ from) × (t ≡ s) × ((f ≡ fault.OutOfMemory) ⊎ Stops text s from f)
@@ -204,11 +204,11 @@ Advances text s from t rest (Err f) = (rest ≡ from) × (t ≡ s) × ((f ≡ fa
 pub record Reading : Type 0 where
   pub text : List ℕ
   pub rest : List ℕ
-  pub state : State
+  pub state : Directives
   pub fault : Option ScriptFault
 
 -- at a text's front
-abbrev pub beginning : State → List ℕ → Reading
+abbrev pub beginning : Directives → List ℕ → Reading
 beginning s text = record { text = text; rest = text; state = s; fault = None }
 
 -- what comes next, where no fault was answered: a fault is kept, and want of memory is not

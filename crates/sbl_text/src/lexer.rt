@@ -8,14 +8,14 @@ ghost use Rattle.sbl_text.specs.Tokens as spec;
 ghost use Rattle.sbl_text.specs.Tokens.{Reading};
 ghost use Rattle.std.specs.List.{All};
 ghost use Rattle.sbl_text.specs.Lexemes.{lexeme_of, SaysFitting};
-ghost use Rattle.sbl_text.specs.States.{setting_of, start_under};
+ghost use Rattle.sbl_text.specs.Directives.{setting_of, start_under};
 
 use crate::escapes::Escapes;
 use crate::fault::ScriptFault;
 use crate::front::{front_before, place_of};
 use crate::meanings::{end_or_fault, meaning};
 use crate::pieces::{Shape, past_gaps};
-use crate::states::State;
+use crate::directives::Directives;
 use crate::token::Token;
 use std::alloc::Global;
 use std::marker::Model;
@@ -26,7 +26,7 @@ pub struct Lexer<'a> {
     alloc: Global,
     source: &'a str,
     rest: &'a str,
-    state: State<'a>,
+    state: Directives<'a>,
     fault: Option<ScriptFault>,
 }
 
@@ -39,7 +39,7 @@ impl<'a> Model for Lexer<'a> {
 }
 
 /// The text after white space and comments, and the token that is cut there.
-fn cut_after<'a>(state: &State<'_>, from: &'a str) -> (&'a str, Option<(Shape, &'a str)>)
+fn cut_after<'a>(state: &Directives<'_>, from: &'a str) -> (&'a str, Option<(Shape, &'a str)>)
     ensures gaps { pieces.AfterGaps (setting_of state.now) (chars from.now) (chars result.0.now) }
     ensures next { MatchOption result.1 (pieces.NoPiece (setting_of state.now) (chars result.0.now)) (λ p. pieces.is_gap p.0 ≡ false × Piece_at (setting_of state.now) p.0 (chars result.0.now) (chars p.1.now)) }
 {
@@ -49,7 +49,7 @@ fn cut_after<'a>(state: &State<'_>, from: &'a str) -> (&'a str, Option<(Shape, &
 /// The token that comes next in a text from a place on, and what is left after it; at the end no token.
 fn token_after<'a>(
     alloc: Global,
-    state: &State<'_>,
+    state: &Directives<'_>,
     source: &'a str,
     from: &'a str,
 ) -> Result<(Option<Token<'a>>, &'a str), ScriptFault>
@@ -82,7 +82,7 @@ fn token_after<'a>(
 }
 
 impl<'a> Lexer<'a> {
-    ghost use Rattle.sbl_text.specs.States.{start};
+    ghost use Rattle.sbl_text.specs.Directives.{start};
 
     /// Begins at the text's front, with no insert characters and no macros. The allocator is kept for what tokens mean.
     pub fn new(alloc: Global, text: &'a str) -> Lexer<'a>
@@ -112,7 +112,7 @@ impl<'a> Lexer<'a> {
             alloc,
             source: text,
             rest: text,
-            state: State::new(escapes),
+            state: Directives::new(escapes),
             fault: None,
         }
     }

@@ -13,7 +13,7 @@ mod macros;
 mod meanings;
 mod pieces;
 mod signs;
-mod states;
+mod directives;
 mod token;
 mod words;
 

@@ -5,14 +5,14 @@ ghost use Rattle.std.specs.Str.{chars};
 ghost use Rattle.sbl_text.specs.Pieces as pieces;
 ghost use Rattle.sbl_text.specs.Tokens as spec;
 ghost use Rattle.sbl_text.specs.Lexemes.{fits, lexeme_by};
-ghost use Rattle.sbl_text.specs.States as states;
+ghost use Rattle.sbl_text.specs.Directives as states;
 
 use crate::fault::ScriptFault;
 use crate::front::{between_quotes, place_of, split_first};
 use crate::literals::literal_value;
 use crate::pieces::{Shape, Wanted};
 use crate::signs::sign_of;
-use crate::states::State;
+use crate::directives::Directives;
 use crate::token::{Kind, Value};
 use crate::words::word_of;
 use std::alloc::Global;
@@ -38,7 +38,7 @@ fn number(mut text: &str) -> Option<u32>
 /// A literal's spelling, and the characters that it means.
 fn literal<'a>(
     alloc: Global,
-    state: &State<'_>,
+    state: &Directives<'_>,
     text: &'a str,
     place: usize,
 ) -> Result<Value<'a>, ScriptFault>
@@ -54,7 +54,7 @@ fn literal<'a>(
     }
 }
 
-fn word(state: &State<'_>, text: &str) -> Kind
+fn word(state: &Directives<'_>, text: &str) -> Kind
     ensures told { (v : Value) → spec.Told state.now Shape.Word (chars text.now) (lexeme_by result text.now v) }
     ensures fits { fits result Value.None ≡ true }
 {
@@ -64,7 +64,7 @@ fn word(state: &State<'_>, text: &str) -> Kind
     }
 }
 
-fn sign(state: &State<'_>, text: &str) -> Kind
+fn sign(state: &Directives<'_>, text: &str) -> Kind
     requires { pieces.Has None Shape.Sign (chars text.now) }
     ensures told { (v : Value) → spec.Told state.now Shape.Sign (chars text.now) (lexeme_by result text.now v) }
     ensures fits { fits result Value.None ≡ true }
@@ -77,7 +77,7 @@ fn sign(state: &State<'_>, text: &str) -> Kind
 
 /// The name of a macro is told by its text.
 fn macro_name(text: &str) -> Kind
-    ensures told { (s : states.State) (v : Value) → spec.Told s Shape.MacroName (chars text.now) (lexeme_by result text.now v) }
+    ensures told { (s : states.Directives) (v : Value) → spec.Told s Shape.MacroName (chars text.now) (lexeme_by result text.now v) }
     ensures fits { fits result Value.None ≡ true }
 {
     Kind::MacroName
@@ -86,7 +86,7 @@ fn macro_name(text: &str) -> Kind
 /// The two insert characters.
 fn pair<'a>(text: &str) -> Value<'a>
     requires { pieces.Has None Shape.Inserts (chars text.now) }
-    ensures told { (s : states.State) → spec.Told s Shape.Inserts (chars text.now) (lexeme_by Kind.Inserts text.now result) }
+    ensures told { (s : states.Directives) → spec.Told s Shape.Inserts (chars text.now) (lexeme_by Kind.Inserts text.now result) }
     ensures fits { fits Kind.Inserts result ≡ true }
 {
     if let Some((a, rest)) = split_first(text) {
@@ -100,7 +100,7 @@ fn pair<'a>(text: &str) -> Value<'a>
 /// What the text of a token means; a number may be too large, and a literal may have a bad insertion.
 pub fn meaning<'a>(
     alloc: Global,
-    state: &State<'_>,
+    state: &Directives<'_>,
     shape: Shape,
     text: &'a str,
     place: usize,

@@ -4,21 +4,21 @@ use Rattle.std.proofs.lemmas.Bool.Decides.{nat_tests}
 use Rattle.std.proofs.lemmas.Grind.{common_steps}
 use Rattle.std.proofs.lemmas.Str.{IsUtf8-from_is_utf8, chars-encodes, length-le-encodes}
 use Rattle.std.specs.Str.{IsUtf8, chars, is_utf8}
-use Rattle.sbl_bench.specs.State.{State}
+use Rattle.sbl_bench.specs.Contents.{Contents}
 use Rattle.sbl_bench.specs.Edits.{Edit, Edits, Add, Routine, IsAccepted, IsBrokenOff, IsMeterFull, IsOutOfMemory, IsRefused, IsVerdict, PassesTests, counted, refusal_of_add}
 use Rattle.sbl_bench.specs.declared.fault.EditFault.{EditFault}
 use Rattle.sbl_bench.specs.declared.fault.EditFault.TheVariants as fault
 use Rattle.sbl_text.specs.declared.fault.ScriptFault.{ScriptFault}
 use Rattle.sbl_text.specs.declared.fault.ScriptFault.TheVariants as script
 use Rattle.snowbench.specs.Answers.{BlockRefused, Enough, RefusedAfter, edit_text, ended}
-use Rattle.snowbench.specs.Block.{HasText, made_text, most_bytes}
+use Rattle.snowbench.specs.Block.{HasText, made_text, max_script}
 use Rattle.snowbench.specs.CommandViews.{IsEditAnswer, IsTextAnswer}
 use Rattle.snowbench.specs.Commands.{Command, block_command, text_of_block, with_text}
 use Rattle.snowbench.specs.Edits.{fault_in}
 use Rattle.snowbench.specs.Words.{argument}
 
 -- where memory was refused
-out_of_memory : (s t : State) (e : Edit) → IsOutOfMemory s e t → IsEditAnswer s e (edit_text (Some fault.OutOfMemory)) t
+out_of_memory : (s t : Contents) (e : Edit) → IsOutOfMemory s e t → IsEditAnswer s e (edit_text (Some fault.OutOfMemory)) t
 out_of_memory s t e h = by h.is
   where
     none_more : s.count ≡ s.count + 0
@@ -28,7 +28,7 @@ out_of_memory s t e h = by h.is
     by (inl p) = (RefusedAfter 0, (Some fault.OutOfMemory, (refl, p.1 ∙ ap (λ (k : ℕ). record s { count = k }) none_more, h), refl))
     by (inr b) = (RefusedAfter b.runs, (Some fault.OutOfMemory, (refl, b.is, h), refl))
 
-pub answered : (r : Result (Unit {0}) EditFault) (s t : State) (e : Edit) → Edits r s e t → IsEditAnswer s e (edit_text (fault_in r)) t
+pub answered : (r : Result (Unit {0}) EditFault) (s t : Contents) (e : Edit) → Edits r s e t → IsEditAnswer s e (edit_text (fault_in r)) t
 answered (Ok u) s t e h = (Enough, (None, h, refl))
 answered (Err fault.OutOfMemory) s t e h = out_of_memory s t e h
 answered (Err fault.Present) s t e h = (Enough, (Some fault.Present, h, refl))
@@ -45,15 +45,15 @@ answered (Err fault.MeterFull) s t e h = (Enough, (Some fault.MeterFull, h, refl
 -- ---- a word that is added, by its first characters
 
 -- a word of more than 255 characters is refused for that
-too_long : (s : State) (word : List ℕ) → 255 < length word → refusal_of_add s word ≡ Some fault.WordTooLong
+too_long : (s : Contents) (word : List ℕ) → 255 < length word → refusal_of_add s word ≡ Some fault.WordTooLong
 too_long s [] long = absurd (omega arith)
 too_long s (c ∷ word) long = let test : nat_lt 255 (length (c ∷ word)) ≡ true = grind (arith, nat_tests) in rw test refl
 
-not_accepted : (s t : State) (word : List ℕ) → refusal_of_add s word ≡ Some fault.WordTooLong → IsAccepted s (Add word) t → ⊥
+not_accepted : (s t : Contents) (word : List ℕ) → refusal_of_add s word ≡ Some fault.WordTooLong → IsAccepted s (Add word) t → ⊥
 not_accepted s t word f h = let none : Some fault.WordTooLong ≡ None = sym f ∙ h.after.0 in cc none
 
 -- a refusal for one word that is too long is one for another
-verdict_long : (s t : State) (word cut : List ℕ) (f : EditFault) → refusal_of_add s word ≡ Some fault.WordTooLong
+verdict_long : (s t : Contents) (word cut : List ℕ) (f : EditFault) → refusal_of_add s word ≡ Some fault.WordTooLong
     → refusal_of_add s cut ≡ Some fault.WordTooLong → IsVerdict s (Add cut) (Some f) t → IsVerdict s (Add word) (Some f) t
 verdict_long s t word cut f long short h = by h.0
   where
@@ -61,14 +61,14 @@ verdict_long s t word cut f long short h = by h.0
     by (inl is) = (inl (long ∙ sym short ∙ is), h.1)
     by (inr m) = let none : Some fault.WordTooLong ≡ None = sym short ∙ m.after.0 in absurd (cc none)
 
-not_for_memory : (s t : State) (cut : List ℕ) → refusal_of_add s cut ≡ Some fault.WordTooLong → IsOutOfMemory s (Add cut) t → ⊥
+not_for_memory : (s t : Contents) (cut : List ℕ) → refusal_of_add s cut ≡ Some fault.WordTooLong → IsOutOfMemory s (Add cut) t → ⊥
 not_for_memory s t cut short h = by h.is
   where
     by : (PassesTests s (Add cut) × (t ≡ s)) ⊎ IsBrokenOff s (Add cut) t → ⊥
     by (inl p) = let no : false ≡ true = p.0 fault.WordTooLong short in cc no
     by (inr b) = not_accepted s b.made cut short b.accepted
 
-refused_long : (r : Result (Unit {0}) EditFault) (s t : State) (word cut : List ℕ) → refusal_of_add s word ≡ Some fault.WordTooLong
+refused_long : (r : Result (Unit {0}) EditFault) (s t : Contents) (word cut : List ℕ) → refusal_of_add s word ≡ Some fault.WordTooLong
     → refusal_of_add s cut ≡ Some fault.WordTooLong → Edits r s (Add cut) t → Edits r s (Add word) t
 refused_long (Ok u) s t word cut long short h = absurd (not_accepted s t cut short h)
 refused_long (Err fault.OutOfMemory) s t word cut long short h = absurd (not_for_memory s t cut short h)
@@ -87,7 +87,7 @@ all_of : (n : ℕ) (xs : List ℕ) → length xs ≤ n → take n xs ≡ xs
 all_of n xs h = grind (arith, common_steps)
 
 -- the first 256 characters of a word say what becomes of it
-pub by_first : (r : Result (Unit {0}) EditFault) (s t : State) (word : List ℕ) → Edits r s (Add (take 256 word)) t → Edits r s (Add word) t
+pub by_first : (r : Result (Unit {0}) EditFault) (s t : Contents) (word : List ℕ) → Edits r s (Add (take 256 word)) t → Edits r s (Add word) t
 by_first r s t word h = by (nat_lt 256 (length word)) refl
   where
     by : (b : Bool) → nat_lt 256 (length word) ≡ b → Edits r s (Add word) t
@@ -117,29 +117,29 @@ all_chars n bytes valid few = let fit : length (chars bytes) ≤ length bytes = 
 -- ---- an edit of the script
 
 -- the text of a block that is one
-text_is : (lines : List (List ℕ)) → length (made_text lines) ≤ most_bytes → (b : Bool) → is_utf8 (made_text lines) ≡ b
+text_is : (lines : List (List ℕ)) → length (made_text lines) ≤ max_script → (b : Bool) → is_utf8 (made_text lines) ≡ b
     → text_of_block lines ≡ (if b then Ok (made_text lines) else Err script.NotUtf8)
-text_is lines few b is = let test : nat_lt most_bytes (length (made_text lines)) ≡ false = grind (arith, nat_tests) in rw (test, is) refl
+text_is lines few b is = let test : nat_lt max_script (length (made_text lines)) ≡ false = grind (arith, nat_tests) in rw (test, is) refl
 
-text_long : (lines : List (List ℕ)) → most_bytes < length (made_text lines) → text_of_block lines ≡ Err script.ScriptTooLong
-text_long lines long = let test : nat_lt most_bytes (length (made_text lines)) ≡ true = grind (arith, nat_tests) in rw test refl
+text_long : (lines : List (List ℕ)) → max_script < length (made_text lines) → text_of_block lines ≡ Err script.ScriptTooLong
+text_long lines long = let test : nat_lt max_script (length (made_text lines)) ≡ true = grind (arith, nat_tests) in rw test refl
 
 command_is : (line : List ℕ) (lines : List (List ℕ)) → is_utf8 line ≡ true → block_command line lines ≡ with_text (Routine (argument line)) (text_of_block lines)
 command_is line lines utf8 = rw utf8 refl
 
 -- the line is no text, whatever its block is
-pub bad_line : (s : State) (line : List ℕ) (lines : List (List ℕ)) → is_utf8 line ≡ false → IsTextAnswer s (block_command line lines) (ended (codes "no 52 BadCommand")) s
+pub bad_line : (s : Contents) (line : List ℕ) (lines : List (List ℕ)) → is_utf8 line ≡ false → IsTextAnswer s (block_command line lines) (ended (codes "no 52 BadCommand")) s
 bad_line s line lines bytes = rw bytes (Enough, (refl, refl))
 
 -- the block is too long
-pub block_too_long : (s : State) (line : List ℕ) (lines : List (List ℕ)) → is_utf8 line ≡ true → most_bytes < length (made_text lines)
+pub block_too_long : (s : Contents) (line : List ℕ) (lines : List (List ℕ)) → is_utf8 line ≡ true → max_script < length (made_text lines)
     → IsTextAnswer s (block_command line lines) (edit_text (Some (fault.Script script.ScriptTooLong))) s
 block_too_long s line lines utf8 long =
     subst (λ (c : Command). IsTextAnswer s c (edit_text (Some (fault.Script script.ScriptTooLong))) s)
     (sym (command_is line lines utf8 ∙ ap (with_text (Routine (argument line))) (text_long lines long))) (Enough, (refl, refl))
 
 -- the memory of the block was refused
-pub block_refused : (s : State) (line : List ℕ) (lines : List (List ℕ)) → is_utf8 line ≡ true → IsTextAnswer s (block_command line lines) (edit_text (Some fault.OutOfMemory)) s
+pub block_refused : (s : Contents) (line : List ℕ) (lines : List (List ℕ)) → is_utf8 line ≡ true → IsTextAnswer s (block_command line lines) (edit_text (Some fault.OutOfMemory)) s
 block_refused s line lines utf8 =
     subst (λ (c : Command). IsTextAnswer s c (edit_text (Some fault.OutOfMemory)) s) (sym (command_is line lines utf8)) (by (text_of_block lines))
   where
@@ -148,7 +148,7 @@ block_refused s line lines utf8 =
     by (Err f) = (BlockRefused, (refl, refl))
 
 -- the block is held: it is a text, or it is not UTF-8
-pub block_held : (s t : State) (line bytes answer : List ℕ) (lines : List (List ℕ)) → is_utf8 line ≡ true → HasText None bytes lines
+pub block_held : (s t : Contents) (line bytes answer : List ℕ) (lines : List (List ℕ)) → is_utf8 line ≡ true → HasText None bytes lines
     → (is_utf8 bytes ≡ true → IsEditAnswer s (Routine (argument line) bytes) answer t)
     → (is_utf8 bytes ≡ false → (answer ≡ edit_text (Some (fault.Script script.NotUtf8))) × (t ≡ s)) → IsTextAnswer s (block_command line lines) answer t
 block_held s t line bytes answer lines utf8 holds text bad = by (is_utf8 bytes) refl

@@ -8,7 +8,7 @@ use Rattle.sbl_text.specs.declared.fault.ScriptFault.{ScriptFault}
 use Rattle.sbl_text.specs.declared.fault.ScriptFault.TheVariants as script
 use Rattle.sbl_script.specs.Parsed.{Parsed, Source, source_of}
 use Rattle.sbl_script.specs.Reading.{IsFaultOf, IsScriptOf}
-use Rattle.sbl_bench.specs.State.{IsFaultOrMemory, State, opening_fault}
+use Rattle.sbl_bench.specs.Contents.{IsFaultOrMemory, Contents, opening_fault}
 use Rattle.sbl_bench.specs.declared.fault.EditFault.{EditFault}
 use Rattle.sbl_bench.specs.declared.fault.EditFault.TheVariants as edit
 use Rattle.snowbench.specs.Block.{AllText, BlockLines, Breaks, NoPoint, point}
@@ -78,7 +78,7 @@ script_refused old new text bytes external f reads whole why =
     (reads.0, reads.1, subst (λ (t : List ℕ). (f ≡ script.OutOfMemory) ⊎ IsFaultOf t external f) (whole ∙ reads.2) why)
 
 -- a script block that gave no text
-pub script_unread : {B : Type 0} (old new : Option (List ℕ)) (external : List ℕ) (state : B → State) (fault : LoadFault)
+pub script_unread : {B : Type 0} (old new : Option (List ℕ)) (external : List ℕ) (state : B → Contents) (fault : LoadFault)
     → ReadsScript old new (Err fault) → IsLoaded old new external state (Err fault)
 script_unread old new external state (Script script.ScriptTooLong) reads = (reads.0, reads.1, inr (inl (inl (reads.2, refl))))
 script_unread old new external state (Script f) reads = absurd reads
@@ -91,7 +91,7 @@ script_unread old new external state (Input serve.NotText) reads = absurd reads
 script_unread old new external state (Input serve.OutOfMemory) reads = inl reads
 
 -- words that were not read
-pub words_refused : {B : Type 0} (old between new : Option (List ℕ)) (external : List ℕ) (s : Source) (state : B → State) (fault : LoadFault)
+pub words_refused : {B : Type 0} (old between new : Option (List ℕ)) (external : List ℕ) (s : Source) (state : B → Contents) (fault : LoadFault)
     → TookSource old between external s → ReadsWords between new (Err fault) → IsLoaded old new external state (Err fault)
 words_refused old between new external s state (Script f) begins reads = absurd reads
 words_refused old between new external s state (Open f) begins reads = absurd reads
@@ -110,7 +110,7 @@ words_given old between new external s words f begins reads fault =
     (s, reads.0, (between, begins, reads.1), ap (opening_fault []) (sym reads.2) ∙ fault)
 
 -- words that make no vocabulary
-pub bench_refused : {B : Type 0} (old between new : Option (List ℕ)) (external : List ℕ) (s : Source) (words : Vec (Vec ℕ Global) Global) (state : B → State) (f : EditFault)
+pub bench_refused : {B : Type 0} (old between new : Option (List ℕ)) (external : List ℕ) (s : Source) (words : Vec (Vec ℕ Global) Global) (state : B → Contents) (f : EditFault)
     → TookSource old between external s → ReadsWords between new (Ok words) → IsFaultOrMemory (opening_fault [] (map (λ w. w.items) words.items)) f
     → IsLoaded old new external state (Err (Open f))
 bench_refused old between new external s words state edit.Present begins reads fault = words_given old between new external s words edit.Present begins reads fault

@@ -5,7 +5,7 @@ use Rattle.std.specs.List.{find}
 use Rattle.std.specs.declared.vec.Vec.{Vec}
 use Rattle.std.specs.declared.alloc.Global.{Global}
 use Rattle.std.specs.declared.alloc.AllocError.{AllocError}
-use Rattle.sbl_bench.specs.State.{State}
+use Rattle.sbl_bench.specs.Contents.{Contents}
 use Rattle.std.proofs.lemmas.List.{map-append, take_more}
 use Rattle.std.specs.Option.{option_map}
 use Rattle.std.specs.Str.{bytes_eq, encode_utf8_all}
@@ -29,7 +29,7 @@ text_of_views {A} {B} (Ok text) fields view given shown are h =
 text_of_views (Err e) fields view given shown are h = tt
 
 -- a report that was made, or whose memory was refused
-pub report_answer : (r : Result (Vec ℕ Global) AllocError) (reply : Reply) (s : State) (expected : List ℕ) → IfOk r (λ text. text.items ≡ expected)
+pub report_answer : (r : Result (Vec ℕ Global) AllocError) (reply : Reply) (s : Contents) (expected : List ℕ) → IfOk r (λ text. text.items ≡ expected)
     → IfOk r (λ made. IsReply reply made.items) → OnErr r (IsReply reply (edit_text (Some fault.OutOfMemory)))
     → (memory : Memory) × (text : List ℕ) × IsReply reply text × IsReport s expected memory text s
 report_answer (Ok text) reply s expected is made refused = (Enough, text.items, made, (is, refl))
@@ -37,12 +37,12 @@ report_answer (Err e) reply s expected is made refused = (RefusedAfter 0, edit_t
 
 -- ---- the class of a word, or its row
 
-pub text_of_class : (r : Result (Vec ℕ Global) AllocError) (s : State) (word : List ℕ) (row : Row) (class : Class) → Some class ≡ class_of (rows_now s) word
+pub text_of_class : (r : Result (Vec ℕ Global) AllocError) (s : Contents) (word : List ℕ) (row : Row) (class : Class) → Some class ≡ class_of (rows_now s) word
     → IfOk r (λ text. text.items ≡ records_text (class_fields class ∷ [])) → IfOk r (λ text. text.items ≡ class_or_row_text s word row)
 text_of_class (Ok text) s word row class is h = h ∙ ap (λ (o : Option Class). records_text (class_or_row o row ∷ [])) is
 text_of_class (Err e) s word row class is h = tt
 
-pub text_of_row : (r : Result (Vec ℕ Global) AllocError) (s : State) (word : List ℕ) (row : Row) → None ≡ class_of (rows_now s) word
+pub text_of_row : (r : Result (Vec ℕ Global) AllocError) (s : Contents) (word : List ℕ) (row : Row) → None ≡ class_of (rows_now s) word
     → IfOk r (λ text. text.items ≡ records_text (row_fields row ∷ [])) → IfOk r (λ text. text.items ≡ class_or_row_text s word row)
 text_of_row (Ok text) s word row is h = h ∙ ap (λ (o : Option Class). records_text (class_or_row o row ∷ [])) is
 text_of_row (Err e) s word row is h = tt
@@ -74,7 +74,7 @@ missed {A} p (y ∷ xs) (suc i) x none at fails = by (λ rest. missed p xs i x r
 
 -- ---- the report of a word's class
 
-pub class_text_is : (s : State) (word : List ℕ) (row : Option Row) → find (λ (r : Row). bytes_eq word r.word) (rows_now s) ≡ row → class_text s word ≡ option_map (class_or_row_text s word) row
+pub class_text_is : (s : Contents) (word : List ℕ) (row : Option Row) → find (λ (r : Row). bytes_eq word r.word) (rows_now s) ≡ row → class_text s word ≡ option_map (class_or_row_text s word) row
 unfolding class_text
 class_text_is s word row is = ap (option_map (class_or_row_text s word)) is
 

@@ -5,7 +5,7 @@ use Rattle.std.proofs.lemmas.List.Elements.{All-append, All-cons, All-nil}
 use Rattle.std.proofs.lemmas.Grind.{flat_map-append}
 use Rattle.std.specs.Io.KnownBytes.{Appends, IsAtEnd, Keeps}
 use Rattle.std.proofs.KnownBytes.{Appends-nil, Appends-trans}
-use Rattle.sbl_bench.specs.State.{State}
+use Rattle.sbl_bench.specs.Contents.{Contents}
 use Rattle.snowbench.specs.Answers.{Answers, IsReplyTo, Memory}
 use Rattle.snowbench.specs.Block.{BlockLines, Breaks, HoldsText, ReadsBlock, point}
 use Rattle.snowbench.specs.CommandViews.{IsAnswer, IsAnswered, IsReply, IsTextAnswer}
@@ -25,20 +25,20 @@ use Rattle.snowbench.proofs.Bytes.{took-kept, took-none, took-trans}
 
 -- ---- answers
 
-more_answers : (s t u : State) (done : List Request) (r : Request) (m : List Memory) (q : Memory) (text reply : List ℕ)
+more_answers : (s t u : Contents) (done : List Request) (r : Request) (m : List Memory) (q : Memory) (text reply : List ℕ)
     → Answers s done m text t → IsReplyTo t (command_of r) q reply u → Answers s (done ++ r ∷ []) (m ++ q ∷ []) (text ++ reply) u
 more_answers s t u [] r [] q text reply so is =
-    (reply, u, [], subst (λ (x : State). IsReplyTo x (command_of r) q reply u) so.1 is, (refl, refl), ap (λ (x : List ℕ). x ++ reply) so.0 ∙ sym (append-nil reply))
+    (reply, u, [], subst (λ (x : Contents). IsReplyTo x (command_of r) q reply u) so.1 is, (refl, refl), ap (λ (x : List ℕ). x ++ reply) so.0 ∙ sym (append-nil reply))
 more_answers s t u [] r (p ∷ m) q text reply so is = absurd so
 more_answers s t u (d ∷ done) r [] q text reply so is = absurd so
 more_answers s t u (d ∷ done) r (p ∷ m) q text reply so is =
     (so.0, so.1, so.2 ++ reply, so.3, more_answers so.1 t u done r m q so.2 reply so.4 is, ap (λ (x : List ℕ). x ++ reply) so.5 ∙ append_assoc so.0 so.2 reply)
 
-nothing_yet : (s : State) (h : Option (List ℕ)) → Answered s [] h h s
+nothing_yet : (s : Contents) (h : Option (List ℕ)) → Answered s [] h h s
 nothing_yet s h = record { m = []; text = []; answers = (refl, refl); written = Appends-nil h }
 
 -- one more request was answered
-answered-more : (s t u : State) (done : List Request) (r : Request) (h i j : Option (List ℕ)) (q : Memory) (reply : List ℕ)
+answered-more : (s t u : Contents) (done : List Request) (r : Request) (h i j : Option (List ℕ)) (q : Memory) (reply : List ℕ)
     → Answered s done h i t → Appends i j reply → IsReplyTo t (command_of r) q reply u → Answered s (done ++ r ∷ []) h j u
 answered-more s t u done r h i j q reply so writes is = record {
   m = so.m ++ q ∷ [];
@@ -48,7 +48,7 @@ answered-more s t u done r h i j q reply so writes is = record {
 }
 
 -- one more edit was made, and a front of its answer was written
-half-more : (s t u : State) (done : List Request) (r : Request) (h i j : Option (List ℕ)) (q : Memory) (reply : List ℕ) (n : ℕ)
+half-more : (s t u : Contents) (done : List Request) (r : Request) (h i j : Option (List ℕ)) (q : Memory) (reply : List ℕ) (n : ℕ)
     → Answered s done h i t → Appends i j (take n reply) → IsReplyTo t (command_of r) q reply u → HalfAnswered s done r h j u
 half-more s t u done r h i j q reply n so writes is = record {
   m = so.m;
@@ -81,10 +81,10 @@ one_more a b c d done line block so gives fits formed fit took =
 
 -- ---- the session
 
-pub session_starts : (a h : Option (List ℕ)) (s : State) → SoFar a a h h s s
+pub session_starts : (a h : Option (List ℕ)) (s : Contents) → SoFar a a h h s s
 session_starts a h s = ([], none_taken a, nothing_yet s h)
 
-pub session_goes_on : (a b c d h i j : Option (List ℕ)) (s t u : State) (line : List ℕ) (reply : Reply)
+pub session_goes_on : (a b c d h i j : Option (List ℕ)) (s t u : Contents) (line : List ℕ) (reply : Reply)
     → SoFar a b h i s t → GivesLine b c line → length line ≤ 65536 → IsAnswered c d line t reply u
     → ((text : List ℕ) → IsReply reply text → Appends i j text) → SoFar a d h j s u
 session_goes_on a b c d h i j s t u line reply so gives fits is writes = (
@@ -93,18 +93,18 @@ session_goes_on a b c d h i j s t u line reply so gives fits is writes = (
   answered-more s t u so.0 (record { line = line; block = is.block }) h i j is.answer.0 is.answer.1 so.2 (writes is.answer.1 is.answer.2) is.answer.3,
 )
 
-pub session_ends : (a b c h i : Option (List ℕ)) (s t : State) → SoFar a b h i s t → Keeps b c → IsAtEnd c → IsSession a c h i s t (Ok tt)
+pub session_ends : (a b c h i : Option (List ℕ)) (s t : Contents) → SoFar a b h i s t → Keeps b c → IsAtEnd c → IsSession a c h i s t (Ok tt)
 session_ends a b c h i s t so keeps end =
     ((so.0, record { each = so.1.each; fit = so.1.fit; lines = took-kept a b c (lines_in_all so.0) so.1.lines keeps }, so.2), end)
 
 -- where the lines have no further one
-pub session_at_line : (a b c h i : Option (List ℕ)) (s t : State) (k : Option LineFault) (part : List ℕ) (f : LineFault) → SoFar a b h i s t → k ≡ None
+pub session_at_line : (a b c h i : Option (List ℕ)) (s t : Contents) (k : Option LineFault) (part : List ℕ) (f : LineFault) → SoFar a b h i s t → k ≡ None
     → (f ≡ read.TooLong → BeginsLong b ⊎ (k ≡ Some f)) → (f ≡ read.Read → k ≡ None → BreaksOff b c part) → IsSession a c h i s t (Err (serve_fault_of f))
 session_at_line a b c h i s t k part read.Read so none long cut = (b, so, broken IsBegun b b c k [] part read.Read tt (took-none b) none long cut)
 session_at_line a b c h i s t k part read.TooLong so none long cut = (b, so, broken IsBegun b b c k [] part read.TooLong tt (took-none b) none long cut)
 
 -- where a block has no end
-pub session_open : (a b c d h i : Option (List ℕ)) (s t : State) (line : List ℕ) (f : ServeFault) → SoFar a b h i s t → GivesLine b c line → length line ≤ 65536
+pub session_open : (a b c d h i : Option (List ℕ)) (s t : Contents) (line : List ℕ) (f : ServeFault) → SoFar a b h i s t → GivesLine b c line → length line ≤ 65536
     → asks_block line ≡ true → Breaks BlockLines c d f → IsSession a d h i s t (Err f)
 session_open a b c d h i s t line fault.Read so gives fits asks breaks =
     (b, so, (line ∷ breaks.0, breaks.1, breaks.2, (asks, fits, breaks.3), took-trans b c breaks.1 (line ∷ []) breaks.0 gives breaks.4, breaks.5))
@@ -117,7 +117,7 @@ session_open a b c d h i s t line fault.NotText so gives fits asks breaks = absu
 session_open a b c d h i s t line fault.OutOfMemory so gives fits asks breaks = absurd breaks
 
 -- where an answer was broken off by the writer
-pub session_at_write : (a b c d h i j : Option (List ℕ)) (s t u : State) (line : List ℕ) (reply : Reply) (n : ℕ)
+pub session_at_write : (a b c d h i j : Option (List ℕ)) (s t u : Contents) (line : List ℕ) (reply : Reply) (n : ℕ)
     → SoFar a b h i s t → GivesLine b c line → length line ≤ 65536 → IsAnswered c d line t reply u
     → ((text : List ℕ) → IsReply reply text → Appends i j (take n text)) → IsSession a d h j s u (Err fault.Write)
 session_at_write a b c d h i j s t u line reply n so gives fits is writes = (
@@ -130,7 +130,7 @@ session_at_write a b c d h i j s t u line reply n so gives fits is writes = (
 -- ---- the answer to a request
 
 -- a line that asks for no block
-pub answered_line : (a : Option (List ℕ)) (line : List ℕ) (s t : State) (reply : Reply) → asks_block line ≡ false → IsAnswer s (line_command line) reply t → IsAnswered a a line s reply t
+pub answered_line : (a : Option (List ℕ)) (line : List ℕ) (s t : Contents) (reply : Reply) → asks_block line ≡ false → IsAnswer s (line_command line) reply t → IsAnswered a a line s reply t
 answered_line a line s t reply asks is = record {
   block = None;
   formed = subst (λ (b : Bool). HasBlock b None) (sym asks) tt;
@@ -140,7 +140,7 @@ answered_line a line s t reply asks is = record {
 }
 
 -- a line that asks for one
-pub answered_block : (a b : Option (List ℕ)) (line : List ℕ) (s t : State) (block : BlockText) (text : List ℕ) (reply : Reply) → asks_block line ≡ true → ReadsBlock a b (Ok block)
+pub answered_block : (a b : Option (List ℕ)) (line : List ℕ) (s t : Contents) (block : BlockText) (text : List ℕ) (reply : Reply) → asks_block line ≡ true → ReadsBlock a b (Ok block)
     → ((lines : List (List ℕ)) → HoldsText block lines → IsTextAnswer s (block_command line lines) text t) → IsReply reply text → IsAnswered a b line s reply t
 answered_block a b line s t block text reply asks reads is shown =
     let answer = is reads.0 reads.2 in

@@ -1,6 +1,6 @@
 -- The answers of a session to its requests.
 use Rattle.std.specs.Prelude.{◌≡◌, ℕ, true, List, [], ◌∷◌, ◌++◌, codes, Option, Some, None, ⊤}
-use Rattle.sbl_bench.specs.State.{State}
+use Rattle.sbl_bench.specs.Contents.{Contents}
 use Rattle.sbl_bench.specs.Edits.{Edit, IsOutOfMemory, IsVerdict, counted, is_of_script}
 use Rattle.sbl_bench.specs.Names.{script_name}
 use Rattle.sbl_bench.specs.declared.fault.EditFault.{EditFault}
@@ -36,35 +36,35 @@ pub data Memory : Type 0 where
   RefusedAfter : ℕ → Memory
 
 -- Nothing is changed, and this is written.
-abbrev pub Tells : State → List ℕ → List ℕ → State → Type 0
+abbrev pub Tells : Contents → List ℕ → List ℕ → Contents → Type 0
 Tells s expected text t = (text ≡ expected) × (t ≡ s)
 
 -- An edit has its verdict, and the bench is the one after it. Where memory was refused, that is its fault, and of the bench the
 -- count alone may have changed: it tells the runs that were made.
-abbrev pub IsEdit : State → Edit → Memory → Option EditFault → State → Type 0
+abbrev pub IsEdit : Contents → Edit → Memory → Option EditFault → Contents → Type 0
 IsEdit s e Enough f t = IsVerdict s e f t
 IsEdit s e BlockRefused f t = (is_of_script e ≡ true) × (f ≡ Some fault.OutOfMemory) × (t ≡ s)
 IsEdit s e (RefusedAfter n) f t = (f ≡ Some fault.OutOfMemory) × (t ≡ counted n s) × IsOutOfMemory s e t
 
 -- A report is written whole, or its memory was refused.
-abbrev pub IsReport : State → List ℕ → Memory → List ℕ → State → Type 0
+abbrev pub IsReport : Contents → List ℕ → Memory → List ℕ → Contents → Type 0
 IsReport s report Enough text t = Tells s report text t
 IsReport s report BlockRefused text t = ⊥
 IsReport s report (RefusedAfter n) text t = Tells s (edit_text (Some fault.OutOfMemory)) text t
 
 -- a report of a word; of one that is not there it says so, and wants no memory
-abbrev pub IsReportOrAbsent : State → Option (List ℕ) → Memory → List ℕ → State → Type 0
+abbrev pub IsReportOrAbsent : Contents → Option (List ℕ) → Memory → List ℕ → Contents → Type 0
 IsReportOrAbsent s None memory text t = Tells s (edit_text (Some fault.Absent)) text t
 IsReportOrAbsent s (Some report) memory text t = IsReport s report memory text t
 
 -- a block that is no text is refused for that, or its memory was refused
-abbrev pub IsNoText : State → EditFault → Memory → List ℕ → State → Type 0
+abbrev pub IsNoText : Contents → EditFault → Memory → List ℕ → Contents → Type 0
 IsNoText s f Enough text t = Tells s (edit_text (Some f)) text t
 IsNoText s f BlockRefused text t = Tells s (edit_text (Some fault.OutOfMemory)) text t
 IsNoText s f (RefusedAfter n) text t = ⊥
 
 -- the answer to a command, and the bench after it
-abbrev pub IsReplyTo : State → Command → Memory → List ℕ → State → Type 0
+abbrev pub IsReplyTo : Contents → Command → Memory → List ℕ → Contents → Type 0
 IsReplyTo s Nothing memory text t = Tells s [] text t
 IsReplyTo s (Makes e) memory text t = (f : Option EditFault) × IsEdit s e memory f t × (text ≡ edit_text f)
 IsReplyTo s Stems memory text t = IsReport s (stems_text s) memory text t
@@ -75,9 +75,9 @@ IsReplyTo s Bad memory text t = Tells s (ended (codes "no 52 BadCommand")) text 
 
 -- The whole text of a session of these requests, which begins with this bench, and the bench after it. m says of each request in
 -- turn whether its memory sufficed.
-abbrev pub Answers : State → List Request → List Memory → List ℕ → State → Type 0
+abbrev pub Answers : Contents → List Request → List Memory → List ℕ → Contents → Type 0
 Answers s [] [] text t = Tells s [] text t
 Answers s (request ∷ requests) (memory ∷ m) text t =
-    (first : List ℕ) × (next : State) × (rest : List ℕ)
+    (first : List ℕ) × (next : Contents) × (rest : List ℕ)
     × IsReplyTo s (command_of request) memory first next × Answers next requests m rest t × (text ≡ first ++ rest)
 Answers s requests m text t = ⊥

@@ -32,8 +32,8 @@ abbrev pub made_text : List (List ℕ) → List ℕ
 made_text lines = flat_map (λ line. line ++ 10 ∷ []) lines
 
 -- the most bytes of a script, and of the text of an edit
-abbrev pub most_bytes : ℕ
-most_bytes = 1048576
+abbrev pub max_script : ℕ
+max_script = 1048576
 
 -- a block stands at the front: its lines, and a point
 abbrev pub TookBlock : Option (List ℕ) → Option (List ℕ) → List (List ℕ) → Type 0
@@ -50,8 +50,8 @@ Breaks Good old new f = ⊥
 
 -- the text of these lines is held whole, or it is too long, or its memory was refused
 abbrev pub HasText : Option BlockFault → List ℕ → List (List ℕ) → Type 0
-HasText None bytes lines = (bytes ≡ made_text lines) × (length (made_text lines) ≤ most_bytes)
-HasText (Some TooLong) bytes lines = most_bytes < length (made_text lines)
+HasText None bytes lines = (bytes ≡ made_text lines) × (length (made_text lines) ≤ max_script)
+HasText (Some TooLong) bytes lines = max_script < length (made_text lines)
 HasText (Some OutOfMemory) bytes lines = ⊤
 
 abbrev pub HoldsText : BlockText → List (List ℕ) → Type 0

@@ -3,7 +3,7 @@ use Rattle.std.specs.Prelude.{◌≡◌, ◌≤◌, ℕ, true, List, Option, ⊤
 use Rattle.std.specs.Str.{chars}
 use Rattle.sbl_bench.specs.Edits as edits
 use Rattle.snowbench.specs.Commands as command
-use Rattle.sbl_bench.specs.State.{State}
+use Rattle.sbl_bench.specs.Contents.{Contents}
 use Rattle.snowbench.specs.Answers.{IsReplyTo, Memory}
 use Rattle.snowbench.specs.Block.{BlockLines, Breaks}
 use Rattle.snowbench.specs.Held.{AllFit, Took}
@@ -34,18 +34,18 @@ IsReply (reply.Report v) text = v.items ≡ text
 IsReply (reply.Fixed s) text = s.now ≡ text
 
 -- the text that answers a command, and the bench after it, for some memory
-abbrev pub IsTextAnswer : State → command.Command → List ℕ → State → Type 0
+abbrev pub IsTextAnswer : Contents → command.Command → List ℕ → Contents → Type 0
 IsTextAnswer s c text t = (memory : Memory) × IsReplyTo s c memory text t
 
-abbrev pub IsEditAnswer : State → edits.Edit → List ℕ → State → Type 0
+abbrev pub IsEditAnswer : Contents → edits.Edit → List ℕ → Contents → Type 0
 IsEditAnswer s e text t = IsTextAnswer s (command.Makes e) text t
 
 -- the reply to a command, and the bench after it, for some memory
-abbrev pub IsAnswer : State → command.Command → Reply → State → Type 0
+abbrev pub IsAnswer : Contents → command.Command → Reply → Contents → Type 0
 IsAnswer s c r t = (memory : Memory) × (text : List ℕ) × IsReply r text × IsReplyTo s c memory text t
 
 -- the line and its block, where it asks for one, have this reply; the block was taken from the front of the input
-pub record IsAnswered (input new_input : Option (List ℕ)) (line : List ℕ) (s : State) (r : Reply) (t : State) : Type 0 where
+pub record IsAnswered (input new_input : Option (List ℕ)) (line : List ℕ) (s : Contents) (r : Reply) (t : Contents) : Type 0 where
   pub block : Option (List (List ℕ))
   pub formed : IsRequest (record { line = line; block = block })
   pub fit : AllFit (block_lines block)

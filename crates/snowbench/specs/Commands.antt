@@ -4,7 +4,7 @@ use Rattle.std.specs.Str.{bytes_eq, chars, is_utf8}
 use Rattle.sbl_bench.specs.Edits as edits
 use Rattle.sbl_text.specs.declared.fault.ScriptFault.{ScriptFault}
 use Rattle.sbl_text.specs.declared.fault.ScriptFault.TheVariants as fault
-use Rattle.snowbench.specs.Block.{made_text, most_bytes}
+use Rattle.snowbench.specs.Block.{made_text, max_script}
 use Rattle.snowbench.specs.Requests.{Request}
 use Rattle.snowbench.specs.Words.{argument, command_word}
 
@@ -39,7 +39,7 @@ line_command (b ∷ line) = if is_utf8 (b ∷ line) then text_command (b ∷ lin
 -- the text of a block, or why it is none
 abbrev pub text_of_block : List (List ℕ) → Result (List ℕ) ScriptFault
 text_of_block lines =
-    if nat_lt most_bytes (length (made_text lines)) then Err fault.ScriptTooLong
+    if nat_lt max_script (length (made_text lines)) then Err fault.ScriptTooLong
     else (if is_utf8 (made_text lines) then Ok (made_text lines) else Err fault.NotUtf8)
 
 abbrev pub with_text : (List ℕ → edits.Edit) → Result (List ℕ) ScriptFault → Command

@@ -21,23 +21,23 @@ Counts old new (Err Interrupted) = new ≡ old
 Counts old new (Err Failed) = new ≡ old + 1
 
 -- how often a read or a write is tried, where each was interrupted
-abbrev pub most_tries : ℕ
-most_tries = 1001
+abbrev pub max_tries : ℕ
+max_tries = 1001
 
 -- The count of interruptions in a row rises by one at each, up to that, and begins again at 0 after anything else.
 abbrev pub CountsRow : ℕ → ℕ → Result ℕ Stop → Type 0
 CountsRow old new (Ok n) = new ≡ 0
-CountsRow old new (Err Interrupted) = new ≡ min (old + 1) most_tries
+CountsRow old new (Err Interrupted) = new ≡ min (old + 1) max_tries
 CountsRow old new (Err Failed) = new ≡ 0
 
 -- the most reads that a reader is asked for
-abbrev pub most_reads : ℕ
-most_reads = 1099511627776
+abbrev pub max_reads : ℕ
+max_reads = 1099511627776
 
 -- The count of reads rises by one at each, up to the most.
 abbrev pub CountsRead : ℕ → ℕ → Type 0
-CountsRead old new = new ≡ min (old + 1) most_reads
+CountsRead old new = new ≡ min (old + 1) max_reads
 
 -- the writer has failed since, or was interrupted more than 1,000 times in a row
 abbrev pub HasStopped : {W : Type 0} → (W → ℕ) → (W → ℕ) → W → W → Type 0
-HasStopped failures interruptions old new = (failures old < failures new) ⊎ (most_tries ≤ interruptions new)
+HasStopped failures interruptions old new = (failures old < failures new) ⊎ (max_tries ≤ interruptions new)

@@ -7,9 +7,9 @@ use Rattle.sbl_script.specs.Parsed.{Source}
 use Rattle.sbl_machine.specs.Names.{name_of}
 use Rattle.sbl_machine.specs.Outcome as machine
 use Rattle.sbl_machine.specs.Outcome.{Outcome', run_of}
-use Rattle.sbl_bench.specs.Rows.{most_steps}
-use Rattle.sbl_bench.specs.State.{most_characters}
-use Rattle.snowbench.specs.LinesOf.{lines_of, longest_line}
+use Rattle.sbl_bench.specs.Rows.{max_steps}
+use Rattle.sbl_bench.specs.Contents.{max_word_length}
+use Rattle.snowbench.specs.LinesOf.{lines_of, max_line}
 use Rattle.snowbench.specs.Rows.{records_text}
 use Rattle.snowbench.specs.declared.faults.ServeFault.{ServeFault}
 use Rattle.snowbench.specs.declared.faults.ServeFault.TheVariants as fault
@@ -28,8 +28,8 @@ of_outcome (machine.Refused f) = Refused (name_of f)
 -- a word of more characters than a run takes is refused without one
 abbrev pub made_of : Source → List ℕ → Got
 made_of script word =
-    if nat_lt most_characters (length word) then Refused (codes "WordTooLong")
-    else of_outcome (run_of script word most_steps)
+    if nat_lt max_word_length (length word) then Refused (codes "WordTooLong")
+    else of_outcome (run_of script word max_steps)
 
 -- as a row shows it
 abbrev pub shown : Got → List ℕ
@@ -57,7 +57,7 @@ difference script n word expected = row_of n word expected (made_of script (char
 -- why a line can't be taken: it has more bytes than it may, or it is not UTF-8
 abbrev pub line_fault : List ℕ → Option ServeFault
 line_fault line =
-    if nat_lt longest_line (length line) then Some fault.LineTooLong
+    if nat_lt max_line (length line) then Some fault.LineTooLong
     else (if is_utf8 line then None else Some fault.NotText)
 
 -- of two lines with one number the word's comes first

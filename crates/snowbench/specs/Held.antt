@@ -1,8 +1,8 @@
 -- What a `Lines` has yet to give: what it holds, and then what its reader has left.
 use Rattle.std.specs.Prelude.{◌≡◌, ◌≢◌, ◌⊎◌, ◌<◌, ◌≤◌, ◌++◌, ℕ, List, [], ◌∷◌, Option, Some, None, ⊤, slice_range, length, min, ◌+◌, ◌*◌, ◌-◌}
 use Rattle.std.specs.Io.KnownBytes.{Consumes, IsAtEnd, prepend_known}
-use Rattle.snowbench.specs.Devices.{most_reads, most_tries}
-use Rattle.snowbench.specs.LinesOf.{AreWhole, lines_of, longest_line}
+use Rattle.snowbench.specs.Devices.{max_reads, max_tries}
+use Rattle.snowbench.specs.LinesOf.{AreWhole, lines_of, max_line}
 use Rattle.snowbench.specs.declared.lines.Lines.{Lines}
 use Rattle.snowbench.specs.declared.lines.LineEnd.{LineEnd}
 use Rattle.snowbench.specs.declared.lines.LineEnd.TheVariants.{Feed, Input, Beyond}
@@ -32,11 +32,11 @@ module _ {R : Type 0} where
 
   -- the bound on reads: how many the reader will have counted once these lines ask for no more
   abbrev pub reads_bound : (R → ℕ) → Lines R → ℕ
-  reads_bound reads l = min (reads l.reader + l.reads_left) most_reads
+  reads_bound reads l = min (reads l.reader + l.reads_left) max_reads
 
   -- the reader has failed since, or was asked for as many reads as the bound, or was interrupted more than 1,000 times in a row
   abbrev pub HasCause : (R → ℕ) → (R → ℕ) → (R → ℕ) → Lines R → Lines R → Type 0
-  HasCause failures interruptions reads old new = (failures old.reader < failures new.reader) ⊎ (reads_bound reads old ≤ reads new.reader) ⊎ (most_tries ≤ interruptions new.reader)
+  HasCause failures interruptions reads old new = (failures old.reader < failures new.reader) ⊎ (reads_bound reads old ≤ reads new.reader) ⊎ (max_tries ≤ interruptions new.reader)
 
   -- a fault of reading has its cause in the reader or a bound, or is one that the lines answer again
   abbrev pub HasReason : (R → ℕ) → (R → ℕ) → (R → ℕ) → Lines R → Lines R → ServeFault → Type 0
@@ -51,7 +51,7 @@ NoFeed (b ∷ bytes) = (b ≢ 10) × NoFeed bytes
 abbrev pub TakesLine : Option (List ℕ) → Option (List ℕ) → List ℕ → LineEnd → Type 0
 TakesLine old new line Feed = Consumes old new (line ++ 10 ∷ [])
 TakesLine old new line Input = Consumes old new line × IsAtEnd new
-TakesLine old new line Beyond = (length line ≡ longest_line + 1) × (b : ℕ) × (b ≢ 10) × Consumes old new (line ++ b ∷ [])
+TakesLine old new line Beyond = (length line ≡ max_line + 1) × (b : ℕ) × (b ≢ 10) × Consumes old new (line ++ b ∷ [])
 
 -- Reading broke off in a line: a front of it was taken, and no line feed.
 abbrev pub BreaksOff : Option (List ℕ) → Option (List ℕ) → List ℕ → Type 0
@@ -77,12 +77,12 @@ GivesLine old new line = Took old new (line ∷ [])
 
 -- a line has more bytes than it may, its end not counted
 abbrev pub IsTooLong : List ℕ → Type 0
-IsTooLong line = longest_line < length line
+IsTooLong line = max_line < length line
 
 -- no line has
 abbrev pub AllFit : List (List ℕ) → Type 0
 AllFit [] = ⊤
-AllFit (line ∷ lines) = (length line ≤ longest_line) × AllFit lines
+AllFit (line ∷ lines) = (length line ≤ max_line) × AllFit lines
 
 -- the first of the lines is too long
 abbrev pub BeginsLong : Option (List ℕ) → Type 0

@@ -4,15 +4,15 @@ use Rattle.std.specs.Str.{chars, is_utf8}
 use Rattle.std.specs.Io.KnownBytes.{IsAtEnd}
 use Rattle.std.specs.declared.vec.Vec.{Vec}
 use Rattle.std.specs.declared.alloc.Global.{Global}
-use Rattle.sbl_bench.specs.State.{State, opened, opening_fault}
+use Rattle.sbl_bench.specs.Contents.{Contents, opened, opening_fault}
 use Rattle.sbl_bench.specs.declared.fault.EditFault.TheVariants as edit
 use Rattle.sbl_script.specs.Parsed.{Source}
 use Rattle.sbl_script.specs.Reading.{IsFaultOf, IsScriptOf}
 use Rattle.sbl_text.specs.declared.fault.ScriptFault.{ScriptFault}
 use Rattle.sbl_text.specs.declared.fault.ScriptFault.TheVariants as script
-use Rattle.snowbench.specs.Block.{AllText, BlockLines, Breaks, TookBlock, made_text, most_bytes, point}
+use Rattle.snowbench.specs.Block.{AllText, BlockLines, Breaks, TookBlock, made_text, max_script, point}
 use Rattle.snowbench.specs.Held.{HasCause, Took, fault_of}
-use Rattle.snowbench.specs.LinesOf.{longest_line}
+use Rattle.snowbench.specs.LinesOf.{max_line}
 use Rattle.snowbench.specs.declared.lines.Lines.{Lines}
 use Rattle.snowbench.specs.declared.faults.LineFault.TheVariants as line
 use Rattle.snowbench.specs.declared.faults.LoadFault.{LoadFault}
@@ -32,7 +32,7 @@ TookWords old new words = WordLines words × (Took old new (words ++ point ∷ [
 -- Lines of words were taken, and one more that is not UTF-8.
 abbrev pub TookNoText : Option (List ℕ) → Option (List ℕ) → Type 0
 TookNoText old new =
-    (done : List (List ℕ)) × (first : List ℕ) × WordLines done × (first ≢ point) × (length first ≤ longest_line) × (is_utf8 first ≡ false)
+    (done : List (List ℕ)) × (first : List ℕ) × WordLines done × (first ≢ point) × (length first ≤ max_line) × (is_utf8 first ≡ false)
     × Took old new (done ++ first ∷ [])
 
 -- Some lines of words were taken.
@@ -43,8 +43,8 @@ TookSome old new = (lines : List (List ℕ)) × BlockLines lines × Took old new
 
 -- the text of the script block; or it is too long, or its memory was refused, though it was read to its end; or it has no end
 abbrev pub ReadsScript : Option (List ℕ) → Option (List ℕ) → Result (Vec ℕ Global) LoadFault → Type 0
-ReadsScript old new (Ok text) = (lines : List (List ℕ)) × TookBlock old new lines × (text.items ≡ made_text lines) × (length (made_text lines) ≤ most_bytes)
-ReadsScript old new (Err (Script script.ScriptTooLong)) = (lines : List (List ℕ)) × TookBlock old new lines × (most_bytes < length (made_text lines))
+ReadsScript old new (Ok text) = (lines : List (List ℕ)) × TookBlock old new lines × (text.items ≡ made_text lines) × (length (made_text lines) ≤ max_script)
+ReadsScript old new (Err (Script script.ScriptTooLong)) = (lines : List (List ℕ)) × TookBlock old new lines × (max_script < length (made_text lines))
 ReadsScript old new (Err (Script f)) = ⊥
 ReadsScript old new (Err (Open f)) = ⊥
 ReadsScript old new (Err (Input fault.OutOfMemory)) = (lines : List (List ℕ)) × TookBlock old new lines
@@ -83,7 +83,7 @@ AfterSource old external P = (s : Source) × (between : Option (List ℕ)) × To
 -- What loading answers: the bench of the script and the words, or why there is none, and what was taken. The script block is read
 -- to its end before it is judged, the script is judged before the words are read, and the words are all read before they are
 -- judged. A fault of the words stands after a script block that is read as a script.
-abbrev pub IsLoaded : {B : Type 0} → Option (List ℕ) → Option (List ℕ) → List ℕ → (B → State) → Result B LoadFault → Type 0
+abbrev pub IsLoaded : {B : Type 0} → Option (List ℕ) → Option (List ℕ) → List ℕ → (B → Contents) → Result B LoadFault → Type 0
 IsLoaded old new external state (Ok bench) =
     (s : Source) × (words : List (List ℕ)) × IsInput old new external s words
     × (opening_fault [] (map chars words) ≡ None) × (state bench ≡ opened s (map chars words))

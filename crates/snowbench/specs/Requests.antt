@@ -4,7 +4,7 @@ use Rattle.std.specs.List.{All, before_first, flat_map}
 use Rattle.std.specs.Str.{bytes_eq}
 use Rattle.snowbench.specs.Block.{BlockLines, NoPoint, point}
 use Rattle.snowbench.specs.Held.{AllFit, Took}
-use Rattle.snowbench.specs.LinesOf.{longest_line}
+use Rattle.snowbench.specs.LinesOf.{max_line}
 use Rattle.snowbench.specs.Words.{command_word}
 
 pub record Request : Type 0 where
@@ -44,7 +44,7 @@ pub record TookRequests (old new : Option (List ℕ)) (requests : List Request) 
 -- a line that asks for a block, and lines before the point of that block
 abbrev pub IsOpen : List (List ℕ) → Type 0
 IsOpen [] = ⊥
-IsOpen (line ∷ lines) = (asks_block line ≡ true) × (length line ≤ longest_line) × BlockLines lines
+IsOpen (line ∷ lines) = (asks_block line ≡ true) × (length line ≤ max_line) × BlockLines lines
 
 -- lines of a request that is not whole: none yet, or these
 abbrev pub IsBegun : List (List ℕ) → Type 0

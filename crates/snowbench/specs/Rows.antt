@@ -9,7 +9,7 @@ use Rattle.sbl_machine.specs.Names.{name_of}
 use Rattle.sbl_machine.specs.Outcome.{Outcome', Stem, Refused}
 use Rattle.sbl_bench.specs.Classes.{Class, class_of, classes_of}
 use Rattle.sbl_bench.specs.Rows.{Row, rows_of}
-use Rattle.sbl_bench.specs.State.{State}
+use Rattle.sbl_bench.specs.Contents.{Contents}
 
 -- the fields of a row: the word, and its stem or the name of its run's fault
 abbrev pub outcome_fields : Outcome' → List (List ℕ)
@@ -30,10 +30,10 @@ abbrev pub records_text : List (List (List ℕ)) → List ℕ
 records_text records = flat_map record_line records
 
 -- the rows of the current script over the current vocabulary
-abbrev pub rows_now : State → List Row
+abbrev pub rows_now : Contents → List Row
 rows_now s = rows_of s.script s.words
 
-unfoldable pub stems_text : State → List ℕ
+unfoldable pub stems_text : Contents → List ℕ
 stems_text s = records_text (map row_fields (rows_now s))
 
 -- the fields of a class: its stem, and then its words
@@ -41,7 +41,7 @@ unfoldable pub class_fields : Class → List (List ℕ)
 class_fields c = map encode_utf8_all (c.stem ∷ c.words)
 
 -- the classes of the current rows
-unfoldable pub classes_text : State → List ℕ
+unfoldable pub classes_text : Contents → List ℕ
 classes_text s = records_text (map class_fields (classes_of (rows_now s)))
 
 -- the fields of a word's class, or of its row where its run is refused and it has no class
@@ -49,9 +49,9 @@ abbrev pub class_or_row : Option Class → Row → List (List ℕ)
 class_or_row (Some class) row = class_fields class
 class_or_row None row = row_fields row
 
-abbrev pub class_or_row_text : State → List ℕ → Row → List ℕ
+abbrev pub class_or_row_text : Contents → List ℕ → Row → List ℕ
 class_or_row_text s word row = records_text (class_or_row (class_of (rows_now s) word) row ∷ [])
 
 -- what tells of a word's class, and of no word that is not there
-unfoldable pub class_text : State → List ℕ → Option (List ℕ)
+unfoldable pub class_text : Contents → List ℕ → Option (List ℕ)
 class_text s word = option_map (class_or_row_text s word) (find (λ row. bytes_eq word row.word) (rows_now s))

@@ -1,7 +1,7 @@
 -- A session: what is written, and what the bench is then, by the bytes of the input.
 use Rattle.std.specs.Prelude.{◌≡◌, ◌⊎◌, ◌++◌, ℕ, List, [], ◌∷◌, Option, Some, Result, Ok, Err, ⊤, take}
 use Rattle.std.specs.Io.KnownBytes.{Appends, IsAtEnd}
-use Rattle.sbl_bench.specs.State.{State}
+use Rattle.sbl_bench.specs.Contents.{Contents}
 use Rattle.snowbench.specs.Answers.{Answers, IsReplyTo, Memory}
 use Rattle.snowbench.specs.Block.{Breaks}
 use Rattle.snowbench.specs.Commands.{command_of}
@@ -15,17 +15,17 @@ use Rattle.snowbench.specs.declared.faults.ServeFault.TheVariants as fault
 
 -- These requests, and no more, were answered: for some list m, which says of each whether its memory sufficed, the answers to them
 -- were written, and the bench is the one after them.
-pub record Answered (s : State) (requests : List Request) (held new_held : Option (List ℕ)) (t : State) : Type 0 where
+pub record Answered (s : Contents) (requests : List Request) (held new_held : Option (List ℕ)) (t : Contents) : Type 0 where
   pub m : List Memory
   pub text : List ℕ
   pub answers : Answers s requests m text t
   pub written : Appends held new_held text
 
 -- After these requests were answered, the edit of one more was made, and a front of its answer was written.
-pub record HalfAnswered (s : State) (requests : List Request) (request : Request) (held new_held : Option (List ℕ)) (t : State) : Type 0 where
+pub record HalfAnswered (s : Contents) (requests : List Request) (request : Request) (held new_held : Option (List ℕ)) (t : Contents) : Type 0 where
   pub m : List Memory
   pub text : List ℕ
-  pub between : State
+  pub between : Contents
   pub answers : Answers s requests m text between
   pub memory : Memory
   pub reply : List ℕ
@@ -34,14 +34,14 @@ pub record HalfAnswered (s : State) (requests : List Request) (request : Request
   pub written : Appends held new_held (text ++ take count reply)
 
 -- The session so far: requests were taken from the front of the input, and these, and no more, were answered.
-abbrev pub SoFar : Option (List ℕ) → Option (List ℕ) → Option (List ℕ) → Option (List ℕ) → State → State → Type 0
+abbrev pub SoFar : Option (List ℕ) → Option (List ℕ) → Option (List ℕ) → Option (List ℕ) → Contents → Contents → Type 0
 SoFar input new_input held new_held s t = (requests : List Request) × TookRequests input new_input requests × Answered s requests held new_held t
 
 -- What a session of this input writes, and what the bench is after it, by how it ends, and what input it leaves then. At the end
 -- of input all requests are answered. Where the input ends inside a block, a line is too long, or the reader stops, all requests
 -- before that are answered, and no line feed ends the request that it broke off. Where the writer stops, the edit of the
 -- request in hand is made and its answer broken off.
-abbrev pub IsSession : Option (List ℕ) → Option (List ℕ) → Option (List ℕ) → Option (List ℕ) → State → State → Result (Unit {0}) ServeFault → Type 0
+abbrev pub IsSession : Option (List ℕ) → Option (List ℕ) → Option (List ℕ) → Option (List ℕ) → Contents → Contents → Result (Unit {0}) ServeFault → Type 0
 IsSession input new_input held new_held s t (Ok u) = SoFar input new_input held new_held s t × IsAtEnd new_input
 IsSession input new_input held new_held s t (Err fault.Write) =
     (requests : List Request) × (request : Request) × TookRequests input new_input (requests ++ request ∷ []) × HalfAnswered s requests request held new_held t

@@ -2,8 +2,8 @@
 use Rattle.std.specs.Prelude.{◌≡◌, ℕ, List, [], Option, None, Result, Ok, Err, map, take}
 use Rattle.std.specs.Str.{chars}
 use Rattle.std.specs.Io.KnownBytes.{Appends}
-use Rattle.sbl_bench.specs.Kept.{state_of}
-use Rattle.sbl_bench.specs.State.{opened, opening_fault}
+use Rattle.sbl_bench.specs.Kept.{contents_of}
+use Rattle.sbl_bench.specs.Contents.{opened, opening_fault}
 use Rattle.sbl_script.specs.Parsed.{Source}
 use Rattle.snowbench.specs.Loaded.{IsInput, IsLoaded}
 use Rattle.snowbench.specs.Rows.{stems_text}
@@ -20,4 +20,4 @@ IsStemmed old new external held new_held (Ok u) =
 IsStemmed old new external held new_held (Err (Input fault.Write)) =
     (s : Source) × (words : List (List ℕ)) × IsInput old new external s words × (opening_fault [] (map chars words) ≡ None)
     × (n : ℕ) × Appends held new_held (take n (stems_text (opened s (map chars words))))
-IsStemmed old new external held new_held (Err f) = IsLoaded old new external (λ b. state_of b) (Err f) × Appends held new_held []
+IsStemmed old new external held new_held (Err f) = IsLoaded old new external (λ b. contents_of b) (Err f) × Appends held new_held []

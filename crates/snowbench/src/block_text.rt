@@ -1,7 +1,7 @@
 //! The text of a block: lines up to a line that is a single point.
 ghost use Rattle.std.specs.Prelude.{◌≡◌, ◌<◌, ◌≤◌, ◌++◌, [], ◌∷◌, List, ℕ, OnOk, IfOk, IfErr, None, Some, length};
 ghost use Rattle.std.specs.Io.KnownBytes.{Keeps};
-ghost use Rattle.snowbench.specs.Block.{HasText, HoldsText, ReadsBlock, made_text, most_bytes};
+ghost use Rattle.snowbench.specs.Block.{HasText, HoldsText, ReadsBlock, made_text, max_script};
 ghost use Rattle.snowbench.specs.Faults.{left_by, serve_fault_of};
 ghost use Rattle.snowbench.specs.Held.{HasReason, fault_of, fuel_of, held_of, input_of, reads_bound};
 ghost use Rattle.snowbench.specs.declared.faults.LineFault.{LineFault};

@@ -17,7 +17,7 @@ use crate::records::text_of;
 use crate::text_lines::first_line;
 use crate::writing::write_all;
 use csv::{ByteRecord, WriterBuilder};
-use sbl_bench::bench::MOST_CHARACTERS;
+use sbl_bench::bench::MAX_WORD_LENGTH;
 use sbl_machine::{Machine, Meter, Outcome, Table};
 use sbl_script::Script;
 use std::alloc::{AllocError, Global};
@@ -44,7 +44,7 @@ fn run_word(
     ensures { (script : Source) → IsLinkedMachineOf machine.now script → IfOk result (λ g. view_got g ≡ spec.made_of script (chars word.now)) }
 {
     let characters: Vec<char> = word.chars().collect(alloc)?;
-    if characters.len() > MOST_CHARACTERS {
+    if characters.len() > MAX_WORD_LENGTH {
         return Ok(Got::Refused("WordTooLong"));
     }
     // No list has as many lines as a meter counts, so only memory can be refused.

@@ -1,7 +1,7 @@
 //! What is read from and written to: devices that may fail or be interrupted, and are counted at it.
 ghost use Rattle.std.specs.Prelude.{◌≡◌, ◌≤◌, ◌<◌, ◌^◌, ℕ, List, Option, length, IfOk, Err};
 ghost use Rattle.std.specs.Io.KnownBytes.{Keeps};
-ghost use Rattle.snowbench.specs.Devices.{Reads, Writes, Counts, CountsRead, CountsRow, most_reads, most_tries};
+ghost use Rattle.snowbench.specs.Devices.{Reads, Writes, Counts, CountsRead, CountsRow, max_reads, max_tries};
 
 use std::io::{ErrorKind, Read, Write};
 
@@ -9,7 +9,7 @@ use std::io::{ErrorKind, Read, Write};
 pub(crate) const MAX_READS: u64 = 1_099_511_627_776;
 
 /// How often one read or write is tried: 1,000 interruptions in a row are borne (our own choice).
-pub(crate) const MOST_TRIES: u16 = 1_001;
+pub(crate) const MAX_TRIES: u16 = 1_001;
 
 /// Why a read or a write did nothing.
 #[derive(Clone, Copy, Debug, PartialEq, Eq)]
@@ -77,8 +77,8 @@ pub(crate) struct Stops {
     pub(crate) failures: u64,
     pub(crate) interruptions: u16,
     pub(crate) reads: u64,
-    ghost capped: { interruptions ≤ most_tries },
-    ghost in_bound: { reads ≤ most_reads },
+    ghost capped: { interruptions ≤ max_tries },
+    ghost in_bound: { reads ≤ max_reads },
 }
 
 impl Stops {
@@ -111,7 +111,7 @@ impl Stops {
         ensures reads { self.new.reads ≡ self.old.reads }
     {
         if kind == ErrorKind::Interrupted || self.failures == u64::MAX {
-            self.interruptions = (self.interruptions + 1).min(MOST_TRIES);
+            self.interruptions = (self.interruptions + 1).min(MAX_TRIES);
             return Stop::Interrupted;
         }
         self.failures += 1;

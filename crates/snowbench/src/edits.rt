@@ -1,25 +1,25 @@
 //! Edits, as a session asks for them.
 ghost use Rattle.std.specs.Prelude.{◌≡◌, ◌≤◌, ℕ, List, Some, true, false, length, take};
 ghost use Rattle.std.specs.Str.{chars, is_utf8};
-ghost use Rattle.sbl_bench.specs.Kept.{state_of};
+ghost use Rattle.sbl_bench.specs.Kept.{contents_of};
 ghost use Rattle.sbl_bench.specs.Edits.{Add, Remove, Routine};
 ghost use Rattle.snowbench.specs.Answers as spec;
 ghost use Rattle.snowbench.specs.Block.{HoldsText};
 ghost use Rattle.snowbench.specs.CommandViews.{IsEditAnswer, IsTextAnswer};
 ghost use Rattle.snowbench.specs.Commands.{block_command};
 ghost use Rattle.snowbench.specs.Words.{argument};
-ghost use Rattle.snowbench.specs.LinesOf.{longest_line};
+ghost use Rattle.snowbench.specs.LinesOf.{max_line};
 
 use crate::block_text::{BlockFault, BlockText};
 use crate::commands::argument_of;
 use crate::lines::MAX_LINE;
 use crate::replies::{BAD_COMMAND, edit_text};
-use sbl_bench::bench::MOST_CHARACTERS;
+use sbl_bench::bench::MAX_WORD_LENGTH;
 use sbl_bench::{Bench, EditFault};
 use sbl_script::ScriptFault;
 
 /// How many characters of a word that is added are looked at: one more than a word may have.
-const MOST_LOOKED_AT: usize = MOST_CHARACTERS + 1;
+const MAX_LOOKED_AT: usize = MAX_WORD_LENGTH + 1;
 
 /// The first characters of a word, put into the room, as many as it holds; answers how many. Takes no memory.
 pub(crate) fn first_characters(word: &str, room: &mut [char]) -> usize
@@ -40,17 +40,17 @@ pub(crate) fn first_characters(word: &str, room: &mut [char]) -> usize
 /// Adds a word, and gives the answer. A word that is too long is so by its first characters already; so none of its memory
 /// is refused before the edit itself.
 pub(crate) fn add_word(bench: &mut Bench, word: &str) -> &'static str
-    ensures { IsEditAnswer (state_of bench.old) (Add (chars word.now)) result.now (state_of bench.new) }
+    ensures { IsEditAnswer (contents_of bench.old) (Add (chars word.now)) result.now (contents_of bench.new) }
 {
-    let mut room = ['\0'; MOST_LOOKED_AT];
+    let mut room = ['\0'; MAX_LOOKED_AT];
     let count = first_characters(word, &mut room);
     edit_text(bench.add(&room[..count]))
 }
 
 /// Removes a word, and gives the answer. Takes no memory.
 pub(crate) fn remove_word(bench: &mut Bench, word: &str) -> &'static str
-    requires { length word.now ≤ longest_line }
-    ensures { IsEditAnswer (state_of bench.old) (Remove (chars word.now)) result.now (state_of bench.new) }
+    requires { length word.now ≤ max_line }
+    ensures { IsEditAnswer (contents_of bench.old) (Remove (chars word.now)) result.now (contents_of bench.new) }
 {
     let mut room = ['\0'; MAX_LINE];
     let count = first_characters(word, &mut room);
@@ -59,8 +59,8 @@ pub(crate) fn remove_word(bench: &mut Bench, word: &str) -> &'static str
 
 /// Gives a routine this text for its body, and gives the answer. A text that is not UTF-8 is refused for that.
 fn replace_routine(bench: &mut Bench, name: &str, text: &[u8]) -> &'static str
-    ensures text { is_utf8 text.now ≡ true → IsEditAnswer (state_of bench.old) (Routine name.now text.now) result.now (state_of bench.new) }
-    ensures bytes { is_utf8 text.now ≡ false → (result.now ≡ spec.edit_text (Some (EditFault.Script ScriptFault.NotUtf8))) × (state_of bench.new ≡ state_of bench.old) }
+    ensures text { is_utf8 text.now ≡ true → IsEditAnswer (contents_of bench.old) (Routine name.now text.now) result.now (contents_of bench.new) }
+    ensures bytes { is_utf8 text.now ≡ false → (result.now ≡ spec.edit_text (Some (EditFault.Script ScriptFault.NotUtf8))) × (contents_of bench.new ≡ contents_of bench.old) }
 {
     match str::from_utf8(text) {
         Ok(text) => edit_text(bench.replace_routine(name, text)),
@@ -71,7 +71,7 @@ fn replace_routine(bench: &mut Bench, name: &str, text: &[u8]) -> &'static str
 /// Makes the edit of the script that a line and its block ask for, and gives the answer. A line that is not UTF-8 is bad,
 /// whatever its block is; then a fault of the block comes before any other.
 pub(crate) fn edit_script(bench: &mut Bench, line: &[u8], block: BlockText) -> &'static str
-    ensures { (lines : List (List ℕ)) → HoldsText block lines → IsTextAnswer (state_of bench.old) (block_command line.now lines) result.now (state_of bench.new) }
+    ensures { (lines : List (List ℕ)) → HoldsText block lines → IsTextAnswer (contents_of bench.old) (block_command line.now lines) result.now (contents_of bench.new) }
 {
     let Ok(line) = str::from_utf8(line) else {
         return BAD_COMMAND;

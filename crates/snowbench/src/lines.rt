@@ -1,9 +1,9 @@
 //! Lines of a reader, in buffers of their own that do not grow.
 ghost use Rattle.std.specs.Prelude.{◌≡◌, ◌≢◌, ◌+◌, ◌≤◌, ◌<◌, ◌⊎◌, [], ◌∷◌, vec_len, vec_capacity, OnOk, OnErr, IfOk, IfErr, MatchOption, Some, None, Ok, Err, true, false, length, IsSome};
 ghost use Rattle.std.specs.Io.KnownBytes.{Consumes, IsAtEnd, Keeps};
-ghost use Rattle.snowbench.specs.LinesOf.{chomped, longest_line};
+ghost use Rattle.snowbench.specs.LinesOf.{chomped, max_line};
 
-use crate::devices::{MAX_READS, MOST_TRIES, Source, Stop};
+use crate::devices::{MAX_READS, MAX_TRIES, Source, Stop};
 use crate::faults::LineFault;
 use std::alloc::{AllocError, Global};
 
@@ -39,11 +39,11 @@ pub struct Lines<R> {
     ghost in_order: { at ≤ end },
     ghost in_chunk: { end ≤ vec_len chunk },
     ghost whole: { vec_len chunk ≡ 4096 },
-    ghost room: { longest_line + 1 ≤ vec_capacity line },
+    ghost room: { max_line + 1 ≤ vec_capacity line },
 }
 
 impl<R: Source + Drop> Lines<R> {
-    ghost use Rattle.snowbench.specs.Devices.{most_reads};
+    ghost use Rattle.snowbench.specs.Devices.{max_reads};
     ghost use Rattle.snowbench.specs.Held.{fuel_of, held_of, line_of, fault_of, input_of, reads_bound, BeginsLong, BreaksOff, HasCause, TakesLine, NoFeed, GivesLine};
 
     /// The lines of `reader`, which is asked for at most 1,099,511,627,776 reads. Takes its buffers at once; a refused
@@ -51,7 +51,7 @@ impl<R: Source + Drop> Lines<R> {
     pub fn new(alloc: Global, reader: R) -> Result<Lines<R>, AllocError>
         ensures input { IfOk result (λ lines. input_of R.left lines ≡ R.left reader) }
         ensures fault { IfOk result (λ lines. fault_of lines ≡ None) }
-        ensures bound { IfOk result (λ lines. reads_bound R.reads lines ≡ most_reads) }
+        ensures bound { IfOk result (λ lines. reads_bound R.reads lines ≡ max_reads) }
     {
         Lines::with_reads(alloc, reader, MAX_READS)
     }
@@ -102,7 +102,7 @@ impl<R: Source + Drop> Lines<R> {
         ensures bound { reads_bound R.reads self.new ≡ reads_bound R.reads self.old }
         ensures why { IfErr result (λ fault. (fault ≡ LineFault.Read) × HasCause R.failures R.interruptions R.reads self.old self.new) }
     {
-        for _ in 0..MOST_TRIES {
+        for _ in 0..MAX_TRIES {
             if self.reads_left == 0 {
                 return Err(LineFault::Read);
             }
@@ -177,7 +177,7 @@ impl<R: Source + Drop> Lines<R> {
     /// Takes the next line, or says that the input has ended.
     fn take_whole(&mut self) -> Result<bool, LineFault>
         ensures more { IfOk result (λ more. more ≡ true → GivesLine (input_of R.left self.old) (input_of R.left self.new) (line_of self.new)) }
-        ensures fits { IfOk result (λ more. more ≡ true → length (line_of self.new) ≤ longest_line) }
+        ensures fits { IfOk result (λ more. more ≡ true → length (line_of self.new) ≤ max_line) }
         ensures end { IfOk result (λ more. more ≡ false → IsAtEnd (input_of R.left self.old) × IsAtEnd (input_of R.left self.new) × Keeps (input_of R.left self.old) (input_of R.left self.new)) }
         ensures long { IfErr result (λ fault. fault ≡ LineFault.TooLong → BeginsLong (input_of R.left self.old)) }
         ensures cut { IfErr result (λ fault. fault ≡ LineFault.Read → BreaksOff (input_of R.left self.old) (input_of R.left self.new) (line_of self.new)) }
@@ -207,7 +207,7 @@ impl<R: Source + Drop> Lines<R> {
     /// call answers it again, and takes nothing.
     pub fn next_line(&mut self) -> Result<bool, LineFault>
         ensures more { IfOk result (λ more. more ≡ true → GivesLine (input_of R.left self.old) (input_of R.left self.new) (line_of self.new)) }
-        ensures fits { IfOk result (λ more. more ≡ true → length (line_of self.new) ≤ longest_line) }
+        ensures fits { IfOk result (λ more. more ≡ true → length (line_of self.new) ≤ max_line) }
         ensures end { IfOk result (λ more. more ≡ false → IsAtEnd (input_of R.left self.old) × IsAtEnd (input_of R.left self.new) × Keeps (input_of R.left self.old) (input_of R.left self.new)) }
         ensures long { IfErr result (λ fault. fault ≡ LineFault.TooLong → BeginsLong (input_of R.left self.old) ⊎ (fault_of self.old ≡ Some fault)) }
         ensures cut { IfErr result (λ fault. fault ≡ LineFault.Read → fault_of self.old ≡ None → BreaksOff (input_of R.left self.old) (input_of R.left self.new) (line_of self.new)) }

@@ -1,7 +1,7 @@
 //! A bench from an input: a script block, and then words.
 ghost use Rattle.std.specs.Prelude.{◌≡◌, ◌⊎◌, ◌≤◌, None, Some, Err, IfOk, IfErr, OnOk, true, false};
 ghost use Rattle.std.specs.Str.{chars, is_utf8};
-ghost use Rattle.sbl_bench.specs.Kept.{state_of};
+ghost use Rattle.sbl_bench.specs.Kept.{contents_of};
 ghost use Rattle.std.specs.Io.KnownBytes.{Keeps};
 ghost use Rattle.snowbench.specs.Faults.{left_by_load, serve_fault_of};
 ghost use Rattle.snowbench.specs.declared.faults.LineFault.{LineFault};
@@ -79,7 +79,7 @@ fn read_words<R: Source + Drop>(lines: &mut Lines<R>) -> Result<Vec<Vec<char>>, 
 /// behind the point of its block, and after `NotText` behind the line that is no text. `Read` and `LineTooLong` are
 /// remembered: the lines answer them again, and so does every later `load`, which then takes nothing.
 pub fn load<R: Source + Drop>(lines: &mut Lines<R>, external: &str) -> Result<Bench, LoadFault>
-    ensures loaded { fault_of lines.old ≡ None → IsLoaded (input_of R.left lines.old) (input_of R.left lines.new) external.now (λ b. state_of b) result }
+    ensures loaded { fault_of lines.old ≡ None → IsLoaded (input_of R.left lines.old) (input_of R.left lines.new) external.now (λ b. contents_of b) result }
     ensures why { IfErr result (λ fault. HasReason R.failures R.interruptions R.reads lines.old lines.new fault) }
     ensures remembered { fault_of lines.new ≡ left_by_load result }
     ensures again { (fault : LineFault) → fault_of lines.old ≡ Some fault → (result ≡ Err (LoadFault.Input (serve_fault_of fault))) × Keeps (input_of R.left lines.old) (input_of R.left lines.new) }

@@ -3,11 +3,11 @@ ghost use Rattle.std.specs.Prelude.{◌≡◌, ◌≤◌, IfOk, length};
 ghost use Rattle.std.specs.List.{find};
 ghost use Rattle.std.specs.Option.{option_map};
 ghost use Rattle.std.specs.Str.{bytes_eq, chars};
-ghost use Rattle.sbl_bench.specs.Kept.{state_of};
+ghost use Rattle.sbl_bench.specs.Kept.{contents_of};
 ghost use Rattle.sbl_bench.specs.Rows.{view_row};
 ghost use Rattle.snowbench.specs.CommandViews.{IsAnswer};
 ghost use Rattle.snowbench.specs.Commands.{Class};
-ghost use Rattle.snowbench.specs.LinesOf.{longest_line};
+ghost use Rattle.snowbench.specs.LinesOf.{max_line};
 ghost use Rattle.snowbench.specs.Rows as spec;
 
 use crate::edits::first_characters;
@@ -19,7 +19,7 @@ use std::alloc::{AllocError, Global};
 
 /// The report of all rows. A refused growth is the one error.
 pub(crate) fn stems_text(alloc: Global, bench: &Bench) -> Result<Vec<u8>, AllocError>
-    ensures { IfOk result (λ text. text.items ≡ spec.stems_text (state_of bench.now)) }
+    ensures { IfOk result (λ text. text.items ≡ spec.stems_text (contents_of bench.now)) }
 {
     let rows = bench.rows()?;
     records_text(alloc, &rows)
@@ -27,7 +27,7 @@ pub(crate) fn stems_text(alloc: Global, bench: &Bench) -> Result<Vec<u8>, AllocE
 
 /// The report of all classes. A refused growth is the one error.
 pub(crate) fn classes_text(alloc: Global, bench: &Bench) -> Result<Vec<u8>, AllocError>
-    ensures { IfOk result (λ text. text.items ≡ spec.classes_text (state_of bench.now)) }
+    ensures { IfOk result (λ text. text.items ≡ spec.classes_text (contents_of bench.now)) }
 {
     let classes = bench.classes()?;
     records_text(alloc, &classes)
@@ -35,7 +35,7 @@ pub(crate) fn classes_text(alloc: Global, bench: &Bench) -> Result<Vec<u8>, Allo
 
 /// The row of a word, if the word is there. Takes no memory.
 fn row_with<'b>(bench: &'b Bench, word: &[char]) -> Option<Row<'b>>
-    ensures { option_map view_row result ≡ find (λ row. bytes_eq word.now row.word) (spec.rows_now (state_of bench.now)) }
+    ensures { option_map view_row result ≡ find (λ row. bytes_eq word.now row.word) (spec.rows_now (contents_of bench.now)) }
 {
     for i in 0..bench.len() {
         let row = bench.row(i)?;
@@ -53,7 +53,7 @@ fn class_or_row_text(
     word: &[char],
     row: Row<'_>,
 ) -> Result<Vec<u8>, AllocError>
-    ensures { IfOk result (λ text. text.items ≡ spec.class_or_row_text (state_of bench.now) word.now (view_row row.entry)) }
+    ensures { IfOk result (λ text. text.items ≡ spec.class_or_row_text (contents_of bench.now) word.now (view_row row.entry)) }
 {
     match bench.class_of(word)? {
         Some(class) => records_text(alloc, &[class]),
@@ -63,8 +63,8 @@ fn class_or_row_text(
 
 /// The answer that tells of a word's class; of a word that is not there it says so, and takes no memory.
 pub(crate) fn class_reply(alloc: Global, bench: &Bench, word: &str) -> Reply
-    requires { length word.now ≤ longest_line }
-    ensures { IsAnswer (state_of bench.now) (Class (chars word.now)) result (state_of bench.now) }
+    requires { length word.now ≤ max_line }
+    ensures { IsAnswer (contents_of bench.now) (Class (chars word.now)) result (contents_of bench.now) }
 {
     let mut room = ['\0'; MAX_LINE];
     let count = first_characters(word, &mut room);

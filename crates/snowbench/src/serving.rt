@@ -1,13 +1,13 @@
 //! A session: each request is answered before the next line is read.
 ghost use Rattle.std.specs.Prelude.{◌≡◌, ◌≤◌, [], None, Some, Err, IfOk, IfErr, OnOk, length, take};
 ghost use Rattle.std.specs.Io.KnownBytes.{IsAtEnd, Keeps};
-ghost use Rattle.sbl_bench.specs.Kept.{state_of};
+ghost use Rattle.sbl_bench.specs.Kept.{contents_of};
 ghost use Rattle.snowbench.specs.CommandViews.{BreaksBlock, IsAnswer, IsAnswered};
 ghost use Rattle.snowbench.specs.Commands.{line_command};
 ghost use Rattle.snowbench.specs.Faults.{left_by, serve_fault_of};
 ghost use Rattle.snowbench.specs.declared.faults.LineFault.{LineFault};
 ghost use Rattle.snowbench.specs.Held.{HasReason, fault_of, fuel_of, held_of, input_of, line_of, reads_bound};
-ghost use Rattle.snowbench.specs.LinesOf.{longest_line};
+ghost use Rattle.snowbench.specs.LinesOf.{max_line};
 ghost use Rattle.snowbench.specs.Session.{Ends, IsSession};
 
 use crate::block_text::read_block;
@@ -23,8 +23,8 @@ use std::alloc::Global;
 
 /// Makes the edit or the report that a line without a block asks for, and gives the answer.
 fn answer_line(alloc: Global, bench: &mut Bench, line: &[u8]) -> Reply
-    requires { length line.now ≤ longest_line }
-    ensures { IsAnswer (state_of bench.old) (line_command line.now) result (state_of bench.new) }
+    requires { length line.now ≤ max_line }
+    ensures { IsAnswer (contents_of bench.old) (line_command line.now) result (contents_of bench.new) }
 {
     match command_of(line) {
         Command::Nothing => Reply::Fixed(""),
@@ -39,8 +39,8 @@ fn answer_line(alloc: Global, bench: &mut Bench, line: &[u8]) -> Reply
 
 /// Puts a copy of a line into the room, and answers how long it is. Takes no memory.
 fn keep_line(line: &[u8], room: &mut [u8; MAX_LINE]) -> usize
-    requires { length line.now ≤ longest_line }
-    ensures long { result ≤ longest_line }
+    requires { length line.now ≤ max_line }
+    ensures long { result ≤ max_line }
     ensures kept { take result room.new ≡ line.now }
 {
     room[..line.len()].copy_from_slice(line);
@@ -51,10 +51,10 @@ fn keep_line(line: &[u8], room: &mut [u8; MAX_LINE]) -> usize
 /// Where the block is not read to its end no edit is made: it answers `Cut` where the input ended before its point, `Read` and
 /// `LineTooLong` as the lines do.
 fn answer<R: Source + Drop>(bench: &mut Bench, lines: &mut Lines<R>) -> Result<Reply, ServeFault>
-    requires fits { length (line_of lines.old) ≤ longest_line }
+    requires fits { length (line_of lines.old) ≤ max_line }
     requires ready { fault_of lines.old ≡ None }
-    ensures answered { IfOk result (λ reply. IsAnswered (input_of R.left lines.old) (input_of R.left lines.new) (line_of lines.old) (state_of bench.old) reply (state_of bench.new)) }
-    ensures broken { IfErr result (λ fault. BreaksBlock (input_of R.left lines.old) (input_of R.left lines.new) (line_of lines.old) fault × (state_of bench.new ≡ state_of bench.old)) }
+    ensures answered { IfOk result (λ reply. IsAnswered (input_of R.left lines.old) (input_of R.left lines.new) (line_of lines.old) (contents_of bench.old) reply (contents_of bench.new)) }
+    ensures broken { IfErr result (λ fault. BreaksBlock (input_of R.left lines.old) (input_of R.left lines.new) (line_of lines.old) fault × (contents_of bench.new ≡ contents_of bench.old)) }
     ensures remembered { fault_of lines.new ≡ left_by result }
     ensures drained { result ≡ Err ServeFault.Read → held_of lines.new ≡ [] }
     ensures fuel { OnOk result (fuel_of lines.new ≤ fuel_of lines.old) }
@@ -92,13 +92,13 @@ pub fn serve<R: Source + Drop, W: Sink>(
     lines: &mut Lines<R>,
     writer: &mut W,
 ) -> Result<(), ServeFault>
-    ensures session { fault_of lines.old ≡ None → IsSession (input_of R.left lines.old) (input_of R.left lines.new) (W.held writer.old) (W.held writer.new) (state_of bench.old) (state_of bench.new) result }
+    ensures session { fault_of lines.old ≡ None → IsSession (input_of R.left lines.old) (input_of R.left lines.new) (W.held writer.old) (W.held writer.new) (contents_of bench.old) (contents_of bench.new) result }
     ensures ends { Ends R.failures R.interruptions R.reads W.failures W.interruptions lines.old lines.new writer.old writer.new result }
     ensures steady { OnOk result ((R.failures lines.new.reader ≡ R.failures lines.old.reader) × (W.failures writer.new ≡ W.failures writer.old)) }
     ensures whole { OnOk result (IsAtEnd (input_of R.left lines.new)) }
     ensures drained { result ≡ Err ServeFault.Read → fault_of lines.old ≡ None → held_of lines.new ≡ [] }
     ensures remembered { fault_of lines.new ≡ left_by result }
-    ensures again { (fault : LineFault) → fault_of lines.old ≡ Some fault → (result ≡ Err (serve_fault_of fault)) × (state_of bench.new ≡ state_of bench.old)
+    ensures again { (fault : LineFault) → fault_of lines.old ≡ Some fault → (result ≡ Err (serve_fault_of fault)) × (contents_of bench.new ≡ contents_of bench.old)
         × Keeps (W.held writer.old) (W.held writer.new) × Keeps (input_of R.left lines.old) (input_of R.left lines.new) }
     ensures bound { reads_bound R.reads lines.new ≡ reads_bound R.reads lines.old }
 {

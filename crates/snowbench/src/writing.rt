@@ -3,7 +3,7 @@ ghost use Rattle.std.specs.Prelude.{◌≡◌, ◌≤◌, ◌<◌, ℕ, IfOk, If
 ghost use Rattle.std.specs.Io.KnownBytes.{Appends, Keeps};
 ghost use Rattle.snowbench.specs.Devices.{HasStopped};
 
-use crate::devices::{MOST_TRIES, Sink, Stop};
+use crate::devices::{MAX_TRIES, Sink, Stop};
 use crate::faults::ServeFault;
 
 /// Writes a front of some bytes, and answers how many. Bears 1,000 interruptions in a row; the next ends it.
@@ -16,7 +16,7 @@ fn write_some<W: Sink>(writer: &mut W, bytes: &[u8]) -> Result<usize, ServeFault
     ensures steady { OnOk result (W.failures writer.new ≡ W.failures writer.old) }
     ensures why { IfErr result (λ fault. (fault ≡ ServeFault.Write) × HasStopped W.failures W.interruptions writer.old writer.new) }
 {
-    for _ in 0..MOST_TRIES {
+    for _ in 0..MAX_TRIES {
         match writer.write(bytes) {
             Ok(n) => return Ok(n),
             Err(Stop::Failed) => return Err(ServeFault::Write),

@@ -2,7 +2,7 @@
 
 use crate::tests::characters::word_of;
 use sbl_machine::{AmongSearch, LinkedTable, PlainTable, RunFault, RunStop};
-use sbl_script::Mode;
+use sbl_tree::Mode;
 use std::alloc::{AllocError, Global};
 use std::process::Abort;
 use std::test::Fail;

@@ -3,14 +3,14 @@
 ghost use Rattle.std.specs.Prelude.{◌≡◌, List, ℕ, [], map, slice_index_or, IfOk};
 ghost use Rattle.sbl_machine.specs.Actions.{acts};
 ghost use Rattle.sbl_machine.specs.Numbers.{value, natural};
-ghost use Rattle.sbl_program.specs.PlanOf.{view_action};
+ghost use Rattle.sbl_program.specs.ProgramOf.{view_action};
 ghost use Rattle.sbl_machine.specs.Kept.{Follows};
 
 use crate::halt::Halt;
 use crate::state::State;
 use crate::state::numbers::natural;
 use sbl_program::action::Action;
-use sbl_script::Mode;
+use sbl_tree::Mode;
 
 impl State {
     /// Does what a command without a command inside it does once its step is paid, and answers its signal. Refused where

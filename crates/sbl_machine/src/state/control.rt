@@ -8,7 +8,7 @@ ghost use Rattle.sbl_machine.specs.Search.{choose, choice, bound_in};
 
 use crate::halt::Halt;
 use crate::state::{Limits, State};
-use sbl_script::Mode;
+use sbl_tree::Mode;
 use std::alloc::AllocError;
 use std::mem;
 

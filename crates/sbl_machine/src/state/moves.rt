@@ -3,13 +3,13 @@
 ghost use Rattle.std.specs.Prelude.{◌≡◌, ◌≤◌, ◌<◌, ◌^◌, length, nat_eq, IsTrue, IfOk, slice_get};
 ghost use Rattle.std.specs.List.{starts_with};
 ghost use Rattle.sbl_tables.specs.Fitting.{read_as};
-ghost use Rattle.sbl_machine.specs.Standing.{Signals, ahead, room, moved};
-ghost use Rattle.sbl_program.specs.PlanOf.{view_text};
+ghost use Rattle.sbl_machine.specs.State.{Signals, ahead, room, moved};
+ghost use Rattle.sbl_program.specs.ProgramOf.{view_text};
 ghost use Rattle.sbl_machine.specs.Moves.{characters, match, next_is, one_of, next, hop, at_limit, set_mark, at_mark, to_mark, set_boolean, test_boolean};
 
 use crate::state::State;
 use sbl_program::action::StringTerm;
-use sbl_script::Mode;
+use sbl_tree::Mode;
 
 impl State {
     // How many characters are ahead.

@@ -3,7 +3,7 @@
 ghost use Rattle.std.specs.Prelude.{◌≡◌, ◌+◌, ◌≤◌, ◌<◌, ◌^◌, ℤ, pos, ◌+ℤ◌, ◌-ℤ◌, ◌*ℤ◌, neg_ℤ, length, map, Ok, SomeIff, FitsSigned, IfOk};
 ghost use Rattle.std.specs.Int.{w32};
 ghost use Rattle.sbl_machine.specs.Numbers.{value, with_both, fitted, divided, limit_value, integer_at, changed, holds, assign, compare, natural};
-ghost use Rattle.sbl_program.specs.PlanOf.{view_added, view_number, view_scaled};
+ghost use Rattle.sbl_program.specs.ProgramOf.{view_added, view_number, view_scaled};
 ghost use Rattle.sbl_machine.specs.Rows.{product_of, scales_to, sum_of, sums_to};
 ghost use Rattle.sbl_machine.specs.Run.{count_of};
 ghost use Rattle.sbl_machine.specs.Kept.{Leads, Follows};
@@ -11,9 +11,9 @@ ghost use Rattle.sbl_machine.specs.Kept.{Leads, Follows};
 use crate::fault::RunFault;
 use crate::halt::Halt;
 use crate::state::State;
-use sbl_grammar::{Additive, Multiplicative};
+use sbl_tree::{Additive, Multiplicative};
 use sbl_program::action::{Added, Arithmetic, Change, Relation, Scaled};
-use sbl_script::Mode;
+use sbl_tree::Mode;
 
 impl State {
     /// What an expression is worth. `Integer` where a number is out of range, `Divide` where a divisor is zero.

@@ -3,14 +3,14 @@
 ghost use Rattle.std.specs.Prelude.{◌≡◌, ◌+◌, ◌≤◌, ◌<◌, ◌^◌, [], length, map, slice_set, IfOk};
 ghost use Rattle.std.specs.List.{splice};
 ghost use Rattle.sbl_machine.specs.Slices.{left_bracket, right_bracket, is_slice, shifted, replace, keep, pushed, put_in, insert, attach};
-ghost use Rattle.sbl_program.specs.PlanOf.{view_text};
+ghost use Rattle.sbl_program.specs.ProgramOf.{view_text};
 ghost use Rattle.sbl_machine.specs.Moves.{characters};
 ghost use Rattle.sbl_machine.specs.Kept.{Leads};
 
 use crate::halt::Halt;
-use crate::state::{MOST_CHARS, State};
+use crate::state::{MAX_TEXT_LENGTH, State};
 use sbl_program::action::StringTerm;
-use sbl_script::Mode;
+use sbl_tree::Mode;
 use std::alloc::AllocError;
 use std::mem;
 
@@ -86,7 +86,7 @@ impl State {
         }
         let gone = self.ket - self.bra;
         let length = self.characters(term).len();
-        if length > MOST_CHARS || self.text.len() + length - gone > MOST_CHARS {
+        if length > MAX_TEXT_LENGTH || self.text.len() + length - gone > MAX_TEXT_LENGTH {
             return Err(Halt::TooLong);
         }
         let made = self.spliced(self.bra, self.ket, term)?;
@@ -119,7 +119,7 @@ impl State {
             return Err(Halt::Cursor);
         }
         let length = self.characters(term).len();
-        if length > MOST_CHARS || self.text.len() + length > MOST_CHARS {
+        if length > MAX_TEXT_LENGTH || self.text.len() + length > MAX_TEXT_LENGTH {
             return Err(Halt::TooLong);
         }
         let made = self.spliced(self.cursor, self.cursor, term)?;

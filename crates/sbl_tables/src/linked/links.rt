@@ -8,7 +8,7 @@ ghost use Rattle.sbl_tables.specs.Best.{IsBest};
 ghost use Rattle.sbl_tables.specs.Fitting.{read_as};
 ghost use Rattle.sbl_tables.specs.Linked.{AreLinks, AreRows, GoDown, IsCommon, IsCount, IsLast, IsLinked, Rise, StandsAt, before, numbers_of, texts_of};
 
-use sbl_script::Mode;
+use sbl_tree::Mode;
 use std::alloc::{AllocError, Global};
 use std::cmp::Reverse;
 

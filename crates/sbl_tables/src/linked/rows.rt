@@ -4,7 +4,7 @@ ghost use Rattle.std.specs.Prelude.{◌≡◌, IfOk, map};
 ghost use Rattle.sbl_tables.specs.Fitting.{read_all, read_as};
 ghost use Rattle.sbl_tables.specs.Linked.{AreOwn, AreRows, numbers_of, texts_of};
 
-use sbl_script::Mode;
+use sbl_tree::Mode;
 use std::alloc::{AllocError, Global};
 use std::cmp::Reverse;
 

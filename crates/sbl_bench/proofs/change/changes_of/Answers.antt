@@ -3,8 +3,8 @@ use Rattle.std.specs.List.{All}
 use Rattle.std.proofs.lemmas.List.Elements.{All-tail}
 use Rattle.sbl_machine.specs.Outcome.{outcome_of, run_of}
 use Rattle.sbl_bench.specs.Changes.{view_change}
-use Rattle.sbl_bench.specs.Kept.{Entry, IsWord, words_in}
-use Rattle.sbl_bench.specs.Rows.{most_steps}
+use Rattle.sbl_bench.specs.Kept.{KeptWord, IsWord, words_in}
+use Rattle.sbl_bench.specs.Rows.{max_steps}
 use Rattle.sbl_bench.proofs.ChangeFacts.{one_more}
 use Rattle.sbl_bench.proofs.change.changes_of.Goals as goal
 
@@ -15,11 +15,11 @@ loop-word-preserved c =
       changes = λ script made.
           one_more script (map view_change c.loop-word.changes.items) (map view_change c.push_change.new.changes.items) c.loop-word.word-iterator c.args.outcomes.now.entries c.next.new.self (c.in-Some.word.now, c.in-Some.old.now) (outcome_of c.in-Ok.ran.outcome) c.as_slice-in-Ok.result.now
           (c.loop-word.invariant.changes script made) split c.as_slice-in-Ok.ensures.value
-          (c.in-Ok.ensures.outcome script made ∙ ap (λ (w : List ℕ). run_of script w most_steps) c.as_slice.ensures.value)
+          (c.in-Ok.ensures.outcome script made ∙ ap (λ (w : List ℕ). run_of script w max_steps) c.as_slice.ensures.value)
           (search (rules, c.in_ok-push_change-in-Ok.ensures));
       counted = let l = ap length split in let k = c.in-Ok.ensures.counted in let m = c.loop-word.invariant.counted in omega arith;
       more = let k = c.in-Ok.ensures.counted in let m = c.loop-word.invariant.more in omega arith;
-      sound = All-tail IsWord c.in-Some.word.now.items (words_in c.next.new.self) (subst (λ (es : List Entry). All IsWord (words_in es)) split c.loop-word.invariant.sound);
+      sound = All-tail IsWord c.in-Some.word.now.items (words_in c.next.new.self) (subst (λ (es : List KeptWord). All IsWord (words_in es)) split c.loop-word.invariant.sound);
     }
 
 on_err : {T E P : Type 0} (r : Result T E) → P → OnErr r P

@@ -4,8 +4,8 @@ use Rattle.std.specs.Str.{bytes_eq}
 use Rattle.std.specs.declared.vec.Vec.{Vec}
 use Rattle.std.specs.declared.alloc.Global.{Global}
 use Rattle.sbl_machine.specs.Outcome.{outcome_of, run_of}
-use Rattle.sbl_bench.specs.Kept.{Entry, words_in, IsKept}
-use Rattle.sbl_bench.specs.Rows.{most_steps}
+use Rattle.sbl_bench.specs.Kept.{KeptWord, words_in, IsKept}
+use Rattle.sbl_bench.specs.Rows.{max_steps}
 use Rattle.sbl_bench.specs.Pairs.{find, has, is_pair_of}
 use Rattle.indexmap.proofs.CallerLemmas.{insert_entry-new}
 use Rattle.sbl_bench.proofs.Words.{is_key, not_found, words-push, kept-push}
@@ -20,7 +20,7 @@ goes_last c =
     let inserted = rw c.unwrap.ensures at c.insert.ensures.entries in
     let none : lookup (is_key c.args.word.items) c.reserve.new.self.entries ≡ None =
     ap (lookup (is_key c.args.word.items)) c.reserve.ensures.entries ∙ not_found c.args.word.items es c.requires.new in
-    inserted ∙ insert_entry-new eq c.reserve.new.self c.args.word c.in_ok-ran.ran.outcome none ∙ ap (λ (l : List Entry). l ++ (c.args.word, c.in_ok-ran.ran.outcome) ∷ []) c.reserve.ensures.entries
+    inserted ∙ insert_entry-new eq c.reserve.new.self c.args.word c.in_ok-ran.ran.outcome none ∙ ap (λ (l : List KeptWord). l ++ (c.args.word, c.in_ok-ran.ran.outcome) ∷ []) c.reserve.ensures.entries
 
 pub returns-clause-words : goal.returns-clause-words
 returns-clause-words c = ap words_in (goes_last c) ∙ words-push c.args.outcomes.now.entries _
@@ -29,7 +29,7 @@ pub returns-clause-kept : goal.returns-clause-kept
 returns-clause-kept c s made kept =
     subst (IsKept s) (sym (goes_last c))
     (kept-push s c.args.outcomes.now.entries (c.args.word, c.in_ok-ran.ran.outcome) kept c.requires.sound c.requires.room
-    (c.in_ok-ran.ensures.outcome s made ∙ ap (λ (w : List ℕ). run_of s w most_steps) c.as_slice.ensures.value))
+    (c.in_ok-ran.ensures.outcome s made ∙ ap (λ (w : List ℕ). run_of s w max_steps) c.as_slice.ensures.value))
 
 pub returns-clause-paired : goal.returns-clause-paired
 returns-clause-paired c paired =
@@ -39,5 +39,5 @@ returns-clause-paired c paired =
     let updates = rw c.unwrap.ensures at c.insert.ensures.updates in
     paired_add es c.insert.new.self.entries c.args.pairs.now c.insert_pair.new.pairs word.items o paired
     (not_found word.items es c.requires.new)
-    (λ w. updates.0 w ∙ ap (λ (l : List Entry). cond (bytes_eq word.items w.items) (Some o) (find w.items l)) c.reserve.ensures.entries)
+    (λ w. updates.0 w ∙ ap (λ (l : List KeptWord). cond (bytes_eq word.items w.items) (Some o) (find w.items l)) c.reserve.ensures.entries)
     (λ q. c.in_ok-insert_pair.ensures.ok q ∙ ap (λ (w : List ℕ). is_pair_of w (outcome_of o) q || has c.args.pairs.now q) c.as_slice-2.ensures.value)

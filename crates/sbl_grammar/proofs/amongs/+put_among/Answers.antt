@@ -1,10 +1,10 @@
 use Rattle.std.proofs.Common.{◌+◌, ◌∷◌, List, drop, map, ap, ◌∙◌}
 use Rattle.std.proofs.lemmas.Bool.{ne_eqb}
-use Rattle.sbl_grammar.specs.Tree as trees
-use Rattle.sbl_grammar.specs.View as view
-use Rattle.sbl_grammar.proofs.Views as views
+use Rattle.sbl_tree.specs.Tree as trees
+use Rattle.sbl_tree.specs.View as view
+use Rattle.sbl_tree.proofs.Views as views
 use Rattle.sbl_grammar.proofs.Putting as p
-use Rattle.sbl_grammar.specs.declared.tree.Command.TheViews.{out-Group, out-Among}
+use Rattle.sbl_tree.specs.declared.tree.Command.TheViews.{out-Group, out-Among}
 use Rattle.sbl_grammar.proofs.amongs.+put_among.Goals.{put_in_one-in-None, put_in_one-in-Some+in_ok-rows-in-Some}
 use Rattle.sbl_grammar.proofs.amongs.+put_among.Goals as goal
 
@@ -28,7 +28,7 @@ put_in_others-loop-joined-preserved t_ c =
     let seen = views.seen_joined c.joined-item.result in
     let whole = front ∙ ap (λ (y : view.JoinedView). y ∷ map view.view_joined (drop (c.loop-joined.joined-index + 1) c.args.others.now.items)) seen in
     record {
-      put = p.others_put (map view.view_joined c.loop-joined.copies.items) (map view.view_joined c.push.new.self.items) _ (c.joined-item.result.joiner, view.view_command c.joined-item.result.command) _ _ _ c.loop-joined.rest c.in_ok-command.after (view.view_among c.args.among.now) now (views.view_of_joined (record { joiner = c.joined-item.result.joiner; command = c.in_ok-command.command }) ∙ ap (λ (y : trees.Tree). (c.joined-item.result.joiner, y)) c.in_ok-command.ensures.put) c.in_ok-command.ensures.rest whole c.loop-joined.invariant.put;
+      put = p.others_put (map view.view_joined c.loop-joined.copies.items) (map view.view_joined c.push.new.self.items) _ (c.joined-item.result.joiner, view.view_command c.joined-item.result.command) _ _ _ c.loop-joined.rest c.in_ok-command.after (view.view_among c.args.among.now) now (views.view_of_joined (record { joiner = c.joined-item.result.joiner; command = c.in_ok-command.command }) ∙ ap (λ (y : trees.Command). (c.joined-item.result.joiner, y)) c.in_ok-command.ensures.put) c.in_ok-command.ensures.rest whole c.loop-joined.invariant.put;
       rest = p.others_left (c.joined-item.result.joiner, view.view_command c.joined-item.result.command) _ _ _ c.loop-joined.rest c.in_ok-command.after c.in_ok-command.ensures.rest whole c.loop-joined.invariant.rest;
     }
 

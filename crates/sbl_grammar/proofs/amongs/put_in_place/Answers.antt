@@ -1,7 +1,7 @@
 use Rattle.std.proofs.Common.{sym, subst}
 use Rattle.sbl_grammar.specs.Reading.{AreShallow}
 use Rattle.sbl_grammar.specs.Texts.{body, places_in}
-use Rattle.sbl_grammar.specs.View.{RowView, view_among, view_row}
+use Rattle.sbl_tree.specs.View.{RowView, view_among, view_row}
 use Rattle.sbl_grammar.proofs.Held.{body_put}
 use Rattle.sbl_grammar.proofs.amongs.put_in_place.Goals as goal
 

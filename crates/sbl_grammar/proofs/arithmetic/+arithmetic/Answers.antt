@@ -2,22 +2,24 @@ use Rattle.std.proofs.Common.{◌≡◌, ◌<◌, ◌∷◌, ◌++◌, ◌+◌, 
 use Rattle.std.proofs.lemmas.List.{map_push}
 use Rattle.std.proofs.lemmas.Result.{err_from_is_err_and}
 use Rattle.sbl_grammar.specs.declared.role.Role.TheVariants as roles
-use Rattle.sbl_grammar.specs.declared.tree.Additive.{Additive}
-use Rattle.sbl_grammar.specs.declared.tree.Added.{Added}
-use Rattle.sbl_grammar.specs.declared.tree.Scaled.{Scaled}
-use Rattle.sbl_grammar.specs.declared.tree.Factor.{Factor}
-use Rattle.sbl_grammar.specs.declared.tree.Expression.{Expression}
-use Rattle.sbl_grammar.specs.declared.tree.Additive.TheVariants as additives
-use Rattle.sbl_grammar.specs.Terminal.{Terminal, role_of, role_as, left}
-use Rattle.sbl_grammar.specs.Terminal as t
-use Rattle.sbl_grammar.specs.Tree as trees
-use Rattle.sbl_grammar.specs.Steps.{max_depth, Stack, fault}
+use Rattle.sbl_tree.specs.declared.tree.Additive.{Additive}
+use Rattle.sbl_tree.specs.declared.tree.Added.{Added}
+use Rattle.sbl_tree.specs.declared.tree.Scaled.{Scaled}
+use Rattle.sbl_tree.specs.declared.tree.Factor.{Factor}
+use Rattle.sbl_tree.specs.declared.tree.Expression.{Expression}
+use Rattle.sbl_tree.specs.declared.tree.Additive.TheVariants as additives
+use Rattle.sbl_tree.specs.Terminal.{Terminal, left}
+use Rattle.sbl_grammar.specs.Roles.{role_of, role_as}
+use Rattle.sbl_tree.specs.Terminal as t
+use Rattle.sbl_tree.specs.Tree as trees
+use Rattle.sbl_grammar.specs.Places.{max_depth}
+use Rattle.sbl_grammar.specs.Steps.{Stack, fault}
 use Rattle.sbl_grammar.specs.Steps as s
-use Rattle.sbl_grammar.specs.View as view
+use Rattle.sbl_tree.specs.View as view
 use Rattle.sbl_grammar.proofs.Descent as d
 use Rattle.sbl_grammar.proofs.Lengths as lengths
 use Rattle.sbl_grammar.proofs.Turns as turns
-use Rattle.sbl_grammar.proofs.Views as views
+use Rattle.sbl_tree.proofs.Views as views
 use Rattle.sbl_grammar.proofs.arithmetic.+arithmetic.Goals as goal
 
 pub expression-returns-in_err-first : goal.expression-returns-in_err-first

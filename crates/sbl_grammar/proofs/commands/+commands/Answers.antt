@@ -1,24 +1,26 @@
 use Rattle.std.proofs.Common.{◌≡◌, ◌≤◌, ◌<◌, ◌∷◌, ◌++◌, ◌+◌, ℕ, List, [], length, map, string_bytes, drop, true, false, arith, ap, sym, refl, subst, ◌∙◌}
 use Rattle.std.proofs.lemmas.List.{map_push}
 use Rattle.std.proofs.lemmas.Result.{err_from_is_err_and}
-use Rattle.sbl_grammar.specs.declared.tree.Command.{Command}
-use Rattle.sbl_grammar.specs.declared.tree.Row.{Row}
-use Rattle.sbl_grammar.specs.declared.tree.Joined.{Joined}
-use Rattle.sbl_grammar.specs.declared.tree.Group.{Group}
-use Rattle.sbl_grammar.specs.declared.tree.Entry.{Entry}
-use Rattle.sbl_grammar.specs.Terminal.{Terminal, role_of, role_as, left}
-use Rattle.sbl_grammar.specs.Terminal as t
+use Rattle.sbl_tree.specs.declared.tree.Command.{Command}
+use Rattle.sbl_tree.specs.declared.tree.Row.{Row}
+use Rattle.sbl_tree.specs.declared.tree.Joined.{Joined}
+use Rattle.sbl_tree.specs.declared.tree.Group.{Group}
+use Rattle.sbl_tree.specs.declared.tree.Entry.{Entry}
+use Rattle.sbl_tree.specs.Terminal.{Terminal, left}
+use Rattle.sbl_grammar.specs.Roles.{role_of, role_as}
+use Rattle.sbl_tree.specs.Terminal as t
 use Rattle.sbl_grammar.specs.declared.role.Role.{Role}
 use Rattle.sbl_grammar.specs.Starts.{begins_command}
 use Rattle.sbl_grammar.specs.First.{first_literal}
-use Rattle.sbl_grammar.specs.Tree as trees
-use Rattle.sbl_grammar.specs.Steps.{max_depth, Stack, fault}
+use Rattle.sbl_tree.specs.Tree as trees
+use Rattle.sbl_grammar.specs.Places.{max_depth}
+use Rattle.sbl_grammar.specs.Steps.{Stack, fault}
 use Rattle.sbl_grammar.specs.Steps as s
-use Rattle.sbl_grammar.specs.View as view
+use Rattle.sbl_tree.specs.View as view
 use Rattle.sbl_grammar.proofs.Descent as d
 use Rattle.sbl_grammar.proofs.Lengths as lengths
 use Rattle.sbl_grammar.proofs.Turns as turns
-use Rattle.sbl_grammar.proofs.Views as views
+use Rattle.sbl_tree.proofs.Views as views
 use Rattle.sbl_grammar.proofs.commands.+commands.Goals as goal
 
 pub bracket-returns-in_err-rows : goal.bracket-returns-in_err-rows
@@ -30,7 +32,7 @@ bracket-returns-in_err-rows t_ c =
 pub bracket-returns : goal.bracket-returns
 bracket-returns t_ c =
     let first : (left c.args.tokens.now c.args.at) ≡ t.open_ ∷ drop 1 (left c.args.tokens.now c.args.at) = d.as_terminal (left c.args.tokens.now c.args.at) t.open_ refl c.requires.first in (
-      d.headed (left c.args.tokens.now c.args.at) (left c.args.tokens.now c.behind.result) t.open_ first c.behind.ensures ∙ ap (λ (r : List Terminal). t.open_ ∷ r) (c.in_ok-rows.ensures.0) ∙ ap (λ (x : trees.Tree). trees.spelled x (left c.args.tokens.now c.in_ok-rows.rest)) (sym (views.command_Bracket c.in_ok-rows.rows)),
+      d.headed (left c.args.tokens.now c.args.at) (left c.args.tokens.now c.behind.result) t.open_ first c.behind.ensures ∙ ap (λ (r : List Terminal). t.open_ ∷ r) (c.in_ok-rows.ensures.0) ∙ ap (λ (x : trees.Command). trees.spelled x (left c.args.tokens.now c.in_ok-rows.rest)) (sym (views.command_Bracket c.in_ok-rows.rows)),
       λ k. d.took (left c.args.tokens.now c.args.at) (left c.args.tokens.now c.behind.result) t.open_ (s.command c.args.depth ∷ k) (s.rows (c.args.depth + 1) ∷ s.closing c.args.depth ∷ k) c.args.depth first c.behind.ensures refl (omega arith) ∙ c.in_ok-rows.ensures.1 (k),
     )
 
@@ -43,7 +45,7 @@ prefixed-returns-in_err-inner t_ c =
 pub prefixed-returns : goal.prefixed-returns
 prefixed-returns t_ c =
     let first : (left c.args.tokens.now c.args.at) ≡ (t.prefix c.args.prefix) ∷ drop 1 (left c.args.tokens.now c.args.at) = d.as_terminal (left c.args.tokens.now c.args.at) (t.prefix c.args.prefix) refl c.requires.first in (
-      d.headed (left c.args.tokens.now c.args.at) (left c.args.tokens.now c.behind.result) (t.prefix c.args.prefix) first c.behind.ensures ∙ ap (λ (r : List Terminal). (t.prefix c.args.prefix) ∷ r) (c.in_ok-inner.ensures.gives.0) ∙ ap (λ (x : Command). trees.spelled (trees.prefixed c.args.prefix (view.view_command x)) (left c.args.tokens.now c.in_ok-inner.rest)) (sym c.in_ok-new.ensures.ok) ∙ ap (λ (x : trees.Tree). trees.spelled x (left c.args.tokens.now c.in_ok-inner.rest)) (sym (views.command_Prefixed c.args.prefix c.in_ok-new.field-0)),
+      d.headed (left c.args.tokens.now c.args.at) (left c.args.tokens.now c.behind.result) (t.prefix c.args.prefix) first c.behind.ensures ∙ ap (λ (r : List Terminal). (t.prefix c.args.prefix) ∷ r) (c.in_ok-inner.ensures.gives.0) ∙ ap (λ (x : Command). trees.spelled (trees.prefixed c.args.prefix (view.view_command x)) (left c.args.tokens.now c.in_ok-inner.rest)) (sym c.in_ok-new.ensures.ok) ∙ ap (λ (x : trees.Command). trees.spelled x (left c.args.tokens.now c.in_ok-inner.rest)) (sym (views.command_Prefixed c.args.prefix c.in_ok-new.field-0)),
       λ k. d.took (left c.args.tokens.now c.args.at) (left c.args.tokens.now c.behind.result) (t.prefix c.args.prefix) (s.command c.args.depth ∷ k) (s.command (c.args.depth + 1) ∷ k) c.args.depth first c.behind.ensures refl (omega arith) ∙ c.in_ok-inner.ensures.gives.1 (k),
     )
 
@@ -62,7 +64,7 @@ counted-returns-in_err-inner t_ c =
 pub counted-returns : goal.counted-returns
 counted-returns t_ c =
     let first : (left c.args.tokens.now c.args.at) ≡ (t.count c.args.count) ∷ drop 1 (left c.args.tokens.now c.args.at) = d.as_terminal (left c.args.tokens.now c.args.at) (t.count c.args.count) refl c.requires.first in (
-      d.headed (left c.args.tokens.now c.args.at) (left c.args.tokens.now c.behind.result) (t.count c.args.count) first c.behind.ensures ∙ ap (λ (r : List Terminal). (t.count c.args.count) ∷ r) (c.in_ok-times.ensures.0 ∙ ap (λ (r : List Terminal). trees.spelled_expression (view.view_expression c.in_ok-times.times) r) (c.in_ok-inner.ensures.gives.0)) ∙ ap (λ (x : Command). trees.spelled (trees.counted c.args.count (view.view_expression c.in_ok-times.times) (view.view_command x)) (left c.args.tokens.now c.in_ok-inner.rest)) (sym c.in_ok-new.ensures.ok) ∙ ap (λ (x : trees.Tree). trees.spelled x (left c.args.tokens.now c.in_ok-inner.rest)) (sym (views.command_Counted c.args.count c.in_ok-times.times c.in_ok-new.field-0)),
+      d.headed (left c.args.tokens.now c.args.at) (left c.args.tokens.now c.behind.result) (t.count c.args.count) first c.behind.ensures ∙ ap (λ (r : List Terminal). (t.count c.args.count) ∷ r) (c.in_ok-times.ensures.0 ∙ ap (λ (r : List Terminal). trees.spelled_expression (view.view_expression c.in_ok-times.times) r) (c.in_ok-inner.ensures.gives.0)) ∙ ap (λ (x : Command). trees.spelled (trees.counted c.args.count (view.view_expression c.in_ok-times.times) (view.view_command x)) (left c.args.tokens.now c.in_ok-inner.rest)) (sym c.in_ok-new.ensures.ok) ∙ ap (λ (x : trees.Command). trees.spelled x (left c.args.tokens.now c.in_ok-inner.rest)) (sym (views.command_Counted c.args.count c.in_ok-times.times c.in_ok-new.field-0)),
       λ k. d.took (left c.args.tokens.now c.args.at) (left c.args.tokens.now c.behind.result) (t.count c.args.count) (s.command c.args.depth ∷ k) (s.expression c.args.depth (s.command (c.args.depth + 1) ∷ k)) c.args.depth first c.behind.ensures refl (omega arith) ∙ c.in_ok-times.ensures.1 (s.command (c.args.depth + 1) ∷ k) ∙ c.in_ok-inner.ensures.gives.1 (k),
     )
 
@@ -87,7 +89,7 @@ set_limit-returns-in_err-inner t_ c =
 pub set_limit-returns : goal.set_limit-returns
 set_limit-returns t_ c =
     let first : (left c.args.tokens.now c.args.at) ≡ t.set_limit ∷ drop 1 (left c.args.tokens.now c.args.at) = d.as_terminal (left c.args.tokens.now c.args.at) t.set_limit refl c.requires.first in (
-      d.headed (left c.args.tokens.now c.args.at) (left c.args.tokens.now c.behind.result) t.set_limit first c.behind.ensures ∙ ap (λ (r : List Terminal). t.set_limit ∷ r) (c.in_ok-limit.ensures.gives.0 ∙ ap (λ (r : List Terminal). trees.spelled (view.view_command c.in_ok-limit.limit) r) (c.in_ok-rest.ensures.0 ∙ ap (λ (r : List Terminal). t.for_ ∷ r) (c.in_ok-inner.ensures.gives.0))) ∙ ap (λ (x : Command). trees.spelled (trees.limited (view.view_command x) (view.view_command c.in_ok-inner.inner)) (left c.args.tokens.now c.in_ok-inner.rest)) (sym c.in_ok-new.ensures.ok) ∙ ap (λ (x : Command). trees.spelled (trees.limited (view.view_command c.in_ok-new.field-0.value) (view.view_command x)) (left c.args.tokens.now c.in_ok-inner.rest)) (sym c.in_ok-new-2.ensures.ok) ∙ ap (λ (x : trees.Tree). trees.spelled x (left c.args.tokens.now c.in_ok-inner.rest)) (sym (views.command_SetLimit c.in_ok-new.field-0 c.in_ok-new-2.field-0)),
+      d.headed (left c.args.tokens.now c.args.at) (left c.args.tokens.now c.behind.result) t.set_limit first c.behind.ensures ∙ ap (λ (r : List Terminal). t.set_limit ∷ r) (c.in_ok-limit.ensures.gives.0 ∙ ap (λ (r : List Terminal). trees.spelled (view.view_command c.in_ok-limit.limit) r) (c.in_ok-rest.ensures.0 ∙ ap (λ (r : List Terminal). t.for_ ∷ r) (c.in_ok-inner.ensures.gives.0))) ∙ ap (λ (x : Command). trees.spelled (trees.setlimit_ (view.view_command x) (view.view_command c.in_ok-inner.inner)) (left c.args.tokens.now c.in_ok-inner.rest)) (sym c.in_ok-new.ensures.ok) ∙ ap (λ (x : Command). trees.spelled (trees.setlimit_ (view.view_command c.in_ok-new.field-0.value) (view.view_command x)) (left c.args.tokens.now c.in_ok-inner.rest)) (sym c.in_ok-new-2.ensures.ok) ∙ ap (λ (x : trees.Command). trees.spelled x (left c.args.tokens.now c.in_ok-inner.rest)) (sym (views.command_SetLimit c.in_ok-new.field-0 c.in_ok-new-2.field-0)),
       λ k. d.took (left c.args.tokens.now c.args.at) (left c.args.tokens.now c.behind.result) t.set_limit (s.command c.args.depth ∷ k) (s.command (c.args.depth + 1) ∷ s.for_ c.args.depth ∷ s.command (c.args.depth + 1) ∷ k) c.args.depth first c.behind.ensures refl (omega arith) ∙ c.in_ok-limit.ensures.gives.1 (s.for_ c.args.depth ∷ s.command (c.args.depth + 1) ∷ k) ∙ c.in_ok-rest.ensures.1 (s.command (c.args.depth + 1) ∷ k) ∙ c.in_ok-inner.ensures.gives.1 (k),
     )
 
@@ -118,7 +120,7 @@ among-returns-in_err-rest t_ c =
 pub among-returns : goal.among-returns
 among-returns t_ c =
     let first : (left c.args.tokens.now c.args.at) ≡ t.among ∷ drop 1 (left c.args.tokens.now c.args.at) = d.as_terminal (left c.args.tokens.now c.args.at) t.among refl c.requires.first in (
-      d.headed (left c.args.tokens.now c.args.at) (left c.args.tokens.now c.behind.result) t.among first c.behind.ensures ∙ ap (λ (r : List Terminal). t.among ∷ r) (c.in_ok-inside.ensures.0 ∙ ap (λ (r : List Terminal). t.open_ ∷ r) (c.in_ok-starter.ensures.0 ∙ ap (λ (r : List Terminal). trees.spelled_starter (view.view_starter c.in_ok-starter.starter) r) (c.in_ok-groups.ensures.0 ∙ ap (λ (r : List Terminal). trees.spelled_groups (view.view_groups c.in_ok-groups.groups.items (map view.view_entry c.in_ok-groups.bare.items)) r) (c.in_ok-rest.ensures.0)))) ∙ ap (λ (a : view.AmongView). trees.spelled (trees.chosen a.0 a.1) (left c.args.tokens.now c.in_ok-rest.rest)) (sym (views.view_of_among c.in_ok-starter.starter c.in_ok-groups.groups c.in_ok-groups.bare)),
+      d.headed (left c.args.tokens.now c.args.at) (left c.args.tokens.now c.behind.result) t.among first c.behind.ensures ∙ ap (λ (r : List Terminal). t.among ∷ r) (c.in_ok-inside.ensures.0 ∙ ap (λ (r : List Terminal). t.open_ ∷ r) (c.in_ok-starter.ensures.0 ∙ ap (λ (r : List Terminal). trees.spelled_starter (view.view_starter c.in_ok-starter.starter) r) (c.in_ok-groups.ensures.0 ∙ ap (λ (r : List Terminal). trees.spelled_groups (view.view_groups c.in_ok-groups.groups.items (map view.view_entry c.in_ok-groups.bare.items)) r) (c.in_ok-rest.ensures.0)))) ∙ ap (λ (a : view.AmongView). trees.spelled (trees.among_ a.0 a.1) (left c.args.tokens.now c.in_ok-rest.rest)) (sym (views.view_of_among c.in_ok-starter.starter c.in_ok-groups.groups c.in_ok-groups.bare)),
       λ k. d.took (left c.args.tokens.now c.args.at) (left c.args.tokens.now c.behind.result) t.among (s.among c.args.depth ∷ k) (s.opening c.args.depth ∷ s.starter c.args.depth ∷ s.groups c.args.depth ∷ s.closing c.args.depth ∷ k) c.args.depth first c.behind.ensures refl (omega arith) ∙ c.in_ok-inside.ensures.1 (s.starter c.args.depth ∷ s.groups c.args.depth ∷ s.closing c.args.depth ∷ k) ∙ c.in_ok-starter.ensures.1 (s.groups c.args.depth ∷ s.closing c.args.depth ∷ k) ∙ c.in_ok-groups.ensures.1 (s.closing c.args.depth ∷ k) ∙ c.in_ok-rest.ensures.1 (k),
     )
 
@@ -129,7 +131,7 @@ command-returns-in_err-among-in-Among-clause-gives t_ c =
 
 pub command-returns-in_ok-among-in-Among-clause-gives : goal.command-returns-in_ok-among-in-Among-clause-gives
 command-returns-in_ok-among-in-Among-clause-gives t_ c = (
-  c.in_ok-among-in-Among.ensures.0 ∙ ap (λ (x : trees.Tree). trees.spelled x (left c.args.tokens.now c.in_ok-among-in-Among.rest)) (sym (views.command_Among c.in_ok-among-in-Among.among)),
+  c.in_ok-among-in-Among.ensures.0 ∙ ap (λ (x : trees.Command). trees.spelled x (left c.args.tokens.now c.in_ok-among-in-Among.rest)) (sym (views.command_Among c.in_ok-among-in-Among.among)),
   λ k. d.among_first (left c.args.tokens.now c.args.at) c.args.depth k (sym c.role-role.ensures ∙ c.in-Among.is) ∙ c.in_ok-among-in-Among.ensures.1 k,
 )
 
@@ -146,28 +148,28 @@ command-returns-then-depth-gt-MAX_DEPTH-clause-gives t_ c =
 pub command-returns-in-Simple-clause-gives : goal.command-returns-in-Simple-clause-gives
 command-returns-in-Simple-clause-gives t_ c =
     let first : (left c.args.tokens.now c.args.at) ≡ (t.simple c.in-Simple.simple) ∷ drop 1 (left c.args.tokens.now c.args.at) = d.as_terminal (left c.args.tokens.now c.args.at) (t.simple c.in-Simple.simple) refl (sym c.role-role.ensures ∙ c.in-Simple.is) in (
-      d.headed (left c.args.tokens.now c.args.at) (left c.args.tokens.now c.behind.result) (t.simple c.in-Simple.simple) first c.behind.ensures ∙ ap (λ (x : trees.Tree). trees.spelled x (left c.args.tokens.now c.behind.result)) (sym (views.command_Simple c.in-Simple.simple)),
+      d.headed (left c.args.tokens.now c.args.at) (left c.args.tokens.now c.behind.result) (t.simple c.in-Simple.simple) first c.behind.ensures ∙ ap (λ (x : trees.Command). trees.spelled x (left c.args.tokens.now c.behind.result)) (sym (views.command_Simple c.in-Simple.simple)),
       λ k. d.took (left c.args.tokens.now c.args.at) (left c.args.tokens.now c.behind.result) (t.simple c.in-Simple.simple) (s.command c.args.depth ∷ k) k c.args.depth first c.behind.ensures refl (omega arith),
     )
 
 pub command-returns-in_ok-literal-in-Literal-clause-gives : goal.command-returns-in_ok-literal-in-Literal-clause-gives
 command-returns-in_ok-literal-in-Literal-clause-gives t_ c =
     let first : (left c.args.tokens.now c.args.at) ≡ (t.literal (view.view_literal c.in_ok-literal-in-Literal.field-0)) ∷ drop 1 (left c.args.tokens.now c.args.at) = d.as_literal (drop c.args.at c.args.tokens.now) (sym c.role-role.ensures ∙ c.in-Literal.is) ∙ ap (λ (q : t.Quoted). t.literal q ∷ drop 1 (left c.args.tokens.now c.args.at)) (sym c.in_ok-literal-in-Literal.ensures) in (
-      d.headed (left c.args.tokens.now c.args.at) (left c.args.tokens.now c.behind-in-Literal.result) (t.literal (view.view_literal c.in_ok-literal-in-Literal.field-0)) first c.behind-in-Literal.ensures ∙ ap (λ (x : trees.Tree). trees.spelled x (left c.args.tokens.now c.behind-in-Literal.result)) (sym (views.command_Literal c.in_ok-literal-in-Literal.field-0)),
+      d.headed (left c.args.tokens.now c.args.at) (left c.args.tokens.now c.behind-in-Literal.result) (t.literal (view.view_literal c.in_ok-literal-in-Literal.field-0)) first c.behind-in-Literal.ensures ∙ ap (λ (x : trees.Command). trees.spelled x (left c.args.tokens.now c.behind-in-Literal.result)) (sym (views.command_Literal c.in_ok-literal-in-Literal.field-0)),
       λ k. d.took (left c.args.tokens.now c.args.at) (left c.args.tokens.now c.behind-in-Literal.result) (t.literal (view.view_literal c.in_ok-literal-in-Literal.field-0)) (s.command c.args.depth ∷ k) k c.args.depth first c.behind-in-Literal.ensures refl (omega arith),
     )
 
 pub command-returns-in_ok-text-in-Name-clause-gives : goal.command-returns-in_ok-text-in-Name-clause-gives
 command-returns-in_ok-text-in-Name-clause-gives t_ c =
     let first : (left c.args.tokens.now c.args.at) ≡ (t.name (string_bytes c.in_ok-text-in-Name.field-0)) ∷ drop 1 (left c.args.tokens.now c.args.at) = d.as_name (drop c.args.at c.args.tokens.now) (sym c.role-role.ensures ∙ c.in-Name.is) ∙ ap (λ (n : List ℕ). t.name n ∷ drop 1 (left c.args.tokens.now c.args.at)) (sym c.in_ok-text-in-Name.ensures) in (
-      d.headed (left c.args.tokens.now c.args.at) (left c.args.tokens.now c.behind-in-Name.result) (t.name (string_bytes c.in_ok-text-in-Name.field-0)) first c.behind-in-Name.ensures ∙ ap (λ (x : trees.Tree). trees.spelled x (left c.args.tokens.now c.behind-in-Name.result)) (sym (views.command_Name c.in_ok-text-in-Name.field-0)),
+      d.headed (left c.args.tokens.now c.args.at) (left c.args.tokens.now c.behind-in-Name.result) (t.name (string_bytes c.in_ok-text-in-Name.field-0)) first c.behind-in-Name.ensures ∙ ap (λ (x : trees.Command). trees.spelled x (left c.args.tokens.now c.behind-in-Name.result)) (sym (views.command_Name c.in_ok-text-in-Name.field-0)),
       λ k. d.took (left c.args.tokens.now c.args.at) (left c.args.tokens.now c.behind-in-Name.result) (t.name (string_bytes c.in_ok-text-in-Name.field-0)) (s.command c.args.depth ∷ k) k c.args.depth first c.behind-in-Name.ensures refl (omega arith),
     )
 
 pub command-returns-in_default-clause-gives : goal.command-returns-in_default-clause-gives
 command-returns-in_default-clause-gives t_ c =
     let n = c.in_default in
-    rw c.syntax-in_default.ensures (λ k. d.refused_all (left c.args.tokens.now c.args.at) c.args.depth k (λ e. n.not-Open (c.role-role.ensures ∙ e)) (λ o e. n.not-Simple o (c.role-role.ensures ∙ e)) (λ e. n.not-Literal (c.role-role.ensures ∙ e)) (λ e. n.not-Name (c.role-role.ensures ∙ e)) (λ e. n.not-Non (c.role-role.ensures ∙ e)) (λ o e. n.not-Prefix o (c.role-role.ensures ∙ e)) (λ o e. n.not-Count o (c.role-role.ensures ∙ e)) (λ o e. n.not-Move o (c.role-role.ensures ∙ e)) (λ o e. n.not-Naming o (c.role-role.ensures ∙ e)) (λ o e. n.not-Edit o (c.role-role.ensures ∙ e)) (λ e. n.not-SetLimit (c.role-role.ensures ∙ e)) (λ e. n.not-Dollar (c.role-role.ensures ∙ e)) (λ e. n.not-Among (c.role-role.ensures ∙ e)))
+    rw c.syntax-in_default.ensures (λ k. d.refused_all (left c.args.tokens.now c.args.at) c.args.depth k (λ e. n.not-Open (c.role-role.ensures ∙ e)) (λ o e. n.not-Simple o (c.role-role.ensures ∙ e)) (λ e. n.not-Literal (c.role-role.ensures ∙ e)) (λ e. n.not-Name (c.role-role.ensures ∙ e)) (λ e. n.not-Non (c.role-role.ensures ∙ e)) (λ o e. n.not-Prefix o (c.role-role.ensures ∙ e)) (λ o e. n.not-Count o (c.role-role.ensures ∙ e)) (λ o e. n.not-Move o (c.role-role.ensures ∙ e)) (λ o e. n.not-Naming o (c.role-role.ensures ∙ e)) (λ o e. n.not-Splice o (c.role-role.ensures ∙ e)) (λ e. n.not-SetLimit (c.role-role.ensures ∙ e)) (λ e. n.not-Dollar (c.role-role.ensures ∙ e)) (λ e. n.not-Among (c.role-role.ensures ∙ e)))
 
 pub starter-returns-in_err-rows-in-Open : goal.starter-returns-in_err-rows-in-Open
 starter-returns-in_err-rows-in-Open t_ c =

@@ -1,10 +1,10 @@
 use Rattle.std.proofs.Common.{◌+◌, ◌∷◌, drop, map, sym, ap, ◌∙◌}
 use Rattle.std.proofs.lemmas.Bool.{ne_eqb}
-use Rattle.sbl_grammar.specs.Tree as trees
-use Rattle.sbl_grammar.specs.View as view
-use Rattle.sbl_grammar.specs.declared.tree.Command.{Command}
-use Rattle.sbl_grammar.specs.declared.tree.Command.TheViews.{out-Group, out-Among, out-Row}
-use Rattle.sbl_grammar.proofs.Views as views
+use Rattle.sbl_tree.specs.Tree as trees
+use Rattle.sbl_tree.specs.View as view
+use Rattle.sbl_tree.specs.declared.tree.Command.{Command}
+use Rattle.sbl_tree.specs.declared.tree.Command.TheViews.{out-Group, out-Among, out-Row}
+use Rattle.sbl_tree.proofs.Views as views
 use Rattle.sbl_grammar.proofs.Putting as p
 use Rattle.sbl_grammar.proofs.Walking as f
 use Rattle.sbl_grammar.proofs.finding.+find.Goals as goal
@@ -30,12 +30,12 @@ in_command-returns-in-Counted t c =
 pub in_command-returns-in-Behind : goal.in_command-returns-in-Behind
 in_command-returns-in-Behind t c =
     let a = view.view_command c.deref-in-SetLimit.result.now in
-    let is = ap view.view_command c.in-SetLimit.is ∙ views.command_SetLimit c.in-SetLimit.limit c.in-SetLimit.inner ∙ ap (λ (x : Command). trees.limited (view.view_command x) (view.view_command c.in-SetLimit.inner.value)) (sym c.deref-in-SetLimit.ensures) ∙ ap (λ (x : Command). trees.limited a (view.view_command x)) (sym c.deref-in-Behind.ensures) in
+    let is = ap view.view_command c.in-SetLimit.is ∙ views.command_SetLimit c.in-SetLimit.limit c.in-SetLimit.inner ∙ ap (λ (x : Command). trees.setlimit_ (view.view_command x) (view.view_command c.in-SetLimit.inner.value)) (sym c.deref-in-SetLimit.ensures) ∙ ap (λ (x : Command). trees.setlimit_ a (view.view_command x)) (sym c.deref-in-Behind.ensures) in
     f.limited_finds c.in_command-in-Behind.result c.args.number c.in-Behind.number c.args.depth c.saturating_add-inside.result (view.view_command c.args.command.now) a (view.view_command c.deref-in-Behind.result.now) is c.saturating_add-inside.ensures c.in-Behind.ensures c.in_command-in-Behind.ensures
 
 pub in_command-returns-in-There : goal.in_command-returns-in-There
 in_command-returns-in-There t c =
-    let is = ap view.view_command c.in-SetLimit.is ∙ views.command_SetLimit c.in-SetLimit.limit c.in-SetLimit.inner ∙ ap (λ (x : Command). trees.limited (view.view_command x) (view.view_command c.in-SetLimit.inner.value)) (sym c.deref-in-SetLimit.ensures) in
+    let is = ap view.view_command c.in-SetLimit.is ∙ views.command_SetLimit c.in-SetLimit.limit c.in-SetLimit.inner ∙ ap (λ (x : Command). trees.setlimit_ (view.view_command x) (view.view_command c.in-SetLimit.inner.value)) (sym c.deref-in-SetLimit.ensures) in
     f.limit_finds c.in-There.depth c.in-There.among c.args.number c.args.depth c.saturating_add-inside.result (view.view_command c.args.command.now) (view.view_command c.deref-in-SetLimit.result.now) (view.view_command c.in-SetLimit.inner.value) is c.saturating_add-inside.ensures c.in-There.ensures
 
 pub in_groups-returns-in-There : goal.in_groups-returns-in-There

@@ -1,11 +1,13 @@
 use Rattle.std.proofs.Common.{◌≡◌, ◌∷◌, List, map, drop, arith, ap, refl, ◌∙◌}
 use Rattle.std.proofs.lemmas.Result.{err_from_is_err_and}
-use Rattle.sbl_grammar.specs.Terminal.{Terminal, role_of, role_as, left}
-use Rattle.sbl_grammar.specs.Terminal as t
-use Rattle.sbl_grammar.specs.Tree as trees
-use Rattle.sbl_grammar.specs.Steps.{max_depth, Stack, fault}
+use Rattle.sbl_tree.specs.Terminal.{Terminal, left}
+use Rattle.sbl_grammar.specs.Roles.{role_of, role_as}
+use Rattle.sbl_tree.specs.Terminal as t
+use Rattle.sbl_tree.specs.Tree as trees
+use Rattle.sbl_grammar.specs.Places.{max_depth}
+use Rattle.sbl_grammar.specs.Steps.{Stack, fault}
 use Rattle.sbl_grammar.specs.Steps as s
-use Rattle.sbl_grammar.specs.View as view
+use Rattle.sbl_tree.specs.View as view
 use Rattle.sbl_grammar.proofs.Descent as d
 use Rattle.sbl_grammar.proofs.items.backward_mode.Goals as goal
 

@@ -1,6 +1,6 @@
 use Rattle.std.proofs.Common.{◌≡◌, ◌∷◌, length, map, string_bytes}
-use Rattle.sbl_grammar.specs.Terminal.{left}
-use Rattle.sbl_grammar.specs.Tree as trees
+use Rattle.sbl_tree.specs.Terminal.{left}
+use Rattle.sbl_tree.specs.Tree as trees
 use Rattle.sbl_grammar.specs.Steps as wanted
 use Rattle.sbl_grammar.proofs.items.names.Given as goal
 

@@ -1,5 +1,5 @@
 use Rattle.std.proofs.Common.{◌∙◌}
-use Rattle.sbl_grammar.specs.Terminal.{left}
+use Rattle.sbl_tree.specs.Terminal.{left}
 use Rattle.sbl_grammar.proofs.Descent as d
 use Rattle.sbl_grammar.proofs.items.plain.Goals as goal
 

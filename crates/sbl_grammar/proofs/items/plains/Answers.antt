@@ -1,14 +1,16 @@
 use Rattle.std.proofs.Common.{◌≡◌, ◌<◌, ◌∷◌, ◌++◌, List, [], length, map, true, ap, sym, subst, ◌∙◌}
 use Rattle.std.proofs.lemmas.List.{map_push}
 use Rattle.std.proofs.lemmas.Result.{err_from_is_err_and}
-use Rattle.sbl_grammar.specs.declared.tree.Plain.{Plain}
-use Rattle.sbl_grammar.specs.Terminal.{Terminal, role_of, left}
+use Rattle.sbl_tree.specs.declared.tree.Plain.{Plain}
+use Rattle.sbl_tree.specs.Terminal.{Terminal, left}
+use Rattle.sbl_grammar.specs.Roles.{role_of}
 use Rattle.sbl_grammar.specs.declared.role.Role.{Role}
 use Rattle.sbl_grammar.specs.Starts.{begins_plain}
-use Rattle.sbl_grammar.specs.Tree as trees
-use Rattle.sbl_grammar.specs.Steps.{max_depth, Stack, fault}
+use Rattle.sbl_tree.specs.Tree as trees
+use Rattle.sbl_grammar.specs.Places.{max_depth}
+use Rattle.sbl_grammar.specs.Steps.{Stack, fault}
 use Rattle.sbl_grammar.specs.Steps as s
-use Rattle.sbl_grammar.specs.View as view
+use Rattle.sbl_tree.specs.View as view
 use Rattle.sbl_grammar.proofs.Descent as d
 use Rattle.sbl_grammar.proofs.Lengths as lengths
 use Rattle.sbl_grammar.proofs.Turns as turns

@@ -1,7 +1,7 @@
 use Rattle.std.proofs.Common.{◌≡◌, ◌∷◌, length, map}
-use Rattle.sbl_grammar.specs.Terminal.{left}
-use Rattle.sbl_grammar.specs.Tree as trees
-use Rattle.sbl_grammar.specs.View as view
+use Rattle.sbl_tree.specs.Terminal.{left}
+use Rattle.sbl_tree.specs.Tree as trees
+use Rattle.sbl_tree.specs.View as view
 use Rattle.sbl_grammar.specs.Steps as wanted
 use Rattle.sbl_grammar.proofs.items.plains.Given as goal
 

@@ -1,12 +1,12 @@
 use Rattle.std.proofs.Common.{◌∷◌, List, ap, sym, ◌∙◌}
 use Rattle.std.proofs.lemmas.Result.{err_from_is_err_and}
-use Rattle.sbl_grammar.specs.Terminal.{Terminal, left}
-use Rattle.sbl_grammar.specs.Tree as trees
+use Rattle.sbl_tree.specs.Terminal.{Terminal, left}
+use Rattle.sbl_tree.specs.Tree as trees
 use Rattle.sbl_grammar.specs.Steps.{fault}
 use Rattle.sbl_grammar.specs.Steps as s
-use Rattle.sbl_grammar.specs.View as view
+use Rattle.sbl_tree.specs.View as view
 use Rattle.sbl_grammar.proofs.Descent as d
-use Rattle.sbl_grammar.proofs.Views as views
+use Rattle.sbl_tree.proofs.Views as views
 use Rattle.sbl_grammar.proofs.items.row.Goals as goal
 
 pub returns-in_err-first : goal.returns-in_err-first

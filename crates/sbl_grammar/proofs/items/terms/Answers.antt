@@ -1,13 +1,15 @@
 use Rattle.std.proofs.Common.{◌≡◌, ◌<◌, ◌∷◌, ◌++◌, List, [], length, map, drop, arith, ap, sym, refl, subst, ◌∙◌}
 use Rattle.std.proofs.lemmas.List.{map_push}
 use Rattle.std.proofs.lemmas.Result.{err_from_is_err_and}
-use Rattle.sbl_grammar.specs.declared.tree.Term.{Term}
-use Rattle.sbl_grammar.specs.Terminal.{Terminal, role_of, role_as, left}
-use Rattle.sbl_grammar.specs.Terminal as t
-use Rattle.sbl_grammar.specs.Tree as trees
-use Rattle.sbl_grammar.specs.Steps.{max_depth, Stack, fault}
+use Rattle.sbl_tree.specs.declared.tree.Term.{Term}
+use Rattle.sbl_tree.specs.Terminal.{Terminal, left}
+use Rattle.sbl_grammar.specs.Roles.{role_of, role_as}
+use Rattle.sbl_tree.specs.Terminal as t
+use Rattle.sbl_tree.specs.Tree as trees
+use Rattle.sbl_grammar.specs.Places.{max_depth}
+use Rattle.sbl_grammar.specs.Steps.{Stack, fault}
 use Rattle.sbl_grammar.specs.Steps as s
-use Rattle.sbl_grammar.specs.View as view
+use Rattle.sbl_tree.specs.View as view
 use Rattle.sbl_grammar.proofs.Descent as d
 use Rattle.sbl_grammar.proofs.Turns as turns
 use Rattle.sbl_grammar.proofs.items.terms.Goals as goal

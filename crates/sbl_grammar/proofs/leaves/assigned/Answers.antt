@@ -1,13 +1,15 @@
 use Rattle.std.proofs.Common.{◌≡◌, ◌∷◌, ℕ, List, string_bytes, drop, arith, ap, sym, refl, ◌∙◌, Some}
 use Rattle.std.proofs.lemmas.Result.{err_from_is_err_and}
-use Rattle.sbl_grammar.specs.Terminal.{Terminal, role_of, role_as, left}
-use Rattle.sbl_grammar.specs.Terminal as t
-use Rattle.sbl_grammar.specs.Tree as trees
-use Rattle.sbl_grammar.specs.Steps.{max_depth, Stack, fault}
+use Rattle.sbl_tree.specs.Terminal.{Terminal, left}
+use Rattle.sbl_grammar.specs.Roles.{role_of, role_as}
+use Rattle.sbl_tree.specs.Terminal as t
+use Rattle.sbl_tree.specs.Tree as trees
+use Rattle.sbl_grammar.specs.Places.{max_depth}
+use Rattle.sbl_grammar.specs.Steps.{Stack, fault}
 use Rattle.sbl_grammar.specs.Steps as s
 use Rattle.sbl_grammar.proofs.Descent as d
 use Rattle.sbl_grammar.proofs.Turns as turns
-use Rattle.sbl_grammar.proofs.Views as views
+use Rattle.sbl_tree.proofs.Views as views
 use Rattle.sbl_grammar.proofs.leaves.assigned.Goals as goal
 
 pub returns-in_err-value-in-Assignment : goal.returns-in_err-value-in-Assignment
@@ -25,7 +27,7 @@ returns-in_ok-value-in-Assignment c =
     let second : (left c.args.tokens.now c.behind-2.result) ≡ t.name (string_bytes c.in_ok-subject.subject) ∷ drop 1 (left c.args.tokens.now c.behind-2.result) =
     c.behind-2.ensures ∙ sym c.behind.ensures ∙ d.as_name (drop c.behind.result c.args.tokens.now) (ap role_of c.behind.ensures ∙ c.requires.second) ∙ ap (λ (n : List ℕ). t.name n ∷ drop 1 (left c.args.tokens.now c.behind.result)) (sym c.in_ok-subject.ensures) ∙ ap (λ (r : List Terminal). t.name (string_bytes c.in_ok-subject.subject) ∷ drop 1 r) (c.behind.ensures ∙ sym c.behind-2.ensures) in
     let third : (left c.args.tokens.now c.behind-rest.result) ≡ (t.assigns c.in-Assignment.operator) ∷ drop 1 (left c.args.tokens.now c.behind-rest.result) = d.as_terminal (left c.args.tokens.now c.behind-rest.result) (t.assigns c.in-Assignment.operator) refl (sym c.role.ensures ∙ c.in-Assignment.is) in (
-      d.headed (left c.args.tokens.now c.args.at) (left c.args.tokens.now c.behind-2.result) t.dollar first c.behind-2.ensures ∙ ap (λ (r : List Terminal). t.dollar ∷ r) (d.headed (left c.args.tokens.now c.behind-2.result) (left c.args.tokens.now c.behind-rest.result) (t.name (string_bytes c.in_ok-subject.subject)) second c.behind-rest.ensures ∙ ap (λ (r : List Terminal). t.name (string_bytes c.in_ok-subject.subject) ∷ r) (d.headed (left c.args.tokens.now c.behind-rest.result) (left c.args.tokens.now c.behind-in-Assignment.result) (t.assigns c.in-Assignment.operator) third c.behind-in-Assignment.ensures ∙ ap (λ (r : List Terminal). (t.assigns c.in-Assignment.operator) ∷ r) c.in_ok-value-in-Assignment.ensures.0)) ∙ ap (λ (x : trees.Tree). trees.spelled x (left c.args.tokens.now c.in_ok-value-in-Assignment.rest)) (sym (views.command_Assign c.in_ok-subject.subject c.in-Assignment.operator c.in_ok-value-in-Assignment.value)),
+      d.headed (left c.args.tokens.now c.args.at) (left c.args.tokens.now c.behind-2.result) t.dollar first c.behind-2.ensures ∙ ap (λ (r : List Terminal). t.dollar ∷ r) (d.headed (left c.args.tokens.now c.behind-2.result) (left c.args.tokens.now c.behind-rest.result) (t.name (string_bytes c.in_ok-subject.subject)) second c.behind-rest.ensures ∙ ap (λ (r : List Terminal). t.name (string_bytes c.in_ok-subject.subject) ∷ r) (d.headed (left c.args.tokens.now c.behind-rest.result) (left c.args.tokens.now c.behind-in-Assignment.result) (t.assigns c.in-Assignment.operator) third c.behind-in-Assignment.ensures ∙ ap (λ (r : List Terminal). (t.assigns c.in-Assignment.operator) ∷ r) c.in_ok-value-in-Assignment.ensures.0)) ∙ ap (λ (x : trees.Command). trees.spelled x (left c.args.tokens.now c.in_ok-value-in-Assignment.rest)) (sym (views.command_Assign c.in_ok-subject.subject c.in-Assignment.operator c.in_ok-value-in-Assignment.value)),
       λ k. d.took (left c.args.tokens.now c.args.at) (left c.args.tokens.now c.behind-2.result) t.dollar (s.command c.args.depth ∷ k) (s.subject c.args.depth ∷ k) c.args.depth first c.behind-2.ensures refl (omega arith) ∙ d.took (left c.args.tokens.now c.behind-2.result) (left c.args.tokens.now c.behind-rest.result) (t.name (string_bytes c.in_ok-subject.subject)) (s.subject c.args.depth ∷ k) (s.operator c.args.depth ∷ k) c.args.depth second c.behind-rest.ensures refl (omega arith) ∙ d.took (left c.args.tokens.now c.behind-rest.result) (left c.args.tokens.now c.behind-in-Assignment.result) (t.assigns c.in-Assignment.operator) (s.operator c.args.depth ∷ k) (s.expression c.args.depth k) c.args.depth third c.behind-in-Assignment.ensures refl (omega arith) ∙ c.in_ok-value-in-Assignment.ensures.1 k,
     )
 
@@ -44,7 +46,7 @@ returns-in_ok-value-in-Comparison c =
     let second : (left c.args.tokens.now c.behind-2.result) ≡ t.name (string_bytes c.in_ok-subject.subject) ∷ drop 1 (left c.args.tokens.now c.behind-2.result) =
     c.behind-2.ensures ∙ sym c.behind.ensures ∙ d.as_name (drop c.behind.result c.args.tokens.now) (ap role_of c.behind.ensures ∙ c.requires.second) ∙ ap (λ (n : List ℕ). t.name n ∷ drop 1 (left c.args.tokens.now c.behind.result)) (sym c.in_ok-subject.ensures) ∙ ap (λ (r : List Terminal). t.name (string_bytes c.in_ok-subject.subject) ∷ drop 1 r) (c.behind.ensures ∙ sym c.behind-2.ensures) in
     let third : (left c.args.tokens.now c.behind-rest.result) ≡ (t.compares c.in-Comparison.operator) ∷ drop 1 (left c.args.tokens.now c.behind-rest.result) = d.as_terminal (left c.args.tokens.now c.behind-rest.result) (t.compares c.in-Comparison.operator) refl (sym c.role.ensures ∙ c.in-Comparison.is) in (
-      d.headed (left c.args.tokens.now c.args.at) (left c.args.tokens.now c.behind-2.result) t.dollar first c.behind-2.ensures ∙ ap (λ (r : List Terminal). t.dollar ∷ r) (d.headed (left c.args.tokens.now c.behind-2.result) (left c.args.tokens.now c.behind-rest.result) (t.name (string_bytes c.in_ok-subject.subject)) second c.behind-rest.ensures ∙ ap (λ (r : List Terminal). t.name (string_bytes c.in_ok-subject.subject) ∷ r) (d.headed (left c.args.tokens.now c.behind-rest.result) (left c.args.tokens.now c.behind-in-Comparison.result) (t.compares c.in-Comparison.operator) third c.behind-in-Comparison.ensures ∙ ap (λ (r : List Terminal). (t.compares c.in-Comparison.operator) ∷ r) c.in_ok-value-in-Comparison.ensures.0)) ∙ ap (λ (x : trees.Tree). trees.spelled x (left c.args.tokens.now c.in_ok-value-in-Comparison.rest)) (sym (views.command_Compare c.in_ok-subject.subject c.in-Comparison.operator c.in_ok-value-in-Comparison.value)),
+      d.headed (left c.args.tokens.now c.args.at) (left c.args.tokens.now c.behind-2.result) t.dollar first c.behind-2.ensures ∙ ap (λ (r : List Terminal). t.dollar ∷ r) (d.headed (left c.args.tokens.now c.behind-2.result) (left c.args.tokens.now c.behind-rest.result) (t.name (string_bytes c.in_ok-subject.subject)) second c.behind-rest.ensures ∙ ap (λ (r : List Terminal). t.name (string_bytes c.in_ok-subject.subject) ∷ r) (d.headed (left c.args.tokens.now c.behind-rest.result) (left c.args.tokens.now c.behind-in-Comparison.result) (t.compares c.in-Comparison.operator) third c.behind-in-Comparison.ensures ∙ ap (λ (r : List Terminal). (t.compares c.in-Comparison.operator) ∷ r) c.in_ok-value-in-Comparison.ensures.0)) ∙ ap (λ (x : trees.Command). trees.spelled x (left c.args.tokens.now c.in_ok-value-in-Comparison.rest)) (sym (views.command_Compare c.in_ok-subject.subject c.in-Comparison.operator c.in_ok-value-in-Comparison.value)),
       λ k. d.took (left c.args.tokens.now c.args.at) (left c.args.tokens.now c.behind-2.result) t.dollar (s.command c.args.depth ∷ k) (s.subject c.args.depth ∷ k) c.args.depth first c.behind-2.ensures refl (omega arith) ∙ d.took (left c.args.tokens.now c.behind-2.result) (left c.args.tokens.now c.behind-rest.result) (t.name (string_bytes c.in_ok-subject.subject)) (s.subject c.args.depth ∷ k) (s.operator c.args.depth ∷ k) c.args.depth second c.behind-rest.ensures refl (omega arith) ∙ d.took (left c.args.tokens.now c.behind-rest.result) (left c.args.tokens.now c.behind-in-Comparison.result) (t.compares c.in-Comparison.operator) (s.operator c.args.depth ∷ k) (s.expression c.args.depth k) c.args.depth third c.behind-in-Comparison.ensures refl (omega arith) ∙ c.in_ok-value-in-Comparison.ensures.1 k,
     )
 

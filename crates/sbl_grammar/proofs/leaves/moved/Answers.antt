@@ -1,12 +1,14 @@
 use Rattle.std.proofs.Common.{◌≡◌, ◌∷◌, List, drop, arith, ap, sym, refl, ◌∙◌}
 use Rattle.std.proofs.lemmas.Result.{err_from_is_err_and}
-use Rattle.sbl_grammar.specs.Terminal.{Terminal, role_of, role_as, left}
-use Rattle.sbl_grammar.specs.Terminal as t
-use Rattle.sbl_grammar.specs.Tree as trees
-use Rattle.sbl_grammar.specs.Steps.{max_depth, Stack, fault}
+use Rattle.sbl_tree.specs.Terminal.{Terminal, left}
+use Rattle.sbl_grammar.specs.Roles.{role_of, role_as}
+use Rattle.sbl_tree.specs.Terminal as t
+use Rattle.sbl_tree.specs.Tree as trees
+use Rattle.sbl_grammar.specs.Places.{max_depth}
+use Rattle.sbl_grammar.specs.Steps.{Stack, fault}
 use Rattle.sbl_grammar.specs.Steps as s
 use Rattle.sbl_grammar.proofs.Descent as d
-use Rattle.sbl_grammar.proofs.Views as views
+use Rattle.sbl_tree.proofs.Views as views
 use Rattle.sbl_grammar.proofs.leaves.moved.Goals as goal
 
 pub returns-in_err-place : goal.returns-in_err-place
@@ -18,7 +20,7 @@ returns-in_err-place c =
 pub returns : goal.returns
 returns c =
     let first : (left c.args.tokens.now c.args.at) ≡ (t.move c.args.word) ∷ drop 1 (left c.args.tokens.now c.args.at) = d.as_terminal (left c.args.tokens.now c.args.at) (t.move c.args.word) refl c.requires.first in (
-      d.headed (left c.args.tokens.now c.args.at) (left c.args.tokens.now c.behind.result) (t.move c.args.word) first c.behind.ensures ∙ ap (λ (r : List Terminal). (t.move c.args.word) ∷ r) (c.in_ok-place.ensures.0) ∙ ap (λ (x : trees.Tree). trees.spelled x (left c.args.tokens.now c.in_ok-place.rest)) (sym (views.command_Move c.args.word c.in_ok-place.place)),
+      d.headed (left c.args.tokens.now c.args.at) (left c.args.tokens.now c.behind.result) (t.move c.args.word) first c.behind.ensures ∙ ap (λ (r : List Terminal). (t.move c.args.word) ∷ r) (c.in_ok-place.ensures.0) ∙ ap (λ (x : trees.Command). trees.spelled x (left c.args.tokens.now c.in_ok-place.rest)) (sym (views.command_Move c.args.word c.in_ok-place.place)),
       λ k. d.took (left c.args.tokens.now c.args.at) (left c.args.tokens.now c.behind.result) (t.move c.args.word) (s.command c.args.depth ∷ k) (s.expression c.args.depth k) c.args.depth first c.behind.ensures refl (omega arith) ∙ c.in_ok-place.ensures.1 (k),
     )
 

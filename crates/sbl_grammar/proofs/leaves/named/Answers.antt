@@ -1,12 +1,14 @@
 use Rattle.std.proofs.Common.{◌≡◌, ◌∷◌, List, drop, arith, ap, sym, refl, ◌∙◌}
 use Rattle.std.proofs.lemmas.Result.{err_from_is_err_and}
-use Rattle.sbl_grammar.specs.Terminal.{Terminal, role_of, role_as, left}
-use Rattle.sbl_grammar.specs.Terminal as t
-use Rattle.sbl_grammar.specs.Tree as trees
-use Rattle.sbl_grammar.specs.Steps.{max_depth, Stack, fault}
+use Rattle.sbl_tree.specs.Terminal.{Terminal, left}
+use Rattle.sbl_grammar.specs.Roles.{role_of, role_as}
+use Rattle.sbl_tree.specs.Terminal as t
+use Rattle.sbl_tree.specs.Tree as trees
+use Rattle.sbl_grammar.specs.Places.{max_depth}
+use Rattle.sbl_grammar.specs.Steps.{Stack, fault}
 use Rattle.sbl_grammar.specs.Steps as s
 use Rattle.sbl_grammar.proofs.Descent as d
-use Rattle.sbl_grammar.proofs.Views as views
+use Rattle.sbl_tree.proofs.Views as views
 use Rattle.sbl_grammar.proofs.leaves.named.Goals as goal
 
 pub returns-in_err-name : goal.returns-in_err-name
@@ -18,7 +20,7 @@ returns-in_err-name c =
 pub returns : goal.returns
 returns c =
     let first : (left c.args.tokens.now c.args.at) ≡ (t.naming c.args.word) ∷ drop 1 (left c.args.tokens.now c.args.at) = d.as_terminal (left c.args.tokens.now c.args.at) (t.naming c.args.word) refl c.requires.first in (
-      d.headed (left c.args.tokens.now c.args.at) (left c.args.tokens.now c.behind.result) (t.naming c.args.word) first c.behind.ensures ∙ ap (λ (r : List Terminal). (t.naming c.args.word) ∷ r) (c.in_ok-name.ensures.0) ∙ ap (λ (x : trees.Tree). trees.spelled x (left c.args.tokens.now c.in_ok-name.rest)) (sym (views.command_Named c.args.word c.in_ok-name.name)),
+      d.headed (left c.args.tokens.now c.args.at) (left c.args.tokens.now c.behind.result) (t.naming c.args.word) first c.behind.ensures ∙ ap (λ (r : List Terminal). (t.naming c.args.word) ∷ r) (c.in_ok-name.ensures.0) ∙ ap (λ (x : trees.Command). trees.spelled x (left c.args.tokens.now c.in_ok-name.rest)) (sym (views.command_Named c.args.word c.in_ok-name.name)),
       λ k. d.took (left c.args.tokens.now c.args.at) (left c.args.tokens.now c.behind.result) (t.naming c.args.word) (s.command c.args.depth ∷ k) (s.name c.args.depth ∷ k) c.args.depth first c.behind.ensures refl (omega arith) ∙ c.in_ok-name.ensures.1 (k),
     )
 

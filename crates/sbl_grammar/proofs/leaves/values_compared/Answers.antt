@@ -1,13 +1,15 @@
 use Rattle.std.proofs.Common.{◌≡◌, ◌∷◌, List, drop, arith, ap, sym, refl, ◌∙◌}
 use Rattle.std.proofs.lemmas.Result.{err_from_is_err_and}
-use Rattle.sbl_grammar.specs.Terminal.{Terminal, role_of, role_as, left}
-use Rattle.sbl_grammar.specs.Terminal as t
-use Rattle.sbl_grammar.specs.Tree as trees
-use Rattle.sbl_grammar.specs.Steps.{max_depth, Stack, fault}
+use Rattle.sbl_tree.specs.Terminal.{Terminal, left}
+use Rattle.sbl_grammar.specs.Roles.{role_of, role_as}
+use Rattle.sbl_tree.specs.Terminal as t
+use Rattle.sbl_tree.specs.Tree as trees
+use Rattle.sbl_grammar.specs.Places.{max_depth}
+use Rattle.sbl_grammar.specs.Steps.{Stack, fault}
 use Rattle.sbl_grammar.specs.Steps as s
-use Rattle.sbl_grammar.specs.View as view
+use Rattle.sbl_tree.specs.View as view
 use Rattle.sbl_grammar.proofs.Descent as d
-use Rattle.sbl_grammar.proofs.Views as views
+use Rattle.sbl_tree.proofs.Views as views
 use Rattle.sbl_grammar.proofs.leaves.values_compared.Goals as goal
 
 pub returns-in_err-left : goal.returns-in_err-left
@@ -42,7 +44,7 @@ pub returns : goal.returns
 returns c =
     let first : (left c.args.tokens.now c.args.at) ≡ t.dollar ∷ drop 1 (left c.args.tokens.now c.args.at) = d.as_terminal (left c.args.tokens.now c.args.at) t.dollar refl c.requires.first in
     let second : (left c.args.tokens.now c.behind.result) ≡ t.open_ ∷ drop 1 (left c.args.tokens.now c.behind.result) = d.as_terminal (left c.args.tokens.now c.behind.result) t.open_ refl (ap role_of c.behind.ensures ∙ c.requires.second) in (
-      d.headed (left c.args.tokens.now c.args.at) (left c.args.tokens.now c.behind.result) t.dollar first c.behind.ensures ∙ ap (λ (r : List Terminal). t.dollar ∷ r) (d.headed (left c.args.tokens.now c.behind.result) (left c.args.tokens.now c.behind-2.result) t.open_ second c.behind-2.ensures ∙ ap (λ (r : List Terminal). t.open_ ∷ r) (c.in_ok-left.ensures.0 ∙ ap (λ (r : List Terminal). trees.spelled_expression (view.view_expression c.in_ok-left.left) r) (c.in_ok-operator.ensures.0 ∙ ap (λ (r : List Terminal). t.compares c.in_ok-operator.operator ∷ r) (c.in_ok-right.ensures.0 ∙ ap (λ (r : List Terminal). trees.spelled_expression (view.view_expression c.in_ok-right.right) r) (c.in_ok-rest.ensures.0))))) ∙ ap (λ (x : trees.Tree). trees.spelled x (left c.args.tokens.now c.in_ok-rest.rest)) (sym (views.command_CompareValues c.in_ok-left.left c.in_ok-operator.operator c.in_ok-right.right)),
+      d.headed (left c.args.tokens.now c.args.at) (left c.args.tokens.now c.behind.result) t.dollar first c.behind.ensures ∙ ap (λ (r : List Terminal). t.dollar ∷ r) (d.headed (left c.args.tokens.now c.behind.result) (left c.args.tokens.now c.behind-2.result) t.open_ second c.behind-2.ensures ∙ ap (λ (r : List Terminal). t.open_ ∷ r) (c.in_ok-left.ensures.0 ∙ ap (λ (r : List Terminal). trees.spelled_expression (view.view_expression c.in_ok-left.left) r) (c.in_ok-operator.ensures.0 ∙ ap (λ (r : List Terminal). t.compares c.in_ok-operator.operator ∷ r) (c.in_ok-right.ensures.0 ∙ ap (λ (r : List Terminal). trees.spelled_expression (view.view_expression c.in_ok-right.right) r) (c.in_ok-rest.ensures.0))))) ∙ ap (λ (x : trees.Command). trees.spelled x (left c.args.tokens.now c.in_ok-rest.rest)) (sym (views.command_CompareValues c.in_ok-left.left c.in_ok-operator.operator c.in_ok-right.right)),
       λ k. d.took (left c.args.tokens.now c.args.at) (left c.args.tokens.now c.behind.result) t.dollar (s.command c.args.depth ∷ k) (s.subject c.args.depth ∷ k) c.args.depth first c.behind.ensures refl (omega arith) ∙ d.took (left c.args.tokens.now c.behind.result) (left c.args.tokens.now c.behind-2.result) t.open_ (s.subject c.args.depth ∷ k) (s.expression c.args.depth (s.comparison c.args.depth ∷ s.expression c.args.depth (s.closing c.args.depth ∷ k))) c.args.depth second c.behind-2.ensures refl (omega arith) ∙ c.in_ok-left.ensures.1 (s.comparison c.args.depth ∷ s.expression c.args.depth (s.closing c.args.depth ∷ k)) ∙ c.in_ok-operator.ensures.1 (s.expression c.args.depth (s.closing c.args.depth ∷ k)) ∙ c.in_ok-right.ensures.1 (s.closing c.args.depth ∷ k) ∙ c.in_ok-rest.ensures.1 (k),
     )
 

@@ -1,6 +1,6 @@
 use Rattle.std.proofs.Common.{[], arith, ◌∙◌}
 use Rattle.std.proofs.lemmas.Result.{err_from_is_err_and}
-use Rattle.sbl_grammar.specs.View.{view_items}
+use Rattle.sbl_tree.specs.View.{view_items}
 use Rattle.sbl_grammar.proofs.Whole.{some_left, read_whole}
 use Rattle.sbl_grammar.proofs.reading.all_items.Goals as goal
 

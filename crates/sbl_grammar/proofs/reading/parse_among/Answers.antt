@@ -1,5 +1,5 @@
 use Rattle.sbl_grammar.specs.Texts.{among}
-use Rattle.sbl_grammar.specs.View.{view_among}
+use Rattle.sbl_tree.specs.View.{view_among}
 use Rattle.sbl_grammar.proofs.Few.{among_few}
 use Rattle.sbl_grammar.proofs.Whole.{fault_of}
 use Rattle.sbl_grammar.proofs.reading.parse_among.Goals as goal

@@ -1,5 +1,5 @@
 use Rattle.std.proofs.Common.{[], arith, ◌∙◌}
-use Rattle.sbl_grammar.specs.View.{view_among}
+use Rattle.sbl_tree.specs.View.{view_among}
 use Rattle.sbl_grammar.proofs.Whole.{some_left, read_among}
 use Rattle.sbl_grammar.proofs.reading.whole_among.Goals as goal
 

@@ -1,6 +1,6 @@
 use Rattle.std.proofs.Common.{[], arith, ◌∙◌}
 use Rattle.std.proofs.lemmas.Result.{err_from_is_err_and}
-use Rattle.sbl_grammar.specs.View.{view_row}
+use Rattle.sbl_tree.specs.View.{view_row}
 use Rattle.sbl_grammar.proofs.Whole.{some_left, read_body}
 use Rattle.sbl_grammar.proofs.reading.whole_body.Goals as goal
 

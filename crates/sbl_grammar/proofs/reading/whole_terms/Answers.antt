@@ -1,8 +1,8 @@
 use Rattle.std.proofs.Common.{[], ◌∷◌, List, map, ap, arith, ◌∙◌}
-use Rattle.sbl_grammar.specs.Terminal.{Terminal}
-use Rattle.sbl_grammar.specs.Tree.{argument_terminal}
+use Rattle.sbl_tree.specs.Terminal.{Terminal}
+use Rattle.sbl_tree.specs.Tree.{argument_terminal}
 use Rattle.sbl_grammar.specs.Steps.{terms}
-use Rattle.sbl_grammar.specs.View.{view_argument, view_term}
+use Rattle.sbl_tree.specs.View.{view_argument, view_term}
 use Rattle.sbl_grammar.proofs.Whole.{some_left, read_terms}
 use Rattle.sbl_grammar.proofs.reading.whole_terms.Goals as goal
 

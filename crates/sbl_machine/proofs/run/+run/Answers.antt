@@ -6,22 +6,22 @@ use Rattle.sbl_machine.proofs.Arms.{by_fault, stops_at, either_way, turn_is, tim
 use Rattle.sbl_machine.proofs.Rows.{after_signal, others_stop, part_is, row_does}
 use Rattle.sbl_machine.specs.Rows.{joined_runs, others_run, pays, row_runs}
 use Rattle.std.proofs.lemmas.List.{drop_all, length-map}
-use Rattle.sbl_machine.specs.Standing.{Standing, Ending, Signals, after, then_on, mark, put_back}
+use Rattle.sbl_machine.specs.State.{State, Ending, Signals, after, then_on, saved_cursor, put_back}
 use Rattle.sbl_program.specs.declared.node.Node.{Node}
 use Rattle.sbl_program.specs.declared.node.Routine.{Routine}
-use Rattle.sbl_program.specs.PlanOf.{plan_of, view_joined, view_node, view_nodes, view_number, view_routine}
+use Rattle.sbl_program.specs.ProgramOf.{program_of, view_joined, view_node, view_nodes, view_number, view_routine}
 use Rattle.sbl_machine.specs.Run.{backwards_from, backwards_end, runs, all_run, group_runs, nth_runs, calls, turns, times, seeks, count_of, enter, limits, limited, limit_here, limit_back}
 use Rattle.sbl_machine.specs.Numbers.{value, given}
 use Rattle.sbl_machine.specs.Search.{tries, try_one, search_all, bound_in, choice}
 use Rattle.sbl_machine.specs.Listing.{fits_at}
 use Rattle.sbl_tables.specs.Fitting.{first}
-use Rattle.sbl_script.specs.declared.marks.Mode.TheVariants.{Backward}
+use Rattle.sbl_tree.specs.declared.mode.Mode.TheVariants.{Backward}
 use Rattle.sbl_machine.proofs.run.+run.Goals as goal
 
 pub run_command-returns-in-Repeat-clause-follows : goal.run_command-returns-in-Repeat-clause-follows
 run_command-returns-in-Repeat-clause-follows g t c =
     let T = g.T.Tables.listed c.args.tables.now in
-    let P = plan_of T c.args.program.now in
+    let P = program_of T c.args.program.now in
     let levels = c.args.levels in
     let D = λ (n : Node). runs P levels (view_node T n) in
     let a = c.in-Repeat in
@@ -34,7 +34,7 @@ run_command-returns-in-Repeat-clause-follows g t c =
 pub run_command-returns-in-Loop-clause-follows : goal.run_command-returns-in-Loop-clause-follows
 run_command-returns-in-Loop-clause-follows g t c =
     let T = g.T.Tables.listed c.args.tables.now in
-    let P = plan_of T c.args.program.now in
+    let P = program_of T c.args.program.now in
     let levels = c.args.levels in
     let D = λ (n : Node). runs P levels (view_node T n) in
     let a = c.in-Loop in
@@ -47,7 +47,7 @@ run_command-returns-in-Loop-clause-follows g t c =
 pub run_command-returns-in-Search-clause-follows : goal.run_command-returns-in-Search-clause-follows
 run_command-returns-in-Search-clause-follows g t c =
     let T = g.T.Tables.listed c.args.tables.now in
-    let P = plan_of T c.args.program.now in
+    let P = program_of T c.args.program.now in
     let levels = c.args.levels in
     let D = λ (n : Node). runs P levels (view_node T n) in
     let a = c.in-Search in
@@ -60,7 +60,7 @@ run_command-returns-in-Search-clause-follows g t c =
 pub run_command-returns-in_err-run_times-in-AtLeast-clause-follows : goal.run_command-returns-in_err-run_times-in-AtLeast-clause-follows
 run_command-returns-in_err-run_times-in-AtLeast-clause-follows g t c =
     let T = g.T.Tables.listed c.args.tables.now in
-    let P = plan_of T c.args.program.now in
+    let P = program_of T c.args.program.now in
     let levels = c.args.levels in
     let D = λ (n : Node). runs P levels (view_node T n) in
     let m = c.args.mode in
@@ -68,8 +68,8 @@ run_command-returns-in_err-run_times-in-AtLeast-clause-follows g t c =
     let a = c.in-AtLeast in
     let q = c.pay.new.self in
     let new = c.run_times-in-AtLeast.new.state in
-    let on_t = λ (t : Standing). turns (suc t.steps) (D a.inner.value) m t in
-    let on_f = λ (f : Standing). Signals false f in
+    let on_t = λ (t : State). turns (suc t.steps) (D a.inner.value) m t in
+    let on_f = λ (f : State). Signals false f in
     let p = ap (λ n. D n m s) a.is ∙ atleast_does T P levels a.count a.inner m s ∙ ap (λ r. then_on r (λ q. after (given (value (view_number a.count) m q) q (λ z. times (count_of z) (D a.inner.value) m q)) on_t on_f)) c.in_ok-pay.ensures in
     let d = ap (λ n. after (given (value (view_number a.count) m q) q (λ z. times (count_of z) (D n) m q)) on_t on_f) (sym c.deref-in-AtLeast.ensures) in
     let halt = c.in_err-run_times-in-AtLeast.field-0.0 in
@@ -80,7 +80,7 @@ run_command-returns-in_err-run_times-in-AtLeast-clause-follows g t c =
 pub run_command-returns-then-not-branch-3-clause-follows : goal.run_command-returns-then-not-branch-3-clause-follows
 run_command-returns-then-not-branch-3-clause-follows g t c =
     let T = g.T.Tables.listed c.args.tables.now in
-    let P = plan_of T c.args.program.now in
+    let P = program_of T c.args.program.now in
     let levels = c.args.levels in
     let D = λ (n : Node). runs P levels (view_node T n) in
     let a = c.in-AtLeast in
@@ -96,7 +96,7 @@ run_command-returns-then-not-branch-3-clause-follows g t c =
 pub run_command-returns-else-not-branch-3-clause-follows : goal.run_command-returns-else-not-branch-3-clause-follows
 run_command-returns-else-not-branch-3-clause-follows g t c =
     let T = g.T.Tables.listed c.args.tables.now in
-    let P = plan_of T c.args.program.now in
+    let P = program_of T c.args.program.now in
     let levels = c.args.levels in
     let D = λ (n : Node). runs P levels (view_node T n) in
     let a = c.in-AtLeast in
@@ -114,7 +114,7 @@ run_command-returns-else-not-branch-3-clause-follows g t c =
 pub run_among-returns-in-Some-get-clause-follows : goal.run_among-returns-in-Some-get-clause-follows
 run_among-returns-in-Some-get-clause-follows g t c =
     let T = g.T.Tables.listed c.args.tables.now in
-    let P = plan_of T c.args.program.now in
+    let P = program_of T c.args.program.now in
     let levels = c.args.levels in
     let m = c.args.mode in
     let u = c.run_in_turn.new.state in
@@ -122,8 +122,8 @@ run_among-returns-in-Some-get-clause-follows g t c =
     let ds = c.deref-2.result.now in
     let body = c.in-Some-get.body.now in
     let group = c.in-Some.group in
-    let on_t = λ (t : Standing). group_runs P levels (view_nodes T bs) (choice c.args.among t) m t in
-    let on_f = λ (f : Standing). Signals false f in
+    let on_t = λ (t : State). group_runs P levels (view_nodes T bs) (choice c.args.among t) m t in
+    let on_f = λ (f : State). Signals false f in
     let b : c.in_ok-run_in_turn.field-0 ≡ true = search rules in
     let l : group < length ds = search rules in
     let r : body ≡ get_or ds group body = search rules in
@@ -144,41 +144,41 @@ run_search-loop-place-preserved g t c =
     let inv = c.loop-place.invariant in
     let s0 = c.args.state.now in
     let es = c.args.entries.now in
-    let call = calls (plan_of (g.T.Tables.listed c.args.tables.now) c.args.program.now) c.args.levels in
+    let call = calls (program_of (g.T.Tables.listed c.args.tables.now) c.args.program.now) c.args.levels in
     let o = one_more call c.args.among es c.args.mode s0 inv.1 c.in-Some.i c.loop-place.state c.loop-place.place inv.3 c.in-Some.is in
     let follow = tries call c.args.among es c.args.mode s0 o.0 in
     let i = c.in-Some.i in
     let b : c.in-Ok-false.field-0 ≡ false = search rules in
     let cut = inv.2 ∙ ap (λ r. inv.0 ++ r) o.1 in
     let steps : c.run_try.new.state.steps ≤ s0.steps = omega (arith, c.in-Ok-false.ensures.no_more, inv.5) in
-    (inv.0 ++ (i ∷ []), o.0, cut ∙ sym (append_assoc inv.0 (i ∷ []) o.0), c.next_shorter-place.ensures s0.text s0.cursor (bound_in c.args.mode s0) inv.0 o.0 cut, sym (rw b at (c.in-Ok-false.ensures.tried s0 follow c.mark-from.ensures.value)) ∙ sym o.2 ∙ inv.4, steps)
+    (inv.0 ++ (i ∷ []), o.0, cut ∙ sym (append_assoc inv.0 (i ∷ []) o.0), c.next_shorter-place.ensures s0.text s0.cursor (bound_in c.args.mode s0) inv.0 o.0 cut, sym (rw b at (c.in-Ok-false.ensures.tried s0 follow c.saved_cursor-from.ensures.value)) ∙ sym o.2 ∙ inv.4, steps)
 
 pub run_search-returns-in-Err-clause-follows : goal.run_search-returns-in-Err-clause-follows
 run_search-returns-in-Err-clause-follows g t c =
     let inv = c.loop-place.invariant in
     let s0 = c.args.state.now in
     let es = c.args.entries.now in
-    let call = calls (plan_of (g.T.Tables.listed c.args.tables.now) c.args.program.now) c.args.levels in
+    let call = calls (program_of (g.T.Tables.listed c.args.tables.now) c.args.program.now) c.args.levels in
     let o = one_more call c.args.among es c.args.mode s0 inv.1 c.in-Some.i c.loop-place.state c.loop-place.place inv.3 c.in-Some.is in
     let follow = tries call c.args.among es c.args.mode s0 o.0 in
-    halted c.in-Err.halt c.run_try.new.state (try_one call c.args.among (slice_get es c.in-Some.i) c.args.mode s0 c.loop-place.state follow) (follow c.run_try.new.state) _ (c.in-Err.ensures.tried s0 follow c.mark-from.ensures.value) (sym o.2 ∙ inv.4)
+    halted c.in-Err.halt c.run_try.new.state (try_one call c.args.among (slice_get es c.in-Some.i) c.args.mode s0 c.loop-place.state follow) (follow c.run_try.new.state) _ (c.in-Err.ensures.tried s0 follow c.saved_cursor-from.ensures.value) (sym o.2 ∙ inv.4)
 
 pub run_search-returns-in-Ok-true-clause-follows : goal.run_search-returns-in-Ok-true-clause-follows
 run_search-returns-in-Ok-true-clause-follows g t c =
     let inv = c.loop-place.invariant in
     let s0 = c.args.state.now in
     let es = c.args.entries.now in
-    let call = calls (plan_of (g.T.Tables.listed c.args.tables.now) c.args.program.now) c.args.levels in
+    let call = calls (program_of (g.T.Tables.listed c.args.tables.now) c.args.program.now) c.args.levels in
     let o = one_more call c.args.among es c.args.mode s0 inv.1 c.in-Some.i c.loop-place.state c.loop-place.place inv.3 c.in-Some.is in
     let follow = tries call c.args.among es c.args.mode s0 o.0 in
     let b : c.in-Ok-true.field-0 ≡ true = search rules in
-    sym (sym o.2 ∙ inv.4) ∙ (rw b at (c.in-Ok-true.ensures.tried s0 follow c.mark-from.ensures.value))
+    sym (sym o.2 ∙ inv.4) ∙ (rw b at (c.in-Ok-true.ensures.tried s0 follow c.saved_cursor-from.ensures.value))
 
 pub run_seek-loop-state-preserved : goal.run_seek-loop-state-preserved
 run_seek-loop-state-preserved g t c =
     let inv = c.loop-state.invariant in
     let T = g.T.Tables.listed c.args.tables.now in
-    let D = runs (plan_of T c.args.program.now) c.args.levels (view_node T c.args.inner.now) in
+    let D = runs (program_of T c.args.program.now) c.args.levels (view_node T c.args.inner.now) in
     let m = c.args.mode in
     let s = c.loop-state.state in
     let f = c.run_command.new.state in
@@ -186,7 +186,7 @@ run_seek-loop-state-preserved g t c =
     let new = c.take_next.new.self in
     let no : c.in_ok-run_command.field-0 ≡ false = search rules in
     let e : D m s ≡ Signals false f = c.in_ok-run_command.ensures.follows ∙ ap (λ v. Signals v f) no in
-    let p : put_back m (mark s) f ≡ Signals true b = ap (λ r. put_back m r f) (sym c.mark-from.ensures.value) ∙ c.in_ok-put_back-2.ensures.leads in
+    let p : put_back m (saved_cursor s) f ≡ Signals true b = ap (λ r. put_back m r f) (sym c.saved_cursor-from.ensures.value) ∙ c.in_ok-put_back-2.ensures.leads in
     let yes : c.take_next.result ≡ true = search rules in
     let x : next m b ≡ Signals true new = c.take_next.ensures.leads ∙ ap (λ v. Signals v new) yes in
     let same : new.steps ≡ b.steps = c.take_next.ensures.same_steps in
@@ -202,7 +202,7 @@ pub run_turns-loop-state-preserved : goal.run_turns-loop-state-preserved
 run_turns-loop-state-preserved g t c =
     let inv = c.loop-state.invariant in
     let T = g.T.Tables.listed c.args.tables.now in
-    let D = runs (plan_of T c.args.program.now) c.args.levels (view_node T c.args.inner.now) in
+    let D = runs (program_of T c.args.program.now) c.args.levels (view_node T c.args.inner.now) in
     let b : c.in_ok-run_command.field-0 ≡ true = search rules in
     let e = c.in_ok-run_command.ensures.follows ∙ ap (λ v. Signals v c.run_command.new.state) b in
     let w = turns (suc c.args.state.now.steps) D c.args.mode c.args.state.now in
@@ -214,7 +214,7 @@ run_turns-loop-state-preserved g t c =
 pub run_call-returns-in_err-signal-in-Some-clause-follows : goal.run_call-returns-in_err-signal-in-Some-clause-follows
 run_call-returns-in_err-signal-in-Some-clause-follows g t c =
     let T = g.T.Tables.listed c.args.tables.now in
-    let p = plan_of T c.args.program.now in
+    let p = program_of T c.args.program.now in
     let m = c.args.mode in
     let s = c.args.state.now in
     let routine = c.in-Some.routine.now in
@@ -231,7 +231,7 @@ run_call-returns-in_err-signal-in-Some-clause-follows g t c =
 pub run_call-returns-in_ok-signal-in-Some-clause-follows : goal.run_call-returns-in_ok-signal-in-Some-clause-follows
 run_call-returns-in_ok-signal-in-Some-clause-follows g t c =
     let T = g.T.Tables.listed c.args.tables.now in
-    let p = plan_of T c.args.program.now in
+    let p = program_of T c.args.program.now in
     let m = c.args.mode in
     let s = c.args.state.now in
     let routine = c.in-Some.routine.now in
@@ -248,7 +248,7 @@ run_call-returns-in_ok-signal-in-Some-clause-follows g t c =
 pub run_command-returns-in-Goto-clause-follows : goal.run_command-returns-in-Goto-clause-follows
 run_command-returns-in-Goto-clause-follows g t c =
     let T = g.T.Tables.listed c.args.tables.now in
-    let P = plan_of T c.args.program.now in
+    let P = program_of T c.args.program.now in
     let levels = c.args.levels in
     let D = λ (n : Node). runs P levels (view_node T n) in
     let m = c.args.mode in
@@ -261,7 +261,7 @@ run_command-returns-in-Goto-clause-follows g t c =
 pub run_command-returns-in-GoPast-clause-follows : goal.run_command-returns-in-GoPast-clause-follows
 run_command-returns-in-GoPast-clause-follows g t c =
     let T = g.T.Tables.listed c.args.tables.now in
-    let P = plan_of T c.args.program.now in
+    let P = program_of T c.args.program.now in
     let levels = c.args.levels in
     let D = λ (n : Node). runs P levels (view_node T n) in
     let m = c.args.mode in
@@ -274,7 +274,7 @@ run_command-returns-in-GoPast-clause-follows g t c =
 pub run_command-returns-in_ok-signal-in-SetLimit-clause-follows : goal.run_command-returns-in_ok-signal-in-SetLimit-clause-follows
 run_command-returns-in_ok-signal-in-SetLimit-clause-follows g t c =
     let T = g.T.Tables.listed c.args.tables.now in
-    let P = plan_of T c.args.program.now in
+    let P = program_of T c.args.program.now in
     let levels = c.args.levels in
     let D = λ (n : Node). runs P levels (view_node T n) in
     let m = c.args.mode in
@@ -284,11 +284,11 @@ run_command-returns-in_ok-signal-in-SetLimit-clause-follows g t c =
     let u = c.run_command-in-SetLimit.new.state in
     let w = c.put_back-in-SetLimit.new.self in
     let new = c.run_command-in-SetLimit-2.new.state in
-    let go = λ (q : Standing) (t : Standing). then_on (put_back m (mark q) (limit_here m t)) (λ u. limited m (limits q) (D a.second.value m u)) in
+    let go = λ (q : State) (t : State). then_on (put_back m (saved_cursor q) (limit_here m t)) (λ u. limited m (limits q) (D a.second.value m u)) in
     let p = ap (λ n. D n m s) a.is ∙ setlimit_does T P levels a.first a.second m s ∙ ap (λ r. then_on r (λ q. after (D a.first.value m q) (go q) (Signals false))) c.in_ok-pay.ensures in
     let b : c.in_ok-run_command-in-SetLimit.field-0 ≡ true = search rules in
     let e : D a.first.value m q ≡ Signals true u = ap (λ n. D n m q) (sym c.deref-in-SetLimit.ensures) ∙ c.in_ok-run_command-in-SetLimit.ensures.follows ∙ ap (λ v. Signals v u) b in
-    let k : put_back m (mark q) (limit_here m u) ≡ Signals true w = ap (λ r. put_back m r (limit_here m u)) (sym c.mark-from-in-SetLimit.ensures.value) ∙ ap (put_back m c.mark-from-in-SetLimit.result) (sym c.limit_here.ensures) ∙ c.in_ok-put_back-in-SetLimit.ensures.leads in
+    let k : put_back m (saved_cursor q) (limit_here m u) ≡ Signals true w = ap (λ r. put_back m r (limit_here m u)) (sym c.saved_cursor-from-in-SetLimit.ensures.value) ∙ ap (put_back m c.saved_cursor-from-in-SetLimit.result) (sym c.limit_here.ensures) ∙ c.in_ok-put_back-in-SetLimit.ensures.leads in
     let x = p ∙ ap (λ r. after r (go q) (Signals false)) e ∙ ap (λ r. then_on r (λ u. limited m (limits q) (D a.second.value m u))) k ∙ ap (λ n. limited m (limits q) (D n m w)) (sym c.deref-in-SetLimit-2.ensures) in
     let second = D c.deref-in-SetLimit-2.result.now m w in
     let v = c.in_ok-signal-in-SetLimit.signal in
@@ -298,7 +298,7 @@ run_command-returns-in_ok-signal-in-SetLimit-clause-follows g t c =
 pub run_command-returns-in_err-signal-in-SetLimit-clause-follows : goal.run_command-returns-in_err-signal-in-SetLimit-clause-follows
 run_command-returns-in_err-signal-in-SetLimit-clause-follows g t c =
     let T = g.T.Tables.listed c.args.tables.now in
-    let P = plan_of T c.args.program.now in
+    let P = program_of T c.args.program.now in
     let levels = c.args.levels in
     let D = λ (n : Node). runs P levels (view_node T n) in
     let m = c.args.mode in
@@ -308,11 +308,11 @@ run_command-returns-in_err-signal-in-SetLimit-clause-follows g t c =
     let u = c.run_command-in-SetLimit.new.state in
     let w = c.put_back-in-SetLimit.new.self in
     let new = c.run_command-in-SetLimit-2.new.state in
-    let go = λ (q : Standing) (t : Standing). then_on (put_back m (mark q) (limit_here m t)) (λ u. limited m (limits q) (D a.second.value m u)) in
+    let go = λ (q : State) (t : State). then_on (put_back m (saved_cursor q) (limit_here m t)) (λ u. limited m (limits q) (D a.second.value m u)) in
     let p = ap (λ n. D n m s) a.is ∙ setlimit_does T P levels a.first a.second m s ∙ ap (λ r. then_on r (λ q. after (D a.first.value m q) (go q) (Signals false))) c.in_ok-pay.ensures in
     let b : c.in_ok-run_command-in-SetLimit.field-0 ≡ true = search rules in
     let e : D a.first.value m q ≡ Signals true u = ap (λ n. D n m q) (sym c.deref-in-SetLimit.ensures) ∙ c.in_ok-run_command-in-SetLimit.ensures.follows ∙ ap (λ v. Signals v u) b in
-    let k : put_back m (mark q) (limit_here m u) ≡ Signals true w = ap (λ r. put_back m r (limit_here m u)) (sym c.mark-from-in-SetLimit.ensures.value) ∙ ap (put_back m c.mark-from-in-SetLimit.result) (sym c.limit_here.ensures) ∙ c.in_ok-put_back-in-SetLimit.ensures.leads in
+    let k : put_back m (saved_cursor q) (limit_here m u) ≡ Signals true w = ap (λ r. put_back m r (limit_here m u)) (sym c.saved_cursor-from-in-SetLimit.ensures.value) ∙ ap (put_back m c.saved_cursor-from-in-SetLimit.result) (sym c.limit_here.ensures) ∙ c.in_ok-put_back-in-SetLimit.ensures.leads in
     let x = p ∙ ap (λ r. after r (go q) (Signals false)) e ∙ ap (λ r. then_on r (λ u. limited m (limits q) (D a.second.value m u))) k ∙ ap (λ n. limited m (limits q) (D n m w)) (sym c.deref-in-SetLimit-2.ensures) in
     let second = D c.deref-in-SetLimit-2.result.now m w in
     let halt = c.in_err-signal-in-SetLimit.field-0.0 in
@@ -323,7 +323,7 @@ run_command-returns-in_err-signal-in-SetLimit-clause-follows g t c =
 pub run_command-returns-in-Among-clause-follows : goal.run_command-returns-in-Among-clause-follows
 run_command-returns-in-Among-clause-follows g t c =
     let T = g.T.Tables.listed c.args.tables.now in
-    let P = plan_of T c.args.program.now in
+    let P = program_of T c.args.program.now in
     let levels = c.args.levels in
     let D = λ (n : Node). runs P levels (view_node T n) in
     let m = c.args.mode in
@@ -336,15 +336,15 @@ run_command-returns-in-Among-clause-follows g t c =
 pub run_among-returns-in-None-clause-follows : goal.run_among-returns-in-None-clause-follows
 run_among-returns-in-None-clause-follows g t c =
     let T = g.T.Tables.listed c.args.tables.now in
-    let P = plan_of T c.args.program.now in
+    let P = program_of T c.args.program.now in
     let levels = c.args.levels in
     let m = c.args.mode in
     let u = c.run_in_turn.new.state in
     let bs = c.args.bodies.now.items in
     let ds = c.deref-2.result.now in
     let group = c.in-Some.group in
-    let on_t = λ (t : Standing). group_runs P levels (view_nodes T bs) (choice c.args.among t) m t in
-    let on_f = λ (f : Standing). Signals false f in
+    let on_t = λ (t : State). group_runs P levels (view_nodes T bs) (choice c.args.among t) m t in
+    let on_f = λ (f : State). Signals false f in
     let b : c.in_ok-run_in_turn.field-0 ≡ true = search rules in
     let past : length ds ≤ group = first_of (search rules, omega (arith, c.in-None.ensures.lookup)) in
     ap (λ xs. after (all_run P levels (view_nodes T xs) m c.args.state.now) on_t on_f) (sym c.deref.ensures.value) ∙ ap (λ r. after r on_t on_f) (c.in_ok-run_in_turn.ensures.follows ∙ ap (λ v. Signals v u) b) ∙ ap (λ o. group_runs P levels (view_nodes T bs) o m u) (sym c.choice.ensures ∙ c.in-Some.is) ∙ ap (λ xs. nth_runs P levels (view_nodes T xs) group m u) (sym c.deref-2.ensures.value) ∙ nth_past T P levels ds group m u past
@@ -353,7 +353,7 @@ pub run_times-loop-left-preserved : goal.run_times-loop-left-preserved
 run_times-loop-left-preserved g t c =
     let inv = c.loop-left.invariant in
     let T = g.T.Tables.listed c.args.tables.now in
-    let D = runs (plan_of T c.args.program.now) c.args.levels (view_node T c.args.inner.now) in
+    let D = runs (program_of T c.args.program.now) c.args.levels (view_node T c.args.inner.now) in
     let m = c.args.mode in
     let s = c.loop-left.state in
     let new = c.run_command.new.state in
@@ -367,7 +367,7 @@ run_times-loop-left-preserved g t c =
 pub run_command-returns-in_err-run_command-in-Not-clause-follows : goal.run_command-returns-in_err-run_command-in-Not-clause-follows
 run_command-returns-in_err-run_command-in-Not-clause-follows g t c =
     let T = g.T.Tables.listed c.args.tables.now in
-    let P = plan_of T c.args.program.now in
+    let P = program_of T c.args.program.now in
     let levels = c.args.levels in
     let D = λ (n : Node). runs P levels (view_node T n) in
     let m = c.args.mode in
@@ -375,8 +375,8 @@ run_command-returns-in_err-run_command-in-Not-clause-follows g t c =
     let q = c.pay.new.self in
     let a = c.in-Not in
     let u = c.run_command.new.state in
-    let on_t : Standing → Standing → Ending = λ (q : Standing). Signals false in
-    let on_f : Standing → Standing → Ending = λ (q : Standing). put_back m (mark q) in
+    let on_t : State → State → Ending = λ (q : State). Signals false in
+    let on_f : State → State → Ending = λ (q : State). put_back m (saved_cursor q) in
     let p = ap (λ n. D n m s) a.is ∙ not_does T P levels a.inner m s ∙ ap (λ r. then_on r (λ q. after (D a.inner.value m q) (on_t q) (on_f q))) c.in_ok-pay.ensures in
     let halt = c.in_err-run_command-in-Not.field-0.0 in
     let r : c.from_residual-in_err-run_command-in-Not.result ≡ Err halt = search rules in
@@ -385,7 +385,7 @@ run_command-returns-in_err-run_command-in-Not-clause-follows g t c =
 pub run_command-returns-in_err-put_back-in-Not-clause-follows : goal.run_command-returns-in_err-put_back-in-Not-clause-follows
 run_command-returns-in_err-put_back-in-Not-clause-follows g t c =
     let T = g.T.Tables.listed c.args.tables.now in
-    let P = plan_of T c.args.program.now in
+    let P = program_of T c.args.program.now in
     let levels = c.args.levels in
     let D = λ (n : Node). runs P levels (view_node T n) in
     let m = c.args.mode in
@@ -393,20 +393,20 @@ run_command-returns-in_err-put_back-in-Not-clause-follows g t c =
     let q = c.pay.new.self in
     let a = c.in-Not in
     let u = c.run_command.new.state in
-    let on_t : Standing → Standing → Ending = λ (q : Standing). Signals false in
-    let on_f : Standing → Standing → Ending = λ (q : Standing). put_back m (mark q) in
+    let on_t : State → State → Ending = λ (q : State). Signals false in
+    let on_f : State → State → Ending = λ (q : State). put_back m (saved_cursor q) in
     let p = ap (λ n. D n m s) a.is ∙ not_does T P levels a.inner m s ∙ ap (λ r. then_on r (λ q. after (D a.inner.value m q) (on_t q) (on_f q))) c.in_ok-pay.ensures in
     let w = c.put_back.new.self in
     let b : c.in_ok-run_command-in-Not.field-0 ≡ false = search rules in
     let e : D a.inner.value m q ≡ Signals false u = ap (λ n. D n m q) (sym c.deref-in-Not.ensures) ∙ c.in_ok-run_command-in-Not.ensures.follows ∙ ap (λ v. Signals v u) b in
     let halt = c.in_err-put_back-in-Not.field-0.0 in
     let r : c.from_residual-in_err-put_back-in-Not.result ≡ Err halt = search rules in
-    rw r (by_fault halt w _ (λ fault is. p ∙ ap (λ r. after r (on_t q) (on_f q)) e ∙ ap (λ r. put_back m r u) (sym c.mark-from.ensures.value) ∙ stops_at halt w _ fault is c.in_err-put_back-in-Not.ensures.leads))
+    rw r (by_fault halt w _ (λ fault is. p ∙ ap (λ r. after r (on_t q) (on_f q)) e ∙ ap (λ r. put_back m r u) (sym c.saved_cursor-from.ensures.value) ∙ stops_at halt w _ fault is c.in_err-put_back-in-Not.ensures.leads))
 
 pub run_command-returns-in_err-run_command-in-Test-clause-follows : goal.run_command-returns-in_err-run_command-in-Test-clause-follows
 run_command-returns-in_err-run_command-in-Test-clause-follows g t c =
     let T = g.T.Tables.listed c.args.tables.now in
-    let P = plan_of T c.args.program.now in
+    let P = program_of T c.args.program.now in
     let levels = c.args.levels in
     let D = λ (n : Node). runs P levels (view_node T n) in
     let m = c.args.mode in
@@ -414,8 +414,8 @@ run_command-returns-in_err-run_command-in-Test-clause-follows g t c =
     let q = c.pay.new.self in
     let a = c.in-Test in
     let u = c.run_command-in-Test.new.state in
-    let on_t : Standing → Standing → Ending = λ (q : Standing). put_back m (mark q) in
-    let on_f : Standing → Standing → Ending = λ (q : Standing). Signals false in
+    let on_t : State → State → Ending = λ (q : State). put_back m (saved_cursor q) in
+    let on_f : State → State → Ending = λ (q : State). Signals false in
     let p = ap (λ n. D n m s) a.is ∙ test_does T P levels a.inner m s ∙ ap (λ r. then_on r (λ q. after (D a.inner.value m q) (on_t q) (on_f q))) c.in_ok-pay.ensures in
     let halt = c.in_err-run_command-in-Test.field-0.0 in
     let r : c.from_residual-in_err-run_command-in-Test.result ≡ Err halt = search rules in
@@ -424,7 +424,7 @@ run_command-returns-in_err-run_command-in-Test-clause-follows g t c =
 pub run_command-returns-in_err-put_back-in-Test-clause-follows : goal.run_command-returns-in_err-put_back-in-Test-clause-follows
 run_command-returns-in_err-put_back-in-Test-clause-follows g t c =
     let T = g.T.Tables.listed c.args.tables.now in
-    let P = plan_of T c.args.program.now in
+    let P = program_of T c.args.program.now in
     let levels = c.args.levels in
     let D = λ (n : Node). runs P levels (view_node T n) in
     let m = c.args.mode in
@@ -432,20 +432,20 @@ run_command-returns-in_err-put_back-in-Test-clause-follows g t c =
     let q = c.pay.new.self in
     let a = c.in-Test in
     let u = c.run_command-in-Test.new.state in
-    let on_t : Standing → Standing → Ending = λ (q : Standing). put_back m (mark q) in
-    let on_f : Standing → Standing → Ending = λ (q : Standing). Signals false in
+    let on_t : State → State → Ending = λ (q : State). put_back m (saved_cursor q) in
+    let on_f : State → State → Ending = λ (q : State). Signals false in
     let p = ap (λ n. D n m s) a.is ∙ test_does T P levels a.inner m s ∙ ap (λ r. then_on r (λ q. after (D a.inner.value m q) (on_t q) (on_f q))) c.in_ok-pay.ensures in
     let w = c.put_back-in-Test.new.self in
     let b : c.in_ok-run_command-in-Test.field-0 ≡ true = search rules in
     let e : D a.inner.value m q ≡ Signals true u = ap (λ n. D n m q) (sym c.deref-in-Test.ensures) ∙ c.in_ok-run_command-in-Test.ensures.follows ∙ ap (λ v. Signals v u) b in
     let halt = c.in_err-put_back-in-Test.field-0.0 in
     let r : c.from_residual-in_err-put_back-in-Test.result ≡ Err halt = search rules in
-    rw r (by_fault halt w _ (λ fault is. p ∙ ap (λ r. after r (on_t q) (on_f q)) e ∙ ap (λ r. put_back m r u) (sym c.mark-from-in-Test.ensures.value) ∙ stops_at halt w _ fault is c.in_err-put_back-in-Test.ensures.leads))
+    rw r (by_fault halt w _ (λ fault is. p ∙ ap (λ r. after r (on_t q) (on_f q)) e ∙ ap (λ r. put_back m r u) (sym c.saved_cursor-from-in-Test.ensures.value) ∙ stops_at halt w _ fault is c.in_err-put_back-in-Test.ensures.leads))
 
 pub run_command-returns-in_err-run_command-in-Try-clause-follows : goal.run_command-returns-in_err-run_command-in-Try-clause-follows
 run_command-returns-in_err-run_command-in-Try-clause-follows g t c =
     let T = g.T.Tables.listed c.args.tables.now in
-    let P = plan_of T c.args.program.now in
+    let P = program_of T c.args.program.now in
     let levels = c.args.levels in
     let D = λ (n : Node). runs P levels (view_node T n) in
     let m = c.args.mode in
@@ -453,8 +453,8 @@ run_command-returns-in_err-run_command-in-Try-clause-follows g t c =
     let q = c.pay.new.self in
     let a = c.in-Try in
     let u = c.run_command-in-Try.new.state in
-    let on_t : Standing → Standing → Ending = λ (q : Standing). Signals true in
-    let on_f : Standing → Standing → Ending = λ (q : Standing). put_back m (mark q) in
+    let on_t : State → State → Ending = λ (q : State). Signals true in
+    let on_f : State → State → Ending = λ (q : State). put_back m (saved_cursor q) in
     let p = ap (λ n. D n m s) a.is ∙ try_does T P levels a.inner m s ∙ ap (λ r. then_on r (λ q. after (D a.inner.value m q) (on_t q) (on_f q))) c.in_ok-pay.ensures in
     let halt = c.in_err-run_command-in-Try.field-0.0 in
     let r : c.from_residual-in_err-run_command-in-Try.result ≡ Err halt = search rules in
@@ -463,7 +463,7 @@ run_command-returns-in_err-run_command-in-Try-clause-follows g t c =
 pub run_command-returns-in_err-put_back-in-Try-clause-follows : goal.run_command-returns-in_err-put_back-in-Try-clause-follows
 run_command-returns-in_err-put_back-in-Try-clause-follows g t c =
     let T = g.T.Tables.listed c.args.tables.now in
-    let P = plan_of T c.args.program.now in
+    let P = program_of T c.args.program.now in
     let levels = c.args.levels in
     let D = λ (n : Node). runs P levels (view_node T n) in
     let m = c.args.mode in
@@ -471,20 +471,20 @@ run_command-returns-in_err-put_back-in-Try-clause-follows g t c =
     let q = c.pay.new.self in
     let a = c.in-Try in
     let u = c.run_command-in-Try.new.state in
-    let on_t : Standing → Standing → Ending = λ (q : Standing). Signals true in
-    let on_f : Standing → Standing → Ending = λ (q : Standing). put_back m (mark q) in
+    let on_t : State → State → Ending = λ (q : State). Signals true in
+    let on_f : State → State → Ending = λ (q : State). put_back m (saved_cursor q) in
     let p = ap (λ n. D n m s) a.is ∙ try_does T P levels a.inner m s ∙ ap (λ r. then_on r (λ q. after (D a.inner.value m q) (on_t q) (on_f q))) c.in_ok-pay.ensures in
     let w = c.put_back-then-not-branch-2.new.self in
     let b : c.in_ok-run_command-in-Try.field-0 ≡ false = search rules in
     let e : D a.inner.value m q ≡ Signals false u = ap (λ n. D n m q) (sym c.deref-in-Try.ensures) ∙ c.in_ok-run_command-in-Try.ensures.follows ∙ ap (λ v. Signals v u) b in
     let halt = c.in_err-put_back-in-Try.field-0.0 in
     let r : c.from_residual-in_err-put_back-in-Try.result ≡ Err halt = search rules in
-    rw r (by_fault halt w _ (λ fault is. p ∙ ap (λ r. after r (on_t q) (on_f q)) e ∙ ap (λ r. put_back m r u) (sym c.mark-from-in-Try.ensures.value) ∙ stops_at halt w _ fault is c.in_err-put_back-in-Try.ensures.leads))
+    rw r (by_fault halt w _ (λ fault is. p ∙ ap (λ r. after r (on_t q) (on_f q)) e ∙ ap (λ r. put_back m r u) (sym c.saved_cursor-from-in-Try.ensures.value) ∙ stops_at halt w _ fault is c.in_err-put_back-in-Try.ensures.leads))
 
 pub run_command-returns-in_err-run_command-in-Do-clause-follows : goal.run_command-returns-in_err-run_command-in-Do-clause-follows
 run_command-returns-in_err-run_command-in-Do-clause-follows g t c =
     let T = g.T.Tables.listed c.args.tables.now in
-    let P = plan_of T c.args.program.now in
+    let P = program_of T c.args.program.now in
     let levels = c.args.levels in
     let D = λ (n : Node). runs P levels (view_node T n) in
     let m = c.args.mode in
@@ -492,8 +492,8 @@ run_command-returns-in_err-run_command-in-Do-clause-follows g t c =
     let q = c.pay.new.self in
     let a = c.in-Do in
     let u = c.run_command-in-Do.new.state in
-    let on_t : Standing → Standing → Ending = λ (q : Standing). put_back m (mark q) in
-    let on_f : Standing → Standing → Ending = λ (q : Standing). put_back m (mark q) in
+    let on_t : State → State → Ending = λ (q : State). put_back m (saved_cursor q) in
+    let on_f : State → State → Ending = λ (q : State). put_back m (saved_cursor q) in
     let p = ap (λ n. D n m s) a.is ∙ do_does T P levels a.inner m s ∙ ap (λ r. then_on r (λ q. after (D a.inner.value m q) (on_t q) (on_f q))) c.in_ok-pay.ensures in
     let halt = c.in_err-run_command-in-Do.field-0.0 in
     let r : c.from_residual-in_err-run_command-in-Do.result ≡ Err halt = search rules in
@@ -502,7 +502,7 @@ run_command-returns-in_err-run_command-in-Do-clause-follows g t c =
 pub run_command-returns-in_err-put_back-in-Do-clause-follows : goal.run_command-returns-in_err-put_back-in-Do-clause-follows
 run_command-returns-in_err-put_back-in-Do-clause-follows g t c =
     let T = g.T.Tables.listed c.args.tables.now in
-    let P = plan_of T c.args.program.now in
+    let P = program_of T c.args.program.now in
     let levels = c.args.levels in
     let D = λ (n : Node). runs P levels (view_node T n) in
     let m = c.args.mode in
@@ -510,20 +510,20 @@ run_command-returns-in_err-put_back-in-Do-clause-follows g t c =
     let q = c.pay.new.self in
     let a = c.in-Do in
     let u = c.run_command-in-Do.new.state in
-    let on_t : Standing → Standing → Ending = λ (q : Standing). put_back m (mark q) in
-    let on_f : Standing → Standing → Ending = λ (q : Standing). put_back m (mark q) in
+    let on_t : State → State → Ending = λ (q : State). put_back m (saved_cursor q) in
+    let on_f : State → State → Ending = λ (q : State). put_back m (saved_cursor q) in
     let p = ap (λ n. D n m s) a.is ∙ do_does T P levels a.inner m s ∙ ap (λ r. then_on r (λ q. after (D a.inner.value m q) (on_t q) (on_f q))) c.in_ok-pay.ensures in
     let w = c.put_back-in-Do.new.self in
     let b = c.in_ok-run_command-in-Do.field-0 in
     let e : D a.inner.value m q ≡ Signals b u = ap (λ n. D n m q) (sym c.deref-in-Do.ensures) ∙ c.in_ok-run_command-in-Do.ensures.follows in
     let halt = c.in_err-put_back-in-Do.field-0.0 in
     let r : c.from_residual-in_err-put_back-in-Do.result ≡ Err halt = search rules in
-    rw r (by_fault halt w _ (λ fault is. p ∙ ap (λ r. after r (on_t q) (on_f q)) e ∙ either_way b u (put_back m (mark q)) ∙ ap (λ r. put_back m r u) (sym c.mark-from-in-Do.ensures.value) ∙ stops_at halt w _ fault is c.in_err-put_back-in-Do.ensures.leads))
+    rw r (by_fault halt w _ (λ fault is. p ∙ ap (λ r. after r (on_t q) (on_f q)) e ∙ either_way b u (put_back m (saved_cursor q)) ∙ ap (λ r. put_back m r u) (sym c.saved_cursor-from-in-Do.ensures.value) ∙ stops_at halt w _ fault is c.in_err-put_back-in-Do.ensures.leads))
 
 pub run_command-returns-in_err-run_command-in-Fail-clause-follows : goal.run_command-returns-in_err-run_command-in-Fail-clause-follows
 run_command-returns-in_err-run_command-in-Fail-clause-follows g t c =
     let T = g.T.Tables.listed c.args.tables.now in
-    let P = plan_of T c.args.program.now in
+    let P = program_of T c.args.program.now in
     let levels = c.args.levels in
     let D = λ (n : Node). runs P levels (view_node T n) in
     let m = c.args.mode in
@@ -531,8 +531,8 @@ run_command-returns-in_err-run_command-in-Fail-clause-follows g t c =
     let q = c.pay.new.self in
     let a = c.in-Fail in
     let u = c.run_command-in-Fail.new.state in
-    let on_t : Standing → Standing → Ending = λ (q : Standing). Signals false in
-    let on_f : Standing → Standing → Ending = λ (q : Standing). Signals false in
+    let on_t : State → State → Ending = λ (q : State). Signals false in
+    let on_f : State → State → Ending = λ (q : State). Signals false in
     let p = ap (λ n. D n m s) a.is ∙ fail_does T P levels a.inner m s ∙ ap (λ r. then_on r (λ q. after (D a.inner.value m q) (on_t q) (on_f q))) c.in_ok-pay.ensures in
     let halt = c.in_err-run_command-in-Fail.field-0.0 in
     let r : c.from_residual-in_err-run_command-in-Fail.result ≡ Err halt = search rules in
@@ -541,7 +541,7 @@ run_command-returns-in_err-run_command-in-Fail-clause-follows g t c =
 pub run_command-returns-in_err-run_command-in-SetLimit-clause-follows : goal.run_command-returns-in_err-run_command-in-SetLimit-clause-follows
 run_command-returns-in_err-run_command-in-SetLimit-clause-follows g t c =
     let T = g.T.Tables.listed c.args.tables.now in
-    let P = plan_of T c.args.program.now in
+    let P = program_of T c.args.program.now in
     let levels = c.args.levels in
     let D = λ (n : Node). runs P levels (view_node T n) in
     let m = c.args.mode in
@@ -549,8 +549,8 @@ run_command-returns-in_err-run_command-in-SetLimit-clause-follows g t c =
     let q = c.pay.new.self in
     let a = c.in-SetLimit in
     let u = c.run_command-in-SetLimit.new.state in
-    let on_t : Standing → Standing → Ending = λ (q : Standing). λ (t : Standing). then_on (put_back m (mark q) (limit_here m t)) (λ u. limited m (limits q) (D a.second.value m u)) in
-    let on_f : Standing → Standing → Ending = λ (q : Standing). Signals false in
+    let on_t : State → State → Ending = λ (q : State). λ (t : State). then_on (put_back m (saved_cursor q) (limit_here m t)) (λ u. limited m (limits q) (D a.second.value m u)) in
+    let on_f : State → State → Ending = λ (q : State). Signals false in
     let p = ap (λ n. D n m s) a.is ∙ setlimit_does T P levels a.first a.second m s ∙ ap (λ r. then_on r (λ q. after (D a.first.value m q) (on_t q) (on_f q))) c.in_ok-pay.ensures in
     let halt = c.in_err-run_command-in-SetLimit.field-0.0 in
     let r : c.from_residual-in_err-run_command-in-SetLimit.result ≡ Err halt = search rules in
@@ -559,7 +559,7 @@ run_command-returns-in_err-run_command-in-SetLimit-clause-follows g t c =
 pub run_command-returns-in_err-put_back-in-SetLimit-clause-follows : goal.run_command-returns-in_err-put_back-in-SetLimit-clause-follows
 run_command-returns-in_err-put_back-in-SetLimit-clause-follows g t c =
     let T = g.T.Tables.listed c.args.tables.now in
-    let P = plan_of T c.args.program.now in
+    let P = program_of T c.args.program.now in
     let levels = c.args.levels in
     let D = λ (n : Node). runs P levels (view_node T n) in
     let m = c.args.mode in
@@ -567,20 +567,20 @@ run_command-returns-in_err-put_back-in-SetLimit-clause-follows g t c =
     let q = c.pay.new.self in
     let a = c.in-SetLimit in
     let u = c.run_command-in-SetLimit.new.state in
-    let on_t : Standing → Standing → Ending = λ (q : Standing). λ (t : Standing). then_on (put_back m (mark q) (limit_here m t)) (λ u. limited m (limits q) (D a.second.value m u)) in
-    let on_f : Standing → Standing → Ending = λ (q : Standing). Signals false in
+    let on_t : State → State → Ending = λ (q : State). λ (t : State). then_on (put_back m (saved_cursor q) (limit_here m t)) (λ u. limited m (limits q) (D a.second.value m u)) in
+    let on_f : State → State → Ending = λ (q : State). Signals false in
     let p = ap (λ n. D n m s) a.is ∙ setlimit_does T P levels a.first a.second m s ∙ ap (λ r. then_on r (λ q. after (D a.first.value m q) (on_t q) (on_f q))) c.in_ok-pay.ensures in
     let w = c.put_back-in-SetLimit.new.self in
     let b : c.in_ok-run_command-in-SetLimit.field-0 ≡ true = search rules in
     let e : D a.first.value m q ≡ Signals true u = ap (λ n. D n m q) (sym c.deref-in-SetLimit.ensures) ∙ c.in_ok-run_command-in-SetLimit.ensures.follows ∙ ap (λ v. Signals v u) b in
     let halt = c.in_err-put_back-in-SetLimit.field-0.0 in
     let r : c.from_residual-in_err-put_back-in-SetLimit.result ≡ Err halt = search rules in
-    rw r (by_fault halt w _ (λ fault is. p ∙ ap (λ r. after r (on_t q) (on_f q)) e ∙ ap (λ r. then_on r (λ u. limited m (limits q) (D a.second.value m u))) (ap (λ r. put_back m r (limit_here m u)) (sym c.mark-from-in-SetLimit.ensures.value) ∙ ap (put_back m c.mark-from-in-SetLimit.result) (sym c.limit_here.ensures) ∙ stops_at halt w _ fault is c.in_err-put_back-in-SetLimit.ensures.leads)))
+    rw r (by_fault halt w _ (λ fault is. p ∙ ap (λ r. after r (on_t q) (on_f q)) e ∙ ap (λ r. then_on r (λ u. limited m (limits q) (D a.second.value m u))) (ap (λ r. put_back m r (limit_here m u)) (sym c.saved_cursor-from-in-SetLimit.ensures.value) ∙ ap (put_back m c.saved_cursor-from-in-SetLimit.result) (sym c.limit_here.ensures) ∙ stops_at halt w _ fault is c.in_err-put_back-in-SetLimit.ensures.leads)))
 
 pub run_command-returns-in_err-run_command-in-Backwards-clause-follows : goal.run_command-returns-in_err-run_command-in-Backwards-clause-follows
 run_command-returns-in_err-run_command-in-Backwards-clause-follows g t c =
     let T = g.T.Tables.listed c.args.tables.now in
-    let P = plan_of T c.args.program.now in
+    let P = program_of T c.args.program.now in
     let levels = c.args.levels in
     let D = λ (n : Node). runs P levels (view_node T n) in
     let m = c.args.mode in
@@ -589,7 +589,7 @@ run_command-returns-in_err-run_command-in-Backwards-clause-follows g t c =
     let a = c.in-Backwards in
     let k = c.begin_backwards.new.self in
     let u = c.run_command-in-Backwards.new.state in
-    let go = λ (b : Standing). after (D a.inner.value Backward b) backwards_end (Signals false) in
+    let go = λ (b : State). after (D a.inner.value Backward b) backwards_end (Signals false) in
     let p = ap (λ n. D n m s) a.is ∙ backwards_does T P levels a.inner m s ∙ ap (λ r. then_on r (λ q. then_on (backwards_from q) go)) c.in_ok-pay.ensures in
     let halt = c.in_err-run_command-in-Backwards.field-0.0 in
     let r : c.from_residual-in_err-run_command-in-Backwards.result ≡ Err halt = search rules in
@@ -598,7 +598,7 @@ run_command-returns-in_err-run_command-in-Backwards-clause-follows g t c =
 pub run_command-returns-in-Sequence-clause-follows : goal.run_command-returns-in-Sequence-clause-follows
 run_command-returns-in-Sequence-clause-follows g t c =
     let T = g.T.Tables.listed c.args.tables.now in
-    let P = plan_of T c.args.program.now in
+    let P = program_of T c.args.program.now in
     let levels = c.args.levels in
     let D = λ (n : Node). runs P levels (view_node T n) in
     let m = c.args.mode in
@@ -611,7 +611,7 @@ run_command-returns-in-Sequence-clause-follows g t c =
 pub run_in_turn-returns-in_err-run_command-clause-follows : goal.run_in_turn-returns-in_err-run_command-clause-follows
 run_in_turn-returns-in_err-run_command-clause-follows g t c =
     let T = g.T.Tables.listed c.args.tables.now in
-    let P = plan_of T c.args.program.now in
+    let P = program_of T c.args.program.now in
     let levels = c.args.levels in
     let D = λ (n : Node). runs P levels (view_node T n) in
     let m = c.args.mode in
@@ -621,7 +621,7 @@ run_in_turn-returns-in_err-run_command-clause-follows g t c =
     let s = c.loop-one.state in
     let u = c.run_command.new.state in
     let inv = c.loop-one.invariant in
-    let rest = λ (t : Standing). all_run P levels (view_nodes T (drop (i + 1) cs)) m t in
+    let rest = λ (t : State). all_run P levels (view_nodes T (drop (i + 1) cs)) m t in
     let turn = turn_is T P levels cs i x m s c.loop-one-test.true c.one-item.is in
     let halt = c.in_err-run_command.field-0.0 in
     let r : c.from_residual.result ≡ Err halt = search rules in
@@ -630,7 +630,7 @@ run_in_turn-returns-in_err-run_command-clause-follows g t c =
 pub run_in_turn-loop-one-preserved : goal.run_in_turn-loop-one-preserved
 run_in_turn-loop-one-preserved g t c =
     let T = g.T.Tables.listed c.args.tables.now in
-    let P = plan_of T c.args.program.now in
+    let P = program_of T c.args.program.now in
     let levels = c.args.levels in
     let D = λ (n : Node). runs P levels (view_node T n) in
     let m = c.args.mode in
@@ -640,7 +640,7 @@ run_in_turn-loop-one-preserved g t c =
     let s = c.loop-one.state in
     let u = c.run_command.new.state in
     let inv = c.loop-one.invariant in
-    let rest = λ (t : Standing). all_run P levels (view_nodes T (drop (i + 1) cs)) m t in
+    let rest = λ (t : State). all_run P levels (view_nodes T (drop (i + 1) cs)) m t in
     let turn = turn_is T P levels cs i x m s c.loop-one-test.true c.one-item.is in
     let b : c.in_ok-run_command.field-0 ≡ true = search rules in
     let e : D x m s ≡ Signals true u = c.in_ok-run_command.ensures.follows ∙ ap (λ v. Signals v u) b in
@@ -651,7 +651,7 @@ run_in_turn-loop-one-preserved g t c =
 pub run_times-returns-in_err-run_command-clause-follows : goal.run_times-returns-in_err-run_command-clause-follows
 run_times-returns-in_err-run_command-clause-follows g t c =
     let T = g.T.Tables.listed c.args.tables.now in
-    let D = runs (plan_of T c.args.program.now) c.args.levels (view_node T c.args.inner.now) in
+    let D = runs (program_of T c.args.program.now) c.args.levels (view_node T c.args.inner.now) in
     let m = c.args.mode in
     let s = c.loop-left.state in
     let u = c.run_command.new.state in
@@ -667,7 +667,7 @@ run_times-returns-in_err-run_command-clause-follows g t c =
 pub run_command-returns-then-branch-clause-follows : goal.run_command-returns-then-branch-clause-follows
 run_command-returns-then-branch-clause-follows g t c =
     let T = g.T.Tables.listed c.args.tables.now in
-    let P = plan_of T c.args.program.now in
+    let P = program_of T c.args.program.now in
     let levels = c.args.levels in
     let D = λ (n : Node). runs P levels (view_node T n) in
     let m = c.args.mode in
@@ -675,8 +675,8 @@ run_command-returns-then-branch-clause-follows g t c =
     let q = c.pay.new.self in
     let a = c.in-Not in
     let u = c.run_command.new.state in
-    let on_t : Standing → Standing → Ending = λ (q : Standing). Signals false in
-    let on_f : Standing → Standing → Ending = λ (q : Standing). put_back m (mark q) in
+    let on_t : State → State → Ending = λ (q : State). Signals false in
+    let on_f : State → State → Ending = λ (q : State). put_back m (saved_cursor q) in
     let p = ap (λ n. D n m s) a.is ∙ not_does T P levels a.inner m s ∙ ap (λ r. then_on r (λ q. after (D a.inner.value m q) (on_t q) (on_f q))) c.in_ok-pay.ensures in
     let b : c.in_ok-run_command-in-Not.field-0 ≡ true = search rules in
     let e : D a.inner.value m q ≡ Signals true u = ap (λ n. D n m q) (sym c.deref-in-Not.ensures) ∙ c.in_ok-run_command-in-Not.ensures.follows ∙ ap (λ v. Signals v u) b in
@@ -685,7 +685,7 @@ run_command-returns-then-branch-clause-follows g t c =
 pub run_command-returns-in_ok-put_back-in-Not-clause-follows : goal.run_command-returns-in_ok-put_back-in-Not-clause-follows
 run_command-returns-in_ok-put_back-in-Not-clause-follows g t c =
     let T = g.T.Tables.listed c.args.tables.now in
-    let P = plan_of T c.args.program.now in
+    let P = program_of T c.args.program.now in
     let levels = c.args.levels in
     let D = λ (n : Node). runs P levels (view_node T n) in
     let m = c.args.mode in
@@ -693,17 +693,17 @@ run_command-returns-in_ok-put_back-in-Not-clause-follows g t c =
     let q = c.pay.new.self in
     let a = c.in-Not in
     let u = c.run_command.new.state in
-    let on_t : Standing → Standing → Ending = λ (q : Standing). Signals false in
-    let on_f : Standing → Standing → Ending = λ (q : Standing). put_back m (mark q) in
+    let on_t : State → State → Ending = λ (q : State). Signals false in
+    let on_f : State → State → Ending = λ (q : State). put_back m (saved_cursor q) in
     let p = ap (λ n. D n m s) a.is ∙ not_does T P levels a.inner m s ∙ ap (λ r. then_on r (λ q. after (D a.inner.value m q) (on_t q) (on_f q))) c.in_ok-pay.ensures in
     let b : c.in_ok-run_command-in-Not.field-0 ≡ false = search rules in
     let e : D a.inner.value m q ≡ Signals false u = ap (λ n. D n m q) (sym c.deref-in-Not.ensures) ∙ c.in_ok-run_command-in-Not.ensures.follows ∙ ap (λ v. Signals v u) b in
-    p ∙ ap (λ r. after r (on_t q) (on_f q)) e ∙ ap (λ r. put_back m r u) (sym c.mark-from.ensures.value) ∙ c.in_ok-put_back-in-Not.ensures.leads
+    p ∙ ap (λ r. after r (on_t q) (on_f q)) e ∙ ap (λ r. put_back m r u) (sym c.saved_cursor-from.ensures.value) ∙ c.in_ok-put_back-in-Not.ensures.leads
 
 pub run_command-returns-in_ok-put_back-in-Test-clause-follows : goal.run_command-returns-in_ok-put_back-in-Test-clause-follows
 run_command-returns-in_ok-put_back-in-Test-clause-follows g t c =
     let T = g.T.Tables.listed c.args.tables.now in
-    let P = plan_of T c.args.program.now in
+    let P = program_of T c.args.program.now in
     let levels = c.args.levels in
     let D = λ (n : Node). runs P levels (view_node T n) in
     let m = c.args.mode in
@@ -711,17 +711,17 @@ run_command-returns-in_ok-put_back-in-Test-clause-follows g t c =
     let q = c.pay.new.self in
     let a = c.in-Test in
     let u = c.run_command-in-Test.new.state in
-    let on_t : Standing → Standing → Ending = λ (q : Standing). put_back m (mark q) in
-    let on_f : Standing → Standing → Ending = λ (q : Standing). Signals false in
+    let on_t : State → State → Ending = λ (q : State). put_back m (saved_cursor q) in
+    let on_f : State → State → Ending = λ (q : State). Signals false in
     let p = ap (λ n. D n m s) a.is ∙ test_does T P levels a.inner m s ∙ ap (λ r. then_on r (λ q. after (D a.inner.value m q) (on_t q) (on_f q))) c.in_ok-pay.ensures in
     let b : c.in_ok-run_command-in-Test.field-0 ≡ true = search rules in
     let e : D a.inner.value m q ≡ Signals true u = ap (λ n. D n m q) (sym c.deref-in-Test.ensures) ∙ c.in_ok-run_command-in-Test.ensures.follows ∙ ap (λ v. Signals v u) b in
-    p ∙ ap (λ r. after r (on_t q) (on_f q)) e ∙ ap (λ r. put_back m r u) (sym c.mark-from-in-Test.ensures.value) ∙ c.in_ok-put_back-in-Test.ensures.leads
+    p ∙ ap (λ r. after r (on_t q) (on_f q)) e ∙ ap (λ r. put_back m r u) (sym c.saved_cursor-from-in-Test.ensures.value) ∙ c.in_ok-put_back-in-Test.ensures.leads
 
 pub run_command-returns-in_ok-put_back-in-Try-clause-follows : goal.run_command-returns-in_ok-put_back-in-Try-clause-follows
 run_command-returns-in_ok-put_back-in-Try-clause-follows g t c =
     let T = g.T.Tables.listed c.args.tables.now in
-    let P = plan_of T c.args.program.now in
+    let P = program_of T c.args.program.now in
     let levels = c.args.levels in
     let D = λ (n : Node). runs P levels (view_node T n) in
     let m = c.args.mode in
@@ -729,17 +729,17 @@ run_command-returns-in_ok-put_back-in-Try-clause-follows g t c =
     let q = c.pay.new.self in
     let a = c.in-Try in
     let u = c.run_command-in-Try.new.state in
-    let on_t : Standing → Standing → Ending = λ (q : Standing). Signals true in
-    let on_f : Standing → Standing → Ending = λ (q : Standing). put_back m (mark q) in
+    let on_t : State → State → Ending = λ (q : State). Signals true in
+    let on_f : State → State → Ending = λ (q : State). put_back m (saved_cursor q) in
     let p = ap (λ n. D n m s) a.is ∙ try_does T P levels a.inner m s ∙ ap (λ r. then_on r (λ q. after (D a.inner.value m q) (on_t q) (on_f q))) c.in_ok-pay.ensures in
     let b : c.in_ok-run_command-in-Try.field-0 ≡ false = search rules in
     let e : D a.inner.value m q ≡ Signals false u = ap (λ n. D n m q) (sym c.deref-in-Try.ensures) ∙ c.in_ok-run_command-in-Try.ensures.follows ∙ ap (λ v. Signals v u) b in
-    p ∙ ap (λ r. after r (on_t q) (on_f q)) e ∙ ap (λ r. put_back m r u) (sym c.mark-from-in-Try.ensures.value) ∙ c.in_ok-put_back-in-Try.ensures.leads
+    p ∙ ap (λ r. after r (on_t q) (on_f q)) e ∙ ap (λ r. put_back m r u) (sym c.saved_cursor-from-in-Try.ensures.value) ∙ c.in_ok-put_back-in-Try.ensures.leads
 
 pub run_command-returns-in_ok-put_back-in-Do-clause-follows : goal.run_command-returns-in_ok-put_back-in-Do-clause-follows
 run_command-returns-in_ok-put_back-in-Do-clause-follows g t c =
     let T = g.T.Tables.listed c.args.tables.now in
-    let P = plan_of T c.args.program.now in
+    let P = program_of T c.args.program.now in
     let levels = c.args.levels in
     let D = λ (n : Node). runs P levels (view_node T n) in
     let m = c.args.mode in
@@ -747,17 +747,17 @@ run_command-returns-in_ok-put_back-in-Do-clause-follows g t c =
     let q = c.pay.new.self in
     let a = c.in-Do in
     let u = c.run_command-in-Do.new.state in
-    let on_t : Standing → Standing → Ending = λ (q : Standing). put_back m (mark q) in
-    let on_f : Standing → Standing → Ending = λ (q : Standing). put_back m (mark q) in
+    let on_t : State → State → Ending = λ (q : State). put_back m (saved_cursor q) in
+    let on_f : State → State → Ending = λ (q : State). put_back m (saved_cursor q) in
     let p = ap (λ n. D n m s) a.is ∙ do_does T P levels a.inner m s ∙ ap (λ r. then_on r (λ q. after (D a.inner.value m q) (on_t q) (on_f q))) c.in_ok-pay.ensures in
     let b = c.in_ok-run_command-in-Do.field-0 in
     let e : D a.inner.value m q ≡ Signals b u = ap (λ n. D n m q) (sym c.deref-in-Do.ensures) ∙ c.in_ok-run_command-in-Do.ensures.follows in
-    p ∙ ap (λ r. after r (on_t q) (on_f q)) e ∙ either_way b u (put_back m (mark q)) ∙ ap (λ r. put_back m r u) (sym c.mark-from-in-Do.ensures.value) ∙ c.in_ok-put_back-in-Do.ensures.leads
+    p ∙ ap (λ r. after r (on_t q) (on_f q)) e ∙ either_way b u (put_back m (saved_cursor q)) ∙ ap (λ r. put_back m r u) (sym c.saved_cursor-from-in-Do.ensures.value) ∙ c.in_ok-put_back-in-Do.ensures.leads
 
 pub run_command-returns-in_ok-run_command-in-Fail-clause-follows : goal.run_command-returns-in_ok-run_command-in-Fail-clause-follows
 run_command-returns-in_ok-run_command-in-Fail-clause-follows g t c =
     let T = g.T.Tables.listed c.args.tables.now in
-    let P = plan_of T c.args.program.now in
+    let P = program_of T c.args.program.now in
     let levels = c.args.levels in
     let D = λ (n : Node). runs P levels (view_node T n) in
     let m = c.args.mode in
@@ -765,8 +765,8 @@ run_command-returns-in_ok-run_command-in-Fail-clause-follows g t c =
     let q = c.pay.new.self in
     let a = c.in-Fail in
     let u = c.run_command-in-Fail.new.state in
-    let on_t : Standing → Standing → Ending = λ (q : Standing). Signals false in
-    let on_f : Standing → Standing → Ending = λ (q : Standing). Signals false in
+    let on_t : State → State → Ending = λ (q : State). Signals false in
+    let on_f : State → State → Ending = λ (q : State). Signals false in
     let p = ap (λ n. D n m s) a.is ∙ fail_does T P levels a.inner m s ∙ ap (λ r. then_on r (λ q. after (D a.inner.value m q) (on_t q) (on_f q))) c.in_ok-pay.ensures in
     let b = c.in_ok-run_command-in-Fail.field-0 in
     let e : D a.inner.value m q ≡ Signals b u = ap (λ n. D n m q) (sym c.deref-in-Fail.ensures) ∙ c.in_ok-run_command-in-Fail.ensures.follows in
@@ -775,7 +775,7 @@ run_command-returns-in_ok-run_command-in-Fail-clause-follows g t c =
 pub run_command-returns-in_ok-end_backwards-in-Backwards-clause-follows : goal.run_command-returns-in_ok-end_backwards-in-Backwards-clause-follows
 run_command-returns-in_ok-end_backwards-in-Backwards-clause-follows g t c =
     let T = g.T.Tables.listed c.args.tables.now in
-    let P = plan_of T c.args.program.now in
+    let P = program_of T c.args.program.now in
     let levels = c.args.levels in
     let D = λ (n : Node). runs P levels (view_node T n) in
     let m = c.args.mode in
@@ -784,7 +784,7 @@ run_command-returns-in_ok-end_backwards-in-Backwards-clause-follows g t c =
     let a = c.in-Backwards in
     let k = c.begin_backwards.new.self in
     let u = c.run_command-in-Backwards.new.state in
-    let go = λ (b : Standing). after (D a.inner.value Backward b) backwards_end (Signals false) in
+    let go = λ (b : State). after (D a.inner.value Backward b) backwards_end (Signals false) in
     let p = ap (λ n. D n m s) a.is ∙ backwards_does T P levels a.inner m s ∙ ap (λ r. then_on r (λ q. then_on (backwards_from q) go)) c.in_ok-pay.ensures in
     let b : c.in_ok-run_command-in-Backwards.field-0 ≡ true = search rules in
     let e : D a.inner.value Backward k ≡ Signals true u = ap (λ n. D n Backward k) (sym c.deref-in-Backwards.ensures) ∙ c.in_ok-run_command-in-Backwards.ensures.follows ∙ ap (λ v. Signals v u) b in
@@ -794,7 +794,7 @@ run_command-returns-in_ok-end_backwards-in-Backwards-clause-follows g t c =
 pub run_command-returns-in_err-end_backwards-in-Backwards-clause-follows : goal.run_command-returns-in_err-end_backwards-in-Backwards-clause-follows
 run_command-returns-in_err-end_backwards-in-Backwards-clause-follows g t c =
     let T = g.T.Tables.listed c.args.tables.now in
-    let P = plan_of T c.args.program.now in
+    let P = program_of T c.args.program.now in
     let levels = c.args.levels in
     let D = λ (n : Node). runs P levels (view_node T n) in
     let m = c.args.mode in
@@ -803,7 +803,7 @@ run_command-returns-in_err-end_backwards-in-Backwards-clause-follows g t c =
     let a = c.in-Backwards in
     let k = c.begin_backwards.new.self in
     let u = c.run_command-in-Backwards.new.state in
-    let go = λ (b : Standing). after (D a.inner.value Backward b) backwards_end (Signals false) in
+    let go = λ (b : State). after (D a.inner.value Backward b) backwards_end (Signals false) in
     let p = ap (λ n. D n m s) a.is ∙ backwards_does T P levels a.inner m s ∙ ap (λ r. then_on r (λ q. then_on (backwards_from q) go)) c.in_ok-pay.ensures in
     let b : c.in_ok-run_command-in-Backwards.field-0 ≡ true = search rules in
     let e : D a.inner.value Backward k ≡ Signals true u = ap (λ n. D n Backward k) (sym c.deref-in-Backwards.ensures) ∙ c.in_ok-run_command-in-Backwards.ensures.follows ∙ ap (λ v. Signals v u) b in
@@ -816,7 +816,7 @@ run_command-returns-in_err-end_backwards-in-Backwards-clause-follows g t c =
 pub run_command-returns-in-Row-clause-follows : goal.run_command-returns-in-Row-clause-follows
 run_command-returns-in-Row-clause-follows g t c =
     let T = g.T.Tables.listed c.args.tables.now in
-    let P = plan_of T c.args.program.now in
+    let P = program_of T c.args.program.now in
     let levels = c.args.levels in
     let D = λ (n : Node). runs P levels (view_node T n) in
     let m = c.args.mode in
@@ -832,20 +832,20 @@ run_command-returns-in-Row-clause-follows g t c =
 pub run_row-returns-in_err-signal-clause-follows : goal.run_row-returns-in_err-signal-clause-follows
 run_row-returns-in_err-signal-clause-follows g t c =
     let T = g.T.Tables.listed c.args.tables.now in
-    let P = plan_of T c.args.program.now in
+    let P = program_of T c.args.program.now in
     let levels = c.args.levels in
     let m = c.args.mode in
     let s = c.args.state.now in
     let xs = c.args.others.now in
     let os = map (view_joined T) xs in
     let first = view_node T c.args.first.now in
-    let from = c.mark-from.result in
+    let from = c.saved_cursor-from.result in
     let q = c.pay_for.new.self in
-    let go = λ (v : Standing). others_run P levels m (mark v) os (runs P levels first m v) in
+    let go = λ (v : State). others_run P levels m (saved_cursor v) os (runs P levels first m v) in
     let n0 : c.saturating_sub.result ≡ length xs - 1 = search rules in
     let n : c.saturating_sub.result ≡ length os - 1 = n0 ∙ ap (λ k. k - 1) (sym (length-map xs (view_joined T))) in
     let paid : pays (length os - 1) s ≡ Signals true q = ap (λ k. pays k s) (sym n) ∙ c.in_ok-pay_for.ensures.leads in
-    let begun : row_runs P levels first os m s ≡ others_run P levels m from os (runs P levels first m q) = ap (λ r. then_on r go) paid ∙ ap (λ k. others_run P levels m k os (runs P levels first m q)) (sym c.mark-from.ensures.value) in
+    let begun : row_runs P levels first os m s ≡ others_run P levels m from os (runs P levels first m q) = ap (λ r. then_on r go) paid ∙ ap (λ k. others_run P levels m k os (runs P levels first m q)) (sym c.saved_cursor-from.ensures.value) in
     let u = c.run_command.new.state in
     let halt = c.in_err-signal.field-0.0 in
     let r : c.from_residual-in_err-signal.result ≡ Err halt = search rules in
@@ -854,20 +854,20 @@ run_row-returns-in_err-signal-clause-follows g t c =
 pub run_row-loop-joined-init : goal.run_row-loop-joined-init
 run_row-loop-joined-init g t c =
     let T = g.T.Tables.listed c.args.tables.now in
-    let P = plan_of T c.args.program.now in
+    let P = program_of T c.args.program.now in
     let levels = c.args.levels in
     let m = c.args.mode in
     let s = c.args.state.now in
     let xs = c.args.others.now in
     let os = map (view_joined T) xs in
     let first = view_node T c.args.first.now in
-    let from = c.mark-from.result in
+    let from = c.saved_cursor-from.result in
     let q = c.pay_for.new.self in
-    let go = λ (v : Standing). others_run P levels m (mark v) os (runs P levels first m v) in
+    let go = λ (v : State). others_run P levels m (saved_cursor v) os (runs P levels first m v) in
     let n0 : c.saturating_sub.result ≡ length xs - 1 = search rules in
     let n : c.saturating_sub.result ≡ length os - 1 = n0 ∙ ap (λ k. k - 1) (sym (length-map xs (view_joined T))) in
     let paid : pays (length os - 1) s ≡ Signals true q = ap (λ k. pays k s) (sym n) ∙ c.in_ok-pay_for.ensures.leads in
-    let begun : row_runs P levels first os m s ≡ others_run P levels m from os (runs P levels first m q) = ap (λ r. then_on r go) paid ∙ ap (λ k. others_run P levels m k os (runs P levels first m q)) (sym c.mark-from.ensures.value) in
+    let begun : row_runs P levels first os m s ≡ others_run P levels m from os (runs P levels first m q) = ap (λ r. then_on r go) paid ∙ ap (λ k. others_run P levels m k os (runs P levels first m q)) (sym c.saved_cursor-from.ensures.value) in
     let u = c.run_command.new.state in
     let b = c.in_ok-signal.signal in
     let e : runs P levels first m q ≡ Signals b u = c.in_ok-signal.ensures.follows in
@@ -879,7 +879,7 @@ run_row-loop-joined-init g t c =
 pub run_row-returns-in_err-signal-2-clause-follows : goal.run_row-returns-in_err-signal-2-clause-follows
 run_row-returns-in_err-signal-2-clause-follows g t c =
     let T = g.T.Tables.listed c.args.tables.now in
-    let P = plan_of T c.args.program.now in
+    let P = program_of T c.args.program.now in
     let levels = c.args.levels in
     let m = c.args.mode in
     let xs = c.args.others.now in
@@ -888,7 +888,7 @@ run_row-returns-in_err-signal-2-clause-follows g t c =
     let o = view_joined T x in
     let b = c.loop-joined.signal in
     let v = c.loop-joined.state in
-    let from = c.mark-from.result in
+    let from = c.saved_cursor-from.result in
     let inv = c.loop-joined.invariant in
     let rest = map (view_joined T) (drop (i + 1) xs) in
     let at = part_is (view_joined T) xs i x c.loop-joined-test.true c.joined-item.is in
@@ -901,7 +901,7 @@ run_row-returns-in_err-signal-2-clause-follows g t c =
 pub run_row-loop-joined-preserved : goal.run_row-loop-joined-preserved
 run_row-loop-joined-preserved g t c =
     let T = g.T.Tables.listed c.args.tables.now in
-    let P = plan_of T c.args.program.now in
+    let P = program_of T c.args.program.now in
     let levels = c.args.levels in
     let m = c.args.mode in
     let xs = c.args.others.now in
@@ -910,7 +910,7 @@ run_row-loop-joined-preserved g t c =
     let o = view_joined T x in
     let b = c.loop-joined.signal in
     let v = c.loop-joined.state in
-    let from = c.mark-from.result in
+    let from = c.saved_cursor-from.result in
     let inv = c.loop-joined.invariant in
     let rest = map (view_joined T) (drop (i + 1) xs) in
     let at = part_is (view_joined T) xs i x c.loop-joined-test.true c.joined-item.is in
@@ -924,9 +924,9 @@ run_row-loop-joined-preserved g t c =
 pub run_row-returns-clause-follows : goal.run_row-returns-clause-follows
 run_row-returns-clause-follows g t c =
     let T = g.T.Tables.listed c.args.tables.now in
-    let P = plan_of T c.args.program.now in
+    let P = program_of T c.args.program.now in
     let xs = c.args.others.now in
     let i = c.loop-joined.joined-index in
     let inv = c.loop-joined.invariant in
     let none : drop i xs ≡ [] = drop_all i xs (omega arith) in
-    sym inv.0 ∙ ap (λ ys. others_run P c.args.levels c.args.mode c.mark-from.result (map (view_joined T) ys) (Signals c.loop-joined.signal c.loop-joined.state)) none
+    sym inv.0 ∙ ap (λ ys. others_run P c.args.levels c.args.mode c.saved_cursor-from.result (map (view_joined T) ys) (Signals c.loop-joined.signal c.loop-joined.state)) none

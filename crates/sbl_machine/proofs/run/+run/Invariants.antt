@@ -2,10 +2,10 @@ use Rattle.std.proofs.Common.{◌≡◌, ℕ, suc, ◌+◌, ◌*◌, ◌≤◌, 
 use Rattle.std.specs.Prelude.{List}
 use Rattle.sbl_tables.specs.Fitting.{first}
 use Rattle.sbl_machine.specs.Listing.{fits_at}
-use Rattle.sbl_program.specs.PlanOf.{plan_of, view_joined, view_node, view_nodes}
+use Rattle.sbl_program.specs.ProgramOf.{program_of, view_joined, view_node, view_nodes}
 use Rattle.sbl_machine.specs.Run.{runs, all_run, calls, turns, times, seeks}
 use Rattle.sbl_machine.specs.Rows.{others_run, row_runs}
-use Rattle.sbl_machine.specs.Standing.{Signals}
+use Rattle.sbl_machine.specs.State.{Signals}
 use Rattle.sbl_machine.specs.Search.{tries, search_all, bound_in}
 use Rattle.sbl_machine.proofs.run.+run.Given as goal
 
@@ -46,21 +46,21 @@ decreases-run_try g l = 4 * l.state.now.steps + 2
 abbrev pub invariant-run_in_turn-loop-one : goal.invariant-run_in_turn-loop-one
 invariant-run_in_turn-loop-one g l =
     let T = g.T.Tables.listed l.tables in
-    let p = plan_of T l.program in
+    let p = program_of T l.program in
     (all_run p l.levels (view_nodes T (drop l.one-index l.commands)) l.mode l.state ≡ all_run p l.levels (view_nodes T l.commands) l.mode l.initial.state) × (l.state.steps ≤ l.initial.state.steps)
 
 -- the others that are left do from here what the row does from the start
 abbrev pub invariant-run_row-loop-joined : goal.invariant-run_row-loop-joined
 invariant-run_row-loop-joined g l =
     let T = g.T.Tables.listed l.tables in
-    let p = plan_of T l.program in
+    let p = program_of T l.program in
     (others_run p l.levels l.mode l.from (map (view_joined T) (drop l.joined-index l.others)) (Signals l.signal l.state) ≡ row_runs p l.levels (view_node T l.first) (map (view_joined T) l.others) l.mode l.fn.state) × (l.state.steps ≤ l.fn.state.steps)
 
 -- turns enough for the steps that are left do from here what all of them do from the start
 abbrev pub invariant-run_turns-loop-state : goal.invariant-run_turns-loop-state
 invariant-run_turns-loop-state g l =
     let T = g.T.Tables.listed l.tables in
-    let c = runs (plan_of T l.program) l.levels (view_node T l.inner) in
+    let c = runs (program_of T l.program) l.levels (view_node T l.inner) in
     (n : ℕ) × (l.state.steps ≤ n) × (turns (suc n) c l.mode l.state ≡ turns (suc l.initial.state.steps) c l.mode l.initial.state) × (l.state.steps ≤ l.initial.state.steps)
 
 abbrev pub decreases-run_turns-loop-state : goal.decreases-run_turns-loop-state
@@ -70,7 +70,7 @@ decreases-run_turns-loop-state g l = l.state.steps
 abbrev pub invariant-run_times-loop-left : goal.invariant-run_times-loop-left
 invariant-run_times-loop-left g l =
     let T = g.T.Tables.listed l.tables in
-    let c = runs (plan_of T l.program) l.levels (view_node T l.inner) in
+    let c = runs (program_of T l.program) l.levels (view_node T l.inner) in
     (times l.left c l.mode l.state ≡ times l.initial.left c l.mode l.initial.state) × (l.state.steps ≤ l.initial.state.steps)
 
 abbrev pub decreases-run_times-loop-left : goal.decreases-run_times-loop-left
@@ -80,7 +80,7 @@ decreases-run_times-loop-left g l = l.left
 abbrev pub invariant-run_seek-loop-state : goal.invariant-run_seek-loop-state
 invariant-run_seek-loop-state g l =
     let T = g.T.Tables.listed l.tables in
-    let c = runs (plan_of T l.program) l.levels (view_node T l.inner) in
+    let c = runs (program_of T l.program) l.levels (view_node T l.inner) in
     (n : ℕ) × (l.state.steps ≤ n) × (seeks (suc n) l.past c l.mode l.state ≡ seeks (suc l.initial.state.steps) l.past c l.mode l.initial.state) × (l.state.steps ≤ l.initial.state.steps)
 
 abbrev pub decreases-run_seek-loop-state : goal.decreases-run_seek-loop-state
@@ -90,7 +90,7 @@ decreases-run_seek-loop-state g l = l.state.steps
 abbrev pub invariant-run_search-loop-place : goal.invariant-run_search-loop-place
 invariant-run_search-loop-place g l =
     let T = g.T.Tables.listed l.tables in
-    let call = calls (plan_of T l.program) l.levels in
+    let call = calls (program_of T l.program) l.levels in
     (before : List ℕ) × (rest : List ℕ) × (fits_at (T l.table) l.initial.state.text l.initial.state.cursor (bound_in l.mode l.initial.state) ≡ before ++ rest) × (l.place ≡ first rest) ×
     (tries call l.among l.entries l.mode l.initial.state rest l.state ≡ search_all call l.among l.entries (T l.table) l.mode l.initial.state) ×
     (l.state.steps ≤ l.initial.state.steps)

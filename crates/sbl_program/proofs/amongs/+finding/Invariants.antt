@@ -1,6 +1,6 @@
 use Rattle.std.proofs.Common.{◌≡◌, drop, map, List}
-use Rattle.sbl_grammar.specs.Tree as trees
-use Rattle.sbl_grammar.specs.View.{view_groups, view_others, view_rows}
+use Rattle.sbl_tree.specs.Tree as trees
+use Rattle.sbl_tree.specs.View.{view_groups, view_others, view_rows}
 use Rattle.sbl_program.specs.NumberedAmongs.{found_groups, found_others, found_rows}
 use Rattle.sbl_program.specs.NumberedView.{view_found, view_names}
 use Rattle.sbl_program.proofs.amongs.+finding.Given as goal

@@ -1,6 +1,6 @@
 use Rattle.std.proofs.Common.{◌≡◌, drop, List}
-use Rattle.sbl_grammar.specs.Tree as trees
-use Rattle.sbl_grammar.specs.View.{view_groups}
+use Rattle.sbl_tree.specs.Tree as trees
+use Rattle.sbl_tree.specs.View.{view_groups}
 use Rattle.sbl_program.specs.NumberedAmongs.{strings_behind}
 use Rattle.sbl_program.specs.NumberedView.{texts}
 use Rattle.sbl_program.proofs.amongs.add_group_strings.Given as goal

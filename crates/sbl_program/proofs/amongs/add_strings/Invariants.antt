@@ -1,5 +1,5 @@
 use Rattle.std.proofs.Common.{◌≡◌, drop, map}
-use Rattle.sbl_grammar.specs.View.{view_entry}
+use Rattle.sbl_tree.specs.View.{view_entry}
 use Rattle.sbl_program.specs.NumberedAmongs.{strings_in}
 use Rattle.sbl_program.specs.NumberedView.{texts}
 use Rattle.sbl_program.proofs.amongs.add_strings.Given as goal

@@ -1,9 +1,9 @@
 use Rattle.std.proofs.Common.{◌≡◌, ◌++◌, drop, map, List}
-use Rattle.sbl_grammar.specs.Tree as trees
-use Rattle.sbl_grammar.specs.View.{view_groups, view_others, view_rows}
+use Rattle.sbl_tree.specs.Tree as trees
+use Rattle.sbl_tree.specs.View.{view_groups, view_others, view_rows}
 use Rattle.sbl_program.specs.Numbered.{joins_in, numbered_groups, numbered_rows, past_groups, past_others, past_rows}
 use Rattle.sbl_program.specs.NumberedView.{strings_at, view_names, view_place}
-use Rattle.sbl_program.specs.PlanOf.{view_joined, view_node}
+use Rattle.sbl_program.specs.ProgramOf.{view_joined, view_node}
 use Rattle.sbl_program.proofs.commands.+commands.Given as goal
 
 abbrev pub invariant-rows_of-loop-row : goal.invariant-rows_of-loop-row

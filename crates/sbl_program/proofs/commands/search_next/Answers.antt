@@ -1,7 +1,7 @@
 use Rattle.std.proofs.Common.{ap, ◌∙◌, map, drop}
 use Rattle.sbl_program.specs.Numbered.{next_of}
 use Rattle.sbl_program.specs.NumberedView.{strings_at, view_found}
-use Rattle.sbl_program.specs.Plan as plan
+use Rattle.sbl_program.specs.Program as programs
 use Rattle.sbl_program.proofs.NumberingPlaces.{search_view, strings_next}
 use Rattle.sbl_program.proofs.commands.search_next.Goals as goal
 
@@ -11,4 +11,4 @@ returns c =
     let k = c.args.place.next in
     let n = next_of (map view_found (drop k fs)) in
     let es = c.in_ok-entries.entries in
-    search_view (strings_at fs) c.next_number.result k es ∙ ap (λ i. plan.search i (strings_at fs k) es.items) c.next_number.ensures ∙ ap (λ s. plan.search n.number s es.items) (strings_next fs k) ∙ ap (λ x. plan.search n.number n.strings x) c.in_ok-entries.ensures
+    search_view (strings_at fs) c.next_number.result k es ∙ ap (λ i. programs.search i (strings_at fs k) es.items) c.next_number.ensures ∙ ap (λ s. programs.search n.number s es.items) (strings_next fs k) ∙ ap (λ x. programs.search n.number n.strings x) c.in_ok-entries.ensures

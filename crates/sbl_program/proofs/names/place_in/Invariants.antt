@@ -1,5 +1,5 @@
 use Rattle.std.proofs.Common.{◌≡◌, drop, map}
-use Rattle.sbl_grammar.specs.View.{view_plain}
+use Rattle.sbl_tree.specs.View.{view_plain}
 use Rattle.sbl_program.specs.NumberedNames.{placed_in}
 use Rattle.sbl_program.specs.NumberedView.{view_placed}
 use Rattle.sbl_program.proofs.names.place_in.Given as goal

@@ -1,8 +1,8 @@
 use Rattle.std.proofs.Common.{◌≡◌, ◌++◌, drop, map}
-use Rattle.sbl_grammar.specs.View.{view_scales, view_sums}
+use Rattle.sbl_tree.specs.View.{view_scales, view_sums}
 use Rattle.sbl_program.specs.NumberedNumbers.{scales_in, sums_in}
 use Rattle.sbl_program.specs.NumberedView.{view_names}
-use Rattle.sbl_program.specs.PlanOf.{view_added, view_scaled}
+use Rattle.sbl_program.specs.ProgramOf.{view_added, view_scaled}
 use Rattle.sbl_program.proofs.numbers.+arithmetic.Given as goal
 
 abbrev pub invariant-sums_of-loop-other : goal.invariant-sums_of-loop-other

@@ -1,6 +1,6 @@
 use Rattle.std.proofs.Common.{◌≡◌, drop, List}
-use Rattle.sbl_grammar.specs.Tree as trees
-use Rattle.sbl_grammar.specs.View.{view_groups, view_others, view_rows}
+use Rattle.sbl_tree.specs.Tree as trees
+use Rattle.sbl_tree.specs.View.{view_groups, view_others, view_rows}
 use Rattle.sbl_program.specs.Numbered.{past_groups, past_others, past_rows}
 use Rattle.sbl_program.specs.NumberedView.{view_place}
 use Rattle.sbl_program.proofs.place.+passing.Given as goal

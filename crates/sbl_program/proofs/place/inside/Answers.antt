@@ -1,12 +1,12 @@
 use Rattle.std.proofs.Common.{ap, false}
-use Rattle.sbl_program.specs.Numbered.{Place}
+use Rattle.sbl_program.specs.Numbered.{Position}
 use Rattle.sbl_program.specs.NumberedAmongs.{Found}
 use Rattle.std.specs.Prelude.{ℕ, List}
 use Rattle.sbl_program.specs.NumberedView.{view_found}
 use Rattle.sbl_program.proofs.NumberingPlaces.{dropped_more}
 use Rattle.sbl_program.proofs.place.inside.Goals as goal
 
-at : ℕ → List Found → Place
+at : ℕ → List Found → Position
 at n fs = record { coming = fs; behind = n; waits = false }
 
 pub returns-then-place-len : goal.returns-then-place-len

@@ -1,7 +1,7 @@
 use Rattle.std.proofs.Common.{◌≡◌, drop, map, [], false}
 use Rattle.sbl_program.specs.Numbered.{routines_behind}
 use Rattle.sbl_program.specs.NumberedView.{strings_at, view_names, view_place, view_placed}
-use Rattle.sbl_program.specs.PlanOf.{view_routine}
+use Rattle.sbl_program.specs.ProgramOf.{view_routine}
 use Rattle.sbl_program.proofs.program.routines_of.Given as goal
 
 abbrev pub invariant-loop-item : goal.invariant-loop-item

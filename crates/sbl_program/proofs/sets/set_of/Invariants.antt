@@ -1,5 +1,5 @@
 use Rattle.std.proofs.Common.{◌≡◌, drop, map}
-use Rattle.sbl_grammar.specs.View.{view_term}
+use Rattle.sbl_tree.specs.View.{view_term}
 use Rattle.sbl_program.specs.NumberedSets.{with_terms}
 use Rattle.sbl_program.specs.NumberedView.{view_names}
 use Rattle.sbl_program.proofs.sets.set_of.Given as goal

@@ -2,7 +2,7 @@ use Rattle.std.proofs.Common.{inr, sym, subst}
 use Rattle.std.specs.Str.{chars}
 use Rattle.std.proofs.lemmas.Result.{err_from_is_err_and}
 use Rattle.sbl_text.specs.Pieces.{Has}
-use Rattle.sbl_text.specs.States.{setting_of}
+use Rattle.sbl_text.specs.Directives.{setting_of}
 use Rattle.sbl_text.proofs.Nexts.{after_gaps, after_piece, no_token, refused, comes}
 use Rattle.sbl_text.proofs.lexer.token_after.Goals as goal
 

@@ -3,13 +3,13 @@ use Rattle.std.specs.Str.{chars, encode_utf8_all}
 use Rattle.std.proofs.lemmas.Str.{chars_from_encodes}
 use Rattle.sbl_machine.specs.Outcome.{outcome_of, run_of}
 use Rattle.sbl_machine.specs.declared.outcome.Outcome.TheVariants as code
-use Rattle.sbl_bench.specs.Rows.{most_steps}
+use Rattle.sbl_bench.specs.Rows.{max_steps}
 use Rattle.snowbench.specs.Differences.{Stem, Refused, of_outcome}
 use Rattle.snowbench.proofs.CheckFacts.{made_by_run, made_too_long}
 use Rattle.snowbench.proofs.checking.run_word.Goals as goal
 
-pub returns-then-len-gt-MOST_CHARACTERS : goal.returns-then-len-gt-MOST_CHARACTERS
-returns-then-len-gt-MOST_CHARACTERS c = λ script made.
+pub returns-then-len-gt-MAX_WORD_LENGTH : goal.returns-then-len-gt-MAX_WORD_LENGTH
+returns-then-len-gt-MAX_WORD_LENGTH c = λ script made.
     let items : c.in_ok-characters.characters.items ≡ chars c.args.word.now = search (rules, chars_from_encodes) in
     let long : 255 < length c.in_ok-characters.characters.items = search rules in
     made_too_long script (chars c.args.word.now) (subst (λ (w : List ℕ). 255 < length w) items long)
@@ -19,7 +19,7 @@ returns-in-Stem c = λ script made.
     let items : c.in_ok-characters.characters.items ≡ chars c.args.word.now = search (rules, chars_from_encodes) in
     let fits : length c.in_ok-characters.characters.items ≤ 255 = search rules in
     let is : c.in-Ok.ran.outcome ≡ code.Stem c.in-Stem.stem = search rules in
-    let ran = c.in-Ok.ensures.outcome script made ∙ ap (λ (w : List ℕ). run_of script w most_steps) (c.as_slice.ensures.value ∙ items) in
+    let ran = c.in-Ok.ensures.outcome script made ∙ ap (λ (w : List ℕ). run_of script w max_steps) (c.as_slice.ensures.value ∙ items) in
     let same : c.deref.result.now ≡ c.in-Stem.stem.items = search rules in
     ap Stem (c.in_ok-text_of-in-Stem.ensures ∙ ap encode_utf8_all same) ∙ ap (λ o. of_outcome (outcome_of o)) (sym is)
     ∙ made_by_run script (chars c.args.word.now) (outcome_of c.in-Ok.ran.outcome) (subst (λ (w : List ℕ). length w ≤ 255) items fits) ran
@@ -29,6 +29,6 @@ returns c = λ script made.
     let items : c.in_ok-characters.characters.items ≡ chars c.args.word.now = search (rules, chars_from_encodes) in
     let fits : length c.in_ok-characters.characters.items ≤ 255 = search rules in
     let is : c.in-Ok.ran.outcome ≡ code.Refused c.in-Refused.fault = search rules in
-    let ran = c.in-Ok.ensures.outcome script made ∙ ap (λ (w : List ℕ). run_of script w most_steps) (c.as_slice.ensures.value ∙ items) in
+    let ran = c.in-Ok.ensures.outcome script made ∙ ap (λ (w : List ℕ). run_of script w max_steps) (c.as_slice.ensures.value ∙ items) in
     ap Refused c.name.ensures ∙ ap (λ o. of_outcome (outcome_of o)) (sym is)
     ∙ made_by_run script (chars c.args.word.now) (outcome_of c.in-Ok.ran.outcome) (subst (λ (w : List ℕ). length w ≤ 255) items fits) ran

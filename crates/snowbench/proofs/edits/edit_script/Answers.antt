@@ -1,9 +1,9 @@
 use Rattle.std.proofs.Common.{◌≡◌, ◌∙◌, ◌<◌, List, [], ℕ, None, Some, true, rules, length, subst, sym, ap}
 use Rattle.std.specs.Str.{is_utf8}
 use Rattle.std.proofs.lemmas.Str.{is_utf8-from_IsUtf8}
-use Rattle.sbl_bench.specs.Kept.{state_of}
+use Rattle.sbl_bench.specs.Kept.{contents_of}
 use Rattle.sbl_bench.specs.Edits.{Routine}
-use Rattle.snowbench.specs.Block.{HasText, made_text, most_bytes}
+use Rattle.snowbench.specs.Block.{HasText, made_text, max_script}
 use Rattle.snowbench.specs.declared.block_text.BlockFault.{BlockFault}
 use Rattle.snowbench.specs.declared.block_text.BlockFault.TheVariants.{TooLong}
 use Rattle.snowbench.specs.CommandViews.{IsEditAnswer, IsTextAnswer}
@@ -13,12 +13,12 @@ use Rattle.snowbench.proofs.EditFacts.{bad_line, block_held, block_refused, bloc
 use Rattle.snowbench.proofs.edits.edit_script.Goals as goal
 
 pub returns-in_default : goal.returns-in_default
-returns-in_default c = λ lines holds. bad_line (state_of c.args.bench.now) c.args.line.now lines (not_text c.args.line.now c.in_default.ensures.cases.0)
+returns-in_default c = λ lines holds. bad_line (contents_of c.args.bench.now) c.args.line.now lines (not_text c.args.line.now c.in_default.ensures.cases.0)
 
 pub returns-in-Ok-whole : goal.returns-in-Ok-whole
 returns-in-Ok-whole c = λ lines holds.
-    let s = state_of c.args.bench.now in
-    let t = state_of c.replace_routine.new.bench in
+    let s = contents_of c.args.bench.now in
+    let t = contents_of c.replace_routine.new.bench in
     let line = c.args.line.now in
     let bytes = c.deref.result.now in
     let utf8 : is_utf8 line ≡ true = is_utf8-from_IsUtf8 line c.in-Ok.ensures.cases.1 in
@@ -29,16 +29,16 @@ returns-in-Ok-whole c = λ lines holds.
 
 pub returns-in-Err-TooLong : goal.returns-in-Err-TooLong
 returns-in-Err-TooLong c = λ lines holds.
-    let s = state_of c.args.bench.now in
+    let s = contents_of c.args.bench.now in
     let line = c.args.line.now in
     let utf8 : is_utf8 line ≡ true = is_utf8-from_IsUtf8 line c.in-Ok.ensures.cases.1 in
     let is : c.in-Err-TooLong.field-0 ≡ TooLong = search rules in
-    let long : most_bytes < length (made_text lines) = subst (λ (f : BlockFault). HasText (Some f) [] lines) is (c.in-Err-TooLong.ensures.fault lines holds) in
+    let long : max_script < length (made_text lines) = subst (λ (f : BlockFault). HasText (Some f) [] lines) is (c.in-Err-TooLong.ensures.fault lines holds) in
     subst (λ (x : List ℕ). IsTextAnswer s (block_command line lines) x s) (sym c.edit_text.ensures) (block_too_long s line lines utf8 long)
 
 pub returns-in-Err-OutOfMemory : goal.returns-in-Err-OutOfMemory
 returns-in-Err-OutOfMemory c = λ lines holds.
-    let s = state_of c.args.bench.now in
+    let s = contents_of c.args.bench.now in
     let line = c.args.line.now in
     let utf8 : is_utf8 line ≡ true = is_utf8-from_IsUtf8 line c.in-Ok.ensures.cases.1 in
     subst (λ (x : List ℕ). IsTextAnswer s (block_command line lines) x s) (sym c.edit_text-in-Err-OutOfMemory.ensures) (block_refused s line lines utf8)

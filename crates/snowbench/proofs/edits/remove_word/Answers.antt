@@ -1,6 +1,6 @@
 use Rattle.std.proofs.Common.{◌≡◌, ◌∙◌, List, ℕ, subst, sym, take, length, rules}
 use Rattle.std.specs.Str.{chars}
-use Rattle.sbl_bench.specs.Kept.{state_of}
+use Rattle.sbl_bench.specs.Kept.{contents_of}
 use Rattle.sbl_bench.specs.Edits.{Edits, Remove}
 use Rattle.snowbench.specs.CommandViews.{IsEditAnswer}
 use Rattle.snowbench.proofs.EditFacts.{all_chars, answered}
@@ -8,8 +8,8 @@ use Rattle.snowbench.proofs.edits.remove_word.Goals as goal
 
 pub returns : goal.returns
 returns c =
-    let s = state_of c.args.bench.now in
-    let t = state_of c.remove.new.self in
+    let s = contents_of c.args.bench.now in
+    let t = contents_of c.remove.new.self in
     let word = chars c.args.word.now in
     let room : length c.first_characters-count.new.room ≡ 65536 = search rules in
     let first : take c.first_characters-count.result c.first_characters-count.new.room ≡ word =

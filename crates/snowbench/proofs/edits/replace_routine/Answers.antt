@@ -1,7 +1,7 @@
 use Rattle.std.proofs.Common.{◌≡◌, ◌∙◌, List, ℕ, true, false, subst, sym}
 use Rattle.std.specs.Str.{is_utf8}
 use Rattle.std.proofs.lemmas.Str.{IsUtf8-from_is_utf8, is_utf8-from_IsUtf8}
-use Rattle.sbl_bench.specs.Kept.{state_of}
+use Rattle.sbl_bench.specs.Kept.{contents_of}
 use Rattle.sbl_bench.specs.Edits.{Routine}
 use Rattle.snowbench.specs.Answers.{edit_text}
 use Rattle.snowbench.specs.CommandViews.{IsEditAnswer}
@@ -11,8 +11,8 @@ use Rattle.snowbench.proofs.edits.replace_routine.Goals as goal
 
 pub returns-in-Ok-clause-text : goal.returns-in-Ok-clause-text
 returns-in-Ok-clause-text c = λ utf8.
-    let s = state_of c.args.bench.now in
-    let t = state_of c.replace_routine.new.self in
+    let s = contents_of c.args.bench.now in
+    let t = contents_of c.replace_routine.new.self in
     let name = c.args.name.now in
     let text = edit_text (fault_in c.replace_routine.result) in
     let h : IsEditAnswer s (Routine name c.in-Ok.text.now) text t = answered c.replace_routine.result s t (Routine name c.in-Ok.text.now) c.replace_routine.ensures in

@@ -1,7 +1,7 @@
 use Rattle.std.proofs.Common.{◌≡◌, ◌∙◌, List, ℕ, Option, Some, None, IfOk, length, refl, rules, subst, sym, take}
 use Rattle.std.specs.List.{find}
 use Rattle.std.specs.Str.{bytes_eq, chars}
-use Rattle.sbl_bench.specs.Kept.{state_of}
+use Rattle.sbl_bench.specs.Kept.{contents_of}
 use Rattle.sbl_bench.specs.Rows.{Row, view_row}
 use Rattle.snowbench.specs.Answers.{Enough, IsReportOrAbsent, Memory}
 use Rattle.snowbench.specs.CommandViews.{IsReply}
@@ -12,7 +12,7 @@ use Rattle.snowbench.proofs.reports.class_reply.Goals as goal
 
 pub returns-in-Some : goal.returns-in-Some
 returns-in-Some c =
-    let s = state_of c.args.bench.now in
+    let s = contents_of c.args.bench.now in
     let word = chars c.args.word.now in
     let row : Row = view_row c.in-Some.row in
     let room : length c.first_characters-count.new.room ≡ 65536 = search rules in
@@ -29,7 +29,7 @@ returns-in-Some c =
 
 pub returns-in-None : goal.returns-in-None
 returns-in-None c =
-    let s = state_of c.args.bench.now in
+    let s = contents_of c.args.bench.now in
     let word = chars c.args.word.now in
     let room : length c.first_characters-count.new.room ≡ 65536 = search rules in
     let first : take c.first_characters-count.result c.first_characters-count.new.room ≡ word =

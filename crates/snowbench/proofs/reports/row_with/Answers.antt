@@ -1,7 +1,7 @@
 use Rattle.std.proofs.Common.{◌≡◌, ◌+◌, ℕ, suc, true, false, None, Some, sym, subst, arith, rules, take, slice_get}
 use Rattle.std.specs.List.{find}
 use Rattle.std.specs.Str.{bytes_eq}
-use Rattle.sbl_bench.specs.Kept.{state_of}
+use Rattle.sbl_bench.specs.Kept.{contents_of}
 use Rattle.sbl_bench.specs.Rows.{Row, view_row}
 use Rattle.snowbench.specs.Rows.{rows_now}
 use Rattle.snowbench.proofs.ReportFacts.{found, missed}
@@ -9,7 +9,7 @@ use Rattle.snowbench.proofs.reports.row_with.Goals as goal
 
 pub returns-then-eq : goal.returns-then-eq
 returns-then-eq c =
-    let s = state_of c.args.bench.now in
+    let s = contents_of c.args.bench.now in
     let row : Row = view_row c.in_ok-row.row in
     let passes : bytes_eq c.args.word.now row.word ≡ true = search rules in
     let here : slice_get (rows_now s) c.loop-i.i ≡ Some row = sym c.in_ok-row.ensures in
@@ -17,7 +17,7 @@ returns-then-eq c =
 
 pub loop-i-preserved : goal.loop-i-preserved
 loop-i-preserved c =
-    let s = state_of c.args.bench.now in
+    let s = contents_of c.args.bench.now in
     let row : Row = view_row c.in_ok-row.row in
     let fails : bytes_eq c.args.word.now row.word ≡ false = search rules in
     let here : slice_get (rows_now s) c.loop-i.i ≡ Some row = sym c.in_ok-row.ensures in

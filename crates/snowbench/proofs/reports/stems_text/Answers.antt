@@ -1,5 +1,5 @@
 use Rattle.std.proofs.Common.{◌≡◌, List, ℕ, map, subst, sym, IfOk}
-use Rattle.sbl_bench.specs.Kept.{state_of}
+use Rattle.sbl_bench.specs.Kept.{contents_of}
 use Rattle.sbl_bench.specs.Rows.{Row, view_row}
 use Rattle.sbl_bench.specs.declared.row.Row as declared
 use Rattle.snowbench.specs.Rows.{records_text, row_fields, rows_now, stems_text}
@@ -9,6 +9,6 @@ use Rattle.snowbench.proofs.reports.stems_text.Goals as goal
 pub returns : goal.returns
 unfolding stems_text
 returns c =
-    let are : map view_row c.in_ok-rows.rows.items ≡ rows_now (state_of c.args.bench.now) = c.in_ok-rows.ensures in
-    let shown : map view_row c.deref.result.now ≡ rows_now (state_of c.args.bench.now) = subst (λ (xs : List declared.Row). map view_row xs ≡ rows_now (state_of c.args.bench.now)) (sym c.deref.ensures.value) are in
-    text_of_views c.records_text.result row_fields view_row c.deref.result.now (rows_now (state_of c.args.bench.now)) shown c.records_text.ensures
+    let are : map view_row c.in_ok-rows.rows.items ≡ rows_now (contents_of c.args.bench.now) = c.in_ok-rows.ensures in
+    let shown : map view_row c.deref.result.now ≡ rows_now (contents_of c.args.bench.now) = subst (λ (xs : List declared.Row). map view_row xs ≡ rows_now (contents_of c.args.bench.now)) (sym c.deref.ensures.value) are in
+    text_of_views c.records_text.result row_fields view_row c.deref.result.now (rows_now (contents_of c.args.bench.now)) shown c.records_text.ensures

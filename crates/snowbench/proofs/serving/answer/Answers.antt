@@ -1,5 +1,5 @@
 use Rattle.std.proofs.Common.{◌≡◌, ◌∙◌, List, ℕ, true, false, refl, rules, sym, subst, take, ap}
-use Rattle.sbl_bench.specs.Kept.{state_of}
+use Rattle.sbl_bench.specs.Kept.{contents_of}
 use Rattle.snowbench.specs.CommandViews.{IsAnswer, IsTextAnswer}
 use Rattle.snowbench.specs.Commands.{block_command, line_command}
 use Rattle.snowbench.specs.Held.{input_of, line_of}
@@ -10,8 +10,8 @@ use Rattle.snowbench.proofs.serving.answer.Goals as goal
 
 pub returns-then-not-asks_block-clause-answered : goal.returns-then-not-asks_block-clause-answered
 returns-then-not-asks_block-clause-answered g c =
-    let s = state_of c.args.bench.now in
-    let t = state_of c.answer_line.new.bench in
+    let s = contents_of c.args.bench.now in
+    let t = contents_of c.answer_line.new.bench in
     let line = line_of c.args.lines.now in
     let asked : c.asks_block.result ≡ false = search rules in
     let asks : asks_block line ≡ false = sym (c.asks_block.ensures ∙ ap asks_block c.line.ensures) ∙ asked in
@@ -21,8 +21,8 @@ returns-then-not-asks_block-clause-answered g c =
 
 pub returns-clause-answered : goal.returns-clause-answered
 returns-clause-answered g c =
-    let s = state_of c.args.bench.now in
-    let t = state_of c.edit_script.new.bench in
+    let s = contents_of c.args.bench.now in
+    let t = contents_of c.edit_script.new.bench in
     let left = g.R.Source.left in
     let line = line_of c.args.lines.now in
     let asked : c.asks_block.result ≡ true = search rules in

@@ -3,9 +3,9 @@ use Rattle.std.proofs.Common.{take, rules, Err, ◌≡◌, ◌∙◌, ◌≤◌,
 use Rattle.snowbench.specs.declared.faults.LineFault.{LineFault}
 use Rattle.std.specs.Io.KnownBytes.{Appends}
 use Rattle.std.proofs.KnownBytes.{Keeps-refl}
-use Rattle.sbl_bench.specs.Kept.{state_of}
+use Rattle.sbl_bench.specs.Kept.{contents_of}
 use Rattle.std.proofs.lemmas.Result.{err_from_is_err_and}
-use Rattle.sbl_bench.specs.State.{State}
+use Rattle.sbl_bench.specs.Contents.{Contents}
 use Rattle.snowbench.specs.Held.{fault_of, input_of, line_of}
 use Rattle.snowbench.specs.Session.{IsSession}
 use Rattle.snowbench.proofs.SessionFacts.{session_starts, session_goes_on, session_ends, session_at_line, session_at_write, session_open}
@@ -20,7 +20,7 @@ loop-bench-init g c = record { session = session_starts _ _ _; fault = refl; rea
 pub loop-bench-preserved-in_ok-write_reply : goal.loop-bench-preserved-in_ok-write_reply
 loop-bench-preserved-in_ok-write_reply g c = record {
   session =
-      session_goes_on _ (input_of g.R.Source.left c.loop-bench.lines) (input_of g.R.Source.left c.next_line.new.self) _ _ (g.W.Sink.held c.loop-bench.writer) _ _ (state_of c.loop-bench.bench) _ _ c.in_ok-reply.reply
+      session_goes_on _ (input_of g.R.Source.left c.loop-bench.lines) (input_of g.R.Source.left c.next_line.new.self) _ _ (g.W.Sink.held c.loop-bench.writer) _ _ (contents_of c.loop-bench.bench) _ _ c.in_ok-reply.reply
       c.loop-bench.invariant.session (c.in_ok-next_line.ensures.more c.if-branch.true) (c.in_ok-next_line.ensures.fits c.if-branch.true) c.in_ok-reply.ensures.answered c.in_ok-write_reply.ensures.all;
   fault = c.in_ok-reply.ensures.remembered ∙ sym c.in_ok-next_line.ensures.ready.0 ∙ c.loop-bench.invariant.fault;
   read = c.in_ok-reply.ensures.steady ∙ c.in_ok-next_line.ensures.steady ∙ c.loop-bench.invariant.read;
@@ -32,7 +32,7 @@ loop-bench-preserved-in_ok-write_reply g c = record {
 pub loop-bench-preserved : goal.loop-bench-preserved
 loop-bench-preserved g c = record {
   session =
-      session_goes_on _ (input_of g.R.Source.left c.loop-bench.lines) (input_of g.R.Source.left c.next_line.new.self) _ _ (g.W.Sink.held c.loop-bench.writer) _ _ (state_of c.loop-bench.bench) _ _ c.in_ok-reply.reply
+      session_goes_on _ (input_of g.R.Source.left c.loop-bench.lines) (input_of g.R.Source.left c.next_line.new.self) _ _ (g.W.Sink.held c.loop-bench.writer) _ _ (contents_of c.loop-bench.bench) _ _ c.in_ok-reply.reply
       c.loop-bench.invariant.session (c.in_ok-next_line.ensures.more c.if-branch.true) (c.in_ok-next_line.ensures.fits c.if-branch.true) c.in_ok-reply.ensures.answered c.in_ok-write_reply.ensures.all;
   fault = c.in_ok-reply.ensures.remembered ∙ sym c.in_ok-next_line.ensures.ready.0 ∙ c.loop-bench.invariant.fault;
   read = c.in_ok-reply.ensures.steady ∙ c.in_ok-next_line.ensures.steady ∙ c.loop-bench.invariant.read;
@@ -61,7 +61,7 @@ returns-in_err-reply-clause-session g c = λ _.
     let p = err_from_is_err_and c.from_residual-in_err-reply.result c.from_residual-in_err-reply.ensures.1 in
     let broken = c.in_err-reply.ensures.broken in
     rw (p.1, p.2)
-    (subst (λ (x : State). IsSession (input_of left c.args.lines.now) (input_of left c.answer.new.lines) (held c.args.writer.now) (held c.loop-bench.writer) (state_of c.args.bench.now) x (Err f)) (sym broken.1)
+    (subst (λ (x : Contents). IsSession (input_of left c.args.lines.now) (input_of left c.answer.new.lines) (held c.args.writer.now) (held c.loop-bench.writer) (contents_of c.args.bench.now) x (Err f)) (sym broken.1)
     (session_open _ (input_of left c.loop-bench.lines) (input_of left c.next_line.new.self) _ _ _ _ _ (line_of c.next_line.new.self) f c.loop-bench.invariant.session
     (c.in_ok-next_line.ensures.more c.if-branch.true) (c.in_ok-next_line.ensures.fits c.if-branch.true) broken.0.0 broken.0.1))
 
@@ -70,5 +70,5 @@ returns-in_err-write_reply-clause-session g c = λ _.
     let left = g.R.Source.left in
     let held = g.W.Sink.held in
     let wrote : c.from_residual-in_err-write_reply.result ≡ Err fault.Write = search rules in
-    rw wrote (session_at_write _ (input_of left c.loop-bench.lines) (input_of left c.next_line.new.self) _ _ (held c.loop-bench.writer) _ _ (state_of c.loop-bench.bench) _ (line_of c.next_line.new.self) c.in_ok-reply.reply
+    rw wrote (session_at_write _ (input_of left c.loop-bench.lines) (input_of left c.next_line.new.self) _ _ (held c.loop-bench.writer) _ _ (contents_of c.loop-bench.bench) _ (line_of c.next_line.new.self) c.in_ok-reply.reply
     c.write_reply.ensures.front.0 c.loop-bench.invariant.session (c.in_ok-next_line.ensures.more c.if-branch.true) (c.in_ok-next_line.ensures.fits c.if-branch.true) c.in_ok-reply.ensures.answered c.write_reply.ensures.front.1)

@@ -1,18 +1,18 @@
 use Rattle.std.proofs.Common.{◌≡◌, IsSome}
 use Rattle.std.specs.Io.KnownBytes.{Keeps}
-use Rattle.sbl_bench.specs.Kept.{state_of}
+use Rattle.sbl_bench.specs.Kept.{contents_of}
 use Rattle.snowbench.specs.Held.{fault_of, fuel_of, input_of, reads_bound}
 use Rattle.snowbench.specs.Session.{SoFar}
 use Rattle.snowbench.proofs.serving.serve.Given as goal
 
 abbrev pub invariant-loop-bench : goal.invariant-loop-bench
 invariant-loop-bench g l = record {
-  session : SoFar (input_of g.R.Source.left l.fn.lines) (input_of g.R.Source.left l.lines) (g.W.Sink.held l.fn.writer) (g.W.Sink.held l.writer) (state_of l.fn.bench) (state_of l.bench);
+  session : SoFar (input_of g.R.Source.left l.fn.lines) (input_of g.R.Source.left l.lines) (g.W.Sink.held l.fn.writer) (g.W.Sink.held l.writer) (contents_of l.fn.bench) (contents_of l.bench);
   fault : fault_of l.lines ≡ fault_of l.fn.lines;
   read : g.R.Source.failures l.lines.reader ≡ g.R.Source.failures l.fn.lines.reader;
   written : g.W.Sink.failures l.writer ≡ g.W.Sink.failures l.fn.writer;
   bound : reads_bound g.R.Source.reads l.lines ≡ reads_bound g.R.Source.reads l.fn.lines;
-  untouched : IsSome (fault_of l.fn.lines) → (state_of l.bench ≡ state_of l.fn.bench) × Keeps (g.W.Sink.held l.fn.writer) (g.W.Sink.held l.writer)
+  untouched : IsSome (fault_of l.fn.lines) → (contents_of l.bench ≡ contents_of l.fn.bench) × Keeps (g.W.Sink.held l.fn.writer) (g.W.Sink.held l.writer)
       × Keeps (input_of g.R.Source.left l.fn.lines) (input_of g.R.Source.left l.lines);
 }
 

@@ -1,6 +1,6 @@
 use Rattle.std.proofs.Common.{◌∙◌, List, ap, map}
 use Rattle.sbl_script.specs.Parsed.{source_of}
-use Rattle.sbl_bench.specs.Kept.{Entry, Kept}
+use Rattle.sbl_bench.specs.Kept.{KeptWord, Kept}
 use Rattle.sbl_bench.specs.Rows.{rows_of}
 use Rattle.sbl_bench.proofs.Words.{shown, rows_shown}
 use Rattle.sbl_bench.proofs.bench.Bench.rows.Goals as goal
@@ -9,6 +9,6 @@ pub loop-word-init : goal.loop-word-init
 loop-word-init c =
     let es = c.self.inside.outcomes.entries in
     rw c.in_ok-rows.ensures.items (
-    ap (λ (l : List Entry). map shown l) (c.into_iter-word-iterator.ensures.into_iter_gives ∙ c.iter-word-items.ensures.rest)
+    ap (λ (l : List KeptWord). map shown l) (c.into_iter-word-iterator.ensures.into_iter_gives ∙ c.iter-word-items.ensures.rest)
     ∙ rows_shown (source_of c.self.inside.script) es c.self.invariant.1.fresh
     ∙ ap (λ (k : Kept). rows_of (source_of k.script) k.words) c.self.view_is)

@@ -2,7 +2,7 @@ use Rattle.std.proofs.Common.{map, ap, ◌∙◌, ℕ}
 use Rattle.sbl_program.specs.Listed.{Listed}
 use Rattle.sbl_machine.specs.MachineOf.{IsMachineOf}
 use Rattle.sbl_program.specs.NumberedView.{listing_found}
-use Rattle.sbl_program.specs.PlanOf.{plan_of}
+use Rattle.sbl_program.specs.ProgramOf.{program_of}
 use Rattle.sbl_machine.proofs.NumberingTables.{same_tables}
 use Rattle.sbl_machine.proofs.machine.Machine.new.Goals as goal
 
@@ -11,4 +11,4 @@ unfolding IsMachineOf
 returns g c =
     let made = c.in_ok-program.field-0 in
     let tables = c.in_ok-tables.ensures ∙ ap (map listing_found) c.deref.ensures.value in
-    ap (λ (T : ℕ → Listed). plan_of T made.program) (same_tables _ g.S.AmongSearch.entries g.S.AmongSearch.mode c.in_ok-tables.tables.items made.amongs.items tables) ∙ c.in_ok-program.ensures
+    ap (λ (T : ℕ → Listed). program_of T made.program) (same_tables _ g.S.AmongSearch.entries g.S.AmongSearch.mode c.in_ok-tables.tables.items made.amongs.items tables) ∙ c.in_ok-program.ensures

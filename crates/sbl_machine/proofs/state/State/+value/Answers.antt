@@ -1,7 +1,7 @@
 use Rattle.std.proofs.Common.{◌≡◌, ◌+◌, drop, map, Ok, Err, sym, ap, ◌∙◌, rules}
 use Rattle.sbl_machine.specs.Numbers.{value, with_both}
 use Rattle.sbl_machine.specs.Rows.{product_of, scales_to, sum_of, sums_to}
-use Rattle.sbl_program.specs.PlanOf.{view_added, view_number, view_scaled}
+use Rattle.sbl_program.specs.ProgramOf.{view_added, view_number, view_scaled}
 use Rattle.sbl_machine.proofs.Rows.{part_is, product_value, scales_stop, sum_value, sums_stop}
 use Rattle.sbl_machine.proofs.state.State.+value.Goals as goal
 

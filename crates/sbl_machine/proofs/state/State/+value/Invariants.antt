@@ -1,5 +1,5 @@
 use Rattle.std.proofs.Common.{◌≡◌, drop, map, Ok}
-use Rattle.sbl_program.specs.PlanOf.{view_added, view_scaled}
+use Rattle.sbl_program.specs.ProgramOf.{view_added, view_scaled}
 use Rattle.sbl_machine.specs.Rows.{scales_to, sums_to}
 use Rattle.sbl_machine.proofs.state.State.+value.Given as goal
 

@@ -3,7 +3,7 @@ use Rattle.std.specs.Prelude.{slice_get}
 use Rattle.std.proofs.lemmas.Option.{slice_get_read, slice_get_past}
 use Rattle.sbl_tables.specs.Fitting.{first, ahead_at}
 use Rattle.sbl_machine.specs.Listing.{fits_at, listed_by}
-use Rattle.sbl_script.specs.declared.marks.Mode.TheVariants.{Forward}
+use Rattle.sbl_tree.specs.declared.mode.Mode.TheVariants.{Forward}
 use Rattle.sbl_machine.proofs.Nothing.{none_fits}
 use Rattle.sbl_machine.proofs.table.TableListTables.longest.Goals as goal
 

@@ -1,6 +1,6 @@
 use Rattle.std.proofs.Common.{inl, inr}
 use Rattle.std.proofs.lemmas.Result.{err_from_is_err_and}
-use Rattle.sbl_text.specs.States.{start}
+use Rattle.sbl_text.specs.Directives.{start}
 use Rattle.sbl_script.proofs.script.Script.parse.Goals as goal
 
 pub returns-in_err-text-clause-fault : goal.returns-in_err-text-clause-fault

@@ -7,8 +7,8 @@ use Rattle.sbl_grammar.specs.Amongs.{Held, amongs_of_body}
 use Rattle.sbl_grammar.specs.Places.{places}
 use Rattle.sbl_grammar.specs.Reading.{AreShallow, IsReadAs}
 use Rattle.sbl_grammar.specs.Texts as texts
-use Rattle.sbl_grammar.specs.Tree.{Item}
-use Rattle.sbl_grammar.specs.View.{RowView, view_among, view_items, view_row}
+use Rattle.sbl_tree.specs.Tree.{Item}
+use Rattle.sbl_tree.specs.View.{RowView, view_among, view_items, view_row}
 use Rattle.sbl_script.specs.Checks.{fault_of}
 use Rattle.sbl_script.specs.Parsed.{source_of}
 use Rattle.sbl_script.specs.Reading.{IsUnread, first_left_out, terminals}

@@ -1,8 +1,8 @@
 use Rattle.std.proofs.Common.{rules, ◌≡◌, List, sym, subst}
 use Rattle.sbl_grammar.specs.Places.{places}
 use Rattle.sbl_grammar.specs.Reading.{AreShallow}
-use Rattle.sbl_grammar.specs.Tree.{Item}
-use Rattle.sbl_grammar.specs.View.{view_items, view_row}
+use Rattle.sbl_tree.specs.Tree.{Item}
+use Rattle.sbl_tree.specs.View.{view_items, view_row}
 use Rattle.sbl_script.specs.Edits.{items_with}
 use Rattle.sbl_script.proofs.Shallow.{items_shallow}
 use Rattle.sbl_script.proofs.script.Script.with_body.Goals as goal

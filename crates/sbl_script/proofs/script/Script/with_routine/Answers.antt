@@ -5,7 +5,7 @@ use Rattle.sbl_text.specs.declared.token.Token.{Token}
 use Rattle.sbl_text.specs.Tokens.{placed_of}
 use Rattle.sbl_grammar.specs.Reading.{IsReadAs}
 use Rattle.sbl_grammar.specs.Texts as texts
-use Rattle.sbl_grammar.specs.View.{view_row}
+use Rattle.sbl_tree.specs.View.{view_row}
 use Rattle.sbl_script.specs.Parsed.{source_of}
 use Rattle.sbl_script.specs.Reading.{IsUnread, first_left_out, terminals}
 use Rattle.sbl_script.specs.Edits.{body, home_of_body, routine_of}

@@ -1,0 +1,78 @@
+-- What the tokens so far have set.
+use Rattle.std.specs.Str.{chars}
+use Rattle.std.specs.Prelude.{ℕ, true, false, List, Option, Some, None}
+use Rattle.sbl_text.specs.declared.pieces.Wanted.{Wanted}
+use Rattle.sbl_text.specs.declared.pieces.Wanted.TheVariants as wanted
+use Rattle.sbl_text.specs.declared.directives.Coding.{Coding}
+use Rattle.sbl_text.specs.declared.directives.Coding.TheVariants as coding
+use Rattle.sbl_text.specs.declared.words.Word.{Word}
+use Rattle.sbl_text.specs.declared.words.Word.TheVariants as reserved
+use Rattle.sbl_text.specs.Codes.{codes_of}
+use Rattle.sbl_text.specs.Escapes.{InForce, nothing_set, with_inserts, with_macro}
+use Rattle.sbl_text.specs.Lexemes.{Lexeme, word, literal, inserts, macro_name}
+use Rattle.sbl_text.specs.Pieces.{Setting, setting}
+
+-- a macro whose value is still to come
+pub record Defining : Type 0 where
+  pub name : List ℕ
+  pub coding : Coding
+
+-- what is in force in literals, what may come next, and the macro that is being defined
+pub record Directives : Type 0 where
+  pub escapes : InForce
+  pub wanted : Wanted
+  pub defining : Option Defining
+
+abbrev pub setting_of : Directives → Setting
+setting_of s = setting s.escapes.inserts s.wanted
+
+abbrev pub start_under : InForce → Directives
+start_under e = record { escapes = e; wanted = wanted.Token; defining = None }
+
+abbrev pub start : Directives
+start = start_under nothing_set
+
+-- the value that a literal gives to a macro
+abbrev pub coded : Coding → List ℕ → Option (List ℕ)
+coded coding.Plain v = Some v
+coded coding.Hex v = codes_of true v
+coded coding.Decimal v = codes_of false v
+
+abbrev pub value_for : Option Defining → List ℕ → Option (List ℕ)
+value_for None v = Some v
+value_for (Some d) v = coded d.coding v
+
+abbrev pub recoded_by : List ℕ → Coding → Coding → Option Defining
+recoded_by n coding.Plain k = Some (record { name = n; coding = k })
+recoded_by n _ k = None
+
+-- `hex` or `decimal` before the literal
+abbrev pub recoded : Option Defining → Coding → Option Defining
+recoded None k = None
+recoded (Some d) k = recoded_by d.name d.coding k
+
+abbrev pub settled : InForce → Directives
+settled e = record { escapes = e; wanted = wanted.Token; defining = None }
+
+abbrev pub after_word : Directives → Word → Directives
+after_word s reserved.StringEscapes = record { escapes = s.escapes; wanted = wanted.Inserts; defining = None }
+after_word s reserved.StringDef = record { escapes = s.escapes; wanted = wanted.MacroName; defining = None }
+after_word s reserved.Hex = record { escapes = s.escapes; wanted = wanted.Token; defining = recoded s.defining coding.Hex }
+after_word s reserved.Decimal = record { escapes = s.escapes; wanted = wanted.Token; defining = recoded s.defining coding.Decimal }
+after_word s _ = settled s.escapes
+
+abbrev pub defined_as : InForce → List ℕ → Option (List ℕ) → InForce
+defined_as e n None = e
+defined_as e n (Some v) = with_macro e n v
+
+abbrev pub defined_by : InForce → Option Defining → List ℕ → InForce
+defined_by e None v = e
+defined_by e (Some d) v = defined_as e d.name (coded d.coding v)
+
+-- what a token sets: a word asks for insert characters or a macro's name, which ask for its literal
+abbrev pub after : Directives → Lexeme → Directives
+after s (word w) = after_word s w
+after s (literal spelling v) = settled (defined_by s.escapes s.defining v)
+after s (inserts a b) = settled (with_inserts s.escapes a b)
+after s (macro_name n) = record { escapes = s.escapes; wanted = wanted.Token; defining = Some (record { name = chars n; coding = coding.Plain }) }
+after s _ = settled s.escapes

@@ -1,0 +1,221 @@
+//! What the tokens so far have set.
+
+ghost use Rattle.std.specs.Prelude.{◌≡◌, ◌⊎◌, List, ℕ, MatchResult, option_map, Some, None};
+ghost use Rattle.std.specs.Str.{chars};
+ghost use Rattle.sbl_text.specs.Lexemes.{characters_in, inserts_in};
+ghost use Rattle.sbl_text.specs.Escapes.{with_inserts};
+ghost use Rattle.sbl_text.specs.Directives as spec;
+
+use crate::codes::codes;
+use crate::escapes::Escapes;
+use crate::fault::ScriptFault;
+use crate::pieces::Wanted;
+use crate::token::{Kind, Token, Value};
+use crate::words::Word;
+use std::alloc::Global;
+use std::marker::Model;
+
+/// How the literal of a macro is read: as it stands, or as the codes of characters.
+#[derive(Clone, Copy, Debug, PartialEq, Eq)]
+pub enum Coding {
+    Plain,
+    Hex,
+    Decimal,
+}
+
+/// A macro whose value is still to come.
+#[derive(Clone, Copy, Debug)]
+struct Defining<'a> {
+    name: &'a str,
+    coding: Coding,
+}
+
+/// What is in force in literals, what may come next, and the macro that is being defined.
+#[derive(Drop)]
+pub struct Directives<'a> {
+    escapes: Escapes,
+    wanted: Wanted,
+    defining: Option<Defining<'a>>,
+}
+
+impl<'a> Model for Directives<'a> {
+    ghost Value = { spec.Directives };
+
+    ghost view = { λ s. record { escapes = s.escapes; wanted = s.wanted; defining = option_map (λ d. record { name = chars d.name.now; coding = d.coding }) s.defining } };
+}
+
+fn recoded<'a>(defining: Option<Defining<'a>>, coding: Coding) -> Option<Defining<'a>>
+    ensures { option_map (λ d. record { name = chars d.name.now; coding = d.coding }) result ≡ spec.recoded (option_map (λ d. record { name = chars d.name.now; coding = d.coding }) defining.entry) coding }
+{
+    match defining {
+        Some(
+            Defining {
+                name,
+                coding: Coding::Plain,
+            },
+        ) => Some(Defining { name, coding }),
+        _ => None,
+    }
+}
+
+/// The value that a literal gives to a macro.
+fn coded(
+    alloc: Global,
+    coding: Coding,
+    characters: &[char],
+    place: usize,
+) -> Result<Vec<char>, ScriptFault>
+    ensures { MatchResult result (λ v. spec.coded coding characters.now ≡ Some v.items) (λ f. (f ≡ ScriptFault.OutOfMemory) ⊎ ((spec.coded coding characters.now ≡ None) × (f ≡ ScriptFault.BadCode place))) }
+{
+    match coding {
+        Coding::Plain => match Vec::from_slice(alloc, characters) {
+            Ok(value) => Ok(value),
+            Err(_) => Err(ScriptFault::OutOfMemory),
+        },
+        Coding::Hex => codes(alloc, 16, 6, characters, place),
+        Coding::Decimal => codes(alloc, 10, 7, characters, place),
+    }
+}
+
+/// The characters of a literal.
+fn characters_of<'b>(value: &'b Value<'_>) -> &'b [char]
+    ensures { result.now ≡ characters_in value.now }
+{
+    match value {
+        Value::Literal { value, .. } => value.as_slice(),
+        _ => &[],
+    }
+}
+
+/// The two insert characters.
+fn inserts_of(value: &Value<'_>) -> (char, char)
+    ensures { result ≡ inserts_in value.now }
+{
+    match value {
+        Value::Inserts(a, b) => (*a, *b),
+        _ => ('\0', '\0'),
+    }
+}
+
+impl<'a> Directives<'a> {
+    ghost use Rattle.sbl_text.specs.Lexemes.{lexeme_of};
+    ghost use Rattle.sbl_text.specs.Tokens.{HasValue, LacksValue};
+
+    /// At the front of a text.
+    pub fn new(escapes: Escapes) -> Directives<'a>
+        ensures { result ≡ spec.start_under escapes }
+    {
+        Directives {
+            escapes,
+            wanted: Wanted::Token,
+            defining: None,
+        }
+    }
+
+    /// What is in force in literals.
+    pub fn escapes(&self) -> &Escapes
+        ensures { result.now ≡ self.now.escapes }
+    {
+        &self.escapes
+    }
+
+    /// What may come next.
+    pub fn wanted(&self) -> Wanted
+        ensures { result ≡ self.now.wanted }
+    {
+        self.wanted
+    }
+
+    fn settle(&mut self)
+        ensures { self.new ≡ spec.settled self.old.escapes }
+    {
+        self.wanted = Wanted::Token;
+        self.defining = None;
+    }
+
+    /// After a reserved word.
+    pub fn after_word(&mut self, word: Word)
+        ensures { self.new ≡ spec.after_word self.old word }
+    {
+        match word {
+            Word::StringEscapes => {
+                self.wanted = Wanted::Inserts;
+                self.defining = None;
+            }
+            Word::StringDef => {
+                self.wanted = Wanted::MacroName;
+                self.defining = None;
+            }
+            Word::Hex => {
+                self.wanted = Wanted::Token;
+                self.defining = recoded(self.defining, Coding::Hex);
+            }
+            Word::Decimal => {
+                self.wanted = Wanted::Token;
+                self.defining = recoded(self.defining, Coding::Decimal);
+            }
+            _ => self.settle(),
+        }
+    }
+
+    /// After the insert characters.
+    pub fn after_inserts(&mut self, pair: (char, char))
+        ensures { self.new ≡ spec.settled (with_inserts self.old.escapes pair.0 pair.1) }
+    {
+        self.escapes.set(pair.0, pair.1);
+        self.settle();
+    }
+
+    /// After the name of a macro.
+    pub fn after_name(&mut self, name: &'a str)
+        ensures { self.new ≡ record { escapes = self.old.escapes; wanted = Wanted.Token; defining = Some (record { name = chars name.now; coding = Coding.Plain }) } }
+    {
+        self.wanted = Wanted::Token;
+        self.defining = Some(Defining {
+            name,
+            coding: Coding::Plain,
+        });
+    }
+
+    /// After a literal that means these characters: it may define a macro.
+    pub fn after_literal(
+        &mut self,
+        alloc: Global,
+        characters: &[char],
+        place: usize,
+    ) -> Result<(), ScriptFault>
+        ensures { MatchResult result (λ _. (w : List ℕ) × (spec.value_for self.old.defining characters.now ≡ Some w) × (self.new ≡ spec.settled (spec.defined_by self.old.escapes self.old.defining characters.now))) (λ f. (self.new ≡ self.old) × ((f ≡ ScriptFault.OutOfMemory) ⊎ ((spec.value_for self.old.defining characters.now ≡ None) × (f ≡ ScriptFault.BadCode place)))) }
+    {
+        match self.defining {
+            None => {
+                self.settle();
+                Ok(())
+            }
+            Some(defining) => {
+                let value = coded(alloc, defining.coding, characters, place)?;
+                self.escapes.define(defining.name, &value)?;
+                self.settle();
+                Ok(())
+            }
+        }
+    }
+
+    /// After a token. Where it is the literal of a macro and gives it no value, `BadCode` at its front, and nothing is
+    /// set; nothing is set either where memory is refused.
+    pub fn after_token(&mut self, alloc: Global, token: &Token<'a>) -> Result<(), ScriptFault>
+        ensures { MatchResult result (λ _. HasValue self.old (lexeme_of token.now) × (self.new ≡ spec.after self.old (lexeme_of token.now))) (λ f. (self.new ≡ self.old) × ((f ≡ ScriptFault.OutOfMemory) ⊎ (LacksValue self.old (lexeme_of token.now) × (f ≡ ScriptFault.BadCode token.now.start)))) }
+    {
+        match token.kind {
+            Kind::Word(word) => self.after_word(word),
+            Kind::Inserts => self.after_inserts(inserts_of(&token.value)),
+            Kind::MacroName => self.after_name(token.text),
+            Kind::Literal => return self.after_literal(
+                alloc,
+                characters_of(&token.value),
+                token.start,
+            ),
+            Kind::Sign(_) | Kind::Name | Kind::Number => self.settle(),
+        }
+        Ok(())
+    }
+}

@@ -1,0 +1,3 @@
+pub mod Terminal
+pub mod Tree
+pub mod View
