@@ -5,17 +5,17 @@ use Rattle.std.proofs.lemmas.Grind.{common_steps}
 use Rattle.std.proofs.lemmas.Str.{IsUtf8-from_is_utf8, chars-encodes, length-le-encodes}
 use Rattle.std.specs.Str.{IsUtf8, chars, is_utf8}
 use Rattle.sbl_bench.specs.Contents.{Contents}
-use Rattle.sbl_bench.specs.Edits.{Edit, Edits, Add, Routine, IsAccepted, IsBrokenOff, IsMeterFull, IsOutOfMemory, IsRefused, IsVerdict, PassesTests, counted, refusal_of_add}
+use Rattle.sbl_bench.specs.Edits.{Edit, Edits, Add, Replace, IsAccepted, IsBrokenOff, IsMeterFull, IsOutOfMemory, IsRefused, IsVerdict, PassesTests, counted, refusal_of_add}
 use Rattle.sbl_bench.specs.declared.fault.EditFault.{EditFault}
 use Rattle.sbl_bench.specs.declared.fault.EditFault.TheVariants as fault
+use Rattle.sbl_script.specs.Edits.{ScriptEdit}
 use Rattle.sbl_text.specs.declared.fault.ScriptFault.{ScriptFault}
 use Rattle.sbl_text.specs.declared.fault.ScriptFault.TheVariants as script
 use Rattle.snowbench.specs.Answers.{BlockRefused, Enough, RefusedAfter, edit_text, ended}
 use Rattle.snowbench.specs.Block.{HasText, made_text, max_script}
 use Rattle.snowbench.specs.CommandViews.{IsEditAnswer, IsTextAnswer}
-use Rattle.snowbench.specs.Commands.{Command, block_command, text_of_block, with_text}
+use Rattle.snowbench.specs.Commands.{Command, block_command, target_of, target_of_text, text_of_block, with_target, with_text}
 use Rattle.snowbench.specs.Edits.{fault_in}
-use Rattle.snowbench.specs.Words.{argument}
 
 -- where memory was refused
 out_of_memory : (s t : Contents) (e : Edit) → IsOutOfMemory s e t → IsEditAnswer s e (edit_text (Some fault.OutOfMemory)) t
@@ -124,34 +124,47 @@ text_is lines few b is = let test : nat_lt max_script (length (made_text lines))
 text_long : (lines : List (List ℕ)) → max_script < length (made_text lines) → text_of_block lines ≡ Err script.ScriptTooLong
 text_long lines long = let test : nat_lt max_script (length (made_text lines)) ≡ true = grind (arith, nat_tests) in rw test refl
 
-command_is : (line : List ℕ) (lines : List (List ℕ)) → is_utf8 line ≡ true → block_command line lines ≡ with_text (Routine (argument line)) (text_of_block lines)
-command_is line lines utf8 = rw utf8 refl
+-- the line is no command
+bad_target : (s : Contents) (line : List ℕ) (lines : List (List ℕ)) → target_of line ≡ None → IsTextAnswer s (block_command line lines) (ended (codes "no 52 BadCommand")) s
+bad_target s line lines none = subst (λ (c : Command). IsTextAnswer s c (ended (codes "no 52 BadCommand")) s) (sym (ap (λ (t : Option ScriptEdit). with_target t lines) none)) (Enough, (refl, refl))
 
 -- the line is no text, whatever its block is
 pub bad_line : (s : Contents) (line : List ℕ) (lines : List (List ℕ)) → is_utf8 line ≡ false → IsTextAnswer s (block_command line lines) (ended (codes "no 52 BadCommand")) s
-bad_line s line lines bytes = rw bytes (Enough, (refl, refl))
+bad_line s line lines bytes = bad_target s line lines (rw bytes refl)
+
+-- what is replaced, by a line that is text
+target_is : (line : List ℕ) (t : Option ScriptEdit) → is_utf8 line ≡ true → t ≡ target_of_text line → target_of line ≡ t
+target_is line t utf8 is = rw utf8 (sym is)
+
+-- the line is text, and no command, whatever its block is
+pub bad_argument : (s : Contents) (line : List ℕ) (lines : List (List ℕ)) → is_utf8 line ≡ true → None ≡ target_of_text line → IsTextAnswer s (block_command line lines) (ended (codes "no 52 BadCommand")) s
+bad_argument s line lines utf8 none = bad_target s line lines (target_is line None utf8 none)
+
+command_is : (line : List ℕ) (lines : List (List ℕ)) (what : ScriptEdit) → is_utf8 line ≡ true → Some what ≡ target_of_text line → block_command line lines ≡ with_text what (text_of_block lines)
+command_is line lines what utf8 is = ap (λ (t : Option ScriptEdit). with_target t lines) (target_is line (Some what) utf8 is)
 
 -- the block is too long
-pub block_too_long : (s : Contents) (line : List ℕ) (lines : List (List ℕ)) → is_utf8 line ≡ true → max_script < length (made_text lines)
+pub block_too_long : (s : Contents) (line : List ℕ) (lines : List (List ℕ)) (what : ScriptEdit) → is_utf8 line ≡ true → Some what ≡ target_of_text line → max_script < length (made_text lines)
     → IsTextAnswer s (block_command line lines) (edit_text (Some (fault.Script script.ScriptTooLong))) s
-block_too_long s line lines utf8 long =
+block_too_long s line lines what utf8 is long =
     subst (λ (c : Command). IsTextAnswer s c (edit_text (Some (fault.Script script.ScriptTooLong))) s)
-    (sym (command_is line lines utf8 ∙ ap (with_text (Routine (argument line))) (text_long lines long))) (Enough, (refl, refl))
+    (sym (command_is line lines what utf8 is ∙ ap (with_text what) (text_long lines long))) (Enough, (refl, refl))
 
 -- the memory of the block was refused
-pub block_refused : (s : Contents) (line : List ℕ) (lines : List (List ℕ)) → is_utf8 line ≡ true → IsTextAnswer s (block_command line lines) (edit_text (Some fault.OutOfMemory)) s
-block_refused s line lines utf8 =
-    subst (λ (c : Command). IsTextAnswer s c (edit_text (Some fault.OutOfMemory)) s) (sym (command_is line lines utf8)) (by (text_of_block lines))
+pub block_refused : (s : Contents) (line : List ℕ) (lines : List (List ℕ)) (what : ScriptEdit) → is_utf8 line ≡ true → Some what ≡ target_of_text line
+    → IsTextAnswer s (block_command line lines) (edit_text (Some fault.OutOfMemory)) s
+block_refused s line lines what utf8 is =
+    subst (λ (c : Command). IsTextAnswer s c (edit_text (Some fault.OutOfMemory)) s) (sym (command_is line lines what utf8 is)) (by (text_of_block lines))
   where
-    by : (r : Result (List ℕ) ScriptFault) → IsTextAnswer s (with_text (Routine (argument line)) r) (edit_text (Some fault.OutOfMemory)) s
+    by : (r : Result (List ℕ) ScriptFault) → IsTextAnswer s (with_text what r) (edit_text (Some fault.OutOfMemory)) s
     by (Ok text) = (BlockRefused, (Some fault.OutOfMemory, (refl, refl, refl), refl))
     by (Err f) = (BlockRefused, (refl, refl))
 
 -- the block is held: it is a text, or it is not UTF-8
-pub block_held : (s t : Contents) (line bytes answer : List ℕ) (lines : List (List ℕ)) → is_utf8 line ≡ true → HasText None bytes lines
-    → (is_utf8 bytes ≡ true → IsEditAnswer s (Routine (argument line) bytes) answer t)
+pub block_held : (s t : Contents) (line bytes answer : List ℕ) (lines : List (List ℕ)) (what : ScriptEdit) → is_utf8 line ≡ true → Some what ≡ target_of_text line
+    → HasText None bytes lines → (is_utf8 bytes ≡ true → IsEditAnswer s (Replace what bytes) answer t)
     → (is_utf8 bytes ≡ false → (answer ≡ edit_text (Some (fault.Script script.NotUtf8))) × (t ≡ s)) → IsTextAnswer s (block_command line lines) answer t
-block_held s t line bytes answer lines utf8 holds text bad = by (is_utf8 bytes) refl
+block_held s t line bytes answer lines what utf8 target holds text bad = by (is_utf8 bytes) refl
   where
     same : (b : Bool) → is_utf8 bytes ≡ b → is_utf8 (made_text lines) ≡ b
     same b is = ap is_utf8 (sym holds.0) ∙ is
@@ -159,11 +172,11 @@ block_held s t line bytes answer lines utf8 holds text bad = by (is_utf8 bytes) 
     by : (b : Bool) → is_utf8 bytes ≡ b → IsTextAnswer s (block_command line lines) answer t
     by true is =
         subst (λ (c : Command). IsTextAnswer s c answer t)
-        (sym (command_is line lines utf8 ∙ ap (with_text (Routine (argument line))) (text_is lines holds.1 true (same true is) ∙ ap Ok (sym holds.0)))) (text is)
+        (sym (command_is line lines what utf8 target ∙ ap (with_text what) (text_is lines holds.1 true (same true is) ∙ ap Ok (sym holds.0)))) (text is)
     by false is =
         let refused = bad is in
         subst (λ (c : Command). IsTextAnswer s c answer t)
-        (sym (command_is line lines utf8 ∙ ap (with_text (Routine (argument line))) (text_is lines holds.1 false (same false is)))) (Enough, (refused.0, refused.1))
+        (sym (command_is line lines what utf8 target ∙ ap (with_text what) (text_is lines holds.1 false (same false is)))) (Enough, (refused.0, refused.1))
 
 -- bytes that are no text
 pub not_text : (bytes : List ℕ) → ¬ (IsUtf8 bytes) → is_utf8 bytes ≡ false

@@ -7,4 +7,5 @@ pub mod SessionFacts
 pub mod TextFacts
 pub mod CheckFacts
 pub mod CommandFacts
+pub mod NumberFacts
 pub mod OneAnswer

@@ -1,7 +1,8 @@
 -- A command and a reply, without where they lie in memory.
-use Rattle.std.specs.Prelude.{◌≡◌, ◌≤◌, ℕ, true, List, Option, ⊤, length}
+use Rattle.std.specs.Prelude.{◌≡◌, ◌≤◌, ℕ, true, List, Option, Some, None, ⊤, length}
 use Rattle.std.specs.Str.{chars}
 use Rattle.sbl_bench.specs.Edits as edits
+use Rattle.sbl_script.specs.Edits.{ScriptEdit, among, body}
 use Rattle.snowbench.specs.Commands as command
 use Rattle.sbl_bench.specs.Contents.{Contents}
 use Rattle.snowbench.specs.Answers.{IsReplyTo, Memory}
@@ -11,6 +12,8 @@ use Rattle.snowbench.specs.Requests.{IsRequest, asks_block, block_lines}
 use Rattle.snowbench.specs.declared.faults.ServeFault.{ServeFault}
 use Rattle.snowbench.specs.declared.commands.Command.{Command}
 use Rattle.snowbench.specs.declared.commands.Command.TheVariants as variants
+use Rattle.snowbench.specs.declared.commands.Target.{Target}
+use Rattle.snowbench.specs.declared.commands.Target.TheVariants as targets
 use Rattle.snowbench.specs.declared.replies.Reply.{Reply}
 use Rattle.snowbench.specs.declared.replies.Reply.TheVariants as reply
 
@@ -22,6 +25,16 @@ view_command variants.Stems = command.Stems
 view_command variants.Classes = command.Classes
 view_command (variants.Class word) = command.Class (chars word.now)
 view_command variants.Bad = command.Bad
+
+-- what is to be replaced in the script
+abbrev pub view_target : Target → ScriptEdit
+view_target (targets.Body name) = body name.now
+view_target (targets.Among name k) = among name.now k
+
+-- none where the line is bad
+abbrev pub view_found : Option Target → Option ScriptEdit
+view_found None = None
+view_found (Some target) = Some (view_target target)
 
 -- its word has at most so many bytes
 abbrev pub WordFits : Command → ℕ → Type 0

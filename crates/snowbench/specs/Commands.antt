@@ -2,9 +2,11 @@
 use Rattle.std.specs.Prelude.{ℕ, Bool, true, false, List, [], ◌∷◌, codes, if◌then◌else◌, length, nat_lt, Option, Some, None, Result, Ok, Err}
 use Rattle.std.specs.Str.{bytes_eq, chars, is_utf8}
 use Rattle.sbl_bench.specs.Edits as edits
+use Rattle.sbl_script.specs.Edits.{ScriptEdit, among, body}
 use Rattle.sbl_text.specs.declared.fault.ScriptFault.{ScriptFault}
 use Rattle.sbl_text.specs.declared.fault.ScriptFault.TheVariants as fault
 use Rattle.snowbench.specs.Block.{made_text, max_script}
+use Rattle.snowbench.specs.Numbers.{number_in}
 use Rattle.snowbench.specs.Requests.{Request}
 use Rattle.snowbench.specs.Words.{argument, command_word}
 
@@ -42,21 +44,33 @@ text_of_block lines =
     if nat_lt max_script (length (made_text lines)) then Err fault.ScriptTooLong
     else (if is_utf8 (made_text lines) then Ok (made_text lines) else Err fault.NotUtf8)
 
-abbrev pub with_text : (List ℕ → edits.Edit) → Result (List ℕ) ScriptFault → Command
-with_text edit (Ok text) = Makes (edit text)
-with_text edit (Err f) = HasNoText f
+-- the among of this number in this routine
+abbrev pub numbered : List ℕ → Option ℕ → Option ScriptEdit
+numbered name None = None
+numbered name (Some k) = Some (among name k)
 
--- the edit of the script that a line asks for, once it has a text; none where the line is bad
-abbrev pub edit_of : List ℕ → Option (List ℕ → edits.Edit)
-edit_of line = if is_utf8 line then Some (edits.Routine (argument line)) else None
+-- what a line that is text asks to have replaced: the body of the routine that is its argument; or an among, where the argument
+-- is a name, a space and a number; none where the line is bad
+abbrev pub target_of_text : List ℕ → Option ScriptEdit
+target_of_text line =
+    if bytes_eq (command_word line) (codes "among") then numbered (command_word (argument line)) (number_in (argument (argument line)))
+    else Some (body (argument line))
 
-abbrev pub with_edit : Option (List ℕ → edits.Edit) → List (List ℕ) → Command
-with_edit None lines = Bad
-with_edit (Some edit) lines = with_text edit (text_of_block lines)
+-- a line that is not UTF-8 is bad
+abbrev pub target_of : List ℕ → Option ScriptEdit
+target_of line = if is_utf8 line then target_of_text line else None
+
+abbrev pub with_text : ScriptEdit → Result (List ℕ) ScriptFault → Command
+with_text what (Ok text) = Makes (edits.Replace what text)
+with_text what (Err f) = HasNoText f
+
+abbrev pub with_target : Option ScriptEdit → List (List ℕ) → Command
+with_target None lines = Bad
+with_target (Some what) lines = with_text what (text_of_block lines)
 
 -- a bad line comes before a fault of its block
 abbrev pub block_command : List ℕ → List (List ℕ) → Command
-block_command line lines = with_edit (edit_of line) lines
+block_command line lines = with_target (target_of line) lines
 
 -- ---- both
 

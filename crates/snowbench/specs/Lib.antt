@@ -4,6 +4,7 @@ pub mod Faults
 pub mod LinesOf
 pub mod Held
 pub mod Words
+pub mod Numbers
 pub mod Block
 pub mod Requests
 pub mod Commands

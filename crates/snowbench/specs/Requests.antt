@@ -1,5 +1,5 @@
 -- The requests of a session: a line, and the block behind it where its word asks for one.
-use Rattle.std.specs.Prelude.{◌≡◌, ◌≤◌, ℕ, length, Bool, true, false, List, [], ◌∷◌, ◌++◌, Option, Some, None, ⊤, codes}
+use Rattle.std.specs.Prelude.{◌≡◌, ◌≤◌, ◌||◌, ℕ, length, Bool, true, false, List, [], ◌∷◌, ◌++◌, Option, Some, None, ⊤, codes}
 use Rattle.std.specs.List.{All, before_first, flat_map}
 use Rattle.std.specs.Str.{bytes_eq}
 use Rattle.snowbench.specs.Block.{BlockLines, NoPoint, point}
@@ -13,7 +13,7 @@ pub record Request : Type 0 where
 
 -- whether a block follows the line: its command word is that of an edit of the script
 abbrev pub asks_block : List ℕ → Bool
-asks_block line = bytes_eq (command_word line) (codes "routine")
+asks_block line = bytes_eq (command_word line) (codes "routine") || bytes_eq (command_word line) (codes "among")
 
 -- a block where one is asked for, up to its first point, and else none
 abbrev pub HasBlock : Bool → Option (List (List ℕ)) → Type 0

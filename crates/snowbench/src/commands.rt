@@ -3,7 +3,8 @@ ghost use Rattle.std.specs.Prelude.{◌≡◌, length};
 ghost use Rattle.snowbench.specs.Commands as spec;
 ghost use Rattle.snowbench.specs.Requests as requests;
 ghost use Rattle.snowbench.specs.Words as words;
-ghost use Rattle.snowbench.specs.CommandViews.{WordFits, view_command};
+ghost use Rattle.snowbench.specs.CommandViews.{WordFits, view_command, view_found};
+ghost use Rattle.snowbench.specs.Numbers as numbers;
 
 /// What a line without a block asks for.
 #[derive(Debug, Drop)]
@@ -65,8 +66,50 @@ fn text_command(text: &str) -> Command<'_>
     Command::Bad
 }
 
+/// What a line with a block asks to have replaced by the block's text.
+#[derive(Debug, Drop)]
+pub(crate) enum Target<'a> {
+    /// The body of the routine or external of this name.
+    Body(&'a str),
+    /// The among of this number in the routine or external of this name.
+    Among(&'a str, u64),
+}
+
+/// What a line that is text and asks for a block wants replaced; `None` where it is a bad command: the argument of `among` is a
+/// name, a space and a number.
+pub(crate) fn target_of(line: &str) -> Option<Target<'_>>
+    ensures { view_found result ≡ spec.target_of_text line.now }
+{
+    let argument = argument_of(line);
+    if command_word(line.as_bytes()) != b"among".as_slice() {
+        return Some(Target::Body(argument));
+    }
+    let (name, digits) = argument.split_once(' ')?;
+    Some(Target::Among(name, number_in(digits.as_bytes())?))
+}
+
+/// The number that one or more decimal digits write, and `u64::MAX` for each above it; `None` where the bytes are no such
+/// number.
+fn number_in(digits: &[u8]) -> Option<u64>
+    ensures { result ≡ numbers.number_in digits.now }
+{
+    if digits.is_empty() {
+        return None;
+    }
+    let mut number: u64 = 0;
+    for i in 0..digits.len() {
+        if !digits[i].is_ascii_digit() {
+            return None;
+        }
+        number = number
+            .saturating_mul(10)
+            .saturating_add(u64::from(digits[i] - b'0'));
+    }
+    Some(number)
+}
+
 /// The argument of a line: what stands after its first space.
-pub(crate) fn argument_of(line: &str) -> &str
+fn argument_of(line: &str) -> &str
     ensures { result.now ≡ words.argument line.now }
 {
     match line.split_once(' ') {
@@ -91,5 +134,6 @@ fn command_word(line: &[u8]) -> &[u8]
 pub(crate) fn asks_block(line: &[u8]) -> bool
     ensures { result ≡ requests.asks_block line.now }
 {
-    command_word(line) == b"routine".as_slice()
+    let word = command_word(line);
+    word == b"routine".as_slice() || word == b"among".as_slice()
 }

@@ -2,16 +2,15 @@
 ghost use Rattle.std.specs.Prelude.{◌≡◌, ◌≤◌, ℕ, List, Some, true, false, length, take};
 ghost use Rattle.std.specs.Str.{chars, is_utf8};
 ghost use Rattle.sbl_bench.specs.Kept.{contents_of};
-ghost use Rattle.sbl_bench.specs.Edits.{Add, Remove, Routine};
+ghost use Rattle.sbl_bench.specs.Edits.{Add, Remove, Replace};
 ghost use Rattle.snowbench.specs.Answers as spec;
 ghost use Rattle.snowbench.specs.Block.{HoldsText};
-ghost use Rattle.snowbench.specs.CommandViews.{IsEditAnswer, IsTextAnswer};
+ghost use Rattle.snowbench.specs.CommandViews.{IsEditAnswer, IsTextAnswer, view_target};
 ghost use Rattle.snowbench.specs.Commands.{block_command};
-ghost use Rattle.snowbench.specs.Words.{argument};
 ghost use Rattle.snowbench.specs.LinesOf.{max_line};
 
 use crate::block_text::{BlockFault, BlockText};
-use crate::commands::argument_of;
+use crate::commands::{Target, target_of};
 use crate::lines::MAX_LINE;
 use crate::replies::{BAD_COMMAND, edit_text};
 use sbl_bench::bench::MAX_WORD_LENGTH;
@@ -57,27 +56,33 @@ pub(crate) fn remove_word(bench: &mut Bench, word: &str) -> &'static str
     edit_text(bench.remove(&room[..count]))
 }
 
-/// Gives a routine this text for its body, and gives the answer. A text that is not UTF-8 is refused for that.
-fn replace_routine(bench: &mut Bench, name: &str, text: &[u8]) -> &'static str
-    ensures text { is_utf8 text.now ≡ true → IsEditAnswer (contents_of bench.old) (Routine name.now text.now) result.now (contents_of bench.new) }
+/// Puts this text in the place of its target, and gives the answer. A text that is not UTF-8 is refused for that.
+fn replace(bench: &mut Bench, target: Target<'_>, text: &[u8]) -> &'static str
+    ensures text { is_utf8 text.now ≡ true → IsEditAnswer (contents_of bench.old) (Replace (view_target target.entry) text.now) result.now (contents_of bench.new) }
     ensures bytes { is_utf8 text.now ≡ false → (result.now ≡ spec.edit_text (Some (EditFault.Script ScriptFault.NotUtf8))) × (contents_of bench.new ≡ contents_of bench.old) }
 {
-    match str::from_utf8(text) {
-        Ok(text) => edit_text(bench.replace_routine(name, text)),
-        Err(_) => edit_text(Err(EditFault::Script(ScriptFault::NotUtf8))),
+    let Ok(text) = str::from_utf8(text) else {
+        return edit_text(Err(EditFault::Script(ScriptFault::NotUtf8)));
+    };
+    match target {
+        Target::Body(name) => edit_text(bench.replace_routine(name, text)),
+        Target::Among(name, k) => edit_text(bench.replace_among(name, k, text)),
     }
 }
 
-/// Makes the edit of the script that a line and its block ask for, and gives the answer. A line that is not UTF-8 is bad,
-/// whatever its block is; then a fault of the block comes before any other.
+/// Makes the edit of the script that a line and its block ask for, and gives the answer. A line that is not UTF-8, and one of
+/// `among` without a name, a space and a number, is bad, whatever its block is; then a fault of the block comes before any other.
 pub(crate) fn edit_script(bench: &mut Bench, line: &[u8], block: BlockText) -> &'static str
     ensures { (lines : List (List ℕ)) → HoldsText block lines → IsTextAnswer (contents_of bench.old) (block_command line.now lines) result.now (contents_of bench.new) }
 {
     let Ok(line) = str::from_utf8(line) else {
         return BAD_COMMAND;
     };
+    let Some(target) = target_of(line) else {
+        return BAD_COMMAND;
+    };
     match block.whole() {
-        Ok(text) => replace_routine(bench, argument_of(line), &text),
+        Ok(text) => replace(bench, target, &text),
         Err(BlockFault::TooLong) => edit_text(Err(EditFault::Script(ScriptFault::ScriptTooLong))),
         Err(BlockFault::OutOfMemory) => edit_text(Err(EditFault::OutOfMemory)),
     }

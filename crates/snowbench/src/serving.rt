@@ -72,12 +72,12 @@ fn answer<R: Source + Drop>(bench: &mut Bench, lines: &mut Lines<R>) -> Result<R
     Ok(Reply::Fixed(edit_script(bench, &room[..count], block)))
 }
 
-/// Answers each request of the input in turn, to its end. A request is a line, and where its command word is `routine` the
-/// block behind it, lines up to a line `.`. An edit is made as its request is read, and its answer written before the next line
-/// is read. `add WORD`, `remove WORD` and `routine NAME` are answered `ok`, or `no` and the refusal's number and name; `stems`
-/// by a row for each word, `classes` by a row for each class, `class WORD` by the word's class, or its row where its run is
-/// refused, or `no 41 Absent`; an empty line by nothing, and any other line `no 52 BadCommand`. Where memory is refused the
-/// answer is `no 49 OutOfMemory`.
+/// Answers each request of the input in turn, to its end. A request is a line, and where its command word is `routine` or `among`
+/// the block behind it, lines up to a line `.`. An edit is made as its request is read, and its answer written before the next
+/// line is read. `add WORD`, `remove WORD`, `routine NAME` and `among NAME K` are answered `ok`, or `no` and the refusal's number
+/// and name; `stems` by a row for each word, `classes` by a row for each class, `class WORD` by the word's class, or its row
+/// where its run is refused, or `no 41 Absent`; an empty line by nothing, and any other line `no 52 BadCommand`. Where memory is
+/// refused the answer is `no 49 OutOfMemory`.
 ///
 /// # Errors
 ///

@@ -1,7 +1,6 @@
 use Rattle.snowbench.specs.declared.faults.ServeFault.TheVariants as fault
-use Rattle.std.proofs.Common.{take, rules, Err, ◌≡◌, ◌∙◌, ◌≤◌, arith, length, sym, subst, refl, List, ℕ, Option, None, IsSome}
+use Rattle.std.proofs.Common.{rules, Err, ◌≡◌, ◌∙◌, sym, subst, refl, Option, None, IsSome}
 use Rattle.snowbench.specs.declared.faults.LineFault.{LineFault}
-use Rattle.std.specs.Io.KnownBytes.{Appends}
 use Rattle.std.proofs.KnownBytes.{Keeps-refl}
 use Rattle.sbl_bench.specs.Kept.{contents_of}
 use Rattle.std.proofs.lemmas.Result.{err_from_is_err_and}
