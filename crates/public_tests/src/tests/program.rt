@@ -59,12 +59,7 @@ fn a_check_writes_a_row_for_each_difference(rt: HostRuntime) -> Result<(), Fail>
             b"3,undo,x,do\n5,undo,y,do\n",
             Ok(2),
         ),
-        (
-            b"a,b\n",
-            b"\"\n",
-            b"1,\"a,b\",\"\"\"\",\"a,b\"\n",
-            Ok(1),
-        ),
+        (b"a,b\n", b"\"\n", b"1,\"a,b\",\"\"\"\",\"a,b\"\n", Ok(1)),
     ];
     assert!(rt; checks_so(rt.alloc(), PREFIXES, &rows)?);
     Ok(())
