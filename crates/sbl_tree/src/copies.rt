@@ -149,7 +149,9 @@ pub fn copy_command(alloc: Global, command: &Command) -> Result<Command, AllocEr
         }
         Command::Move(word, place) => { Ok(Command::Move(*word, copy_expression(alloc, place)?)) }
         Command::Named(word, name) => Ok(Command::Named(*word, copy_name(alloc, name)?)),
-        Command::Splice(word, string) => { Ok(Command::Splice(*word, copy_argument(alloc, string)?)) }
+        Command::Splice(word, string) => {
+            Ok(Command::Splice(*word, copy_argument(alloc, string)?))
+        }
         Command::SetLimit(limit, inner) => {
             let limit = copy_command(alloc, limit)?;
             let inner = copy_command(alloc, inner)?;
