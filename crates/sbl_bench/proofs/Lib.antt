@@ -7,3 +7,4 @@ pub mod ClassFacts
 pub mod LastFacts
 pub mod ChangeFacts
 pub mod OneVerdict
+pub mod Replacing

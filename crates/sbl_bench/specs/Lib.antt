@@ -1,11 +1,13 @@
+-- what the contracts of public calls rest on
 pub mod Vocabulary
 pub mod Rows
 pub mod Contents
 pub mod Edits
 pub mod OneVerdict
 pub mod Names
+pub mod Classes
 pub mod Kept
+-- what the functions inside the crate promise each other: nothing in these need be believed
 pub mod Pairs
 pub mod Stops
-pub mod Classes
 pub mod Changes

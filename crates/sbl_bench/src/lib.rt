@@ -4,19 +4,20 @@
 //! row's word gives, at any time.
 #![tactic(auto)]
 
-pub mod bench;
-pub mod change;
-pub mod class;
-pub mod edit;
-pub mod fault;
+mod bench;
+mod change;
+mod class;
+mod edit;
+mod fault;
 pub mod laws;
-pub mod open;
-pub mod outcomes;
-pub mod pairs;
-pub mod row;
+mod open;
+mod outcomes;
+mod pairs;
+mod row;
 
-pub use bench::Bench;
+pub use bench::{Bench, MAX_WORD_LENGTH, MAX_WORDS};
 pub use class::Class;
 pub use fault::EditFault;
+pub use outcomes::MAX_STEPS;
 pub use row::Row;
 pub use sbl_script::ScriptFault;

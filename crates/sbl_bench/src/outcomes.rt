@@ -16,7 +16,7 @@ use std::alloc::Global;
 use std::collections::BTreeSet;
 
 /// The most steps of a run (our own choice).
-pub(crate) const MAX_STEPS: u32 = 100_000;
+pub const MAX_STEPS: u32 = 100_000;
 
 /// Whether the word is one of those that are kept. Takes no memory.
 pub(crate) fn has_word(outcomes: &IndexMap<Vec<char>, Outcome>, word: &[char]) -> bool

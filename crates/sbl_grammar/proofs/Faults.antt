@@ -12,7 +12,8 @@ use Rattle.sbl_tree.specs.Tree.{Expression, expression, Sums, no_sums, sum, Prod
 use Rattle.sbl_grammar.specs.Places.{AtDepth, placed_expression, placed_sums, placed_product, placed_scales, placed_factor, placed_entry, placed_entries, placed, placed_rows, placed_others, placed_starter, placed_groups, placed_names, placed_base, placed_terms, placed_plain, placed_plains, placed_item, placed_items, places, tokens, max_depth}
 use Rattle.sbl_grammar.specs.Steps.{Stack, Step, goes, stuck, unassigned, is_done, step, Fault, syntax, too_deep, no_operator, fault, after_step}
 use Rattle.sbl_grammar.specs.Reading.{IsFront, IsTooDeep, HasNoneTooDeep, IsReadAs, CannotFollow, LacksOperator, StopsAt, IsSyntaxAt, IsTooDeepAt, IsOutOfProfileAt}
-use Rattle.sbl_grammar.specs.Texts.{Text, TreeOf, places_in, tokens_of, first_stack}
+use Rattle.sbl_grammar.specs.Texts.{Text, TreeOf, places_in, tokens_of}
+use Rattle.sbl_grammar.specs.Fronts.{first_stack}
 use Rattle.sbl_grammar.specs.Texts as texts
 use Rattle.sbl_grammar.proofs.Runs.{Runs, IsDone, text_runs}
 use Rattle.sbl_grammar.proofs.Viable.{runs_made}

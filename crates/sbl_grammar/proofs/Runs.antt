@@ -8,7 +8,8 @@ use Rattle.sbl_tree.specs.Tree.{Argument, written_out, by_name, Expression, expr
 use Rattle.sbl_grammar.specs.Places.{AtDepth, placed_expression, placed_sums, placed_product, placed_scales, placed_factor, placed_entry, placed_entries, placed, placed_rows, placed_others, placed_starter, placed_groups, placed_names, placed_base, placed_terms, placed_plain, placed_plains, placed_item, placed_items, places}
 use Rattle.sbl_grammar.specs.Steps.{Symbol, Stack, Step, goes, stuck, unassigned, is_optional, is_done, behind, behind_sums, behind_scales, behind_others, behind_terms, behind_plain, behind_item, or_else, step}
 use Rattle.sbl_grammar.specs.Steps as s
-use Rattle.sbl_grammar.specs.Texts.{Text, TreeOf, places_in, first_stack}
+use Rattle.sbl_grammar.specs.Texts.{Text, TreeOf, places_in}
+use Rattle.sbl_grammar.specs.Fronts.{first_stack}
 use Rattle.sbl_grammar.specs.Texts as texts
 
 -- over tokens at their depths, from one stack to an end

@@ -1,12 +1,15 @@
-pub mod Roles
+-- what the contracts of public calls rest on
 pub mod Places
-pub mod Amongs
-pub mod Steps
 pub mod Texts
 pub mod Reading
+pub mod Told
+pub mod Amongs
+pub mod Laws
+-- what the functions inside the crate promise each other: nothing in these need be believed
+pub mod Roles
+pub mod Steps
+pub mod Fronts
 pub mod First
 pub mod Starts
 pub mod Found
 pub mod Gives
-pub mod Told
-pub mod Laws

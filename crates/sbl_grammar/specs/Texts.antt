@@ -3,8 +3,6 @@ use Rattle.std.specs.Prelude.{ℕ, List, [], ◌∷◌}
 use Rattle.sbl_tree.specs.Terminal.{Terminal}
 use Rattle.sbl_tree.specs.Tree.{Item, Command, Others, Starter, Groups, among_, Argument, Term, argument_terminal}
 use Rattle.sbl_grammar.specs.Places.{AtDepth, placed, placed_others, placed_terms, places, tokens}
-use Rattle.sbl_grammar.specs.Steps.{Stack, command, others, argument, items}
-use Rattle.sbl_grammar.specs.Steps as wanted
 
 -- a script; the body of a routine; the terms of a grouping; an among, at the depth where it comes to stand
 pub data Text : Type 0 where
@@ -27,10 +25,3 @@ places_in (among d) a = placed (among_ a.0 a.1) d []
 
 abbrev pub tokens_of : (t : Text) → TreeOf t → List Terminal
 tokens_of t x = tokens (places_in t x)
-
--- what is wanted at its front
-abbrev pub first_stack : Text → Stack
-first_stack script = items ∷ []
-first_stack body = command 1 ∷ others 1 ∷ []
-first_stack terms = argument 0 ∷ wanted.terms ∷ []
-first_stack (among d) = wanted.among d ∷ []

@@ -8,8 +8,10 @@ ghost use Rattle.sbl_grammar.specs.Texts.{body, places_in};
 ghost use Rattle.sbl_tree.specs.View.{view_among, view_command, view_groups, view_others, view_row, view_rows};
 ghost use Rattle.sbl_tree.specs.Tree as trees;
 
-use sbl_tree::{copy_among, copy_command, copy_entries, copy_entry, copy_expression};
-use sbl_tree::{Among, Command, Group, Joined, Row};
+use sbl_tree::{
+    Among, Command, Group, Joined, Row, copy_among, copy_command, copy_entries, copy_entry,
+    copy_expression,
+};
 use std::alloc::{AllocError, Global};
 
 /// A copy with `among` in the place of the `at`-th among, counted from 1, and `at` less the number of amongs.

@@ -9,12 +9,12 @@ ghost use Rattle.sbl_tree.specs.Tree.{spelled_expression, spelled_sums, spelled_
 ghost use Rattle.sbl_tree.specs.View.{view_expression, view_sums, view_product, view_scales, view_factor};
 ghost use Rattle.sbl_grammar.specs.Gives.{Gives};
 
-use crate::front::{behind, number, role, text};
 use crate::error::{MAX_DEPTH, ReadError, syntax, too_deep};
+use crate::front::{behind, number, role, text};
 use crate::role::Role;
 use crate::tokens::{argument, close};
-use sbl_tree::{Added, Additive, Expression, Factor, Product, Scaled};
 use sbl_text::Token;
+use sbl_tree::{Added, Additive, Expression, Factor, Product, Scaled};
 use std::alloc::Global;
 
 /// An arithmetic expression. A bracket or minus in it stands one deeper than `depth`.

@@ -12,15 +12,15 @@ ghost use Rattle.sbl_grammar.specs.Gives.{Gives};
 ghost use Rattle.std.specs.Prelude.{map};
 
 use crate::arithmetic::expression;
-use crate::front::{behind, literal, role, text};
 use crate::entries::{entries, entry};
 use crate::error::{MAX_DEPTH, ReadError, syntax, too_deep};
+use crate::front::{behind, literal, role, text};
 use crate::leaves::{dollar, edited, moved, named, non};
 use crate::role::Role;
 use crate::starts::begins_command;
 use crate::tokens::{close, for_word, open};
-use sbl_tree::{Among, Command, Count, Entry, Group, Joined, Prefix, Row};
 use sbl_text::Token;
+use sbl_tree::{Among, Command, Count, Entry, Group, Joined, Prefix, Row};
 use std::alloc::Global;
 
 /// One command. Its first token stands at `depth`.

@@ -9,11 +9,11 @@ ghost use Rattle.sbl_tree.specs.Tree.{spelled_condition, spelled_entry, spelled_
 ghost use Rattle.sbl_tree.specs.View.{view_name, view_entry};
 ghost use Rattle.sbl_grammar.specs.Gives.{Gives};
 
-use crate::front::{behind, literal, role, text};
 use crate::error::ReadError;
+use crate::front::{behind, literal, role, text};
 use crate::role::Role;
-use sbl_tree::Entry;
 use sbl_text::Token;
+use sbl_tree::Entry;
 use std::alloc::Global;
 
 /// A string's condition, where there is one.

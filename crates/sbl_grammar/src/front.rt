@@ -7,11 +7,11 @@ ghost use Rattle.sbl_grammar.specs.First.{kind_role, first_text, first_number, f
 ghost use Rattle.sbl_tree.specs.View.{view_literal};
 
 use crate::role::Role;
-use sbl_tree::{
-    Additive, Assignment, Base, Comparison, Constant, Count, DeclarationKind, Splice, Joiner,
-    Literal, Move, Multiplicative, Naming, Prefix, Simple,
-};
 use sbl_text::{Kind, Sign, Token, Value, Word};
+use sbl_tree::{
+    Additive, Assignment, Base, Comparison, Constant, Count, DeclarationKind, Joiner, Literal,
+    Move, Multiplicative, Naming, Prefix, Simple, Splice,
+};
 use std::alloc::{AllocError, Global};
 
 fn word_role(word: Word) -> Role

@@ -10,13 +10,13 @@ ghost use Rattle.sbl_tree.specs.View.{view_argument, view_literal, view_term, vi
 ghost use Rattle.sbl_grammar.specs.Gives.{Gives};
 
 use crate::commands::{command, others};
-use crate::front::{behind, inserts, literal, role, text};
 use crate::error::{ReadError, syntax};
+use crate::front::{behind, inserts, literal, role, text};
 use crate::role::Role;
 use crate::starts::{begins_argument, begins_item, begins_plain};
 use crate::tokens::{argument, close, name, open};
-use sbl_tree::{Argument, Base, DeclarationKind, Item, Literal, Plain, Row, Term};
 use sbl_text::Token;
+use sbl_tree::{Argument, Base, DeclarationKind, Item, Literal, Plain, Row, Term};
 use std::alloc::Global;
 
 /// Names, as many as come.

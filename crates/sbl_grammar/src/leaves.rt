@@ -10,12 +10,12 @@ ghost use Rattle.sbl_tree.specs.View.{view_command};
 ghost use Rattle.sbl_grammar.specs.Gives.{Gives};
 
 use crate::arithmetic::expression;
-use crate::front::{behind, role, text};
 use crate::error::{ReadError, out_of_profile, syntax};
+use crate::front::{behind, role, text};
 use crate::role::Role;
 use crate::tokens::{argument, close, comparison, name};
-use sbl_tree::{Additive, Command, Splice, Move, Naming};
 use sbl_text::Token;
+use sbl_tree::{Additive, Command, Move, Naming, Splice};
 use std::alloc::Global;
 
 /// `non G` and `non - G`

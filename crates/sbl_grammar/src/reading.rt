@@ -5,7 +5,8 @@ ghost use Rattle.sbl_text.specs.Lexemes.{Lexeme};
 ghost use Rattle.sbl_tree.specs.Terminal.{Terminal, terminals_of, terminal_of, lexeme_as};
 ghost use Rattle.sbl_tree.specs.Tree as trees;
 ghost use Rattle.sbl_tree.specs.Tree.{written};
-ghost use Rattle.sbl_grammar.specs.Texts.{script, body, first_stack};
+ghost use Rattle.sbl_grammar.specs.Texts.{script, body};
+ghost use Rattle.sbl_grammar.specs.Fronts.{first_stack};
 ghost use Rattle.sbl_grammar.specs.Texts as texts;
 ghost use Rattle.sbl_grammar.specs.Reading.{IsReadAs};
 ghost use Rattle.sbl_tree.specs.View.{view_among, view_argument, view_items, view_row, view_term};
@@ -18,13 +19,13 @@ ghost use Rattle.sbl_grammar.specs.Steps.{fault};
 ghost use Rattle.sbl_grammar.specs.Steps as wanted;
 
 use crate::commands::among;
-use crate::front::role;
 use crate::error::{Fault, ReadError, syntax};
+use crate::front::role;
 use crate::items::{items, row, terms};
 use crate::role::Role;
 use crate::tokens::argument;
-use sbl_tree::{Among, Argument, Item, Row, Term};
 use sbl_text::{ScriptFault, Token};
+use sbl_tree::{Among, Argument, Item, Row, Term};
 use std::alloc::Global;
 
 /// The byte at which a token begins, or the end where there is none.

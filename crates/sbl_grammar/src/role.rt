@@ -1,8 +1,8 @@
 //! The part that a token plays in the grammar.
 
 use sbl_tree::{
-    Additive, Assignment, Base, Comparison, Constant, Count, DeclarationKind, Splice, Joiner, Move,
-    Multiplicative, Naming, Prefix, Simple,
+    Additive, Assignment, Base, Comparison, Constant, Count, DeclarationKind, Joiner, Move,
+    Multiplicative, Naming, Prefix, Simple, Splice,
 };
 
 /// What may come at one place of the grammar, without its text or its value.

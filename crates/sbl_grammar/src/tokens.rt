@@ -9,11 +9,11 @@ ghost use Rattle.sbl_tree.specs.Tree.{argument_terminal};
 ghost use Rattle.sbl_tree.specs.View.{view_argument};
 ghost use Rattle.sbl_grammar.specs.Gives.{Gives};
 
-use crate::front::{behind, literal, role, text};
 use crate::error::{ReadError, syntax};
+use crate::front::{behind, literal, role, text};
 use crate::role::Role;
-use sbl_tree::{Argument, Comparison};
 use sbl_text::Token;
+use sbl_tree::{Argument, Comparison};
 use std::alloc::Global;
 
 /// `)`

@@ -1,16 +1,18 @@
+-- what the contracts of public calls rest on
 pub mod Names
-pub mod Listing
 pub mod State
 pub mod Moves
 pub mod Slices
 pub mod Numbers
-pub mod Actions
 pub mod Search
 pub mod Run
-pub mod Rows
 pub mod Meaning
 pub mod Outcome
-pub mod Sound
+pub mod Listing
 pub mod MachineOf
+pub mod Actions
+pub mod Sound
+-- what the functions inside the crate promise each other: nothing in these need be believed
+pub mod Rows
 pub mod Halts
 pub mod Kept

@@ -1,15 +1,15 @@
 //! The machine that runs Snowball scripts: what a run does to a word, step by step.
 #![tactic(auto)]
 
-pub mod fault;
+mod fault;
 mod halt;
 pub mod laws;
-pub mod machine;
-pub mod meter;
-pub mod outcome;
+mod machine;
+mod meter;
+mod outcome;
 mod run;
 mod state;
-pub mod table;
+mod table;
 
 pub use fault::{RunFault, RunStop};
 pub use machine::Machine;

@@ -14,11 +14,10 @@ use crate::outcome::{Outcome, Ran};
 use crate::run::run_call;
 use crate::state::State;
 use crate::table::{TableList, tables_of};
-use sbl_program::node::Program;
-use sbl_program::{Made, numbered};
+use sbl_program::{Made, Program, numbered};
 use sbl_script::Script;
-use sbl_tree::Mode;
 use sbl_tables::AmongSearch;
+use sbl_tree::Mode;
 use std::alloc::{AllocError, Global};
 
 /// How deep the calls of routines may go, the external counted as one.

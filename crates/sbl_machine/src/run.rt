@@ -13,10 +13,8 @@ use crate::halt::Halt;
 use crate::state::numbers::count_of;
 use crate::state::{SavedCursor, State};
 use crate::table::Tables;
-use sbl_tree::Joiner;
-use sbl_program::action::Arithmetic;
-use sbl_program::node::{Candidate, Joined, Node, Program};
-use sbl_tree::Mode;
+use sbl_program::{Arithmetic, Candidate, Joined, Node, Program};
+use sbl_tree::{Joiner, Mode};
 
 /// Runs a command: its signal, or why it has none.
 #[cycle(run)]

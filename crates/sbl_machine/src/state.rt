@@ -17,8 +17,7 @@ pub mod numbers;
 mod slices;
 
 use crate::halt::Halt;
-use sbl_program::action::StringTerm;
-use sbl_program::node::Program;
+use sbl_program::{Program, StringTerm};
 use sbl_tree::Mode;
 use std::alloc::{AllocError, Global};
 use std::marker::Model;

@@ -7,10 +7,9 @@ ghost use Rattle.sbl_program.specs.NumberedAmongs as spec;
 ghost use Rattle.sbl_program.specs.NumberedView.{view_names, view_placed, view_found, texts};
 ghost use Rattle.sbl_program.specs.Regions.{mode_behind as spec_mode_behind};
 
-use crate::names::{Names, ItemInMode, number_of};
+use crate::names::{ItemInMode, Names, number_of};
 use crate::node;
-use sbl_tree::{Among, Command, Entry, Group, Joined, Plain, Prefix, Row};
-use sbl_tree::Mode;
+use sbl_tree::{Among, Command, Entry, Group, Joined, Mode, Plain, Prefix, Row};
 use std::alloc::{AllocError, Global};
 
 /// An among.
@@ -327,7 +326,11 @@ fn find_plain(
 }
 
 /// The amongs of a script.
-pub fn amongs_of(alloc: Global, names: &Names, items: &[ItemInMode]) -> Result<Vec<Found>, AllocError>
+pub fn amongs_of(
+    alloc: Global,
+    names: &Names,
+    items: &[ItemInMode],
+) -> Result<Vec<Found>, AllocError>
     ensures { IfOk result (λ v. map view_found v.items ≡ spec.found_behind (view_names names.now) (map view_placed items.now) []) }
 {
     let mut all = Vec::new(alloc);

@@ -17,7 +17,10 @@ use crate::names::{Names, is_one_of, number_of};
 use crate::node::{self, Candidate, Node};
 use crate::numbers::{number_of_expression, text};
 use crate::place::{Position, begun, closed, inside, left_of, past_rows};
-use sbl_tree::{Among, Argument, Assignment, Command, Comparison, Count, Splice, Expression, Group, Joined, Joiner, Literal, Move, Naming, Prefix, Row, Simple};
+use sbl_tree::{
+    Among, Argument, Assignment, Command, Comparison, Count, Expression, Group, Joined, Joiner,
+    Literal, Move, Naming, Prefix, Row, Simple, Splice,
+};
 use std::alloc::{AllocError, Global};
 
 fn copied_entries(alloc: Global, entries: &[Candidate]) -> Result<Vec<Candidate>, AllocError>
@@ -39,7 +42,11 @@ fn next_number(amongs: &Vec<Found>, place: Position) -> usize
 }
 
 // What stands beside each string of the next among.
-fn next_entries(alloc: Global, amongs: &Vec<Found>, place: Position) -> Result<Vec<Candidate>, AllocError>
+fn next_entries(
+    alloc: Global,
+    amongs: &Vec<Found>,
+    place: Position,
+) -> Result<Vec<Candidate>, AllocError>
     ensures { IfOk result (λ v. v.items ≡ (spec.next_of (view_place amongs.now.items place).coming).entries) }
 {
     match amongs.get(place.next) {

@@ -1,16 +1,18 @@
 //! The program of a script: names are numbers, each `substring` is tied to its `among`, groupings are sets.
 #![tactic(auto)]
 
-pub mod action;
+mod action;
 mod amongs;
 mod commands;
 pub mod laws;
 mod names;
-pub mod node;
+mod node;
 mod numbers;
 mod place;
 mod program;
 mod sets;
 
+pub use action::{Action, Added, Arithmetic, Change, Relation, Scaled, StringTerm};
 pub use amongs::Found;
+pub use node::{Candidate, Joined, Node, Program, Routine};
 pub use program::{Made, numbered};

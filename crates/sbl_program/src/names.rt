@@ -5,8 +5,7 @@ ghost use Rattle.sbl_tree.specs.View.{view_items, view_plain};
 ghost use Rattle.sbl_program.specs.NumberedNames as spec;
 ghost use Rattle.sbl_program.specs.NumberedView.{view_names, view_placed};
 
-use sbl_tree::{DeclarationKind, Item, Plain};
-use sbl_tree::Mode;
+use sbl_tree::{DeclarationKind, Item, Mode, Plain};
 use std::alloc::{AllocError, Global};
 
 /// An item with the mode in which it stands.

@@ -9,7 +9,9 @@ ghost use Rattle.sbl_program.specs.ProgramOf.{view_added, view_number, view_scal
 
 use crate::action::{self, Arithmetic, StringTerm};
 use crate::names::{Names, number_of};
-use sbl_tree::{Added, Additive, Argument, Constant, Expression, Factor, Multiplicative, Product, Scaled};
+use sbl_tree::{
+    Added, Additive, Argument, Constant, Expression, Factor, Multiplicative, Product, Scaled,
+};
 use std::alloc::{AllocError, Global};
 
 /// A string.

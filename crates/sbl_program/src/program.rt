@@ -9,12 +9,12 @@ ghost use Rattle.sbl_script.specs.Parsed.{source_of};
 
 use crate::amongs::{Found, amongs_of};
 use crate::commands::row_of;
-use crate::names::{Names, ItemInMode, names_of, number_of, place_all};
+use crate::names::{ItemInMode, Names, names_of, number_of, place_all};
 use crate::node::{Program, Routine};
 use crate::place::{Position, begun, closed, left_of, past_row};
 use crate::sets::sets_of;
-use sbl_tree::{Plain, Row};
 use sbl_script::Script;
+use sbl_tree::{Plain, Row};
 use std::alloc::{AllocError, Global};
 
 fn routine_of(

@@ -5,7 +5,7 @@ ghost use Rattle.sbl_tree.specs.View.{view_argument, view_plain, view_term};
 ghost use Rattle.sbl_program.specs.NumberedSets as spec;
 ghost use Rattle.sbl_program.specs.NumberedView.{view_names, view_placed};
 
-use crate::names::{Names, ItemInMode, number_of};
+use crate::names::{ItemInMode, Names, number_of};
 use sbl_tree::{Additive, Argument, Plain, Term};
 use std::alloc::{AllocError, Global};
 
@@ -116,7 +116,11 @@ fn add_set(
 }
 
 /// The set of each grouping.
-pub fn sets_of(alloc: Global, names: &Names, items: &[ItemInMode]) -> Result<Vec<Vec<char>>, AllocError>
+pub fn sets_of(
+    alloc: Global,
+    names: &Names,
+    items: &[ItemInMode],
+) -> Result<Vec<Vec<char>>, AllocError>
     ensures { IfOk result (λ v. map (λ x. x.items) v.items ≡ spec.sets_behind (view_names names.now) (map view_placed items.now) []) }
 {
     let mut sets = Vec::new(alloc);

@@ -1,12 +1,14 @@
-pub mod Occurrences
+-- what the contracts of public calls rest on
 pub mod Parsed
+pub mod Occurrences
 pub mod Checks
-pub mod Laws
 pub mod Reading
 pub mod Edits
-pub mod OccurrenceView
-pub mod Met
 pub mod Amongs
+pub mod Laws
 pub mod OneReading
 pub mod OneEdit
+-- what the functions inside the crate promise each other: nothing in these need be believed
+pub mod OccurrenceView
+pub mod Met
 pub mod Refusals

@@ -11,9 +11,9 @@ ghost use Rattle.std.specs.Str.{bytes_eq};
 
 use crate::bodies::body_in;
 use crate::noting::occurrences_of;
-use crate::occurrences::{Occurrence, Notice, Site, Use};
-use sbl_tree::{Mode, DeclarationKind, Item, Row};
+use crate::occurrences::{Notice, Occurrence, Site, Use};
 use sbl_text::ScriptFault;
+use sbl_tree::{DeclarationKind, Item, Mode, Row};
 use std::alloc::{AllocError, Global};
 use std::collections::{BTreeMap, BTreeSet};
 
@@ -303,14 +303,19 @@ fn note_definition<'a>(
 {
     match occurrence.notice {
         Notice::DefinesRoutine(name) | Notice::DefinesGrouping(name) => keep_first(
-            sites, name, occurrence.site,
+            sites,
+            name,
+            occurrence.site,
         ),
         _ => Ok(()),
     }
 }
 
 /// Where each name is defined first.
-fn sites_of<'a>(alloc: Global, occurrences: &[Occurrence<'a>]) -> Result<BTreeMap<&'a str, Site>, AllocError>
+fn sites_of<'a>(
+    alloc: Global,
+    occurrences: &[Occurrence<'a>],
+) -> Result<BTreeMap<&'a str, Site>, AllocError>
     ensures { IfOk result (λ sites. HasPlaces sites (view_occurrences occurrences.now)) }
 {
     let mut sites = BTreeMap::new(alloc);

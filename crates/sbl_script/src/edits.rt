@@ -4,8 +4,8 @@ ghost use Rattle.std.specs.Prelude.{◌≡◌, MatchOption, None, Some, IfOk, If
 ghost use Rattle.sbl_tree.specs.View.{view_items, view_plain, view_row};
 ghost use Rattle.sbl_script.specs.Edits as spec;
 
-use sbl_tree::{Base, Item, Plain, Row, copy_name, copy_plain, copy_row};
 use sbl_text::{Escapes, ScriptFault, read_codes};
+use sbl_tree::{Base, Item, Plain, Row, copy_name, copy_plain, copy_row};
 use std::alloc::{AllocError, Global};
 
 fn is_routine(plain: &Plain, name: &str) -> bool

@@ -11,9 +11,8 @@ mod occurrences;
 mod script;
 
 pub use edit_fault::EditFault;
-pub use occurrences::{Occurrence, Notice, Site, Use};
-pub use sbl_tree as tree;
-pub use sbl_tree::Mode;
-pub use sbl_tree::{Among, Command, Item, Plain, Row, Term};
+pub use occurrences::{Notice, Occurrence, Site, Use};
 pub use sbl_text::ScriptFault;
-pub use script::Script;
+pub use sbl_tree as tree;
+pub use sbl_tree::{Among, Command, Item, Mode, Plain, Row, Term};
+pub use script::{MAX_SCRIPT, Script};

@@ -6,12 +6,19 @@ ghost use Rattle.sbl_tree.specs.Tree as trees;
 ghost use Rattle.sbl_script.specs.Occurrences as spec;
 ghost use Rattle.sbl_script.specs.OccurrenceView.{view_notice, view_occurrences, view_in_mode};
 
-use crate::occurrences::{Occurrence, Notice, Site, ItemInMode, Use};
-use sbl_tree::{Mode, Added, Among, Argument, Command, DeclarationKind, Entry, Expression, Factor, Group, Item, Joined, Naming, Plain, Prefix, Product, Row, Scaled, Simple, Term};
+use crate::occurrences::{ItemInMode, Notice, Occurrence, Site, Use};
+use sbl_tree::{
+    Added, Among, Argument, Command, DeclarationKind, Entry, Expression, Factor, Group, Item,
+    Joined, Mode, Naming, Plain, Prefix, Product, Row, Scaled, Simple, Term,
+};
 use std::alloc::{AllocError, Global};
 
 /// Puts a occurrence behind the others.
-fn put<'a>(notice: Notice<'a>, site: Site, occurrences: &mut Vec<Occurrence<'a>>) -> Result<(), AllocError>
+fn put<'a>(
+    notice: Notice<'a>,
+    site: Site,
+    occurrences: &mut Vec<Occurrence<'a>>,
+) -> Result<(), AllocError>
     ensures { OnOk result (view_occurrences occurrences.new.items ≡ spec.put (view_notice notice.entry) site (view_occurrences occurrences.old.items)) }
 {
     occurrences.push(Occurrence { site, notice })?;
@@ -102,7 +109,11 @@ fn note_factor<'a>(
     }
 }
 
-fn note_simple(simple: Simple, site: Site, occurrences: &mut Vec<Occurrence>) -> Result<(), AllocError>
+fn note_simple(
+    simple: Simple,
+    site: Site,
+    occurrences: &mut Vec<Occurrence>,
+) -> Result<(), AllocError>
     ensures { OnOk result (view_occurrences occurrences.new.items ≡ spec.noted_simple simple site (view_occurrences occurrences.old.items)) }
 {
     match simple {
@@ -111,7 +122,11 @@ fn note_simple(simple: Simple, site: Site, occurrences: &mut Vec<Occurrence>) ->
     }
 }
 
-fn note_prefix(prefix: Prefix, site: Site, occurrences: &mut Vec<Occurrence>) -> Result<(), AllocError>
+fn note_prefix(
+    prefix: Prefix,
+    site: Site,
+    occurrences: &mut Vec<Occurrence>,
+) -> Result<(), AllocError>
     ensures { OnOk result (view_occurrences occurrences.new.items ≡ spec.noted_prefix prefix site (view_occurrences occurrences.old.items)) }
 {
     match prefix {
@@ -158,7 +173,11 @@ fn note_entry<'a>(
     )?;
     match &entry.condition {
         None => Ok(()),
-        Some(name) => put(Notice::Uses(Use::Condition, name.as_str()), site, occurrences),
+        Some(name) => put(
+            Notice::Uses(Use::Condition, name.as_str()),
+            site,
+            occurrences,
+        ),
     }
 }
 
@@ -211,7 +230,11 @@ fn note_command<'a>(
         Command::Non {
             with_minus: _,
             name,
-        } => put(Notice::Uses(Use::Excluded, name.as_str()), site, occurrences),
+        } => put(
+            Notice::Uses(Use::Excluded, name.as_str()),
+            site,
+            occurrences,
+        ),
         Command::Prefixed(prefix, inner) => {
             note_prefix(*prefix, site, occurrences)?;
             note_command(inner, site_behind(*prefix, site), occurrences)
@@ -258,7 +281,11 @@ fn note_rows<'a>(
 }
 
 #[cycle(commands)]
-fn note_row<'a>(row: &'a Row, site: Site, occurrences: &mut Vec<Occurrence<'a>>) -> Result<(), AllocError>
+fn note_row<'a>(
+    row: &'a Row,
+    site: Site,
+    occurrences: &mut Vec<Occurrence<'a>>,
+) -> Result<(), AllocError>
     ensures { OnOk result (view_occurrences occurrences.new.items ≡ spec.noted_others (view_row row.now).1 site (spec.noted (view_row row.now).0 site (view_occurrences occurrences.old.items))) }
 {
     note_command(&row.first, site, occurrences)?;
@@ -430,7 +457,10 @@ fn put_forward<'a>(plain: &'a Plain, in_order: &mut Vec<ItemInMode<'a>>) -> Resu
     Ok(())
 }
 
-fn note_in_order<'a>(in_order: &[ItemInMode<'a>], occurrences: &mut Vec<Occurrence<'a>>) -> Result<(), AllocError>
+fn note_in_order<'a>(
+    in_order: &[ItemInMode<'a>],
+    occurrences: &mut Vec<Occurrence<'a>>,
+) -> Result<(), AllocError>
     ensures { OnOk result (view_occurrences occurrences.new.items ≡ spec.noted_items (map view_in_mode in_order.now) 1 (view_occurrences occurrences.old.items)) }
 {
     let mut item = 0;
@@ -449,7 +479,10 @@ fn note_in_order<'a>(in_order: &[ItemInMode<'a>], occurrences: &mut Vec<Occurren
 }
 
 /// The occurrences of a script, its items counted from 1.
-pub fn occurrences_of<'a>(alloc: Global, items: &'a [Item]) -> Result<Vec<Occurrence<'a>>, AllocError>
+pub fn occurrences_of<'a>(
+    alloc: Global,
+    items: &'a [Item],
+) -> Result<Vec<Occurrence<'a>>, AllocError>
     ensures { IfOk result (λ occurrences. view_occurrences occurrences.items ≡ spec.occurrences_of (view_items items.now)) }
 {
     let in_order = in_order_of(alloc, items)?;

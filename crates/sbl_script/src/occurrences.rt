@@ -1,6 +1,6 @@
 //! What the checks look at in a script.
 
-use sbl_tree::{DeclarationKind, Plain, Mode};
+use sbl_tree::{DeclarationKind, Mode, Plain};
 
 /// What a name is used as.
 #[derive(Clone, Copy, Debug, PartialEq, Eq)]

@@ -20,13 +20,13 @@ use crate::edit_fault::EditFault;
 use crate::edits;
 use crate::edits::{escapes_before, items_with};
 use sbl_grammar::{has_as_many_amongs, nth_among, parse, parse_among, parse_body, put_in_place};
-use sbl_tree::{Among, Item, Row};
 use sbl_text::{Kind, ScriptFault, Sign, Token, Word, tokens, tokens_under};
+use sbl_tree::{Among, Item, Row};
 use std::alloc::Global;
 use std::marker::Model;
 
 /// The most bytes of a script (our own choice).
-const MAX_SCRIPT: usize = 1_048_576;
+pub const MAX_SCRIPT: usize = 1_048_576;
 
 fn is_left_out_word(word: Word) -> bool
     ensures { result ≡ spec.is_left_out_word word }

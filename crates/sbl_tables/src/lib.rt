@@ -2,9 +2,9 @@
 #![tactic(auto)]
 
 pub mod laws;
-pub mod linked;
-pub mod plain;
-pub mod search;
+mod linked;
+mod plain;
+mod search;
 
 pub use linked::LinkedTable;
 pub use plain::PlainTable;

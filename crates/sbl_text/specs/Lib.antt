@@ -11,7 +11,7 @@ pub mod Directives
 pub mod Tokens
 pub mod Spaced
 pub mod Laws
--- what the functions inside the crate promise each other
+-- what the functions inside the crate promise each other: nothing in these need be believed
 pub mod Skip
 pub mod SignCuts
 pub mod Scan

@@ -10,12 +10,12 @@ ghost use Rattle.std.specs.List.{All};
 ghost use Rattle.sbl_text.specs.Lexemes.{lexeme_of, SaysFitting};
 ghost use Rattle.sbl_text.specs.Directives.{setting_of, start_under};
 
+use crate::directives::Directives;
 use crate::escapes::Escapes;
 use crate::fault::ScriptFault;
 use crate::front::{front_before, place_of};
 use crate::meanings::{end_or_fault, meaning};
 use crate::pieces::{Shape, past_gaps};
-use crate::directives::Directives;
 use crate::token::Token;
 use std::alloc::Global;
 use std::marker::Model;

@@ -3,6 +3,7 @@
 
 mod classes;
 mod codes;
+mod directives;
 mod escapes;
 mod fault;
 mod front;
@@ -13,7 +14,6 @@ mod macros;
 mod meanings;
 mod pieces;
 mod signs;
-mod directives;
 mod token;
 mod words;
 

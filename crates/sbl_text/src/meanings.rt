@@ -7,12 +7,12 @@ ghost use Rattle.sbl_text.specs.Tokens as spec;
 ghost use Rattle.sbl_text.specs.Lexemes.{fits, lexeme_by};
 ghost use Rattle.sbl_text.specs.Directives as states;
 
+use crate::directives::Directives;
 use crate::fault::ScriptFault;
 use crate::front::{between_quotes, place_of, split_first};
 use crate::literals::literal_value;
 use crate::pieces::{Shape, Wanted};
 use crate::signs::sign_of;
-use crate::directives::Directives;
 use crate::token::{Kind, Value};
 use crate::words::word_of;
 use std::alloc::Global;

@@ -1,3 +1,4 @@
+-- what the contracts of public calls rest on
 pub mod Terminal
 pub mod Tree
 pub mod View

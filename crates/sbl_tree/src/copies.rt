@@ -9,12 +9,14 @@ use crate::tree::{
 };
 use std::alloc::{AllocError, Global};
 
+/// A copy of a name. Want of memory is its one error.
 pub fn copy_name(alloc: Global, name: &String) -> Result<String, AllocError>
     ensures { IfOk result (λ copy. string_bytes copy ≡ string_bytes name.now) }
 {
     String::from_str(alloc, name.as_str())
 }
 
+/// A copy of a literal: its spelling and its characters. Want of memory is its one error.
 pub fn copy_literal(alloc: Global, literal: &Literal) -> Result<Literal, AllocError>
     ensures { IfOk result (λ copy. view_literal copy ≡ view_literal literal.now) }
 {
@@ -23,6 +25,7 @@ pub fn copy_literal(alloc: Global, literal: &Literal) -> Result<Literal, AllocEr
     Ok(Literal { spelling, value })
 }
 
+/// A copy of a literal, or of a name in its place. Want of memory is its one error.
 pub fn copy_argument(alloc: Global, argument: &Argument) -> Result<Argument, AllocError>
     ensures { IfOk result (λ copy. view_argument copy ≡ view_argument argument.now) }
 {
@@ -102,6 +105,7 @@ fn copy_factor(alloc: Global, factor: &Factor) -> Result<Factor, AllocError>
     }
 }
 
+/// A copy of a string of an among, with its condition. Want of memory is its one error.
 pub fn copy_entry(alloc: Global, entry: &Entry) -> Result<Entry, AllocError>
     ensures { IfOk result (λ copy. view_entry copy ≡ view_entry entry.now) }
 {
@@ -113,6 +117,7 @@ pub fn copy_entry(alloc: Global, entry: &Entry) -> Result<Entry, AllocError>
     Ok(Entry { string, condition })
 }
 
+/// A copy of strings of an among. Want of memory is its one error.
 pub fn copy_entries(alloc: Global, entries: &Vec<Entry>) -> Result<Vec<Entry>, AllocError>
     ensures { IfOk result (λ copy. map view_entry copy.items ≡ map view_entry entries.now.items) }
 {
@@ -149,7 +154,9 @@ pub fn copy_command(alloc: Global, command: &Command) -> Result<Command, AllocEr
         }
         Command::Move(word, place) => { Ok(Command::Move(*word, copy_expression(alloc, place)?)) }
         Command::Named(word, name) => Ok(Command::Named(*word, copy_name(alloc, name)?)),
-        Command::Splice(word, string) => { Ok(Command::Splice(*word, copy_argument(alloc, string)?)) }
+        Command::Splice(word, string) => {
+            Ok(Command::Splice(*word, copy_argument(alloc, string)?))
+        }
         Command::SetLimit(limit, inner) => {
             let limit = copy_command(alloc, limit)?;
             let inner = copy_command(alloc, inner)?;
@@ -247,6 +254,7 @@ fn copy_others(alloc: Global, others: &Vec<Joined>) -> Result<Vec<Joined>, Alloc
     Ok(copies)
 }
 
+/// A copy of names. Want of memory is its one error.
 pub fn copy_names(alloc: Global, names: &Vec<String>) -> Result<Vec<String>, AllocError>
     ensures { IfOk result (λ copy. map string_bytes copy.items ≡ map string_bytes names.now.items) }
 {
@@ -258,6 +266,7 @@ pub fn copy_names(alloc: Global, names: &Vec<String>) -> Result<Vec<String>, All
     Ok(copies)
 }
 
+/// A copy of further terms of a grouping. Want of memory is its one error.
 pub fn copy_terms(alloc: Global, terms: &Vec<Term>) -> Result<Vec<Term>, AllocError>
     ensures { IfOk result (λ copy. map view_term copy.items ≡ map view_term terms.now.items) }
 {

@@ -41,6 +41,7 @@ script_broken a b serve.LineTooLong breaks = breaks
 script_broken a b serve.Cut breaks = breaks
 script_broken a b serve.NotText breaks = breaks
 script_broken a b serve.OutOfMemory breaks = absurd breaks
+script_broken a b serve.LengthsDiffer breaks = absurd breaks
 
 -- words that were not read to their end
 pub words_broken : (a b : Option (List ℕ)) (f : LineFault) → Breaks WordLines a b (serve_fault_of f) → ReadsWords a b (Err (Input (serve_fault_of f)))
@@ -89,6 +90,7 @@ script_unread old new external state (Input serve.LineTooLong) reads = inl reads
 script_unread old new external state (Input serve.Cut) reads = reads
 script_unread old new external state (Input serve.NotText) reads = absurd reads
 script_unread old new external state (Input serve.OutOfMemory) reads = inl reads
+script_unread old new external state (Input serve.LengthsDiffer) reads = absurd reads
 
 -- words that were not read
 pub words_refused : {B : Type 0} (old between new : Option (List ℕ)) (external : List ℕ) (s : Source) (state : B → Contents) (fault : LoadFault)

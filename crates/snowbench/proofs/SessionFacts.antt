@@ -115,6 +115,7 @@ session_open a b c d h i s t line fault.Cut so gives fits asks breaks =
 session_open a b c d h i s t line fault.Write so gives fits asks breaks = absurd breaks
 session_open a b c d h i s t line fault.NotText so gives fits asks breaks = absurd breaks
 session_open a b c d h i s t line fault.OutOfMemory so gives fits asks breaks = absurd breaks
+session_open a b c d h i s t line fault.LengthsDiffer so gives fits asks breaks = absurd breaks
 
 -- where an answer was broken off by the writer
 pub session_at_write : (a b c d h i j : Option (List ℕ)) (s t u : Contents) (line : List ℕ) (reply : Reply) (n : ℕ)

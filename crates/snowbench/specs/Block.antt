@@ -3,6 +3,7 @@ use Rattle.std.specs.Prelude.{◌≡◌, ◌≢◌, ◌<◌, ◌≤◌, ℕ, tru
 use Rattle.std.specs.List.{flat_map}
 use Rattle.std.specs.Str.{is_utf8}
 use Rattle.std.specs.Io.KnownBytes.{IsAtEnd}
+pub use Rattle.sbl_script.specs.Reading.{max_script}
 use Rattle.snowbench.specs.Held.{AllFit, BeginsLong, BreaksOff, Took}
 use Rattle.snowbench.specs.declared.block_text.BlockFault.{BlockFault}
 use Rattle.snowbench.specs.declared.block_text.BlockFault.TheVariants.{TooLong, OutOfMemory}
@@ -30,10 +31,6 @@ BlockLines lines = NoPoint lines × AllFit lines
 -- the text of a block: each line, followed by a line feed
 abbrev pub made_text : List (List ℕ) → List ℕ
 made_text lines = flat_map (λ line. line ++ 10 ∷ []) lines
-
--- the most bytes of a script, and of the text of an edit
-abbrev pub max_script : ℕ
-max_script = 1048576
 
 -- a block stands at the front: its lines, and a point
 abbrev pub TookBlock : Option (List ℕ) → Option (List ℕ) → List (List ℕ) → Type 0

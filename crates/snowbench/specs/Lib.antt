@@ -1,3 +1,4 @@
+-- what the contracts of public calls rest on
 pub mod Devices
 pub mod Counted
 pub mod Faults
@@ -12,11 +13,12 @@ pub mod Rows
 pub mod Answers
 pub mod Session
 pub mod OneAnswer
-pub mod CommandViews
-pub mod Edits
-pub mod RowWriter
 pub mod Loaded
 pub mod CommandLine
 pub mod Differences
+-- what the functions inside the crate promise each other: nothing in these need be believed
+pub mod CommandViews
+pub mod Edits
+pub mod RowWriter
 pub mod Checking
 pub mod Stemmed

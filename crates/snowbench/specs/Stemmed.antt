@@ -1,5 +1,5 @@
 -- What the rows of an input are: those of its vocabulary, and of nothing that follows it.
-use Rattle.std.specs.Prelude.{◌≡◌, ℕ, List, [], Option, None, Result, Ok, Err, map, take}
+use Rattle.std.specs.Prelude.{◌≡◌, ◌⊎◌, ℕ, List, [], Option, None, Result, Ok, Err, map, take}
 use Rattle.std.specs.Str.{chars}
 use Rattle.std.specs.Io.KnownBytes.{Appends}
 use Rattle.sbl_bench.specs.Kept.{contents_of}
@@ -12,7 +12,7 @@ use Rattle.snowbench.specs.declared.faults.LoadFault.TheVariants.{Input}
 use Rattle.snowbench.specs.declared.faults.ServeFault.TheVariants as fault
 
 -- The rows of the vocabulary are written, and the input stands behind it; a front of them, where the writer failed; and else
--- nothing, with the fault of the loading, or because memory was refused.
+-- nothing, with the fault of the loading, or because memory was refused, at the loading or behind it.
 abbrev pub IsStemmed : Option (List ℕ) → Option (List ℕ) → List ℕ → Option (List ℕ) → Option (List ℕ) → Result (Unit {0}) LoadFault → Type 0
 IsStemmed old new external held new_held (Ok u) =
     (s : Source) × (words : List (List ℕ)) × IsInput old new external s words × (opening_fault [] (map chars words) ≡ None)
@@ -20,4 +20,7 @@ IsStemmed old new external held new_held (Ok u) =
 IsStemmed old new external held new_held (Err (Input fault.Write)) =
     (s : Source) × (words : List (List ℕ)) × IsInput old new external s words × (opening_fault [] (map chars words) ≡ None)
     × (n : ℕ) × Appends held new_held (take n (stems_text (opened s (map chars words))))
+IsStemmed old new external held new_held (Err (Input fault.OutOfMemory)) =
+    (IsLoaded old new external (λ b. contents_of b) (Err (Input fault.OutOfMemory)) ⊎ ((s : Source) × (words : List (List ℕ)) × IsInput old new external s words))
+    × Appends held new_held []
 IsStemmed old new external held new_held (Err f) = IsLoaded old new external (λ b. contents_of b) (Err f) × Appends held new_held []

@@ -9,10 +9,8 @@ ghost use Rattle.snowbench.specs.declared.faults.LineFault.{LineFault};
 use crate::devices::Source;
 use crate::faults::ServeFault;
 use crate::lines::Lines;
+use sbl_script::MAX_SCRIPT;
 use std::alloc::{AllocError, Global};
-
-/// The most bytes of a script, and of the text of an edit (our own choice).
-const MAX_TEXT: usize = 1_048_576;
 
 /// Why a block that was read to its end has no text.
 #[derive(Clone, Copy, Debug, PartialEq, Eq)]
@@ -48,7 +46,7 @@ impl BlockText {
         if self.fault.is_some() {
             return;
         }
-        if line.len() >= MAX_TEXT || self.bytes.len() >= MAX_TEXT - line.len() {
+        if line.len() >= MAX_SCRIPT || self.bytes.len() >= MAX_SCRIPT - line.len() {
             self.fault = Some(BlockFault::TooLong);
             self.bytes.clear();
             return;

@@ -17,13 +17,10 @@ use crate::records::text_of;
 use crate::text_lines::first_line;
 use crate::writing::write_all;
 use csv::{ByteRecord, WriterBuilder};
-use sbl_bench::bench::MAX_WORD_LENGTH;
+use sbl_bench::{MAX_STEPS, MAX_WORD_LENGTH};
 use sbl_machine::{Machine, Meter, Outcome, Table};
 use sbl_script::Script;
 use std::alloc::{AllocError, Global};
-
-/// The most steps of a run: those of a new bench.
-const MAX_STEPS: u32 = 100_000;
 
 /// What a script makes of a word.
 #[derive(Debug, Drop)]

@@ -13,8 +13,7 @@ use crate::block_text::{BlockFault, BlockText};
 use crate::commands::{Target, target_of};
 use crate::lines::MAX_LINE;
 use crate::replies::{BAD_COMMAND, edit_text};
-use sbl_bench::bench::MAX_WORD_LENGTH;
-use sbl_bench::{Bench, EditFault};
+use sbl_bench::{Bench, EditFault, MAX_WORD_LENGTH};
 use sbl_script::ScriptFault;
 
 /// How many characters of a word that is added are looked at: one more than a word may have.

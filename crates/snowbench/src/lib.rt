@@ -29,10 +29,3 @@ pub use lines::{Lines, MAX_LINE};
 pub use loading::load;
 pub use program::run;
 pub use serving::serve;
-
-#[cfg(test)]
-mod program_tests;
-#[cfg(test)]
-mod session_tests;
-#[cfg(test)]
-mod tests;

@@ -9,7 +9,7 @@ ghost use Rattle.sbl_machine.specs.Kept.{Follows};
 use crate::halt::Halt;
 use crate::state::State;
 use crate::state::numbers::natural;
-use sbl_program::action::Action;
+use sbl_program::Action;
 use sbl_tree::Mode;
 
 impl State {

@@ -8,7 +8,7 @@ ghost use Rattle.sbl_program.specs.ProgramOf.{view_text};
 ghost use Rattle.sbl_machine.specs.Moves.{characters, match, next_is, one_of, next, hop, at_limit, set_mark, at_mark, to_mark, set_boolean, test_boolean};
 
 use crate::state::State;
-use sbl_program::action::StringTerm;
+use sbl_program::StringTerm;
 use sbl_tree::Mode;
 
 impl State {

@@ -11,9 +11,8 @@ ghost use Rattle.sbl_machine.specs.Kept.{Leads, Follows};
 use crate::fault::RunFault;
 use crate::halt::Halt;
 use crate::state::State;
-use sbl_tree::{Additive, Multiplicative};
-use sbl_program::action::{Added, Arithmetic, Change, Relation, Scaled};
-use sbl_tree::Mode;
+use sbl_program::{Added, Arithmetic, Change, Relation, Scaled};
+use sbl_tree::{Additive, Mode, Multiplicative};
 
 impl State {
     /// What an expression is worth. `Integer` where a number is out of range, `Divide` where a divisor is zero.

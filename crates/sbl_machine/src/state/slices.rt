@@ -9,7 +9,7 @@ ghost use Rattle.sbl_machine.specs.Kept.{Leads};
 
 use crate::halt::Halt;
 use crate::state::{MAX_TEXT_LENGTH, State};
-use sbl_program::action::StringTerm;
+use sbl_program::StringTerm;
 use sbl_tree::Mode;
 use std::alloc::AllocError;
 use std::mem;

@@ -1,8 +1,9 @@
 //! Whole sessions, by what they write and how they end.
-use crate::tests::in_pieces;
-use crate::{Device, Lines, LoadFault, ServeFault, load, serve};
+
+use crate::tests::devices::in_pieces;
 use sbl_bench::EditFault;
 use sbl_script::ScriptFault;
+use snowbench::{Device, Lines, LoadFault, ServeFault, load, serve};
 use std::alloc::Global;
 use std::test::Fail;
 
@@ -39,6 +40,12 @@ fn after(alloc: Global, script: &[u8], rest: &[u8]) -> Result<Vec<u8>, Fail> {
     Ok(input)
 }
 
+// A session over a script that takes prefixes off, with this behind the script block.
+fn prefixes(alloc: Global, rest: &[u8]) -> Result<Ended, Fail> {
+    let input = after(alloc, UN, rest)?;
+    session(alloc, input.as_slice(), 0, 0)
+}
+
 /// Takes plural endings off, in backward mode.
 const BACKWARDS: &[u8] = b"externals ( stem )
 routines ( tail last sib )
@@ -52,7 +59,7 @@ define stem as ( backwards ( do tail do ( test 'e' last ) ) )
 ";
 
 #[test]
-fn sessions(rt: HostRuntime) -> Result<(), Fail> {
+fn a_session_answers_its_lines(rt: HostRuntime) -> Result<(), Fail> {
     let rows: [(&[u8], &[u8], &[u8]); 8] = [
         (
             UN,
@@ -97,7 +104,7 @@ fn sessions(rt: HostRuntime) -> Result<(), Fail> {
 }
 
 #[test]
-fn a_session_in_backward_mode(rt: HostRuntime) -> Result<(), Fail> {
+fn a_session_runs_scripts_in_backward_mode(rt: HostRuntime) -> Result<(), Fail> {
     let words = b"cats\nboxes\ncakes\ncake\ndog\n.\nadd s\nstems\n";
     let input = after(rt.alloc(), BACKWARDS, words.as_slice())?;
     let ended = session(rt.alloc(), input.as_slice(), 0, 0)?;
@@ -129,7 +136,7 @@ fn answers_so(alloc: Global, rows: &[(&[u8], &[u8])]) -> Result<bool, Fail> {
 }
 
 #[test]
-fn an_author_at_work(rt: HostRuntime) -> Result<(), Fail> {
+fn classes_follow_the_edits_of_a_session(rt: HostRuntime) -> Result<(), Fail> {
     let rows: [(&[u8], &[u8]); 6] = [
         (
             b"classes\n",
@@ -152,7 +159,7 @@ fn an_author_at_work(rt: HostRuntime) -> Result<(), Fail> {
 }
 
 #[test]
-fn words_come_and_go(rt: HostRuntime) -> Result<(), Fail> {
+fn words_are_added_and_removed_in_a_session(rt: HostRuntime) -> Result<(), Fail> {
     let rows: [(&[u8], &[u8]); 5] = [
         (b"remove boxes\nadd boxes\n", b"ok\nok\n"),
         (
@@ -171,7 +178,7 @@ fn words_come_and_go(rt: HostRuntime) -> Result<(), Fail> {
 }
 
 #[test]
-fn refused_edits_of_the_script(rt: HostRuntime) -> Result<(), Fail> {
+fn a_refused_edit_of_the_script_changes_nothing(rt: HostRuntime) -> Result<(), Fail> {
     let rows: [(&[u8], &[u8]); 8] = [
         (b"routine nope\n.\n", b"no 45 NoRoutine\n"),
         (b"routine\n.\n", b"no 45 NoRoutine\n"),
@@ -190,7 +197,7 @@ fn refused_edits_of_the_script(rt: HostRuntime) -> Result<(), Fail> {
 }
 
 #[test]
-fn classes_without_stems(rt: HostRuntime) -> Result<(), Fail> {
+fn a_word_without_a_stem_is_in_no_class_of_a_session(rt: HostRuntime) -> Result<(), Fail> {
     let script = b"externals ( stem ) define stem as repeat true\n.\n";
     let input = after(
         rt.alloc(),
@@ -208,36 +215,45 @@ fn classes_without_stems(rt: HostRuntime) -> Result<(), Fail> {
 }
 
 #[test]
-fn blocks_that_are_not_whole(rt: HostRuntime) -> Result<(), Fail> {
-    // The input ends inside a block, also behind a line that is bad.
+fn a_block_without_its_point_ends_a_session(rt: HostRuntime) -> Result<(), Fail> {
+    // Also behind a line that is bad.
     let rows: [(&[u8], &[u8]); 3] = [
         (b".\nadd undo\nroutine stem\ntrue\n", b"ok\n"),
         (b".\nadd undo\nroutine \xff\ntrue\n", b"ok\n"),
         (b".\nroutine stem", b""),
     ];
     for (rest, text) in rows {
-        let input = after(rt.alloc(), UN, rest)?;
-        let ended = session(rt.alloc(), input.as_slice(), 0, 0)?;
+        let ended = prefixes(rt.alloc(), rest)?;
         assert!(rt; ended.ending == Err(LoadFault::Input(ServeFault::Cut)));
         assert!(rt; ended.text.as_slice() == text, "{:?}", ended.text);
     }
-    // The point may be the last byte of the input.
-    let whole = after(rt.alloc(), UN, b"undo\n.\nroutine stem\ntrue\n.")?;
-    let ended = session(rt.alloc(), whole.as_slice(), 0, 0)?;
-    assert!(rt; ended.ending == Ok(()));
-    assert!(rt; ended.text.as_slice() == b"ok\n".as_slice());
-    // A line that is too long.
-    let mut long = after(rt.alloc(), UN, b".\nadd undo\nroutine stem\n")?;
-    let line = vec![in rt.alloc(); b'a'; 65_537]?;
-    long.extend_from_slice(line.as_slice())?;
-    let broken = session(rt.alloc(), long.as_slice(), 0, 0)?;
-    assert!(rt; broken.ending == Err(LoadFault::Input(ServeFault::LineTooLong)));
-    assert!(rt; broken.text.as_slice() == b"ok\n".as_slice());
     Ok(())
 }
 
 #[test]
-fn refused_runs_are_rows(rt: HostRuntime) -> Result<(), Fail> {
+fn the_point_of_a_block_may_be_the_last_byte(rt: HostRuntime) -> Result<(), Fail> {
+    let ended = prefixes(rt.alloc(), b"undo\n.\nroutine stem\ntrue\n.")?;
+    assert!(rt; ended.ending == Ok(()));
+    assert!(rt; ended.text.as_slice() == b"ok\n".as_slice());
+    Ok(())
+}
+
+#[test]
+fn a_line_too_long_ends_a_session(rt: HostRuntime) -> Result<(), Fail> {
+    let line = vec![in rt.alloc(); b'a'; 65_537]?;
+    // The second stands inside a block.
+    let rows: [&[u8]; 2] = [b".\nadd undo\n", b".\nadd undo\nroutine stem\n"];
+    for front in rows {
+        let rest = after(rt.alloc(), front, line.as_slice())?;
+        let ended = prefixes(rt.alloc(), rest.as_slice())?;
+        assert!(rt; ended.ending == Err(LoadFault::Input(ServeFault::LineTooLong)));
+        assert!(rt; ended.text.as_slice() == b"ok\n".as_slice());
+    }
+    Ok(())
+}
+
+#[test]
+fn a_refused_run_is_a_row_of_a_session(rt: HostRuntime) -> Result<(), Fail> {
     let rows: [(&[u8], &[u8]); 7] = [
         (b"define stem as repeat true\n.\n", b"ab,refused,Steps\n"),
         (b"define stem as stem\n.\n", b"ab,refused,Depth\n"),
@@ -273,7 +289,7 @@ fn refused_runs_are_rows(rt: HostRuntime) -> Result<(), Fail> {
 }
 
 #[test]
-fn faults_of_loading(rt: HostRuntime) -> Result<(), Fail> {
+fn loading_answers_the_first_fault(rt: HostRuntime) -> Result<(), Fail> {
     let long = vec![in rt.alloc(); b'a'; 65_537]?;
     let word = vec![in rt.alloc(); b'a'; 256]?;
     let rows: [(&[u8], &[u8], LoadFault); 9] = [
@@ -320,7 +336,7 @@ fn faults_of_loading(rt: HostRuntime) -> Result<(), Fail> {
 }
 
 #[test]
-fn a_script_too_long(rt: HostRuntime) -> Result<(), Fail> {
+fn a_script_has_at_most_1048576_bytes(rt: HostRuntime) -> Result<(), Fail> {
     let mut block = vec![in rt.alloc(); b'\n'; 1_048_577]?;
     block.extend_from_slice(b".\n")?;
     let mut lines = Lines::new(rt.alloc(), Device::new(block.as_slice()))?;
@@ -333,33 +349,25 @@ fn a_script_too_long(rt: HostRuntime) -> Result<(), Fail> {
 }
 
 #[test]
-fn faults_of_serving(rt: HostRuntime) -> Result<(), Fail> {
+fn a_fault_of_reading_or_writing_ends_a_session(rt: HostRuntime) -> Result<(), Fail> {
     let input = after(rt.alloc(), UN, b".\nadd undo\nadd redo\nstems\n")?;
-    // Sixteen bytes a read: the sixth ends in the midst of the second edit, which is not made.
-    let cut = session(rt.alloc(), input.as_slice(), 7, 0)?;
-    assert!(rt; cut.ending == Err(LoadFault::Input(ServeFault::Read)));
-    assert!(rt; cut.text.as_slice() == b"ok\n".as_slice(), "{:?}", cut.text);
-    let early = session(rt.alloc(), input.as_slice(), 1, 0)?;
-    assert!(rt; early.ending == Err(LoadFault::Input(ServeFault::Read)));
-    // Four bytes a write: the fourth breaks the report off.
-    let broken = session(rt.alloc(), input.as_slice(), 0, 4)?;
-    assert!(rt; broken.ending == Err(LoadFault::Input(ServeFault::Write)));
-    assert!(rt;
-        broken.text.as_slice() == b"ok\nok\nundo".as_slice(),
-        "{:?}",
-        broken.text
-    );
-    let mut long = after(rt.alloc(), UN, b".\nadd undo\n")?;
-    let line = vec![in rt.alloc(); b'a'; 65_537]?;
-    long.extend_from_slice(line.as_slice())?;
-    let ended = session(rt.alloc(), long.as_slice(), 0, 0)?;
-    assert!(rt; ended.ending == Err(LoadFault::Input(ServeFault::LineTooLong)));
-    assert!(rt; ended.text.as_slice() == b"ok\n".as_slice());
+    let rows: [(u64, u64, ServeFault, &[u8]); 3] = [
+        // Sixteen bytes a read: the sixth ends in the midst of the second edit, which is not made.
+        (7, 0, ServeFault::Read, b"ok\n"),
+        (1, 0, ServeFault::Read, b""),
+        // Four bytes a write: the fourth breaks the report off.
+        (0, 4, ServeFault::Write, b"ok\nok\nundo"),
+    ];
+    for (read, write, fault, text) in rows {
+        let ended = session(rt.alloc(), input.as_slice(), read, write)?;
+        assert!(rt; ended.ending == Err(LoadFault::Input(fault)));
+        assert!(rt; ended.text.as_slice() == text, "{:?}", ended.text);
+    }
     Ok(())
 }
 
 #[test]
-fn faults_as_they_are_shown(rt: HostRuntime) -> Result<(), Fail> {
+fn faults_of_sessions_are_printed_with_their_numbers(rt: HostRuntime) -> Result<(), Fail> {
     let rows = [
         (LoadFault::Input(ServeFault::Read), "70 Read"),
         (LoadFault::Input(ServeFault::Write), "71 Write"),
@@ -384,6 +392,27 @@ fn faults_as_they_are_shown(rt: HostRuntime) -> Result<(), Fail> {
     for (fault, text) in rows {
         let shown = format!(in rt.alloc(); "{fault}")?;
         assert!(rt; shown.as_str() == text);
+    }
+    Ok(())
+}
+
+#[test]
+fn a_writer_may_be_interrupted_a_thousand_times_in_a_row(rt: HostRuntime) -> Result<(), Fail> {
+    let input = after(rt.alloc(), UN, b".\nadd undo\nstems\n")?;
+    for (interruptions, ending, text) in [
+        (1_000, Ok(()), b"ok\nundo,stem,do\n".as_slice()),
+        (
+            1_001,
+            Err(LoadFault::Input(ServeFault::Write)),
+            b"".as_slice(),
+        ),
+    ] {
+        let mut writer = in_pieces(Vec::new(rt.alloc()), 2, 0, interruptions);
+        let mut lines = Lines::new(rt.alloc(), Device::new(input.as_slice()))?;
+        let mut bench = load(&mut lines, "stem")?;
+        let ended = serve(&mut bench, &mut lines, &mut writer).map_err(LoadFault::Input);
+        assert!(rt; ended == ending, "{interruptions}");
+        assert!(rt; writer.inner.as_slice() == text, "{interruptions}");
     }
     Ok(())
 }
