@@ -1,6 +1,6 @@
 # Finds what pages say of the program, and prints it as cases (tests/README.md has their form):
-# - `SCRIPT`: `ANSWER`, `ANSWER` ..    the rows of words, or the fault of the script; X stands for 'externals ( stem ) define
-#                                      stem as';
+# - `SCRIPT`: `ANSWER`, `ANSWER` ..    the rows of words, or the fault of the script, or 'accepted' where it has none; X stands
+#                                      for 'externals ( stem ) define stem as';
 # - | `SCRIPT`: `ANSWER` | N |         the same, and the run over the answer's word pays N steps;
 # - fenced blocks 'session', and then 'output' or 'errors': what is typed in, and what the program writes to it.
 #   LC_ALL=C awk -f tests/pages.awk PAGE..
@@ -33,7 +33,8 @@ function example(label, script, answer) {
     print "status: 1"
     print "input\n|" whole(script) "\n|.\n|."
     print "errors\n|snowbench: " answer
-  } else run_of(whole(script), answer)
+  } else if (answer == "accepted") print "input\n|" whole(script) "\n|.\n|."
+  else run_of(whole(script), answer)
 }
 # A session over the word of a row, and the row.
 function run_of(script, row) {
