@@ -2,7 +2,8 @@
 # - `SCRIPT`: `ANSWER`, `ANSWER` ..    the rows of words, or the fault of the script, or 'accepted' where it has none; X stands
 #                                      for 'externals ( stem ) define stem as';
 # - | `SCRIPT`: `ANSWER` | N |         the same, and the run over the answer's word pays N steps;
-# - fenced blocks 'session', and then 'output' or 'errors': what is typed in, and what the program writes to it.
+# - fenced blocks 'session', and then 'output' or 'errors': what is typed in, and what the program writes to it; behind them
+#   'shown': what ./snowbench writes besides. With 'check' in the place of 'session' it is what the program's check reads.
 #   LC_ALL=C awk -f tests/pages.awk PAGE..
 BEGIN { most = 100000 }
 FNR == 1 { name = FILENAME; sub(/^.*\//, "", name) }
@@ -65,14 +66,18 @@ function open_block() {
   indent = $0
   sub(/`.*/, "", indent)
   indent = "^" indent
-  if (block == "session") { finish(); place = name ", line " FNR }
+  if (block == "session" || block == "check") { finish(); words = block; place = name ", line " FNR }
 }
 function close_block() { block = "" }
 function finish() {
-  if (text["session"] != "") {
-    print "== the session of " place
-    if (text["errors"] != "") print "status: 1"
-    printf "input\n%soutput\n%serrors\n%s", text["session"], text["output"], text["errors"]
-  }
+  if (words != "") block_case("words", text["errors"])
+  if (text["shown"] != "") block_case("launcher", text["errors"] text["shown"])
+  words = ""
   delete text
+}
+function block_case(tried, errors) {
+  print "== the " words " of " place (tried == "launcher" ? ", by ./snowbench" : "")
+  print tried ": " words
+  if (errors != "" || (words == "check" && text["output"] != "")) print "status: 1"
+  printf "input\n%soutput\n%serrors\n%s", text[words], text["output"], errors
 }
