@@ -1,7 +1,6 @@
 //! Public calls, each file by what it tries.
 
 mod amongs;
-mod arithmetic;
 mod bench;
 mod bench_edits;
 mod characters;
@@ -10,7 +9,6 @@ mod control;
 mod devices;
 mod grammar;
 mod lines;
-mod porter;
 mod program;
 mod rewritten;
 mod runs;

@@ -1,15 +1,12 @@
-//! What a bench shows of whole scripts.
+//! The words of a bench: each call, with its count of runs. Sessions over them stand in tests/cases.
 
 use crate::tests::characters::{text_of, word_of};
-use crate::tests::scripts::{PREFIXES, suffixes, with_body};
+use crate::tests::scripts::PREFIXES;
 use sbl_bench::{Bench, EditFault, Row};
 use sbl_machine::Outcome;
 use sbl_script::{Script, ScriptFault};
 use std::alloc::Global;
 use std::test::Fail;
-
-/// Takes a slice that ends before it begins.
-const CROSSED: &str = "externals ( stem ) define stem as ( 'a' [ delete )";
 
 /// A bench over this script and these words.
 pub fn bench_of(alloc: Global, script: &str, words: &[&str]) -> Result<Bench, Fail> {
@@ -91,16 +88,6 @@ fn opening_skips_empty_words_and_repeats(rt: HostRuntime) -> Result<(), Fail> {
 }
 
 #[test]
-fn a_refused_run_is_a_row(rt: HostRuntime) -> Result<(), Fail> {
-    let bench = bench_of(rt.alloc(), CROSSED, &["ab"])?;
-    match bench.row(0) {
-        Some(row) => assert_eq!(rt; shown(rt.alloc(), &row)?.as_str(), "ab 62 Slice"),
-        None => assert!(rt; false),
-    }
-    Ok(())
-}
-
-#[test]
 fn words_that_are_refused_change_nothing(rt: HostRuntime) -> Result<(), Fail> {
     let mut bench = bench_of(rt.alloc(), PREFIXES, &["undo"])?;
     assert_eq!(rt; bench.add(&[]), Err(EditFault::EmptyWord));
@@ -159,14 +146,6 @@ fn classes_go_by_stem_and_word(rt: HostRuntime) -> Result<(), Fail> {
 }
 
 #[test]
-fn a_refused_word_is_in_no_class(rt: HostRuntime) -> Result<(), Fail> {
-    let bench = bench_of(rt.alloc(), CROSSED, &["ab"])?;
-    assert_eq!(rt; classes_shown(rt.alloc(), &bench)?.as_str(), "");
-    assert!(rt; bench.class_of(&['a', 'b'])?.is_none());
-    Ok(())
-}
-
-#[test]
 fn a_removal_closes_the_gap(rt: HostRuntime) -> Result<(), Fail> {
     let mut bench = bench_of(rt.alloc(), PREFIXES, &["undo", "redo", "sky"])?;
     assert_eq!(rt; bench.remove(&['d', 'o']), Err(EditFault::Absent));
@@ -207,30 +186,5 @@ fn faults_are_printed_with_their_numbers(rt: HostRuntime) -> Result<(), Fail> {
     ] {
         assert_eq!(rt; format!(in rt.alloc(); "{fault}")?.as_str(), text);
     }
-    Ok(())
-}
-
-const VOCABULARY: &[&str] = &["cats", "boxes", "cakes", "cake", "dog"];
-
-#[test]
-fn plural_endings_put_words_into_classes(rt: HostRuntime) -> Result<(), Fail> {
-    let alloc = rt.alloc();
-    let bench = bench_of(alloc, suffixes(alloc)?.as_str(), VOCABULARY)?;
-    assert_eq!(rt;
-        classes_shown(alloc, &bench)?.as_str(),
-        "box:boxes,;cak:cake,cakes,;cat:cats,;dog:dog,;"
-    );
-    assert_eq!(rt; bench.runs(), 5);
-    let bench = bench_of(alloc, suffixes(alloc)?.as_str(), &["s"])?;
-    assert_eq!(rt; rows_shown(alloc, &bench)?.as_str(), "s ;");
-    Ok(())
-}
-
-#[test]
-fn a_word_whose_steps_are_spent_is_in_no_class(rt: HostRuntime) -> Result<(), Fail> {
-    let alloc = rt.alloc();
-    let bench = bench_of(alloc, with_body(alloc, "repeat true")?.as_str(), &["a"])?;
-    assert_eq!(rt; rows_shown(alloc, &bench)?.as_str(), "a 60 Steps;");
-    assert_eq!(rt; classes_shown(alloc, &bench)?.as_str(), "");
     Ok(())
 }

@@ -1,7 +1,6 @@
-//! An author at work: edits of a script, and the rows and classes after each.
+//! Edits of a script, with the rows, the classes and the count of runs after each. Sessions of edits stand in tests/cases.
 
 use crate::tests::bench::{bench_of, classes_shown, rows_shown};
-use crate::tests::characters::{text_of, word_of};
 use crate::tests::scripts::{PREFIXES, suffixes};
 use sbl_bench::{Bench, EditFault};
 use sbl_script::{Script, ScriptFault};
@@ -108,61 +107,8 @@ fn refused_edits_of_the_script_change_nothing(rt: HostRuntime) -> Result<(), Fai
     Ok(())
 }
 
-#[test]
-fn a_word_that_comes_again_stands_last(rt: HostRuntime) -> Result<(), Fail> {
-    let alloc = rt.alloc();
-    let mut bench = plurals(alloc)?;
-    let boxes = word_of(alloc, "boxes")?;
-    assert_eq!(rt; bench.remove(&boxes), Ok(()));
-    assert_eq!(rt; bench.add(&boxes), Ok(()));
-    assert_eq!(rt;
-        rows_shown(alloc, &bench)?.as_str(),
-        "cats cat;cakes cak;cake cak;dog dog;boxes box;"
-    );
-    assert_eq!(rt; bench.runs(), 6);
-    Ok(())
-}
-
-#[test]
-fn a_removed_word_leaves_its_class(rt: HostRuntime) -> Result<(), Fail> {
-    let alloc = rt.alloc();
-    let mut bench = plurals(alloc)?;
-    let cake = word_of(alloc, "cake")?;
-    let cakes = word_of(alloc, "cakes")?;
-    assert_eq!(rt; bench.remove(&cake), Ok(()));
-    match bench.class_of(&cakes)? {
-        Some(class) => {
-            assert_eq!(rt; text_of(alloc, class.stem.as_slice())?.as_str(), "cak");
-            assert_eq!(rt; class.words.len(), 1);
-        }
-        None => assert!(rt; false),
-    }
-    assert!(rt; bench.class_of(&cake)?.is_none());
-    Ok(())
-}
-
 /// Takes `un` off a word's front, and leaves `re`.
 const ONE_PREFIX: &str = "( [ among ( 'un' () ) ] delete )";
-
-#[test]
-fn another_body_of_the_external_runs_every_word(rt: HostRuntime) -> Result<(), Fail> {
-    let alloc = rt.alloc();
-    let mut bench = bench_of(alloc, PREFIXES, &["undo", "redo", "sky"])?;
-    assert_eq!(rt; bench.replace_routine("stem", ONE_PREFIX), Ok(()));
-    assert_eq!(rt; bench.runs(), 6);
-    assert_eq!(rt;
-        classes_shown(alloc, &bench)?.as_str(),
-        "do:undo,;redo:redo,;sky:sky,;"
-    );
-    // a slice that ends before it begins: the word is refused and has no class
-    assert_eq!(rt; bench.add(&['a', 'b']), Ok(()));
-    assert_eq!(rt; bench.replace_routine("stem", "( 'a' [ delete )"), Ok(()));
-    assert_eq!(rt;
-        classes_shown(alloc, &bench)?.as_str(),
-        "redo:redo,;sky:sky,;undo:undo,;"
-    );
-    Ok(())
-}
 
 // An edit whose memory is refused leaves the bench as it was, but for the count.
 #[test]

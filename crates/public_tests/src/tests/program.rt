@@ -1,4 +1,5 @@
-//! Checks, command lines, and the whole program over a reader and writers in memory.
+//! Checks, command lines, and the whole program over a reader and writers in memory. More of what it answers stands in
+//! tests/cases.
 
 use crate::tests::devices::{Pieces, in_pieces};
 use sbl_script::Script;
@@ -8,8 +9,6 @@ use std::test::Fail;
 
 const PREFIXES: &[u8] =
     b"externals ( stem )\ndefine stem as ( [ among ( 'un' () 're' () ) ] delete )\n";
-
-const ENDLESS: &[u8] = b"externals ( stem )\ndefine stem as repeat true\n";
 
 /// A writer in memory that takes four bytes a write and fails at one write, 0 for never.
 fn writer(alloc: Global, fails_at: u64) -> Pieces<Vec<u8>> {
@@ -60,63 +59,6 @@ fn a_check_writes_a_row_for_each_difference(rt: HostRuntime) -> Result<(), Fail>
             Ok(2),
         ),
         (b"a,b\n", b"\"\n", b"1,\"a,b\",\"\"\"\",\"a,b\"\n", Ok(1)),
-    ];
-    assert!(rt; checks_so(rt.alloc(), PREFIXES, &rows)?);
-    Ok(())
-}
-
-#[test]
-fn a_refusal_is_always_a_difference(rt: HostRuntime) -> Result<(), Fail> {
-    let rows: [Row; 2] = [
-        (
-            b"a\n",
-            b"refused Steps\n",
-            b"1,a,refused Steps,refused Steps\n",
-            Ok(1),
-        ),
-        (
-            b"a\nb\n",
-            b"a\n",
-            b"1,a,a,refused Steps\n",
-            Err(ServeFault::LengthsDiffer),
-        ),
-    ];
-    assert!(rt; checks_so(rt.alloc(), ENDLESS, &rows)?);
-    Ok(())
-}
-
-#[test]
-fn a_check_needs_lists_of_one_length(rt: HostRuntime) -> Result<(), Fail> {
-    let rows: [Row; 2] = [
-        (
-            b"undo\ndo\n",
-            b"do\nda\ndu\n",
-            b"2,do,da,do\n",
-            Err(ServeFault::LengthsDiffer),
-        ),
-        (b"undo\ndo\n", b"", b"", Err(ServeFault::LengthsDiffer)),
-    ];
-    assert!(rt; checks_so(rt.alloc(), PREFIXES, &rows)?);
-    Ok(())
-}
-
-#[test]
-fn a_line_that_is_no_text_counts_where_both_lists_have_it(rt: HostRuntime) -> Result<(), Fail> {
-    let rows: [Row; 4] = [
-        (
-            b"undo\n\xff\n",
-            b"x\ny\n",
-            b"1,undo,x,do\n",
-            Err(ServeFault::NotText),
-        ),
-        (
-            b"undo\ndo\n",
-            b"x\n\xff\n",
-            b"1,undo,x,do\n",
-            Err(ServeFault::NotText),
-        ),
-        (b"a\n\xff\n", b"a\n", b"", Err(ServeFault::LengthsDiffer)),
-        (b"a\n", b"a\n\xff\n", b"", Err(ServeFault::LengthsDiffer)),
     ];
     assert!(rt; checks_so(rt.alloc(), PREFIXES, &rows)?);
     Ok(())
@@ -260,53 +202,6 @@ fn stems_are_written_for_a_vocabulary_alone(rt: HostRuntime) -> Result<(), Fail>
         ),
     ];
     assert!(rt; runs_so(rt.alloc(), Verb::Stem, &rows)?);
-    Ok(())
-}
-
-#[test]
-fn a_difference_has_status_1(rt: HostRuntime) -> Result<(), Fail> {
-    let rows: [Run; 3] = [
-        (
-            b"externals ( stem )\ndefine stem as ( [ among ( 'un' () 're' () ) ] delete )\n.\nundo\ndo\n.\ndo\nda\n",
-            1,
-            b"2,do,da,do\n",
-            b"",
-        ),
-        (
-            b"externals ( stem )\ndefine stem as ( [ among ( 'un' () 're' () ) ] delete )\n.\nundo\ndo\n.\ndo\nda\n.\n",
-            1,
-            b"2,do,da,do\n",
-            b"snowbench: 74 LengthsDiffer\n",
-        ),
-        // One carriage return is dropped in all; a point is an expected stem like any other.
-        (
-            b"externals ( stem ) define stem as true\r\n.\r\nab\r\r\n.\r\n.\r\r\n",
-            1,
-            b"1,\"ab\r\",\".\r\",\"ab\r\"\n",
-            b"",
-        ),
-    ];
-    assert!(rt; runs_so(rt.alloc(), Verb::Check, &rows)?);
-    Ok(())
-}
-
-#[test]
-fn a_fault_is_one_line_with_its_number(rt: HostRuntime) -> Result<(), Fail> {
-    let rows: [Run; 2] = [
-        (
-            b"externals ( stem ) define stem as true\n.\nab\n",
-            1,
-            b"",
-            b"snowbench: 73 Cut\n",
-        ),
-        (
-            b"externals ( stem ) define stem as next next\n.\nab\n",
-            1,
-            b"",
-            b"snowbench: 7 Syntax at 39\n",
-        ),
-    ];
-    assert!(rt; runs_so(rt.alloc(), Verb::Check, &rows)?);
     Ok(())
 }
 

@@ -1,4 +1,4 @@
-//! Scripts as they are parsed: the order of what is looked at, depth, length, and what a script keeps.
+//! Scripts as they are parsed: depth, length, and what a script keeps.
 
 use crate::tests::checks::{fault_in_body, fault_of};
 use crate::tests::scripts::PORTER;
@@ -16,28 +16,6 @@ fn repeated(rt: &impl Abort, alloc: Global, part: &str, count: usize) -> String 
         text.push_str(part).expect(rt, "memory");
     }
     text
-}
-
-#[test]
-fn tokens_come_before_the_profile_and_that_before_the_grammar(rt: HostRuntime) {
-    for (body, want) in [
-        ("( $x ) get", ScriptFault::OutOfProfile { place: 41 }),
-        ("$x=>3", ScriptFault::OutOfProfile { place: 36 }),
-        ("next ?", ScriptFault::OutOfProfile { place: 39 }),
-        ("( reverse", ScriptFault::OutOfProfile { place: 36 }),
-        (
-            "hop sizeof 'a' get",
-            ScriptFault::OutOfProfile { place: 38 },
-        ),
-        ("size ~", ScriptFault::BadCharacter { place: 39 }),
-        ("( $x 3 ) 'a", ScriptFault::UnclosedString { place: 43 }),
-        ("( $x 3 ) )", ScriptFault::OutOfProfile { place: 36 }),
-        (") $x 3", ScriptFault::Syntax { place: 34 }),
-        ("$x ", ScriptFault::Syntax { place: 37 }),
-        ("nowhere )", ScriptFault::Syntax { place: 42 }),
-    ] {
-        assert_eq!(rt; fault_in_body(&rt, rt.alloc(), body), Some(want), "{body}");
-    }
 }
 
 #[test]

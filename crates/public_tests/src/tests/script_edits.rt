@@ -1,4 +1,4 @@
-//! Edits of scripts, and why they are refused.
+//! Edits of scripts, and why they are refused, with places and items. More of them stand in tests/cases.
 
 use crate::tests::scripts::{FRONT, SUFFIX_ROUTINES};
 use sbl_script::{EditFault, Script, ScriptFault};
@@ -27,45 +27,6 @@ fn refused_among(
 fn refused_body(rt: &impl Abort, alloc: Global, body: &str, text: &str) -> Option<EditFault> {
     let script = with_body(rt, alloc, FRONT, body);
     script.with_routine(alloc, "stem", text).err()
-}
-
-#[test]
-fn an_among_is_told_by_its_number(rt: HostRuntime) {
-    let nested = "among ( 'a' ( among ( 'b' ) ) 'c' ( next among ( 'd' ) ) )";
-    for (body, k, text, want) in [
-        (nested, 0, "among ( 'x' )", Some(EditFault::NoAmong)),
-        (nested, 4, "among ( 'x' )", Some(EditFault::NoAmong)),
-        (nested, u64::MAX, "among ( 'x' )", Some(EditFault::NoAmong)),
-        (nested, 2, "among ( 'x' )", None),
-        (nested, 3, "among ( 'x' 'y' ( next ) )", None),
-        (nested, 1, "among ( 'x' )", Some(EditFault::AmongCount)),
-        (
-            nested,
-            1,
-            "among ( 'x' ( among ( 'y' ) among ( 'z' ) ) )",
-            None,
-        ),
-        (
-            nested,
-            2,
-            "among ( 'x' ( among ( 'y' ) ) )",
-            Some(EditFault::AmongCount),
-        ),
-        ("next", 1, "among ( 'x' )", Some(EditFault::NoAmong)),
-        ("among ( ( among ( 'b' ) ) 'a' )", 2, "among ( 'x' )", None),
-        (
-            "among ( ( among ( 'b' ) ) 'a' )",
-            1,
-            "among ( 'x' ( among ( 'b' ) ) )",
-            None,
-        ),
-    ] {
-        assert_eq!(rt;
-            refused_among(&rt, rt.alloc(), body, k, text),
-            want,
-            "{body}: {k}: {text}"
-        );
-    }
 }
 
 #[test]

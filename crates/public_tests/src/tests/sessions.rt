@@ -1,4 +1,4 @@
-//! Whole sessions, by what they write and how they end.
+//! Whole sessions, by what they write and how they end, and devices that fail. More of them stand in tests/cases.
 
 use crate::tests::devices::in_pieces;
 use sbl_bench::EditFault;
@@ -46,18 +46,6 @@ fn prefixes(alloc: Global, rest: &[u8]) -> Result<Ended, Fail> {
     session(alloc, input.as_slice(), 0, 0)
 }
 
-/// Takes plural endings off, in backward mode.
-const BACKWARDS: &[u8] = b"externals ( stem )
-routines ( tail last sib )
-backwardmode (
-  define sib as ( 'x' or 's' )
-  define tail as ( [substring] among ( 's' (delete) 'es' sib (delete) ) )
-  define last as ( ['e'] delete )
-)
-define stem as ( backwards ( do tail do ( test 'e' last ) ) )
-.
-";
-
 #[test]
 fn a_session_answers_its_lines(rt: HostRuntime) -> Result<(), Fail> {
     let rows: [(&[u8], &[u8], &[u8]); 8] = [
@@ -104,141 +92,6 @@ fn a_session_answers_its_lines(rt: HostRuntime) -> Result<(), Fail> {
 }
 
 #[test]
-fn a_session_runs_scripts_in_backward_mode(rt: HostRuntime) -> Result<(), Fail> {
-    let words = b"cats\nboxes\ncakes\ncake\ndog\n.\nadd s\nstems\n";
-    let input = after(rt.alloc(), BACKWARDS, words.as_slice())?;
-    let ended = session(rt.alloc(), input.as_slice(), 0, 0)?;
-    let text =
-        b"ok\ncats,stem,cat\nboxes,stem,box\ncakes,stem,cak\ncake,stem,cak\ndog,stem,dog\ns,stem,\n";
-    assert!(rt; ended.ending == Ok(()));
-    assert!(rt;
-        ended.text.as_slice() == text.as_slice(),
-        "{:?}",
-        ended.text
-    );
-    Ok(())
-}
-
-/// The words of an author at work on plural endings.
-const PLURALS: &[u8] = b"cats\nboxes\ncakes\ncake\ndog\n.\n";
-
-// Whether a session over these words, given these commands in turn, writes these answers and ends with its input.
-fn answers_so(alloc: Global, rows: &[(&[u8], &[u8])]) -> Result<bool, Fail> {
-    let mut commands = Vec::from_slice(alloc, PLURALS)?;
-    let mut text: Vec<u8> = Vec::new(alloc);
-    for (command, answer) in rows {
-        commands.extend_from_slice(command)?;
-        text.extend_from_slice(answer)?;
-    }
-    let input = after(alloc, BACKWARDS, commands.as_slice())?;
-    let ended = session(alloc, input.as_slice(), 0, 0)?;
-    Ok(ended.ending == Ok(()) && ended.text.as_slice() == text.as_slice())
-}
-
-#[test]
-fn classes_follow_the_edits_of_a_session(rt: HostRuntime) -> Result<(), Fail> {
-    let rows: [(&[u8], &[u8]); 6] = [
-        (
-            b"classes\n",
-            b"box,boxes\ncak,cake,cakes\ncat,cats\ndog,dog\n",
-        ),
-        (b"routine last\ntrue\n.\n", b"ok\n"),
-        (
-            b"classes\n",
-            b"box,boxes\ncake,cake,cakes\ncat,cats\ndog,dog\n",
-        ),
-        (b"routine sib\nfalse\n.\n", b"ok\n"),
-        (
-            b"classes\n",
-            b"boxe,boxes\ncake,cake,cakes\ncat,cats\ndog,dog\n",
-        ),
-        (b"class boxes\nclass box\n", b"boxe,boxes\nno 41 Absent\n"),
-    ];
-    assert!(rt; answers_so(rt.alloc(), &rows)?);
-    Ok(())
-}
-
-#[test]
-fn words_are_added_and_removed_in_a_session(rt: HostRuntime) -> Result<(), Fail> {
-    let rows: [(&[u8], &[u8]); 5] = [
-        (b"remove boxes\nadd boxes\n", b"ok\nok\n"),
-        (
-            b"stems\n",
-            b"cats,stem,cat\ncakes,stem,cak\ncake,stem,cak\ndog,stem,dog\nboxes,stem,box\n",
-        ),
-        (b"remove cake\nremove cake\n", b"ok\nno 41 Absent\n"),
-        (b"class cakes\nclass cake\n", b"cak,cakes\nno 41 Absent\n"),
-        (
-            b"remove\nclass\nclasses \n",
-            b"no 41 Absent\nno 41 Absent\nno 52 BadCommand\n",
-        ),
-    ];
-    assert!(rt; answers_so(rt.alloc(), &rows)?);
-    Ok(())
-}
-
-#[test]
-fn a_refused_edit_of_the_script_changes_nothing(rt: HostRuntime) -> Result<(), Fail> {
-    let rows: [(&[u8], &[u8]); 8] = [
-        (b"routine nope\n.\n", b"no 45 NoRoutine\n"),
-        (b"routine\n.\n", b"no 45 NoRoutine\n"),
-        (b"routine tail last\ntrue\n.\n", b"no 45 NoRoutine\n"),
-        (b"routine tail\n.\n", b"no 48 Syntax\n"),
-        (b"routine tail\nnowhere\n.\n", b"no 48 Undeclared\n"),
-        (b"routine nope\n\xff\n.\n", b"no 48 NotUtf8\n"),
-        (b"routine \xff\n\xff\n.\n", b"no 52 BadCommand\n"),
-        (
-            b"classes\n",
-            b"box,boxes\ncak,cake,cakes\ncat,cats\ndog,dog\n",
-        ),
-    ];
-    assert!(rt; answers_so(rt.alloc(), &rows)?);
-    Ok(())
-}
-
-#[test]
-fn a_word_without_a_stem_is_in_no_class_of_a_session(rt: HostRuntime) -> Result<(), Fail> {
-    let script = b"externals ( stem ) define stem as repeat true\n.\n";
-    let input = after(
-        rt.alloc(),
-        script.as_slice(),
-        b"a\n.\nclasses\nclass a\nremove a\nstems\nclasses\n",
-    )?;
-    let ended = session(rt.alloc(), input.as_slice(), 0, 0)?;
-    assert!(rt; ended.ending == Ok(()));
-    assert!(rt;
-        ended.text.as_slice() == b"a,refused,Steps\nok\n".as_slice(),
-        "{:?}",
-        ended.text
-    );
-    Ok(())
-}
-
-#[test]
-fn a_block_without_its_point_ends_a_session(rt: HostRuntime) -> Result<(), Fail> {
-    // Also behind a line that is bad.
-    let rows: [(&[u8], &[u8]); 3] = [
-        (b".\nadd undo\nroutine stem\ntrue\n", b"ok\n"),
-        (b".\nadd undo\nroutine \xff\ntrue\n", b"ok\n"),
-        (b".\nroutine stem", b""),
-    ];
-    for (rest, text) in rows {
-        let ended = prefixes(rt.alloc(), rest)?;
-        assert!(rt; ended.ending == Err(LoadFault::Input(ServeFault::Cut)));
-        assert!(rt; ended.text.as_slice() == text, "{:?}", ended.text);
-    }
-    Ok(())
-}
-
-#[test]
-fn the_point_of_a_block_may_be_the_last_byte(rt: HostRuntime) -> Result<(), Fail> {
-    let ended = prefixes(rt.alloc(), b"undo\n.\nroutine stem\ntrue\n.")?;
-    assert!(rt; ended.ending == Ok(()));
-    assert!(rt; ended.text.as_slice() == b"ok\n".as_slice());
-    Ok(())
-}
-
-#[test]
 fn a_line_too_long_ends_a_session(rt: HostRuntime) -> Result<(), Fail> {
     let line = vec![in rt.alloc(); b'a'; 65_537]?;
     // The second stands inside a block.
@@ -248,42 +101,6 @@ fn a_line_too_long_ends_a_session(rt: HostRuntime) -> Result<(), Fail> {
         let ended = prefixes(rt.alloc(), rest.as_slice())?;
         assert!(rt; ended.ending == Err(LoadFault::Input(ServeFault::LineTooLong)));
         assert!(rt; ended.text.as_slice() == b"ok\n".as_slice());
-    }
-    Ok(())
-}
-
-#[test]
-fn a_refused_run_is_a_row_of_a_session(rt: HostRuntime) -> Result<(), Fail> {
-    let rows: [(&[u8], &[u8]); 7] = [
-        (b"define stem as repeat true\n.\n", b"ab,refused,Steps\n"),
-        (b"define stem as stem\n.\n", b"ab,refused,Depth\n"),
-        (
-            b"define stem as ( next ] tolimit [ delete )\n.\n",
-            b"ab,refused,Slice\n",
-        ),
-        (
-            b"define stem as backwards ( [ next next ] do delete )\n.\n",
-            b"ab,refused,Cursor\n",
-        ),
-        (
-            b"integers ( x ) define stem as ( $x = maxint $x += 1 )\n.\n",
-            b"ab,refused,Integer\n",
-        ),
-        (
-            b"integers ( x ) define stem as ( $x = 1 / 0 )\n.\n",
-            b"ab,refused,Divide\n",
-        ),
-        (
-            b"define stem as repeat <+ 'aa'\n.\n",
-            b"ab,refused,TooLong\n",
-        ),
-    ];
-    for (body, text) in rows {
-        let script = after(rt.alloc(), b"externals ( stem ) ", body)?;
-        let input = after(rt.alloc(), script.as_slice(), b"ab\n.\nstems\n")?;
-        let ended = session(rt.alloc(), input.as_slice(), 0, 0)?;
-        assert!(rt; ended.ending == Ok(()));
-        assert!(rt; ended.text.as_slice() == text, "{:?}", ended.text);
     }
     Ok(())
 }

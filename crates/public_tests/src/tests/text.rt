@@ -1,4 +1,4 @@
-//! The tokens of texts, literals and codes, and what is printed of their faults.
+//! The tokens of texts, literals and codes, and what is printed of their faults. Rows of faults stand in tests/cases.
 
 use crate::tests::characters::text_of;
 use sbl_text::{
@@ -42,32 +42,6 @@ fn each_token_is_the_longest(rt: HostRuntime) -> Result<(), Fail> {
         ),
         ("'a // b' 'c\rd' ''", "'a // b' 'c\rd' '' "),
         ("'\u{e4}\u{1f600}'", "'\u{e4}\u{1f600}' "),
-    ];
-    for (text, want) in rows {
-        assert_eq!(rt; cut(rt.alloc(), text)?.as_str(), want, "in {text:?}");
-    }
-    Ok(())
-}
-
-#[test]
-fn the_first_fault_has_its_byte_place(rt: HostRuntime) -> Result<(), Fail> {
-    let rows = [
-        ("!", "1 BadCharacter at 0"),
-        ("a _b", "1 BadCharacter at 2"),
-        ("a\u{85}", "1 BadCharacter at 1"),
-        ("\u{a0}", "1 BadCharacter at 0"),
-        ("'\u{e4}' { ! 'a", "1 BadCharacter at 5"),
-        (
-            "externals ( stem ) define stem as 'ab",
-            "2 UnclosedString at 34",
-        ),
-        ("'a\nb'", "2 UnclosedString at 0"),
-        ("externals /* x", "3 UnclosedComment at 10"),
-        ("/*/", "3 UnclosedComment at 0"),
-        ("a 2147483648", "6 NumberTooLarge at 2"),
-        ("-2147483648", "6 NumberTooLarge at 1"),
-        ("12345678901234567890123456789 !", "6 NumberTooLarge at 0"),
-        ("0000000000002147483647 !", "1 BadCharacter at 23"),
     ];
     for (text, want) in rows {
         assert_eq!(rt; cut(rt.alloc(), text)?.as_str(), want, "in {text:?}");
