@@ -1,6 +1,6 @@
-//! The trees of texts, and the faults of the grammar.
+//! The trees of texts, and faults of the grammar. More of them stand in tests/cases.
 
-use crate::tests::scripts::{FRONT, PORTER, suffixes};
+use crate::tests::scripts::{FRONT, PLURALS, PORTER};
 use sbl_grammar::{one_fault, one_part, one_tree, parse};
 use sbl_script::{Command, Item, Plain};
 use sbl_text::{ScriptFault, tokens};
@@ -26,31 +26,18 @@ fn after_front(alloc: Global, body: &str) -> Result<String, AllocError> {
     shown(alloc, &text)
 }
 
-/// As many brackets, a command in them, and the brackets closed.
-fn nested(
-    alloc: Global,
-    open: &str,
-    depth: usize,
-    inside: &str,
-    close: &str,
-) -> Result<String, AllocError> {
+/// As many opening brackets.
+fn deep(alloc: Global, depth: usize) -> Result<String, AllocError> {
     let mut text = String::new(alloc);
     for _ in 0..depth {
-        text.push_str(open)?;
-    }
-    text.push_str(inside)?;
-    for _ in 0..depth {
-        text.push_str(close)?;
+        text.push('(')?;
     }
     Ok(text)
 }
 
 #[test]
 fn whole_scripts_are_read(rt: HostRuntime) -> Result<(), Fail> {
-    assert_eq!(rt;
-        shown(rt.alloc(), suffixes(rt.alloc())?.as_str())?.as_str(),
-        "4"
-    );
+    assert_eq!(rt; shown(rt.alloc(), PLURALS)?.as_str(), "4");
     assert_eq!(rt; shown(rt.alloc(), PORTER)?.as_str(), "9");
     assert_eq!(rt; shown(rt.alloc(), "")?.as_str(), "0");
     assert_eq!(rt; shown(rt.alloc(), "backwardmode ( )")?.as_str(), "1");
@@ -98,69 +85,13 @@ fn each_form_is_read(rt: HostRuntime) -> Result<(), Fail> {
 fn the_first_fault_of_the_grammar_is_answered(rt: HostRuntime) -> Result<(), Fail> {
     let rows = [
         ("( next next", "7 Syntax at 45"),
-        ("'a' 'b'", "7 Syntax at 38"),
         ("( $x 3 )", "20 OutOfProfile at 36"),
-        ("", "7 Syntax at 34"),
-        ("$x", "7 Syntax at 36"),
-        ("$ 3", "7 Syntax at 36"),
-        ("next or", "7 Syntax at 41"),
-        ("non + v", "7 Syntax at 38"),
-        ("non - 'a'", "7 Syntax at 40"),
-        ("among ( 'a' ( ) b )", "7 Syntax at 50"),
-        ("among ( 'a' b c )", "7 Syntax at 48"),
-        ("setlimit next next", "7 Syntax at 48"),
-        ("loop next", "7 Syntax at 39"),
-        ("hop 1 + * 2", "7 Syntax at 42"),
-        ("$( x + 1 )", "7 Syntax at 43"),
         ("get", "7 Syntax at 34"),
     ];
     for (body, fault) in rows {
         assert_eq!(rt; after_front(rt.alloc(), body)?.as_str(), fault, "{body}");
     }
-    let rows = [
-        ("routines r", "7 Syntax at 9"),
-        ("backwardmode ( backwardmode ( ) )", "7 Syntax at 15"),
-        ("define as next", "7 Syntax at 7"),
-        ("define v 'a' + + 'b'", "7 Syntax at 15"),
-        ("define", "7 Syntax at 6"),
-        ("next", "7 Syntax at 0"),
-    ];
-    for (text, fault) in rows {
-        assert_eq!(rt; shown(rt.alloc(), text)?.as_str(), fault, "{text}");
-    }
-    Ok(())
-}
-
-#[test]
-fn commands_stand_at_most_sixty_four_deep(rt: HostRuntime) -> Result<(), Fail> {
-    let rows = [
-        ("(", 63, "next", ")", "2"),
-        ("(", 64, "next", ")", "8 TooDeep at 98"),
-        ("(", 64, "", ")", "2"),
-        ("(", 64, "or", ")", "7 Syntax at 98"),
-        ("(", 64, "$x 3", ")", "8 TooDeep at 98"),
-        ("(", 63, "hop ( 1 )", ")", "8 TooDeep at 101"),
-        ("(", 62, "hop ( - 1 )", ")", "8 TooDeep at 102"),
-        ("(", 62, "hop ( 1 )", ")", "2"),
-        ("(", 63, "$( 1 == 1 )", ")", "2"),
-        ("(", 63, "among ( 'a' r ( ) )", ")", "8 TooDeep at 111"),
-        ("(", 62, "among ( 'a' ( next ) )", ")", "8 TooDeep at 110"),
-        ("(", 62, "among ( ( ) 'a' ( ) )", ")", "2"),
-        ("(", 63, "among ( ( ) 'a' )", ")", "8 TooDeep at 105"),
-        ("(", 62, "among ( ( next ) 'a' )", ")", "8 TooDeep at 106"),
-        ("(", 63, "among ( 'a' r 'b' )", ")", "2"),
-        ("not ", 63, "next", "", "2"),
-        ("not ", 64, "next", "", "8 TooDeep at 290"),
-    ];
-    for (open, depth, inside, close, fault) in rows {
-        let body = nested(rt.alloc(), open, depth, inside, close)?;
-        assert_eq!(rt;
-            after_front(rt.alloc(), &body)?.as_str(),
-            fault,
-            "{open} {depth} {inside}"
-        );
-    }
-    let deep = nested(rt.alloc(), "(", 100000, "", "")?;
+    let deep = deep(rt.alloc(), 100_000)?;
     assert_eq!(rt; after_front(rt.alloc(), &deep)?.as_str(), "8 TooDeep at 98");
     Ok(())
 }

@@ -1,6 +1,6 @@
-//! Scripts as they are parsed: depth, length, and what a script keeps.
+//! Scripts as they are parsed: each way to be refused once, depth, length, and what a script keeps.
+//! Rows of single checks stand in tests/cases.
 
-use crate::tests::checks::{fault_in_body, fault_of};
 use crate::tests::scripts::PORTER;
 use sbl_script::laws::{
     amongs_are_sound, fault_is_first, names_resolve, one_edit, one_reading, substrings_are_paired,
@@ -9,6 +9,11 @@ use sbl_script::laws::{
 use sbl_script::{Script, ScriptFault};
 use std::alloc::Global;
 use std::process::Abort;
+
+/// The fault of a script; `None` where it is accepted.
+fn fault_of(alloc: Global, text: &str) -> Option<ScriptFault> {
+    Script::parse(alloc, text.as_bytes(), "stem").err()
+}
 
 fn repeated(rt: &impl Abort, alloc: Global, part: &str, count: usize) -> String {
     let mut text = String::new(alloc);
@@ -19,30 +24,49 @@ fn repeated(rt: &impl Abort, alloc: Global, part: &str, count: usize) -> String 
 }
 
 #[test]
-fn commands_nest_at_most_sixty_four_deep(rt: HostRuntime) {
-    let alloc = rt.alloc();
-    for (count, inside, place) in [
-        (63, "next", None),
-        (64, "next", Some(98)),
-        (64, "$x 3", Some(98)),
-        (63, "$( 1 == 1 )", None),
-        (63, "hop ( 1 )", Some(101)),
-        (62, "hop - ( 1 )", Some(102)),
-        (63, "among ( 'a' 'b' stem )", None),
-        (63, "among ( ( ) 'a' )", Some(105)),
-        (63, "among ( 'a' ( ) )", Some(109)),
-        (62, "among ( 'a' ( next ) )", Some(110)),
+fn a_script_is_accepted_or_has_its_first_fault(rt: HostRuntime) {
+    for (text, want) in [
+        ("externals ( stem ) define stem as stem", None),
+        ("! \"", Some(ScriptFault::BadCharacter { place: 0 })),
+        (
+            "externals ( ) ) $x 3 size",
+            Some(ScriptFault::OutOfProfile { place: 21 }),
+        ),
+        (
+            "externals ( stem ) define stem as",
+            Some(ScriptFault::Syntax { place: 33 }),
+        ),
+        (
+            "define stem as next externals ( stem )",
+            Some(ScriptFault::Undeclared { item: 1 }),
+        ),
+        ("", Some(ScriptFault::NoExternal)),
     ] {
-        let open = repeated(&rt, alloc, "(", count);
-        let close = repeated(&rt, alloc, ")", count);
-        let body = format!(in alloc; "{open}{inside}{close}").expect(&rt, "memory");
-        let want = place.map(|place| ScriptFault::TooDeep { place });
-        assert_eq!(rt; fault_in_body(&rt, alloc, body.as_str()), want, "{inside}");
+        assert_eq!(rt; fault_of(rt.alloc(), text), want, "{text}");
     }
-    let open = repeated(&rt, alloc, "(", 300_000);
+}
+
+#[test]
+fn texts_of_every_depth_and_length_have_an_answer(rt: HostRuntime) {
+    let alloc = rt.alloc();
+    for (front, part, count, want) in [
+        (
+            "externals ( stem ) define stem as ",
+            "(",
+            300_000,
+            Some(ScriptFault::TooDeep { place: 98 }),
+        ),
+        ("", " ", 1_048_577, Some(ScriptFault::ScriptTooLong)),
+        ("", " ", 1_048_576, Some(ScriptFault::NoExternal)),
+    ] {
+        let mut text = repeated(&rt, alloc, front, 1);
+        text.push_str(repeated(&rt, alloc, part, count).as_str())
+            .expect(&rt, "memory");
+        assert_eq!(rt; fault_of(alloc, text.as_str()), want, "{count}");
+    }
     assert_eq!(rt;
-        fault_in_body(&rt, alloc, open.as_str()),
-        Some(ScriptFault::TooDeep { place: 98 })
+        Script::parse(alloc, b"\xff", "stem").err(),
+        Some(ScriptFault::NotUtf8)
     );
 }
 
@@ -56,25 +80,6 @@ fn every_front_of_a_script_has_an_answer(rt: HostRuntime) {
         assert!(rt; fault != Some(ScriptFault::OutOfMemory), "{front}");
         front.push(letter).expect(&rt, "memory");
     }
-}
-
-#[test]
-fn bytes_that_are_no_text_or_too_many_are_refused(rt: HostRuntime) {
-    let alloc = rt.alloc();
-    assert_eq!(rt;
-        Script::parse(alloc, b"\xff", "stem").err(),
-        Some(ScriptFault::NotUtf8)
-    );
-    let long = repeated(&rt, alloc, " ", 1_048_577);
-    assert_eq!(rt;
-        fault_of(alloc, long.as_str()),
-        Some(ScriptFault::ScriptTooLong)
-    );
-    let blank = repeated(&rt, alloc, " ", 1_048_576);
-    assert_eq!(rt;
-        fault_of(alloc, blank.as_str()),
-        Some(ScriptFault::NoExternal)
-    );
 }
 
 #[test]

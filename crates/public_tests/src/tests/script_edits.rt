@@ -1,124 +1,186 @@
-//! Edits of scripts, and why they are refused, with places and items. More of them stand in tests/cases.
+//! Edits of scripts, and why they are refused, with places and items. What sessions can show of them stands in tests/cases.
 
-use crate::tests::scripts::{FRONT, SUFFIX_ROUTINES};
+use crate::tests::scripts::{FRONT, PLURALS};
 use sbl_script::{EditFault, Script, ScriptFault};
 use std::alloc::Global;
 use std::process::Abort;
 
-/// The script whose external has this body.
-fn with_body(rt: &impl Abort, alloc: Global, front: &str, body: &str) -> Script {
-    let text = format!(in alloc; "{front}{body}").expect(rt, "memory");
-    Script::parse(alloc, text.as_bytes(), "stem").expect(rt, "a script")
-}
-
-/// Why the text is refused in the place of an among of the external; `None` where it is taken.
-fn refused_among(
-    rt: &impl Abort,
-    alloc: Global,
-    body: &str,
-    k: u64,
-    text: &str,
-) -> Option<EditFault> {
-    let script = with_body(rt, alloc, FRONT, body);
-    script.with_among(alloc, "stem", k, text).err()
-}
-
-/// The same in the place of the external's body.
-fn refused_body(rt: &impl Abort, alloc: Global, body: &str, text: &str) -> Option<EditFault> {
-    let script = with_body(rt, alloc, FRONT, body);
-    script.with_routine(alloc, "stem", text).err()
-}
-
-#[test]
-fn what_is_missing_comes_before_the_text(rt: HostRuntime) {
-    let script = with_body(&rt, rt.alloc(), SUFFIX_ROUTINES, "backwards tail");
-    for (name, k, text, want) in [
-        ("nope", 1, "", EditFault::NoRoutine),
-        ("nope", 0, "among ( 's' )", EditFault::NoRoutine),
-        ("last", 1, "", EditFault::NoAmong),
-        ("tail", 2, "", EditFault::NoAmong),
-        (
-            "tail",
-            1,
-            "among ( 's' (among ( 'e' (delete) )) )",
-            EditFault::AmongCount,
-        ),
-        (
-            "tail",
-            1,
-            "among ( 's' (among ( 'e' (nowhere) )) )",
-            EditFault::Script(ScriptFault::Undeclared { item: 4 }),
-        ),
-    ] {
-        assert_eq!(rt;
-            script.with_among(rt.alloc(), name, k, text).err(),
-            Some(want),
-            "{name} {k} {text}"
-        );
+/// Why a text is refused in the place of an among of the external, or of its body where the number is 0; `None` where it is
+/// taken.
+fn refused(rt: &impl Abort, alloc: Global, body: &str, k: u64, text: &str) -> Option<EditFault> {
+    let script = format!(in alloc; "{FRONT}{body}").expect(rt, "memory");
+    let script = Script::parse(alloc, script.as_bytes(), "stem").expect(rt, "a script");
+    if k == 0 {
+        script.with_routine(alloc, "stem", text).err()
+    } else {
+        script.with_among(alloc, "stem", k, text).err()
     }
-    assert_eq!(rt;
-        script.with_routine(rt.alloc(), "nope", "").err(),
-        Some(EditFault::NoRoutine)
-    );
-    assert_eq!(rt;
-        script.with_routine(rt.alloc(), "tail", "nowhere").err(),
-        Some(EditFault::Script(ScriptFault::Undeclared { item: 4 }))
-    );
+}
+
+/// A body, the number of an among or 0, a text, and the fault of the script for which it is refused.
+type Row<'a> = (&'a str, u64, &'a str, ScriptFault);
+
+/// Whether each text is refused for its fault; the first that is not is told.
+fn are_refused(rt: &impl Abort, alloc: Global, rows: &[Row]) {
+    for (body, k, text, want) in rows {
+        let found = refused(rt, alloc, body, *k, text);
+        assert_eq!(rt; found, Some(EditFault::Script(*want)), "{body}: {text}");
+    }
 }
 
 #[test]
 fn a_text_is_one_whole_item(rt: HostRuntime) {
+    let among = "( next among ( 'a' ) )";
     let place = 13;
-    for (text, want) in [
-        ("", ScriptFault::Syntax { place: 0 }),
-        ("  ", ScriptFault::Syntax { place: 2 }),
-        ("next", ScriptFault::Syntax { place: 0 }),
-        ("( among ( 'a' ) )", ScriptFault::Syntax { place: 0 }),
-        ("among ( 'a'", ScriptFault::Syntax { place: 11 }),
-        ("among ( 'a' )next", ScriptFault::Syntax { place }),
-        ("among ( 'a' )among ( 'b' )", ScriptFault::Syntax { place }),
-        ("among ( 'a' ))", ScriptFault::Syntax { place }),
+    let rows: [Row; 14] = [
+        (among, 1, "", ScriptFault::Syntax { place: 0 }),
+        (among, 1, "  ", ScriptFault::Syntax { place: 2 }),
+        (among, 1, "next", ScriptFault::Syntax { place: 0 }),
         (
+            among,
+            1,
+            "( among ( 'a' ) )",
+            ScriptFault::Syntax { place: 0 },
+        ),
+        (among, 1, "among ( 'a'", ScriptFault::Syntax { place: 11 }),
+        (among, 1, "among ( 'a' )next", ScriptFault::Syntax { place }),
+        (
+            among,
+            1,
+            "among ( 'a' )among ( 'b' )",
+            ScriptFault::Syntax { place },
+        ),
+        (among, 1, "among ( 'a' ))", ScriptFault::Syntax { place }),
+        (
+            among,
+            1,
             "among ( 'a' )define r as next",
             ScriptFault::Syntax { place },
         ),
-        ("among ( 'a' )or next", ScriptFault::Syntax { place }),
-    ] {
-        let found = refused_among(&rt, rt.alloc(), "( next among ( 'a' ) )", 1, text);
-        assert_eq!(rt; found, Some(EditFault::Script(want)), "{text}");
-    }
-    for (text, want) in [
-        ("", ScriptFault::Syntax { place: 0 }),
-        ("next define r as next", ScriptFault::Syntax { place: 5 }),
-        ("next )", ScriptFault::Syntax { place: 5 }),
-        ("next or", ScriptFault::Syntax { place: 7 }),
-    ] {
-        let found = refused_body(&rt, rt.alloc(), "next", text);
-        assert_eq!(rt; found, Some(EditFault::Script(want)), "{text}");
-    }
-    assert_eq!(rt; refused_body(&rt, rt.alloc(), "next", "next or next"), None);
+        (
+            among,
+            1,
+            "among ( 'a' )or next",
+            ScriptFault::Syntax { place },
+        ),
+        ("next", 0, "", ScriptFault::Syntax { place: 0 }),
+        (
+            "next",
+            0,
+            "next define r as next",
+            ScriptFault::Syntax { place: 5 },
+        ),
+        ("next", 0, "next )", ScriptFault::Syntax { place: 5 }),
+        ("next", 0, "next or", ScriptFault::Syntax { place: 7 }),
+    ];
+    are_refused(&rt, rt.alloc(), &rows);
+    assert_eq!(rt; refused(&rt, rt.alloc(), "next", 0, "next or next"), None);
 }
 
 #[test]
-fn depth_counts_from_the_place(rt: HostRuntime) {
-    let mut deep = String::new(rt.alloc());
+fn the_whole_item_is_checked(rt: HostRuntime) {
+    let item = 2;
+    let paired = "( substring among ( 'a' ) )";
+    let among = "among ( 'a' )";
+    let back = "backwards among ( 'a' )";
+    let rows: [Row; 11] = [
+        (
+            paired,
+            1,
+            "among ( ( next ) 'a' )",
+            ScriptFault::Starter { item },
+        ),
+        (
+            among,
+            1,
+            "among ( 'a' stem nowhere )",
+            ScriptFault::Syntax { place: 17 },
+        ),
+        (
+            among,
+            1,
+            "among ( 'a' nowhere )",
+            ScriptFault::Undeclared { item },
+        ),
+        (
+            among,
+            1,
+            "among ( 'a' ( set stem ) )",
+            ScriptFault::WrongKind { item },
+        ),
+        (
+            among,
+            1,
+            "among ( 'a' 'b' ( next ) 'a' )",
+            ScriptFault::RepeatedString { item },
+        ),
+        (among, 1, "among ( )", ScriptFault::EmptyAmong { item }),
+        (
+            among,
+            1,
+            "among ( 'a' ( substring ) )",
+            ScriptFault::Substring { item },
+        ),
+        (
+            back,
+            1,
+            "among ( 'a' stem )",
+            ScriptFault::WrongMode { item },
+        ),
+        (
+            back,
+            1,
+            "among ( 'a' ( backwards next ) )",
+            ScriptFault::NestedBackwards { item },
+        ),
+        (
+            among,
+            1,
+            "among ( 'a' ( get ) )",
+            ScriptFault::OutOfProfile { place: 14 },
+        ),
+        (
+            among,
+            1,
+            "among ( 'a",
+            ScriptFault::UnclosedString { place: 8 },
+        ),
+    ];
+    are_refused(&rt, rt.alloc(), &rows);
+}
+
+#[test]
+fn depth_counts_from_the_place_and_length_from_the_text(rt: HostRuntime) {
+    let alloc = rt.alloc();
+    let mut deep = String::new(alloc);
     for _ in 0..59 {
         deep.push_str("not ").expect(&rt, "memory");
     }
     deep.push_str("among ( 'a' )").expect(&rt, "memory");
-    let deep = deep.as_str();
-    let at_64 = "among ( 'a' ( not not next ) )";
+    let mut long = String::new(alloc);
+    for _ in 0..1_048_577 {
+        long.push_str(" ").expect(&rt, "memory");
+    }
     let at_65 = "among ( 'a' ( not not not next ) )";
-    let place = 26;
-    assert_eq!(rt; refused_among(&rt, rt.alloc(), deep, 1, at_64), None);
-    assert_eq!(rt;
-        refused_among(&rt, rt.alloc(), deep, 1, at_65),
-        Some(EditFault::Script(ScriptFault::TooDeep { place }))
-    );
-    assert_eq!(rt;
-        refused_among(&rt, rt.alloc(), "among ( 'a' )", 1, at_65),
-        None
-    );
+    let rows: [Row; 3] = [
+        (deep.as_str(), 1, at_65, ScriptFault::TooDeep { place: 26 }),
+        (
+            "among ( 'a' )",
+            1,
+            long.as_str(),
+            ScriptFault::ScriptTooLong,
+        ),
+        (
+            "among ( 'a' )",
+            0,
+            long.as_str(),
+            ScriptFault::ScriptTooLong,
+        ),
+    ];
+    are_refused(&rt, alloc, &rows);
+    let at_64 = "among ( 'a' ( not not next ) )";
+    assert_eq!(rt; refused(&rt, alloc, deep.as_str(), 1, at_64), None);
+    assert_eq!(rt; refused(&rt, alloc, "among ( 'a' )", 1, at_65), None);
 }
 
 #[test]
@@ -143,78 +205,31 @@ fn escapes_are_those_before_the_item(rt: HostRuntime) {
 }
 
 #[test]
-fn the_whole_item_is_checked(rt: HostRuntime) {
-    let item = 2;
-    for (body, text, want) in [
+fn a_routine_is_found_by_its_name(rt: HostRuntime) {
+    let alloc = rt.alloc();
+    let script = Script::parse(alloc, PLURALS.as_bytes(), "stem").expect(&rt, "a script");
+    for (name, text, want) in [
+        ("nope", "", Some(EditFault::NoRoutine)),
+        ("nope", "true", Some(EditFault::NoRoutine)),
+        ("stem2", "nowhere", Some(EditFault::NoRoutine)),
+        ("last", "true\n", None),
         (
-            "( substring among ( 'a' ) )",
-            "among ( ( next ) 'a' )",
-            ScriptFault::Starter { item },
+            "tail",
+            "nowhere",
+            Some(EditFault::Script(ScriptFault::Undeclared { item: 4 })),
         ),
         (
-            "among ( 'a' )",
-            "among ( 'a' stem nowhere )",
-            ScriptFault::Syntax { place: 17 },
+            "tail",
+            "",
+            Some(EditFault::Script(ScriptFault::Syntax { place: 0 })),
         ),
         (
-            "among ( 'a' )",
-            "among ( 'a' nowhere )",
-            ScriptFault::Undeclared { item },
-        ),
-        (
-            "among ( 'a' )",
-            "among ( 'a' ( set stem ) )",
-            ScriptFault::WrongKind { item },
-        ),
-        (
-            "among ( 'a' )",
-            "among ( 'a' 'b' ( next ) 'a' )",
-            ScriptFault::RepeatedString { item },
-        ),
-        (
-            "among ( 'a' )",
-            "among ( )",
-            ScriptFault::EmptyAmong { item },
-        ),
-        (
-            "among ( 'a' )",
-            "among ( 'a' ( substring ) )",
-            ScriptFault::Substring { item },
-        ),
-        (
-            "backwards among ( 'a' )",
-            "among ( 'a' stem )",
-            ScriptFault::WrongMode { item },
-        ),
-        (
-            "backwards among ( 'a' )",
-            "among ( 'a' ( backwards next ) )",
-            ScriptFault::NestedBackwards { item },
-        ),
-        (
-            "among ( 'a' )",
-            "among ( 'a' ( get ) )",
-            ScriptFault::OutOfProfile { place: 14 },
-        ),
-        (
-            "among ( 'a' )",
-            "among ( 'a",
-            ScriptFault::UnclosedString { place: 8 },
+            "stem",
+            "tail",
+            Some(EditFault::Script(ScriptFault::WrongMode { item: 6 })),
         ),
     ] {
-        let found = refused_among(&rt, rt.alloc(), body, 1, text);
-        assert_eq!(rt; found, Some(EditFault::Script(want)), "{body}: {text}");
+        let taken = script.with_routine(alloc, name, text);
+        assert_eq!(rt; taken.err(), want, "{name} {text}");
     }
-}
-
-#[test]
-fn a_text_may_be_too_long(rt: HostRuntime) {
-    let mut text = String::new(rt.alloc());
-    for _ in 0..1_048_577 {
-        text.push_str(" ").expect(&rt, "memory");
-    }
-    let found = refused_among(&rt, rt.alloc(), "among ( 'a' )", 1, text.as_str());
-    assert_eq!(rt; found, Some(EditFault::Script(ScriptFault::ScriptTooLong)));
-    let found = refused_body(&rt, rt.alloc(), "among ( 'a' )", text.as_str());
-    assert_eq!(rt; found, Some(EditFault::Script(ScriptFault::ScriptTooLong)));
 }

