@@ -1,0 +1,79 @@
+//! Arithmetic expressions.
+
+ghost use Rattle.std.specs.Prelude.{OnOk, string_bytes};
+ghost use Rattle.sbl_tree.specs.Tree.{spelled_expression, spelled_factor, spelled_product, spelled_scales, spelled_sums};
+ghost use Rattle.sbl_tree.specs.View.{view_expression, view_factor, view_product, view_scales, view_sums};
+ghost use Rattle.sbl_print.specs.Adding.{Adds};
+
+use crate::tokens::{put, put_argument, put_name, put_number, put_sign, put_word};
+use crate::words::{additive_text, constant_text, multiplicative_text};
+use sbl_text::{Sign, Word};
+use sbl_tree::{Added, Expression, Factor, Product, Scaled};
+use std::alloc::{AllocError, Global};
+
+/// Puts an expression. Want of memory is the one error.
+#[cycle(arithmetic)]
+pub fn put_expression(
+    alloc: Global,
+    out: &mut String,
+    expression: &Expression,
+) -> Result<(), AllocError>
+    ensures { OnOk result (Adds (string_bytes out.old) (string_bytes out.new) (spelled_expression (view_expression expression.now))) }
+{
+    put_product(alloc, out, &expression.first)?;
+    put_sums(alloc, out, &expression.others)
+}
+
+#[cycle(arithmetic)]
+fn put_sums(alloc: Global, out: &mut String, others: &Vec<Added>) -> Result<(), AllocError>
+    ensures { OnOk result (Adds (string_bytes out.old) (string_bytes out.new) (spelled_sums (view_sums others.now.items))) }
+{
+    for added in others {
+        put(out, additive_text(added.operator))?;
+        put_product(alloc, out, &added.product)?;
+    }
+    Ok(())
+}
+
+#[cycle(arithmetic)]
+fn put_product(alloc: Global, out: &mut String, product: &Product) -> Result<(), AllocError>
+    ensures { OnOk result (Adds (string_bytes out.old) (string_bytes out.new) (spelled_product (view_product product.now))) }
+{
+    put_factor(alloc, out, &product.first)?;
+    put_scales(alloc, out, &product.others)
+}
+
+#[cycle(arithmetic)]
+fn put_scales(alloc: Global, out: &mut String, others: &Vec<Scaled>) -> Result<(), AllocError>
+    ensures { OnOk result (Adds (string_bytes out.old) (string_bytes out.new) (spelled_scales (view_scales others.now.items))) }
+{
+    for scaled in others {
+        put(out, multiplicative_text(scaled.operator))?;
+        put_factor(alloc, out, &scaled.factor)?;
+    }
+    Ok(())
+}
+
+#[cycle(arithmetic)]
+fn put_factor(alloc: Global, out: &mut String, factor: &Factor) -> Result<(), AllocError>
+    ensures { OnOk result (Adds (string_bytes out.old) (string_bytes out.new) (spelled_factor (view_factor factor.now))) }
+{
+    match factor {
+        Factor::Minus(inner) => {
+            put_sign(out, Sign::Minus)?;
+            put_factor(alloc, out, inner)
+        }
+        Factor::Bracket(inner) => {
+            put_sign(out, Sign::Open)?;
+            put_expression(alloc, out, inner)?;
+            put_sign(out, Sign::Close)
+        }
+        Factor::Number(number) => put_number(alloc, out, *number),
+        Factor::Name(name) => put_name(out, name),
+        Factor::Constant(constant) => put(out, constant_text(*constant)),
+        Factor::LenOf(argument) => {
+            put_word(out, Word::LenOf)?;
+            put_argument(out, argument)
+        }
+    }
+}

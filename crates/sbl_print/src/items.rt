@@ -1,0 +1,172 @@
+//! Items, and the text of all of them.
+
+ghost use Rattle.std.specs.Prelude.{◌≡◌, ◌++◌, ◌∷◌, [], IfOk, OnOk, map, string_bytes};
+ghost use Rattle.std.specs.List.{flat_map};
+ghost use Rattle.sbl_tree.specs.Terminal as t;
+ghost use Rattle.sbl_tree.specs.Tree.{spelled_base, spelled_names, spelled_plain, spelled_terms};
+ghost use Rattle.sbl_tree.specs.Tree as trees;
+ghost use Rattle.sbl_tree.specs.View.{view_argument, view_item, view_items, view_literal, view_plain, view_row, view_term};
+ghost use Rattle.sbl_print.specs.Canonical.{canonical, item_text, plain_text};
+ghost use Rattle.sbl_print.specs.Adding.{Adds, Begins};
+
+use crate::commands::put_row;
+use crate::tokens::{
+    put, put_argument, put_inserts, put_literal, put_macro_name, put_name, put_sign, put_word,
+};
+use crate::words::{additive_text, base_text, declaration_text};
+use sbl_text::{Sign, Word};
+use sbl_tree::{Argument, Base, DeclarationKind, Item, Literal, Plain, Row, Term};
+use std::alloc::{AllocError, Global};
+
+/// Puts names. Want of memory is the one error.
+fn put_names(out: &mut String, names: &Vec<String>) -> Result<(), AllocError>
+    ensures { OnOk result (Adds (string_bytes out.old) (string_bytes out.new) (spelled_names (map string_bytes names.now.items))) }
+{
+    for name in names {
+        put_name(out, name)?;
+    }
+    Ok(())
+}
+
+/// Puts `hex` or `decimal`, or nothing. Want of memory is the one error.
+fn put_base(out: &mut String, base: Option<Base>) -> Result<(), AllocError>
+    ensures { OnOk result (Adds (string_bytes out.old) (string_bytes out.new) (spelled_base base)) }
+{
+    match base {
+        None => Ok(()),
+        Some(base) => put(out, base_text(base)),
+    }
+}
+
+/// Puts further terms of a grouping. Want of memory is the one error.
+fn put_terms(out: &mut String, terms: &Vec<Term>) -> Result<(), AllocError>
+    ensures { OnOk result (Adds (string_bytes out.old) (string_bytes out.new) (spelled_terms (map view_term terms.now.items))) }
+{
+    for term in terms {
+        put(out, additive_text(term.operator))?;
+        put_argument(out, &term.argument)?;
+    }
+    Ok(())
+}
+
+/// Begins the line of a declaration. Want of memory is the one error.
+fn begin_declaration(
+    out: &mut String,
+    kind: DeclarationKind,
+    names: &Vec<String>,
+) -> Result<(), AllocError>
+    ensures { OnOk result (Begins (string_bytes out.old) (string_bytes out.new) (spelled_plain (trees.declaration kind (map string_bytes names.now.items)) [])) }
+{
+    out.push_str(declaration_text(kind))?;
+    put_sign(out, Sign::Open)?;
+    put_names(out, names)?;
+    put_sign(out, Sign::Close)
+}
+
+/// Begins the line of `stringescapes`. Want of memory is the one error.
+fn begin_escapes(out: &mut String, a: char, b: char) -> Result<(), AllocError>
+    ensures { OnOk result (Begins (string_bytes out.old) (string_bytes out.new) (spelled_plain (trees.escapes a b) [])) }
+{
+    out.push_str(Word::StringEscapes.text())?;
+    put_inserts(out, a, b)
+}
+
+/// Begins the line of `stringdef`. Want of memory is the one error.
+fn begin_macro(
+    out: &mut String,
+    name: &String,
+    base: Option<Base>,
+    value: &Literal,
+) -> Result<(), AllocError>
+    ensures { OnOk result (Begins (string_bytes out.old) (string_bytes out.new) (spelled_plain (trees.macro (string_bytes name.now) base (view_literal value.now)) [])) }
+{
+    out.push_str(Word::StringDef.text())?;
+    put_macro_name(out, name)?;
+    put_base(out, base)?;
+    put_literal(out, value)
+}
+
+/// Begins the line of a routine. Want of memory is the one error.
+fn begin_routine(
+    alloc: Global,
+    out: &mut String,
+    name: &String,
+    body: &Row,
+) -> Result<(), AllocError>
+    ensures { OnOk result (Begins (string_bytes out.old) (string_bytes out.new) (spelled_plain (trees.routine (string_bytes name.now) (view_row body.now).0 (view_row body.now).1) [])) }
+{
+    out.push_str(Word::Define.text())?;
+    put_name(out, name)?;
+    put_word(out, Word::As)?;
+    put_row(alloc, out, body)
+}
+
+/// Begins the line of a grouping. Want of memory is the one error.
+fn begin_grouping(
+    out: &mut String,
+    name: &String,
+    first: &Argument,
+    others: &Vec<Term>,
+) -> Result<(), AllocError>
+    ensures { OnOk result (Begins (string_bytes out.old) (string_bytes out.new) (spelled_plain (trees.grouping (string_bytes name.now) (view_argument first.now) (map view_term others.now.items)) [])) }
+{
+    out.push_str(Word::Define.text())?;
+    put_name(out, name)?;
+    put_argument(out, first)?;
+    put_terms(out, others)
+}
+
+/// Puts the line of an item that may stand in a `backwardmode`. Want of memory is the one error.
+fn put_plain(alloc: Global, out: &mut String, plain: &Plain) -> Result<(), AllocError>
+    ensures { OnOk result (string_bytes out.new ≡ string_bytes out.old ++ plain_text (view_plain plain.now)) }
+{
+    match plain {
+        Plain::Declaration(kind, names) => begin_declaration(out, *kind, names)?,
+        Plain::StringEscapes(a, b) => begin_escapes(out, *a, *b)?,
+        Plain::StringDef { name, base, value } => begin_macro(out, name, *base, value)?,
+        Plain::Routine { name, body } => begin_routine(alloc, out, name, body)?,
+        Plain::Grouping {
+            name,
+            first,
+            others,
+        } => begin_grouping(out, name, first, others)?,
+    }
+    out.push_str("\n")
+}
+
+/// Puts the lines of items that may stand in a `backwardmode`. Want of memory is the one error.
+fn put_plains(alloc: Global, out: &mut String, plains: &Vec<Plain>) -> Result<(), AllocError>
+    ensures { OnOk result (string_bytes out.new ≡ string_bytes out.old ++ flat_map plain_text (map view_plain plains.now.items)) }
+{
+    for plain in plains {
+        put_plain(alloc, out, plain)?;
+    }
+    Ok(())
+}
+
+/// Puts the lines of an item. Want of memory is the one error.
+fn put_item(alloc: Global, out: &mut String, item: &Item) -> Result<(), AllocError>
+    ensures { OnOk result (string_bytes out.new ≡ string_bytes out.old ++ item_text (view_item item.now)) }
+{
+    match item {
+        Item::Plain(plain) => put_plain(alloc, out, plain),
+        Item::BackwardMode(plains) => {
+            out.push_str("backwardmode (\n")?;
+            put_plains(alloc, out, plains)?;
+            out.push_str(")\n")
+        }
+    }
+}
+
+/// The canonical text of the items of a script (our own choice): each item is a line of its tokens with one space between
+/// each two, and a `backwardmode` is a line `backwardmode (`, its items and a line `)`. A literal is written by its
+/// spelling in quotes, a number by its value in decimal; comments and other blanks are gone. Want of memory is the one error.
+pub fn canonical_text(alloc: Global, items: &[Item]) -> Result<String, AllocError>
+    ensures { IfOk result (λ text. string_bytes text ≡ canonical (view_items items.now)) }
+{
+    let mut out = String::new(alloc);
+    for item in items {
+        put_item(alloc, &mut out, item)?;
+    }
+    Ok(out)
+}
