@@ -1,14 +1,17 @@
 # Cuts files of cases (tests/README.md has their form) into the files of a run: ROOM/N.title, .words (one a line), .in, .out,
-# .err and .status for the Nth case, counted from the first number, and .launcher where the launcher is tried.
+# .err and .status for the Nth case, counted from the first number, .launcher where the launcher is tried, and .proved where the
+# case is not for a program that was compiled without proofs.
 #   LC_ALL=C awk -v room=ROOM -v first=0 -f tests/cases.awk FILE..
 BEGIN { number = first - 1 }
 /^== / { finish(); begin(substr($0, 4)); next }
 /^words:/ { words = substr($0, 7); next }
 /^launcher:/ { words = substr($0, 10); printf "" >(base ".launcher"); close(base ".launcher"); next }
+/^proved program only$/ { printf "" >(base ".proved"); close(base ".proved"); next }
 /^status: [0-9]+$/ { status = substr($0, 9); next }
 /^(input|output|errors)$/ { part = $0; next }
 /^\|/ { write(substr($0, 2) "\n"); next }
 /^\\\|/ { write(meant(substr($0, 3))); next }
+/^[0-9]+\*\|/ { write(again(substr($0, index($0, "|") + 1) "\n", $0 + 0)); next }
 /^#/ || /^$/ { next }
 { print FILENAME ":" FNR ": no line of a case: " $0 >"/dev/stderr"; exit 2 }
 END { finish() }
@@ -41,6 +44,12 @@ function finish(   each, count, all, i) {
 function write(text) {
   if (part == "") { print FILENAME ":" FNR ": text before 'input', 'output' or 'errors'" >"/dev/stderr"; exit 2 }
   printf "%s", text >file[part]
+}
+# A text so many times.
+function again(text, count,   half) {
+  if (count <= 1) return count == 1 ? text : ""
+  half = again(text, int(count / 2))
+  return half half (count % 2 == 1 ? text : "")
 }
 # The bytes that an escaped line means: \r, \t, \\ and \xHH; a line feed follows but where \c stands at its end.
 function meant(text,   all, at, next_one) {

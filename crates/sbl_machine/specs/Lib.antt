@@ -12,6 +12,8 @@ pub mod Listing
 pub mod MachineOf
 pub mod Actions
 pub mod Sound
+pub mod EnoughSteps
+pub mod Searches
 -- what the functions inside the crate promise each other: nothing in these need be believed
 pub mod Rows
 pub mod Halts

@@ -1,8 +1,30 @@
 //! What is shown of runs.
 
+ghost use Rattle.sbl_machine.specs.EnoughSteps.{RefusedForSteps, UsedStepsSuffice};
+ghost use Rattle.sbl_machine.specs.Searches.{SearchesAreExact, TablesDiffer};
 ghost use Rattle.sbl_machine.specs.Sound.{RunIsSound};
+
+use sbl_script::laws::amongs_are_sound;
+use sbl_tables::laws::fitting_are_matches;
 
 /// A run of a script's program is a run of the script.
 pub fn run_is_sound()
     ensures { RunIsSound }
 {}
+
+/// A run is refused for its steps exactly where it used more than its limit; and where a limit is enough for a run, each limit
+/// of at least the steps that it used, higher or lower, gives the same outcome for as many steps.
+pub fn used_steps_suffice()
+    ensures refused { RefusedForSteps }
+    ensures suffice { UsedStepsSuffice }
+{}
+
+/// In a script that is well declared no string stands twice in the table of an `among`, so that a search meets exactly those of
+/// its strings that stand where it searches.
+pub fn searches_are_exact()
+    ensures differ { TablesDiffer }
+    ensures exact { SearchesAreExact }
+{
+    amongs_are_sound();
+    fitting_are_matches();
+}

@@ -1,0 +1,8 @@
+use Rattle.sbl_machine.proofs.StepsLaw.{refused_for_steps, used_suffice}
+use Rattle.sbl_machine.proofs.laws.used_steps_suffice.Goals as goal
+
+pub returns-clause-refused : goal.returns-clause-refused
+returns-clause-refused c = refused_for_steps
+
+pub returns-clause-suffice : goal.returns-clause-suffice
+returns-clause-suffice c = used_suffice

@@ -1,0 +1,28 @@
+-- What is shown of the searches of a script that is well declared.
+use Rattle.std.specs.Prelude.{◌↔◌, ℕ, List, []}
+use Rattle.std.specs.List.{AllByRecursion}
+use Rattle.sbl_tables.specs.Fitting.{fitting, read_all}
+use Rattle.sbl_tables.specs.Laws.{AllDiffer, Matches, StandsIn}
+use Rattle.sbl_program.specs.Items.{in_order}
+use Rattle.sbl_program.specs.Laws.{names_in}
+use Rattle.sbl_program.specs.NumberedAmongs.{Found, found_behind}
+use Rattle.sbl_script.specs.Checks.{WellDeclared}
+use Rattle.sbl_script.specs.Parsed.{Source}
+
+-- the amongs of a script, for each of which there is a table
+abbrev pub amongs_of : Source → List Found
+amongs_of script = found_behind (names_in script) (in_order script.items) []
+
+-- an among's strings, as the mode of its place reads them
+abbrev pub strings_read : Found → List (List ℕ)
+strings_read f = read_all f.strings.mode f.strings.entries
+
+-- no string of an among stands twice in its table
+abbrev pub TablesDiffer : Type 0
+TablesDiffer = (script : Source) → WellDeclared script.items script.external → AllByRecursion (λ f. AllDiffer (strings_read f)) (amongs_of script)
+
+-- so that a search meets exactly those of its strings that are a front of what is ahead
+abbrev pub SearchesAreExact : Type 0
+SearchesAreExact =
+    (script : Source) → WellDeclared script.items script.external →
+    AllByRecursion (λ f. (x : List ℕ) (i : ℕ) → StandsIn i (fitting (strings_read f) x) ↔ Matches (strings_read f) x i) (amongs_of script)
