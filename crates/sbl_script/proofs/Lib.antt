@@ -9,4 +9,7 @@ pub mod Resolving
 pub mod OneReading
 pub mod Editing
 pub mod Shallow
+pub mod Putting
+pub mod Quiet
+pub mod Spelled
 pub mod OneEdit

@@ -1,5 +1,6 @@
 -- A script is nowhere too deep with another body that is not.
-use Rattle.std.proofs.Common.{◌≡◌, ℕ, Bool, true, false, List, [], ◌∷◌, Option, Some, None, if◌then◌else◌, refl, sym, ap, subst, ◌∙◌}
+use Rattle.std.proofs.Common.{◌≡◌, ◌≤◌, ℕ, Bool, true, false, List, [], ◌∷◌, Option, Some, None, if◌then◌else◌, refl, sym, ap, subst, ◌∙◌, arith}
+use Rattle.std.specs.List.{list_any}
 use Rattle.std.specs.Option.{option_or}
 use Rattle.std.specs.Str.{bytes_eq}
 use Rattle.sbl_grammar.specs.Amongs.{FitsAt, Held, nth_held}
@@ -10,47 +11,49 @@ use Rattle.sbl_grammar.specs.Reading.{AreShallow}
 use Rattle.sbl_grammar.specs.Texts.{among, body, places_in}
 use Rattle.sbl_tree.specs.View.{RowView}
 use Rattle.sbl_grammar.proofs.Behind.{IsBefore, by_itself, behind_it, with_behind, plain_before}
-use Rattle.sbl_script.specs.Edits.{body_if, items_with, plain_with, plains_with, routine_in, routine_of}
+use Rattle.sbl_script.specs.Edits.{body_if, is_routine, items_with, plains_with, routine_in, routine_of}
 
 abbrev Ps : Type 0
 Ps = List AtDepth
 
-plain_shallow : (n : List ℕ) (b : RowView) (x : Plain) → AreShallow (places_in body b) → AreShallow (placed_plain x []) → AreShallow (placed_plain (plain_with n b x) [])
-plain_shallow n b (declaration k ns) hb h = h
-plain_shallow n b (escapes c d) hb h = h
-plain_shallow n b (macro m k q) hb h = h
-plain_shallow n b (grouping m a ts) hb h = h
-plain_shallow n b (routine m c os) hb h = go (bytes_eq n m) where
-  go : (same : Bool) → AreShallow (placed_plain (if same then routine m b.0 b.1 else routine m c os) [])
-  go true = (h.0, (h.1.0, (h.1.1.0, hb)))
-  go false = h
+new_shallow : (n : List ℕ) (b : RowView) → AreShallow (places_in body b) → AreShallow (placed_plain (routine n b.0 b.1) [])
+new_shallow n b hb = let top : 0 ≤ 64 = omega arith in (top, (top, (top, hb)))
 
-plains_before : (xs : List Plain) → IsBefore (placed_plains xs)
+pub plains_before : (xs : List Plain) → IsBefore (placed_plains xs)
 plains_before [] r q = refl
 plains_before (x ∷ xs) r q = ap (placed_plain x) (plains_before xs r q) ∙ plain_before x (placed_plains xs r) q
 
 plains_shallow : (n : List ℕ) (b : RowView) (xs : List Plain) → AreShallow (places_in body b) → AreShallow (placed_plains xs []) → AreShallow (placed_plains (plains_with n b xs) [])
 plains_shallow n b [] hb h = h
-plains_shallow n b (x ∷ xs) hb h =
-    let rest = placed_plains xs [] in
-    let y = plain_with n b x in
-    with_behind (placed_plain y) (plain_before y) (placed_plains (plains_with n b xs) []) (plain_shallow n b x hb (by_itself (placed_plain x) (plain_before x) rest h)) (plains_shallow n b xs hb (behind_it (placed_plain x) (plain_before x) rest h))
+plains_shallow n b (x ∷ xs) hb h = go (is_routine n x) (plains_shallow n b xs hb (behind_it (placed_plain x) (plain_before x) (placed_plains xs []) h)) where
+  rest : Ps
+  rest = placed_plains xs []
+
+  go : (here : Bool) → AreShallow (placed_plains (plains_with n b xs) []) → AreShallow (placed_plains (if here then routine n b.0 b.1 ∷ xs else x ∷ plains_with n b xs) [])
+  go true more = let y = routine n b.0 b.1 in with_behind (placed_plain y) (plain_before y) rest (new_shallow n b hb) (behind_it (placed_plain x) (plain_before x) rest h)
+  go false more = with_behind (placed_plain x) (plain_before x) (placed_plains (plains_with n b xs) []) (by_itself (placed_plain x) (plain_before x) rest h) more
 
 pub items_shallow : (n : List ℕ) (b : RowView) (is : List Item) → AreShallow (places_in body b) → AreShallow (placed_items is []) → AreShallow (placed_items (items_with n b is) [])
 items_shallow n b [] hb h = h
-items_shallow n b (plain x ∷ is) hb h =
-    let rest = placed_items is [] in
-    let y = plain_with n b x in
-    with_behind (placed_plain y) (plain_before y) (placed_items (items_with n b is) []) (plain_shallow n b x hb (by_itself (placed_plain x) (plain_before x) rest h)) (items_shallow n b is hb (behind_it (placed_plain x) (plain_before x) rest h))
+items_shallow n b (plain x ∷ is) hb h = go (is_routine n x) (items_shallow n b is hb (behind_it (placed_plain x) (plain_before x) (placed_items is []) h)) where
+  rest : Ps
+  rest = placed_items is []
+
+  go : (here : Bool) → AreShallow (placed_items (items_with n b is) []) → AreShallow (placed_items (if here then plain (routine n b.0 b.1) ∷ is else plain x ∷ items_with n b is) [])
+  go true more = let y = routine n b.0 b.1 in with_behind (placed_plain y) (plain_before y) rest (new_shallow n b hb) (behind_it (placed_plain x) (plain_before x) rest h)
+  go false more = with_behind (placed_plain x) (plain_before x) (placed_items (items_with n b is) []) (by_itself (placed_plain x) (plain_before x) rest h) more
 items_shallow n b (backward xs ∷ is) hb h =
     let rest = (t.close_, 0) ∷ placed_items is [] in
-    let ys = plains_with n b xs in
+    let own = by_itself (placed_plains xs) (plains_before xs) rest h.1.1 in
     let tail = behind_it (placed_plains xs) (plains_before xs) rest h.1.1 in
-    (h.0, (h.1.0, with_behind (placed_plains ys) (plains_before ys) ((t.close_, 0) ∷ placed_items (items_with n b is) []) (plains_shallow n b xs hb (by_itself (placed_plains xs) (plains_before xs) rest h.1.1)) (tail.0, items_shallow n b is hb tail.1)))
+    go (list_any (is_routine n) xs) own tail (items_shallow n b is hb tail.1) where
+      go : (here : Bool) → AreShallow (placed_plains xs []) → AreShallow ((t.close_, 0) ∷ placed_items is []) → AreShallow (placed_items (items_with n b is) []) → AreShallow (placed_items (if here then backward (plains_with n b xs) ∷ is else backward xs ∷ items_with n b is) [])
+      go true own tail more = let ys = plains_with n b xs in (h.0, (h.1.0, with_behind (placed_plains ys) (plains_before ys) ((t.close_, 0) ∷ placed_items is []) (plains_shallow n b xs hb own) tail))
+      go false own tail more = (h.0, (h.1.0, with_behind (placed_plains xs) (plains_before xs) ((t.close_, 0) ∷ placed_items (items_with n b is) []) own (tail.0, more)))
 
 -- ---- a routine's body in a script that is nowhere too deep
 
-some_body : (x b : RowView) (o : Option RowView) → o ≡ Some x → o ≡ Some b → x ≡ b
+pub some_body : (x b : RowView) (o : Option RowView) → o ≡ Some x → o ≡ Some b → x ≡ b
 some_body x b o e f = cc
 
 body_if_shallow : (n : List ℕ) (x : Plain) (b : RowView) → AreShallow (placed_plain x []) → body_if n x ≡ Some b → AreShallow (places_in body b)

@@ -1,5 +1,6 @@
 -- What a text may replace in a script, where it comes to stand, which script it makes, and why it makes none.
 use Rattle.std.specs.Prelude.{◌≡◌, ◌⊎◌, ℕ, Bool, true, false, List, [], ◌∷◌, length, Option, Some, None, Result, Ok, Err, nat_eq, if◌then◌else◌}
+use Rattle.std.specs.List.{list_any}
 use Rattle.std.specs.Option.{option_or}
 use Rattle.std.specs.Str.{bytes_eq, chars}
 use Rattle.sbl_text.specs.declared.fault.ScriptFault.{ScriptFault}
@@ -87,20 +88,24 @@ escapes_before n is = (reached n is nothing_set).0
 abbrev pub state_before : List ℕ → List Item → Directives
 state_before n is = start_under (escapes_before n is)
 
--- ---- the script with another body; in a script that is well declared one routine has the name
+-- ---- the script with another body for the routine
 
-abbrev pub plain_with : List ℕ → RowView → Plain → Plain
-plain_with n b (routine m c os) = if bytes_eq n m then routine m b.0 b.1 else routine m c os
-plain_with n b x = x
+abbrev pub holds_routine : List ℕ → Item → Bool
+holds_routine n (plain x) = is_routine n x
+holds_routine n (backward xs) = list_any (is_routine n) xs
 
 abbrev pub plains_with : List ℕ → RowView → List Plain → List Plain
 plains_with n b [] = []
-plains_with n b (x ∷ xs) = plain_with n b x ∷ plains_with n b xs
+plains_with n b (x ∷ xs) = if is_routine n x then routine n b.0 b.1 ∷ xs else x ∷ plains_with n b xs
 
+abbrev pub item_with : List ℕ → RowView → Item → Item
+item_with n b (plain x) = plain (routine n b.0 b.1)
+item_with n b (backward xs) = backward (plains_with n b xs)
+
+-- the items with this body for the first routine of this name
 abbrev pub items_with : List ℕ → RowView → List Item → List Item
 items_with n b [] = []
-items_with n b (plain x ∷ is) = plain (plain_with n b x) ∷ items_with n b is
-items_with n b (backward xs ∷ is) = backward (plains_with n b xs) ∷ items_with n b is
+items_with n b (i ∷ is) = if holds_routine n i then item_with n b i ∷ is else i ∷ items_with n b is
 
 -- ---- where the text comes to stand
 

@@ -4,6 +4,7 @@ pub mod Occurrences
 pub mod Checks
 pub mod Reading
 pub mod Edits
+pub mod Spelled
 pub mod Amongs
 pub mod Laws
 pub mod OneReading

@@ -1,11 +1,13 @@
 //! A routine of a script, what is in force where it stands, and copies of items in which it has another body.
 
 ghost use Rattle.std.specs.Prelude.{◌≡◌, MatchOption, None, Some, IfOk, IfErr, map};
-ghost use Rattle.sbl_tree.specs.View.{view_items, view_plain, view_row};
+ghost use Rattle.std.specs.List.{list_any};
+ghost use Rattle.sbl_tree.specs.Tree as trees;
+ghost use Rattle.sbl_tree.specs.View.{view_item, view_items, view_plain, view_row};
 ghost use Rattle.sbl_script.specs.Edits as spec;
 
 use sbl_text::{Escapes, ScriptFault, read_codes};
-use sbl_tree::{Base, Item, Plain, Row, copy_name, copy_plain, copy_row};
+use sbl_tree::{Base, Item, Plain, Row, copy_plain, copy_row};
 use std::alloc::{AllocError, Global};
 
 fn is_routine(plain: &Plain, name: &str) -> bool
@@ -153,36 +155,14 @@ pub fn escapes_before(alloc: Global, items: &[Item], name: &str) -> Result<Escap
     Ok(escapes)
 }
 
-fn plain_with(alloc: Global, plain: &Plain, name: &str, body: &Row) -> Result<Plain, AllocError>
-    ensures { IfOk result (λ x. view_plain x ≡ spec.plain_with name.now (view_row body.now) (view_plain plain.now)) }
+/// The routine of this name, with this body.
+fn routine(alloc: Global, name: &str, body: &Row) -> Result<Plain, AllocError>
+    ensures { IfOk result (λ x. view_plain x ≡ trees.routine name.now (view_row body.now).0 (view_row body.now).1) }
 {
-    match plain {
-        Plain::Routine {
-            name: defined,
-            body: _,
-        } => {
-            if name == defined.as_str() {
-                Ok(Plain::Routine {
-                    name: copy_name(alloc, defined)?,
-                    body: copy_row(alloc, body)?,
-                })
-            } else {
-                copy_plain(alloc, plain)
-            }
-        }
-        Plain::Declaration(_, _)
-        | Plain::StringEscapes(_, _)
-        | Plain::StringDef {
-            name: _,
-            base: _,
-            value: _,
-        }
-        | Plain::Grouping {
-            name: _,
-            first: _,
-            others: _,
-        } => copy_plain(alloc, plain),
-    }
+    Ok(Plain::Routine {
+        name: String::from_str(alloc, name)?,
+        body: copy_row(alloc, body)?,
+    })
 }
 
 fn plains_with(
@@ -194,14 +174,78 @@ fn plains_with(
     ensures { IfOk result (λ x. map view_plain x.items ≡ spec.plains_with name.now (view_row body.now) (map view_plain plains.now)) }
 {
     let mut copies = Vec::new(alloc);
+    let mut is_put = false;
     for plain in plains {
-        let copy = plain_with(alloc, plain, name, body)?;
+        let copy = if !is_put && is_routine(plain, name) {
+            is_put = true;
+            routine(alloc, name, body)?
+        } else {
+            copy_plain(alloc, plain)?
+        };
         copies.push(copy)?;
     }
     Ok(copies)
 }
 
-/// A copy of the items with another body in the place of the routine's.
+/// Whether the routine stands in the item.
+fn holds_routine(item: &Item, name: &str) -> bool
+    ensures { result ≡ spec.holds_routine name.now (view_item item.now) }
+{
+    match item {
+        Item::Plain(plain) => is_routine(plain, name),
+        Item::BackwardMode(plains) => has_routine(plains.as_slice(), name),
+    }
+}
+
+fn has_routine(plains: &[Plain], name: &str) -> bool
+    ensures { result ≡ list_any (spec.is_routine name.now) (map view_plain plains.now) }
+{
+    for plain in plains {
+        if is_routine(plain, name) {
+            return true;
+        }
+    }
+    false
+}
+
+/// A copy of an item.
+fn copy_item(alloc: Global, item: &Item) -> Result<Item, AllocError>
+    ensures { IfOk result (λ x. view_item x ≡ view_item item.now) }
+{
+    match item {
+        Item::Plain(plain) => Ok(Item::Plain(copy_plain(alloc, plain)?)),
+        Item::BackwardMode(plains) => {
+            Ok(Item::BackwardMode(copy_plains(alloc, plains.as_slice())?))
+        }
+    }
+}
+
+fn copy_plains(alloc: Global, plains: &[Plain]) -> Result<Vec<Plain>, AllocError>
+    ensures { IfOk result (λ x. map view_plain x.items ≡ map view_plain plains.now) }
+{
+    let mut copies = Vec::new(alloc);
+    for plain in plains {
+        let copy = copy_plain(alloc, plain)?;
+        copies.push(copy)?;
+    }
+    Ok(copies)
+}
+
+fn item_with(alloc: Global, item: &Item, name: &str, body: &Row) -> Result<Item, AllocError>
+    ensures { IfOk result (λ x. view_item x ≡ spec.item_with name.now (view_row body.now) (view_item item.now)) }
+{
+    match item {
+        Item::Plain(_) => Ok(Item::Plain(routine(alloc, name, body)?)),
+        Item::BackwardMode(plains) => Ok(Item::BackwardMode(plains_with(
+            alloc,
+            plains.as_slice(),
+            name,
+            body,
+        )?)),
+    }
+}
+
+/// A copy of the items with another body for the routine of this name, the first where there are several.
 pub fn items_with(
     alloc: Global,
     items: &[Item],
@@ -211,12 +255,13 @@ pub fn items_with(
     ensures { IfOk result (λ x. view_items x.items ≡ spec.items_with name.now (view_row body.now) (view_items items.now)) }
 {
     let mut copies = Vec::new(alloc);
+    let mut is_put = false;
     for item in items {
-        let copy = match item {
-            Item::Plain(plain) => Item::Plain(plain_with(alloc, plain, name, body)?),
-            Item::BackwardMode(plains) => {
-                Item::BackwardMode(plains_with(alloc, plains.as_slice(), name, body)?)
-            }
+        let copy = if !is_put && holds_routine(item, name) {
+            is_put = true;
+            item_with(alloc, item, name, body)?
+        } else {
+            copy_item(alloc, item)?
         };
         copies.push(copy)?;
     }

@@ -9,6 +9,7 @@ ghost use Rattle.sbl_grammar.specs.Amongs.{count_in_among};
 ghost use Rattle.sbl_grammar.specs.Places.{places};
 ghost use Rattle.sbl_grammar.specs.Places.{max_depth};
 ghost use Rattle.sbl_script.specs.Checks.{WellDeclared, fault_of};
+ghost use Rattle.sbl_script.specs.Spelled.{AreSpelled, IsRowSpelled};
 ghost use Rattle.sbl_text.specs.Lexemes.{lexeme_of};
 ghost use Rattle.sbl_text.specs.Directives.{start, Directives};
 ghost use Rattle.sbl_text.specs.Tokens.{placed_of};
@@ -136,6 +137,7 @@ impl Model for Script {
     ghost use Rattle.sbl_script.specs.Checks.{WellDeclared};
     ghost use Rattle.sbl_grammar.specs.Places.{places};
     ghost use Rattle.sbl_grammar.specs.Reading.{AreShallow};
+    ghost use Rattle.sbl_script.specs.Spelled.{AreSpelled};
 
     ghost Value = { Parsed };
 
@@ -143,7 +145,7 @@ impl Model for Script {
 
     ghost view = { λ s. record { items = s.items.items; external = string_bytes s.external } };
 
-    ghost invariant = { λ s. WellDeclared (view_items s.items.items) (string_bytes s.external) × AreShallow (places (view_items s.items.items)) };
+    ghost invariant = { λ s. WellDeclared (view_items s.items.items) (string_bytes s.external) × AreShallow (places (view_items s.items.items)) × AreSpelled (view_items s.items.items) };
 }
 
 impl Script {
@@ -152,13 +154,16 @@ impl Script {
     ghost use Rattle.sbl_grammar.specs.Places.{places};
     ghost use Rattle.sbl_grammar.specs.Texts.{places_in};
     ghost use Rattle.sbl_grammar.specs.Reading.{AreShallow};
-    ghost use Rattle.sbl_text.specs.Tokens.{placed_of};
+    ghost use Rattle.sbl_text.specs.Spaced.{after_all};
+    ghost use Rattle.sbl_text.specs.Tokens.{MayEnd, placed_of};
+    ghost use Rattle.sbl_tree.specs.Tree.{lexemes_of};
     ghost use Rattle.sbl_script.specs.Reading.{HasTokens};
     ghost use Rattle.sbl_script.specs.Edits.{IsEditFault, IsEdited, among, body, home, items_with, state_before};
 
     /// The script of a tree.
     fn checked(alloc: Global, items: Vec<Item>, external: &str) -> Result<Script, ScriptFault>
-        requires { AreShallow (places (view_items items.items)) }
+        requires shallow { AreShallow (places (view_items items.items)) }
+        requires spelled { AreSpelled (view_items items.items) }
         ensures tree { IfOk result (λ s. source_of s ≡ record { items = view_items items.items; external = external.now }) }
         ensures well_declared { IfOk result (λ s. WellDeclared (view_items items.items) external.now) }
         ensures fault { IfErr result (λ f. (f ≡ ScriptFault.OutOfMemory) ⊎ (fault_of (view_items items.items) external.now ≡ Some f)) }
@@ -257,7 +262,8 @@ impl Script {
 
     /// The script in which the routine has this body.
     fn with_body(&self, alloc: Global, routine: &str, body: &Row) -> Result<Script, ScriptFault>
-        requires { AreShallow (places_in texts.body (view_row body.now)) }
+        requires shallow { AreShallow (places_in texts.body (view_row body.now)) }
+        requires spelled { IsRowSpelled (state_before routine.now (source_of self.now).items) (view_row body.now) }
         ensures items { IfOk result (λ s. (source_of s).items ≡ items_with routine.now (view_row body.now) (source_of self.now).items) }
         ensures external { IfOk result (λ s. (source_of s).external ≡ (source_of self.now).external) }
         ensures well_declared { IfOk result (λ s. WellDeclared (source_of s).items (source_of s).external) }
@@ -301,6 +307,14 @@ impl Script {
     /// Nothing in a script stands deeper than 64.
     pub fn is_shallow(&self)
         ensures { AreShallow (places (source_of self.now).items) }
+    {
+        let _ = &self.external;
+    }
+
+    /// Some text can say each token of a script under the escapes in force there, and may end behind the last.
+    pub fn is_spelled(&self)
+        ensures spelled { AreSpelled (source_of self.now).items }
+        ensures ends { MayEnd (after_all start (lexemes_of (source_of self.now).items)) }
     {
         let _ = &self.external;
     }

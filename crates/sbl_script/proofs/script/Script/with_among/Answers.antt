@@ -1,4 +1,4 @@
-use Rattle.std.proofs.Common.{rules, ◌≡◌, ◌⊎◌, List, None, Some, true, false, length, map, inr, ap, subst, ◌∙◌}
+use Rattle.std.proofs.Common.{rules, ◌≡◌, ◌⊎◌, List, None, Some, true, false, length, map, inr, sym, ap, subst, ◌∙◌}
 use Rattle.std.proofs.lemmas.Result.{err_from_is_err_and}
 use Rattle.sbl_text.specs.declared.fault.ScriptFault.TheVariants as fault
 use Rattle.sbl_text.specs.declared.token.Token.{Token}
@@ -12,9 +12,11 @@ use Rattle.sbl_tree.specs.View.{RowView, view_among, view_items, view_row}
 use Rattle.sbl_script.specs.Checks.{fault_of}
 use Rattle.sbl_script.specs.Parsed.{source_of}
 use Rattle.sbl_script.specs.Reading.{IsUnread, first_left_out, terminals}
-use Rattle.sbl_script.specs.Edits.{among, home_of_among, items_with, routine_of}
+use Rattle.sbl_script.specs.Edits.{among, home_of_among, items_with, routine_of, state_before}
 use Rattle.sbl_script.proofs.Editing as editing
+use Rattle.sbl_script.specs.Spelled.{AreSpelled, IsRowSpelled}
 use Rattle.sbl_script.proofs.Shallow.{fits, routine_shallow}
+use Rattle.sbl_script.proofs.Spelled.{among_replaced, read_said}
 use Rattle.sbl_script.proofs.script.Script.with_among.Goals as goal
 
 pub nth_among-requires : goal.nth_among-requires
@@ -57,8 +59,8 @@ returns-in_err-among-clause-fault c =
     let unread = subst (λ (xs : List Token). (f ≡ fault.OutOfMemory) ⊎ IsUnread (texts.among c.in-Some-nth_among.depth) (map placed_of xs) (length text) f) c.deref-2.ensures.value c.in_err-among.ensures.fault in
     rw p.1 (editing.told_as s (among n k) h text f p.0 there p.2 (editing.unread_told s n h text ts f c.in_ok-found.ensures.tokens unread))
 
-pub with_body-requires : goal.with_body-requires
-with_body-requires c =
+pub with_body-requires-clause-shallow : goal.with_body-requires-clause-shallow
+with_body-requires-clause-shallow c =
     let items = (source_of c.args.self.now).items in
     let b = view_row c.in-Some.body.now in
     let old = view_among c.in-Some-nth_among.replaced.now in
@@ -67,6 +69,19 @@ with_body-requires c =
     let own : view_items c.self.inside.items.items ≡ items = search rules in
     let shallow = routine_shallow c.args.routine.now items b (subst (λ (is : List Item). AreShallow (places is)) own c.self.invariant.1) found in
     c.in_ok-body.ensures.shallow shallow (fits c.args.k (amongs_of_body b) d (view_among c.in_ok-among.among) c.in-Some-nth_among.ensures.held c.in_ok-among.ensures.tree.1)
+
+pub with_body-requires-clause-spelled : goal.with_body-requires-clause-spelled
+with_body-requires-clause-spelled c =
+    let s = source_of c.args.self.now in
+    let n = c.args.routine.now in
+    let b = view_row c.in-Some.body.now in
+    let x = view_among c.in_ok-among.among in
+    let d = c.in-Some-nth_among.depth in
+    let found : routine_of n s.items ≡ Some b = search rules in
+    let own : view_items c.self.inside.items.items ≡ s.items = search rules in
+    let read = subst (λ (xs : List Token). IsReadAs (texts.among d) (terminals (map placed_of xs)) x) c.deref-2.ensures.value c.in_ok-among.ensures.tree in
+    let said = read_said (state_before n s.items) c.args.text.now (map placed_of c.in_ok-found.found.items) (texts.among d) x c.in_ok-found.ensures.tokens read in
+    subst (IsRowSpelled (state_before n s.items)) (sym c.in_ok-body.ensures.put) (among_replaced n s.items b c.args.k x d (subst AreSpelled own c.self.invariant.2) found said)
 
 pub returns-in_err-script-clause-fault : goal.returns-in_err-script-clause-fault
 returns-in_err-script-clause-fault c =

@@ -8,8 +8,9 @@ use Rattle.sbl_grammar.specs.Texts as texts
 use Rattle.sbl_tree.specs.View.{view_row}
 use Rattle.sbl_script.specs.Parsed.{source_of}
 use Rattle.sbl_script.specs.Reading.{IsUnread, first_left_out, terminals}
-use Rattle.sbl_script.specs.Edits.{body, home_of_body, routine_of}
+use Rattle.sbl_script.specs.Edits.{body, home_of_body, routine_of, state_before}
 use Rattle.sbl_script.proofs.Editing as editing
+use Rattle.sbl_script.proofs.Spelled.{read_said}
 use Rattle.sbl_script.proofs.script.Script.with_routine.Goals as goal
 
 pub returns-in_err-found-clause-fault : goal.returns-in_err-found-clause-fault
@@ -36,6 +37,13 @@ returns-in_err-body-clause-fault c =
     let ts = map placed_of c.in_ok-found.found.items in
     let unread = subst (λ (xs : List Token). (f ≡ fault.OutOfMemory) ⊎ IsUnread texts.body (map placed_of xs) (length text) f) c.deref-2.ensures.value c.in_err-body.ensures.fault in
     rw p.1 (editing.told_as s (body n) h text f p.0 there p.2 (editing.unread_told s n h text ts f c.in_ok-found.ensures.tokens unread))
+
+pub with_body-requires-clause-spelled : goal.with_body-requires-clause-spelled
+with_body-requires-clause-spelled c =
+    let there = state_before c.args.name.now (source_of c.args.self.now).items in
+    let x = view_row c.in_ok-body.body in
+    let read = subst (λ (xs : List Token). IsReadAs texts.body (terminals (map placed_of xs)) x) c.deref-2.ensures.value c.in_ok-body.ensures.tree in
+    read_said there c.args.text.now (map placed_of c.in_ok-found.found.items) texts.body x c.in_ok-found.ensures.tokens read
 
 pub returns-in_err-script-clause-fault : goal.returns-in_err-script-clause-fault
 returns-in_err-script-clause-fault c =
