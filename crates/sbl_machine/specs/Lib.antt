@@ -14,6 +14,7 @@ pub mod Actions
 pub mod Sound
 pub mod EnoughSteps
 pub mod Searches
+pub mod NamesStand
 -- what the functions inside the crate promise each other: nothing in these need be believed
 pub mod Rows
 pub mod Halts

@@ -1,10 +1,11 @@
 //! What is shown of runs.
 
 ghost use Rattle.sbl_machine.specs.EnoughSteps.{RefusedForSteps, UsedStepsSuffice};
+ghost use Rattle.sbl_machine.specs.NamesStand.{NamesStand};
 ghost use Rattle.sbl_machine.specs.Searches.{SearchesAreExact, TablesDiffer};
 ghost use Rattle.sbl_machine.specs.Sound.{RunIsSound};
 
-use sbl_script::laws::amongs_are_sound;
+use sbl_script::laws::{amongs_are_sound, names_resolve, well_declared_passes};
 use sbl_tables::laws::fitting_are_matches;
 
 /// A run of a script's program is a run of the script.
@@ -27,4 +28,13 @@ pub fn searches_are_exact()
 {
     amongs_are_sound();
     fitting_are_matches();
+}
+
+/// Each name that a script that is well declared uses stands for a variable, a grouping or a routine that there is, and a routine
+/// is called in the mode in which it is defined: what the definition of a run says of other names is never met.
+pub fn names_stand()
+    ensures { NamesStand }
+{
+    names_resolve();
+    well_declared_passes();
 }
