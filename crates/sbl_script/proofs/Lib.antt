@@ -13,3 +13,4 @@ pub mod Putting
 pub mod Quiet
 pub mod Spelled
 pub mod OneEdit
+pub mod Printed

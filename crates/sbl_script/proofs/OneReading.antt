@@ -32,11 +32,11 @@ said_by : (l : Option Lexeme) (place : ℕ) (x : List ℕ) (ts : List Placed) (l
 said_by None place x ts ls e = e
 said_by (Some l) place x ts ls e = ap (λ (r : List Lexeme). l ∷ r) e
 
-said_so : (place : ℕ) (ps : List Piece) → map (λ (p : Placed). p.lexeme) (placed_from place ps) ≡ said ps
+pub said_so : (place : ℕ) (ps : List Piece) → map (λ (p : Placed). p.lexeme) (placed_from place ps) ≡ said ps
 said_so place [] = refl
 said_so place (p ∷ ps) = said_by p.lexeme place p.text (placed_from (place + byte_length p.text) ps) (said ps) (said_so (place + byte_length p.text) ps)
 
-are_tokens : (s : Directives) (text : List ℕ) (ts : List Placed) → ArePlacedFrom s text ts → AreTokensFrom s text (map (λ (p : Placed). p.lexeme) ts)
+pub are_tokens : (s : Directives) (text : List ℕ) (ts : List Placed) → ArePlacedFrom s text ts → AreTokensFrom s text (map (λ (p : Placed). p.lexeme) ts)
 are_tokens s text ts h = (h.0, h.1, h.2, h.3, ap (map (λ (p : Placed). p.lexeme)) h.4 ∙ said_so 0 h.0)
 
 -- ---- the text

@@ -3,10 +3,12 @@
 ghost use Rattle.sbl_script.specs.Amongs.{AmongsAreSound};
 ghost use Rattle.sbl_script.specs.OneEdit.{EditFaultIsOne, EditIsOne, EditOrFault};
 ghost use Rattle.sbl_script.specs.OneReading.{FaultIsOne, ScriptIsOne, ScriptOrFault};
+ghost use Rattle.sbl_script.specs.Printed.{CanonicalIsRead};
 ghost use Rattle.sbl_script.specs.Laws.{FaultIsFirst, NamesResolve, SubstringsArePaired, WellDeclaredPasses};
 
-use sbl_grammar::{one_fault, one_tree};
-use sbl_text::laws::{first_fault_is_one, tokens_are_one};
+use sbl_grammar::{one_fault, one_part, one_tree};
+use sbl_print::laws::canonical_is_spaced;
+use sbl_text::laws::{first_fault_is_one, spaced_are_read, tokens_are_one};
 
 /// Bytes are read as one script, or they have one fault, and never both: `Script::parse` is a function of its bytes and
 /// of the external, want of memory aside.
@@ -59,3 +61,16 @@ pub fn names_resolve()
 pub fn substrings_are_paired()
     ensures { SubstringsArePaired }
 {}
+
+/// Where a text is the canonical text of a script that was read (`Script::print`) and has at most 1,048,576 bytes, it is read
+/// as that same script under the same external: by `one_reading` `Script::parse` answers this script for it, or want of
+/// memory.
+pub fn canonical_is_read(text: &str)
+    ensures { CanonicalIsRead text.now }
+{
+    spaced_are_read();
+    canonical_is_spaced();
+    one_part();
+    one_tree();
+    let _ = text;
+}

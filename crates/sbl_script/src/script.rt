@@ -21,9 +21,10 @@ use crate::edit_fault::EditFault;
 use crate::edits;
 use crate::edits::{escapes_before, items_with};
 use sbl_grammar::{has_as_many_amongs, nth_among, parse, parse_among, parse_body, put_in_place};
+use sbl_print::canonical_text;
 use sbl_text::{Kind, ScriptFault, Sign, Token, Word, tokens, tokens_under};
 use sbl_tree::{Among, Item, Row};
-use std::alloc::Global;
+use std::alloc::{AllocError, Global};
 use std::marker::Model;
 
 /// The most bytes of a script (our own choice).
@@ -154,6 +155,8 @@ impl Script {
     ghost use Rattle.sbl_grammar.specs.Places.{places};
     ghost use Rattle.sbl_grammar.specs.Texts.{places_in};
     ghost use Rattle.sbl_grammar.specs.Reading.{AreShallow};
+    ghost use Rattle.std.specs.Prelude.{string_bytes};
+    ghost use Rattle.sbl_print.specs.Canonical.{canonical};
     ghost use Rattle.sbl_text.specs.Spaced.{after_all};
     ghost use Rattle.sbl_text.specs.Tokens.{MayEnd, placed_of};
     ghost use Rattle.sbl_tree.specs.Tree.{lexemes_of};
@@ -271,6 +274,16 @@ impl Script {
     {
         let items = items_with(alloc, &self.items, routine, body)?;
         Script::checked(alloc, items, self.external())
+    }
+
+    /// The canonical text of the script (our own choice): each item is a line of its tokens with one space between each two,
+    /// and a `backwardmode` is a line `backwardmode (`, its items and a line `)`. Literals are written by their spelling,
+    /// numbers by their value. Where it has at most 1,048,576 bytes, `parse` reads it as this script (law
+    /// `canonical_is_read`). Want of memory is the one error.
+    pub fn print(&self, alloc: Global) -> Result<String, AllocError>
+        ensures { IfOk result (λ text. string_bytes text ≡ canonical (source_of self.now).items) }
+    {
+        canonical_text(alloc, &self.items)
     }
 
     /// The items, in text order.
