@@ -14,7 +14,8 @@ use Rattle.sbl_machine.specs.Outcome.{outcome_of}
 use Rattle.sbl_machine.specs.declared.fault.RunFault.{RunFault}
 use Rattle.sbl_machine.specs.declared.fault.RunFault.TheVariants as faults
 use Rattle.sbl_bench.specs.Kept.{KeptWord, AreFresh, words_in}
-use Rattle.sbl_bench.specs.Pairs.{Key, Text, ArePaired, find, has, has_stem, is_pair_of, is_stem}
+use Rattle.sbl_bench.specs.Classes.{is_stem}
+use Rattle.sbl_bench.specs.Pairs.{Key, Text, ArePaired, find, has, has_stem, is_pair_of}
 use Rattle.sbl_bench.specs.Changes.{AreAllFresh, AreRun, changes_of, with_change, IsReady, any_pair, is_changed, is_outcome, same_fault, same_outcome, view_change}
 use Rattle.sbl_bench.specs.Rows.{Row, max_steps, row_of}
 use Rattle.sbl_script.specs.Parsed.{Source}

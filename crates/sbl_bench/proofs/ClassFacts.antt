@@ -3,17 +3,14 @@ use Rattle.std.proofs.Common.{◌≡◌, ◌∙◌, ◌||◌, ◌&&◌, Bool, tr
 use Rattle.std.specs.List.{All, AllByRecursion, IsDistinct, list_any}
 use Rattle.std.specs.List.Sorted.{IsStrictlySortedBy}
 use Rattle.std.specs.Str.{bytes_eq}
-use Rattle.std.specs.Cmp.{IsTotalOrder}
 use Rattle.std.specs.Cmp.Lexicographic.{slice_cmp}
 use Rattle.std.specs.declared.cmp.Ordering.TheVariants.{Less}
 use Rattle.std.specs.Ordering.{is_eq, nat_cmp}
 use Rattle.std.specs.List.{find as find_row}
-use Rattle.std.specs.Option.{option_map}
+use Rattle.std.specs.Option.{option_and_then, option_map}
 use Rattle.std.specs.Map.{keys_of}
 use Rattle.std.specs.BTreeSet.{BTreeSet}
-use Rattle.std.proofs.lemmas.Cmp.{then_total, on_total, nat_list_cmp_total}
 use Rattle.std.proofs.lemmas.List.Elements.{All-head, All-tail, All-cons, All-map}
-use Rattle.std.proofs.lemmas.Map.Lookups.{CmpEqualImpliesEq, exact_pairs, exact_bytes}
 use Rattle.std.proofs.lemmas.Map.Views.{All-insert_key}
 use Rattle.std.proofs.lemmas.Slice.Eq.{bytes_eq-Decides}
 use Rattle.std.proofs.lemmas.Map.Text.{is_eq-slice_cmp}
@@ -21,29 +18,20 @@ use Rattle.sbl_script.specs.Parsed.{Source}
 use Rattle.sbl_machine.specs.Outcome.{Outcome', Stem, Refused, outcome_of}
 use Rattle.sbl_machine.specs.declared.outcome.Outcome.{Outcome}
 use Rattle.sbl_machine.specs.declared.outcome.Outcome.TheVariants as code
-use Rattle.sbl_bench.specs.Classes.{Pair, class_at, class_of, pair_cmp, sorted, stem_pairs, with_pair}
+use Rattle.sbl_bench.specs.Classes.{class_of, class_with, in_order, is_stem, stem_of, words_with}
+use Rattle.sbl_bench.specs.Grouping.{Pair, pair_cmp, sorted, stem_pairs, with_pair, words_paired}
 use Rattle.sbl_bench.specs.Kept.{KeptWord, AreFresh, words_in}
-use Rattle.sbl_bench.specs.Pairs.{ArePaired, Key, Text, find, has, has_stem, is_stem, key_cmp, plain}
+use Rattle.sbl_bench.specs.Pairs.{ArePaired, Key, Text, find, has, has_stem, key_cmp, plain}
 use Rattle.sbl_bench.specs.Rows.{Row, rows_of}
 use Rattle.sbl_bench.proofs.PairFacts.{then_eq}
-use Rattle.sbl_bench.proofs.Sorting.{mem, mem-inserted, mem-stays, sorted-insert, from_mem, one_list}
+use Rattle.sbl_bench.proofs.OrderFacts.{exact, sorted-sorted, total, words-rows}
+use Rattle.sbl_bench.proofs.Sorting.{mem, mem-inserted, mem-stays, from_mem, one_list}
 use Rattle.sbl_bench.proofs.Words.{shown, rows_shown}
-
-total : IsTotalOrder pair_cmp
-total = then_total (on_total (λ (p : Pair). p.0) nat_list_cmp_total) (on_total (λ (p : Pair). p.1) nat_list_cmp_total)
-
-exact : CmpEqualImpliesEq pair_cmp
-exact = exact_pairs (slice_cmp nat_cmp) (slice_cmp nat_cmp) exact_bytes exact_bytes
 
 abbrev is_in : Pair → List Pair → Bool
 is_in p ps = mem pair_cmp p ps
 
 -- ---- what sorting keeps
-
-sorted-sorted : (ps : List Pair) → IsStrictlySortedBy pair_cmp (sorted ps)
-unfolding IsStrictlySortedBy
-sorted-sorted [] = tt
-sorted-sorted (p ∷ ps) = sorted-insert pair_cmp total exact (sorted ps) p (sorted-sorted ps)
 
 all-sorted : (P : Pair → Type 0) (ps : List Pair) → All P ps → All P (sorted ps)
 all-sorted P [] a = a
@@ -165,17 +153,20 @@ row_found script word (e ∷ es) fresh = by (bytes_eq word e.0.items) refl (row_
     by true same rest = rw same (λ i. Some (record { word = sym ((bytes_eq-Decides word e.0.items).0 same) i; outcome = sym fresh.0 i }))
     by false other rest = rw other rest
 
--- the class of a word with this outcome, or of a word that has no entry
-pub class_sorted : (script : Source) (es : List KeptWord) (word : List ℕ) → AreFresh script es → (o : Option Outcome) → o ≡ find word es
-    → class_at (sorted (stem_pairs (rows_of script (words_in es)))) (option_map (λ o. record { word = word; outcome = outcome_of o }) o) ≡ class_of (rows_of script (words_in es)) word
-class_sorted script es word fresh o is =
-    ap (λ (x : Option Outcome). class_at (sorted (stem_pairs (rows_of script (words_in es)))) (option_map (λ o. record { word = word; outcome = outcome_of o }) x)) is
-    ∙ ap (class_at (sorted (stem_pairs (rows_of script (words_in es))))) (sym (row_found script word es fresh))
+-- the class of a word by what its entry holds
+pub class_found : (script : Source) (es : List KeptWord) (word : List ℕ) → AreFresh script es → (o : Option Outcome) → o ≡ find word es
+    → option_map (class_with (rows_of script (words_in es))) (option_and_then (λ o. stem_of (outcome_of o)) o) ≡ class_of (rows_of script (words_in es)) word
+class_found script es word fresh o is =
+    ap (λ (x : Option (List ℕ)). option_map (class_with (rows_of script (words_in es))) x)
+    (ap (option_and_then (λ o. stem_of (outcome_of o))) is ∙ by (find word es) ∙ ap (option_and_then (λ (r : Row). stem_of r.outcome)) (sym (row_found script word es fresh)))
+  where
+    by : (x : Option Outcome) → option_and_then (λ (o : Outcome). stem_of (outcome_of o)) x ≡ option_and_then (λ (r : Row). stem_of r.outcome) (option_map (λ o. record { word = word; outcome = outcome_of o }) x)
+    by None = refl
+    by (Some o) = refl
 
--- the same by the pairs that are kept
-pub class_kept : (script : Source) (es : List KeptWord) (set : BTreeSet Key) (word : List ℕ) → AreFresh script es → IsDistinct (λ (x y : Text). bytes_eq x.items y.items) (keys_of es)
+-- the words with a stem among the pairs that are kept are those of its class
+pub words_kept : (script : Source) (es : List KeptWord) (set : BTreeSet Key) (stem : List ℕ) → AreFresh script es → IsDistinct (λ (x y : Text). bytes_eq x.items y.items) (keys_of es)
     → ArePaired es set → IsStrictlySortedBy key_cmp set.keys → All (λ k. has set k ≡ true) set.keys
-    → (o : Option Outcome) → o ≡ find word es → class_at (map plain set.keys) (option_map (λ o. record { word = word; outcome = outcome_of o }) o) ≡ class_of (rows_of script (words_in es)) word
-class_kept script es set word fresh unique paired ordered found o is =
-    ap (λ (ps : List Pair). class_at ps (option_map (λ o. record { word = word; outcome = outcome_of o }) o)) (kept_sorted script es set fresh unique paired ordered found)
-    ∙ class_sorted script es word fresh o is
+    → words_paired stem (map plain set.keys) ≡ in_order (words_with stem (rows_of script (words_in es)))
+words_kept script es set stem fresh unique paired ordered found =
+    ap (words_paired stem) (kept_sorted script es set fresh unique paired ordered found) ∙ words-rows stem (rows_of script (words_in es))

@@ -1,7 +1,8 @@
 -- The last class of a list.
 use Rattle.std.proofs.Common.{◌≡◌, ◌∙◌, ◌-◌, ◌<◌, ◌++◌, ◌∷◌, [], ℕ, suc, List, map, length, Some, slice_get, slice_index_or, slice_set, arith, ap, subst}
 use Rattle.std.specs.Str.{bytes_eq}
-use Rattle.sbl_bench.specs.Classes.{is_last, put_in_last, view_class, words_of}
+use Rattle.sbl_bench.specs.Classes.{view_class, words_of}
+use Rattle.sbl_bench.specs.Grouping.{is_last, put_in_last}
 use Rattle.sbl_bench.specs.declared.class.Class.{Class}
 
 pub last_stem : (stem : List ℕ) (cs : List Class) (n : ℕ) (c : Class) → n ≡ length cs - 1 → slice_get cs n ≡ Some c → is_last stem (map view_class cs) ≡ bytes_eq c.stem.items stem

@@ -3,7 +3,10 @@ pub mod Refusals
 pub mod Opening
 pub mod PairFacts
 pub mod Sorting
+pub mod OrderFacts
+pub mod GroupFacts
 pub mod ClassFacts
+pub mod ClassLaws
 pub mod LastFacts
 pub mod ChangeFacts
 pub mod OneVerdict

@@ -11,7 +11,8 @@ use Rattle.sbl_machine.specs.Outcome as rows
 use Rattle.sbl_machine.specs.Outcome.{outcome_of}
 use Rattle.sbl_machine.specs.declared.outcome.Outcome.{Outcome}
 use Rattle.sbl_bench.specs.Kept.{KeptWord}
-use Rattle.sbl_bench.specs.Pairs.{Key, Text, ArePaired, find, has, has_stem, is_pair_of, is_stem, key_cmp}
+use Rattle.sbl_bench.specs.Classes.{is_stem}
+use Rattle.sbl_bench.specs.Pairs.{Key, Text, ArePaired, find, has, has_stem, is_pair_of, key_cmp}
 
 pub then_eq : (a b : Ordering) → is_eq (ordering_then a b) ≡ (is_eq a && is_eq b)
 then_eq Less b = refl

@@ -10,12 +10,25 @@ use Rattle.std.specs.BTreeSet.{insert_key}
 use Rattle.std.proofs.lemmas.List.Elements.{All-head, All-tail}
 use Rattle.std.proofs.lemmas.Map.Lookups.{CmpEqualImpliesEq, btree_set_from_contains}
 
+or_true : (b : Bool) → (b || true) ≡ true
+or_true true = refl
+or_true false = refl
+
+or_again : (a b : Bool) → (a || b) ≡ (a || (a || b))
+or_again true b = refl
+or_again false b = refl
+
+pub or_swap : (a b c : Bool) → (a || (b || c)) ≡ (b || (a || c))
+or_swap true true c = refl
+or_swap true false c = refl
+or_swap false b c = refl
+
 module _ {K : Type 0} (R : K → K → Ordering) where
   abbrev pub mem : K → List K → Bool
   mem q xs = list_any (λ x. is_eq (R q x)) xs
 
   module _ (total : IsTotalOrder R) (exact : CmpEqualImpliesEq R) where
-    self_equal : (k : K) → R k k ≡ Equal
+    pub self_equal : (k : K) → R k k ≡ Equal
     self_equal k = by (R k k) refl
       where
         by : (o : Ordering) → R k k ≡ o → R k k ≡ Equal
@@ -23,33 +36,23 @@ module _ {K : Type 0} (R : K → K → Ordering) where
         by Equal h = h
         by Greater h = let r = sym h ∙ total.antisymm k k ∙ ap ordering_reverse h in cc r
 
-    or_true : (b : Bool) → (b || true) ≡ true
-    or_true true = refl
-    or_true false = refl
+    -- an insertion adds the key, and no other
+    pub any_inserted : (t : K → Bool) (ks : List K) (k : K) → list_any t (insert_key R ks k) ≡ (t k || list_any t ks)
+    any_inserted t [] k = refl
+    any_inserted t (x ∷ xs) k = by (R k x) refl (any_inserted t xs k)
+      where
+        by : (o : Ordering) → R k x ≡ o → list_any t (insert_key R xs k) ≡ (t k || list_any t xs) → list_any t (match_ordering (R k x) (k ∷ x ∷ xs) (x ∷ xs) (x ∷ insert_key R xs k)) ≡ (t k || (t x || list_any t xs))
+        by Less h rest = rw h refl
+        by Equal h rest = rw h (subst (λ (y : K). (t x || list_any t xs) ≡ (t y || (t x || list_any t xs))) (sym (exact k x h)) (or_again (t x) (list_any t xs)))
+        by Greater h rest = rw h (ap (λ (b : Bool). t x || b) rest ∙ or_swap (t x) (t k) (list_any t xs))
 
     -- an inserted key is there
     pub mem-inserted : (ks : List K) (k : K) → mem k (insert_key R ks k) ≡ true
-    mem-inserted [] k = rw (self_equal k) refl
-    mem-inserted (x ∷ xs) k = by (R k x) refl (mem-inserted xs k)
-      where
-        by : (o : Ordering) → R k x ≡ o → mem k (insert_key R xs k) ≡ true → mem k (match_ordering (R k x) (k ∷ x ∷ xs) (x ∷ xs) (x ∷ insert_key R xs k)) ≡ true
-        by Less h rest = rw (h, self_equal k) refl
-        by Equal h rest = rw h (ap (λ (o : Ordering). is_eq o || mem k xs) h)
-        by Greater h rest = rw h (rw rest (or_true (is_eq (R k x))))
+    mem-inserted ks k = any_inserted (λ x. is_eq (R k x)) ks k ∙ ap (λ (o : Ordering). is_eq o || mem k ks) (self_equal k)
 
     -- and the others stay
     pub mem-stays : (ks : List K) (k q : K) → mem q ks ≡ true → mem q (insert_key R ks k) ≡ true
-    mem-stays [] k q h = cc h
-    mem-stays (x ∷ xs) k q h = by (R k x) refl (mem-stays xs k q)
-      where
-        by : (o : Ordering) → R k x ≡ o → (mem q xs ≡ true → mem q (insert_key R xs k) ≡ true) → mem q (match_ordering (R k x) (k ∷ x ∷ xs) (x ∷ xs) (x ∷ insert_key R xs k)) ≡ true
-        by Less e rest = rw e (rw h (or_true (is_eq (R q k))))
-        by Equal e rest = rw e h
-        by Greater e rest = rw e (later (is_eq (R q x)) (mem q xs) h rest)
-          where
-            later : (a b : Bool) → (a || b) ≡ true → (b ≡ true → mem q (insert_key R xs k) ≡ true) → (a || mem q (insert_key R xs k)) ≡ true
-            later true b h rest = refl
-            later false b h rest = rest h
+    mem-stays ks k q h = any_inserted (λ x. is_eq (R q x)) ks k ∙ ap (λ (b : Bool). is_eq (R q k) || b) h ∙ or_true (is_eq (R q k))
 
     abbrev below : K → List K → Type 0
     below x xs = AllByRecursion (λ y. R x y ≡ Less) xs
@@ -97,3 +100,8 @@ module _ {K : Type 0} (R : K → K → Ordering) where
     one_list xs ys s t there back =
         btree_set_from_contains total (record { keys = xs }) (record { keys = ys }) s t
         (λ q. both (mem q xs) (mem q ys) (from_mem (λ x. mem x ys ≡ true) xs q there) (from_mem (λ y. mem y xs ≡ true) ys q back)) exact
+
+    -- keys that are in order are put into it as they stand
+    pub first_below : (x : K) (xs : List K) → AllByRecursion (λ y. R x y ≡ Less) xs → insert_key R xs x ≡ x ∷ xs
+    first_below x [] a = refl
+    first_below x (y ∷ ys) a = rw a.0 refl

@@ -1,12 +1,13 @@
--- The classes of the rows: each stem with the words that have it, made by sorting and grouping a finished list.
-use Rattle.std.specs.Prelude.{ℕ, Bool, false, List, [], ◌∷◌, ◌++◌, map, Option, Some, None, if◌then◌else◌}
-use Rattle.std.specs.List.{filter, find}
-use Rattle.std.specs.declared.vec.Vec.{Vec}
-use Rattle.std.specs.declared.alloc.Global.{Global}
-use Rattle.std.specs.declared.cmp.Ordering.{Ordering}
-use Rattle.std.specs.Ordering.{nat_cmp, ordering_then}
+-- The classes of the rows: their stems in code point order, a front first, each with its words in that order. No refused word is
+-- in one.
+use Rattle.std.specs.Prelude.{ℕ, Bool, false, List, [], ◌∷◌, map, Option, Some, None}
+use Rattle.std.specs.List.{filter, filter_map, find}
+use Rattle.std.specs.Option.{option_and_then, option_map}
+use Rattle.std.specs.Ordering.{nat_cmp}
 use Rattle.std.specs.Cmp.Lexicographic.{slice_cmp}
 use Rattle.std.specs.Str.{bytes_eq}
+use Rattle.std.specs.declared.vec.Vec.{Vec}
+use Rattle.std.specs.declared.alloc.Global.{Global}
 use Rattle.std.specs.BTreeSet.{insert_key}
 use Rattle.sbl_machine.specs.Outcome.{Outcome', Stem, Refused}
 use Rattle.sbl_bench.specs.Rows.{Row}
@@ -16,67 +17,39 @@ pub record Class : Type 0 where
   pub stem : List ℕ
   pub words : List (List ℕ)
 
--- a stem, and a word that has it
-abbrev pub Pair : Type 0
-Pair = List ℕ × List ℕ
+-- the texts in code point order, a front first, and each once
+abbrev pub in_order : List (List ℕ) → List (List ℕ)
+in_order [] = []
+in_order (text ∷ texts) = insert_key (slice_cmp nat_cmp) (in_order texts) text
 
--- a refused word is in no class
-abbrev pub with_pair : Outcome' → List ℕ → List Pair → List Pair
-with_pair (Stem stem) word pairs = (stem, word) ∷ pairs
-with_pair (Refused f) word pairs = pairs
+-- the stem that an outcome gives; a refusal gives none
+abbrev pub stem_of : Outcome' → Option (List ℕ)
+stem_of (Stem stem) = Some stem
+stem_of (Refused f) = None
 
-abbrev pub stem_pairs : List Row → List Pair
-stem_pairs [] = []
-stem_pairs (r ∷ rows) = with_pair r.outcome r.word (stem_pairs rows)
+-- the stems of the rows
+abbrev pub stems_in : List Row → List (List ℕ)
+stems_in rows = filter_map (λ r. stem_of r.outcome) rows
 
--- by the stem, then by the word, both in code point order, a front first
-abbrev pub pair_cmp : Pair → Pair → Ordering
-pair_cmp p q = ordering_then (slice_cmp nat_cmp p.0 q.0) (slice_cmp nat_cmp p.1 q.1)
+-- whether an outcome gives this stem
+abbrev pub is_stem : List ℕ → Outcome' → Bool
+is_stem stem (Stem given) = bytes_eq given stem
+is_stem stem (Refused f) = false
 
-abbrev pub sorted : List Pair → List Pair
-sorted [] = []
-sorted (p ∷ pairs) = insert_key pair_cmp (sorted pairs) p
+-- the words of the rows that have this stem
+abbrev pub words_with : List ℕ → List Row → List (List ℕ)
+words_with stem rows = map (λ r. r.word) (filter (λ r. is_stem stem r.outcome) rows)
 
-abbrev pub one_word : Pair → Class
-one_word p = record { stem = p.0; words = p.1 ∷ [] }
-
-abbrev pub is_last : List ℕ → List Class → Bool
-is_last stem [] = false
-is_last stem (c ∷ []) = bytes_eq c.stem stem
-is_last stem (c ∷ d ∷ classes) = is_last stem (d ∷ classes)
-
-abbrev pub put_in_last : List Class → List ℕ → List Class
-put_in_last [] word = []
-put_in_last (c ∷ []) word = record { stem = c.stem; words = c.words ++ word ∷ [] } ∷ []
-put_in_last (c ∷ d ∷ classes) word = c ∷ put_in_last (d ∷ classes) word
-
--- The word goes last in the last class, if that has its stem, and else into a class of its own.
-abbrev pub put_last : List Class → Pair → List Class
-put_last classes p = if is_last p.0 classes then put_in_last classes p.1 else classes ++ one_word p ∷ []
-
-abbrev pub grouped : List Class → List Pair → List Class
-grouped classes [] = classes
-grouped classes (p ∷ pairs) = grouped (put_last classes p) pairs
+-- the class of a stem
+abbrev pub class_with : List Row → List ℕ → Class
+class_with rows stem = record { stem = stem; words = in_order (words_with stem rows) }
 
 abbrev pub classes_of : List Row → List Class
-classes_of rows = grouped [] (sorted (stem_pairs rows))
+classes_of rows = map (class_with rows) (in_order (stems_in rows))
 
--- the words among the pairs that have this stem
-abbrev pub words_with : List ℕ → List Pair → List (List ℕ)
-words_with stem pairs = map (λ p. p.1) (filter (λ p. bytes_eq stem p.0) pairs)
-
--- the class of a word with this outcome; a refused word has none
-abbrev pub class_with : List Pair → Outcome' → Option Class
-class_with pairs (Stem stem) = Some (record { stem = stem; words = words_with stem pairs })
-class_with pairs (Refused f) = None
-
-abbrev pub class_at : List Pair → Option Row → Option Class
-class_at pairs None = None
-class_at pairs (Some r) = class_with pairs r.outcome
-
--- the class of a word among the rows; a word that is not there has none
+-- the class of a word among the rows, which is that of its stem; a word that is refused or not there has none
 abbrev pub class_of : List Row → List ℕ → Option Class
-class_of rows word = class_at (sorted (stem_pairs rows)) (find (λ r. bytes_eq word r.word) rows)
+class_of rows word = option_map (class_with rows) (option_and_then (λ r. stem_of r.outcome) (find (λ r. bytes_eq word r.word) rows))
 
 abbrev pub words_of : List (Vec ℕ Global) → List (List ℕ)
 words_of words = map (λ w. w.items) words

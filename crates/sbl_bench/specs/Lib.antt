@@ -6,8 +6,10 @@ pub mod Edits
 pub mod OneVerdict
 pub mod Names
 pub mod Classes
+pub mod ClassesAreSound
 pub mod Kept
 -- what the functions inside the crate promise each other: nothing in these need be believed
 pub mod Pairs
+pub mod Grouping
 pub mod Stops
 pub mod Changes

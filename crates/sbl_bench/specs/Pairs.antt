@@ -9,7 +9,8 @@ use Rattle.std.specs.Str.{bytes_eq}
 use Rattle.std.specs.Map.{lookup}
 use Rattle.std.specs.BTreeSet.{BTreeSet, contains}
 use Rattle.sbl_machine.specs.declared.outcome.Outcome.{Outcome}
-use Rattle.sbl_machine.specs.Outcome.{Outcome', Stem, Refused, outcome_of}
+use Rattle.sbl_machine.specs.Outcome.{Outcome', outcome_of}
+use Rattle.sbl_bench.specs.Classes.{is_stem}
 use Rattle.sbl_bench.specs.Kept.{KeptWord}
 
 abbrev pub Text : Type 0
@@ -22,11 +23,6 @@ Key = Text × Text
 -- what the word's run gave
 abbrev pub find : List ℕ → List KeptWord → Option Outcome
 find word entries = lookup (λ k. bytes_eq word k.items) entries
-
--- whether the outcome is this stem
-abbrev pub is_stem : List ℕ → Outcome' → Bool
-is_stem s (Stem t) = bytes_eq t s
-is_stem s (Refused f) = false
 
 abbrev pub has_stem : List ℕ → Option Outcome → Bool
 has_stem s None = false

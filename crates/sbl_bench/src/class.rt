@@ -3,8 +3,8 @@
 ghost use Rattle.std.specs.Prelude.{◌≡◌, ◌++◌, ◌∷◌, [], true, map, OnOk, IfOk, All};
 ghost use Rattle.std.specs.BTreeSet.{IsOrdered};
 ghost use Rattle.std.specs.Option.{option_map};
-ghost use Rattle.sbl_bench.specs.Classes as spec;
 ghost use Rattle.sbl_bench.specs.Classes.{view_class, words_of};
+ghost use Rattle.sbl_bench.specs.Grouping as spec;
 ghost use Rattle.sbl_bench.specs.Pairs.{has, key_cmp, plain};
 
 use crate::bench::Bench;
@@ -70,7 +70,7 @@ fn words_with(
     stem: &[char],
     pairs: &BTreeSet<(Vec<char>, Vec<char>)>,
 ) -> Result<Vec<Vec<char>>, AllocError>
-    ensures words { IfOk result (λ words. words_of words.items ≡ spec.words_with stem.now (map plain pairs.now.keys)) }
+    ensures words { IfOk result (λ words. words_of words.items ≡ spec.words_paired stem.now (map plain pairs.now.keys)) }
     ensures ordered { IsOrdered key_cmp pairs.now }
     ensures found { All (λ k. has pairs.now k ≡ true) pairs.now.keys }
 {

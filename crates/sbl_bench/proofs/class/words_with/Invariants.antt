@@ -1,8 +1,9 @@
 use Rattle.std.proofs.Common.{◌≡◌, ◌++◌, map}
-use Rattle.sbl_bench.specs.Classes.{words_of, words_with}
+use Rattle.sbl_bench.specs.Classes.{words_of}
+use Rattle.sbl_bench.specs.Grouping.{words_paired}
 use Rattle.sbl_bench.specs.Pairs.{plain}
 use Rattle.sbl_bench.proofs.class.words_with.Given as goal
 
 -- the words so far, and those of the pairs still to come
 abbrev pub invariant-loop-pair : goal.invariant-loop-pair
-invariant-loop-pair l = words_of l.words.items ++ words_with l.stem (map plain l.pair-iterator) ≡ words_with l.stem (map plain l.pairs.keys)
+invariant-loop-pair l = words_of l.words.items ++ words_paired l.stem (map plain l.pair-iterator) ≡ words_paired l.stem (map plain l.pairs.keys)

@@ -1,6 +1,7 @@
 use Rattle.std.proofs.Common.{◌≡◌, map}
 use Rattle.sbl_script.specs.Parsed.{source_of}
-use Rattle.sbl_bench.specs.Classes.{classes_of, grouped, view_class}
+use Rattle.sbl_bench.specs.Classes.{classes_of, view_class}
+use Rattle.sbl_bench.specs.Grouping.{grouped}
 use Rattle.sbl_bench.specs.Rows.{rows_of}
 use Rattle.sbl_bench.specs.Pairs.{plain}
 use Rattle.sbl_bench.proofs.bench.Bench.classes.Given as goal
