@@ -13,4 +13,5 @@ pub mod Putting
 pub mod Quiet
 pub mod Spelled
 pub mod OneEdit
+pub mod Offered
 pub mod Printed

@@ -4,7 +4,6 @@ use Rattle.sbl_print.specs.Canonical.{canonical}
 use Rattle.sbl_script.specs.Parsed.{Source}
 use Rattle.sbl_script.specs.Reading.{IsScriptOf, max_script}
 
--- where this text is the canonical text of a script that some bytes are read as, and not too long, it is read as that script
-abbrev pub CanonicalIsRead : List ℕ → Type 0
-CanonicalIsRead text =
-    (bytes external : List ℕ) (s : Source) → IsScriptOf bytes external s → text ≡ canonical s.items → length text ≤ max_script → IsScriptOf text external s
+-- this text, if it is the canonical text of the script and short enough, is read as that script
+abbrev pub CanonicalIsRead : Source → List ℕ → Type 0
+CanonicalIsRead s text = text ≡ canonical s.items → length text ≤ max_script → IsScriptOf text s.external s

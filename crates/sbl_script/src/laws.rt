@@ -3,9 +3,11 @@
 ghost use Rattle.sbl_script.specs.Amongs.{AmongsAreSound};
 ghost use Rattle.sbl_script.specs.OneEdit.{EditFaultIsOne, EditIsOne, EditOrFault};
 ghost use Rattle.sbl_script.specs.OneReading.{FaultIsOne, ScriptIsOne, ScriptOrFault};
+ghost use Rattle.sbl_script.specs.Parsed.{source_of};
 ghost use Rattle.sbl_script.specs.Printed.{CanonicalIsRead};
 ghost use Rattle.sbl_script.specs.Laws.{FaultIsFirst, NamesResolve, SubstringsArePaired, WellDeclaredPasses};
 
+use crate::script::Script;
 use sbl_grammar::{one_fault, one_part, one_tree};
 use sbl_print::laws::canonical_is_spaced;
 use sbl_text::laws::{first_fault_is_one, spaced_are_read, tokens_are_one};
@@ -62,15 +64,18 @@ pub fn substrings_are_paired()
     ensures { SubstringsArePaired }
 {}
 
-/// Where a text is the canonical text of a script that was read (`Script::print`) and has at most 1,048,576 bytes, it is read
-/// as that same script under the same external: by `one_reading` `Script::parse` answers this script for it, or want of
-/// memory.
-pub fn canonical_is_read(text: &str)
-    ensures { CanonicalIsRead text.now }
+/// A text that is the canonical text of a script (`Script::print`), one that edits have made too, and has at most 1,048,576
+/// bytes, is read as that same script under the same external: by `one_reading` `Script::parse` answers this script for it,
+/// or want of memory.
+pub fn canonical_is_read(script: &Script, text: &str)
+    ensures { CanonicalIsRead (source_of script.now) text.now }
 {
     spaced_are_read();
     canonical_is_spaced();
     one_part();
     one_tree();
+    script.is_well_declared();
+    script.is_shallow();
+    script.is_spelled();
     let _ = text;
 }

@@ -1,15 +1,20 @@
-use Rattle.sbl_script.proofs.Printed.{canonical_read}
+use Rattle.sbl_script.specs.Parsed.{source_of}
+use Rattle.sbl_script.proofs.Printed.{read_back}
 use Rattle.sbl_script.proofs.laws.canonical_is_read.Goals as goal
 
 pub returns : goal.returns
 returns c =
-    canonical_read
+    read_back
     (record {
       read = c.spaced_are_read.ensures.read;
-      said = c.spaced_are_read.ensures.said;
-      there = c.one_part.ensures.there;
       back = c.one_part.ensures.back;
       places = c.one_tree.ensures.places;
       spaced = c.canonical_is_spaced.ensures;
     })
-    c.args.text.now c.utf8.text
+    c.args.text.now c.utf8.text (source_of c.args.script.now)
+    (record {
+      declared = c.is_well_declared.ensures;
+      shallow = c.is_shallow.ensures;
+      spelled = c.is_spelled.ensures.spelled;
+      ends = c.is_spelled.ensures.ends;
+    })
