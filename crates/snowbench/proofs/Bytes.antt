@@ -60,11 +60,11 @@ no_lines = refl
 
 -- ---- whole lines
 
-raw-feed : (b : ℕ) (bytes : List ℕ) → (b == 10) ≡ true → raw_lines (b ∷ bytes) ≡ [] ∷ raw_lines bytes
+pub raw-feed : (b : ℕ) (bytes : List ℕ) → (b == 10) ≡ true → raw_lines (b ∷ bytes) ≡ [] ∷ raw_lines bytes
 unfolding raw_lines
 raw-feed b bytes e = rw e refl
 
-raw-other : (b : ℕ) (bytes : List ℕ) → (b == 10) ≡ false → raw_lines (b ∷ bytes) ≡ onto_first b (raw_lines bytes)
+pub raw-other : (b : ℕ) (bytes : List ℕ) → (b == 10) ≡ false → raw_lines (b ∷ bytes) ≡ onto_first b (raw_lines bytes)
 unfolding raw_lines
 raw-other b bytes e = rw e refl
 
@@ -72,7 +72,7 @@ onto-some : (b : ℕ) (lines : List (List ℕ)) → onto_first b lines ≢ []
 onto-some b [] e = cc e
 onto-some b (line ∷ lines) e = cc e
 
-raw-some : (b : ℕ) (bytes : List ℕ) → raw_lines (b ∷ bytes) ≢ []
+pub raw-some : (b : ℕ) (bytes : List ℕ) → raw_lines (b ∷ bytes) ≢ []
 raw-some b bytes none = by (b == 10) refl
   where
     by : (t : Bool) → (b == 10) ≡ t → ⊥
@@ -112,7 +112,7 @@ whole-feed [] = refl
 whole-feed (b ∷ []) = refl
 whole-feed (b ∷ c ∷ line) = whole-feed (c ∷ line)
 
-none_of : lines_of [] ≡ []
+pub none_of : lines_of [] ≡ []
 none_of = ap (map chomped) no_lines
 
 both_none : (xs ys : List ℕ) → xs ++ ys ≡ [] → (xs ≡ []) × (ys ≡ [])
@@ -148,7 +148,7 @@ stand-trans a b c ls ms p q = by p.whole q.whole
     by (inl w) (inr e) = more w (inr e)
     by (inr e) v = end e
 
-stand_lines : (a b : List ℕ) (ls : List (List ℕ)) → StandFirst a ls b → lines_of a ≡ ls ++ lines_of b
+pub stand_lines : (a b : List ℕ) (ls : List (List ℕ)) → StandFirst a ls b → lines_of a ≡ ls ++ lines_of b
 stand_lines a b ls p = by p.whole
   where
     by : AreWhole p.front ⊎ (b ≡ []) → lines_of a ≡ ls ++ lines_of b

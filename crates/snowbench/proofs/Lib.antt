@@ -9,3 +9,5 @@ pub mod CheckFacts
 pub mod CommandFacts
 pub mod NumberFacts
 pub mod OneAnswer
+pub mod InputFacts
+pub mod OneLoading

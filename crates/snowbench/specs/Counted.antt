@@ -1,5 +1,5 @@
 -- What a device reads from or writes to, and what it has counted.
-use Rattle.std.specs.Prelude.{ℕ}
+use Rattle.std.specs.Prelude.{ℕ, Bool}
 use Rattle.snowbench.specs.declared.devices.Device.{Device}
 
 module _ {D : Type 0} where
@@ -17,3 +17,11 @@ module _ {D : Type 0} where
   -- how many reads it was asked for, up to the most reads
   abbrev pub reads_of : Device D → ℕ
   reads_of d = d.stops.reads
+
+  -- whether a read has told its end
+  abbrev pub has_ended : Device D → Bool
+  has_ended d = d.stops.ended
+
+  -- whether it was asked for more than it should be
+  abbrev pub is_late : Device D → Bool
+  is_late d = d.stops.late

@@ -1,6 +1,10 @@
 -- What a read and a write do to a device: the bytes that it tells of, and how often it has failed.
-use Rattle.std.specs.Prelude.{◌≡◌, ◌+◌, ◌<◌, ◌≤◌, ◌⊎◌, min, ℕ, List, length, take, Option, Result, Ok, Err}
+use Rattle.std.specs.Prelude.{◌≡◌, ◌+◌, ◌-◌, ◌^◌, ◌<◌, ◌≤◌, ◌==◌, ◌⊎◌, ◌||◌, ◌&&◌, nat_le, nat_lt, min, ℕ, Bool, true, false, List, length, take, if◌then◌else◌, Option, Result, Ok, Err}
 use Rattle.std.specs.Io.KnownBytes.{Appends, Consumes, IsAtEnd, Keeps}
+use Rattle.std.specs.IoError.{error_kind}
+use Rattle.std.specs.declared.io.Error.{Error}
+use Rattle.std.specs.declared.io.ErrorKind.{ErrorKind}
+use Rattle.std.specs.declared.io.ErrorKind.TheVariants as kind
 use Rattle.snowbench.specs.declared.devices.Stop.{Stop}
 use Rattle.snowbench.specs.declared.devices.Stop.TheVariants.{Interrupted, Failed}
 
@@ -37,6 +41,48 @@ max_reads = 1099511627776
 -- The count of reads rises by one at each, up to the most.
 abbrev pub CountsRead : ℕ → ℕ → Type 0
 CountsRead old new = new ≡ min (old + 1) max_reads
+
+-- ---- what a device should not be asked for
+
+-- the read gave nothing into some room
+abbrev pub tells_end : Result ℕ Stop → List ℕ → Bool
+tells_end (Ok n) buf = (n == 0) && nat_lt 0 (length buf)
+tells_end (Err stop) buf = false
+
+-- A read is late where the end was told before it, or a bound was met: so many interruptions in a row, or so many reads.
+abbrev pub is_late_read : Bool → ℕ → ℕ → Bool
+is_late_read ended row reads = ended || (nat_le max_tries row || nat_le max_reads reads)
+
+-- A write is late after so many interruptions in a row.
+abbrev pub is_late_write : ℕ → Bool
+is_late_write row = nat_le max_tries row
+
+-- the writes in between were in time, where those before were and the writer was not interrupted after its last answer
+abbrev pub WritesInTime : {W : Type 0} → (W → Bool) → (W → ℕ) → W → W → Type 0
+WritesInTime late row old new = late old ≡ false → row old ≡ 0 → late new ≡ false
+
+-- a device whose end was not told, that was not interrupted, and that was asked for nothing
+pub record IsUnasked {R : Type 0} (ended late : R → Bool) (row reads : R → ℕ) (reader : R) : Type 0 where
+  pub not_ended : ended reader ≡ false
+  pub in_time : late reader ≡ false
+  pub rested : row reader ≡ 0
+  pub none : reads reader ≡ 0
+
+-- ---- errors of std
+
+-- what kind of stop an error is
+abbrev pub stop_of_kind : ErrorKind → Stop
+stop_of_kind kind.Interrupted = Interrupted
+stop_of_kind k = Failed
+
+-- the same, but that no failure is counted any more once the count is full
+abbrev pub stop_of : ℕ → ErrorKind → Stop
+stop_of failures k = if failures == 2 ^ 64 - 1 then Interrupted else stop_of_kind k
+
+-- what a read or a write of std answered, with its error judged
+abbrev pub Judged : ℕ → Result ℕ Error → Result ℕ Stop → Type 0
+Judged failures (Ok n) judged = judged ≡ Ok n
+Judged failures (Err e) judged = judged ≡ Err (stop_of failures (error_kind e))
 
 -- the writer has failed since, or was interrupted more than 1,000 times in a row
 abbrev pub HasStopped : {W : Type 0} → (W → ℕ) → (W → ℕ) → W → W → Type 0

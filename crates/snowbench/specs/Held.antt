@@ -1,5 +1,6 @@
 -- What a `Lines` has yet to give: what it holds, and then what its reader has left.
-use Rattle.std.specs.Prelude.{◌≡◌, ◌≢◌, ◌⊎◌, ◌<◌, ◌≤◌, ◌++◌, ℕ, List, [], ◌∷◌, Option, Some, None, ⊤, slice_range, length, min, ◌+◌, ◌*◌, ◌-◌}
+use Rattle.std.specs.Prelude.{◌≡◌, ◌≢◌, ◌⊎◌, ◌<◌, ◌≤◌, ◌++◌, ℕ, Bool, true, false, List, [], ◌∷◌, Option, Some, None, ⊤, slice_range, length, min, ◌+◌, ◌*◌, ◌-◌}
+use Rattle.std.specs.Option.{option_map}
 use Rattle.std.specs.Io.KnownBytes.{Consumes, IsAtEnd, prepend_known}
 use Rattle.snowbench.specs.Devices.{max_reads, max_tries}
 use Rattle.snowbench.specs.LinesOf.{AreWhole, lines_of, max_line}
@@ -10,6 +11,11 @@ use Rattle.snowbench.specs.declared.faults.LineFault.{LineFault}
 use Rattle.snowbench.specs.declared.faults.LineFault.TheVariants as read
 use Rattle.snowbench.specs.declared.faults.ServeFault.{ServeFault}
 use Rattle.snowbench.specs.declared.faults.ServeFault.TheVariants as serve
+
+-- what the reader will yet give: what it has left; and nothing once it has told its end, since it is asked no more
+abbrev pub to_be_read : Bool → Option (List ℕ) → Option (List ℕ)
+to_be_read false left = left
+to_be_read true left = option_map (λ bytes. []) left
 
 module _ {R : Type 0} where
   -- the bytes read and not yet taken
@@ -24,7 +30,11 @@ module _ {R : Type 0} where
 
   -- all that is yet to come, where the reader tells it
   abbrev pub input_of : (R → Option (List ℕ)) → Lines R → Option (List ℕ)
-  input_of left l = prepend_known (held_of l) (left l.reader)
+  input_of left l = prepend_known (held_of l) (to_be_read l.ended (left l.reader))
+
+  -- All that was read was taken, and the reader has not told its end: what is yet to come is what the reader has left.
+  abbrev pub IsDrained : Lines R → Type 0
+  IsDrained l = (held_of l ≡ []) × (l.ended ≡ false)
 
   -- a bound on the bytes that are yet to come
   abbrev pub fuel_of : Lines R → ℕ
@@ -37,6 +47,24 @@ module _ {R : Type 0} where
   -- the reader has failed since, or was asked for as many reads as the bound, or was interrupted more than 1,000 times in a row
   abbrev pub HasCause : (R → ℕ) → (R → ℕ) → (R → ℕ) → Lines R → Lines R → Type 0
   HasCause failures interruptions reads old new = (failures old.reader < failures new.reader) ⊎ (reads_bound reads old ≤ reads new.reader) ⊎ (max_tries ≤ interruptions new.reader)
+
+  -- No read was late, and none is late that is yet to come: the lines know where the reader told its end, and ask for as many reads
+  -- as there may be at most.
+  pub record AreAsked (ended late : R → Bool) (reads : R → ℕ) (l : Lines R) : Type 0 where
+    pub in_time : late l.reader ≡ false
+    pub known : ended l.reader ≡ true → l.ended ≡ true
+    pub within : reads l.reader + l.reads_left ≤ max_reads
+
+  -- the same, and the reader is at rest, where the lines hold no fault: it was not interrupted after its last answer
+  abbrev pub InTime : (R → Bool) → (R → Bool) → (R → ℕ) → (R → ℕ) → Lines R → Type 0
+  InTime ended late row reads l = AreAsked ended late reads l × (fault_of l ≡ None → row l.reader ≡ 0)
+
+  abbrev pub KeepsTime : (R → Bool) → (R → Bool) → (R → ℕ) → (R → ℕ) → Lines R → Lines R → Type 0
+  KeepsTime ended late row reads old new = InTime ended late row reads old → InTime ended late row reads new
+
+  -- the reads in between were in time, where those before were and the reader was at rest
+  abbrev pub AsksInTime : (R → Bool) → (R → Bool) → (R → ℕ) → (R → ℕ) → Lines R → Lines R → Type 0
+  AsksInTime ended late row reads old new = AreAsked ended late reads old → row old.reader ≡ 0 → AreAsked ended late reads new
 
   -- a fault of reading has its cause in the reader or a bound, or is one that the lines answer again
   abbrev pub HasReason : (R → ℕ) → (R → ℕ) → (R → ℕ) → Lines R → Lines R → ServeFault → Type 0

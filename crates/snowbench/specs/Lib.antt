@@ -14,6 +14,7 @@ pub mod Answers
 pub mod Session
 pub mod OneAnswer
 pub mod Loaded
+pub mod OneLoading
 pub mod CommandLine
 pub mod Differences
 -- what the functions inside the crate promise each other: nothing in these need be believed

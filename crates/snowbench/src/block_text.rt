@@ -3,7 +3,7 @@ ghost use Rattle.std.specs.Prelude.{◌≡◌, ◌<◌, ◌≤◌, ◌++◌, [],
 ghost use Rattle.std.specs.Io.KnownBytes.{Keeps};
 ghost use Rattle.snowbench.specs.Block.{HasText, HoldsText, ReadsBlock, made_text, max_script};
 ghost use Rattle.snowbench.specs.Faults.{left_by, serve_fault_of};
-ghost use Rattle.snowbench.specs.Held.{HasReason, fault_of, fuel_of, held_of, input_of, reads_bound};
+ghost use Rattle.snowbench.specs.Held.{HasReason, IsDrained, KeepsTime, fault_of, fuel_of, input_of, reads_bound};
 ghost use Rattle.snowbench.specs.declared.faults.LineFault.{LineFault};
 
 use crate::devices::Source;
@@ -85,12 +85,13 @@ pub(crate) fn read_block<R: Source + Drop>(lines: &mut Lines<R>) -> Result<Block
     ensures ready { OnOk result (fault_of lines.old ≡ None) }
     ensures remembered { fault_of lines.new ≡ left_by result }
     ensures again { (fault : LineFault) → fault_of lines.old ≡ Some fault → (result ≡ Err (serve_fault_of fault)) × Keeps (input_of R.left lines.old) (input_of R.left lines.new) }
-    ensures drained { result ≡ Err ServeFault.Read → fault_of lines.old ≡ None → held_of lines.new ≡ [] }
+    ensures drained { result ≡ Err ServeFault.Read → fault_of lines.old ≡ None → IsDrained lines.new }
     ensures fuel { OnOk result (fuel_of lines.new ≤ fuel_of lines.old) }
     ensures later { R.failures lines.old.reader ≤ R.failures lines.new.reader }
     ensures steady { OnOk result (R.failures lines.new.reader ≡ R.failures lines.old.reader) }
     ensures bound { reads_bound R.reads lines.new ≡ reads_bound R.reads lines.old }
     ensures why { IfErr result (λ fault. HasReason R.failures R.interruptions R.reads lines.old lines.new fault) }
+    ensures in_time { KeepsTime R.ended R.late R.interruptions R.reads lines.old lines.new }
 {
     let mut text = BlockText::new(lines.alloc());
     while lines.next_line()? {

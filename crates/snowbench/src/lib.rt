@@ -24,7 +24,7 @@ pub use checking::check;
 pub use command_line::{Verb, Wanted, read_words};
 pub use devices::{Device, Sink, Source, Stop};
 pub use faults::{LineFault, LoadFault, ServeFault};
-pub use laws::answers_are_one;
+pub use laws::{answers_are_one, loading_is_one};
 pub use lines::{Lines, MAX_LINE};
 pub use loading::load;
 pub use program::run;

@@ -35,6 +35,7 @@ pub struct Lines<R> {
     end: usize,
     line: Vec<u8>,
     reads_left: u64,
+    ended: bool,
     fault: Option<LineFault>,
     ghost in_order: { at ≤ end },
     ghost in_chunk: { end ≤ vec_len chunk },
@@ -43,8 +44,8 @@ pub struct Lines<R> {
 }
 
 impl<R: Source + Drop> Lines<R> {
-    ghost use Rattle.snowbench.specs.Devices.{max_reads};
-    ghost use Rattle.snowbench.specs.Held.{fuel_of, held_of, line_of, fault_of, input_of, reads_bound, BeginsLong, BreaksOff, HasCause, TakesLine, NoFeed, GivesLine};
+    ghost use Rattle.snowbench.specs.Devices.{IsUnasked, max_reads};
+    ghost use Rattle.snowbench.specs.Held.{fuel_of, line_of, fault_of, input_of, reads_bound, AsksInTime, BeginsLong, BreaksOff, HasCause, InTime, IsDrained, KeepsTime, TakesLine, NoFeed, GivesLine};
 
     /// The lines of `reader`, which is asked for at most 1,099,511,627,776 reads. Takes its buffers at once; a refused
     /// growth is the one error.
@@ -52,6 +53,7 @@ impl<R: Source + Drop> Lines<R> {
         ensures input { IfOk result (λ lines. input_of R.left lines ≡ R.left reader) }
         ensures fault { IfOk result (λ lines. fault_of lines ≡ None) }
         ensures bound { IfOk result (λ lines. reads_bound R.reads lines ≡ max_reads) }
+        ensures in_time { IsUnasked R.ended R.late R.interruptions R.reads reader → IfOk result (λ lines. InTime R.ended R.late R.interruptions R.reads lines) }
     {
         Lines::with_reads(alloc, reader, MAX_READS)
     }
@@ -60,7 +62,7 @@ impl<R: Source + Drop> Lines<R> {
     fn with_reads(alloc: Global, reader: R, most: u64) -> Result<Lines<R>, AllocError>
         ensures input { IfOk result (λ lines. input_of R.left lines ≡ R.left reader) }
         ensures fault { IfOk result (λ lines. fault_of lines ≡ None) }
-        ensures bound { IfOk result (λ lines. (lines.reads_left ≡ most) × (lines.reader ≡ reader)) }
+        ensures fields { IfOk result (λ lines. (lines.reads_left ≡ most) × (lines.reader ≡ reader) × (lines.ended ≡ false)) }
     {
         let chunk = vec![in alloc; 0u8; CHUNK]?;
         let line = Vec::with_capacity(alloc, MAX_LINE + 1)?;
@@ -72,6 +74,7 @@ impl<R: Source + Drop> Lines<R> {
             end: 0,
             line,
             reads_left: most,
+            ended: false,
             fault: None,
         })
     }
@@ -88,20 +91,26 @@ impl<R: Source + Drop> Lines<R> {
         self.line.as_slice()
     }
 
-    /// Reads some more bytes into the chunk, all of which were taken. None come at the end of input alone.
+    /// Reads some more bytes into the chunk, all of which were taken. None come at the end of input alone; once a read has told
+    /// that end, none is asked for.
     fn fill(&mut self) -> Result<(), LineFault>
         requires { self.old.at ≡ self.old.end }
         ensures input { Keeps (input_of R.left self.old) (input_of R.left self.new) }
-        ensures end { OnOk result (self.new.at ≡ self.new.end → IsAtEnd (R.left self.new.reader)) }
+        ensures end { OnOk result (self.new.at ≡ self.new.end → IsAtEnd (input_of R.left self.new)) }
         ensures line { line_of self.new ≡ line_of self.old }
         ensures fault { fault_of self.new ≡ fault_of self.old }
-        ensures empty { OnErr result (self.new.at ≡ self.new.end) }
+        ensures drained { OnErr result (IsDrained self.new) }
         ensures fuel { fuel_of self.new ≤ fuel_of self.old }
         ensures later { R.failures self.old.reader ≤ R.failures self.new.reader }
         ensures steady { OnOk result (R.failures self.new.reader ≡ R.failures self.old.reader) }
         ensures bound { reads_bound R.reads self.new ≡ reads_bound R.reads self.old }
         ensures why { IfErr result (λ fault. (fault ≡ LineFault.Read) × HasCause R.failures R.interruptions R.reads self.old self.new) }
+        ensures asks { AsksInTime R.ended R.late R.interruptions R.reads self.old self.new }
+        ensures rested { OnOk result (R.interruptions self.old.reader ≡ 0 → R.interruptions self.new.reader ≡ 0) }
     {
+        if self.ended {
+            return Ok(());
+        }
         for _ in 0..MAX_TRIES {
             if self.reads_left == 0 {
                 return Err(LineFault::Read);
@@ -111,6 +120,7 @@ impl<R: Source + Drop> Lines<R> {
                 Ok(n) => {
                     self.at = 0;
                     self.end = n;
+                    self.ended = n == 0;
                     return Ok(());
                 }
                 Err(Stop::Failed) => return Err(LineFault::Read),
@@ -124,7 +134,7 @@ impl<R: Source + Drop> Lines<R> {
     fn next_byte(&mut self) -> Result<Option<u8>, LineFault>
         ensures byte { IfOk result (λ o. MatchOption o (IsAtEnd (input_of R.left self.new) × Keeps (input_of R.left self.old) (input_of R.left self.new)) (λ b. Consumes (input_of R.left self.old) (input_of R.left self.new) (b ∷ []))) }
         ensures err { OnErr result (Keeps (input_of R.left self.old) (input_of R.left self.new)) }
-        ensures empty { OnErr result (self.new.at ≡ self.new.end) }
+        ensures drained { OnErr result (IsDrained self.new) }
         ensures line { line_of self.new ≡ line_of self.old }
         ensures fault { fault_of self.new ≡ fault_of self.old }
         ensures fuel { fuel_of self.new ≤ fuel_of self.old }
@@ -133,6 +143,8 @@ impl<R: Source + Drop> Lines<R> {
         ensures steady { OnOk result (R.failures self.new.reader ≡ R.failures self.old.reader) }
         ensures bound { reads_bound R.reads self.new ≡ reads_bound R.reads self.old }
         ensures why { IfErr result (λ fault. (fault ≡ LineFault.Read) × HasCause R.failures R.interruptions R.reads self.old self.new) }
+        ensures asks { AsksInTime R.ended R.late R.interruptions R.reads self.old self.new }
+        ensures rested { OnOk result (R.interruptions self.old.reader ≡ 0 → R.interruptions self.new.reader ≡ 0) }
     {
         if self.at == self.end {
             self.fill()?;
@@ -150,7 +162,7 @@ impl<R: Source + Drop> Lines<R> {
         ensures takes { IfOk result (λ end. TakesLine (input_of R.left self.old) (input_of R.left self.new) (line_of self.new) end) }
         ensures no_feed { OnOk result (NoFeed (line_of self.new)) }
         ensures cut { OnErr result (BreaksOff (input_of R.left self.old) (input_of R.left self.new) (line_of self.new)) }
-        ensures empty { OnErr result (self.new.at ≡ self.new.end) }
+        ensures drained { OnErr result (IsDrained self.new) }
         ensures fault { fault_of self.new ≡ fault_of self.old }
         ensures fuel { OnOk result (vec_len self.new.line + fuel_of self.new ≤ fuel_of self.old) }
         ensures falls { IfOk result (λ end. end ≢ LineEnd.Input → fuel_of self.new < fuel_of self.old) }
@@ -158,6 +170,8 @@ impl<R: Source + Drop> Lines<R> {
         ensures steady { OnOk result (R.failures self.new.reader ≡ R.failures self.old.reader) }
         ensures bound { reads_bound R.reads self.new ≡ reads_bound R.reads self.old }
         ensures why { IfErr result (λ fault. (fault ≡ LineFault.Read) × HasCause R.failures R.interruptions R.reads self.old self.new) }
+        ensures asks { AsksInTime R.ended R.late R.interruptions R.reads self.old self.new }
+        ensures rested { OnOk result (R.interruptions self.old.reader ≡ 0 → R.interruptions self.new.reader ≡ 0) }
     {
         self.line.clear();
         for _ in 0..MAX_LINE + 1 {
@@ -181,13 +195,15 @@ impl<R: Source + Drop> Lines<R> {
         ensures end { IfOk result (λ more. more ≡ false → IsAtEnd (input_of R.left self.old) × IsAtEnd (input_of R.left self.new) × Keeps (input_of R.left self.old) (input_of R.left self.new)) }
         ensures long { IfErr result (λ fault. fault ≡ LineFault.TooLong → BeginsLong (input_of R.left self.old)) }
         ensures cut { IfErr result (λ fault. fault ≡ LineFault.Read → BreaksOff (input_of R.left self.old) (input_of R.left self.new) (line_of self.new)) }
-        ensures empty { IfErr result (λ fault. fault ≡ LineFault.Read → self.new.at ≡ self.new.end) }
+        ensures drained { IfErr result (λ fault. fault ≡ LineFault.Read → IsDrained self.new) }
         ensures falls { IfOk result (λ more. more ≡ true → fuel_of self.new < fuel_of self.old) }
         ensures fault { fault_of self.new ≡ fault_of self.old }
         ensures later { R.failures self.old.reader ≤ R.failures self.new.reader }
         ensures steady { OnOk result (R.failures self.new.reader ≡ R.failures self.old.reader) }
         ensures bound { reads_bound R.reads self.new ≡ reads_bound R.reads self.old }
         ensures why { IfErr result (λ fault. fault ≡ LineFault.Read → HasCause R.failures R.interruptions R.reads self.old self.new) }
+        ensures asks { AsksInTime R.ended R.late R.interruptions R.reads self.old self.new }
+        ensures rested { OnOk result (R.interruptions self.old.reader ≡ 0 → R.interruptions self.new.reader ≡ 0) }
     {
         let end = self.take_line()?;
         if end == LineEnd::Input && self.line.is_empty() {
@@ -211,7 +227,7 @@ impl<R: Source + Drop> Lines<R> {
         ensures end { IfOk result (λ more. more ≡ false → IsAtEnd (input_of R.left self.old) × IsAtEnd (input_of R.left self.new) × Keeps (input_of R.left self.old) (input_of R.left self.new)) }
         ensures long { IfErr result (λ fault. fault ≡ LineFault.TooLong → BeginsLong (input_of R.left self.old) ⊎ (fault_of self.old ≡ Some fault)) }
         ensures cut { IfErr result (λ fault. fault ≡ LineFault.Read → fault_of self.old ≡ None → BreaksOff (input_of R.left self.old) (input_of R.left self.new) (line_of self.new)) }
-        ensures empty { IfErr result (λ fault. fault ≡ LineFault.Read → fault_of self.old ≡ None → held_of self.new ≡ []) }
+        ensures drained { IfErr result (λ fault. fault ≡ LineFault.Read → fault_of self.old ≡ None → IsDrained self.new) }
         ensures falls { IfOk result (λ more. more ≡ true → fuel_of self.new < fuel_of self.old) }
         ensures again { IsSome (fault_of self.old) → (fault_of self.new ≡ fault_of self.old) × Keeps (input_of R.left self.old) (input_of R.left self.new) }
         ensures ready { OnOk result ((fault_of self.old ≡ None) × (fault_of self.new ≡ None)) }
@@ -220,6 +236,7 @@ impl<R: Source + Drop> Lines<R> {
         ensures steady { OnOk result (R.failures self.new.reader ≡ R.failures self.old.reader) }
         ensures bound { reads_bound R.reads self.new ≡ reads_bound R.reads self.old }
         ensures why { IfErr result (λ fault. fault ≡ LineFault.Read → HasCause R.failures R.interruptions R.reads self.old self.new ⊎ (fault_of self.old ≡ Some fault)) }
+        ensures in_time { KeepsTime R.ended R.late R.interruptions R.reads self.old self.new }
     {
         if let Some(fault) = self.fault {
             return Err(fault);

@@ -5,7 +5,7 @@ ghost use Rattle.sbl_bench.specs.Kept.{contents_of};
 ghost use Rattle.std.specs.Io.KnownBytes.{Keeps};
 ghost use Rattle.snowbench.specs.Faults.{left_by_load, serve_fault_of};
 ghost use Rattle.snowbench.specs.declared.faults.LineFault.{LineFault};
-ghost use Rattle.snowbench.specs.Held.{fault_of, input_of, reads_bound};
+ghost use Rattle.snowbench.specs.Held.{KeepsTime, fault_of, input_of, reads_bound};
 ghost use Rattle.snowbench.specs.Loaded.{HasReason, IsLoaded, ReadsScript, ReadsWords};
 
 use crate::block_text::{BlockFault, read_block};
@@ -25,6 +25,7 @@ pub(crate) fn read_script<R: Source + Drop>(lines: &mut Lines<R>) -> Result<Vec<
     ensures later { R.failures lines.old.reader ≤ R.failures lines.new.reader }
     ensures bound { reads_bound R.reads lines.new ≡ reads_bound R.reads lines.old }
     ensures why { IfErr result (λ fault. HasReason R.failures R.interruptions R.reads lines.old lines.new fault) }
+    ensures in_time { KeepsTime R.ended R.late R.interruptions R.reads lines.old lines.new }
 {
     let text = match read_block(lines) {
         Ok(text) => text,
@@ -55,6 +56,7 @@ fn read_words<R: Source + Drop>(lines: &mut Lines<R>) -> Result<Vec<Vec<char>>, 
     ensures later { R.failures lines.old.reader ≤ R.failures lines.new.reader }
     ensures bound { reads_bound R.reads lines.new ≡ reads_bound R.reads lines.old }
     ensures why { IfErr result (λ fault. HasReason R.failures R.interruptions R.reads lines.old lines.new fault) }
+    ensures in_time { KeepsTime R.ended R.late R.interruptions R.reads lines.old lines.new }
 {
     let mut words = Vec::new(lines.alloc());
     while lines.next_line()? {
@@ -81,6 +83,7 @@ fn read_words<R: Source + Drop>(lines: &mut Lines<R>) -> Result<Vec<Vec<char>>, 
 pub fn load<R: Source + Drop>(lines: &mut Lines<R>, external: &str) -> Result<Bench, LoadFault>
     ensures loaded { fault_of lines.old ≡ None → IsLoaded (input_of R.left lines.old) (input_of R.left lines.new) external.now (λ b. contents_of b) result }
     ensures why { IfErr result (λ fault. HasReason R.failures R.interruptions R.reads lines.old lines.new fault) }
+    ensures in_time { KeepsTime R.ended R.late R.interruptions R.reads lines.old lines.new }
     ensures remembered { fault_of lines.new ≡ left_by_load result }
     ensures again { (fault : LineFault) → fault_of lines.old ≡ Some fault → (result ≡ Err (LoadFault.Input (serve_fault_of fault))) × Keeps (input_of R.left lines.old) (input_of R.left lines.new) }
     ensures bound { reads_bound R.reads lines.new ≡ reads_bound R.reads lines.old }

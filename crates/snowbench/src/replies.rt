@@ -3,7 +3,7 @@ ghost use Rattle.std.specs.Prelude.{◌≡◌, ◌≤◌, ℕ, List, Some, IfErr
 ghost use Rattle.std.specs.Io.KnownBytes.{Appends};
 ghost use Rattle.snowbench.specs.Answers as spec;
 ghost use Rattle.snowbench.specs.CommandViews.{IsReply};
-ghost use Rattle.snowbench.specs.Devices.{HasStopped};
+ghost use Rattle.snowbench.specs.Devices.{HasStopped, WritesInTime};
 ghost use Rattle.snowbench.specs.Edits.{fault_in};
 
 use crate::devices::Sink;
@@ -96,6 +96,8 @@ pub(crate) fn write_reply<W: Sink>(writer: &mut W, reply: &Reply) -> Result<(), 
     ensures later { W.failures writer.old ≤ W.failures writer.new }
     ensures steady { OnOk result (W.failures writer.new ≡ W.failures writer.old) }
     ensures why { IfErr result (λ fault. (fault ≡ ServeFault.Write) × HasStopped W.failures W.interruptions writer.old writer.new) }
+    ensures in_time { WritesInTime W.late W.interruptions writer.old writer.new }
+    ensures rested { OnOk result (W.interruptions writer.old ≡ 0 → W.interruptions writer.new ≡ 0) }
 {
     match reply {
         Reply::Report(text) => write_all(writer, text),

@@ -1,13 +1,15 @@
 //! A session: each request is answered before the next line is read.
-ghost use Rattle.std.specs.Prelude.{◌≡◌, ◌≤◌, [], None, Some, Err, IfOk, IfErr, OnOk, length, take};
+ghost use Rattle.std.specs.Prelude.{◌≡◌, ◌≤◌, [], None, Some, Err, IfOk, IfErr, OnOk, true, length, take};
 ghost use Rattle.std.specs.Io.KnownBytes.{IsAtEnd, Keeps};
 ghost use Rattle.sbl_bench.specs.Kept.{contents_of};
 ghost use Rattle.snowbench.specs.CommandViews.{BreaksBlock, IsAnswer, IsAnswered};
 ghost use Rattle.snowbench.specs.Commands.{line_command};
+ghost use Rattle.snowbench.specs.Devices.{WritesInTime};
 ghost use Rattle.snowbench.specs.Faults.{left_by, serve_fault_of};
 ghost use Rattle.snowbench.specs.declared.faults.LineFault.{LineFault};
-ghost use Rattle.snowbench.specs.Held.{HasReason, fault_of, fuel_of, held_of, input_of, line_of, reads_bound};
+ghost use Rattle.snowbench.specs.Held.{HasReason, IsDrained, KeepsTime, fault_of, fuel_of, input_of, line_of, reads_bound};
 ghost use Rattle.snowbench.specs.LinesOf.{max_line};
+ghost use Rattle.snowbench.specs.Requests as requests;
 ghost use Rattle.snowbench.specs.Session.{Ends, IsSession};
 
 use crate::block_text::read_block;
@@ -47,29 +49,52 @@ fn keep_line(line: &[u8], room: &mut [u8; MAX_LINE]) -> usize
     line.len()
 }
 
-/// Reads the block of the line that was taken last, if it asks for one, makes the edit or the report, and gives the answer.
-/// Where the block is not read to its end no edit is made: it answers `Cut` where the input ended before its point, `Read` and
-/// `LineTooLong` as the lines do.
+/// Reads the block of the line that was taken last, which asks for one, makes the edit, and gives the answer. Where the block is
+/// not read to its end no edit is made: it answers `Cut` where the input ended before its point, `Read` and `LineTooLong` as the
+/// lines do.
+fn answer_block<R: Source + Drop>(
+    bench: &mut Bench,
+    lines: &mut Lines<R>,
+) -> Result<Reply, ServeFault>
+    requires asked { requests.asks_block (line_of lines.old) ≡ true }
+    requires fits { length (line_of lines.old) ≤ max_line }
+    requires ready { fault_of lines.old ≡ None }
+    ensures answered { IfOk result (λ reply. IsAnswered (input_of R.left lines.old) (input_of R.left lines.new) (line_of lines.old) (contents_of bench.old) reply (contents_of bench.new)) }
+    ensures broken { IfErr result (λ fault. BreaksBlock (input_of R.left lines.old) (input_of R.left lines.new) (line_of lines.old) fault × (contents_of bench.new ≡ contents_of bench.old)) }
+    ensures remembered { fault_of lines.new ≡ left_by result }
+    ensures drained { result ≡ Err ServeFault.Read → IsDrained lines.new }
+    ensures fuel { OnOk result (fuel_of lines.new ≤ fuel_of lines.old) }
+    ensures later { R.failures lines.old.reader ≤ R.failures lines.new.reader }
+    ensures steady { OnOk result (R.failures lines.new.reader ≡ R.failures lines.old.reader) }
+    ensures bound { reads_bound R.reads lines.new ≡ reads_bound R.reads lines.old }
+    ensures why { IfErr result (λ fault. HasReason R.failures R.interruptions R.reads lines.old lines.new fault) }
+    ensures in_time { KeepsTime R.ended R.late R.interruptions R.reads lines.old lines.new }
+{
+    let mut room = [0; MAX_LINE];
+    let count = keep_line(lines.line(), &mut room);
+    let block = read_block(lines)?;
+    Ok(Reply::Fixed(edit_script(bench, &room[..count], block)))
+}
+
+/// Answers the line that was taken last, with the block behind it where it asks for one, as `answer_line` and `answer_block` do.
 fn answer<R: Source + Drop>(bench: &mut Bench, lines: &mut Lines<R>) -> Result<Reply, ServeFault>
     requires fits { length (line_of lines.old) ≤ max_line }
     requires ready { fault_of lines.old ≡ None }
     ensures answered { IfOk result (λ reply. IsAnswered (input_of R.left lines.old) (input_of R.left lines.new) (line_of lines.old) (contents_of bench.old) reply (contents_of bench.new)) }
     ensures broken { IfErr result (λ fault. BreaksBlock (input_of R.left lines.old) (input_of R.left lines.new) (line_of lines.old) fault × (contents_of bench.new ≡ contents_of bench.old)) }
     ensures remembered { fault_of lines.new ≡ left_by result }
-    ensures drained { result ≡ Err ServeFault.Read → held_of lines.new ≡ [] }
+    ensures drained { result ≡ Err ServeFault.Read → IsDrained lines.new }
     ensures fuel { OnOk result (fuel_of lines.new ≤ fuel_of lines.old) }
     ensures later { R.failures lines.old.reader ≤ R.failures lines.new.reader }
     ensures steady { OnOk result (R.failures lines.new.reader ≡ R.failures lines.old.reader) }
     ensures bound { reads_bound R.reads lines.new ≡ reads_bound R.reads lines.old }
     ensures why { IfErr result (λ fault. HasReason R.failures R.interruptions R.reads lines.old lines.new fault) }
+    ensures in_time { KeepsTime R.ended R.late R.interruptions R.reads lines.old lines.new }
 {
-    if !asks_block(lines.line()) {
-        return Ok(answer_line(lines.alloc(), bench, lines.line()));
+    if asks_block(lines.line()) {
+        return answer_block(bench, lines);
     }
-    let mut room = [0; MAX_LINE];
-    let count = keep_line(lines.line(), &mut room);
-    let block = read_block(lines)?;
-    Ok(Reply::Fixed(edit_script(bench, &room[..count], block)))
+    Ok(answer_line(lines.alloc(), bench, lines.line()))
 }
 
 /// Answers each request of the input in turn, to its end. A request is a line, and where its command word is `routine` or `among`
@@ -96,11 +121,13 @@ pub fn serve<R: Source + Drop, W: Sink>(
     ensures ends { Ends R.failures R.interruptions R.reads W.failures W.interruptions lines.old lines.new writer.old writer.new result }
     ensures steady { OnOk result ((R.failures lines.new.reader ≡ R.failures lines.old.reader) × (W.failures writer.new ≡ W.failures writer.old)) }
     ensures whole { OnOk result (IsAtEnd (input_of R.left lines.new)) }
-    ensures drained { result ≡ Err ServeFault.Read → fault_of lines.old ≡ None → held_of lines.new ≡ [] }
+    ensures drained { result ≡ Err ServeFault.Read → fault_of lines.old ≡ None → IsDrained lines.new }
     ensures remembered { fault_of lines.new ≡ left_by result }
     ensures again { (fault : LineFault) → fault_of lines.old ≡ Some fault → (result ≡ Err (serve_fault_of fault)) × (contents_of bench.new ≡ contents_of bench.old)
         × Keeps (W.held writer.old) (W.held writer.new) × Keeps (input_of R.left lines.old) (input_of R.left lines.new) }
     ensures bound { reads_bound R.reads lines.new ≡ reads_bound R.reads lines.old }
+    ensures reads_in_time { KeepsTime R.ended R.late R.interruptions R.reads lines.old lines.new }
+    ensures writes_in_time { WritesInTime W.late W.interruptions writer.old writer.new }
 {
     while lines.next_line()? {
         let reply = answer(bench, lines)?;

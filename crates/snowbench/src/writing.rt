@@ -1,7 +1,7 @@
 //! Writing a whole text to a sink.
 ghost use Rattle.std.specs.Prelude.{◌≡◌, ◌≤◌, ◌<◌, ℕ, IfOk, IfErr, OnOk, OnErr, length, take};
 ghost use Rattle.std.specs.Io.KnownBytes.{Appends, Keeps};
-ghost use Rattle.snowbench.specs.Devices.{HasStopped};
+ghost use Rattle.snowbench.specs.Devices.{HasStopped, WritesInTime};
 
 use crate::devices::{MAX_TRIES, Sink, Stop};
 use crate::faults::ServeFault;
@@ -15,6 +15,8 @@ fn write_some<W: Sink>(writer: &mut W, bytes: &[u8]) -> Result<usize, ServeFault
     ensures later { W.failures writer.old ≤ W.failures writer.new }
     ensures steady { OnOk result (W.failures writer.new ≡ W.failures writer.old) }
     ensures why { IfErr result (λ fault. (fault ≡ ServeFault.Write) × HasStopped W.failures W.interruptions writer.old writer.new) }
+    ensures in_time { WritesInTime W.late W.interruptions writer.old writer.new }
+    ensures rested { OnOk result (W.interruptions writer.new ≡ 0) }
 {
     for _ in 0..MAX_TRIES {
         match writer.write(bytes) {
@@ -34,6 +36,8 @@ pub(crate) fn write_all<W: Sink>(writer: &mut W, bytes: &[u8]) -> Result<(), Ser
     ensures later { W.failures writer.old ≤ W.failures writer.new }
     ensures steady { OnOk result (W.failures writer.new ≡ W.failures writer.old) }
     ensures why { IfErr result (λ fault. (fault ≡ ServeFault.Write) × HasStopped W.failures W.interruptions writer.old writer.new) }
+    ensures in_time { WritesInTime W.late W.interruptions writer.old writer.new }
+    ensures rested { OnOk result (W.interruptions writer.old ≡ 0 → W.interruptions writer.new ≡ 0) }
 {
     let mut written = 0;
     while written < bytes.len() {

@@ -3,7 +3,7 @@
 
 use crate::tests::devices::{Pieces, in_pieces};
 use sbl_script::Script;
-use snowbench::{ServeFault, Verb, Wanted, check, read_words, run};
+use snowbench::{Device, ServeFault, Verb, Wanted, check, read_words, run};
 use std::alloc::Global;
 use std::test::Fail;
 
@@ -11,7 +11,7 @@ const PREFIXES: &[u8] =
     b"externals ( stem )\ndefine stem as ( [ among ( 'un' () 're' () ) ] delete )\n";
 
 /// A writer in memory that takes four bytes a write and fails at one write, 0 for never.
-fn writer(alloc: Global, fails_at: u64) -> Pieces<Vec<u8>> {
+fn writer(alloc: Global, fails_at: u64) -> Device<Pieces<Vec<u8>>> {
     in_pieces(Vec::new(alloc), 4, fails_at, 0)
 }
 
@@ -27,7 +27,7 @@ fn check_of(alloc: Global, script: &[u8], words: &[u8], expected: &[u8]) -> Resu
     let mut writer = writer(alloc, 0);
     let ending = check(alloc, &script, words, expected, &mut writer);
     Ok(Checked {
-        text: writer.inner,
+        text: writer.into_inner().inner,
         ending,
     })
 }
@@ -96,7 +96,7 @@ fn a_check_ends_where_its_writer_fails(rt: HostRuntime) -> Result<(), Fail> {
     let mut failing = writer(rt.alloc(), 2);
     let ending = check(rt.alloc(), &script, b"undo\n", b"x\n", &mut failing);
     assert!(rt; ending == Err(ServeFault::Write));
-    assert!(rt; failing.inner.as_slice() == b"1,un".as_slice());
+    assert!(rt; failing.into_inner().inner.as_slice() == b"1,un".as_slice());
     Ok(())
 }
 
@@ -106,11 +106,11 @@ fn a_check_bears_a_thousand_interruptions_in_a_row(rt: HostRuntime) -> Result<()
     let mut patient = in_pieces(Vec::new(rt.alloc()), 2, 0, 1_000);
     let ending = check(rt.alloc(), &script, b"undo\n", b"x\n", &mut patient);
     assert!(rt; ending == Ok(1));
-    assert!(rt; patient.inner.as_slice() == b"1,undo,x,do\n".as_slice());
+    assert!(rt; patient.into_inner().inner.as_slice() == b"1,undo,x,do\n".as_slice());
     let mut weary = in_pieces(Vec::new(rt.alloc()), 2, 0, 1_001);
     let ending = check(rt.alloc(), &script, b"undo\n", b"x\n", &mut weary);
     assert!(rt; ending == Err(ServeFault::Write));
-    assert!(rt; weary.inner.is_empty());
+    assert!(rt; weary.into_inner().inner.is_empty());
     Ok(())
 }
 
@@ -142,8 +142,8 @@ fn run_of(
     );
     Ok(Ran {
         status,
-        text: text.inner,
-        errors: errors.inner,
+        text: text.into_inner().inner,
+        errors: errors.into_inner().inner,
     })
 }
 

@@ -23,7 +23,7 @@ fn session(alloc: Global, input: &[u8], read: u64, write: u64) -> Result<Ended, 
         Err(fault) => Err(fault),
     };
     Ok(Ended {
-        text: writer.inner,
+        text: writer.into_inner().inner,
         ending,
     })
 }
@@ -229,7 +229,10 @@ fn a_writer_may_be_interrupted_a_thousand_times_in_a_row(rt: HostRuntime) -> Res
         let mut bench = load(&mut lines, "stem")?;
         let ended = serve(&mut bench, &mut lines, &mut writer).map_err(LoadFault::Input);
         assert!(rt; ended == ending, "{interruptions}");
-        assert!(rt; writer.inner.as_slice() == text, "{interruptions}");
+        assert!(rt;
+            writer.into_inner().inner.as_slice() == text,
+            "{interruptions}"
+        );
     }
     Ok(())
 }

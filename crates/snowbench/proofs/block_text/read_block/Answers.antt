@@ -11,7 +11,7 @@ no_fault : {f : Option LineFault} → f ≡ None → IsSome f → ⊥
 no_fault {f} e some = let none : IsSome {T = LineFault} None = subst IsSome e some in cc none
 
 pub loop-text-init : goal.loop-text-init
-loop-text-init g c = ([], (tt, tt), took-none _, c.new-text.ensures, refl, refl, refl, omega arith, λ some. Keeps-refl _)
+loop-text-init g c = ([], (tt, tt), took-none _, c.new-text.ensures, refl, refl, refl, omega arith, λ some. Keeps-refl _, λ timely. timely)
 
 pub returns-then-eq-clause-reads : goal.returns-then-eq-clause-reads
 returns-then-eq-clause-reads g c = λ _.
@@ -39,6 +39,7 @@ loop-text-preserved g c =
       c.next_line.ensures.bound ∙ so.6,
       omega (arith, so.7, c.in_ok-next_line.ensures.falls c.if-branch.true),
       λ some. absurd (no_fault (sym so.4 ∙ c.in_ok-next_line.ensures.ready.0) some),
+      λ timely. c.next_line.ensures.in_time (so.9 timely),
     )
 
 pub returns-clause-reads : goal.returns-clause-reads

@@ -12,7 +12,7 @@ use Rattle.snowbench.proofs.loading.read_words.Goals as goal
 
 pub loop-words-init : goal.loop-words-init
 loop-words-init g c =
-    ([], tt, tt, took-none _, ap (λ (ws : List (Vec ℕ Global)). map (λ w. w.items) ws) c.new-words.ensures.items, refl, omega arith, tt, refl)
+    ([], tt, tt, took-none _, ap (λ (ws : List (Vec ℕ Global)). map (λ w. w.items) ws) c.new-words.ensures.items, refl, omega arith, tt, refl, λ timely. timely)
 
 pub returns-in_err-word-clause-reads : goal.returns-in_err-word-clause-reads
 returns-in_err-word-clause-reads g c = λ _.
@@ -65,6 +65,7 @@ loop-words-preserved g c =
       omega (arith, so.6, c.next_line.ensures.later),
       all_fit-push so.0 line so.7 (c.in_ok-next_line.ensures.fits c.if-branch.true),
       c.next_line.ensures.bound ∙ so.8,
+      λ timely. c.next_line.ensures.in_time (so.9 timely),
     )
 
 pub returns-clause-reads : goal.returns-clause-reads

@@ -14,7 +14,7 @@ no_fault : {f : Option LineFault} → f ≡ None → IsSome f → ⊥
 no_fault {f} e some = let none : IsSome {T = LineFault} None = subst IsSome e some in cc none
 
 pub loop-bench-init : goal.loop-bench-init
-loop-bench-init g c = record { session = session_starts _ _ _; fault = refl; read = refl; written = refl; bound = refl; untouched = λ _. (refl, Keeps-refl _, Keeps-refl _) }
+loop-bench-init g c = record { session = session_starts _ _ _; fault = refl; read = refl; written = refl; bound = refl; untouched = λ _. (refl, Keeps-refl _, Keeps-refl _); reads = λ timely. timely; writes = λ fair rest. fair; rested = λ rest. rest }
 
 pub loop-bench-preserved-in_ok-write_reply : goal.loop-bench-preserved-in_ok-write_reply
 loop-bench-preserved-in_ok-write_reply g c = record {
@@ -26,6 +26,9 @@ loop-bench-preserved-in_ok-write_reply g c = record {
   written = c.in_ok-write_reply.ensures.steady ∙ c.loop-bench.invariant.written;
   bound = c.answer.ensures.bound ∙ c.next_line.ensures.bound ∙ c.loop-bench.invariant.bound;
   untouched = λ some. absurd (no_fault (sym c.loop-bench.invariant.fault ∙ c.in_ok-next_line.ensures.ready.0) some);
+  reads = λ timely. c.answer.ensures.in_time (c.next_line.ensures.in_time (c.loop-bench.invariant.reads timely));
+  writes = λ fair rest. c.write_reply.ensures.in_time (c.loop-bench.invariant.writes fair rest) (c.loop-bench.invariant.rested rest);
+  rested = λ rest. c.in_ok-write_reply.ensures.rested (c.loop-bench.invariant.rested rest);
 }
 
 pub loop-bench-preserved : goal.loop-bench-preserved
@@ -38,6 +41,9 @@ loop-bench-preserved g c = record {
   written = c.in_ok-write_reply.ensures.steady ∙ c.loop-bench.invariant.written;
   bound = c.answer.ensures.bound ∙ c.next_line.ensures.bound ∙ c.loop-bench.invariant.bound;
   untouched = λ some. absurd (no_fault (sym c.loop-bench.invariant.fault ∙ c.in_ok-next_line.ensures.ready.0) some);
+  reads = λ timely. c.answer.ensures.in_time (c.next_line.ensures.in_time (c.loop-bench.invariant.reads timely));
+  writes = λ fair rest. c.write_reply.ensures.in_time (c.loop-bench.invariant.writes fair rest) (c.loop-bench.invariant.rested rest);
+  rested = λ rest. c.in_ok-write_reply.ensures.rested (c.loop-bench.invariant.rested rest);
 }
 
 pub returns-clause-session : goal.returns-clause-session

@@ -1,7 +1,8 @@
 use Rattle.std.proofs.Common.{◌≡◌, IsSome}
 use Rattle.std.specs.Io.KnownBytes.{Keeps}
 use Rattle.sbl_bench.specs.Kept.{contents_of}
-use Rattle.snowbench.specs.Held.{fault_of, fuel_of, input_of, reads_bound}
+use Rattle.snowbench.specs.Devices.{WritesInTime}
+use Rattle.snowbench.specs.Held.{KeepsTime, fault_of, fuel_of, input_of, reads_bound}
 use Rattle.snowbench.specs.Session.{SoFar}
 use Rattle.snowbench.proofs.serving.serve.Given as goal
 
@@ -14,6 +15,9 @@ invariant-loop-bench g l = record {
   bound : reads_bound g.R.Source.reads l.lines ≡ reads_bound g.R.Source.reads l.fn.lines;
   untouched : IsSome (fault_of l.fn.lines) → (contents_of l.bench ≡ contents_of l.fn.bench) × Keeps (g.W.Sink.held l.fn.writer) (g.W.Sink.held l.writer)
       × Keeps (input_of g.R.Source.left l.fn.lines) (input_of g.R.Source.left l.lines);
+  reads : KeepsTime g.R.Source.ended g.R.Source.late g.R.Source.interruptions g.R.Source.reads l.fn.lines l.lines;
+  writes : WritesInTime g.W.Sink.late g.W.Sink.interruptions l.fn.writer l.writer;
+  rested : g.W.Sink.interruptions l.fn.writer ≡ 0 → g.W.Sink.interruptions l.writer ≡ 0;
 }
 
 abbrev pub decreases-loop-bench : goal.decreases-loop-bench

@@ -1,6 +1,6 @@
-use Rattle.std.proofs.Common.{◌≡◌, ◌≤◌}
+use Rattle.std.proofs.Common.{◌≡◌, ◌≤◌, false}
 use Rattle.std.specs.Io.KnownBytes.{Keeps}
-use Rattle.snowbench.specs.Held.{line_of, input_of, reads_bound}
+use Rattle.snowbench.specs.Held.{AreAsked, line_of, input_of, reads_bound}
 use Rattle.snowbench.proofs.lines.Lines.fill.Given as goal
 
 abbrev pub invariant-loop : goal.invariant-loop
@@ -10,3 +10,6 @@ invariant-loop g l = (l.self.at ≡ l.self.end) × Keeps (input_of g.R.Source.le
     × (l.self.fault ≡ l.fn.self.fault)
     × (l.self.reads_left ≤ l.fn.self.reads_left)
     × (reads_bound g.R.Source.reads l.self ≡ reads_bound g.R.Source.reads l.fn.self)
+    × (l.self.ended ≡ false)
+    × (AreAsked g.R.Source.ended g.R.Source.late g.R.Source.reads l.fn.self → g.R.Source.interruptions l.fn.self.reader ≡ 0
+    → AreAsked g.R.Source.ended g.R.Source.late g.R.Source.reads l.self × (g.R.Source.interruptions l.self.reader ≡ l.counter))
