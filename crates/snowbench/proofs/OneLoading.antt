@@ -25,14 +25,14 @@ use Rattle.snowbench.proofs.InputFacts.{AtEnd, AtLong, AtNoText, AtPoint, LinesE
 
 -- ---- the ending by what ends the lines
 
-by_fault : Source → List (List ℕ) → Option EditFault → Result Contents LoadFault
+abbrev by_fault : Source → List (List ℕ) → Option EditFault → Result Contents LoadFault
 by_fault s words None = Ok (opened s (map chars words))
 by_fault s words (Some f) = Err (Open f)
 
-by_words : Source → List (List ℕ) → Result Contents LoadFault
+abbrev by_words : Source → List (List ℕ) → Result Contents LoadFault
 by_words s words = by_fault s words (opening_fault [] (map chars words))
 
-words_ending : Source → LinesEnd → Result Contents LoadFault
+abbrev words_ending : Source → LinesEnd → Result Contents LoadFault
 words_ending s (AtPoint words rest) = by_words s words
 words_ending s (AtEnd words) = by_words s words
 words_ending s AtLong = Err (Input fault.LineTooLong)
@@ -94,7 +94,7 @@ after_source bytes external (Some rest) s r took ends =
     subst (λ (e : LinesEnd). IsEnding external e r) (sym (block_end bytes rest took.0 took.1.0 took.1.1)) (inl (s, took.2, ends rest refl))
 
 -- lines that are good stand first, and one behind them that is too long
-LongBehind : (List (List ℕ) → Type 0) → Option (List ℕ) → Type 0
+abbrev LongBehind : (List (List ℕ) → Type 0) → Option (List ℕ) → Type 0
 LongBehind Good old = (lines : List (List ℕ)) × (next : Option (List ℕ)) × Good lines × Took old next lines × BeginsLong next
 
 long_end : (bytes : List ℕ) → LongBehind BlockLines (Some bytes) → lines_end false (lines_of bytes) ≡ AtLong
@@ -143,7 +143,7 @@ script_ending bytes external (Some rest) f told took = by took.2
     by (inr is) = subst (λ (e : LinesEnd). IsEnding external e (Err (Script f))) (sym (block_end bytes rest took.0 took.1.0 took.1.1)) (inr (f, is, refl))
 
 -- a script and words were taken, which have this verdict
-OpensAs : List ℕ → Option (List ℕ) → List ℕ → (Source → List (List ℕ) → Type 0) → Type 0
+abbrev OpensAs : List ℕ → Option (List ℕ) → List ℕ → (Source → List (List ℕ) → Type 0) → Type 0
 OpensAs bytes new external P = (s : Source) × (words : List (List ℕ)) × IsInput (Some bytes) new external s words × P s words
 
 input_ending : (bytes external : List ℕ) (new : Option (List ℕ)) (s : Source) (words : List (List ℕ)) (r : Result Contents LoadFault) → IsInput (Some bytes) new external s words
@@ -219,7 +219,7 @@ words_to rest y words good stand none =
     ap (lines_end true) (stand_lines rest y words stand ∙ ap (λ (x : List ℕ). words ++ lines_of x) none ∙ ap (λ (x : List (List ℕ)). words ++ x) none_of ∙ append-nil words)
     ∙ end-end true words good.0 good.1
 
-TookTo : Option (List ℕ) → Option (List ℕ) → List (List ℕ) → Type 0
+abbrev TookTo : Option (List ℕ) → Option (List ℕ) → List (List ℕ) → Type 0
 TookTo old new words = Took old new (words ++ point ∷ []) ⊎ (Took old new words × IsAtEnd new)
 
 words_rest : (rest : List ℕ) (a b : Option (List ℕ)) (words others : List (List ℕ)) → TookWords (Some rest) a words → TookWords (Some rest) b others → a ≡ b
