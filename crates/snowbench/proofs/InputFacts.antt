@@ -40,7 +40,9 @@ some-lines (line ∷ lines) some = (length lines, refl)
 drop-whole : (front rest : List ℕ) → AreWhole front → drop_lines (length (raw_lines front)) (front ++ rest) ≡ rest
 unfolding raw_lines
 drop-whole [] rest whole = drop-none rest
-drop-whole (b ∷ []) rest whole = let feed : (b == 10) ≡ true = rw whole refl in rw feed (drop-none rest)
+drop-whole (b ∷ []) rest whole =
+    let feed : (b == 10) ≡ true = rw whole refl in
+    ap (λ (n : ℕ). drop_lines n (b ∷ rest)) (ap length (raw-feed b [] feed)) ∙ drop-feed 0 b rest feed ∙ drop-none rest
 drop-whole (b ∷ c ∷ front) rest whole = by (drop-whole (c ∷ front) rest whole) (b == 10) refl
   where
     by : drop_lines (length (raw_lines (c ∷ front))) ((c ∷ front) ++ rest) ≡ rest → (t : Bool) → (b == 10) ≡ t
@@ -59,8 +61,8 @@ drop-all [] = refl
 drop-all (b ∷ []) = by (b == 10) refl
   where
     by : (t : Bool) → (b == 10) ≡ t → drop_lines (length (raw_lines (b ∷ []))) (b ∷ []) ≡ []
-    by true e = rw e refl
-    by false e = rw e refl
+    by true e = ap (λ (n : ℕ). drop_lines n (b ∷ [])) (ap length (raw-feed b [] e)) ∙ drop-feed 0 b [] e
+    by false e = ap (λ (n : ℕ). drop_lines n (b ∷ [])) (ap length (raw-other b [] e)) ∙ drop-other 0 b [] e
 drop-all (b ∷ c ∷ bytes) = by (drop-all (c ∷ bytes)) (b == 10) refl
   where
     by : drop_lines (length (raw_lines (c ∷ bytes))) (c ∷ bytes) ≡ [] → (t : Bool) → (b == 10) ≡ t → drop_lines (length (raw_lines (b ∷ c ∷ bytes))) (b ∷ c ∷ bytes) ≡ []

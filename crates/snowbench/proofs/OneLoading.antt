@@ -25,6 +25,12 @@ use Rattle.snowbench.proofs.InputFacts.{AtEnd, AtLong, AtNoText, AtPoint, LinesE
 
 -- ---- the ending by what ends the lines
 
+abbrev as_script_fault : ScriptFault → Result Contents LoadFault
+as_script_fault f = Err (Script f)
+
+abbrev as_bench : Contents → Result Contents LoadFault
+as_bench c = Ok c
+
 abbrev by_fault : Source → List (List ℕ) → Option EditFault → Result Contents LoadFault
 by_fault s words None = Ok (opened s (map chars words))
 by_fault s words (Some f) = Err (Open f)
@@ -53,7 +59,7 @@ ending-one one fault_one either external (AtPoint lines rest) r q (inl p) (inl o
 ending-one one fault_one either external (AtPoint lines rest) r q (inl p) (inr o) = absurd (either (made_text lines) external p.0 o.0 p.1 o.1)
 ending-one one fault_one either external (AtPoint lines rest) r q (inr p) (inl o) = absurd (either (made_text lines) external o.0 p.0 o.1 p.1)
 ending-one one fault_one either external (AtPoint lines rest) r q (inr p) (inr o) =
-    p.2 ∙ ap (λ (f : ScriptFault). Err {T = Contents} (Script f)) (fault_one (made_text lines) external p.0 o.0 p.1 o.1) ∙ sym o.2
+    p.2 ∙ ap as_script_fault (fault_one (made_text lines) external p.0 o.0 p.1 o.1) ∙ sym o.2
 ending-one one fault_one either external (AtEnd lines) r q p o = p ∙ sym o
 ending-one one fault_one either external AtLong r q p o = p ∙ sym o
 ending-one one fault_one either external AtNoText r q p o = p ∙ sym o
@@ -73,8 +79,8 @@ words_end : (s : Source) (rest : List ℕ) (new : Option (List ℕ)) (words : Li
 words_end s rest None words took = by took.1
   where
     by : Took (Some rest) None (words ++ point ∷ []) ⊎ (Took (Some rest) None words × IsAtEnd None) → words_ending s (lines_end true (lines_of rest)) ≡ by_words s words
-    by (inl no) = absurd no
-    by (inr no) = absurd no.0
+    by (inl nothing) = absurd nothing
+    by (inr nothing) = absurd nothing.0
 words_end s rest (Some y) words took = by took.1
   where
     by : Took (Some rest) (Some y) (words ++ point ∷ []) ⊎ (Took (Some rest) (Some y) words × IsAtEnd (Some y)) → words_ending s (lines_end true (lines_of rest)) ≡ by_words s words
@@ -101,7 +107,7 @@ long_end : (bytes : List ℕ) → LongBehind BlockLines (Some bytes) → lines_e
 long_end bytes long = by long.1 long.3 long.4
   where
     by : (next : Option (List ℕ)) → Took (Some bytes) next long.0 → BeginsLong next → lines_end false (lines_of bytes) ≡ AtLong
-    by None no begins = absurd no
+    by None nothing begins = absurd nothing
     by (Some y) stand begins =
         ap (lines_end false) (stand_lines bytes y long.0 stand ∙ ap (λ (x : List (List ℕ)). long.0 ++ x) begins.2) ∙ end-long false long.0 begins.0 begins.1 long.2 tt begins.3
 
@@ -109,7 +115,7 @@ long_words : (bytes : List ℕ) → LongBehind WordLines (Some bytes) → lines_
 long_words bytes long = by long.1 long.3 long.4
   where
     by : (next : Option (List ℕ)) → Took (Some bytes) next long.0 → BeginsLong next → lines_end true (lines_of bytes) ≡ AtLong
-    by None no begins = absurd no
+    by None nothing begins = absurd nothing
     by (Some y) stand begins =
         ap (lines_end true) (stand_lines bytes y long.0 stand ∙ ap (λ (x : List (List ℕ)). long.0 ++ x) begins.2)
         ∙ end-long true long.0 begins.0 begins.1 long.2.0 long.2.1 begins.3
@@ -131,7 +137,7 @@ no_text_words bytes (Some y) none =
 -- ---- what loading answered
 
 told_not_memory : (f : ScriptFault) → IsToldByBytes (Err (Script f)) → f ≡ script.OutOfMemory → ⊥
-told_not_memory f told is = let no : IsToldByBytes (Err (Script script.OutOfMemory)) = subst (λ (x : ScriptFault). IsToldByBytes (Err (Script x))) is told in no
+told_not_memory f told is = let differ : IsToldByBytes (Err (Script script.OutOfMemory)) = subst (λ (x : ScriptFault). IsToldByBytes (Err (Script x))) is told in differ
 
 script_ending : (bytes external : List ℕ) (new : Option (List ℕ)) (f : ScriptFault) → IsToldByBytes (Err (Script f)) → TookFault (Some bytes) new external f
     → IsEnding external (lines_end false (lines_of bytes)) (Err (Script f))
@@ -160,7 +166,7 @@ open_ending bytes external new f p = input_ending bytes external new p.0 p.1 (Er
 loaded_ending : (bytes external : List ℕ) (new : Option (List ℕ)) (r : Result Contents LoadFault) → IsToldByBytes r → IsLoaded (Some bytes) new external (λ s. s) r
     → IsEnding external (lines_end false (lines_of bytes)) r
 loaded_ending bytes external new (Ok c) told p =
-    input_ending bytes external new p.0 p.1 (Ok c) p.2 (ap (λ (x : Contents). Ok {E = LoadFault} x) p.4 ∙ sym (ap (by_fault p.0 p.1) p.3))
+    input_ending bytes external new p.0 p.1 (Ok c) p.2 (ap as_bench p.4 ∙ sym (ap (by_fault p.0 p.1) p.3))
 loaded_ending bytes external new (Err (Script f)) told p = script_ending bytes external new f told p
 loaded_ending bytes external new (Err (Open edit.Present)) told p = open_ending bytes external new edit.Present p
 loaded_ending bytes external new (Err (Open edit.Absent)) told p = open_ending bytes external new edit.Absent p
@@ -226,21 +232,21 @@ words_rest : (rest : List ℕ) (a b : Option (List ℕ)) (words others : List (L
 words_rest rest None b words others p o = absurd (none p.1)
   where
     none : TookTo (Some rest) None words → ⊥
-    none (inl no) = no
-    none (inr no) = no.0
+    none (inl nothing) = nothing
+    none (inr nothing) = nothing.0
 words_rest rest (Some x) None words others p o = absurd (none o.1)
   where
     none : TookTo (Some rest) None others → ⊥
-    none (inl no) = no
-    none (inr no) = no.0
+    none (inl nothing) = nothing
+    none (inr nothing) = nothing.0
 words_rest rest (Some x) (Some y) words others p o = by p.1 o.1
   where
     by : TookTo (Some rest) (Some x) words → TookTo (Some rest) (Some y) others → Some x ≡ Some y
     by (inl u) (inl v) =
         let same : words ≡ others = point_lines words (lines_of x) others (lines_of y) (sym (words_at rest x words p.0 u) ∙ words_at rest y others o.0 v) in
         ap Some (stand-one rest x y (others ++ point ∷ []) (subst (λ (ls : List (List ℕ)). StandFirst rest (ls ++ point ∷ []) x) same u) v)
-    by (inl u) (inr v) = let no : AtPoint words (lines_of x) ≡ AtEnd others = sym (words_at rest x words p.0 u) ∙ words_to rest y others o.0 v.0 v.1 in cc no
-    by (inr u) (inl v) = let no : AtEnd words ≡ AtPoint others (lines_of y) = sym (words_to rest x words p.0 u.0 u.1) ∙ words_at rest y others o.0 v in cc no
+    by (inl u) (inr v) = let differ : AtPoint words (lines_of x) ≡ AtEnd others = sym (words_at rest x words p.0 u) ∙ words_to rest y others o.0 v.0 v.1 in cc differ
+    by (inr u) (inl v) = let differ : AtEnd words ≡ AtPoint others (lines_of y) = sym (words_to rest x words p.0 u.0 u.1) ∙ words_at rest y others o.0 v in cc differ
     by (inr u) (inr v) = ap Some (u.1 ∙ sym v.1)
 
 pub rest-one : RestIsOne
