@@ -5,7 +5,7 @@ ghost use Rattle.csv.specs.Records.{fields_of};
 ghost use Rattle.sbl_machine.specs.MachineOf.{IsLinkedMachineOf};
 ghost use Rattle.sbl_script.specs.Parsed.{Source, source_of};
 ghost use Rattle.snowbench.specs.Checking.{ComparesPair, IsRow, view_got};
-ghost use Rattle.snowbench.specs.Devices.{HasStopped};
+ghost use Rattle.snowbench.specs.Devices.{HasStopped, WritesInTime};
 ghost use Rattle.snowbench.specs.Differences as spec;
 ghost use Rattle.snowbench.specs.Differences.{IsChecked};
 ghost use Rattle.snowbench.specs.Rows as rows;
@@ -150,6 +150,8 @@ fn compare<W: Sink>(
     ensures compares { (script : Source) → IsLinkedMachineOf machine.now script → ComparesPair script number word.now expected.now (W.held writer.old) (W.held writer.new) result }
     ensures steady { OnOk result (W.failures writer.new ≡ W.failures writer.old) }
     ensures why { IfErr result (λ fault. fault ≡ ServeFault.Write → HasStopped W.failures W.interruptions writer.old writer.new) }
+    ensures in_time { WritesInTime W.late W.interruptions writer.old writer.new }
+    ensures rested { OnOk result (W.interruptions writer.old ≡ 0 → W.interruptions writer.new ≡ 0) }
 {
     let word = text_line(word)?;
     let expected = text_line(expected)?;
@@ -185,6 +187,7 @@ pub fn check<W: Sink>(
     ensures checked { IsChecked (source_of script.now) words.now expected.now (W.held writer.old) (W.held writer.new) result }
     ensures steady { OnOk result (W.failures writer.new ≡ W.failures writer.old) }
     ensures why { IfErr result (λ fault. fault ≡ ServeFault.Write → HasStopped W.failures W.interruptions writer.old writer.new) }
+    ensures writes_in_time { WritesInTime W.late W.interruptions writer.old writer.new }
 {
     let machine = Machine::new(alloc, script)?;
     let mut meter = Meter::new();

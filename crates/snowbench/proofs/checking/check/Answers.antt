@@ -33,6 +33,8 @@ loop-word-preserved g c =
       made = c.loop-word.invariant.made;
       compared = rw found (compared_more c.loop-word.invariant.compared _ _ _ _ _ _ c.in-Some.ensures.lines c.in-Some-first_line.ensures.lines pair.0 pair.1 pair.2);
       steady = c.in_ok-compare.ensures.steady ∙ c.loop-word.invariant.steady;
+      writes = λ fair rest. c.compare.ensures.in_time (c.loop-word.invariant.writes fair rest) (c.loop-word.invariant.rested rest);
+      rested = λ rest. c.in_ok-compare.ensures.rested (c.loop-word.invariant.rested rest);
       numbered = omega (arith, c.in-Some.ensures.fewer, c.loop-word.invariant.numbered);
       few = few;
     }
