@@ -8,6 +8,7 @@ mod control;
 mod devices;
 mod grammar;
 mod lines;
+mod printing;
 mod program;
 mod runs;
 mod script;
