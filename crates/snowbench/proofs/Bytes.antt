@@ -3,7 +3,7 @@ use Rattle.std.proofs.Common.{subst, inl, inr, ◌⊎◌, Bool, true, length-app
 use Rattle.std.specs.Prelude.{slice_range}
 use Rattle.std.proofs.Math.Seq.{drop-cons}
 use Rattle.std.specs.Io.KnownBytes.{Consumes, Keeps, prepend_known}
-use Rattle.snowbench.specs.Held.{NoFeed, BeginsLong, GivesLine, StandFirst, TakesLine, Took}
+use Rattle.snowbench.specs.Held.{NoFeed, BeginsLong, GivesLine, StandFirst, TakesLine, Took, TookWhole}
 use Rattle.snowbench.specs.declared.lines.LineEnd.{LineEnd}
 use Rattle.snowbench.specs.declared.lines.LineEnd.TheVariants.{Feed, Input, Beyond}
 use Rattle.snowbench.specs.LinesOf.{AreWhole, chomped, lines_of, onto_first, raw_lines}
@@ -194,6 +194,25 @@ gives_line (Some xs) (Some ys) (c ∷ line) Input takes free within some = recor
   whole = inr takes.1;
   lines_are = ap (map chomped) (lines-last c line free);
 }
+
+-- a line that a line feed ended is whole
+pub takes_whole : (a b : Option (List ℕ)) (line : List ℕ) (end : LineEnd) → TakesLine a b line end → (end ≢ Beyond) → (end ≢ Input) → TookWhole a b
+takes_whole None b line end takes within fed = tt
+takes_whole (Some xs) None line Feed takes within fed = absurd takes
+takes_whole (Some xs) (Some ys) line Feed takes within fed = (line ++ 10 ∷ [], takes, whole-feed line)
+takes_whole (Some xs) b line Input takes within fed = absurd (fed refl)
+takes_whole (Some xs) b line Beyond takes within fed = absurd (within refl)
+
+pub whole_none : (a : Option (List ℕ)) → TookWhole a a
+whole_none None = tt
+whole_none (Some xs) = ([], refl, tt)
+
+pub whole_trans : (a b c : Option (List ℕ)) → TookWhole a b → TookWhole b c → TookWhole a c
+whole_trans None b c p q = tt
+whole_trans (Some xs) None c p q = absurd p
+whole_trans (Some xs) (Some ys) None p q = absurd q
+whole_trans (Some xs) (Some ys) (Some zs) p q =
+    (p.0 ++ q.0, p.1 ∙ ap (λ (x : List ℕ). p.0 ++ x) q.1 ∙ sym (append_assoc p.0 q.0 zs), whole-append p.0 q.0 p.2 q.2)
 
 -- the first of the lines begins with whatever stands before the first line feed
 begins-with : (front rest : List ℕ) → NoFeed front → front ≢ [] → (more : List ℕ) × (others : List (List ℕ)) × (raw_lines (front ++ rest) ≡ (front ++ more) ∷ others)

@@ -10,7 +10,7 @@ use Rattle.snowbench.specs.Answers.{Answers, IsReplyTo, Memory}
 use Rattle.snowbench.specs.Block.{BlockLines, Breaks, HoldsText, ReadsBlock, point}
 use Rattle.snowbench.specs.CommandViews.{IsAnswer, IsAnswered, IsReply, IsTextAnswer}
 use Rattle.snowbench.specs.Commands.{block_command, command_of, line_command}
-use Rattle.snowbench.specs.Held.{AllFit, BeginsLong, BreaksOff, GivesLine, Took}
+use Rattle.snowbench.specs.Held.{AllFit, BeginsLong, BreaksOff, GivesLine, Took, TookWhole}
 use Rattle.snowbench.specs.Requests.{HasBlock, IsBegun, IsOpen, IsRequest, Request, TookRequests, asks_block, block_lines, lines_in, lines_in_all}
 use Rattle.snowbench.specs.Session.{Answered, HalfAnswered, IsSession, SoFar}
 use Rattle.snowbench.specs.declared.block_text.BlockText.{BlockText}
@@ -99,23 +99,24 @@ session_ends a b c h i s t so keeps end =
 
 -- where the lines have no further one
 pub session_at_line : (a b c h i : Option (List ℕ)) (s t : Contents) (k : Option LineFault) (part : List ℕ) (f : LineFault) → SoFar a b h i s t → k ≡ None
-    → (f ≡ read.TooLong → BeginsLong b ⊎ (k ≡ Some f)) → (f ≡ read.Read → k ≡ None → BreaksOff b c part) → IsSession a c h i s t (Err (serve_fault_of f))
-session_at_line a b c h i s t k part read.Read so none long cut = (b, so, broken IsBegun b b c k [] part read.Read tt (took-none b) none long cut)
-session_at_line a b c h i s t k part read.TooLong so none long cut = (b, so, broken IsBegun b b c k [] part read.TooLong tt (took-none b) none long cut)
+    → (f ≡ read.Read → TookWhole a b) → (f ≡ read.TooLong → BeginsLong b ⊎ (k ≡ Some f)) → (f ≡ read.Read → k ≡ None → BreaksOff b c part)
+    → IsSession a c h i s t (Err (serve_fault_of f))
+session_at_line a b c h i s t k part read.Read so none whole long cut = (b, whole refl, so, broken IsBegun b b c k [] part read.Read tt (took-none b) none long cut)
+session_at_line a b c h i s t k part read.TooLong so none whole long cut = (b, so, broken IsBegun b b c k [] part read.TooLong tt (took-none b) none long cut)
 
 -- where a block has no end
 pub session_open : (a b c d h i : Option (List ℕ)) (s t : Contents) (line : List ℕ) (f : ServeFault) → SoFar a b h i s t → GivesLine b c line → length line ≤ 65536
-    → asks_block line ≡ true → Breaks BlockLines c d f → IsSession a d h i s t (Err f)
-session_open a b c d h i s t line fault.Read so gives fits asks breaks =
-    (b, so, (line ∷ breaks.0, breaks.1, breaks.2, (asks, fits, breaks.3), took-trans b c breaks.1 (line ∷ []) breaks.0 gives breaks.4, breaks.5))
-session_open a b c d h i s t line fault.LineTooLong so gives fits asks breaks =
+    → asks_block line ≡ true → (f ≡ fault.Read → TookWhole a b) → Breaks BlockLines c d f → IsSession a d h i s t (Err f)
+session_open a b c d h i s t line fault.Read so gives fits asks whole breaks =
+    (b, whole refl, so, (line ∷ breaks.0, breaks.1, breaks.2, (asks, fits, breaks.3), took-trans b c breaks.1 (line ∷ []) breaks.0 gives breaks.4, breaks.5))
+session_open a b c d h i s t line fault.LineTooLong so gives fits asks whole breaks =
     (b, so, (line ∷ breaks.0, breaks.1, (asks, fits, breaks.2), took-trans b c breaks.1 (line ∷ []) breaks.0 gives breaks.3, breaks.4))
-session_open a b c d h i s t line fault.Cut so gives fits asks breaks =
+session_open a b c d h i s t line fault.Cut so gives fits asks whole breaks =
     (b, so, (line ∷ breaks.0, (asks, fits, breaks.1), took-trans b c d (line ∷ []) breaks.0 gives breaks.2, breaks.3))
-session_open a b c d h i s t line fault.Write so gives fits asks breaks = absurd breaks
-session_open a b c d h i s t line fault.NotText so gives fits asks breaks = absurd breaks
-session_open a b c d h i s t line fault.OutOfMemory so gives fits asks breaks = absurd breaks
-session_open a b c d h i s t line fault.LengthsDiffer so gives fits asks breaks = absurd breaks
+session_open a b c d h i s t line fault.Write so gives fits asks whole breaks = absurd breaks
+session_open a b c d h i s t line fault.NotText so gives fits asks whole breaks = absurd breaks
+session_open a b c d h i s t line fault.OutOfMemory so gives fits asks whole breaks = absurd breaks
+session_open a b c d h i s t line fault.LengthsDiffer so gives fits asks whole breaks = absurd breaks
 
 -- where an answer was broken off by the writer
 pub session_at_write : (a b c d h i j : Option (List ℕ)) (s t u : Contents) (line : List ℕ) (reply : Reply) (n : ℕ)

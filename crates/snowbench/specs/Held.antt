@@ -17,6 +17,12 @@ abbrev pub to_be_read : Bool → Option (List ℕ) → Option (List ℕ)
 to_be_read false left = left
 to_be_read true left = option_map (λ bytes. []) left
 
+-- the bytes that were taken are whole lines
+abbrev pub TookWhole : Option (List ℕ) → Option (List ℕ) → Type 0
+TookWhole None new = ⊤
+TookWhole (Some bytes) None = ⊥
+TookWhole (Some bytes) (Some rest) = (front : List ℕ) × (bytes ≡ front ++ rest) × AreWhole front
+
 module _ {R : Type 0} where
   -- the bytes read and not yet taken
   abbrev pub held_of : Lines R → List ℕ
@@ -35,6 +41,14 @@ module _ {R : Type 0} where
   -- All that was read was taken, and the reader has not told its end: what is yet to come is what the reader has left.
   abbrev pub IsDrained : Lines R → Type 0
   IsDrained l = (held_of l ≡ []) × (l.ended ≡ false)
+
+  -- once the end was told it stays told
+  abbrev pub StaysEnded : Lines R → Lines R → Type 0
+  StaysEnded old new = new.ended ≡ false → old.ended ≡ false
+
+  -- where the reader has not told its end, a line feed ended the last line that was taken in between
+  abbrev pub TakesFeeds : (R → Option (List ℕ)) → Lines R → Lines R → Type 0
+  TakesFeeds left old new = new.ended ≡ false → TookWhole (input_of left old) (input_of left new)
 
   -- a bound on the bytes that are yet to come
   abbrev pub fuel_of : Lines R → ℕ

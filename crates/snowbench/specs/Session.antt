@@ -6,7 +6,7 @@ use Rattle.snowbench.specs.Answers.{Answers, IsReplyTo, Memory}
 use Rattle.snowbench.specs.Block.{Breaks}
 use Rattle.snowbench.specs.Commands.{command_of}
 use Rattle.snowbench.specs.Devices.{HasStopped}
-use Rattle.snowbench.specs.Held.{HasCause, fault_of}
+use Rattle.snowbench.specs.Held.{HasCause, TookWhole, fault_of}
 use Rattle.snowbench.specs.Requests.{IsBegun, IsOpen, Request, TookRequests}
 use Rattle.snowbench.specs.declared.lines.Lines.{Lines}
 use Rattle.snowbench.specs.declared.faults.LineFault.TheVariants as line
@@ -39,7 +39,8 @@ SoFar input new_input held new_held s t = (requests : List Request) × TookReque
 
 -- What a session of this input writes, and what the bench is after it, by how it ends, and what input it leaves then. At the end
 -- of input all requests are answered. Where the input ends inside a block, a line is too long, or the reader stops, all requests
--- before that are answered, and no line feed ends the request that it broke off. Where the writer stops, the edit of the
+-- before that are answered, and no line feed ends the request that it broke off; where the reader stops, a line feed ends the last
+-- request that was answered. Where the writer stops, the edit of the
 -- request in hand is made and its answer broken off.
 abbrev pub IsSession : Option (List ℕ) → Option (List ℕ) → Option (List ℕ) → Option (List ℕ) → Contents → Contents → Result (Unit {0}) ServeFault → Type 0
 IsSession input new_input held new_held s t (Ok u) = SoFar input new_input held new_held s t × IsAtEnd new_input
@@ -47,6 +48,8 @@ IsSession input new_input held new_held s t (Err fault.Write) =
     (requests : List Request) × (request : Request) × TookRequests input new_input (requests ++ request ∷ []) × HalfAnswered s requests request held new_held t
 IsSession input new_input held new_held s t (Err fault.Cut) =
     (between : Option (List ℕ)) × SoFar input between held new_held s t × Breaks IsOpen between new_input fault.Cut
+IsSession input new_input held new_held s t (Err fault.Read) =
+    (between : Option (List ℕ)) × TookWhole input between × SoFar input between held new_held s t × Breaks IsBegun between new_input fault.Read
 IsSession input new_input held new_held s t (Err f) =
     (between : Option (List ℕ)) × SoFar input between held new_held s t × Breaks IsBegun between new_input f
 

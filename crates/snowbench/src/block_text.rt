@@ -3,7 +3,7 @@ ghost use Rattle.std.specs.Prelude.{◌≡◌, ◌<◌, ◌≤◌, ◌++◌, [],
 ghost use Rattle.std.specs.Io.KnownBytes.{Keeps};
 ghost use Rattle.snowbench.specs.Block.{HasText, HoldsText, ReadsBlock, made_text, max_script};
 ghost use Rattle.snowbench.specs.Faults.{left_by, serve_fault_of};
-ghost use Rattle.snowbench.specs.Held.{HasReason, IsDrained, KeepsTime, fault_of, fuel_of, input_of, reads_bound};
+ghost use Rattle.snowbench.specs.Held.{HasReason, IsDrained, KeepsTime, StaysEnded, TakesFeeds, fault_of, fuel_of, input_of, reads_bound};
 ghost use Rattle.snowbench.specs.declared.faults.LineFault.{LineFault};
 
 use crate::devices::Source;
@@ -88,6 +88,8 @@ pub(crate) fn read_block<R: Source + Drop>(lines: &mut Lines<R>) -> Result<Block
     ensures drained { result ≡ Err ServeFault.Read → fault_of lines.old ≡ None → IsDrained lines.new }
     ensures fuel { OnOk result (fuel_of lines.new ≤ fuel_of lines.old) }
     ensures later { R.failures lines.old.reader ≤ R.failures lines.new.reader }
+    ensures stays { StaysEnded lines.old lines.new }
+    ensures feeds { OnOk result (TakesFeeds R.left lines.old lines.new) }
     ensures steady { OnOk result (R.failures lines.new.reader ≡ R.failures lines.old.reader) }
     ensures bound { reads_bound R.reads lines.new ≡ reads_bound R.reads lines.old }
     ensures why { IfErr result (λ fault. HasReason R.failures R.interruptions R.reads lines.old lines.new fault) }

@@ -45,7 +45,7 @@ pub struct Lines<R> {
 
 impl<R: Source + Drop> Lines<R> {
     ghost use Rattle.snowbench.specs.Devices.{IsUnasked, max_reads};
-    ghost use Rattle.snowbench.specs.Held.{fuel_of, line_of, fault_of, input_of, reads_bound, AsksInTime, BeginsLong, BreaksOff, HasCause, InTime, IsDrained, KeepsTime, TakesLine, NoFeed, GivesLine};
+    ghost use Rattle.snowbench.specs.Held.{fuel_of, line_of, fault_of, input_of, reads_bound, AsksInTime, BeginsLong, BreaksOff, HasCause, InTime, IsDrained, KeepsTime, StaysEnded, TakesFeeds, TakesLine, NoFeed, GivesLine};
 
     /// The lines of `reader`, which is asked for at most 1,099,511,627,776 reads. Takes its buffers at once; a refused
     /// growth is the one error.
@@ -102,6 +102,8 @@ impl<R: Source + Drop> Lines<R> {
         ensures drained { OnErr result (IsDrained self.new) }
         ensures fuel { fuel_of self.new ≤ fuel_of self.old }
         ensures later { R.failures self.old.reader ≤ R.failures self.new.reader }
+        ensures stays { StaysEnded self.old self.new }
+        ensures told { OnOk result (self.new.at ≡ self.new.end → self.new.ended ≡ true) }
         ensures steady { OnOk result (R.failures self.new.reader ≡ R.failures self.old.reader) }
         ensures bound { reads_bound R.reads self.new ≡ reads_bound R.reads self.old }
         ensures why { IfErr result (λ fault. (fault ≡ LineFault.Read) × HasCause R.failures R.interruptions R.reads self.old self.new) }
@@ -140,6 +142,8 @@ impl<R: Source + Drop> Lines<R> {
         ensures fuel { fuel_of self.new ≤ fuel_of self.old }
         ensures falls { IfOk result (λ o. MatchOption o Unit (λ b. fuel_of self.new < fuel_of self.old)) }
         ensures later { R.failures self.old.reader ≤ R.failures self.new.reader }
+        ensures stays { StaysEnded self.old self.new }
+        ensures told { IfOk result (λ o. MatchOption o (self.new.ended ≡ true) (λ b. Unit)) }
         ensures steady { OnOk result (R.failures self.new.reader ≡ R.failures self.old.reader) }
         ensures bound { reads_bound R.reads self.new ≡ reads_bound R.reads self.old }
         ensures why { IfErr result (λ fault. (fault ≡ LineFault.Read) × HasCause R.failures R.interruptions R.reads self.old self.new) }
@@ -167,6 +171,8 @@ impl<R: Source + Drop> Lines<R> {
         ensures fuel { OnOk result (vec_len self.new.line + fuel_of self.new ≤ fuel_of self.old) }
         ensures falls { IfOk result (λ end. end ≢ LineEnd.Input → fuel_of self.new < fuel_of self.old) }
         ensures later { R.failures self.old.reader ≤ R.failures self.new.reader }
+        ensures stays { StaysEnded self.old self.new }
+        ensures told { IfOk result (λ end. end ≡ LineEnd.Input → self.new.ended ≡ true) }
         ensures steady { OnOk result (R.failures self.new.reader ≡ R.failures self.old.reader) }
         ensures bound { reads_bound R.reads self.new ≡ reads_bound R.reads self.old }
         ensures why { IfErr result (λ fault. (fault ≡ LineFault.Read) × HasCause R.failures R.interruptions R.reads self.old self.new) }
@@ -199,6 +205,8 @@ impl<R: Source + Drop> Lines<R> {
         ensures falls { IfOk result (λ more. more ≡ true → fuel_of self.new < fuel_of self.old) }
         ensures fault { fault_of self.new ≡ fault_of self.old }
         ensures later { R.failures self.old.reader ≤ R.failures self.new.reader }
+        ensures stays { StaysEnded self.old self.new }
+        ensures feeds { IfOk result (λ more. more ≡ true → TakesFeeds R.left self.old self.new) }
         ensures steady { OnOk result (R.failures self.new.reader ≡ R.failures self.old.reader) }
         ensures bound { reads_bound R.reads self.new ≡ reads_bound R.reads self.old }
         ensures why { IfErr result (λ fault. fault ≡ LineFault.Read → HasCause R.failures R.interruptions R.reads self.old self.new) }
@@ -233,6 +241,8 @@ impl<R: Source + Drop> Lines<R> {
         ensures ready { OnOk result ((fault_of self.old ≡ None) × (fault_of self.new ≡ None)) }
         ensures fault { IfErr result (λ fault. fault_of self.new ≡ Some fault) }
         ensures later { R.failures self.old.reader ≤ R.failures self.new.reader }
+        ensures stays { StaysEnded self.old self.new }
+        ensures feeds { IfOk result (λ more. more ≡ true → TakesFeeds R.left self.old self.new) }
         ensures steady { OnOk result (R.failures self.new.reader ≡ R.failures self.old.reader) }
         ensures bound { reads_bound R.reads self.new ≡ reads_bound R.reads self.old }
         ensures why { IfErr result (λ fault. fault ≡ LineFault.Read → HasCause R.failures R.interruptions R.reads self.old self.new ⊎ (fault_of self.old ≡ Some fault)) }

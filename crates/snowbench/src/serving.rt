@@ -7,7 +7,7 @@ ghost use Rattle.snowbench.specs.Commands.{line_command};
 ghost use Rattle.snowbench.specs.Devices.{WritesInTime};
 ghost use Rattle.snowbench.specs.Faults.{left_by, serve_fault_of};
 ghost use Rattle.snowbench.specs.declared.faults.LineFault.{LineFault};
-ghost use Rattle.snowbench.specs.Held.{HasReason, IsDrained, KeepsTime, fault_of, fuel_of, input_of, line_of, reads_bound};
+ghost use Rattle.snowbench.specs.Held.{HasReason, IsDrained, KeepsTime, StaysEnded, TakesFeeds, fault_of, fuel_of, input_of, line_of, reads_bound};
 ghost use Rattle.snowbench.specs.LinesOf.{max_line};
 ghost use Rattle.snowbench.specs.Requests as requests;
 ghost use Rattle.snowbench.specs.Session.{Ends, IsSession};
@@ -65,6 +65,8 @@ fn answer_block<R: Source + Drop>(
     ensures drained { result ≡ Err ServeFault.Read → IsDrained lines.new }
     ensures fuel { OnOk result (fuel_of lines.new ≤ fuel_of lines.old) }
     ensures later { R.failures lines.old.reader ≤ R.failures lines.new.reader }
+    ensures stays { StaysEnded lines.old lines.new }
+    ensures feeds { OnOk result (TakesFeeds R.left lines.old lines.new) }
     ensures steady { OnOk result (R.failures lines.new.reader ≡ R.failures lines.old.reader) }
     ensures bound { reads_bound R.reads lines.new ≡ reads_bound R.reads lines.old }
     ensures why { IfErr result (λ fault. HasReason R.failures R.interruptions R.reads lines.old lines.new fault) }
@@ -86,6 +88,8 @@ fn answer<R: Source + Drop>(bench: &mut Bench, lines: &mut Lines<R>) -> Result<R
     ensures drained { result ≡ Err ServeFault.Read → IsDrained lines.new }
     ensures fuel { OnOk result (fuel_of lines.new ≤ fuel_of lines.old) }
     ensures later { R.failures lines.old.reader ≤ R.failures lines.new.reader }
+    ensures stays { StaysEnded lines.old lines.new }
+    ensures feeds { OnOk result (TakesFeeds R.left lines.old lines.new) }
     ensures steady { OnOk result (R.failures lines.new.reader ≡ R.failures lines.old.reader) }
     ensures bound { reads_bound R.reads lines.new ≡ reads_bound R.reads lines.old }
     ensures why { IfErr result (λ fault. HasReason R.failures R.interruptions R.reads lines.old lines.new fault) }

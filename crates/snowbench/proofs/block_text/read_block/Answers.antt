@@ -4,14 +4,14 @@ use Rattle.snowbench.specs.Block.{HoldsText, point}
 use Rattle.snowbench.specs.Held.{input_of, line_of, GivesLine}
 use Rattle.snowbench.specs.declared.faults.LineFault.{LineFault}
 use Rattle.snowbench.proofs.BlockFacts.{all_fit-push, broken, no_point-push}
-use Rattle.snowbench.proofs.Bytes.{took-kept, took-none, took-trans}
+use Rattle.snowbench.proofs.Bytes.{took-kept, took-none, took-trans, whole_none, whole_trans}
 use Rattle.snowbench.proofs.block_text.read_block.Goals as goal
 
 no_fault : {f : Option LineFault} → f ≡ None → IsSome f → ⊥
 no_fault {f} e some = let none : IsSome {T = LineFault} None = subst IsSome e some in cc none
 
 pub loop-text-init : goal.loop-text-init
-loop-text-init g c = ([], (tt, tt), took-none _, c.new-text.ensures, refl, refl, refl, omega arith, λ some. Keeps-refl _, λ timely. timely)
+loop-text-init g c = ([], (tt, tt), took-none _, c.new-text.ensures, refl, refl, refl, omega arith, λ some. Keeps-refl _, λ untold. untold, λ untold. whole_none _, λ timely. timely)
 
 pub returns-then-eq-clause-reads : goal.returns-then-eq-clause-reads
 returns-then-eq-clause-reads g c = λ _.
@@ -21,6 +21,11 @@ returns-then-eq-clause-reads g c = λ _.
     let gives : GivesLine (input_of left c.loop-text.lines) (input_of left c.next_line.new.self) point =
     subst (λ (x : List ℕ). GivesLine (input_of left c.loop-text.lines) (input_of left c.next_line.new.self) x) line (c.in_ok-next_line.ensures.more c.if-branch.true) in
     (so.0, (so.1, took-trans _ (input_of left c.loop-text.lines) _ so.0 (point ∷ []) so.2 gives), so.3)
+
+pub returns-then-eq-clause-feeds : goal.returns-then-eq-clause-feeds
+returns-then-eq-clause-feeds g c = λ untold.
+    let so = c.loop-text.invariant in
+    whole_trans _ (input_of g.R.Source.left c.loop-text.lines) _ (so.10 (c.next_line.ensures.stays untold)) (c.in_ok-next_line.ensures.feeds c.if-branch.true untold)
 
 pub loop-text-preserved : goal.loop-text-preserved
 loop-text-preserved g c =
@@ -39,7 +44,9 @@ loop-text-preserved g c =
       c.next_line.ensures.bound ∙ so.6,
       omega (arith, so.7, c.in_ok-next_line.ensures.falls c.if-branch.true),
       λ some. absurd (no_fault (sym so.4 ∙ c.in_ok-next_line.ensures.ready.0) some),
-      λ timely. c.next_line.ensures.in_time (so.9 timely),
+      λ untold. so.9 (c.next_line.ensures.stays untold),
+      λ untold. whole_trans _ (input_of left c.loop-text.lines) _ (so.10 (c.next_line.ensures.stays untold)) (c.in_ok-next_line.ensures.feeds c.if-branch.true untold),
+      λ timely. c.next_line.ensures.in_time (so.11 timely),
     )
 
 pub returns-clause-reads : goal.returns-clause-reads

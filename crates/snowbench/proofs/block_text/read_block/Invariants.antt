@@ -1,7 +1,7 @@
 use Rattle.std.proofs.Common.{◌≡◌, ◌≤◌, IsSome, List, ℕ}
 use Rattle.std.specs.Io.KnownBytes.{Keeps}
 use Rattle.snowbench.specs.Block.{BlockLines, HoldsText}
-use Rattle.snowbench.specs.Held.{KeepsTime, Took, fault_of, fuel_of, input_of, reads_bound}
+use Rattle.snowbench.specs.Held.{KeepsTime, StaysEnded, TakesFeeds, Took, fault_of, fuel_of, input_of, reads_bound}
 use Rattle.snowbench.proofs.block_text.read_block.Given as goal
 
 abbrev pub invariant-loop-text : goal.invariant-loop-text
@@ -9,6 +9,7 @@ invariant-loop-text g l = (taken : List (List ℕ)) × BlockLines taken × Took 
     × HoldsText l.text taken × (fault_of l.lines ≡ fault_of l.fn.lines) × (g.R.Source.failures l.lines.reader ≡ g.R.Source.failures l.fn.lines.reader)
     × (reads_bound g.R.Source.reads l.lines ≡ reads_bound g.R.Source.reads l.fn.lines) × (fuel_of l.lines ≤ fuel_of l.fn.lines)
     × (IsSome (fault_of l.fn.lines) → Keeps (input_of g.R.Source.left l.fn.lines) (input_of g.R.Source.left l.lines))
+    × StaysEnded l.fn.lines l.lines × TakesFeeds g.R.Source.left l.fn.lines l.lines
     × KeepsTime g.R.Source.ended g.R.Source.late g.R.Source.interruptions g.R.Source.reads l.fn.lines l.lines
 
 abbrev pub decreases-loop-text : goal.decreases-loop-text

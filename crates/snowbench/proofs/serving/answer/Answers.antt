@@ -4,6 +4,7 @@ use Rattle.snowbench.specs.CommandViews.{IsAnswer}
 use Rattle.snowbench.specs.Commands.{line_command}
 use Rattle.snowbench.specs.Held.{input_of, line_of}
 use Rattle.snowbench.specs.Requests.{asks_block}
+use Rattle.snowbench.proofs.Bytes.{whole_none}
 use Rattle.snowbench.proofs.SessionFacts.{answered_line}
 use Rattle.snowbench.proofs.serving.answer.Goals as goal
 
@@ -17,3 +18,6 @@ returns-clause-answered g c =
     let is : IsAnswer s (line_command line) c.answer_line.result t =
     subst (λ (x : List ℕ). IsAnswer s (line_command x) c.answer_line.result t) c.line-2.ensures c.answer_line.ensures in
     answered_line (input_of g.R.Source.left c.args.lines.now) line s t c.answer_line.result asks is
+
+pub returns-clause-feeds : goal.returns-clause-feeds
+returns-clause-feeds g c = λ _. whole_none _

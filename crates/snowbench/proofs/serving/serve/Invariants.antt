@@ -2,7 +2,7 @@ use Rattle.std.proofs.Common.{◌≡◌, IsSome}
 use Rattle.std.specs.Io.KnownBytes.{Keeps}
 use Rattle.sbl_bench.specs.Kept.{contents_of}
 use Rattle.snowbench.specs.Devices.{WritesInTime}
-use Rattle.snowbench.specs.Held.{KeepsTime, fault_of, fuel_of, input_of, reads_bound}
+use Rattle.snowbench.specs.Held.{KeepsTime, TakesFeeds, fault_of, fuel_of, input_of, reads_bound}
 use Rattle.snowbench.specs.Session.{SoFar}
 use Rattle.snowbench.proofs.serving.serve.Given as goal
 
@@ -10,6 +10,7 @@ abbrev pub invariant-loop-bench : goal.invariant-loop-bench
 invariant-loop-bench g l = record {
   session : SoFar (input_of g.R.Source.left l.fn.lines) (input_of g.R.Source.left l.lines) (g.W.Sink.held l.fn.writer) (g.W.Sink.held l.writer) (contents_of l.fn.bench) (contents_of l.bench);
   fault : fault_of l.lines ≡ fault_of l.fn.lines;
+  feeds : TakesFeeds g.R.Source.left l.fn.lines l.lines;
   read : g.R.Source.failures l.lines.reader ≡ g.R.Source.failures l.fn.lines.reader;
   written : g.W.Sink.failures l.writer ≡ g.W.Sink.failures l.fn.writer;
   bound : reads_bound g.R.Source.reads l.lines ≡ reads_bound g.R.Source.reads l.fn.lines;

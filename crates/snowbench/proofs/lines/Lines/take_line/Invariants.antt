@@ -1,6 +1,6 @@
 use Rattle.std.proofs.Common.{◌≡◌, ◌≤◌, ◌+◌, vec_len}
 use Rattle.std.specs.Io.KnownBytes.{Consumes}
-use Rattle.snowbench.specs.Held.{AsksInTime, fuel_of, line_of, input_of, reads_bound, NoFeed}
+use Rattle.snowbench.specs.Held.{AsksInTime, fuel_of, line_of, input_of, reads_bound, NoFeed, StaysEnded}
 use Rattle.snowbench.proofs.lines.Lines.take_line.Given as goal
 
 abbrev pub invariant-loop : goal.invariant-loop
@@ -11,3 +11,4 @@ invariant-loop g l = Consumes (input_of g.R.Source.left l.fn.self) (input_of g.R
     × (reads_bound g.R.Source.reads l.self ≡ reads_bound g.R.Source.reads l.fn.self)
     × AsksInTime g.R.Source.ended g.R.Source.late g.R.Source.interruptions g.R.Source.reads l.fn.self l.self
     × (g.R.Source.interruptions l.fn.self.reader ≡ 0 → g.R.Source.interruptions l.self.reader ≡ 0)
+    × StaysEnded l.fn.self l.self

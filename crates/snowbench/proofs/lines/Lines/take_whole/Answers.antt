@@ -1,8 +1,8 @@
-use Rattle.std.proofs.Common.{rules, ap, arith, length, vec_len, ◌≡◌, ◌≢◌, [], ◌∙◌}
+use Rattle.std.proofs.Common.{rules, ap, sym, arith, length, vec_len, true, false, ◌≡◌, ◌≢◌, [], ◌∙◌}
 use Rattle.snowbench.specs.Held.{input_of, line_of, GivesLine}
 use Rattle.snowbench.specs.LinesOf.{chomped}
 use Rattle.snowbench.specs.declared.lines.LineEnd.TheVariants.{Input, Beyond}
-use Rattle.snowbench.proofs.Bytes.{begins_long, gives_line, gives_long}
+use Rattle.snowbench.proofs.Bytes.{begins_long, gives_line, gives_long, takes_whole}
 use Rattle.snowbench.proofs.lines.Lines.take_whole.Goals as goal
 use Rattle.snowbench.proofs.lines.Lines.take_whole.Goals.{else-eq-via-then-eq+else-is_empty, else-eq-via-else-eq}
 
@@ -30,3 +30,9 @@ returns-then-len-gt-MAX_LINE-clause-long g c = λ _.
     let gives : GivesLine (input_of g.R.Source.left c.args.self.now) (input_of g.R.Source.left c.take_line.new.self) (chomped (line_of c.take_line.new.self)) =
     gives_line _ _ (line_of c.take_line.new.self) c.in_ok-end.end c.in_ok-end.ensures.takes c.in_ok-end.ensures.no_feed within some in
     gives_long _ _ _ gives (rw (← c.chomp.ensures.items) (search rules))
+
+pub returns-clause-feeds : goal.returns-clause-feeds
+returns-clause-feeds g c = λ _ untold.
+    let within : c.in_ok-end.end ≢ Beyond = search rules in
+    let fed : c.in_ok-end.end ≢ Input = λ is. let told : true ≡ false = sym (c.in_ok-end.ensures.told is) ∙ untold in cc told in
+    takes_whole _ _ (line_of c.take_line.new.self) c.in_ok-end.end c.in_ok-end.ensures.takes within fed
