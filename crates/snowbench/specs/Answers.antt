@@ -5,7 +5,8 @@ use Rattle.sbl_bench.specs.Edits.{Edit, IsOutOfMemory, IsVerdict, counted, is_of
 use Rattle.sbl_bench.specs.Names.{script_name}
 use Rattle.sbl_bench.specs.declared.fault.EditFault.{EditFault}
 use Rattle.sbl_bench.specs.declared.fault.EditFault.TheVariants as fault
-use Rattle.snowbench.specs.Commands.{Command, Nothing, Makes, Stems, Classes, Class, HasNoText, Bad, command_of}
+use Rattle.sbl_print.specs.Canonical.{canonical}
+use Rattle.snowbench.specs.Commands.{Command, Nothing, Makes, Stems, Classes, Script, Class, HasNoText, Bad, command_of}
 use Rattle.snowbench.specs.Requests.{Request}
 use Rattle.snowbench.specs.Rows.{class_text, classes_text, stems_text}
 
@@ -69,6 +70,7 @@ IsReplyTo s Nothing memory text t = Tells s [] text t
 IsReplyTo s (Makes e) memory text t = (f : Option EditFault) × IsEdit s e memory f t × (text ≡ edit_text f)
 IsReplyTo s Stems memory text t = IsReport s (stems_text s) memory text t
 IsReplyTo s Classes memory text t = IsReport s (classes_text s) memory text t
+IsReplyTo s Script memory text t = IsReport s (canonical s.script.items) memory text t
 IsReplyTo s (Class word) memory text t = IsReportOrAbsent s (class_text s word) memory text t
 IsReplyTo s (HasNoText f) memory text t = IsNoText s (fault.Script f) memory text t
 IsReplyTo s Bad memory text t = Tells s (ended (codes "no 52 BadCommand")) text t

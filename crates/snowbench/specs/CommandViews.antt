@@ -23,6 +23,7 @@ view_command (variants.Add word) = command.Makes (edits.Add (chars word.now))
 view_command (variants.Remove word) = command.Makes (edits.Remove (chars word.now))
 view_command variants.Stems = command.Stems
 view_command variants.Classes = command.Classes
+view_command variants.Script = command.Script
 view_command (variants.Class word) = command.Class (chars word.now)
 view_command variants.Bad = command.Bad
 

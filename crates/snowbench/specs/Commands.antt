@@ -10,12 +10,13 @@ use Rattle.snowbench.specs.Numbers.{number_in}
 use Rattle.snowbench.specs.Requests.{Request}
 use Rattle.snowbench.specs.Words.{argument, command_word}
 
--- nothing, an edit, the rows, the classes, the class of a word, an edit whose block is no text, or nothing that is known
+-- nothing, an edit, the rows, the classes, the script, the class of a word, an edit whose block is no text, or nothing that is known
 pub data Command : Type 0 where
   Nothing : Command
   Makes : edits.Edit → Command
   Stems : Command
   Classes : Command
+  Script : Command
   Class : List ℕ → Command
   HasNoText : ScriptFault → Command
   Bad : Command
@@ -29,7 +30,8 @@ text_command line =
     else (if bytes_eq (command_word line) (codes "remove") then Makes (edits.Remove (chars (argument line)))
     else (if bytes_eq (command_word line) (codes "class") then Class (chars (argument line))
     else (if bytes_eq line (codes "stems") then Stems
-    else (if bytes_eq line (codes "classes") then Classes else Bad))))
+    else (if bytes_eq line (codes "classes") then Classes
+    else (if bytes_eq line (codes "script") then Script else Bad)))))
 
 -- an empty line asks for nothing, and a line that is not UTF-8 for nothing that is known
 unfoldable pub line_command : List ℕ → Command

@@ -19,6 +19,8 @@ pub(crate) enum Command<'a> {
     Stems,
     /// The classes of all words.
     Classes,
+    /// The canonical text of the script.
+    Script,
     /// The class of a word.
     Class(&'a str),
     /// Nothing that is known.
@@ -62,6 +64,9 @@ fn text_command(text: &str) -> Command<'_>
     }
     if text == "classes" {
         return Command::Classes;
+    }
+    if text == "script" {
+        return Command::Script;
     }
     Command::Bad
 }

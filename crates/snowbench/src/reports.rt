@@ -5,6 +5,7 @@ ghost use Rattle.std.specs.Option.{option_map};
 ghost use Rattle.std.specs.Str.{bytes_eq, chars};
 ghost use Rattle.sbl_bench.specs.Kept.{contents_of};
 ghost use Rattle.sbl_bench.specs.Rows.{view_row};
+ghost use Rattle.sbl_print.specs.Canonical.{canonical};
 ghost use Rattle.snowbench.specs.CommandViews.{IsAnswer};
 ghost use Rattle.snowbench.specs.Commands.{Class};
 ghost use Rattle.snowbench.specs.LinesOf.{max_line};
@@ -31,6 +32,14 @@ pub(crate) fn classes_text(alloc: Global, bench: &Bench) -> Result<Vec<u8>, Allo
 {
     let classes = bench.classes()?;
     records_text(alloc, &classes)
+}
+
+/// The report of the script: its canonical text. A refused growth is the one error.
+pub(crate) fn script_text(alloc: Global, bench: &Bench) -> Result<Vec<u8>, AllocError>
+    ensures { IfOk result (λ text. text.items ≡ canonical (contents_of bench.now).script.items) }
+{
+    let text = bench.script().print(alloc)?;
+    Ok(text.into_bytes())
 }
 
 /// The row of a word, if the word is there. Takes no memory.

@@ -19,7 +19,7 @@ use crate::edits::{add_word, edit_script, remove_word};
 use crate::faults::ServeFault;
 use crate::lines::{Lines, MAX_LINE};
 use crate::replies::{BAD_COMMAND, Reply, report, write_reply};
-use crate::reports::{class_reply, classes_text, stems_text};
+use crate::reports::{class_reply, classes_text, script_text, stems_text};
 use sbl_bench::Bench;
 use std::alloc::Global;
 
@@ -34,6 +34,7 @@ fn answer_line(alloc: Global, bench: &mut Bench, line: &[u8]) -> Reply
         Command::Remove(word) => Reply::Fixed(remove_word(bench, word)),
         Command::Stems => report(stems_text(alloc, bench)),
         Command::Classes => report(classes_text(alloc, bench)),
+        Command::Script => report(script_text(alloc, bench)),
         Command::Class(word) => class_reply(alloc, bench, word),
         Command::Bad => Reply::Fixed(BAD_COMMAND),
     }
@@ -105,8 +106,8 @@ fn answer<R: Source + Drop>(bench: &mut Bench, lines: &mut Lines<R>) -> Result<R
 /// the block behind it, lines up to a line `.`. An edit is made as its request is read, and its answer written before the next
 /// line is read. `add WORD`, `remove WORD`, `routine NAME` and `among NAME K` are answered `ok`, or `no` and the refusal's number
 /// and name; `stems` by a row for each word, `classes` by a row for each class, `class WORD` by the word's class, or its row
-/// where its run is refused, or `no 41 Absent`; an empty line by nothing, and any other line `no 52 BadCommand`. Where memory is
-/// refused the answer is `no 49 OutOfMemory`.
+/// where its run is refused, or `no 41 Absent`; `script` by the canonical text of the script as it is then; an empty line by
+/// nothing, and any other line `no 52 BadCommand`. Where memory is refused the answer is `no 49 OutOfMemory`.
 ///
 /// # Errors
 ///

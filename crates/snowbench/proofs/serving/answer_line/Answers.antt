@@ -2,8 +2,9 @@ use Rattle.std.proofs.Common.{◌≡◌, refl, subst}
 use Rattle.std.specs.Str.{chars}
 use Rattle.sbl_bench.specs.Edits as edits
 use Rattle.sbl_bench.specs.Kept.{contents_of}
+use Rattle.sbl_print.specs.Canonical.{canonical}
 use Rattle.snowbench.specs.CommandViews.{IsAnswer}
-use Rattle.snowbench.specs.Commands.{Class, Classes, Command, Makes, Stems, line_command}
+use Rattle.snowbench.specs.Commands.{Class, Classes, Command, Makes, Script, Stems, line_command}
 use Rattle.snowbench.specs.Rows.{classes_text, stems_text}
 use Rattle.snowbench.specs.declared.replies.Reply.TheVariants as reply
 use Rattle.snowbench.proofs.ReportFacts.{report_answer}
@@ -36,6 +37,12 @@ returns-in-Classes c =
     let s = contents_of c.args.bench.now in
     let a : IsAnswer s Classes c.report-in-Classes.result s = report_answer c.classes_text.result c.report-in-Classes.result s (classes_text s) c.classes_text.ensures c.report-in-Classes.ensures.made c.report-in-Classes.ensures.refused in
     subst (λ (x : Command). IsAnswer s x c.report-in-Classes.result s) c.in-Classes.ensures.command a
+
+pub returns-in-Script : goal.returns-in-Script
+returns-in-Script c =
+    let s = contents_of c.args.bench.now in
+    let a : IsAnswer s Script c.report-in-Script.result s = report_answer c.script_text.result c.report-in-Script.result s (canonical s.script.items) c.script_text.ensures c.report-in-Script.ensures.made c.report-in-Script.ensures.refused in
+    subst (λ (x : Command). IsAnswer s x c.report-in-Script.result s) c.in-Script.ensures.command a
 
 pub returns-in-Class : goal.returns-in-Class
 returns-in-Class c =
