@@ -9,7 +9,7 @@ use std::alloc::Global;
 use std::test::Fail;
 
 /// A bench over this script and these words.
-pub fn bench_of(alloc: Global, script: &str, words: &[&str]) -> Result<Bench, Fail> {
+pub(crate) fn bench_of(alloc: Global, script: &str, words: &[&str]) -> Result<Bench, Fail> {
     let script = Script::parse(alloc, script.as_bytes(), "stem")?;
     let mut list = Vec::new(alloc);
     for &word in words {
@@ -19,7 +19,7 @@ pub fn bench_of(alloc: Global, script: &str, words: &[&str]) -> Result<Bench, Fa
 }
 
 /// A row as `WORD STEM`, or `WORD` and the fault.
-pub fn shown(alloc: Global, row: &Row<'_>) -> Result<String, Fail> {
+pub(crate) fn shown(alloc: Global, row: &Row<'_>) -> Result<String, Fail> {
     let word = text_of(alloc, row.word)?;
     match row.outcome {
         Outcome::Stem(stem) => {
@@ -31,7 +31,7 @@ pub fn shown(alloc: Global, row: &Row<'_>) -> Result<String, Fail> {
 }
 
 /// The rows as `WORD STEM;`.
-pub fn rows_shown(alloc: Global, bench: &Bench) -> Result<String, Fail> {
+pub(crate) fn rows_shown(alloc: Global, bench: &Bench) -> Result<String, Fail> {
     let mut text = String::new(alloc);
     let rows = bench.rows()?;
     for row in &rows {
@@ -42,7 +42,7 @@ pub fn rows_shown(alloc: Global, bench: &Bench) -> Result<String, Fail> {
 }
 
 /// The classes as `STEM:WORD,WORD,;`.
-pub fn classes_shown(alloc: Global, bench: &Bench) -> Result<String, Fail> {
+pub(crate) fn classes_shown(alloc: Global, bench: &Bench) -> Result<String, Fail> {
     let mut text = String::new(alloc);
     let classes = bench.classes()?;
     for class in &classes {

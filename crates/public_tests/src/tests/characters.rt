@@ -3,7 +3,7 @@
 use std::alloc::{AllocError, Global};
 
 /// The characters of a text.
-pub fn word_of(alloc: Global, text: &str) -> Result<Vec<char>, AllocError> {
+pub(crate) fn word_of(alloc: Global, text: &str) -> Result<Vec<char>, AllocError> {
     let mut word = Vec::new(alloc);
     for c in text.chars() {
         word.push(c)?;
@@ -12,7 +12,7 @@ pub fn word_of(alloc: Global, text: &str) -> Result<Vec<char>, AllocError> {
 }
 
 /// The text of these characters.
-pub fn text_of(alloc: Global, word: &[char]) -> Result<String, AllocError> {
+pub(crate) fn text_of(alloc: Global, word: &[char]) -> Result<String, AllocError> {
     let mut text = String::new(alloc);
     for c in word {
         text.push(*c)?;

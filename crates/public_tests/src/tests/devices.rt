@@ -32,8 +32,8 @@ impl Plan {
 
 /// A reader or a writer that takes only so many bytes at a time.
 #[derive(Drop)]
-pub struct Pieces<D> {
-    pub inner: D,
+pub(crate) struct Pieces<D> {
+    pub(crate) inner: D,
     piece: usize,
     plan: Plan,
     ghost some: { 0 < piece },
@@ -67,7 +67,12 @@ impl<D: Write> Write for Pieces<D> {
     }
 }
 
-pub fn in_pieces<D>(inner: D, piece: usize, fails_at: u64, interruptions: u64) -> Device<Pieces<D>>
+pub(crate) fn in_pieces<D>(
+    inner: D,
+    piece: usize,
+    fails_at: u64,
+    interruptions: u64,
+) -> Device<Pieces<D>>
     requires { 0 < piece }
 {
     let plan = Plan {

@@ -9,7 +9,7 @@ use std::process::Abort;
 use std::test::Fail;
 
 /// What a word gives, and the steps that it uses (0: not asked).
-pub type Row<'a> = (&'a str, Result<&'a str, RunFault>, u64);
+pub(crate) type Row<'a> = (&'a str, Result<&'a str, RunFault>, u64);
 
 fn outcome_of(alloc: Global, want: Result<&str, RunFault>) -> Result<Outcome, Fail> {
     Ok(match want {
@@ -43,7 +43,7 @@ fn run_all<S: AmongSearch>(
 }
 
 /// Runs a script over words, with so many steps each.
-pub fn runs_with(
+pub(crate) fn runs_with(
     rt: &impl Abort,
     alloc: Global,
     limit: u32,
@@ -58,12 +58,17 @@ pub fn runs_with(
 }
 
 /// Runs a script over words, with 100,000 steps each.
-pub fn runs(rt: &impl Abort, alloc: Global, script: &str, rows: &[Row]) -> Result<(), Fail> {
+pub(crate) fn runs(rt: &impl Abort, alloc: Global, script: &str, rows: &[Row]) -> Result<(), Fail> {
     runs_with(rt, alloc, 100_000, script, rows)
 }
 
 /// Runs a script whose external has this body over words.
-pub fn body_runs(rt: &impl Abort, alloc: Global, body: &str, rows: &[Row]) -> Result<(), Fail> {
+pub(crate) fn body_runs(
+    rt: &impl Abort,
+    alloc: Global,
+    body: &str,
+    rows: &[Row],
+) -> Result<(), Fail> {
     let text = with_body(alloc, body)?;
     runs(rt, alloc, text.as_str(), rows)
 }

@@ -3,19 +3,19 @@
 use std::alloc::{AllocError, Global};
 
 /// A body stands behind it at byte 34.
-pub const FRONT: &str = "externals ( stem ) define stem as ";
+pub(crate) const FRONT: &str = "externals ( stem ) define stem as ";
 
 /// A script whose external has this body.
-pub fn with_body(alloc: Global, body: &str) -> Result<String, AllocError> {
+pub(crate) fn with_body(alloc: Global, body: &str) -> Result<String, AllocError> {
     format!(in alloc; "{FRONT}{body}")
 }
 
 /// Takes `un` or `re` off a word's front.
-pub const PREFIXES: &str =
+pub(crate) const PREFIXES: &str =
     "externals ( stem ) define stem as ( [ among ( 'un' () 're' () ) ] delete )";
 
 /// Takes plural endings off, and then an `e`: three routines in a `backwardmode`, one with an among, one a condition of it.
-pub const PLURALS: &str = "externals ( stem )
+pub(crate) const PLURALS: &str = "externals ( stem )
 routines ( tail last sib )
 backwardmode (
   define sib as ( 'x' or 's' )
@@ -25,7 +25,7 @@ backwardmode (
 define stem as ( backwards ( do tail do ( test 'e' last ) ) )";
 
 /// Three routines in a `backwardmode`, one with an among, one a condition of it. The external's body is left out.
-pub const SUFFIX_ROUTINES: &str = "externals ( stem )
+pub(crate) const SUFFIX_ROUTINES: &str = "externals ( stem )
 routines ( tail last sib )
 backwardmode (
   define sib as ( 'x' or 's' )
@@ -35,17 +35,17 @@ backwardmode (
 define stem as ";
 
 /// These routines, and this body of the external behind them: the sixth item.
-pub fn suffixes_with(alloc: Global, body: &str) -> Result<String, AllocError> {
+pub(crate) fn suffixes_with(alloc: Global, body: &str) -> Result<String, AllocError> {
     format!(in alloc; "{SUFFIX_ROUTINES}{body}")
 }
 
 /// Takes plural endings off, and then an `e`.
-pub fn suffixes(alloc: Global) -> Result<String, AllocError> {
+pub(crate) fn suffixes(alloc: Global) -> Result<String, AllocError> {
     suffixes_with(alloc, "( backwards ( do tail do ( test 'e' last ) ) )")
 }
 
 /// After the published stemmer of Porter.
-pub const PORTER: &str = "integers ( p1 p2 )
+pub(crate) const PORTER: &str = "integers ( p1 p2 )
 booleans ( Y_found )
 
 routines (
