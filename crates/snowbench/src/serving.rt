@@ -19,7 +19,9 @@ use crate::edits::{add_word, edit_script, remove_word};
 use crate::faults::ServeFault;
 use crate::lines::{Lines, MAX_LINE};
 use crate::replies::{BAD_COMMAND, Reply, report, write_reply};
-use crate::reports::{class_reply, classes_text, script_text, stems_text};
+use crate::reports::{
+    class_reply, classes_text, runs_text, script_text, stems_text, trace_reply,
+};
 use sbl_bench::Bench;
 use std::alloc::Global;
 
@@ -36,6 +38,8 @@ fn answer_line(alloc: Global, bench: &mut Bench, line: &[u8]) -> Reply
         Command::Classes => report(classes_text(alloc, bench)),
         Command::Script => report(script_text(alloc, bench)),
         Command::Class(word) => class_reply(alloc, bench, word),
+        Command::Trace(word) => trace_reply(alloc, bench, word),
+        Command::Runs => report(runs_text(alloc, bench)),
         Command::Bad => Reply::Fixed(BAD_COMMAND),
     }
 }
