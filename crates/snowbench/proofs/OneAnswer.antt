@@ -9,7 +9,6 @@ use Rattle.sbl_print.specs.Canonical.{canonical}
 use Rattle.snowbench.specs.Answers.{Answers, BlockRefused, Enough, IsEdit, IsNoText, IsReplyTo, IsReport, IsReportOrAbsent, Memory, RefusedAfter, Tells, edit_text, ended}
 use Rattle.snowbench.specs.Commands.{Command, Nothing, Makes, Stems, Classes, Script, Class, Trace, Runs, HasNoText, Bad, command_of}
 use Rattle.snowbench.specs.OneAnswer.{AnswersAreOne}
-use Rattle.snowbench.specs.Requests.{Request}
 use Rattle.snowbench.specs.Rows.{class_text, classes_text, stems_text}
 use Rattle.snowbench.specs.Traces.{trace_text}
 

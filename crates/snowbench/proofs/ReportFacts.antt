@@ -115,10 +115,14 @@ trace_absent s word told is absent =
     subst (λ (o : Option (List ℕ)). (memory : Memory) × (text : List ℕ) × (told ≡ text) × IsReportOrAbsent s o memory text s) (sym (trace_text_is s word None is)) (Enough, told, refl, (absent, refl))
 
 -- the word is there, and the memory of its items was refused
-pub trace_refused : (s : Contents) (word : List ℕ) (reply : Reply) → is_word word s.words ≡ true → IsReply reply (edit_text (Some fault.OutOfMemory))
+pub trace_refused : (s : Contents) (word : List ℕ) (reply : Reply) → (is_word word s.words ≡ false → ⊥) → IsReply reply (edit_text (Some fault.OutOfMemory))
     → (memory : Memory) × (text : List ℕ) × IsReply reply text × IsReportOrAbsent s (trace_text s word) memory text s
-trace_refused s word reply there refused =
-    let items = touched_of s.script word max_steps in
-    let is : Some items ≡ trace_of s.script s.words word = rw there refl in
-    subst (λ (o : Option (List ℕ)). (memory : Memory) × (text : List ℕ) × IsReply reply text × IsReportOrAbsent s o memory text s) (sym (trace_text_is s word (Some items) is))
-    (RefusedAfter 0, edit_text (Some fault.OutOfMemory), refused, (refl, refl))
+trace_refused s word reply there refused = by (is_word word s.words) refl
+  where
+    by : (b : Bool) → is_word word s.words ≡ b → (memory : Memory) × (text : List ℕ) × IsReply reply text × IsReportOrAbsent s (trace_text s word) memory text s
+    by false absent = absurd (there absent)
+    by true e =
+        let items = touched_of s.script word max_steps in
+        let is : Some items ≡ trace_of s.script s.words word = rw e refl in
+        subst (λ (o : Option (List ℕ)). (memory : Memory) × (text : List ℕ) × IsReply reply text × IsReportOrAbsent s o memory text s) (sym (trace_text_is s word (Some items) is))
+        (RefusedAfter 0, edit_text (Some fault.OutOfMemory), refused, (refl, refl))

@@ -19,9 +19,7 @@ use crate::edits::{add_word, edit_script, remove_word};
 use crate::faults::ServeFault;
 use crate::lines::{Lines, MAX_LINE};
 use crate::replies::{BAD_COMMAND, Reply, report, write_reply};
-use crate::reports::{
-    class_reply, classes_text, runs_text, script_text, stems_text, trace_reply,
-};
+use crate::reports::{class_reply, classes_text, runs_text, script_text, stems_text, trace_reply};
 use sbl_bench::Bench;
 use std::alloc::Global;
 

@@ -1,11 +1,11 @@
-use Rattle.std.proofs.Common.{◌≡◌, decimal, refl, subst}
+use Rattle.std.proofs.Common.{decimal, refl, subst}
 use Rattle.std.specs.Str.{chars}
 use Rattle.sbl_bench.specs.Edits as edits
 use Rattle.sbl_bench.specs.Kept.{contents_of}
 use Rattle.sbl_print.specs.Canonical.{canonical}
 use Rattle.snowbench.specs.Answers.{ended}
 use Rattle.snowbench.specs.CommandViews.{IsAnswer}
-use Rattle.snowbench.specs.Commands.{Class, Classes, Command, Makes, Runs, Script, Stems, Trace, line_command}
+use Rattle.snowbench.specs.Commands.{Classes, Command, Makes, Runs, Script, Stems}
 use Rattle.snowbench.specs.Rows.{classes_text, stems_text}
 use Rattle.snowbench.specs.declared.replies.Reply.TheVariants as reply
 use Rattle.snowbench.proofs.ReportFacts.{report_answer}
