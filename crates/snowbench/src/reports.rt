@@ -52,8 +52,8 @@ pub(crate) fn runs_text(alloc: Global, bench: &Bench) -> Result<Vec<u8>, AllocEr
     ensures { IfOk result (λ text. text.items ≡ ended (decimal (contents_of bench.now).count)) }
 {
     let count = bench.runs();
-    let text = format!(in alloc; "{count}\n")?;
-    Ok(text.into_bytes())
+    let line = format!(in alloc; "{count}\n")?;
+    Ok(line.into_bytes())
 }
 
 /// The row of a word, if the word is there. Takes no memory.
