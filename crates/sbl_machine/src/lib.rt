@@ -7,6 +7,7 @@ mod item;
 pub mod laws;
 mod machine;
 mod meter;
+mod naming;
 mod outcome;
 mod run;
 mod state;
@@ -18,7 +19,7 @@ pub use fault::{RunFault, RunStop};
 pub use item::Item;
 pub use machine::Machine;
 pub use meter::Meter;
-pub use outcome::{Outcome, Ran};
+pub use outcome::{Outcome, Ran, Traced};
 pub use sbl_tables::{AmongSearch, LinkedTable, PlainTable};
 pub use touch::Touch;
 
