@@ -7,7 +7,9 @@ use Rattle.sbl_script.specs.declared.edit_fault.EditFault.TheVariants as script
 use Rattle.sbl_script.specs.Edits.{ScriptEdit, body, among, IsEdited, IsEditFault}
 use Rattle.sbl_script.specs.Parsed.{Source}
 use Rattle.sbl_bench.specs.Contents.{Contents, is_full, max_word_length, max_runs}
+use Rattle.sbl_bench.specs.Rows.{max_steps}
 use Rattle.sbl_bench.specs.Vocabulary.{is_word, without}
+use Rattle.sbl_machine.specs.Touched.{replaced, touches}
 use Rattle.sbl_bench.specs.declared.fault.EditFault.{EditFault}
 use Rattle.sbl_bench.specs.declared.fault.EditFault.TheVariants as fault
 
@@ -68,11 +70,12 @@ words_after s (Add word) = s.words ++ word ∷ []
 words_after s (Remove word) = without word s.words
 words_after s (Replace what text) = s.words
 
--- whether the edit has to run this word: the added one alone, and after an edit of the script every word
+-- whether the edit has to run this word: the added one alone, and for an edit of the script each word whose run, before it, touches
+-- what is replaced
 abbrev pub met : Contents → Edit → List ℕ → Bool
 met s (Add word) w = bytes_eq word w
 met s (Remove word) w = false
-met s (Replace what text) w = true
+met s (Replace what text) w = touches (replaced what) s.script w max_steps
 
 -- how many words of the vocabulary after it the edit has to run
 abbrev pub runs_needed : Contents → Edit → ℕ

@@ -1,6 +1,7 @@
 -- what the contracts of public calls rest on
 pub mod Vocabulary
 pub mod Rows
+pub mod Traces
 pub mod Contents
 pub mod Edits
 pub mod OneVerdict

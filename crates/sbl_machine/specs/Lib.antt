@@ -1,5 +1,6 @@
 -- what the contracts of public calls rest on
 pub mod Names
+pub mod Touches
 pub mod State
 pub mod Moves
 pub mod Slices
@@ -8,6 +9,9 @@ pub mod Search
 pub mod Run
 pub mod Meaning
 pub mod Outcome
+pub mod Touched
+pub mod Holes
+pub mod Frame
 pub mod Listing
 pub mod MachineOf
 pub mod Actions
@@ -16,6 +20,7 @@ pub mod EnoughSteps
 pub mod Searches
 pub mod NamesStand
 -- what the functions inside the crate promise each other: nothing in these need be believed
+pub mod Marks
 pub mod Rows
 pub mod Halts
 pub mod Kept

@@ -34,7 +34,7 @@ use Rattle.sbl_machine.specs.Moves.{match, next, hop, at_limit, set_mark, at_mar
 use Rattle.sbl_machine.specs.Numbers.{Value, natural, given, fitted, divided, with_value, with_both, limit_value, integer_at}
 use Rattle.sbl_program.specs.Regions.{Among, among_at, behind, behind_rows, behind_others, behind_starter, first, first_rows, first_others, mode_behind, waits, waits_others}
 use Rattle.sbl_machine.specs.Run.{turns, times, count_of, seeks, limits, limited as within, limit_here, backwards_from, backwards_end, chosen as go_on, enter, leave, paid}
-use Rattle.sbl_machine.specs.Search.{choose, choice, bound_in}
+use Rattle.sbl_machine.specs.Search.{choose, choice, bound_in, touch_among}
 use Rattle.sbl_machine.specs.Slices.{left_bracket, right_bracket, replace, keep, insert, attach}
 use Rattle.sbl_machine.specs.State.{State, Ending, Signals, Stops, Doing, ahead, after, moved as further, then_on, pay, saved_cursor, place_after, put_back, to_limit}
 use Rattle.sbl_machine.specs.declared.fault.RunFault.TheVariants.{Depth}
@@ -230,10 +230,14 @@ module _ (call : List ℕ → Doing) where
   tried k os r m from x (suc l) s = takes k (offering r (take l x) os) m from s (tried k os r m from x l)
 
   -- the strings that are a front of what is ahead, both read in the mode of the among's place
-  abbrev pub search : Among → Doing
-  search a m s =
+  abbrev pub searched : Among → Doing
+  searched a m s =
       let x = ahead_at a.mode s.text s.cursor (bound_in m s) in
       tried a.number (offers 0 a.groups) a.mode m s x (suc (length x)) s
+
+  -- a search touches its among, whatever it finds
+  abbrev pub search : Among → Doing
+  search a m s = searched a m (touch_among a.number s)
 
 -- ---- the commands of a script, by its names, its groupings, and what a call of each routine does
 
@@ -303,20 +307,21 @@ module _ (ns : Known) (class : List ℕ → ℕ → Bool) (call : List ℕ → D
   abbrev pub row_does : Mode → trees.Command → trees.Others → Doing
   row_does r c os = others_do r (behind c 0) (waits c false) None os (act r 0 false (first_others r os (behind c 0) None) c)
 
-  -- a call begins with nothing chosen, and at its return the caller's choices are back
-  abbrev pub body_does : Option Body → Doing
-  body_does None m s = Signals false s
-  body_does (Some b) m s =
-      leave s.choices (paid (row_does b.mode b.first b.others) m (enter (behind_others b.others (behind b.first 0)) s))
+  -- a call touches the routine and begins with nothing chosen, and at its return the caller's choices are back
+  abbrev pub body_does : List ℕ → Option Body → Doing
+  body_does n None m s = Signals false s
+  body_does n (Some b) m s =
+      leave s.routine s.choices
+      (paid (row_does b.mode b.first b.others) m (enter (place_of ns.routines n) (behind_others b.others (behind b.first 0)) s))
 
 -- ---- runs
 
 -- what a call does where this many levels are left
 abbrev pub calls : Known → (List ℕ → ℕ → Bool) → (List ℕ → Option Body) → ℕ → List ℕ → Doing
 calls ns class bodies zero n m s = Stops Depth s
-calls ns class bodies (suc l) n m s = body_does ns class (calls ns class bodies l) (bodies n) m s
+calls ns class bodies (suc l) n m s = body_does ns class (calls ns class bodies l) n (bodies n) m s
 
--- where a run of a word begins: integers 0, booleans false, strings empty
+-- where a run of a word begins: integers 0, booleans false, strings empty, nothing touched
 abbrev pub start : Known → List ℕ → ℕ → State
 start ns word steps = record {
   text = word;
@@ -329,6 +334,8 @@ start ns word steps = record {
   booleans = replicate (length ns.booleans) false;
   strings = replicate (length ns.strings) [];
   choices = [];
+  routine = 0;
+  touched = [];
   steps = steps;
 }
 

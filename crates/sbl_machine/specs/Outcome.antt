@@ -4,6 +4,7 @@ use Rattle.sbl_machine.specs.declared.fault.RunFault.{RunFault}
 use Rattle.sbl_machine.specs.declared.fault.RunFault.TheVariants as faults
 use Rattle.sbl_machine.specs.declared.outcome.Outcome.{Outcome}
 use Rattle.sbl_machine.specs.declared.outcome.Outcome.TheVariants as code
+use Rattle.sbl_machine.specs.declared.touch.Touch.{Touch}
 use Rattle.sbl_machine.specs.Meaning.{ending}
 use Rattle.sbl_program.specs.Program as programs
 use Rattle.sbl_machine.specs.Run.{calls}
@@ -21,7 +22,7 @@ abbrev pub outcome_of : Outcome → Outcome'
 outcome_of (code.Stem text) = Stem text.items
 outcome_of (code.Refused fault) = Refused fault
 
--- where a run of a word begins: integers 0, booleans false, strings empty
+-- where a run of a word begins: integers 0, booleans false, strings empty, nothing touched
 abbrev pub start : programs.Program → List ℕ → ℕ → State
 start p word steps = record {
   text = word;
@@ -34,6 +35,8 @@ start p word steps = record {
   booleans = replicate p.booleans false;
   strings = replicate p.strings [];
   choices = [];
+  routine = 0;
+  touched = [];
   steps = steps;
 }
 
@@ -52,9 +55,18 @@ used_at limit (Signals b s) = limit - s.steps
 used_at limit (Stops faults.Steps s) = limit + 1
 used_at limit (Stops fault s) = limit - s.steps
 
+-- what was touched, by numbers
+abbrev pub touched_at : Ending → List Touch
+touched_at (Signals b s) = s.touched
+touched_at (Stops fault s) = s.touched
+
 -- what a run of a script over a word gives, with so many steps, and what it costs
 unfoldable pub run_of : Source → List ℕ → ℕ → Outcome'
 run_of script word limit = outcome_at (ending script word limit)
 
 unfoldable pub used_of : Source → List ℕ → ℕ → ℕ
 used_of script word limit = used_at limit (ending script word limit)
+
+-- what it touches, by numbers
+unfoldable pub touches_of : Source → List ℕ → ℕ → List Touch
+touches_of script word limit = touched_at (ending script word limit)

@@ -2,12 +2,14 @@
 use Rattle.std.specs.Prelude.{ℕ, zero, suc, ℤ, pos, negsuc, ◌-◌, Bool, true, false, List, length, Option, Some, None, slice_get, replicate}
 use Rattle.sbl_machine.specs.declared.fault.RunFault.TheVariants.{Steps, Depth}
 use Rattle.sbl_machine.specs.declared.state.Limits.{Limits}
+use Rattle.sbl_machine.specs.declared.touch.Touch.TheVariants.{Entered}
 use Rattle.sbl_machine.specs.Actions.{acts}
 use Rattle.sbl_machine.specs.Moves.{next}
 use Rattle.sbl_machine.specs.Numbers.{value, given}
 use Rattle.sbl_program.specs.Program as programs
 use Rattle.sbl_machine.specs.Search.{choice, search_all}
 use Rattle.sbl_machine.specs.State.{State, Ending, Signals, Stops, Doing, after, then_on, pay, at_place, to_limit, saved_cursor, put_back}
+use Rattle.sbl_machine.specs.Touches.{with_touch}
 use Rattle.sbl_tree.specs.declared.mode.Mode.{Mode}
 use Rattle.sbl_tree.specs.declared.mode.Mode.TheVariants.{Forward, Backward}
 
@@ -130,22 +132,27 @@ abbrev mutual
 abbrev pub does : List (List ℕ) → (ℕ → Doing) → programs.Node → Doing
 does sets call c = paid (act sets call c)
 
--- a call begins with nothing chosen, and at its return the caller's choices are back
-abbrev pub enter : ℕ → State → State
-enter n s = record s { choices = replicate n None }
+-- a call of a routine with n amongs touches it and begins with nothing chosen
+abbrev pub enter : ℕ → ℕ → State → State
+enter i n s = record s { choices = replicate n None; routine = i; touched = with_touch (Entered i) s.touched }
 
-abbrev pub leave : List (Option ℕ) → Ending → Ending
-leave choices e = after e (λ t. Signals true (record t { choices = choices })) (λ f. Signals false (record f { choices = choices }))
+-- the caller's routine and its choices
+abbrev pub back_in : ℕ → List (Option ℕ) → State → State
+back_in i choices s = record s { choices = choices; routine = i }
 
--- what a routine does, by what its commands do
-abbrev pub body_does : (programs.Node → Doing) → Option programs.Routine → Doing
-body_does run None m s = Signals false s
-body_does run (Some r) m s = leave s.choices (run r.body m (enter r.amongs s))
+-- at its return these are back
+abbrev pub leave : ℕ → List (Option ℕ) → Ending → Ending
+leave i choices e = after e (λ t. Signals true (back_in i choices t)) (λ f. Signals false (back_in i choices f))
+
+-- what the i-th routine does, by what its commands do
+abbrev pub body_does : (programs.Node → Doing) → ℕ → Option programs.Routine → Doing
+body_does run i None m s = Signals false s
+body_does run i (Some r) m s = leave s.routine s.choices (run r.body m (enter i r.amongs s))
 
 -- what a call does where this many levels are left
 abbrev pub calls : programs.Program → ℕ → ℕ → Doing
 calls p zero i m s = Stops Depth s
-calls p (suc n) i m s = body_does (does p.groupings (calls p n)) (slice_get p.routines i) m s
+calls p (suc n) i m s = body_does (does p.groupings (calls p n)) i (slice_get p.routines i) m s
 
 -- what a command does in a program, where this many levels are left
 abbrev pub runs : programs.Program → ℕ → programs.Node → Doing

@@ -3,7 +3,9 @@ use Rattle.std.specs.Prelude.{ℕ, true, false, List, [], ◌∷◌, length, nat
 use Rattle.sbl_program.specs.declared.node.Candidate.{Candidate}
 use Rattle.sbl_program.specs.Listed.{Listed}
 use Rattle.sbl_machine.specs.Listing.{fits_at}
+use Rattle.sbl_machine.specs.declared.touch.Touch.TheVariants.{Searched}
 use Rattle.sbl_machine.specs.State.{State, Ending, Signals, Doing, after, then_on, pay, saved_cursor, limit_of, place_after}
+use Rattle.sbl_machine.specs.Touches.{with_touch}
 use Rattle.sbl_tree.specs.declared.mode.Mode.{Mode}
 use Rattle.sbl_tree.specs.declared.mode.Mode.TheVariants.{Forward, Backward}
 
@@ -18,6 +20,10 @@ choice k s = slice_index_or s.choices k None
 abbrev pub bound_in : Mode → State → ℕ
 bound_in Forward s = limit_of s
 bound_in Backward s = if nat_lt s.left (length s.text) then s.left else length s.text
+
+-- the among of this number in the routine that runs is touched
+abbrev pub touch_among : ℕ → State → State
+touch_among k s = record s { touched = with_touch (Searched s.routine k) s.touched }
 
 -- a string's condition: a call, which pays a step of its own
 abbrev pub condition_does : (ℕ → Doing) → Option ℕ → Mode → State → Ending
@@ -41,5 +47,9 @@ tries call k entries m from (i ∷ is) s =
     try_one call k (slice_get entries i) m from s (tries call k entries m from is)
 
 -- the strings that fit where the search begins, the longest first
+abbrev pub searched : (ℕ → Doing) → ℕ → List Candidate → Listed → Mode → State → Ending
+searched call k entries strings m s = tries call k entries m s (fits_at strings s.text s.cursor (bound_in m s)) s
+
+-- a search touches its among, whatever it finds
 abbrev pub search_all : (ℕ → Doing) → ℕ → List Candidate → Listed → Mode → State → Ending
-search_all call k entries strings m s = tries call k entries m s (fits_at strings s.text s.cursor (bound_in m s)) s
+search_all call k entries strings m s = searched call k entries strings m (touch_among k s)

@@ -3,6 +3,7 @@ use Rattle.std.specs.Prelude.{ℕ, ℤ, zero, suc, ◌+◌, ◌-◌, Bool, true,
 use Rattle.sbl_machine.specs.declared.fault.RunFault.{RunFault}
 use Rattle.sbl_machine.specs.declared.fault.RunFault.TheVariants.{Steps, Cursor}
 use Rattle.sbl_machine.specs.declared.state.SavedCursor.{SavedCursor}
+use Rattle.sbl_machine.specs.declared.touch.Touch.{Touch}
 use Rattle.sbl_tables.specs.Fitting.{ahead_at}
 use Rattle.sbl_tree.specs.declared.mode.Mode.{Mode}
 use Rattle.sbl_tree.specs.declared.mode.Mode.TheVariants.{Forward, Backward}
@@ -23,6 +24,10 @@ pub record State : Type 0 where
   pub strings : List (List ℕ)
   -- for each among of the routine that runs, the group of the string that its last search took
   pub choices : List (Option ℕ)
+  -- the number of the routine that runs
+  pub routine : ℕ
+  -- what was touched, in the order of first touch
+  pub touched : List Touch
   -- the steps that are left
   pub steps : ℕ
 

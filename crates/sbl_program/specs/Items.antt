@@ -36,12 +36,13 @@ abbrev pub place_of : List (List ℕ) → List ℕ → ℕ
 place_of [] n = 0
 place_of (x ∷ xs) n = if bytes_eq x n then 0 else suc (place_of xs n)
 
--- the variables of each kind in the order of their declarations, and the groupings
+-- the variables of each kind in the order of their declarations, and the groupings and routines in that of their definitions
 pub record Known : Type 0 where
   pub strings : List (List ℕ)
   pub integers : List (List ℕ)
   pub booleans : List (List ℕ)
   pub groupings : List (List ℕ)
+  pub routines : List (List ℕ)
 
 abbrev pub strings_with : Plain → List (List ℕ) → List (List ℕ)
 strings_with (declaration kinds.Strings ns) rest = ns ++ rest
@@ -59,6 +60,10 @@ abbrev pub groupings_with : Plain → List (List ℕ) → List (List ℕ)
 groupings_with (grouping n a ts) rest = n ∷ rest
 groupings_with x rest = rest
 
+abbrev pub routines_with : Plain → List (List ℕ) → List (List ℕ)
+routines_with (routine n c os) rest = n ∷ rest
+routines_with x rest = rest
+
 abbrev pub strings_in : List ItemInMode → List (List ℕ)
 strings_in [] = []
 strings_in (x ∷ xs) = strings_with x.plain (strings_in xs)
@@ -75,8 +80,18 @@ abbrev pub groupings_in : List ItemInMode → List (List ℕ)
 groupings_in [] = []
 groupings_in (x ∷ xs) = groupings_with x.plain (groupings_in xs)
 
+abbrev pub routines_in : List ItemInMode → List (List ℕ)
+routines_in [] = []
+routines_in (x ∷ xs) = routines_with x.plain (routines_in xs)
+
 abbrev pub known_in : List ItemInMode → Known
-known_in xs = record { strings = strings_in xs; integers = integers_in xs; booleans = booleans_in xs; groupings = groupings_in xs }
+known_in xs = record {
+  strings = strings_in xs;
+  integers = integers_in xs;
+  booleans = booleans_in xs;
+  groupings = groupings_in xs;
+  routines = routines_in xs;
+}
 
 -- ---- groupings
 

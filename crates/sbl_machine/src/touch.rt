@@ -1,0 +1,10 @@
+//! What a run touches, by numbers.
+
+/// A touch of a run: the entry of a routine's body, or the search of an among.
+#[derive(Clone, Copy, Debug, Drop, PartialEq, Eq)]
+pub enum Touch {
+    /// The body of the routine with this number is entered.
+    Entered(usize),
+    /// The search of an among is paid: the number of its routine, and its own in it, both from 0.
+    Searched(usize, usize),
+}
