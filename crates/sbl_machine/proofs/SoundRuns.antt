@@ -3,7 +3,8 @@ use Rattle.std.proofs.Common.{◌≡◌, ℕ, zero, suc, Bool, List, [], Option,
 use Rattle.std.proofs.Math.Path.{fun_ext}
 use Rattle.sbl_program.specs.Items.{Known, ItemInMode, Body, in_order, known_in, class_of, classes_behind, body_named}
 use Rattle.sbl_machine.specs.Meaning as meaning
-use Rattle.sbl_program.specs.Numbered.{numbered_script, plan_in, plan_with}
+use Rattle.sbl_machine.specs.Numbered.{numbered_script}
+use Rattle.sbl_program.specs.Numbered.{numbered_items, plan_in, plan_with}
 use Rattle.sbl_program.specs.NumberedNames.{Names, names_behind, no_names, number_of}
 use Rattle.sbl_machine.specs.Outcome.{ending_of, start}
 use Rattle.sbl_program.specs.Program as programs
@@ -73,7 +74,7 @@ module _ (items : List ItemInMode) (external : List ℕ) where
   by_items word limit = calls_same 32 external Forward (start program word limit) ∙ ap (meaning.calls known class (body_named items) 32 external Forward) (start_same word limit)
 
 pub ending_same : (script : Source) (word : List ℕ) (limit : ℕ) → ending_of (numbered_script script) word limit ≡ meaning.ending script word limit
-unfolding numbered_script meaning.ending
+unfolding numbered_items meaning.ending
 ending_same script word limit =
     ap (λ items. ending_of (plan_in items script.external) word limit) (placed_is script.items)
     ∙ by_items (in_order script.items) script.external word limit

@@ -13,6 +13,7 @@ pub mod Touched
 pub mod Holes
 pub mod Frame
 pub mod Listing
+pub mod Numbered
 pub mod MachineOf
 pub mod Actions
 pub mod Sound

@@ -6,7 +6,7 @@ use Rattle.sbl_machine.specs.Touched.{routine_names}
 use Rattle.sbl_program.specs.Listed.{Listed}
 use Rattle.sbl_machine.specs.Listing.{listed_by}
 use Rattle.sbl_tables.specs.declared.linked.LinkedTable.{LinkedTable}
-use Rattle.sbl_program.specs.Numbered.{numbered_script}
+use Rattle.sbl_machine.specs.Numbered.{numbered_script}
 use Rattle.sbl_program.specs.Program.{Program}
 use Rattle.sbl_program.specs.ProgramOf.{program_of}
 use Rattle.sbl_tables.specs.LinkedStrings.{entries_of, mode_of}

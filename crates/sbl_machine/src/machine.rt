@@ -47,7 +47,7 @@ impl<S: AmongSearch> Machine<S> {
             program,
             amongs,
             routines: names,
-        } = numbered(alloc, script)?;
+        } = numbered(alloc, script.items(), script.external())?;
         let tables = tables_of(alloc, &amongs)?;
         Ok(Machine {
             tables: TableList { tables },
