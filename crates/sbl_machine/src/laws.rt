@@ -1,6 +1,7 @@
 //! What is shown of runs.
 
 ghost use Rattle.sbl_machine.specs.EnoughSteps.{RefusedForSteps, UsedStepsSuffice};
+ghost use Rattle.sbl_machine.specs.Frame.{EditsAgree, Frame, NamesStay, UntouchedStay};
 ghost use Rattle.sbl_machine.specs.NamesStand.{NamesStand};
 ghost use Rattle.sbl_machine.specs.Searches.{SearchesAreExact, TablesDiffer};
 ghost use Rattle.sbl_machine.specs.Sound.{RunIsSound};
@@ -38,3 +39,20 @@ pub fn names_stand()
     names_resolve();
     well_declared_passes();
 }
+
+/// A run does not depend on what it has not touched: two scripts that agree outside some items run a word alike, where its run
+/// under the first touches none of these.
+pub fn frame()
+    ensures { Frame }
+{}
+
+/// An edit of a script agrees with it outside the item that it replaces, and names of routines stay.
+pub fn edits_agree()
+    ensures agree { EditsAgree }
+    ensures names { NamesStay }
+{}
+
+/// After an edit a word whose run did not touch the replaced item runs as before, and touches the same.
+pub fn untouched_stay()
+    ensures { UntouchedStay }
+{}

@@ -3,6 +3,7 @@
 
 mod fault;
 mod halt;
+mod item;
 pub mod laws;
 mod machine;
 mod meter;
@@ -10,8 +11,10 @@ mod outcome;
 mod run;
 mod state;
 mod table;
+mod touch;
 
 pub use fault::{RunFault, RunStop};
+pub use item::Item;
 pub use machine::Machine;
 pub use meter::Meter;
 pub use outcome::{Outcome, Ran};
