@@ -82,7 +82,7 @@ module _ (marked : Touch → Bool) where
         (λ s w. leave_dirty s.routine s.choices (d' m (enter j n' s)) ((h' (enter j n' s)).up (with_chosen marked (Entered j) s.touched c)))
 
 -- what is picked, by number
-abbrev marked_by : (Item' → Bool) → List (List ℕ) → Touch → Bool
+abbrev pub marked_by : (Item' → Bool) → List (List ℕ) → Touch → Bool
 marked_by picked names x = picked (named names x)
 
 module _ (picked : Item' → Bool) (items : List ItemInMode) where
