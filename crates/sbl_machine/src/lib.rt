@@ -13,6 +13,7 @@ mod run;
 mod state;
 mod table;
 mod touch;
+mod touched;
 
 pub use fault::{RunFault, RunStop};
 pub use item::Item;
