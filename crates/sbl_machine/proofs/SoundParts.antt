@@ -23,7 +23,7 @@ use Rattle.sbl_tree.specs.Tree.{bare, group}
 use Rattle.sbl_program.specs.declared.node.Candidate as code
 use Rattle.sbl_program.specs.Ahead.{found_as}
 use Rattle.sbl_tables.specs.Fitting.{below, fitting, onto, read_as, read_all, ahead_at}
-use Rattle.sbl_program.specs.Items.{Known, place_of}
+use Rattle.sbl_program.specs.Items.{Known}
 use Rattle.sbl_machine.specs.Meaning as meaning
 use Rattle.sbl_machine.specs.Meaning.{Offer, offer, offers}
 use Rattle.sbl_machine.specs.Moves.{characters}

@@ -1,6 +1,6 @@
 //! What a run has touched: a list, and bits beside it, so that a touch costs the same however many there are.
 
-ghost use Rattle.std.specs.Prelude.{◌≡◌, ◌<◌, ℕ, false, [], length, map, slice_set, slice_index_or, IfOk};
+ghost use Rattle.std.specs.Prelude.{◌≡◌, ◌<◌, ℕ, false, [], length, map, slice_set, slice_index_or, IfOk, MatchResult};
 ghost use Rattle.sbl_machine.specs.Marks.{is_set, is_set_in};
 ghost use Rattle.sbl_machine.specs.Touches.{with_touch};
 ghost use Rattle.sbl_machine.specs.declared.touch.Touch.TheVariants.{Entered, Searched};
@@ -65,7 +65,7 @@ impl Touched {
 
     /// The body of a routine is entered. AllocError where a growth was refused; nothing is touched then.
     pub fn enter(&mut self, routine: usize) -> Result<(), AllocError>
-        ensures { IfOk result (λ _. self.new ≡ with_touch (Entered routine) self.old) }
+        ensures { MatchResult result (λ _. self.new ≡ with_touch (Entered routine) self.old) (λ _. self.new ≡ self.old) }
     {
         if bit(&self.entered, routine) {
             return Ok(());
@@ -78,7 +78,7 @@ impl Touched {
 
     /// The search of an among is paid. AllocError where a growth was refused; nothing is touched then.
     pub fn search(&mut self, routine: usize, among: usize) -> Result<(), AllocError>
-        ensures { IfOk result (λ _. self.new ≡ with_touch (Searched routine among) self.old) }
+        ensures { MatchResult result (λ _. self.new ≡ with_touch (Searched routine among) self.old) (λ _. self.new ≡ self.old) }
     {
         if bit_in(&self.searched, routine, among) {
             return Ok(());
