@@ -19,7 +19,7 @@ use Rattle.sbl_machine.specs.Moves.{next}
 use Rattle.sbl_machine.specs.Numbers.{value, given}
 use Rattle.sbl_program.specs.ProgramOf.{view_node, view_nodes, view_number}
 use Rattle.sbl_program.specs.Program as programs
-use Rattle.sbl_machine.specs.Run.{turns, times, count_of, seeks, found, backwards_from, backwards_end, calls, runs, all_run, group_runs, nth_runs, leave, enter, body_does, limits, limited, limit_here, limit_back}
+use Rattle.sbl_machine.specs.Run.{turns, times, count_of, seeks, found, backwards_from, backwards_end, calls, runs, all_run, group_runs, nth_runs, leave, back_in, enter, body_does, limits, limited, limit_here, limit_back}
 use Rattle.sbl_machine.specs.Search.{choice, search_all, tries, try_one}
 use Rattle.sbl_machine.specs.State.{State, Ending, Doing, Signals, Stops, after, then_on, pay, saved_cursor, put_back}
 use Rattle.sbl_tree.specs.declared.mode.Mode.{Mode}
@@ -147,18 +147,18 @@ pub halted : (halt : Halt) (new : State) (e f w : Ending) → Tried (Err halt) n
 halted halt new e f w h p = follows_at (Err halt) new w e (sym p) h
 
 -- a call with a level left
-pub called : (p : programs.Program) (n i : ℕ) (m : Mode) (s : State) (r : programs.Routine) → 0 < n → slice_get p.routines i ≡ Some r → calls p n i m s ≡ leave s.choices (runs p (n - 1) r.body m (enter r.amongs s))
+pub called : (p : programs.Program) (n i : ℕ) (m : Mode) (s : State) (r : programs.Routine) → 0 < n → slice_get p.routines i ≡ Some r → calls p n i m s ≡ leave s.routine s.choices (runs p (n - 1) r.body m (enter i r.amongs s))
 called p zero i m s r h e = absurd (omega arith)
 called p (suc n) i m s r h e =
     let k : n ≡ suc n - 1 = omega arith in
-    ap (λ o. body_does (runs p n) o m s) e ∙ ap (λ k. leave s.choices (runs p k r.body m (enter r.amongs s))) k
+    ap (λ o. body_does (runs p n) i o m s) e ∙ ap (λ k. leave s.routine s.choices (runs p k r.body m (enter i r.amongs s))) k
 
-pub leave_signals : (cs : List (Option ℕ)) (e : Ending) (b : Bool) (t : State) → e ≡ Signals b t → leave cs e ≡ Signals b (record t { choices = cs })
-leave_signals cs e true t p = ap (leave cs) p
-leave_signals cs e false t p = ap (leave cs) p
+pub leave_signals : (i : ℕ) (cs : List (Option ℕ)) (e : Ending) (b : Bool) (t : State) → e ≡ Signals b t → leave i cs e ≡ Signals b (back_in i cs t)
+leave_signals i cs e true t p = ap (leave i cs) p
+leave_signals i cs e false t p = ap (leave i cs) p
 
-pub leave_halts : (cs : List (Option ℕ)) (halt : Halt) (new : State) (e : Ending) → Follows (Err halt) new e → Follows (Err halt) new (leave cs e)
-leave_halts cs halt new e h = passed (fault_of halt) new e (leave cs) (λ fault. refl) h
+pub leave_halts : (i : ℕ) (cs : List (Option ℕ)) (halt : Halt) (new : State) (e : Ending) → Follows (Err halt) new e → Follows (Err halt) new (leave i cs e)
+leave_halts i cs halt new e h = passed (fault_of halt) new e (leave i cs) (λ fault. refl) h
 
 pub after_halts : (halt : Halt) (new : State) (e : Ending) (on_t on_f : State → Ending) → Follows (Err halt) new e → Follows (Err halt) new (after e on_t on_f)
 after_halts halt new e on_t on_f h = passed (fault_of halt) new e (λ r. after r on_t on_f) (λ fault. refl) h

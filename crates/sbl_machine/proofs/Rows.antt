@@ -1,5 +1,5 @@
 -- A row, a sum and a product grouped from the left do what their parts do one after another.
-use Rattle.std.proofs.Common.{◌≡◌, ℕ, zero, suc, ◌+◌, ◌-◌, ◌<◌, Bool, true, false, List, [], ◌∷◌, length, map, drop, get_or, Ok, Err, refl, sym, ap, ◌∙◌, arith, Box, Vec, Global, rules}
+use Rattle.std.proofs.Common.{◌≡◌, ℕ, zero, suc, ◌+◌, ◌-◌, ◌<◌, Bool, true, false, List, [], ◌∷◌, length, map, drop, get_or, Err, refl, sym, ap, ◌∙◌, arith, Box, Vec, Global, rules}
 use Rattle.std.proofs.Math.Path.{fun_ext}
 use Rattle.std.proofs.lemmas.List.{drop_more}
 use Rattle.sbl_tree.specs.declared.tree.Joiner.{Joiner}
@@ -26,7 +26,7 @@ use Rattle.sbl_program.specs.ProgramOf.{view_added, view_joined, view_node, view
 use Rattle.sbl_machine.specs.declared.fault.RunFault.{RunFault}
 use Rattle.sbl_machine.specs.declared.fault.RunFault.TheVariants.{Steps}
 use Rattle.sbl_machine.specs.declared.state.SavedCursor.{SavedCursor}
-use Rattle.sbl_machine.specs.Numbers.{Value, value, with_both}
+use Rattle.sbl_machine.specs.Numbers.{value, with_both}
 use Rattle.sbl_machine.specs.Rows.{joined_after, joined_runs, others_run, pays, product_of, row_runs, scales_to, sum_of, sums_to}
 use Rattle.sbl_machine.specs.Run.{act, calls, runs}
 use Rattle.sbl_machine.specs.State.{State, Ending, Signals, Stops, after, then_on, pay, saved_cursor}

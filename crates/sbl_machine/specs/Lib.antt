@@ -20,6 +20,7 @@ pub mod EnoughSteps
 pub mod Searches
 pub mod NamesStand
 -- what the functions inside the crate promise each other: nothing in these need be believed
+pub mod Marks
 pub mod Rows
 pub mod Halts
 pub mod Kept

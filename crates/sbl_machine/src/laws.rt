@@ -1,7 +1,7 @@
 //! What is shown of runs.
 
 ghost use Rattle.sbl_machine.specs.EnoughSteps.{RefusedForSteps, UsedStepsSuffice};
-ghost use Rattle.sbl_machine.specs.Frame.{EditsAgree, Frame, NamesStay, UntouchedStay};
+ghost use Rattle.sbl_machine.specs.Frame.{EditsAgree, Frame, NamesStay, TouchedRise, TouchesAreTouched, UntouchedStay};
 ghost use Rattle.sbl_machine.specs.NamesStand.{NamesStand};
 ghost use Rattle.sbl_machine.specs.Searches.{SearchesAreExact, TablesDiffer};
 ghost use Rattle.sbl_machine.specs.Sound.{RunIsSound};
@@ -19,6 +19,12 @@ pub fn run_is_sound()
 pub fn used_steps_suffice()
     ensures refused { RefusedForSteps }
     ensures suffice { UsedStepsSuffice }
+{}
+
+/// A run touches an item exactly where the item is one of those that it touches; and these are in order, each once.
+pub fn touches_are_touched()
+    ensures touched { TouchesAreTouched }
+    ensures rise { TouchedRise }
 {}
 
 /// In a script that is well declared no string stands twice in the table of an `among`, so that a search meets exactly those of

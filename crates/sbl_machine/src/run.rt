@@ -6,7 +6,7 @@ ghost use Rattle.sbl_machine.specs.Numbers.{value, given};
 ghost use Rattle.sbl_program.specs.ProgramOf.{program_of, view_joined, view_node, view_nodes, view_number};
 ghost use Rattle.sbl_machine.specs.Run.{runs, all_run, group_runs, calls, turns, times, count_of, seeks};
 ghost use Rattle.sbl_machine.specs.Rows.{is_settled, joined_runs, row_runs};
-ghost use Rattle.sbl_machine.specs.Search.{choice, search_all, try_one};
+ghost use Rattle.sbl_machine.specs.Search.{choice, searched, try_one};
 ghost use Rattle.sbl_machine.specs.State.{State as RunState, Ending, Signals, after, then_on, saved_cursor, put_back};
 
 use crate::halt::Halt;
@@ -104,9 +104,12 @@ fn run_command<T: Tables>(
             among,
             table,
             entries,
-        } => run_search(
-            tables, program, levels, mode, *among, *table, entries, state,
-        ),
+        } => {
+            state.touch_among(*among)?;
+            run_search(
+                tables, program, levels, mode, *among, *table, entries, state,
+            )
+        }
         Node::Among {
             among,
             before,
@@ -287,9 +290,10 @@ pub fn run_call<T: Tables>(
     match program.routine(number) {
         None => Ok(false),
         Some(routine) => {
-            let kept = state.enter(routine.amongs)?;
+            let caller = state.routine();
+            let kept = state.enter(number, routine.amongs)?;
             let signal = run_command(tables, program, levels - 1, mode, &routine.body, state)?;
-            state.leave(kept);
+            state.leave(caller, kept);
             Ok(signal)
         }
     }
@@ -334,7 +338,7 @@ fn run_search<T: Tables>(
     entries: &[Candidate],
     state: &mut State,
 ) -> Result<bool, Halt>
-    ensures follows { Follows result state.new (search_all (calls (program_of (T.listed tables.now) program.now) levels) among entries.now (T.listed tables.now table) mode state.old) }
+    ensures follows { Follows result state.new (searched (calls (program_of (T.listed tables.now) program.now) levels) among entries.now (T.listed tables.now table) mode state.old) }
     ensures no_more { IfOk result (λ _. state.new.steps ≤ state.old.steps) }
 {
     let from = state.saved_cursor();

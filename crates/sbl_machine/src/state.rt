@@ -17,6 +17,7 @@ pub mod numbers;
 mod slices;
 
 use crate::halt::Halt;
+use crate::touched::Touched;
 use sbl_program::{Program, StringTerm};
 use sbl_tree::Mode;
 use std::alloc::{AllocError, Global};
@@ -38,6 +39,8 @@ pub struct State {
     booleans: Vec<bool>,
     strings: Vec<Vec<char>>,
     choices: Vec<Option<usize>>,
+    routine: usize,
+    touched: Touched,
     steps: u32,
     // What the next splice is made in, and what the choices of the next calls are kept in.
     spare: Vec<char>,
@@ -51,7 +54,7 @@ impl Model for State {
 
     ghost Value = { RunState };
 
-    ghost view = { λ s. record { text = s.text.items; cursor = s.cursor; left = s.left; beyond = s.beyond; bra = s.bra; ket = s.ket; integers = s.integers.items; booleans = s.booleans.items; strings = map (λ v. v.items) s.strings.items; choices = s.choices.items; steps = s.steps } };
+    ghost view = { λ s. record { text = s.text.items; cursor = s.cursor; left = s.left; beyond = s.beyond; bra = s.bra; ket = s.ket; integers = s.integers.items; booleans = s.booleans.items; strings = map (λ v. v.items) s.strings.items; choices = s.choices.items; routine = s.routine; touched = s.touched; steps = s.steps } };
 
     ghost invariant = { λ s. IsWithin s.text.items s.cursor s.left s.beyond s.bra s.ket };
 }
@@ -90,6 +93,8 @@ impl State {
             booleans: Vec::new(alloc),
             strings: Vec::new(alloc),
             choices: Vec::new(alloc),
+            routine: 0,
+            touched: Touched::new(alloc),
             steps: 0,
             spare: Vec::new(alloc),
             spares: Vec::new(alloc),
@@ -117,6 +122,7 @@ impl State {
             mut integers,
             mut booleans,
             mut choices,
+            mut touched,
             spare,
             spares,
             ..
@@ -128,6 +134,7 @@ impl State {
         booleans.clear();
         booleans.resize(program.booleans, false)?;
         choices.clear();
+        touched.clear();
         let strings = empty_strings(alloc, program.strings)?;
         Ok(State {
             text,
@@ -140,6 +147,8 @@ impl State {
             booleans,
             strings,
             choices,
+            routine: 0,
+            touched,
             steps,
             spare,
             spares,

@@ -2,14 +2,14 @@
 use Rattle.std.proofs.Common.{◌≡◌, ℕ, List, [], option_map, sym, ap, ◌∙◌}
 use Rattle.std.specs.Prelude.{slice_get, slice_index_or}
 use Rattle.sbl_program.specs.Ahead.{routines_in}
-use Rattle.sbl_program.specs.Items.{ItemInMode, Known, in_order, known_in, class_of, classes_behind, body_named}
+use Rattle.sbl_program.specs.Items.{ItemInMode, in_order, routines_in as routine_names, class_of, classes_behind, body_named}
 use Rattle.sbl_program.specs.Numbered.{numbered_script, plan_in, plan_with}
 use Rattle.sbl_program.specs.NumberedNames.{Names, names_behind, no_names, number_of}
 use Rattle.sbl_program.specs.NumberedSets.{has, sets_behind}
 use Rattle.sbl_program.specs.Program as programs
 use Rattle.sbl_program.specs.Laws.{RoutineIsItsOwn, SetsAreClasses, names_in}
 use Rattle.sbl_program.proofs.Coming.{own_is_made}
-use Rattle.sbl_program.proofs.SoundItems.{placed_by, placed_is, groupings_are, routines_are, routine_names, sets_are, as_made, body_at}
+use Rattle.sbl_program.proofs.SoundItems.{placed_by, placed_is, groupings_are, routines_are, sets_are, as_made, body_at}
 use Rattle.sbl_script.specs.Parsed.{Source}
 
 module _ (items : List ItemInMode) (external : List ℕ) where

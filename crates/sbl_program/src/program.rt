@@ -1,7 +1,8 @@
 //! The program of a script.
 
-ghost use Rattle.std.specs.Prelude.{◌≡◌, [], false, map, length, OnOk, IfOk};
+ghost use Rattle.std.specs.Prelude.{◌≡◌, [], false, map, length, OnOk, IfOk, string_bytes};
 ghost use Rattle.sbl_tree.specs.View.{view_items, view_plain, view_row};
+ghost use Rattle.sbl_program.specs.Items.{in_order, routines_in};
 ghost use Rattle.sbl_program.specs.Numbered as spec;
 ghost use Rattle.sbl_program.specs.NumberedView.{strings_at, view_found, view_names, view_place, view_placed};
 ghost use Rattle.sbl_program.specs.ProgramOf.{program_of, view_routine};
@@ -103,15 +104,23 @@ pub struct Made {
     pub program: Program,
     /// The amongs, in the order of the tables.
     pub amongs: Vec<Found>,
+    /// The names of the routines, in the order of their definitions.
+    pub routines: Vec<String>,
 }
 
 /// The program of a script. AllocError where a growth was refused.
 pub fn numbered(alloc: Global, script: &Script) -> Result<Made, AllocError>
-    ensures { IfOk result (λ n. program_of (strings_at n.amongs.items) n.program ≡ spec.numbered_script (source_of script.now)) }
+    ensures program { IfOk result (λ n. program_of (strings_at n.amongs.items) n.program ≡ spec.numbered_script (source_of script.now)) }
+    ensures routines { IfOk result (λ n. map string_bytes n.routines.items ≡ routines_in (in_order (source_of script.now).items)) }
 {
     let items = place_all(alloc, script.items())?;
     let names = names_of(alloc, &items)?;
     let amongs = amongs_of(alloc, &names, &items)?;
     let program = program_by(alloc, &names, &items, &amongs, script.external())?;
-    Ok(Made { program, amongs })
+    let Names { routines, .. } = names;
+    Ok(Made {
+        program,
+        amongs,
+        routines,
+    })
 }

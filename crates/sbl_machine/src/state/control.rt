@@ -3,11 +3,12 @@
 ghost use Rattle.std.specs.Prelude.{◌≡◌, ◌≤◌, ◌-◌, ℕ, Option, None, length, IfOk};
 ghost use Rattle.sbl_tables.specs.Fitting.{ahead_at};
 ghost use Rattle.sbl_machine.specs.Kept.{Leads};
-ghost use Rattle.sbl_machine.specs.Run.{limits, limit_here, limit_back, backwards_from, backwards_end, enter};
-ghost use Rattle.sbl_machine.specs.Search.{choose, choice, bound_in};
+ghost use Rattle.sbl_machine.specs.Run.{limits, limit_here, limit_back, backwards_from, backwards_end, back_in, enter};
+ghost use Rattle.sbl_machine.specs.Search.{choose, choice, bound_in, touch_among};
 
 use crate::halt::Halt;
 use crate::state::{Limits, State};
+use crate::touch::Touch;
 use sbl_tree::Mode;
 use std::alloc::AllocError;
 use std::mem;
@@ -114,11 +115,34 @@ impl State {
         }
     }
 
-    /// Begins a call of a routine that has so many amongs, and answers the caller's choices.
-    pub fn enter(&mut self, amongs: usize) -> Result<Vec<Option<usize>>, AllocError>
-        ensures kept { IfOk result (λ v. v.items ≡ self.old.choices) }
-        ensures entered { IfOk result (λ _. self.new ≡ enter amongs self.old) }
+    /// Touches an among of the routine that runs, whose search is paid. AllocError where a growth was refused.
+    pub fn touch_among(&mut self, among: usize) -> Result<(), AllocError>
+        ensures { IfOk result (λ _. self.new ≡ touch_among among self.old) }
     {
+        self.touched.search(self.routine, among)
+    }
+
+    /// What was touched, in the order of first touch.
+    pub fn touches(&self) -> &[Touch]
+        ensures { result.now ≡ self.now.touched }
+    {
+        self.touched.touches()
+    }
+
+    /// The number of the routine that runs.
+    pub fn routine(&self) -> usize
+        ensures { result ≡ self.now.routine }
+    {
+        self.routine
+    }
+
+    /// Begins a call of the routine with this number and so many amongs, which is touched, and answers the caller's choices.
+    /// AllocError where a growth was refused.
+    pub fn enter(&mut self, routine: usize, amongs: usize) -> Result<Vec<Option<usize>>, AllocError>
+        ensures kept { IfOk result (λ v. v.items ≡ self.old.choices) }
+        ensures entered { IfOk result (λ _. self.new ≡ enter routine amongs self.old) }
+    {
+        self.touched.enter(routine)?;
         let alloc = *self.text.allocator();
         let mut fresh = match self.spares.pop() {
             None => Vec::new(alloc),
@@ -126,13 +150,15 @@ impl State {
         };
         fresh.clear();
         fresh.resize(amongs, None)?;
+        self.routine = routine;
         Ok(mem::replace(&mut self.choices, fresh))
     }
 
-    /// Ends a call: the caller's choices are back.
-    pub fn leave(&mut self, kept: Vec<Option<usize>>)
-        ensures { self.new ≡ record self.old { choices = kept.items } }
+    /// Ends a call: the caller's number and its choices are back.
+    pub fn leave(&mut self, caller: usize, kept: Vec<Option<usize>>)
+        ensures { self.new ≡ back_in caller kept.items self.old }
     {
+        self.routine = caller;
         let used = mem::replace(&mut self.choices, kept);
         // Where there is no room for it, it is given back.
         let _ = self.spares.push(used);

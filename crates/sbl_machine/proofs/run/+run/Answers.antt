@@ -10,9 +10,9 @@ use Rattle.sbl_machine.specs.State.{State, Ending, Signals, after, then_on, save
 use Rattle.sbl_program.specs.declared.node.Node.{Node}
 use Rattle.sbl_program.specs.declared.node.Routine.{Routine}
 use Rattle.sbl_program.specs.ProgramOf.{program_of, view_joined, view_node, view_nodes, view_number, view_routine}
-use Rattle.sbl_machine.specs.Run.{backwards_from, backwards_end, runs, all_run, group_runs, nth_runs, calls, turns, times, seeks, count_of, enter, limits, limited, limit_here, limit_back}
+use Rattle.sbl_machine.specs.Run.{backwards_from, backwards_end, runs, all_run, group_runs, nth_runs, calls, turns, times, seeks, count_of, back_in, enter, limits, limited, limit_here, limit_back}
 use Rattle.sbl_machine.specs.Numbers.{value, given}
-use Rattle.sbl_machine.specs.Search.{tries, try_one, search_all, bound_in, choice}
+use Rattle.sbl_machine.specs.Search.{tries, try_one, searched, search_all, touch_among, bound_in, choice}
 use Rattle.sbl_machine.specs.Listing.{fits_at}
 use Rattle.sbl_tables.specs.Fitting.{first}
 use Rattle.sbl_tree.specs.declared.mode.Mode.TheVariants.{Backward}
@@ -44,8 +44,8 @@ run_command-returns-in-Loop-clause-follows g t c =
     let p = ap (λ n. D n m s) a.is ∙ loop_does T P levels a.count a.inner m s ∙ ap (λ r. then_on r (λ q. given (value (view_number a.count) m q) q (λ z. times (count_of z) (D a.inner.value) m q))) c.in_ok-pay.ensures in
     follows_at c.run_times.result c.run_times.new.state _ _ (p ∙ ap (λ n. given (value (view_number a.count) m q) q (λ z. times (count_of z) (D n) m q)) (sym c.deref-in-Loop.ensures)) c.run_times.ensures.follows
 
-pub run_command-returns-in-Search-clause-follows : goal.run_command-returns-in-Search-clause-follows
-run_command-returns-in-Search-clause-follows g t c =
+pub run_command-returns-in_ok-touch_among-in-Search-clause-follows : goal.run_command-returns-in_ok-touch_among-in-Search-clause-follows
+run_command-returns-in_ok-touch_among-in-Search-clause-follows g t c =
     let T = g.T.Tables.listed c.args.tables.now in
     let P = program_of T c.args.program.now in
     let levels = c.args.levels in
@@ -55,7 +55,9 @@ run_command-returns-in-Search-clause-follows g t c =
     let s = c.args.state.now in
     let q = c.pay.new.self in
     let p = ap (λ n. D n m s) a.is ∙ search_does T P levels a.among a.table a.entries m s ∙ ap (λ r. then_on r (search_all (calls P levels) a.among a.entries.items (T a.table) m)) c.in_ok-pay.ensures in
-    follows_at c.run_search.result c.run_search.new.state _ _ (p ∙ ap (λ es. search_all (calls P levels) a.among es (T a.table) m q) (sym c.deref-in-Search.ensures.value)) c.run_search.ensures.follows
+    let d = ap (λ es. searched (calls P levels) a.among es (T a.table) m (touch_among a.among q)) (sym c.deref-in-Search.ensures.value) in
+    let u = ap (searched (calls P levels) a.among c.deref-in-Search.result.now (T a.table) m) (sym c.in_ok-touch_among-in-Search.ensures) in
+    follows_at c.run_search.result c.run_search.new.state _ _ (p ∙ d ∙ u) c.run_search.ensures.follows
 
 pub run_command-returns-in_err-run_times-in-AtLeast-clause-follows : goal.run_command-returns-in_err-run_times-in-AtLeast-clause-follows
 run_command-returns-in_err-run_times-in-AtLeast-clause-follows g t c =
@@ -222,11 +224,11 @@ run_call-returns-in_err-signal-in-Some-clause-follows g t c =
     let some : 0 < c.args.levels = omega (arith, c.if-levels-eq0.false) in
     let is : slice_get p.routines c.args.number ≡ Some (view_routine T routine) = c.routine.ensures T ∙ ap (option_map (λ (r : Bor Routine). view_routine T r.now)) c.in-Some.is in
     let q = called p c.args.levels c.args.number m s (view_routine T routine) some is in
-    let body = runs p (c.args.levels - 1) (view_node T routine.body) m (enter routine.amongs s) in
+    let body = runs p (c.args.levels - 1) (view_node T routine.body) m (enter c.args.number routine.amongs s) in
     let halt = c.in_err-signal-in-Some.field-0.0 in
     let r : c.from_residual-in_err-signal-in-Some.result ≡ Err halt = search rules in
     let h : Follows (Err halt) new body = search rules in
-    rw r (follows_at (Err halt) new _ _ q (leave_halts s.choices halt new body h))
+    rw r (follows_at (Err halt) new _ _ q (leave_halts s.routine s.choices halt new body h))
 
 pub run_call-returns-in_ok-signal-in-Some-clause-follows : goal.run_call-returns-in_ok-signal-in-Some-clause-follows
 run_call-returns-in_ok-signal-in-Some-clause-follows g t c =
@@ -239,11 +241,11 @@ run_call-returns-in_ok-signal-in-Some-clause-follows g t c =
     let some : 0 < c.args.levels = omega (arith, c.if-levels-eq0.false) in
     let is : slice_get p.routines c.args.number ≡ Some (view_routine T routine) = c.routine.ensures T ∙ ap (option_map (λ (r : Bor Routine). view_routine T r.now)) c.in-Some.is in
     let q = called p c.args.levels c.args.number m s (view_routine T routine) some is in
-    let body = runs p (c.args.levels - 1) (view_node T routine.body) m (enter routine.amongs s) in
+    let body = runs p (c.args.levels - 1) (view_node T routine.body) m (enter c.args.number routine.amongs s) in
     let b = c.in_ok-signal-in-Some.signal in
     let h : body ≡ Signals b new = search rules in
     let kept : c.in_ok-kept-in-Some.kept.items ≡ s.choices = c.in_ok-kept-in-Some.ensures.kept in
-    q ∙ leave_signals s.choices body b new h ∙ ap (λ cs. Signals b (record new { choices = cs })) (sym kept) ∙ ap (Signals b) (sym c.leave.ensures)
+    q ∙ leave_signals s.routine s.choices body b new h ∙ ap (λ i. Signals b (back_in i s.choices new)) (sym c.routine-caller.ensures) ∙ ap (λ cs. Signals b (back_in c.routine-caller.result cs new)) (sym kept) ∙ ap (Signals b) (sym c.leave.ensures)
 
 pub run_command-returns-in-Goto-clause-follows : goal.run_command-returns-in-Goto-clause-follows
 run_command-returns-in-Goto-clause-follows g t c =

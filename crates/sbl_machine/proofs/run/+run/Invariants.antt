@@ -6,7 +6,7 @@ use Rattle.sbl_program.specs.ProgramOf.{program_of, view_joined, view_node, view
 use Rattle.sbl_machine.specs.Run.{runs, all_run, calls, turns, times, seeks}
 use Rattle.sbl_machine.specs.Rows.{others_run, row_runs}
 use Rattle.sbl_machine.specs.State.{Signals}
-use Rattle.sbl_machine.specs.Search.{tries, search_all, bound_in}
+use Rattle.sbl_machine.specs.Search.{tries, searched, bound_in}
 use Rattle.sbl_machine.proofs.run.+run.Given as goal
 
 abbrev pub decreases-run_command : goal.decreases-run_command
@@ -92,7 +92,7 @@ invariant-run_search-loop-place g l =
     let T = g.T.Tables.listed l.tables in
     let call = calls (program_of T l.program) l.levels in
     (before : List ℕ) × (rest : List ℕ) × (fits_at (T l.table) l.initial.state.text l.initial.state.cursor (bound_in l.mode l.initial.state) ≡ before ++ rest) × (l.place ≡ first rest) ×
-    (tries call l.among l.entries l.mode l.initial.state rest l.state ≡ search_all call l.among l.entries (T l.table) l.mode l.initial.state) ×
+    (tries call l.among l.entries l.mode l.initial.state rest l.state ≡ searched call l.among l.entries (T l.table) l.mode l.initial.state) ×
     (l.state.steps ≤ l.initial.state.steps)
 
 abbrev pub decreases-run_search-loop-place : goal.decreases-run_search-loop-place

@@ -11,4 +11,4 @@ unfolding IsMachineOf
 returns g c =
     let made = c.in_ok-program.field-0 in
     let tables = c.in_ok-tables.ensures ∙ ap (map listing_found) c.deref.ensures.value in
-    ap (λ (T : ℕ → Listed). program_of T made.program) (same_tables _ g.S.AmongSearch.entries g.S.AmongSearch.mode c.in_ok-tables.tables.items made.amongs.items tables) ∙ c.in_ok-program.ensures
+    (ap (λ (T : ℕ → Listed). program_of T made.program) (same_tables _ g.S.AmongSearch.entries g.S.AmongSearch.mode c.in_ok-tables.tables.items made.amongs.items tables) ∙ c.in_ok-program.ensures.program, c.in_ok-program.ensures.routines)
