@@ -93,8 +93,8 @@ module _ (picked : Item' → Bool) (n : List ℕ) (b new : RowView) (same : hole
 pub whole_same : (n : List ℕ) (b new : RowView) → holed_plain (same_item (Routine n)) (routine n new.0 new.1) ≡ holed_plain (same_item (Routine n)) (routine n b.0 b.1)
 whole_same n b new =
     let gone = λ (x : RowView). ap
-      (λ (v : Bool). if v then routine n (bracket no_rows) no_others else routine n (with_holes (λ k. same_item (Routine n) (Among n k)) 0 x.0) (others_with_holes (λ k. same_item (Routine n) (Among n k)) (behind x.0 0) x.1))
-      (same_bytes n) in
+    (λ (v : Bool). if v then routine n (bracket no_rows) no_others else routine n (with_holes (λ k. same_item (Routine n) (Among n k)) 0 x.0) (others_with_holes (λ k. same_item (Routine n) (Among n k)) (behind x.0 0) x.1))
+    (same_bytes n) in
     gone new ∙ sym (gone b)
 
 pub among_same : (n : List ℕ) (k : ℕ) (b : RowView) (a : Starter × Groups) (h : Held) → nth_held k (amongs_of_body b) ≡ Some h → count_in_among a ≡ count_in_among (h.1, h.2)
@@ -114,14 +114,14 @@ script_agree picked s t n b new same at items external =
 body_agree : (s t : Source) (n text : List ℕ) (b : RowView) (h : Home) → routine_of n s.items ≡ Some b → home_of_body ≡ h → IsSubstituted s n h text true t → AgreeOutside (same_item (Routine n)) s t
 body_agree s t n text b h at is =
     subst (λ h. IsSubstituted s n h text true t → AgreeOutside (same_item (Routine n)) s t) is
-      (λ (z : IsSubstituted s n home_of_body text true t). script_agree (same_item (Routine n)) s t n b (home_of_body.around z.tree) (whole_same n b (home_of_body.around z.tree)) at z.items_are z.external_is)
+    (λ (z : IsSubstituted s n home_of_body text true t). script_agree (same_item (Routine n)) s t n b (home_of_body.around z.tree) (whole_same n b (home_of_body.around z.tree)) at z.items_are z.external_is)
 
 among_agree : (s t : Source) (n : List ℕ) (k : ℕ) (text : List ℕ) (b : RowView) (g : Held) (h : Home) → routine_of n s.items ≡ Some b → nth_held k (amongs_of_body b) ≡ Some g → home_of_among b k g ≡ h
     → IsSubstituted s n h text true t → AgreeOutside (same_item (Among n k)) s t
 among_agree s t n k text b g h at there is =
     subst (λ h. IsSubstituted s n h text true t → AgreeOutside (same_item (Among n k)) s t) is
-      (λ (z : IsSubstituted s n (home_of_among b k g) text true t).
-        script_agree (same_item (Among n k)) s t n b (put_in_body b k z.tree) (among_same n k b z.tree g there (eqb-true _ _ z.counted)) at z.items_are z.external_is)
+    (λ (z : IsSubstituted s n (home_of_among b k g) text true t).
+    script_agree (same_item (Among n k)) s t n b (put_in_body b k z.tree) (among_same n k b z.tree g there (eqb-true _ _ z.counted)) at z.items_are z.external_is)
 
 among_by : (s t : Source) (n : List ℕ) (k : ℕ) (text : List ℕ) (b : RowView) (h : Home) → routine_of n s.items ≡ Some b → (o : Option Held) → nth_held k (amongs_of_body b) ≡ o → home_of_held b k o ≡ Ok h
     → IsSubstituted s n h text true t → AgreeOutside (same_item (Among n k)) s t

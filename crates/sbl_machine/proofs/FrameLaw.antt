@@ -76,10 +76,10 @@ module _ (marked : Touch → Bool) where
   entered_pair : (i j n n' : ℕ) (d d' : Doing) (m : Mode) → marked (Entered j) ≡ true → ((s : State) → Grown marked s (d m s)) → ((s : State) → Grown marked s (d' m s)) → Pair marked i (called j n d m) (called j n' d' m)
   entered_pair i j n n' d d' m c h h' =
       spoiled_pair marked i _ _
-        (λ s. leave_grown j n s _ (h (enter j n s)))
-        (λ s. leave_grown j n' s _ (h' (enter j n' s)))
-        (λ s w. leave_dirty s.routine s.choices (d m (enter j n s)) ((h (enter j n s)).up (with_chosen marked (Entered j) s.touched c)))
-        (λ s w. leave_dirty s.routine s.choices (d' m (enter j n' s)) ((h' (enter j n' s)).up (with_chosen marked (Entered j) s.touched c)))
+      (λ s. leave_grown j n s _ (h (enter j n s)))
+      (λ s. leave_grown j n' s _ (h' (enter j n' s)))
+      (λ s w. leave_dirty s.routine s.choices (d m (enter j n s)) ((h (enter j n s)).up (with_chosen marked (Entered j) s.touched c)))
+      (λ s w. leave_dirty s.routine s.choices (d' m (enter j n' s)) ((h' (enter j n' s)).up (with_chosen marked (Entered j) s.touched c)))
 
 -- what is picked, by number
 abbrev pub marked_by : (Item' → Bool) → List (List ℕ) → Touch → Bool
@@ -97,13 +97,13 @@ module _ (picked : Item' → Bool) (items : List ItemInMode) where
 
   routine_by : (i : ℕ) (n : List ℕ) (body : Body) (call call' : List ℕ → Doing) (m : Mode) (b : Bool) → picked (Routine n) ≡ b → slice_index_or (routines_in items) (place_of (routines_in items) n) [] ≡ n
       → Alike marked (place_of (routines_in items) n) (paid (row_does ns class call body.mode body.first body.others))
-          (paid (row_does ns class call' body.mode (with_holes (λ k. picked (Among n k)) 0 body.first) (others_with_holes (λ k. picked (Among n k)) (behind body.first 0) body.others)))
+      (paid (row_does ns class call' body.mode (with_holes (λ k. picked (Among n k)) 0 body.first) (others_with_holes (λ k. picked (Among n k)) (behind body.first 0) body.others)))
       → Pair marked i (body_does ns class call n (Some body) m) (body_does ns class call' n (Some (hole_of picked b n body)) m)
   routine_by i n body call call' m true c name a =
       let j = place_of (routines_in items) n in
       entered_pair marked i j (behind_others body.others (behind body.first 0)) 0 (paid (row_does ns class call body.mode body.first body.others))
-        (paid (row_does ns class call' body.mode (bracket no_rows) no_others)) m (ap (λ x. picked (Routine x)) name ∙ c) (a.in_mode m).grown
-        (λ s. grown_after marked s (pay s.steps s) (Signals true) (Signals false) (same_grown marked s _ (pay_same s.steps s)) (λ t. same_grown marked t _ refl) (λ t. same_grown marked t _ refl))
+      (paid (row_does ns class call' body.mode (bracket no_rows) no_others)) m (ap (λ x. picked (Routine x)) name ∙ c) (a.in_mode m).grown
+      (λ s. grown_after marked s (pay s.steps s) (Signals true) (Signals false) (same_grown marked s _ (pay_same s.steps s)) (λ t. same_grown marked t _ refl) (λ t. same_grown marked t _ refl))
   routine_by i n body call call' m false c name a =
       let j = place_of (routines_in items) n in
       let holes = λ (k : ℕ). picked (Among n k) in
@@ -111,7 +111,7 @@ module _ (picked : Item' → Bool) (items : List ItemInMode) where
       let d' = paid (row_does ns class call' body.mode (with_holes holes 0 body.first) (others_with_holes holes (behind body.first 0) body.others)) in
       let amongs = behind_others body.others (behind body.first 0) in
       subst (λ l. Pair marked i (called j amongs d m) (called j l d' m)) (sym (behind_others_same holes body.others (behind body.first 0) _ (behind_same holes body.first 0 0 refl)))
-        (called_pair marked i j amongs d d' m a)
+      (called_pair marked i j amongs d d' m a)
 
   body_pair : (i : ℕ) (n : List ℕ) (call call' : List ℕ → Doing) (m : Mode) → ((j : ℕ) (x : List ℕ) → Alike marked j (call x) (call' x)) → (o : Option Body) → body_named items n ≡ o
       → Pair marked i (body_does ns class call n o m) (body_does ns class call' n (option_map (holed_body picked n) o) m)
@@ -120,16 +120,18 @@ module _ (picked : Item' → Bool) (items : List ItemInMode) where
       let j = place_of (routines_in items) n in
       let name : slice_index_or (routines_in items) j [] ≡ n = name_stands items n body is in
       routine_by i n body call call' m (picked (Routine n)) refl name
-        (paid_alike marked j _ _ (row_alike marked ns class call call' j (h j) (λ k. picked (Among n k)) (λ k. ap (λ (x : List ℕ). picked (Among x (suc k))) name) body.mode body.first body.others))
+      (paid_alike marked j _ _ (row_alike marked ns class call call' j (h j) (λ k. picked (Among n k)) (λ k. ap (λ (x : List ℕ). picked (Among x (suc k))) name) body.mode body.first body.others))
 
   calls_alike : (l i : ℕ) (n : List ℕ) → Alike marked i (calls ns class (body_named items) l n) (calls ns class (body_named (holed_items picked items)) l n)
   calls_alike zero i n = record { in_mode = λ m. same_pair marked i (Stops Depth) (λ s. refl) }
   calls_alike (suc l) i n =
       let call = calls ns class (body_named items) l in
       let call' = calls ns class (body_named (holed_items picked items)) l in
-      record { in_mode = λ m.
-        subst (λ o. Pair marked i (body_does ns class call n (body_named items n) m) (body_does ns class call' n o m)) (sym (bodies_holed picked items n))
-          (body_pair i n call call' m (λ j x. calls_alike l j x) (body_named items n) refl) }
+      record {
+        in_mode = λ m.
+            subst (λ o. Pair marked i (body_does ns class call n (body_named items n) m) (body_does ns class call' n o m)) (sym (bodies_holed picked items n))
+            (body_pair i n call call' m (λ j x. calls_alike l j x) (body_named items n) refl);
+      }
 
   -- ---- runs
 
@@ -160,8 +162,8 @@ levels_kin : (picked : Item' → Bool) (l : ℕ) (s : Source) (word : List ℕ) 
     Kin (marked_by picked (routine_names s)) (run_on l (in_order s.items) s.external word limit) (run_on l (in_order (holed_script picked s).items) s.external word limit)
 levels_kin picked l s word limit =
     subst (Kin (marked_by picked (routine_names s)) (run_on l (in_order s.items) s.external word limit))
-      (sym (ap (λ xs. run_on l xs s.external word limit) (order_holed picked s.items) ∙ holed_run picked l (in_order s.items) s.external word limit))
-      (run_kin picked (in_order s.items) l s.external word limit)
+    (sym (ap (λ xs. run_on l xs s.external word limit) (order_holed picked s.items) ∙ holed_run picked l (in_order s.items) s.external word limit))
+    (run_kin picked (in_order s.items) l s.external word limit)
 
 ending_kin : (picked : Item' → Bool) (s : Source) (word : List ℕ) (limit : ℕ) → Kin (marked_by picked (routine_names s)) (ending s word limit) (ending (holed_script picked s) word limit)
 unfolding ending
@@ -182,7 +184,7 @@ frame_on picked s t agree word limit clear =
     let hole = holed_script picked in
     let same : ending (hole t) word limit ≡ ending s word limit = ap (λ x. ending x word limit) (sym agree) ∙ clear_kin marked _ _ (ending_kin picked s word limit) clear in
     let kin : Kin marked (ending t word limit) (ending (hole t) word limit) =
-          subst (λ ns. Kin (marked_by picked ns) (ending t word limit) (ending (hole t) word limit)) (agree_names picked s t agree) (ending_kin picked t word limit) in
+    subst (λ ns. Kin (marked_by picked ns) (ending t word limit) (ending (hole t) word limit)) (agree_names picked s t agree) (ending_kin picked t word limit) in
     clear_back marked _ _ kin (ap (dirty_at marked) same ∙ clear) ∙ same
 
 -- ---- what is said of it
@@ -209,5 +211,5 @@ frame_holds picked s t agree word limit clear =
     let e = ending s word limit in
     let names = routine_names s in
     let untouched : dirty_at (marked_by picked names) e ≡ false =
-          sym (clear_by_names picked names e) ∙ sym (any-mapped (named names) picked (touched_at e)) ∙ sym (any_ordered picked (map (named names) (touched_at e))) ∙ clear in
+    sym (clear_by_names picked names e) ∙ sym (any-mapped (named names) picked (touched_at e)) ∙ sym (any_ordered picked (map (named names) (touched_at e))) ∙ clear in
     alike_by s t word limit (agree_names picked s t agree) (frame_on picked s t agree word limit untouched)

@@ -97,9 +97,9 @@ module _ (picked : Touch → Bool) where
       elim h.kin [
         | inl p ↦ subst (λ x. Kept i (after e on_t on_f) (after x on_t' on_f')) (sym p) (same_after i e on_t on_t' on_f on_f' h.within kt kf)
         | inr d ↦ record {
-            kin = inr (dirty_after e on_t on_f d.0 kt.grown kf.grown, dirty_after e' on_t' on_f' d.1 kt.grown' kf.grown');
-            within = (same_after i e on_t on_t' on_f on_f' h.within kt kf).within;
-          }
+          kin = inr (dirty_after e on_t on_f d.0 kt.grown kf.grown, dirty_after e' on_t' on_f' d.1 kt.grown' kf.grown');
+          within = (same_after i e on_t on_t' on_f on_f' h.within kt kf).within;
+        }
       ]
 
   pub after_pair : (i : ℕ) (g g' : State → Ending) (on_t on_t' on_f on_f' : State → State → Ending) → Pair i g g' → ((s : State) → Pair i (on_t s) (on_t' s)) → ((s : State) → Pair i (on_f s) (on_f' s)) → Pair i (λ s. after (g s) (on_t s) (on_f s)) (λ s. after (g' s) (on_t' s) (on_f' s))
@@ -182,14 +182,16 @@ module _ (picked : Touch → Bool) where
   seeks_pair i zero past d d' m a = same_pair i _ (λ s. refl)
   seeks_pair i (suc n) past d d' m a =
       after_pair i (d m) (d' m) _ _ _ _ (a.in_mode m) (λ s. same_pair i _ (found_same past m s))
-        (λ s. after_pair i (put_back m (saved_cursor s)) (put_back m (saved_cursor s)) _ _ _ _ (same_pair i _ (back_same m (saved_cursor s)))
-          (λ f. after_pair i (next m) (next m) _ _ _ _ (same_pair i _ (next_same m)) (λ b. seeks_pair i n past d d' m a) (λ b. signals_pair i false))
-          (λ f. signals_pair i false))
+      (λ s. after_pair i (put_back m (saved_cursor s)) (put_back m (saved_cursor s)) _ _ _ _ (same_pair i _ (back_same m (saved_cursor s)))
+      (λ f. after_pair i (next m) (next m) _ _ _ _ (same_pair i _ (next_same m)) (λ b. seeks_pair i n past d d' m a) (λ b. signals_pair i false))
+      (λ f. signals_pair i false))
 
   pub paid_alike : (i : ℕ) (d d' : Doing) → Alike i d d' → Alike i (paid d) (paid d')
   paid_alike i d d' a =
-      record { in_mode = λ m.
-        after_pair i (λ s. pay s.steps s) (λ s. pay s.steps s) _ _ _ _ (same_pair i _ (λ s. pay_same s.steps s)) (λ s. a.in_mode m) (λ s. signals_pair i false) }
+      record {
+        in_mode = λ m.
+            after_pair i (λ s. pay s.steps s) (λ s. pay s.steps s) _ _ _ _ (same_pair i _ (λ s. pay_same s.steps s)) (λ s. a.in_mode m) (λ s. signals_pair i false);
+      }
 
   back_pair : (i : ℕ) (m : Mode) (s : State) → Pair i (put_back m (saved_cursor s)) (put_back m (saved_cursor s))
   back_pair i m s = same_pair i _ (back_same m (saved_cursor s))
@@ -211,14 +213,14 @@ module _ (picked : Touch → Bool) where
   prefixed_pair i prefixes.GoPast d d' a m = from_pair i (λ s. suc s.steps) _ _ (λ n. seeks_pair i n true d d' m a)
   prefixed_pair i prefixes.Backwards d d' a m =
       after_pair i backwards_from backwards_from _ _ _ _ (same_pair i backwards_from (λ s. to_limit_same Forward (record s { left = s.cursor })))
-        (λ s. after_pair i _ _ _ _ _ _ (a.in_mode Backward) (λ b. same_pair i backwards_end (λ t. place_same t.left t)) (λ b. signals_pair i false))
-        (λ s. signals_pair i false)
+      (λ s. after_pair i _ _ _ _ _ _ (a.in_mode Backward) (λ b. same_pair i backwards_end (λ t. place_same t.left t)) (λ b. signals_pair i false))
+      (λ s. signals_pair i false)
 
   pub counted_pair : (i : ℕ) (x : Count) (v : Value) (d d' : Doing) → Alike i d d' → (m : Mode) → Pair i (counted_does x v d m) (counted_does x v d' m)
   counted_pair i counts.Loop v d d' a m = given_pair i v _ _ (λ z. times_pair i (count_of z) d d' m a)
   counted_pair i counts.AtLeast v d d' a m =
       after_pair i _ _ _ _ _ _ (given_pair i v _ _ (λ z. times_pair i (count_of z) d d' m a))
-        (λ s. from_pair i (λ t. suc t.steps) _ _ (λ n. turns_pair i n d d' m a)) (λ s. signals_pair i false)
+      (λ s. from_pair i (λ t. suc t.steps) _ _ (λ n. turns_pair i n d d' m a)) (λ s. signals_pair i false)
 
   pub joined_alike : (i : ℕ) (j : Joiner) (a a' b b' : Doing) → Alike i a a' → Alike i b b' → Alike i (joined_does j a b) (joined_does j a' b')
   joined_alike i Or a a' b b' h k =
@@ -229,13 +231,13 @@ module _ (picked : Touch → Bool) where
   pub limited_pair : (i : ℕ) (a a' b b' : Doing) → Alike i a a' → Alike i b b' → (m : Mode) → Pair i (limited_does a b m) (limited_does a' b' m)
   limited_pair i a a' b b' h k m =
       after_pair i _ _ _ _ _ _ (h.in_mode m)
-        (λ s. after_pair i (λ t. put_back m (saved_cursor s) (limit_here m t)) (λ t. put_back m (saved_cursor s) (limit_here m t)) _ _ _ _
-          (same_pair i _ (λ t. back_same m (saved_cursor s) (limit_here m t) ∙ here_same m t))
-          (λ t. after_pair i _ _ _ _ _ _ (k.in_mode m)
-            (λ u. same_pair i (λ v. Signals true (limit_back m (limits s) v)) (limit_back_same m (limits s)))
-            (λ u. same_pair i (λ v. Signals false (limit_back m (limits s) v)) (limit_back_same m (limits s))))
-          (λ t. signals_pair i false))
-        (λ s. signals_pair i false)
+      (λ s. after_pair i (λ t. put_back m (saved_cursor s) (limit_here m t)) (λ t. put_back m (saved_cursor s) (limit_here m t)) _ _ _ _
+      (same_pair i _ (λ t. back_same m (saved_cursor s) (limit_here m t) ∙ here_same m t))
+      (λ t. after_pair i _ _ _ _ _ _ (k.in_mode m)
+      (λ u. same_pair i (λ v. Signals true (limit_back m (limits s) v)) (limit_back_same m (limits s)))
+      (λ u. same_pair i (λ v. Signals false (limit_back m (limits s) v)) (limit_back_same m (limits s))))
+      (λ t. signals_pair i false))
+      (λ s. signals_pair i false)
 
   pub simple_pair : (i : ℕ) (x : Simple) (d d' : Doing) → Alike i d d' → (m : Mode) → Pair i (simple_does d x m) (simple_does d' x m)
   simple_pair i simples.Substring d d' a m = a.in_mode m

@@ -34,13 +34,15 @@ module _ (picked : Touch → Bool) (ns : Known) (class : List ℕ → ℕ → Bo
 
   blank_grown : (rs : trees.Rows) → RowsGrown rs → RowsGrown (row blank no_others rs)
   blank_grown rs h =
-      record { grown = λ r k w n m s.
-        let next = first_rows r rs (suc k) n in
-        grown_after picked s (paid (meaning.act ns class call r k w next blank) m s) _ (Signals false)
-          (paid_grown (meaning.act ns class call r k w next blank) m
+      record {
+        grown = λ r k w n m s.
+            let next = first_rows r rs (suc k) n in
+            grown_after picked s (paid (meaning.act ns class call r k w next blank) m s) _ (Signals false)
+            (paid_grown (meaning.act ns class call r k w next blank) m
             (choosing_grown picked k w (finds call k [] r) (λ m t. Signals true t) (λ g t. Signals true t) m (finds_grown picked call calls_grown k [] r m) (λ t. same_grown picked t _ refl) (λ g t. same_grown picked t _ refl)) s)
-          (λ t. h.grown r (suc k) false n m t)
-          (λ t. same_grown picked t _ refl) }
+            (λ t. h.grown r (suc k) false n m t)
+            (λ t. same_grown picked t _ refl);
+      }
 
   mutual
     blanks_grown : (t : trees.Command) (rest : trees.Rows) → RowsGrown rest → RowsGrown (blanks t rest)
@@ -101,13 +103,13 @@ module _ (picked : Touch → Bool) (ns : Known) (class : List ℕ → ℕ → Bo
   found_spoiled : (r : Mode) (k k' : ℕ) (gs gs' : trees.Groups) → holes (suc k) ≡ true → k' ≡ k → Alike picked i (finds call k (offers 0 gs) r) (finds call' k' (offers 0 gs') r)
   found_spoiled r k k' gs gs' c p =
       subst (λ j. Alike picked i (finds call k (offers 0 gs) r) (finds call' j (offers 0 gs') r)) (sym p)
-        (finds_spoiled picked call call' i calls_alike k (spot k ∙ c) (offers 0 gs) (offers 0 gs') r r)
+      (finds_spoiled picked call call' i calls_alike k (spot k ∙ c) (offers 0 gs) (offers 0 gs') r r)
 
   found_alike : (r : Mode) (k k' j : ℕ) (gs : trees.Groups) → holes (suc k) ≡ false → k' ≡ k → Alike picked i (finds call k (offers 0 gs) r) (finds call' k' (offers 0 (groups_with_holes holes j gs)) r)
   found_alike r k k' j gs c p =
       subst (λ l. Alike picked i (finds call k (offers 0 gs) r) (finds call' l (offers 0 (groups_with_holes holes j gs)) r)) (sym p)
-        (subst (λ os. Alike picked i (finds call k (offers 0 gs) r) (finds call' k os r)) (sym (offers_same holes gs j 0))
-          (finds_alike picked call call' i calls_alike k (spot k ∙ c) (offers 0 gs) r))
+      (subst (λ os. Alike picked i (finds call k (offers 0 gs) r) (finds call' k os r)) (sym (offers_same holes gs j 0))
+      (finds_alike picked call call' i calls_alike k (spot k ∙ c) (offers 0 gs) r))
 
   like_among : (r : Mode) (k k' : ℕ) (st : trees.Starter) (gs : trees.Groups) (n' : Option Among) (b : Bool) → holes (suc k) ≡ b → k' ≡ k
       → Like (Some (among_at r k gs)) (first r (if b then hole st gs else among_ (starter_with_holes holes (suc k) st) (groups_with_holes holes (behind_starter st (suc k)) gs)) k' n')
@@ -148,8 +150,8 @@ module _ (picked : Touch → Bool) (ns : Known) (class : List ℕ → ℕ → Bo
   name_pair : (x : List ℕ) (m : Mode) → Pair picked i (meaning.name_does ns class call x m) (meaning.name_does ns class call' x m)
   name_pair x m =
       if_pair picked i (is_among ns.strings x) _ _ _ _ (same_pair picked i (λ s. match (slice_index_or s.strings (place_of ns.strings x) []) m s) (λ s. match_same (slice_index_or s.strings (place_of ns.strings x) []) m s))
-        (if_pair picked i (is_among ns.booleans x) _ _ _ _ (same_pair picked i _ (λ s. refl))
-          (if_pair picked i (is_among ns.groupings x) _ _ _ _ (same_pair picked i _ (class_same true (class x) m)) ((calls_alike x).in_mode m)))
+      (if_pair picked i (is_among ns.booleans x) _ _ _ _ (same_pair picked i _ (λ s. refl))
+      (if_pair picked i (is_among ns.groupings x) _ _ _ _ (same_pair picked i _ (class_same true (class x) m)) ((calls_alike x).in_mode m)))
 
   abbrev does : Mode → ℕ → Bool → Option Among → trees.Command → Doing
   does = meaning.act ns class call
@@ -160,24 +162,28 @@ module _ (picked : Touch → Bool) (ns : Known) (class : List ℕ → ℕ → Bo
   among_alike : (r : Mode) (k : ℕ) (w : Bool) (n n' : Option Among) (st : trees.Starter) (gs : trees.Groups) (b : Bool) → holes (suc k) ≡ b
       → Alike picked i (meaning.starter_does ns class call r (suc k) st) (meaning.starter_does ns class call' r (suc k) (starter_with_holes holes (suc k) st))
       → ((g : ℕ) → Alike picked i (meaning.group_does ns class call r (behind_starter st (suc k)) gs g)
-          (meaning.group_does ns class call' r (behind_starter (starter_with_holes holes (suc k) st) (suc k)) (groups_with_holes holes (behind_starter st (suc k)) gs) g))
+      (meaning.group_does ns class call' r (behind_starter (starter_with_holes holes (suc k) st) (suc k)) (groups_with_holes holes (behind_starter st (suc k)) gs) g))
       → Alike picked i (does r k w n (among_ st gs)) (does' r k w n' (if b then hole st gs else among_ (starter_with_holes holes (suc k) st) (groups_with_holes holes (behind_starter st (suc k)) gs)))
   among_alike r k w n n' st gs true e starts groups =
       let calls_grown = grown_call' picked call call' i calls_alike in
       let inside = in_hole picked ns class call' calls_grown st gs in
-      record { in_mode = λ m.
-        hole_pair picked call call' i calls_alike k (spot k ∙ e) (offers 0 gs) (offers 0 inside) r r
-          (meaning.starter_does ns class call r (suc k) st) (λ m s. Signals true s)
-          (λ g. meaning.group_does ns class call r (behind_starter st (suc k)) gs g m) (λ g. meaning.group_does ns class call' r (suc k) inside g m) m
-          (starts.in_mode m).grown (λ s. same_grown picked s _ refl) (λ g. ((groups g).in_mode m).grown) (λ g. in_hole_grown picked ns class call' calls_grown st gs r (suc k) g m) w }
+      record {
+        in_mode = λ m.
+            hole_pair picked call call' i calls_alike k (spot k ∙ e) (offers 0 gs) (offers 0 inside) r r
+            (meaning.starter_does ns class call r (suc k) st) (λ m s. Signals true s)
+            (λ g. meaning.group_does ns class call r (behind_starter st (suc k)) gs g m) (λ g. meaning.group_does ns class call' r (suc k) inside g m) m
+            (starts.in_mode m).grown (λ s. same_grown picked s _ refl) (λ g. ((groups g).in_mode m).grown) (λ g. in_hole_grown picked ns class call' calls_grown st gs r (suc k) g m) w;
+      }
   among_alike r k w n n' st gs false e starts groups =
       let l = behind_starter (starter_with_holes holes (suc k) st) (suc k) in
       let inside = groups_with_holes holes (behind_starter st (suc k)) gs in
-      record { in_mode = λ m.
-        choosing_pair picked call call' i calls_alike k w (finds call k (offers 0 gs) r) (finds call' k (offers 0 inside) r)
-          (meaning.starter_does ns class call r (suc k) st) (meaning.starter_does ns class call' r (suc k) (starter_with_holes holes (suc k) st))
-          (λ g. meaning.group_does ns class call r (behind_starter st (suc k)) gs g m) (λ g. meaning.group_does ns class call' r l inside g m) m
-          (found_alike r k k (behind_starter st (suc k)) gs e refl) starts (λ g. (groups g).in_mode m) }
+      record {
+        in_mode = λ m.
+            choosing_pair picked call call' i calls_alike k w (finds call k (offers 0 gs) r) (finds call' k (offers 0 inside) r)
+            (meaning.starter_does ns class call r (suc k) st) (meaning.starter_does ns class call' r (suc k) (starter_with_holes holes (suc k) st))
+            (λ g. meaning.group_does ns class call r (behind_starter st (suc k)) gs g m) (λ g. meaning.group_does ns class call' r l inside g m) m
+            (found_alike r k k (behind_starter st (suc k)) gs e refl) starts (λ g. (groups g).in_mode m);
+      }
 
   mutual
     pub act_alike : (t : trees.Command) (r : Mode) (k k' : ℕ) (w w' : Bool) (n n' : Option Among) → k' ≡ k → w' ≡ w → Like n n' → Alike picked i (does r k w n t) (does' r k' w' n' (with_holes holes k t))
@@ -197,18 +203,20 @@ module _ (picked : Touch → Bool) (ns : Known) (class : List ℕ → ℕ → Bo
     act_alike (setlimit_ b c) r k k' w w' n n' p q h =
         let p1 = behind_same holes b k k' p in
         let ahead = first_like c r (behind b k) _ n n' p1 h in
-        record { in_mode = λ m.
-          limited_pair picked i _ _ _ _ (paid_alike picked i _ _ (act_alike b r k k' w w' _ _ p q ahead))
-            (paid_alike picked i _ _ (act_alike c r (behind b k) _ (waits b w) _ n n' p1 (waits_same holes b k w w' q) h)) m }
+        record {
+          in_mode = λ m.
+              limited_pair picked i _ _ _ _ (paid_alike picked i _ _ (act_alike b r k k' w w' _ _ p q ahead))
+              (paid_alike picked i _ _ (act_alike c r (behind b k) _ (waits b w) _ n n' p1 (waits_same holes b k w w' q) h)) m;
+        }
     act_alike (assign_ x o e) r k k' w w' n n' p q h = record { in_mode = λ m. same_pair picked i _ (λ s. assigned_same (place_of ns.integers x) o (worth ns e m s) s) }
     act_alike (compare_ x o e) r k k' w w' n n' p q h = record { in_mode = λ m. same_pair picked i _ (λ s. compared_same o (Ok (integer_at (place_of ns.integers x) s)) (worth ns e m s) s) }
     act_alike (compare_values_ e o f) r k k' w w' n n' p q h = record { in_mode = λ m. same_pair picked i _ (λ s. compared_same o (worth ns e m s) (worth ns f m s) s) }
     act_alike (among_ st gs) r k k' w w' n n' p q h =
         let t = among_ st gs in
         subst (λ j. Alike picked i (does r k w n t) (does' r j w' n' (with_holes holes k t))) (sym p)
-          (subst (λ v. Alike picked i (does r k w n t) (does' r k v n' (with_holes holes k t))) (sym q)
-            (among_alike r k w n n' st gs (holes (suc k)) refl (starter_alike st r (suc k) (suc k) refl)
-              (λ g. groups_alike gs g r (behind_starter st (suc k)) _ (behind_starter_same holes st (suc k) (suc k) refl))))
+        (subst (λ v. Alike picked i (does r k w n t) (does' r k v n' (with_holes holes k t))) (sym q)
+        (among_alike r k w n n' st gs (holes (suc k)) refl (starter_alike st r (suc k) (suc k) refl)
+        (λ g. groups_alike gs g r (behind_starter st (suc k)) _ (behind_starter_same holes st (suc k) (suc k) refl))))
 
     rows_alike : (rs : trees.Rows) (r : Mode) (k k' : ℕ) (w w' : Bool) (n n' : Option Among) → k' ≡ k → w' ≡ w → Like n n' → Alike picked i (meaning.rows_do ns class call r k w n rs) (meaning.rows_do ns class call' r k' w' n' (rows_with_holes holes k rs))
     rows_alike no_rows r k k' w w' n n' p q h = record { in_mode = λ m. signals_pair picked i true }
@@ -219,11 +227,13 @@ module _ (picked : Touch → Bool) (ns : Known) (class : List ℕ → ℕ → Bo
         let q2 = waits_others_same holes os (behind c k) _ _ q1 in
         let h2 = first_rows_like rs r (behind_others os (behind c k)) _ n n' p2 h in
         let h1 = first_others_like os r (behind c k) _ _ _ p1 h2 in
-        record { in_mode = λ m.
-          after_pair picked i _ _ _ _ _ _
-            ((paid_alike picked i _ _ (others_alike os r (behind c k) _ (waits c w) _ _ _ _ _ p1 q1 h2 (act_alike c r k k' w w' _ _ p q h1))).in_mode m)
-            (λ s. (rows_alike rs r (behind_others os (behind c k)) _ (waits_others os (waits c w)) _ n n' p2 q2 h).in_mode m)
-            (λ s. signals_pair picked i false) }
+        record {
+          in_mode = λ m.
+              after_pair picked i _ _ _ _ _ _
+              ((paid_alike picked i _ _ (others_alike os r (behind c k) _ (waits c w) _ _ _ _ _ p1 q1 h2 (act_alike c r k k' w w' _ _ p q h1))).in_mode m)
+              (λ s. (rows_alike rs r (behind_others os (behind c k)) _ (waits_others os (waits c w)) _ n n' p2 q2 h).in_mode m)
+              (λ s. signals_pair picked i false);
+        }
 
     pub others_alike : (os : trees.Others) (r : Mode) (k k' : ℕ) (w w' : Bool) (n n' : Option Among) (d d' : Doing) → k' ≡ k → w' ≡ w → Like n n' → Alike picked i d d' → Alike picked i (meaning.others_do ns class call r k w n os d) (meaning.others_do ns class call' r k' w' n' (others_with_holes holes k os) d')
     others_alike no_others r k k' w w' n n' d d' p q h a = a
@@ -231,7 +241,7 @@ module _ (picked : Touch → Bool) (ns : Known) (class : List ℕ → ℕ → Bo
         let p1 = behind_same holes c k k' p in
         let h1 = first_others_like os r (behind c k) _ n n' p1 h in
         others_alike os r (behind c k) _ (waits c w) _ n n' _ _ p1 (waits_same holes c k w w' q) h
-          (joined_alike picked i j _ _ _ _ (paid_alike picked i d d' a) (paid_alike picked i _ _ (act_alike c r k k' w w' _ _ p q h1)))
+        (joined_alike picked i j _ _ _ _ (paid_alike picked i d d' a) (paid_alike picked i _ _ (act_alike c r k k' w w' _ _ p q h1)))
 
     starter_alike : (st : trees.Starter) (r : Mode) (k k' : ℕ) → k' ≡ k → Alike picked i (meaning.starter_does ns class call r k st) (meaning.starter_does ns class call' r k' (starter_with_holes holes k st))
     starter_alike no_starter r k k' p = record { in_mode = λ m. signals_pair picked i true }

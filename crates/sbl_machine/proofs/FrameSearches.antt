@@ -38,10 +38,10 @@ module _ (picked : Touch → Bool) where
     take_grown k None m from go h s = h s
     take_grown k (Some o) m from go h s =
         grown_after picked s _ _ _ (place_grown m from (length o.string) s)
-          (λ a. grown_after picked a _ _ _ (condition_grown o.condition m a)
-            (λ b. grown_after picked b _ _ _ (place_grown m from (length o.string) b) (λ c. record { up = λ d. d; here = refl }) (λ c. same_grown picked c _ refl))
-            h)
-          (λ a. same_grown picked a _ refl)
+        (λ a. grown_after picked a _ _ _ (condition_grown o.condition m a)
+        (λ b. grown_after picked b _ _ _ (place_grown m from (length o.string) b) (λ c. record { up = λ d. d; here = refl }) (λ c. same_grown picked c _ refl))
+        h)
+        (λ a. same_grown picked a _ refl)
 
     tried_grown : (k : ℕ) (os : List Offer) (r m : Mode) (from : State) (x : List ℕ) (l : ℕ) (s : State) → Grown picked s (tried call k os r m from x l s)
     tried_grown k os r m from x zero s = record { up = λ d. d; here = refl }
@@ -69,8 +69,8 @@ module _ (picked : Touch → Bool) where
   begins_grown true d b m h k s = same_grown picked s _ refl
   begins_grown false d b m h k s =
       grown_after picked s (paid d m s) (b m) (Signals false)
-        (grown_after picked s (pay s.steps s) (d m) (Signals false) (same_grown picked s _ (pay_same s.steps s)) h (λ t. same_grown picked t _ refl))
-        k (λ t. same_grown picked t _ refl)
+      (grown_after picked s (pay s.steps s) (d m) (Signals false) (same_grown picked s _ (pay_same s.steps s)) h (λ t. same_grown picked t _ refl))
+      k (λ t. same_grown picked t _ refl)
 
   -- an among: what is done before its choice, and what is done with it
   abbrev pub choosing : ℕ → Ending → (ℕ → State → Ending) → Ending
@@ -113,10 +113,10 @@ module _ (picked : Touch → Bool) where
     take_pair k n None m from go go' h = h
     take_pair k n (Some o) m from go go' h =
         after_pair picked i _ _ _ _ _ _ (place_pair m from (length o.string))
-          (λ s. after_pair picked i _ _ _ _ _ _ (condition_pair o.condition m)
-            (λ a. after_pair picked i _ _ _ _ _ _ (place_pair m from (length o.string)) (λ b. choose_pair true k (Some o.group) n) (λ b. signals_pair picked i false))
-            (λ a. h))
-          (λ s. signals_pair picked i false)
+        (λ s. after_pair picked i _ _ _ _ _ _ (condition_pair o.condition m)
+        (λ a. after_pair picked i _ _ _ _ _ _ (place_pair m from (length o.string)) (λ b. choose_pair true k (Some o.group) n) (λ b. signals_pair picked i false))
+        (λ a. h))
+        (λ s. signals_pair picked i false)
 
     tried_pair : (k : ℕ) → picked (Searched i k) ≡ false → (os : List Offer) (r m : Mode) (from : State) (x : List ℕ) (l : ℕ) → Pair picked i (tried call k os r m from x l) (tried call' k os r m from x l)
     tried_pair k n os r m from x zero = choose_pair false k None n
@@ -140,21 +140,25 @@ module _ (picked : Touch → Bool) where
     -- the search of an among that is not picked
     pub finds_alike : (k : ℕ) → picked (Searched i k) ≡ false → (os : List Offer) (r : Mode) → Alike picked i (finds call k os r) (finds call' k os r)
     finds_alike k n os r =
-        record { in_mode = λ m.
-          touched_pair k
-            (λ t. tried call k os r m t (ahead_at r t.text t.cursor (bound_in m t)) (suc (length (ahead_at r t.text t.cursor (bound_in m t)))) t)
-            (λ t. tried call' k os r m t (ahead_at r t.text t.cursor (bound_in m t)) (suc (length (ahead_at r t.text t.cursor (bound_in m t)))) t)
-            (from_pair picked i (λ s. s)
+        record {
+          in_mode = λ m.
+              touched_pair k
+              (λ t. tried call k os r m t (ahead_at r t.text t.cursor (bound_in m t)) (suc (length (ahead_at r t.text t.cursor (bound_in m t)))) t)
+              (λ t. tried call' k os r m t (ahead_at r t.text t.cursor (bound_in m t)) (suc (length (ahead_at r t.text t.cursor (bound_in m t)))) t)
+              (from_pair picked i (λ s. s)
               (λ x s. tried call k os r m x (ahead_at r x.text x.cursor (bound_in m x)) (suc (length (ahead_at r x.text x.cursor (bound_in m x)))) s)
               (λ x s. tried call' k os r m x (ahead_at r x.text x.cursor (bound_in m x)) (suc (length (ahead_at r x.text x.cursor (bound_in m x)))) s)
-              (λ x. tried_pair k n os r m x (ahead_at r x.text x.cursor (bound_in m x)) (suc (length (ahead_at r x.text x.cursor (bound_in m x))))) ) }
+              (λ x. tried_pair k n os r m x (ahead_at r x.text x.cursor (bound_in m x)) (suc (length (ahead_at r x.text x.cursor (bound_in m x))))));
+        }
 
     -- that of one that is
     pub finds_spoiled : (k : ℕ) → picked (Searched i k) ≡ true → (os os' : List Offer) (r r' : Mode) → Alike picked i (finds call k os r) (finds call' k os' r')
     finds_spoiled k c os os' r r' =
-        record { in_mode = λ m.
-          spoiled_pair picked i _ _ (finds_grown call grown_call k os r m) (finds_grown call' grown_call' k os' r' m)
-            (finds_dirty call grown_call i k c os r m) (finds_dirty call' grown_call' i k c os' r' m) }
+        record {
+          in_mode = λ m.
+              spoiled_pair picked i _ _ (finds_grown call grown_call k os r m) (finds_grown call' grown_call' k os' r' m)
+              (finds_dirty call grown_call i k c os r m) (finds_dirty call' grown_call' i k c os' r' m);
+        }
 
     -- ---- amongs
 
@@ -166,8 +170,8 @@ module _ (picked : Touch → Bool) where
     pub choosing_pair : (k : ℕ) (w : Bool) (d d' b b' : Doing) (go go' : ℕ → State → Ending) (m : Mode) → Alike picked i d d' → Alike picked i b b' → ((g : ℕ) → Pair picked i (go g) (go' g)) → Pair picked i (λ s. choosing k (begins w d b m s) go) (λ s. choosing k (begins w d' b' m s) go')
     choosing_pair k w d d' b b' go go' m h j l =
         after_pair picked i _ _ _ _ _ _ (begins_pair w d d' b b' h j m)
-          (λ s. from_pair picked i (choice k) _ _ (λ o. chosen_pair picked i o go go' l))
-          (λ s. signals_pair picked i false)
+        (λ s. from_pair picked i (choice k) _ _ (λ o. chosen_pair picked i o go go' l))
+        (λ s. signals_pair picked i false)
 
     quiet_kept : (k : ℕ) → picked (Searched i k) ≡ true → (go go' : ℕ → State → Ending) → ((g : ℕ) (s : State) → Grown picked s (go g s)) → ((g : ℕ) (s : State) → Grown picked s (go' g s)) → (s : State) → Within picked i s → (b : Bool) → dirty picked s ≡ b
         → Kept picked i (chosen (choice k s) s (λ g. go g s)) (chosen (choice k s) s (λ g. go' g s))
@@ -190,7 +194,7 @@ module _ (picked : Touch → Bool) where
     behind_dirty : (k : ℕ) (b : Doing) (go : ℕ → State → Ending) (m : Mode) → ((s : State) → Grown picked s (b m s)) → ((g : ℕ) (s : State) → Grown picked s (go g s)) → (e : Ending) → dirty_at picked e ≡ true → dirty_at picked (choosing k (after e (b m) (Signals false)) go) ≡ true
     behind_dirty k b go m h l e d =
         dirty_after picked (after e (b m) (Signals false)) (λ t. chosen (choice k t) t (λ g. go g t)) (Signals false)
-          (dirty_after picked e (b m) (Signals false) d h (λ t. same_grown picked t _ refl)) (λ t. chosen_grown (choice k t) go l t) (λ t. same_grown picked t _ refl)
+        (dirty_after picked e (b m) (Signals false) d h (λ t. same_grown picked t _ refl)) (λ t. chosen_grown (choice k t) go l t) (λ t. same_grown picked t _ refl)
 
     -- one that is picked, with anything in it
     module _ (k : ℕ) (c : picked (Searched i k) ≡ true) (os os' : List Offer) (r r' : Mode) (b b' : Doing) (go go' : ℕ → State → Ending) (m : Mode)

@@ -74,7 +74,7 @@ hole_same : (s s' : Starter) (gs gs' : Groups) → count_in_among (s', gs') ≡ 
 hole_same s s' gs gs' e =
     let n : count_in_starter s' + count_in_groups gs' ≡ count_in_starter s + count_in_groups gs = omega (arith, e) in
     let same : blanks_starter s' (blanks_groups gs' no_rows) ≡ blanks_starter s (blanks_groups gs no_rows) =
-          inside_many s' gs' ∙ ap (λ (x : ℕ). so_many x no_rows) n ∙ sym (inside_many s gs) in
+    inside_many s' gs' ∙ ap (λ (x : ℕ). so_many x no_rows) n ∙ sym (inside_many s gs) in
     ap (λ (rs : Rows). among_ no_starter (group (entry nothing None) [] rs (bare []))) same
 
 -- ---- the number behind a part is its number and its amongs
@@ -238,10 +238,10 @@ module _ (k : ℕ) (a : Starter × Groups) (holes : ℕ → Bool) (only : (j : �
         let g : l - 1 - count_in_starter s ≡ k - behind_starter s (suc j) = omega (arith, e, n) in
         let more = amongs_of_starter s d (amongs_of_groups gs d rest) in
         among_put s gs d l j rest e many
-          (λ ne. starter_put s d (l - 1) (suc j) (amongs_of_groups gs d rest) f (many_inside l (d, s, gs) more ne many))
-          (λ ne. groups_put gs d (l - 1 - count_in_starter s) (behind_starter s (suc j)) rest g
-            (many_behind (count_in_starter s) (λ r. amongs_of_starter s d r) (starter_counts s d) (l - 1) (amongs_of_groups gs d rest) (many_inside l (d, s, gs) more ne many)))
-          (nat_eq l 1) refl
+        (λ ne. starter_put s d (l - 1) (suc j) (amongs_of_groups gs d rest) f (many_inside l (d, s, gs) more ne many))
+        (λ ne. groups_put gs d (l - 1 - count_in_starter s) (behind_starter s (suc j)) rest g
+        (many_behind (count_in_starter s) (λ r. amongs_of_starter s d r) (starter_counts s d) (l - 1) (amongs_of_groups gs d rest) (many_inside l (d, s, gs) more ne many)))
+        (nat_eq l 1) refl
 
     rows_put : (rs : Rows) (d l j : ℕ) (rest : List Held) → l ≡ k - j → AsMany l (amongs_of_rows rs d rest) → RowsSame j rs (put_in_rows rs l a)
     rows_put no_rows d l j rest e many = record { same = λ j' p. refl; count = refl }

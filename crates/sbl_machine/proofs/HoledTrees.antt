@@ -72,8 +72,8 @@ module _ (holes : ℕ → Bool) where
     behind_same (among_ s gs) k k' p =
         let n : suc k' ≡ suc k = ap suc p in
         behind_either (holes (suc k)) (hole s gs) (among_ (starter_with_holes holes (suc k) s) (groups_with_holes holes (behind_starter s (suc k)) gs)) k' (behind (among_ s gs) k)
-          (ap (behind (hole s gs)) p ∙ hole_same s gs k)
-          (behind_groups_same gs (behind_starter s (suc k)) _ (behind_starter_same s (suc k) (suc k') n))
+        (ap (behind (hole s gs)) p ∙ hole_same s gs k)
+        (behind_groups_same gs (behind_starter s (suc k)) _ (behind_starter_same s (suc k) (suc k') n))
 
     pub behind_rows_same : (rs : Rows) (k k' : ℕ) → k' ≡ k → behind_rows (rows_with_holes holes k rs) k' ≡ behind_rows rs k
     behind_rows_same no_rows k k' p = p
