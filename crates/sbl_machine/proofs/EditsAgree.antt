@@ -1,20 +1,18 @@
 -- A script after an edit agrees with it outside the item that was replaced.
-use Rattle.std.proofs.Common.{◌≡◌, ◌∙◌, ◌||◌, ◌&&◌, ℕ, suc, Bool, true, false, nat_eq, if◌then◌else◌, List, [], ◌∷◌, map, Option, Some, None, Result, Ok, Err, refl, sym, ap, subst}
+use Rattle.std.proofs.Common.{◌≡◌, ◌∙◌, ◌||◌, ◌&&◌, ℕ, Bool, true, false, nat_eq, if◌then◌else◌, List, [], ◌∷◌, map, Option, Some, None, Ok, refl, sym, ap, subst}
 use Rattle.std.specs.List.{list_any}
 use Rattle.std.specs.Option.{option_or, is_some}
 use Rattle.std.specs.Str.{bytes_eq}
-use Rattle.std.proofs.lemmas.Bool.{true≢false, eqb-true, eq-eqb}
+use Rattle.std.proofs.lemmas.Bool.{eqb-true}
 use Rattle.std.proofs.lemmas.Slice.Eq.{bytes_eq-Decides}
 use Rattle.sbl_tree.specs.Tree.{Command, Others, Starter, Groups, Plain, Item, bracket, no_rows, no_others, declaration, escapes, macro, routine, grouping, plain, backward}
 use Rattle.sbl_tree.specs.View.{RowView}
-use Rattle.sbl_grammar.specs.Amongs.{Held, amongs_of_body, nth_held, count_in_among, count_amongs, put_in_body, put_among, put_in_others}
-use Rattle.sbl_grammar.specs.Texts.{TreeOf}
+use Rattle.sbl_grammar.specs.Amongs.{Held, amongs_of_body, nth_held, count_in_among, put_in_body}
 use Rattle.sbl_program.specs.Regions.{behind}
-use Rattle.sbl_script.specs.declared.edit_fault.EditFault.{EditFault}
-use Rattle.sbl_script.specs.Edits.{ScriptEdit, body, among, routine_name, is_routine, body_if, routine_in, routine_of, holds_routine, plains_with, item_with, items_with, Home, home, home_in, home_of_body, home_of_among, home_of_held, IsSubstituted, IsEdited}
+use Rattle.sbl_script.specs.Edits.{ScriptEdit, body, among, routine_name, is_routine, routine_in, routine_of, plains_with, items_with, Home, home_in, home_of_body, home_of_among, home_of_held, IsSubstituted}
 use Rattle.sbl_script.specs.Parsed.{Source}
 use Rattle.sbl_machine.specs.Frame.{AgreeOutside, EditsAgree, NamesStay, UntouchedStay}
-use Rattle.sbl_machine.specs.Holes.{with_holes, others_with_holes, holed_plain, holed_item, holed_script}
+use Rattle.sbl_machine.specs.Holes.{with_holes, others_with_holes, holed_plain, holed_item}
 use Rattle.sbl_machine.specs.Meaning.{ending}
 use Rattle.sbl_machine.specs.Outcome.{touched_at, touches_of}
 use Rattle.sbl_machine.specs.Touched.{Item', Routine, Among, named, replaced, routine_names, same_item, touches}

@@ -3,14 +3,14 @@ use Rattle.std.proofs.Common.{◌≡◌, ◌∙◌, ℕ, zero, suc, Bool, true, 
 use Rattle.std.specs.Prelude.{slice_index_or}
 use Rattle.std.specs.List.{list_any}
 use Rattle.std.proofs.lemmas.Bool.{true≢false}
-use Rattle.sbl_tree.specs.Tree.{Command, Others, bracket, no_rows, no_others}
+use Rattle.sbl_tree.specs.Tree.{bracket, no_rows, no_others}
 use Rattle.sbl_tree.specs.declared.mode.Mode.{Mode}
 use Rattle.sbl_tree.specs.declared.mode.Mode.TheVariants.{Forward}
 use Rattle.sbl_program.specs.Items.{ItemInMode, Known, in_order, known_in, class_of, classes_behind, routines_in, place_of, Body, body_named}
 use Rattle.sbl_program.specs.Regions.{behind, behind_others}
 use Rattle.sbl_machine.specs.declared.fault.RunFault.TheVariants.{Depth}
 use Rattle.sbl_machine.specs.declared.touch.Touch.{Touch}
-use Rattle.sbl_machine.specs.declared.touch.Touch.TheVariants.{Entered, Searched}
+use Rattle.sbl_machine.specs.declared.touch.Touch.TheVariants.{Entered}
 use Rattle.sbl_machine.specs.Frame.{AgreeOutside, RunsAlike, Frame}
 use Rattle.sbl_machine.specs.Holes.{with_holes, others_with_holes, holed_script}
 use Rattle.sbl_machine.specs.Meaning.{row_does, body_does, calls, start, ending}
@@ -21,7 +21,7 @@ use Rattle.sbl_machine.specs.Touched.{Item', Routine, Among, named, routine_name
 use Rattle.sbl_machine.proofs.TouchedOrder.{any_ordered, any-mapped}
 use Rattle.sbl_machine.proofs.Touching.{with_chosen, with_grows, not_then, filled}
 use Rattle.sbl_machine.proofs.Stays.{ended, pay_same}
-use Rattle.sbl_machine.proofs.FramePairs.{dirty, dirty_at, Grown, Within, WithinAt, Kept, Pair, Alike, grown_after, same_grown, same_pair, signals_pair, spoiled_pair, paid_alike}
+use Rattle.sbl_machine.proofs.FramePairs.{dirty, dirty_at, Grown, Within, WithinAt, Pair, Alike, grown_after, same_grown, same_pair, signals_pair, spoiled_pair, paid_alike}
 use Rattle.sbl_machine.proofs.FrameRuns.{row_alike}
 use Rattle.sbl_machine.proofs.HoledTrees.{behind_same, behind_others_same}
 use Rattle.sbl_machine.proofs.HoledScripts.{holed_items, order_holed, known_same, classes_same, names_same, hole_of, holed_body, bodies_holed, name_stands}

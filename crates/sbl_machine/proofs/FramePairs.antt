@@ -1,5 +1,5 @@
 -- Two ways of doing a thing that are the same unless something that is picked is touched.
-use Rattle.std.proofs.Common.{◌≡◌, ℕ, ℤ, zero, suc, Bool, true, false, List, [], refl, sym, ap, ◌∙◌, subst, ◌⊎◌, inl, inr, Option, Some, None, Ok, Err}
+use Rattle.std.proofs.Common.{◌≡◌, ℕ, ℤ, zero, suc, Bool, true, false, [], refl, sym, ap, ◌∙◌, subst, ◌⊎◌, inl, inr, Option, Some, None, Ok, Err}
 use Rattle.std.specs.Prelude.{if◌then◌else◌, slice_index_or}
 use Rattle.std.specs.List.{list_any}
 use Rattle.std.proofs.lemmas.Bool.{true≢false}
@@ -13,16 +13,15 @@ use Rattle.sbl_tree.specs.declared.tree.Simple.{Simple}
 use Rattle.sbl_tree.specs.declared.tree.Simple.TheVariants as simples
 use Rattle.sbl_tree.specs.declared.mode.Mode.{Mode}
 use Rattle.sbl_tree.specs.declared.mode.Mode.TheVariants.{Forward, Backward}
-use Rattle.sbl_machine.specs.declared.fault.RunFault.{RunFault}
 use Rattle.sbl_machine.specs.declared.touch.Touch.{Touch}
 use Rattle.sbl_machine.specs.declared.touch.Touch.TheVariants.{Searched}
 use Rattle.sbl_machine.specs.Meaning.{prefixed_does, counted_does, joined_does, limited_does, simple_does}
 use Rattle.sbl_machine.specs.Moves.{next}
 use Rattle.sbl_machine.specs.Numbers.{Value, given}
-use Rattle.sbl_machine.specs.Run.{turns, times, count_of, seeks, found, limits, limit_here, limit_back, backwards_from, backwards_end, chosen, paid}
+use Rattle.sbl_machine.specs.Run.{turns, times, count_of, seeks, limits, limit_here, limit_back, backwards_from, backwards_end, chosen, paid}
 use Rattle.sbl_machine.specs.Search.{choice}
 use Rattle.sbl_machine.specs.State.{State, Ending, Signals, Stops, Doing, after, then_on, pay, saved_cursor, put_back}
-use Rattle.sbl_machine.proofs.Stays.{Rest, rest, ended, Same, pay_same, place_same, to_limit_same, back_same, next_same, found_same, here_same, limit_back_same, left_same, right_same, replace_same}
+use Rattle.sbl_machine.proofs.Stays.{Rest, ended, Same, pay_same, place_same, to_limit_same, back_same, next_same, found_same, here_same, limit_back_same, left_same, right_same, replace_same}
 
 -- the routine that runs is back at an ending with a signal
 abbrev pub Here : ℕ → Ending → Type 0

@@ -1,5 +1,5 @@
 -- Searches, and the among behind one, in two ways that are the same unless something that is picked is touched.
-use Rattle.std.proofs.Common.{◌≡◌, ℕ, zero, suc, Bool, true, false, List, [], length, refl, sym, ap, ◌∙◌, subst, inl, inr, Option, Some, None}
+use Rattle.std.proofs.Common.{◌≡◌, ℕ, zero, suc, Bool, true, false, List, length, refl, sym, ap, ◌∙◌, subst, inl, inr, Option, Some, None}
 use Rattle.std.specs.Prelude.{take, ◌≢◌}
 use Rattle.std.proofs.lemmas.Bool.{true≢false}
 use Rattle.std.proofs.lemmas.List.{get_or-set_other}
@@ -10,10 +10,10 @@ use Rattle.sbl_machine.specs.declared.touch.Touch.TheVariants.{Searched}
 use Rattle.sbl_machine.specs.Meaning.{Offer, offering, condition_does, takes, tried, begins}
 use Rattle.sbl_machine.specs.Run.{chosen, paid}
 use Rattle.sbl_machine.specs.Search.{choose, choice, touch_among, bound_in}
-use Rattle.sbl_machine.specs.State.{State, Ending, Signals, Stops, Doing, after, then_on, pay, saved_cursor, put_back, place_after, step_over}
+use Rattle.sbl_machine.specs.State.{State, Ending, Signals, Doing, after, then_on, pay, saved_cursor, put_back, place_after, step_over}
 use Rattle.sbl_machine.proofs.Touching.{with_chosen, with_grows, not_then}
 use Rattle.sbl_machine.proofs.Stays.{pay_same, back_same, over_same}
-use Rattle.sbl_machine.proofs.FramePairs.{Here, dirty, dirty_at, Grown, Within, WithinAt, Kept, Pair, Alike, here_from, grown_after, dirty_after, within_dirty, after_pair, from_pair, same_grown, same_pair, signals_pair, spoiled_pair, chosen_pair, paid_alike}
+use Rattle.sbl_machine.proofs.FramePairs.{Here, dirty, dirty_at, Grown, Within, Kept, Pair, Alike, here_from, grown_after, dirty_after, within_dirty, after_pair, from_pair, same_grown, same_pair, signals_pair, spoiled_pair, chosen_pair, paid_alike}
 
 -- the search of an among, by its number, its strings and the mode of its place
 abbrev pub finds : (List ℕ → Doing) → ℕ → List Offer → Mode → Doing

@@ -1,13 +1,12 @@
 -- Holes leave a script its names and its groupings, and each routine its own body with holes.
-use Rattle.std.proofs.Common.{◌≡◌, ◌∙◌, ℕ, suc, Bool, true, false, List, [], ◌∷◌, map, Option, Some, None, option_map, refl, sym, ap, subst}
+use Rattle.std.proofs.Common.{◌≡◌, ◌∙◌, ℕ, suc, Bool, true, false, List, [], ◌∷◌, map, Option, Some, None, option_map, refl, ap}
 use Rattle.std.specs.Prelude.{if◌then◌else◌, slice_index_or}
 use Rattle.std.specs.Str.{bytes_eq}
 use Rattle.std.proofs.lemmas.Slice.Eq.{bytes_eq-Decides}
 use Rattle.sbl_tree.specs.Tree.{Command, Others, Plain, Item, bracket, no_rows, no_others, declaration, escapes, macro, routine, grouping, plain, backward}
-use Rattle.sbl_tree.specs.declared.tree.DeclarationKind.TheVariants as kinds
 use Rattle.sbl_tree.specs.declared.mode.Mode.{Mode}
 use Rattle.sbl_tree.specs.declared.mode.Mode.TheVariants.{Forward, Backward}
-use Rattle.sbl_program.specs.Items.{ItemInMode, in_mode, in_order, Known, place_of, strings_with, integers_with, booleans_with, groupings_with, routines_with, strings_in, integers_in, booleans_in, groupings_in, routines_in, known_in, Grouping, and_grouping, classes_behind, Body, body_or, body_named}
+use Rattle.sbl_program.specs.Items.{ItemInMode, in_mode, in_order, place_of, strings_with, integers_with, booleans_with, groupings_with, routines_with, strings_in, integers_in, booleans_in, groupings_in, routines_in, known_in, Grouping, and_grouping, classes_behind, Body, body_or, body_named}
 use Rattle.sbl_program.specs.Regions.{behind}
 use Rattle.sbl_machine.specs.Holes.{with_holes, others_with_holes, holed_plain, holed_item, holed_script}
 use Rattle.sbl_machine.specs.Touched.{Item', Routine, Among, routine_names}

@@ -1,5 +1,5 @@
 -- What no command without a command inside it changes: what is touched, the routine that runs and its choices.
-use Rattle.std.proofs.Common.{◌≡◌, ℕ, ℤ, zero, suc, ◌+◌, ◌-◌, Bool, true, false, List, [], length, refl, Option, Some, None, Ok, Err}
+use Rattle.std.proofs.Common.{◌≡◌, ℕ, ℤ, zero, suc, ◌+◌, ◌-◌, Bool, true, false, List, length, refl, Option, Some, None, Ok, Err}
 use Rattle.std.specs.Prelude.{slice_get, nat_lt, nat_le, nat_eq, if◌then◌else◌, ◌&&◌}
 use Rattle.std.specs.List.{starts_with}
 use Rattle.sbl_tables.specs.Fitting.{read_as}

@@ -3,7 +3,6 @@ use Rattle.std.specs.Prelude.{◌≡◌, ℕ, Bool, false, List}
 use Rattle.std.specs.List.{list_any}
 use Rattle.std.specs.List.Sorted.{IsStrictlySortedBy}
 use Rattle.sbl_machine.specs.Holes.{holed_script}
-use Rattle.sbl_machine.specs.Meaning.{ending}
 use Rattle.sbl_machine.specs.Outcome.{run_of, used_of, touches_of}
 use Rattle.sbl_machine.specs.Touched.{Item', item_cmp, replaced, same_item, touched_of, touches, routine_names}
 use Rattle.sbl_script.specs.Edits.{ScriptEdit, IsEdited}
