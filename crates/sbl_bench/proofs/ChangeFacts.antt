@@ -11,8 +11,8 @@ use Rattle.std.specs.Option.{option_to_list}
 use Rattle.std.proofs.lemmas.Bool.{and_parts, or_cases, or_parts}
 use Rattle.sbl_machine.specs.Outcome as rows
 use Rattle.sbl_machine.specs.Outcome.{outcome_of}
-use Rattle.sbl_machine.specs.declared.fault.RunFault.{RunFault}
-use Rattle.sbl_machine.specs.declared.fault.RunFault.TheVariants as faults
+use Rattle.sbl_run.specs.declared.fault.RunFault.{RunFault}
+use Rattle.sbl_run.specs.declared.fault.RunFault.TheVariants as faults
 use Rattle.sbl_bench.specs.Kept.{KeptWord, AreFresh, words_in}
 use Rattle.sbl_bench.specs.Classes.{is_stem}
 use Rattle.sbl_bench.specs.Pairs.{Key, Text, ArePaired, find, has, has_stem, is_pair_of}

@@ -6,12 +6,12 @@ use Rattle.sbl_machine.specs.Meaning as meaning
 use Rattle.sbl_machine.specs.Numbered.{numbered_script}
 use Rattle.sbl_program.specs.Numbered.{numbered_items, plan_in, plan_with}
 use Rattle.sbl_program.specs.NumberedNames.{Names, names_behind, no_names, number_of}
-use Rattle.sbl_machine.specs.Outcome.{ending_of, start}
+use Rattle.sbl_run.specs.Start.{ending_of, start}
 use Rattle.sbl_program.specs.Program as programs
 use Rattle.sbl_program.specs.Regions.{behind, behind_others}
-use Rattle.sbl_machine.specs.Run as run
-use Rattle.sbl_machine.specs.Run.{enter, leave, paid, does}
-use Rattle.sbl_machine.specs.State.{State, Doing}
+use Rattle.sbl_run.specs.Run as run
+use Rattle.sbl_run.specs.Run.{enter, leave, paid, does}
+use Rattle.sbl_run.specs.State.{State, Doing}
 use Rattle.sbl_machine.proofs.SoundActs.{row_sound}
 use Rattle.sbl_program.proofs.SoundItems.{placed_is, strings_are, integers_are, booleans_are, groupings_are, routines_are, placed_by, as_made}
 use Rattle.sbl_machine.proofs.SoundParts.{Agree}

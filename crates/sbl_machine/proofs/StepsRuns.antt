@@ -7,10 +7,10 @@ use Rattle.sbl_program.specs.Items.{Known, Body, place_of, is_among}
 use Rattle.sbl_program.specs.Regions.{Among, among_at, behind, behind_rows, behind_others, behind_starter, first, first_rows, first_others, mode_behind, waits, waits_others}
 use Rattle.sbl_machine.specs.Meaning as meaning
 use Rattle.sbl_machine.specs.Meaning.{begins, joined_does, search}
-use Rattle.sbl_machine.specs.Numbers.{integer_at}
-use Rattle.sbl_machine.specs.Run.{chosen, back_in, enter, paid}
-use Rattle.sbl_machine.specs.Search.{choice}
-use Rattle.sbl_machine.specs.State.{Signals, Doing}
+use Rattle.sbl_run.specs.Numbers.{integer_at}
+use Rattle.sbl_run.specs.Run.{chosen, back_in, enter, paid}
+use Rattle.sbl_run.specs.Search.{choice}
+use Rattle.sbl_run.specs.State.{Signals, Doing}
 use Rattle.sbl_machine.proofs.Steps.{more, Goes, Steady, signals_go, steady_goes, if_goes, pays_go, paid_pays}
 use Rattle.sbl_machine.proofs.StepsActs.{edited_go, named_go, match_go, class_go, moved_goes, simple_go, assigned_goes, compared_goes, text_more, worth_more, prefixed_go, counted_goes, joined_go, limited_go, begins_go, chosen_goes, search_go}
 use Rattle.sbl_tree.specs.declared.mode.Mode.{Mode}

@@ -4,7 +4,7 @@ use Rattle.sbl_tree.specs.declared.mode.Mode.{Mode}
 use Rattle.sbl_machine.specs.declared.machine.Machine.{Machine}
 use Rattle.sbl_machine.specs.Touched.{routine_names}
 use Rattle.sbl_program.specs.Listed.{Listed}
-use Rattle.sbl_machine.specs.Listing.{listed_by}
+use Rattle.sbl_run.specs.Listing.{listed_by}
 use Rattle.sbl_tables.specs.declared.linked.LinkedTable.{LinkedTable}
 use Rattle.sbl_machine.specs.Numbered.{numbered_script}
 use Rattle.sbl_program.specs.Program.{Program}

@@ -2,24 +2,20 @@
 
 ghost use Rattle.std.specs.Prelude.{◌≡◌, ◌<◌, ◌≤◌, ◌+◌, length, map, IfOk, MatchResult, ◌↔◌, Err};
 ghost use Rattle.std.specs.List.{list_any};
-ghost use Rattle.sbl_machine.specs.Kept.{Follows};
+ghost use Rattle.sbl_run.specs.Kept.{Follows};
 ghost use Rattle.sbl_machine.specs.MachineOf.{IsMachineOf};
 ghost use Rattle.sbl_machine.specs.Outcome.{outcome_at, outcome_of, run_of, touched_at, touches_of, used_at, used_of};
 ghost use Rattle.sbl_machine.specs.Touched.{item_of, items_in, items_of, named, routine_names, same_item, touched_of};
 ghost use Rattle.sbl_script.specs.Parsed.{Source, source_of};
-ghost use Rattle.sbl_machine.specs.State.{Ending};
+ghost use Rattle.sbl_run.specs.State.{Ending};
 
-use crate::fault::{RunFault, RunStop};
-use crate::halt::Halt;
+use crate::fault::RunStop;
 use crate::item::Item;
 use crate::meter::Meter;
 use crate::naming::{is_touched, items_touched};
 use crate::outcome::{Outcome, Ran, Traced};
-use crate::run::run_call;
-use crate::state::State;
-use crate::table::{TableList, tables_of};
-use crate::touch::Touch;
 use sbl_program::{Made, Program, numbered};
+use sbl_run::{Halt, RunFault, State, TableList, Touch, run_call, tables_of};
 use sbl_script::Script;
 use sbl_tables::AmongSearch;
 use sbl_tree::Mode;

@@ -2,7 +2,7 @@
 
 ghost use Rattle.std.specs.Prelude.{◌≡◌, ◌+◌, ◌<◌, ◌^◌, IsTrue, false, ◌↔◌};
 
-use crate::state::State;
+use sbl_run::State;
 use std::marker::Model;
 
 /// Counts the runs that were made, and keeps what the last one leaves to the next.

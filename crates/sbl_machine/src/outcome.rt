@@ -1,8 +1,7 @@
 //! What a run gives.
 
-use crate::fault::RunFault;
 use crate::item::Item;
-use crate::touch::Touch;
+use sbl_run::{RunFault, Touch};
 use std::collections::BTreeSet;
 
 /// What a run of a script does to a word.
