@@ -19,3 +19,4 @@ mod slices;
 mod stems;
 mod tables;
 mod text;
+mod touched;

@@ -8,7 +8,7 @@ use Rattle.sbl_machine.specs.Frame.{StaysAsItWas, UntouchedStay}
 use Rattle.sbl_machine.specs.Outcome.{run_of, touches_of}
 use Rattle.sbl_machine.specs.Touched.{Item', named, replaced, routine_names, same_item, touches}
 use Rattle.sbl_machine.specs.declared.outcome.Traced.{Traced}
-use Rattle.sbl_machine.specs.declared.touch.Touch.{Touch}
+use Rattle.sbl_run.specs.declared.touch.Touch.{Touch}
 use Rattle.sbl_script.specs.Edits.{ScriptEdit, IsEdited}
 use Rattle.sbl_script.specs.Parsed.{Source}
 use Rattle.sbl_bench.specs.Changes.{AreAnew, AreRun, AreStill, Rerun, changes_of, is_changed, is_met, rerun_of, view_change, with_change}

@@ -4,10 +4,10 @@ use Rattle.std.specs.List.{All, list_any}
 use Rattle.std.specs.Str.{bytes_eq}
 use Rattle.std.specs.BTreeSet.{BTreeSet}
 use Rattle.sbl_script.specs.Parsed.{Source}
-use Rattle.sbl_machine.specs.declared.fault.RunFault.{RunFault}
+use Rattle.sbl_run.specs.declared.fault.RunFault.{RunFault}
 use Rattle.sbl_machine.specs.declared.outcome.Traced.{Traced}
-use Rattle.sbl_machine.specs.declared.touch.Touch.{Touch}
-use Rattle.sbl_machine.specs.Names.{name_of}
+use Rattle.sbl_run.specs.declared.touch.Touch.{Touch}
+use Rattle.sbl_run.specs.Names.{name_of}
 use Rattle.sbl_machine.specs.Outcome.{Outcome', Stem, Refused, outcome_of, run_of, touches_of}
 use Rattle.sbl_machine.specs.Touched.{Item', named, routine_names, same_item}
 use Rattle.sbl_bench.specs.Kept.{KeptWord, IsFresh}

@@ -23,7 +23,7 @@ use Rattle.sbl_script.specs.Occurrences.{Occurrence, Notice, put, uses, substrin
 use Rattle.sbl_script.specs.Checks.{declared_as, kind_of, defined_at, definition_of, may_be, is_kind, is_routine, is_grouping, is_boolean, is_integer, is_string, is_mode, needs_definition, fault_at}
 use Rattle.sbl_script.specs.Laws.{EachPasses, NamesResolve, Resolves, WellDeclaredPasses}
 use Rattle.sbl_script.proofs.Extends.{Extends, same, then_, items_more, put_more, command_more, others_more}
-use Rattle.sbl_program.specs.Items.{ItemInMode, Body, body_named, booleans_in, booleans_with, groupings_in, groupings_with, in_mode, in_order, integers_in, integers_with, is_among, strings_in, strings_with}
+use Rattle.sbl_program.specs.Items.{ItemInMode, Body, body_named, booleans_in, booleans_with, groupings_in, in_mode, in_order, integers_in, integers_with, is_among, strings_in, strings_with}
 use Rattle.sbl_machine.specs.NamesStand.{HasBody, StandsFor, NamesStand}
 
 -- ---- the first of some occurrences of which something is said

@@ -4,7 +4,7 @@ use Rattle.std.specs.Option.{option_or}
 use Rattle.std.specs.Str.{bytes_eq, chars, encode_utf8_all, is_utf8}
 use Rattle.std.specs.Io.KnownBytes.{Appends}
 use Rattle.sbl_script.specs.Parsed.{Source}
-use Rattle.sbl_machine.specs.Names.{name_of}
+use Rattle.sbl_run.specs.Names.{name_of}
 use Rattle.sbl_machine.specs.Outcome as machine
 use Rattle.sbl_machine.specs.Outcome.{Outcome', run_of}
 use Rattle.sbl_bench.specs.Rows.{max_steps}
