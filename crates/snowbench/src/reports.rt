@@ -8,14 +8,14 @@ ghost use Rattle.sbl_bench.specs.Rows.{view_row};
 ghost use Rattle.sbl_print.specs.Canonical.{canonical};
 ghost use Rattle.snowbench.specs.CommandViews.{IsAnswer};
 ghost use Rattle.snowbench.specs.Commands.{Class};
-ghost use Rattle.snowbench.specs.LinesOf.{max_line};
+ghost use Rattle.sbl_lines.specs.LinesOf.{max_line};
 ghost use Rattle.snowbench.specs.Rows as spec;
 
 use crate::edits::first_characters;
-use crate::lines::MAX_LINE;
 use crate::records::records_text;
 use crate::replies::{Reply, edit_text, report};
 use sbl_bench::{Bench, EditFault, Row};
+use sbl_lines::MAX_LINE;
 use std::alloc::{AllocError, Global};
 
 /// The report of all rows. A refused growth is the one error.
