@@ -25,6 +25,8 @@ view_command variants.Stems = command.Stems
 view_command variants.Classes = command.Classes
 view_command variants.Script = command.Script
 view_command (variants.Class word) = command.Class (chars word.now)
+view_command (variants.Trace word) = command.Trace (chars word.now)
+view_command variants.Runs = command.Runs
 view_command variants.Bad = command.Bad
 
 -- what is to be replaced in the script
@@ -41,6 +43,7 @@ view_found (Some target) = Some (view_target target)
 abbrev pub WordFits : Command → ℕ → Type 0
 WordFits (variants.Remove word) n = length word.now ≤ n
 WordFits (variants.Class word) n = length word.now ≤ n
+WordFits (variants.Trace word) n = length word.now ≤ n
 WordFits command n = ⊤
 
 abbrev pub IsReply : Reply → List ℕ → Type 0

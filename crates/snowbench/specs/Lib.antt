@@ -6,6 +6,7 @@ pub mod Block
 pub mod Requests
 pub mod Commands
 pub mod Rows
+pub mod Traces
 pub mod Answers
 pub mod Session
 pub mod OneAnswer

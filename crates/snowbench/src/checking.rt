@@ -14,7 +14,7 @@ use crate::records::text_of;
 use csv::{ByteRecord, WriterBuilder};
 use sbl_bench::{MAX_STEPS, MAX_WORD_LENGTH};
 use sbl_lines::{MAX_LINE, ServeFault, Sink, first_line, write_all};
-use sbl_machine::{Machine, Meter, Outcome, Table};
+use sbl_machine::{Machine, Meter, Outcome, Table, Traced};
 use sbl_script::Script;
 use std::alloc::{AllocError, Global};
 
@@ -41,10 +41,15 @@ fn run_word(
         return Ok(Got::Refused("WordTooLong"));
     }
     // No list has as many lines as a meter counts, so only memory can be refused.
-    let Ok(ran) = machine.run(alloc, meter, characters.as_slice(), MAX_STEPS) else {
+    let Ok(traced) = machine.trace(alloc, meter, characters.as_slice(), MAX_STEPS) else {
         return Err(AllocError);
     };
-    match ran.outcome {
+    let Traced {
+        outcome,
+        touches: _,
+        used: _,
+    } = traced;
+    match outcome {
         Outcome::Stem(stem) => Ok(Got::Stem(text_of(alloc, &stem)?)),
         Outcome::Refused(fault) => Ok(Got::Refused(fault.name())),
     }

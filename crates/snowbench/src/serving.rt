@@ -16,7 +16,7 @@ use crate::block_text::read_block;
 use crate::commands::{Command, asks_block, command_of};
 use crate::edits::{add_word, edit_script, remove_word};
 use crate::replies::{BAD_COMMAND, Reply, report, write_reply};
-use crate::reports::{class_reply, classes_text, script_text, stems_text};
+use crate::reports::{class_reply, classes_text, runs_text, script_text, stems_text, trace_reply};
 use sbl_bench::Bench;
 use sbl_lines::{Lines, MAX_LINE, ServeFault, Sink, Source};
 use std::alloc::Global;
@@ -34,6 +34,8 @@ fn answer_line(alloc: Global, bench: &mut Bench, line: &[u8]) -> Reply
         Command::Classes => report(classes_text(alloc, bench)),
         Command::Script => report(script_text(alloc, bench)),
         Command::Class(word) => class_reply(alloc, bench, word),
+        Command::Trace(word) => trace_reply(alloc, bench, word),
+        Command::Runs => report(runs_text(alloc, bench)),
         Command::Bad => Reply::Fixed(BAD_COMMAND),
     }
 }
@@ -104,8 +106,10 @@ fn answer<R: Source + Drop>(bench: &mut Bench, lines: &mut Lines<R>) -> Result<R
 /// the block behind it, lines up to a line `.`. An edit is made as its request is read, and its answer written before the next
 /// line is read. `add WORD`, `remove WORD`, `routine NAME` and `among NAME K` are answered `ok`, or `no` and the refusal's number
 /// and name; `stems` by a row for each word, `classes` by a row for each class, `class WORD` by the word's class, or its row
-/// where its run is refused, or `no 41 Absent`; `script` by the canonical text of the script as it is then; an empty line by
-/// nothing, and any other line `no 52 BadCommand`. Where memory is refused the answer is `no 49 OutOfMemory`.
+/// where its run is refused, or `no 41 Absent`; `script` by the canonical text of the script as it is then; `trace WORD` by a row
+/// for each routine and each among that the run of the word touches, or `no 41 Absent`; `runs` by the number of runs that the
+/// bench has made; an empty line by nothing, and any other line `no 52 BadCommand`. Where memory is refused the answer is
+/// `no 49 OutOfMemory`.
 ///
 /// # Errors
 ///
