@@ -80,7 +80,7 @@ impl<R: Source + Drop> Lines<R> {
     }
 
     /// The allocator that the buffers were made with.
-    pub(crate) fn alloc(&self) -> Global {
+    pub fn alloc(&self) -> Global {
         self.alloc
     }
 
