@@ -14,9 +14,10 @@ unfolding IsMachineOf
 returns g c =
     let made = c.in_ok-program.field-0 in
     let tables = c.in_ok-tables.ensures ∙ ap (map listing_found) c.deref.ensures.value in
-    let items = view_items c.args.script.now.items in
-    (ap (λ (T : ℕ → Listed). program_of T made.program) (same_tables _ g.S.AmongSearch.entries g.S.AmongSearch.mode c.in_ok-tables.tables.items made.amongs.items tables)
-     ∙ c.in_ok-program.ensures.program
-     ∙ ap (λ is. numbered_items (view_items is) c.external.result.now) c.items.ensures
-     ∙ ap (numbered_items items) c.external.ensures,
-     c.in_ok-program.ensures.routines ∙ ap (λ is. routines_in (in_order (view_items is))) c.items.ensures)
+    let items = view_items c.args.script.now.items in (
+      ap (λ (T : ℕ → Listed). program_of T made.program) (same_tables _ g.S.AmongSearch.entries g.S.AmongSearch.mode c.in_ok-tables.tables.items made.amongs.items tables)
+          ∙ c.in_ok-program.ensures.program
+          ∙ ap (λ is. numbered_items (view_items is) c.external.result.now) c.items.ensures
+          ∙ ap (numbered_items items) c.external.ensures,
+      c.in_ok-program.ensures.routines ∙ ap (λ is. routines_in (in_order (view_items is))) c.items.ensures,
+    )
