@@ -52,8 +52,8 @@ impl<S: AmongSearch> Machine<S> {
         })
     }
 
-    /// Runs the script over a word with so many steps. `MeterFull` where the meter counts no further,
-    /// `OutOfMemory` where a growth was refused; the meter is then as before, else it is raised by one.
+    /// Runs the script over a word with so many steps, and tells the items that the run touched. `MeterFull` where the meter
+    /// counts no further, `OutOfMemory` where a growth was refused; the meter is then as before, else it is raised by one.
     pub fn run(
         &self,
         alloc: Global,

@@ -1,5 +1,5 @@
 -- What is answered, and the bench after it, are one.
-use Rattle.std.proofs.Common.{codes, ◌≡◌, ◌∙◌, ◌++◌, ℕ, List, [], ◌∷◌, Option, Some, None, sym, ap, subst}
+use Rattle.std.proofs.Common.{codes, decimal, ◌≡◌, ◌∙◌, ◌++◌, ℕ, List, [], ◌∷◌, Option, Some, None, sym, ap, subst}
 use Rattle.sbl_bench.specs.Contents.{Contents}
 use Rattle.sbl_bench.specs.Edits.{Edit}
 use Rattle.sbl_bench.specs.OneVerdict.{VerdictIsOne}
@@ -7,10 +7,10 @@ use Rattle.sbl_bench.specs.declared.fault.EditFault.{EditFault}
 use Rattle.sbl_bench.specs.declared.fault.EditFault.TheVariants as fault
 use Rattle.sbl_print.specs.Canonical.{canonical}
 use Rattle.snowbench.specs.Answers.{Answers, BlockRefused, Enough, IsEdit, IsNoText, IsReplyTo, IsReport, IsReportOrAbsent, Memory, RefusedAfter, Tells, edit_text, ended}
-use Rattle.snowbench.specs.Commands.{Command, Nothing, Makes, Stems, Classes, Script, Class, HasNoText, Bad, command_of}
+use Rattle.snowbench.specs.Commands.{Command, Nothing, Makes, Stems, Classes, Script, Class, Trace, Runs, HasNoText, Bad, command_of}
 use Rattle.snowbench.specs.OneAnswer.{AnswersAreOne}
-use Rattle.snowbench.specs.Requests.{Request}
 use Rattle.snowbench.specs.Rows.{class_text, classes_text, stems_text}
+use Rattle.snowbench.specs.Traces.{trace_text}
 
 tells-one : (s : Contents) (expected a b : List ℕ) (t u : Contents) → Tells s expected a t → Tells s expected b u → (a ≡ b) × (t ≡ u)
 tells-one s expected a b t u p q = (p.0 ∙ sym q.0, p.1 ∙ sym q.1)
@@ -43,6 +43,8 @@ reply-one one s Stems m a b t u p q = report-one s (stems_text s) m a b t u p q
 reply-one one s Classes m a b t u p q = report-one s (classes_text s) m a b t u p q
 reply-one one s Script m a b t u p q = report-one s (canonical s.script.items) m a b t u p q
 reply-one one s (Class word) m a b t u p q = report_or_absent-one s (class_text s word) m a b t u p q
+reply-one one s (Trace word) m a b t u p q = report_or_absent-one s (trace_text s word) m a b t u p q
+reply-one one s Runs m a b t u p q = report-one s (ended (decimal s.count)) m a b t u p q
 reply-one one s (HasNoText f) m a b t u p q = no_text-one s (fault.Script f) m a b t u p q
 reply-one one s Bad m a b t u p q = tells-one s (ended (codes "no 52 BadCommand")) a b t u p q
 

@@ -1,5 +1,5 @@
 -- Reports: the rows and classes that they write, and the row of a word.
-use Rattle.std.proofs.Common.{append_assoc, get_or, length, ◌<◌, ◌++◌, ◌≡◌, ◌∙◌, ◌+◌, ℕ, Bool, true, false, List, [], ◌∷◌, Option, Some, None, Result, Ok, Err, IfOk, OnErr, refl, sym, ap, map, take, slice_get, suc}
+use Rattle.std.proofs.Common.{append_assoc, get_or, length, subst, ◌<◌, ◌++◌, ◌≡◌, ◌∙◌, ◌+◌, ℕ, Bool, true, false, List, [], ◌∷◌, Option, Some, None, Result, Ok, Err, IfOk, OnErr, refl, sym, ap, map, take, slice_get, suc}
 use Prim.Native.Nat.{zero}
 use Rattle.std.specs.List.{find}
 use Rattle.std.specs.declared.vec.Vec.{Vec}
@@ -10,11 +10,15 @@ use Rattle.std.proofs.lemmas.List.{map-append, take_more}
 use Rattle.std.specs.Option.{option_map}
 use Rattle.std.specs.Str.{bytes_eq, encode_utf8_all}
 use Rattle.sbl_bench.specs.Classes.{Class, class_of, words_of}
-use Rattle.sbl_bench.specs.Rows.{Row}
+use Rattle.sbl_bench.specs.Rows.{Row, max_steps}
+use Rattle.sbl_bench.specs.Traces.{trace_of}
+use Rattle.sbl_bench.specs.Vocabulary.{is_word}
 use Rattle.sbl_bench.specs.declared.fault.EditFault.TheVariants as fault
-use Rattle.snowbench.specs.Answers.{Enough, IsReport, Memory, RefusedAfter, edit_text}
+use Rattle.sbl_machine.specs.Touched.{Item', touched_of}
+use Rattle.snowbench.specs.Answers.{Enough, IsReport, IsReportOrAbsent, Memory, RefusedAfter, edit_text}
 use Rattle.snowbench.specs.CommandViews.{IsReply}
 use Rattle.snowbench.specs.Rows.{class_fields, class_or_row, class_or_row_text, class_text, records_text, row_fields, rows_now}
+use Rattle.snowbench.specs.Traces.{items_text, trace_text}
 use Rattle.snowbench.specs.declared.replies.Reply.{Reply}
 
 pub map_twice : {A B C : Type 0} (g : B → C) (f : A → B) (xs : List A) → map (λ (x : A). g (f x)) xs ≡ map g (map f xs)
@@ -89,3 +93,36 @@ word_field words i w first old new lt is before more =
     ap words_of (take_more words i w lt ∙ ap (λ (x : Vec ℕ Global). take i words ++ x ∷ []) (sym is)) ∙ map-append {A = Vec ℕ Global} (λ x. x.items) (take i words) (w ∷ []) in
     more ∙ ap (λ (x : List (List ℕ)). x ++ enc w.items ∷ []) before ∙ append_assoc first (map enc (words_of (take i words))) (enc w.items ∷ [])
     ∙ ap (λ (x : List (List ℕ)). first ++ x) (sym (ap (map enc) one ∙ map-append enc (words_of (take i words)) (w.items ∷ [])))
+
+-- ---- the trace of a word
+
+pub trace_text_is : (s : Contents) (word : List ℕ) (items : Option (List Item')) → items ≡ trace_of s.script s.words word → trace_text s word ≡ option_map items_text items
+unfolding trace_text
+trace_text_is s word items is = ap (option_map items_text) (sym is)
+
+-- its items, or want of memory for their text
+pub trace_answer : (s : Contents) (word : List ℕ) (items : List Item') (r : Result (Vec ℕ Global) AllocError) (reply : Reply) → Some items ≡ trace_of s.script s.words word
+    → IfOk r (λ text. text.items ≡ items_text items) → IfOk r (λ made. IsReply reply made.items) → OnErr r (IsReply reply (edit_text (Some fault.OutOfMemory)))
+    → (memory : Memory) × (text : List ℕ) × IsReply reply text × IsReportOrAbsent s (trace_text s word) memory text s
+trace_answer s word items r reply is text made refused =
+    subst (λ (o : Option (List ℕ)). (memory : Memory) × (text : List ℕ) × IsReply reply text × IsReportOrAbsent s o memory text s) (sym (trace_text_is s word (Some items) is))
+    (report_answer r reply s (items_text items) text made refused)
+
+-- the word is not there
+pub trace_absent : (s : Contents) (word told : List ℕ) → None ≡ trace_of s.script s.words word → told ≡ edit_text (Some fault.Absent)
+    → (memory : Memory) × (text : List ℕ) × (told ≡ text) × IsReportOrAbsent s (trace_text s word) memory text s
+trace_absent s word told is absent =
+    subst (λ (o : Option (List ℕ)). (memory : Memory) × (text : List ℕ) × (told ≡ text) × IsReportOrAbsent s o memory text s) (sym (trace_text_is s word None is)) (Enough, told, refl, (absent, refl))
+
+-- the word is there, and the memory of its items was refused
+pub trace_refused : (s : Contents) (word : List ℕ) (reply : Reply) → (is_word word s.words ≡ false → ⊥) → IsReply reply (edit_text (Some fault.OutOfMemory))
+    → (memory : Memory) × (text : List ℕ) × IsReply reply text × IsReportOrAbsent s (trace_text s word) memory text s
+trace_refused s word reply there refused = by (is_word word s.words) refl
+  where
+    by : (b : Bool) → is_word word s.words ≡ b → (memory : Memory) × (text : List ℕ) × IsReply reply text × IsReportOrAbsent s (trace_text s word) memory text s
+    by false absent = absurd (there absent)
+    by true e =
+        let items = touched_of s.script word max_steps in
+        let is : Some items ≡ trace_of s.script s.words word = rw e refl in
+        subst (λ (o : Option (List ℕ)). (memory : Memory) × (text : List ℕ) × IsReply reply text × IsReportOrAbsent s o memory text s) (sym (trace_text_is s word (Some items) is))
+        (RefusedAfter 0, edit_text (Some fault.OutOfMemory), refused, (refl, refl))

@@ -1,14 +1,15 @@
 -- The answers of a session to its requests.
-use Rattle.std.specs.Prelude.{◌≡◌, ℕ, true, List, [], ◌∷◌, ◌++◌, codes, Option, Some, None, ⊤}
+use Rattle.std.specs.Prelude.{◌≡◌, ℕ, true, List, [], ◌∷◌, ◌++◌, codes, decimal, Option, Some, None}
 use Rattle.sbl_bench.specs.Contents.{Contents}
 use Rattle.sbl_bench.specs.Edits.{Edit, IsOutOfMemory, IsVerdict, counted, is_of_script}
 use Rattle.sbl_bench.specs.Names.{script_name}
 use Rattle.sbl_bench.specs.declared.fault.EditFault.{EditFault}
 use Rattle.sbl_bench.specs.declared.fault.EditFault.TheVariants as fault
 use Rattle.sbl_print.specs.Canonical.{canonical}
-use Rattle.snowbench.specs.Commands.{Command, Nothing, Makes, Stems, Classes, Script, Class, HasNoText, Bad, command_of}
+use Rattle.snowbench.specs.Commands.{Command, Nothing, Makes, Stems, Classes, Script, Class, Trace, Runs, HasNoText, Bad, command_of}
 use Rattle.snowbench.specs.Requests.{Request}
 use Rattle.snowbench.specs.Rows.{class_text, classes_text, stems_text}
+use Rattle.snowbench.specs.Traces.{trace_text}
 
 -- a text and the line feed that ends it
 abbrev pub ended : List ℕ → List ℕ
@@ -72,6 +73,8 @@ IsReplyTo s Stems memory text t = IsReport s (stems_text s) memory text t
 IsReplyTo s Classes memory text t = IsReport s (classes_text s) memory text t
 IsReplyTo s Script memory text t = IsReport s (canonical s.script.items) memory text t
 IsReplyTo s (Class word) memory text t = IsReportOrAbsent s (class_text s word) memory text t
+IsReplyTo s (Trace word) memory text t = IsReportOrAbsent s (trace_text s word) memory text t
+IsReplyTo s Runs memory text t = IsReport s (ended (decimal s.count)) memory text t
 IsReplyTo s (HasNoText f) memory text t = IsNoText s (fault.Script f) memory text t
 IsReplyTo s Bad memory text t = Tells s (ended (codes "no 52 BadCommand")) text t
 

@@ -7,9 +7,9 @@ use Rattle.snowbench.specs.Commands as command
 use Rattle.sbl_bench.specs.Contents.{Contents}
 use Rattle.snowbench.specs.Answers.{IsReplyTo, Memory}
 use Rattle.snowbench.specs.Block.{BlockLines, Breaks}
-use Rattle.snowbench.specs.Held.{AllFit, Took}
+use Rattle.sbl_lines.specs.Held.{AllFit, Took}
 use Rattle.snowbench.specs.Requests.{IsRequest, asks_block, block_lines}
-use Rattle.snowbench.specs.declared.faults.ServeFault.{ServeFault}
+use Rattle.sbl_lines.specs.declared.faults.ServeFault.{ServeFault}
 use Rattle.snowbench.specs.declared.commands.Command.{Command}
 use Rattle.snowbench.specs.declared.commands.Command.TheVariants as variants
 use Rattle.snowbench.specs.declared.commands.Target.{Target}
@@ -25,6 +25,8 @@ view_command variants.Stems = command.Stems
 view_command variants.Classes = command.Classes
 view_command variants.Script = command.Script
 view_command (variants.Class word) = command.Class (chars word.now)
+view_command (variants.Trace word) = command.Trace (chars word.now)
+view_command variants.Runs = command.Runs
 view_command variants.Bad = command.Bad
 
 -- what is to be replaced in the script
@@ -41,6 +43,7 @@ view_found (Some target) = Some (view_target target)
 abbrev pub WordFits : Command → ℕ → Type 0
 WordFits (variants.Remove word) n = length word.now ≤ n
 WordFits (variants.Class word) n = length word.now ≤ n
+WordFits (variants.Trace word) n = length word.now ≤ n
 WordFits command n = ⊤
 
 abbrev pub IsReply : Reply → List ℕ → Type 0

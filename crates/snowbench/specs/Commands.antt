@@ -1,5 +1,5 @@
 -- What a request asks for.
-use Rattle.std.specs.Prelude.{ℕ, Bool, true, false, List, [], ◌∷◌, codes, if◌then◌else◌, length, nat_lt, Option, Some, None, Result, Ok, Err}
+use Rattle.std.specs.Prelude.{ℕ, List, [], ◌∷◌, codes, if◌then◌else◌, length, nat_lt, Option, Some, None, Result, Ok, Err}
 use Rattle.std.specs.Str.{bytes_eq, chars, is_utf8}
 use Rattle.sbl_bench.specs.Edits as edits
 use Rattle.sbl_script.specs.Edits.{ScriptEdit, among, body}
@@ -10,7 +10,8 @@ use Rattle.snowbench.specs.Numbers.{number_in}
 use Rattle.snowbench.specs.Requests.{Request}
 use Rattle.snowbench.specs.Words.{argument, command_word}
 
--- nothing, an edit, the rows, the classes, the script, the class of a word, an edit whose block is no text, or nothing that is known
+-- nothing, an edit, the rows, the classes, the script, the class of a word, what its run touches, the count of runs, an edit whose block
+-- is no text, or nothing that is known
 pub data Command : Type 0 where
   Nothing : Command
   Makes : edits.Edit → Command
@@ -18,6 +19,8 @@ pub data Command : Type 0 where
   Classes : Command
   Script : Command
   Class : List ℕ → Command
+  Trace : List ℕ → Command
+  Runs : Command
   HasNoText : ScriptFault → Command
   Bad : Command
 
@@ -29,9 +32,11 @@ text_command line =
     if bytes_eq (command_word line) (codes "add") then Makes (edits.Add (chars (argument line)))
     else (if bytes_eq (command_word line) (codes "remove") then Makes (edits.Remove (chars (argument line)))
     else (if bytes_eq (command_word line) (codes "class") then Class (chars (argument line))
+    else (if bytes_eq (command_word line) (codes "trace") then Trace (chars (argument line))
     else (if bytes_eq line (codes "stems") then Stems
     else (if bytes_eq line (codes "classes") then Classes
-    else (if bytes_eq line (codes "script") then Script else Bad)))))
+    else (if bytes_eq line (codes "script") then Script
+    else (if bytes_eq line (codes "runs") then Runs else Bad)))))))
 
 -- an empty line asks for nothing, and a line that is not UTF-8 for nothing that is known
 unfoldable pub line_command : List ℕ → Command

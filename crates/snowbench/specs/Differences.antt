@@ -9,10 +9,10 @@ use Rattle.sbl_machine.specs.Outcome as machine
 use Rattle.sbl_machine.specs.Outcome.{Outcome', run_of}
 use Rattle.sbl_bench.specs.Rows.{max_steps}
 use Rattle.sbl_bench.specs.Contents.{max_word_length}
-use Rattle.snowbench.specs.LinesOf.{lines_of, max_line}
+use Rattle.sbl_lines.specs.LinesOf.{lines_of, max_line}
 use Rattle.snowbench.specs.Rows.{records_text}
-use Rattle.snowbench.specs.declared.faults.ServeFault.{ServeFault}
-use Rattle.snowbench.specs.declared.faults.ServeFault.TheVariants as fault
+use Rattle.sbl_lines.specs.declared.faults.ServeFault.{ServeFault}
+use Rattle.sbl_lines.specs.declared.faults.ServeFault.TheVariants as fault
 
 -- ---- one word
 

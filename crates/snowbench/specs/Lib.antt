@@ -1,15 +1,12 @@
 -- what the contracts of public calls rest on
-pub mod Devices
-pub mod Counted
 pub mod Faults
-pub mod LinesOf
-pub mod Held
 pub mod Words
 pub mod Numbers
 pub mod Block
 pub mod Requests
 pub mod Commands
 pub mod Rows
+pub mod Traces
 pub mod Answers
 pub mod Session
 pub mod OneAnswer

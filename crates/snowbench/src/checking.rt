@@ -5,20 +5,16 @@ ghost use Rattle.csv.specs.Records.{fields_of};
 ghost use Rattle.sbl_machine.specs.MachineOf.{IsLinkedMachineOf};
 ghost use Rattle.sbl_script.specs.Parsed.{Source, source_of};
 ghost use Rattle.snowbench.specs.Checking.{ComparesPair, IsRow, view_got};
-ghost use Rattle.snowbench.specs.Devices.{HasStopped, WritesInTime};
+ghost use Rattle.sbl_lines.specs.Devices.{HasStopped, WritesInTime};
 ghost use Rattle.snowbench.specs.Differences as spec;
 ghost use Rattle.snowbench.specs.Differences.{IsChecked};
 ghost use Rattle.snowbench.specs.Rows as rows;
 
-use crate::devices::Sink;
-use crate::faults::ServeFault;
-use crate::lines::MAX_LINE;
 use crate::records::text_of;
-use crate::text_lines::first_line;
-use crate::writing::write_all;
 use csv::{ByteRecord, WriterBuilder};
 use sbl_bench::{MAX_STEPS, MAX_WORD_LENGTH};
-use sbl_machine::{Machine, Meter, Outcome, Table};
+use sbl_lines::{MAX_LINE, ServeFault, Sink, first_line, write_all};
+use sbl_machine::{Machine, Meter, Outcome, Table, Traced};
 use sbl_script::Script;
 use std::alloc::{AllocError, Global};
 
@@ -45,10 +41,15 @@ fn run_word(
         return Ok(Got::Refused("WordTooLong"));
     }
     // No list has as many lines as a meter counts, so only memory can be refused.
-    let Ok(ran) = machine.run(alloc, meter, characters.as_slice(), MAX_STEPS) else {
+    let Ok(traced) = machine.trace(alloc, meter, characters.as_slice(), MAX_STEPS) else {
         return Err(AllocError);
     };
-    match ran.outcome {
+    let Traced {
+        outcome,
+        touches: _,
+        used: _,
+    } = traced;
+    match outcome {
         Outcome::Stem(stem) => Ok(Got::Stem(text_of(alloc, &stem)?)),
         Outcome::Refused(fault) => Ok(Got::Refused(fault.name())),
     }

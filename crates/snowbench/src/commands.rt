@@ -23,6 +23,10 @@ pub(crate) enum Command<'a> {
     Script,
     /// The class of a word.
     Class(&'a str),
+    /// What the run of a word touches.
+    Trace(&'a str),
+    /// The count of runs.
+    Runs,
     /// Nothing that is known.
     Bad,
 }
@@ -59,6 +63,9 @@ fn text_command(text: &str) -> Command<'_>
     if word == "class" {
         return Command::Class(argument);
     }
+    if word == "trace" {
+        return Command::Trace(argument);
+    }
     if text == "stems" {
         return Command::Stems;
     }
@@ -67,6 +74,9 @@ fn text_command(text: &str) -> Command<'_>
     }
     if text == "script" {
         return Command::Script;
+    }
+    if text == "runs" {
+        return Command::Runs;
     }
     Command::Bad
 }

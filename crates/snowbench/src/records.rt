@@ -4,11 +4,13 @@ ghost use Rattle.std.specs.Str.{encode_utf8_all};
 ghost use Rattle.csv.specs.Records.{fields_of, partial_of};
 ghost use Rattle.sbl_bench.specs.Classes.{view_class, words_of};
 ghost use Rattle.sbl_bench.specs.Rows.{view_row};
+ghost use Rattle.sbl_machine.specs.Touched.{item_of};
 ghost use Rattle.snowbench.specs.Rows as spec;
+ghost use Rattle.snowbench.specs.Traces.{item_fields};
 
 use csv::{ByteRecord, WriterBuilder};
 use sbl_bench::{Class, Row};
-use sbl_machine::Outcome;
+use sbl_machine::{Item, Outcome};
 use std::alloc::{AllocError, Global};
 
 /// Some characters as UTF-8.
@@ -66,6 +68,25 @@ impl Record for Class {
         push_text(alloc, &mut record, &self.stem)?;
         push_words(alloc, &mut record, &self.words)?;
         Ok(record)
+    }
+}
+
+impl Record for Item {
+    ghost fields = { λ item. item_fields (item_of item) };
+
+    fn record(&self, alloc: Global) -> Result<ByteRecord, AllocError> {
+        match self {
+            Item::Routine(name) => {
+                ByteRecord::from_fields(alloc, &[b"routine".as_slice(), name.as_bytes()])
+            }
+            Item::Among(name, number) => {
+                let number = format!(in alloc; "{number}")?;
+                ByteRecord::from_fields(
+                    alloc,
+                    &[b"among".as_slice(), name.as_bytes(), number.as_bytes()],
+                )
+            }
+        }
     }
 }
 

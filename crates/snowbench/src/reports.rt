@@ -1,22 +1,27 @@
 //! Reports of a bench, as a session asks for them.
-ghost use Rattle.std.specs.Prelude.{◌≡◌, ◌≤◌, IfOk, length};
+ghost use Rattle.std.specs.Prelude.{◌≡◌, ◌≤◌, IfOk, decimal, length};
 ghost use Rattle.std.specs.List.{find};
 ghost use Rattle.std.specs.Option.{option_map};
 ghost use Rattle.std.specs.Str.{bytes_eq, chars};
 ghost use Rattle.sbl_bench.specs.Kept.{contents_of};
 ghost use Rattle.sbl_bench.specs.Rows.{view_row};
+ghost use Rattle.sbl_machine.specs.Touched.{items_in};
 ghost use Rattle.sbl_print.specs.Canonical.{canonical};
+ghost use Rattle.snowbench.specs.Answers.{ended};
 ghost use Rattle.snowbench.specs.CommandViews.{IsAnswer};
-ghost use Rattle.snowbench.specs.Commands.{Class};
-ghost use Rattle.snowbench.specs.LinesOf.{max_line};
+ghost use Rattle.snowbench.specs.Commands.{Class, Trace};
+ghost use Rattle.sbl_lines.specs.LinesOf.{max_line};
 ghost use Rattle.snowbench.specs.Rows as spec;
+ghost use Rattle.snowbench.specs.Traces as traces;
 
 use crate::edits::first_characters;
-use crate::lines::MAX_LINE;
 use crate::records::records_text;
 use crate::replies::{Reply, edit_text, report};
 use sbl_bench::{Bench, EditFault, Row};
+use sbl_lines::MAX_LINE;
+use sbl_machine::Item;
 use std::alloc::{AllocError, Global};
+use std::collections::BTreeSet;
 
 /// The report of all rows. A refused growth is the one error.
 pub(crate) fn stems_text(alloc: Global, bench: &Bench) -> Result<Vec<u8>, AllocError>
@@ -40,6 +45,15 @@ pub(crate) fn script_text(alloc: Global, bench: &Bench) -> Result<Vec<u8>, Alloc
 {
     let text = bench.script().print(alloc)?;
     Ok(text.into_bytes())
+}
+
+/// The report of the count of runs: the number in decimal, and a line feed. A refused growth is the one error.
+pub(crate) fn runs_text(alloc: Global, bench: &Bench) -> Result<Vec<u8>, AllocError>
+    ensures { IfOk result (λ text. text.items ≡ ended (decimal (contents_of bench.now).count)) }
+{
+    let count = bench.runs();
+    let line = format!(in alloc; "{count}\n")?;
+    Ok(line.into_bytes())
 }
 
 /// The row of a word, if the word is there. Takes no memory.
@@ -81,5 +95,27 @@ pub(crate) fn class_reply(alloc: Global, bench: &Bench, word: &str) -> Reply
     match row_with(bench, word) {
         Some(row) => report(class_or_row_text(alloc, bench, word, row)),
         None => Reply::Fixed(edit_text(Err(EditFault::Absent))),
+    }
+}
+
+/// The text of some items: a row for each, in their order. A refused growth is the one error.
+fn items_text(alloc: Global, items: BTreeSet<Item>) -> Result<Vec<u8>, AllocError>
+    ensures { IfOk result (λ text. text.items ≡ traces.items_text (items_in items)) }
+{
+    let items: Vec<Item> = items.into_iter().collect(alloc)?;
+    records_text(alloc, &items)
+}
+
+/// The answer that tells what the run of a word touches; of a word that is not there it says so, and takes no memory.
+pub(crate) fn trace_reply(alloc: Global, bench: &Bench, word: &str) -> Reply
+    requires { length word.now ≤ max_line }
+    ensures { IsAnswer (contents_of bench.now) (Trace (chars word.now)) result (contents_of bench.now) }
+{
+    let mut room = ['\0'; MAX_LINE];
+    let count = first_characters(word, &mut room);
+    match bench.touched(&room[..count]) {
+        Ok(Some(items)) => report(items_text(alloc, items)),
+        Ok(None) => Reply::Fixed(edit_text(Err(EditFault::Absent))),
+        Err(refused) => report(Err(refused)),
     }
 }

@@ -4,23 +4,21 @@ ghost use Rattle.std.specs.Io.KnownBytes.{IsAtEnd, Keeps};
 ghost use Rattle.sbl_bench.specs.Kept.{contents_of};
 ghost use Rattle.snowbench.specs.CommandViews.{BreaksBlock, IsAnswer, IsAnswered};
 ghost use Rattle.snowbench.specs.Commands.{line_command};
-ghost use Rattle.snowbench.specs.Devices.{WritesInTime};
-ghost use Rattle.snowbench.specs.Faults.{left_by, serve_fault_of};
-ghost use Rattle.snowbench.specs.declared.faults.LineFault.{LineFault};
-ghost use Rattle.snowbench.specs.Held.{HasReason, IsDrained, KeepsTime, StaysEnded, TakesFeeds, fault_of, fuel_of, input_of, line_of, reads_bound};
-ghost use Rattle.snowbench.specs.LinesOf.{max_line};
+ghost use Rattle.sbl_lines.specs.Devices.{WritesInTime};
+ghost use Rattle.sbl_lines.specs.Faults.{left_by, serve_fault_of};
+ghost use Rattle.sbl_lines.specs.declared.faults.LineFault.{LineFault};
+ghost use Rattle.sbl_lines.specs.Held.{HasReason, IsDrained, KeepsTime, StaysEnded, TakesFeeds, fault_of, fuel_of, input_of, line_of, reads_bound};
+ghost use Rattle.sbl_lines.specs.LinesOf.{max_line};
 ghost use Rattle.snowbench.specs.Requests as requests;
 ghost use Rattle.snowbench.specs.Session.{Ends, IsSession};
 
 use crate::block_text::read_block;
 use crate::commands::{Command, asks_block, command_of};
-use crate::devices::{Sink, Source};
 use crate::edits::{add_word, edit_script, remove_word};
-use crate::faults::ServeFault;
-use crate::lines::{Lines, MAX_LINE};
 use crate::replies::{BAD_COMMAND, Reply, report, write_reply};
-use crate::reports::{class_reply, classes_text, script_text, stems_text};
+use crate::reports::{class_reply, classes_text, runs_text, script_text, stems_text, trace_reply};
 use sbl_bench::Bench;
+use sbl_lines::{Lines, MAX_LINE, ServeFault, Sink, Source};
 use std::alloc::Global;
 
 /// Makes the edit or the report that a line without a block asks for, and gives the answer.
@@ -36,6 +34,8 @@ fn answer_line(alloc: Global, bench: &mut Bench, line: &[u8]) -> Reply
         Command::Classes => report(classes_text(alloc, bench)),
         Command::Script => report(script_text(alloc, bench)),
         Command::Class(word) => class_reply(alloc, bench, word),
+        Command::Trace(word) => trace_reply(alloc, bench, word),
+        Command::Runs => report(runs_text(alloc, bench)),
         Command::Bad => Reply::Fixed(BAD_COMMAND),
     }
 }
@@ -106,8 +106,10 @@ fn answer<R: Source + Drop>(bench: &mut Bench, lines: &mut Lines<R>) -> Result<R
 /// the block behind it, lines up to a line `.`. An edit is made as its request is read, and its answer written before the next
 /// line is read. `add WORD`, `remove WORD`, `routine NAME` and `among NAME K` are answered `ok`, or `no` and the refusal's number
 /// and name; `stems` by a row for each word, `classes` by a row for each class, `class WORD` by the word's class, or its row
-/// where its run is refused, or `no 41 Absent`; `script` by the canonical text of the script as it is then; an empty line by
-/// nothing, and any other line `no 52 BadCommand`. Where memory is refused the answer is `no 49 OutOfMemory`.
+/// where its run is refused, or `no 41 Absent`; `script` by the canonical text of the script as it is then; `trace WORD` by a row
+/// for each routine and each among that the run of the word touches, or `no 41 Absent`; `runs` by the number of runs that the
+/// bench has made; an empty line by nothing, and any other line `no 52 BadCommand`. Where memory is refused the answer is
+/// `no 49 OutOfMemory`.
 ///
 /// # Errors
 ///

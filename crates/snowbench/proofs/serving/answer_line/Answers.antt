@@ -1,10 +1,11 @@
-use Rattle.std.proofs.Common.{◌≡◌, refl, subst}
+use Rattle.std.proofs.Common.{decimal, refl, subst}
 use Rattle.std.specs.Str.{chars}
 use Rattle.sbl_bench.specs.Edits as edits
 use Rattle.sbl_bench.specs.Kept.{contents_of}
 use Rattle.sbl_print.specs.Canonical.{canonical}
+use Rattle.snowbench.specs.Answers.{ended}
 use Rattle.snowbench.specs.CommandViews.{IsAnswer}
-use Rattle.snowbench.specs.Commands.{Class, Classes, Command, Makes, Script, Stems, line_command}
+use Rattle.snowbench.specs.Commands.{Classes, Command, Makes, Runs, Script, Stems}
 use Rattle.snowbench.specs.Rows.{classes_text, stems_text}
 use Rattle.snowbench.specs.declared.replies.Reply.TheVariants as reply
 use Rattle.snowbench.proofs.ReportFacts.{report_answer}
@@ -48,3 +49,14 @@ pub returns-in-Class : goal.returns-in-Class
 returns-in-Class c =
     let s = contents_of c.args.bench.now in
     subst (λ (x : Command). IsAnswer s x c.class_reply.result s) c.in-Class.ensures.command c.class_reply.ensures
+
+pub returns-in-Trace : goal.returns-in-Trace
+returns-in-Trace c =
+    let s = contents_of c.args.bench.now in
+    subst (λ (x : Command). IsAnswer s x c.trace_reply.result s) c.in-Trace.ensures.command c.trace_reply.ensures
+
+pub returns-in-Runs : goal.returns-in-Runs
+returns-in-Runs c =
+    let s = contents_of c.args.bench.now in
+    let a : IsAnswer s Runs c.report-in-Runs.result s = report_answer c.runs_text.result c.report-in-Runs.result s (ended (decimal s.count)) c.runs_text.ensures c.report-in-Runs.ensures.made c.report-in-Runs.ensures.refused in
+    subst (λ (x : Command). IsAnswer s x c.report-in-Runs.result s) c.in-Runs.ensures.command a
