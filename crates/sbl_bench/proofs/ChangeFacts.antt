@@ -1,12 +1,12 @@
 -- One change made, and all of them.
 use Rattle.std.proofs.Common.{map, ◌≡◌, ◌∙◌, ◌&&◌, ◌||◌, ◌⊎◌, ◌<◌, ◌+◌, inl, inr, ◌++◌, not, get_or, ℕ, Bool, true, false, cond, List, [], ◌∷◌, Option, Some, None, IfSome, IsSome, slice_index_or, length, take, drop, take-append-drop, arith, refl, sym, ap, ap₂, subst}
-use Rattle.std.specs.List.{All, AllByRecursion, IsDistinct, list_any}
+use Rattle.std.specs.List.{AllByRecursion, IsDistinct}
 use Rattle.std.specs.Map.{keys_of}
 use Rattle.std.specs.Str.{bytes_eq}
 use Rattle.std.specs.BTreeSet.{BTreeSet}
 use Rattle.std.proofs.lemmas.Slice.Eq.{bytes_eq-Decides}
 use Rattle.std.proofs.lemmas.List.Folds.{list_any-append, list_any_more}
-use Rattle.std.proofs.lemmas.List.Elements.{All-cons, All-head, All-tail, All-pop}
+use Rattle.std.proofs.lemmas.List.Elements.{All-head, All-tail, All-pop}
 use Rattle.std.specs.Option.{option_to_list}
 use Rattle.std.proofs.lemmas.Bool.{and_parts, or_cases, or_parts}
 use Rattle.sbl_machine.specs.Outcome as rows

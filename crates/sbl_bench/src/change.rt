@@ -14,8 +14,8 @@ ghost use Rattle.sbl_bench.specs.Kept.{words_in, AreFresh, IsWord};
 ghost use Rattle.sbl_bench.specs.Pairs.{Key, Text, ArePaired, find, has, has_stem, is_pair_of};
 ghost use Rattle.sbl_bench.specs.Contents.{max_runs};
 
-use crate::traces::MAX_STEPS;
 use crate::pairs::{insert_pair, remove_pair};
+use crate::traces::MAX_STEPS;
 use indexmap::IndexMap;
 use sbl_machine::{Item, Machine, Meter, Outcome, Table, Traced};
 use std::alloc::{AllocError, Global};
