@@ -17,6 +17,7 @@ use Rattle.std.proofs.lemmas.Map.Text.{is_eq-slice_cmp}
 use Rattle.sbl_script.specs.Parsed.{Source}
 use Rattle.sbl_machine.specs.Outcome.{Outcome', Stem, Refused, outcome_of}
 use Rattle.sbl_machine.specs.declared.outcome.Outcome.{Outcome}
+use Rattle.sbl_machine.specs.declared.outcome.Traced.{Traced}
 use Rattle.sbl_machine.specs.declared.outcome.Outcome.TheVariants as code
 use Rattle.sbl_bench.specs.Classes.{class_of, class_with, in_order, is_stem, stem_of, words_with}
 use Rattle.sbl_bench.specs.Grouping.{Pair, pair_cmp, sorted, stem_pairs, with_pair, words_paired}
@@ -74,8 +75,8 @@ has_pair (e ∷ es) s w h = by (bytes_eq w e.0.items) refl (has_pair es s w)
     now (Refused f) same k = cc k
 
     by : (b : Bool) → bytes_eq w e.0.items ≡ b → (has_stem s (find w es) ≡ true → is_in (s, w) (pairs_of es) ≡ true) → is_in (s, w) (pairs_of (e ∷ es)) ≡ true
-    by true same rest = now (outcome_of e.1) same (sym (ap (λ (b : Bool). has_stem s (cond b (Some e.1) (find w es))) same) ∙ h)
-    by false other rest = later (outcome_of e.1) (rest (sym (ap (λ (b : Bool). has_stem s (cond b (Some e.1) (find w es))) other) ∙ h))
+    by true same rest = now (outcome_of e.1.outcome) same (sym (ap (λ (b : Bool). has_stem s (cond b (Some e.1) (find w es))) same) ∙ h)
+    by false other rest = later (outcome_of e.1.outcome) (rest (sym (ap (λ (b : Bool). has_stem s (cond b (Some e.1) (find w es))) other) ∙ h))
 
 -- each pair of the entries, where no word stands twice, is one that the set has
 all_kept : (set : List Pair) (es : List KeptWord) → IsDistinct (λ (x y : Text). bytes_eq x.items y.items) (keys_of es)
@@ -83,7 +84,7 @@ all_kept : (set : List Pair) (es : List KeptWord) → IsDistinct (λ (x y : Text
     → All (λ p. is_in p set ≡ true) (pairs_of es)
 unfolding IsDistinct
 all_kept set [] unique there = λ k d h. absurd (omega (arith, h))
-all_kept set (e ∷ es) unique there = by e.1 refl (all_kept set es unique.1 (λ t w h. there t w (behind t w h)))
+all_kept set (e ∷ es) unique there = by e.1.outcome refl (all_kept set es unique.1 (λ t w h. there t w (behind t w h)))
   where
     -- a word is not found behind its own place
     absent : (fs : List KeptWord) → AllByRecursion (λ (y : Text). bytes_eq e.0.items y.items ≡ false) (keys_of fs) → find e.0.items fs ≡ None
@@ -99,7 +100,7 @@ all_kept set (e ∷ es) unique there = by e.1 refl (all_kept set es unique.1 (λ
             cc (sym none ∙ h)
         at false other = rw other h
 
-    by : (o : Outcome) → e.1 ≡ o → All (λ p. is_in p set ≡ true) (pairs_of es) → All (λ p. is_in p set ≡ true) (with_pair (outcome_of e.1) e.0.items (pairs_of es))
+    by : (o : Outcome) → e.1.outcome ≡ o → All (λ p. is_in p set ≡ true) (pairs_of es) → All (λ p. is_in p set ≡ true) (with_pair (outcome_of e.1.outcome) e.0.items (pairs_of es))
     by (code.Stem t) is rest =
         let found : has_stem t.items (find e.0.items (e ∷ es)) ≡ true =
         ap (λ (b : Bool). has_stem t.items (cond b (Some e.1) (find e.0.items es))) ((bytes_eq-Decides e.0.items e.0.items).1 refl)
@@ -144,25 +145,25 @@ kept_sorted script es set fresh unique paired ordered found =
 -- ---- the class of one word
 
 -- the row of a word that has an entry
-pub row_found : (script : Source) (word : List ℕ) (es : List KeptWord) → AreFresh script es → find_row (λ (r : Row). bytes_eq word r.word) (rows_of script (words_in es)) ≡ option_map (λ o. record { word = word; outcome = outcome_of o }) (find word es)
+pub row_found : (script : Source) (word : List ℕ) (es : List KeptWord) → AreFresh script es → find_row (λ (r : Row). bytes_eq word r.word) (rows_of script (words_in es)) ≡ option_map (λ t. record { word = word; outcome = outcome_of t.outcome }) (find word es)
 row_found script word [] fresh = refl
 row_found script word (e ∷ es) fresh = by (bytes_eq word e.0.items) refl (row_found script word es fresh.1)
   where
-    by : (b : Bool) → bytes_eq word e.0.items ≡ b → find_row (λ (r : Row). bytes_eq word r.word) (rows_of script (words_in es)) ≡ option_map (λ o. record { word = word; outcome = outcome_of o }) (find word es)
-        → find_row (λ (r : Row). bytes_eq word r.word) (rows_of script (words_in (e ∷ es))) ≡ option_map (λ o. record { word = word; outcome = outcome_of o }) (find word (e ∷ es))
-    by true same rest = rw same (λ i. Some (record { word = sym ((bytes_eq-Decides word e.0.items).0 same) i; outcome = sym fresh.0 i }))
+    by : (b : Bool) → bytes_eq word e.0.items ≡ b → find_row (λ (r : Row). bytes_eq word r.word) (rows_of script (words_in es)) ≡ option_map (λ t. record { word = word; outcome = outcome_of t.outcome }) (find word es)
+        → find_row (λ (r : Row). bytes_eq word r.word) (rows_of script (words_in (e ∷ es))) ≡ option_map (λ t. record { word = word; outcome = outcome_of t.outcome }) (find word (e ∷ es))
+    by true same rest = rw same (λ i. Some (record { word = sym ((bytes_eq-Decides word e.0.items).0 same) i; outcome = sym fresh.0.outcome i }))
     by false other rest = rw other rest
 
 -- the class of a word by what its entry holds
-pub class_found : (script : Source) (es : List KeptWord) (word : List ℕ) → AreFresh script es → (o : Option Outcome) → o ≡ find word es
-    → option_map (class_with (rows_of script (words_in es))) (option_and_then (λ o. stem_of (outcome_of o)) o) ≡ class_of (rows_of script (words_in es)) word
+pub class_found : (script : Source) (es : List KeptWord) (word : List ℕ) → AreFresh script es → (o : Option Traced) → o ≡ find word es
+    → option_map (class_with (rows_of script (words_in es))) (option_and_then (λ t. stem_of (outcome_of t.outcome)) o) ≡ class_of (rows_of script (words_in es)) word
 class_found script es word fresh o is =
     ap (λ (x : Option (List ℕ)). option_map (class_with (rows_of script (words_in es))) x)
-    (ap (option_and_then (λ o. stem_of (outcome_of o))) is ∙ by (find word es) ∙ ap (option_and_then (λ (r : Row). stem_of r.outcome)) (sym (row_found script word es fresh)))
+    (ap (option_and_then (λ t. stem_of (outcome_of t.outcome))) is ∙ by (find word es) ∙ ap (option_and_then (λ (r : Row). stem_of r.outcome)) (sym (row_found script word es fresh)))
   where
-    by : (x : Option Outcome) → option_and_then (λ (o : Outcome). stem_of (outcome_of o)) x ≡ option_and_then (λ (r : Row). stem_of r.outcome) (option_map (λ o. record { word = word; outcome = outcome_of o }) x)
+    by : (x : Option Traced) → option_and_then (λ (t : Traced). stem_of (outcome_of t.outcome)) x ≡ option_and_then (λ (r : Row). stem_of r.outcome) (option_map (λ t. record { word = word; outcome = outcome_of t.outcome }) x)
     by None = refl
-    by (Some o) = refl
+    by (Some t) = refl
 
 -- the words with a stem among the pairs that are kept are those of its class
 pub words_kept : (script : Source) (es : List KeptWord) (set : BTreeSet Key) (stem : List ℕ) → AreFresh script es → IsDistinct (λ (x y : Text). bytes_eq x.items y.items) (keys_of es)

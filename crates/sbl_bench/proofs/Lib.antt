@@ -9,5 +9,7 @@ pub mod ClassFacts
 pub mod ClassLaws
 pub mod LastFacts
 pub mod ChangeFacts
+pub mod Meeting
+pub mod Tracing
 pub mod OneVerdict
 pub mod Replacing

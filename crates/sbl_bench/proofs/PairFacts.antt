@@ -1,4 +1,4 @@
--- How an insertion and a removal keep the set of pairs to the outcomes.
+-- How an insertion and a removal keep the set of pairs to the runs.
 use Rattle.std.proofs.Common.{◌≡◌, ◌∙◌, ◌&&◌, ◌||◌, not, ℕ, Bool, true, false, cond, List, Some, None, refl, sym, ap, ap₂}
 use Rattle.std.specs.Str.{bytes_eq}
 use Rattle.std.specs.Ordering.{is_eq, ordering_then}
@@ -9,7 +9,7 @@ use Rattle.std.proofs.lemmas.Map.Text.{is_eq-slice_cmp}
 use Rattle.std.proofs.lemmas.Slice.Eq.{bytes_eq-Decides}
 use Rattle.sbl_machine.specs.Outcome as rows
 use Rattle.sbl_machine.specs.Outcome.{outcome_of}
-use Rattle.sbl_machine.specs.declared.outcome.Outcome.{Outcome}
+use Rattle.sbl_machine.specs.declared.outcome.Traced.{Traced}
 use Rattle.sbl_bench.specs.Kept.{KeptWord}
 use Rattle.sbl_bench.specs.Classes.{is_stem}
 use Rattle.sbl_bench.specs.Pairs.{Key, Text, ArePaired, find, has, has_stem, is_pair_of, key_cmp}
@@ -57,25 +57,25 @@ removed_away : (a x : Bool) → (not (a && false) && x) ≡ x
 removed_away true x = refl
 removed_away false x = refl
 
-module _ (es fs : List KeptWord) (s n : BTreeSet Key) (word : List ℕ) (o : Outcome) (paired : ArePaired es s) where
-  -- a new word comes with its outcome and its pair
+module _ (es fs : List KeptWord) (s n : BTreeSet Key) (word : List ℕ) (t : Traced) (paired : ArePaired es s) where
+  -- a new word comes with its run and its pair
   pub paired_add : find word es ≡ None
-      → ((w : Text) → find w.items fs ≡ cond (bytes_eq word w.items) (Some o) (find w.items es))
-      → ((q : Key) → has n q ≡ (is_pair_of word (outcome_of o) q || has s q)) → ArePaired fs n
+      → ((w : Text) → find w.items fs ≡ cond (bytes_eq word w.items) (Some t) (find w.items es))
+      → ((q : Key) → has n q ≡ (is_pair_of word (outcome_of t.outcome) q || has s q)) → ArePaired fs n
   paired_add none finds pairs q = pairs q ∙ pair_at (bytes_eq word q.1.items) refl ∙ ap (has_stem q.0.items) (sym (finds q.1))
     where
-      pair_at : (b : Bool) → bytes_eq word q.1.items ≡ b → (is_pair_of word (outcome_of o) q || has s q) ≡ has_stem q.0.items (cond (bytes_eq word q.1.items) (Some o) (find q.1.items es))
+      pair_at : (b : Bool) → bytes_eq word q.1.items ≡ b → (is_pair_of word (outcome_of t.outcome) q || has s q) ≡ has_stem q.0.items (cond (bytes_eq word q.1.items) (Some t) (find q.1.items es))
       pair_at true h =
-          rw h (added_here (is_stem q.0.items (outcome_of o)) (has s q) (paired q ∙ ap (λ (w : List ℕ). has_stem q.0.items (find w es)) (sym ((bytes_eq-Decides word q.1.items).0 h)) ∙ ap (has_stem q.0.items) none))
-      pair_at false h = rw h (added_away (is_stem q.0.items (outcome_of o)) (has s q) ∙ paired q)
+          rw h (added_here (is_stem q.0.items (outcome_of t.outcome)) (has s q) (paired q ∙ ap (λ (w : List ℕ). has_stem q.0.items (find w es)) (sym ((bytes_eq-Decides word q.1.items).0 h)) ∙ ap (has_stem q.0.items) none))
+      pair_at false h = rw h (added_away (is_stem q.0.items (outcome_of t.outcome)) (has s q) ∙ paired q)
 
-  -- a word leaves with its outcome and its pair
-  pub paired_remove : find word es ≡ Some o
+  -- a word leaves with its run and its pair
+  pub paired_remove : find word es ≡ Some t
       → ((w : Text) → find w.items fs ≡ cond (bytes_eq word w.items) None (find w.items es))
-      → ((q : Key) → has n q ≡ (not (is_pair_of word (outcome_of o) q) && has s q)) → ArePaired fs n
+      → ((q : Key) → has n q ≡ (not (is_pair_of word (outcome_of t.outcome) q) && has s q)) → ArePaired fs n
   paired_remove there finds pairs q = pairs q ∙ pair_at (bytes_eq word q.1.items) refl ∙ ap (has_stem q.0.items) (sym (finds q.1))
     where
-      pair_at : (b : Bool) → bytes_eq word q.1.items ≡ b → (not (is_pair_of word (outcome_of o) q) && has s q) ≡ has_stem q.0.items (cond (bytes_eq word q.1.items) None (find q.1.items es))
+      pair_at : (b : Bool) → bytes_eq word q.1.items ≡ b → (not (is_pair_of word (outcome_of t.outcome) q) && has s q) ≡ has_stem q.0.items (cond (bytes_eq word q.1.items) None (find q.1.items es))
       pair_at true h =
-          rw h (removed_here (is_stem q.0.items (outcome_of o)) (has s q) (paired q ∙ ap (λ (w : List ℕ). has_stem q.0.items (find w es)) (sym ((bytes_eq-Decides word q.1.items).0 h)) ∙ ap (has_stem q.0.items) there))
-      pair_at false h = rw h (removed_away (is_stem q.0.items (outcome_of o)) (has s q) ∙ paired q)
+          rw h (removed_here (is_stem q.0.items (outcome_of t.outcome)) (has s q) (paired q ∙ ap (λ (w : List ℕ). has_stem q.0.items (find w es)) (sym ((bytes_eq-Decides word q.1.items).0 h)) ∙ ap (has_stem q.0.items) there))
+      pair_at false h = rw h (removed_away (is_stem q.0.items (outcome_of t.outcome)) (has s q) ∙ paired q)

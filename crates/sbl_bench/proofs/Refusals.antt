@@ -13,7 +13,7 @@ use Rattle.sbl_bench.specs.Kept.{KeptWord, words_in}
 use Rattle.sbl_bench.specs.declared.fault.EditFault.{EditFault}
 use Rattle.sbl_bench.specs.declared.fault.EditFault.TheVariants as fault
 use Rattle.sbl_bench.specs.Contents.{Contents, max_runs}
-use Rattle.sbl_bench.specs.Edits.{Edit, Edits, Add, Remove, Replace, IsScriptAfter, edited, is_of_script, lacks_counts, refusal_of_add, runs_needed, wants_memory, words_after}
+use Rattle.sbl_bench.specs.Edits.{Edit, Edits, Add, Remove, IsScriptAfter, edited, lacks_counts, refusal_of_add, runs_needed, wants_memory, words_after}
 use Rattle.sbl_bench.specs.Stops.{IsStop}
 use Rattle.sbl_bench.specs.Vocabulary.{is_word, without}
 
@@ -52,29 +52,6 @@ filter_off (w ∷ words) = filter_off words
 
 pub no_run : (s : Contents) (word : List ℕ) → runs_needed s (Remove word) ≡ 0
 no_run s word = ap length (filter_off (without word s.words))
-
--- an edit of the script runs them all
-filter_on : (words : List (List ℕ)) → filter (λ w. true) words ≡ words
-filter_on [] = refl
-filter_on (w ∷ words) = ap (λ (ws : List (List ℕ)). w ∷ ws) (filter_on words)
-
-not_true : false ≡ true → ⊥
-not_true h = cc
-
-pub all_run : (s : Contents) (e : Edit) → is_of_script e ≡ true → runs_needed s e ≡ length s.words
-all_run s (Add word) h = absurd (not_true h)
-all_run s (Remove word) h = absurd (not_true h)
-all_run s (Replace what text) h = ap length (filter_on s.words)
-
-same_words : (s : Contents) (e : Edit) → is_of_script e ≡ true → words_after s e ≡ s.words
-same_words s (Add word) h = absurd (not_true h)
-same_words s (Remove word) h = absurd (not_true h)
-same_words s (Replace what text) h = refl
-
-wants : (e : Edit) → is_of_script e ≡ true → wants_memory e ≡ true
-wants (Add word) h = absurd (not_true h)
-wants (Remove word) h = absurd (not_true h)
-wants (Replace what text) h = refl
 
 -- ---- adding a word
 
@@ -146,40 +123,39 @@ removes s word words there gone = record {
 
 -- ---- editing the script
 
--- where enough counts are left for all words
-enough : (s : Contents) (e : Edit) (before needed : ℕ) → is_of_script e ≡ true → before ≡ s.count → needed ≡ length s.words → needed ≤ max_runs - before
-    → lacks_counts s e ≡ false
-enough s e before needed h so many room = rw (all_run s e h, sym so, sym many) (le-ltb (max_runs - before) needed room)
+-- where enough counts are left for the words that it has to run
+enough : (s : Contents) (e : Edit) (before needed : ℕ) → before ≡ s.count → needed ≡ runs_needed s e → needed ≤ max_runs - before → lacks_counts s e ≡ false
+enough s e before needed so many room = rw (sym so, sym many) (le-ltb (max_runs - before) needed room)
 
--- where fewer counts are left than there are words
-pub replaces_never : (s : Contents) (e : Edit) (p : Source) (count needed : ℕ) → is_of_script e ≡ true → IsScriptAfter s e p
-    → count ≡ s.count → needed ≡ length s.words → max_runs - count < needed → Edits (Err fault.MeterFull) s e s
-replaces_never s e p count needed h after so many full =
+-- where fewer counts are left than that
+pub replaces_never : (s : Contents) (e : Edit) (p : Source) (count needed : ℕ) → IsScriptAfter s e p
+    → count ≡ s.count → needed ≡ runs_needed s e → max_runs - count < needed → Edits (Err fault.MeterFull) s e s
+replaces_never s e p count needed after so many full =
     let test : nat_lt (max_runs - count) needed ≡ true = grind (arith, nat_tests) in
-    (inr (record { script = p; after = after; counts = rw (all_run s e h, sym so, sym many) test; is = refl }), refl)
+    (inr (record { script = p; after = after; counts = rw (sym so, sym many) test; is = refl }), refl)
 
 -- where memory was refused after some runs
-pub replaces_nothing : (s : Contents) (e : Edit) (p : Source) (words : List (List ℕ)) (before needed count : ℕ) → is_of_script e ≡ true → IsScriptAfter s e p
-    → before ≡ s.count → needed ≡ length s.words → needed ≤ max_runs - before → words ≡ s.words
-    → ((n : ℕ) × (n ≤ length s.words) × (count ≡ s.count + n))
+pub replaces_nothing : (s : Contents) (e : Edit) (p : Source) (words : List (List ℕ)) (before needed count : ℕ) → wants_memory e ≡ true → IsScriptAfter s e p
+    → before ≡ s.count → needed ≡ runs_needed s e → needed ≤ max_runs - before → words ≡ s.words
+    → ((n : ℕ) × (n ≤ runs_needed s e) × (count ≡ s.count + n))
     → Edits (Err fault.OutOfMemory) s e (record s { words = words; count = count })
-replaces_nothing s e p words before needed count h after so many room same ran = record {
-  wanted = wants e h;
+replaces_nothing s e p words before needed count wanted after so many room same ran = record {
+  wanted = wanted;
   is = inr (record {
     made = edited s e p;
-    accepted = record { script = p; after = after; counts = enough s e before needed h so many room; is = refl };
+    accepted = record { script = p; after = after; counts = enough s e before needed so many room; is = refl };
     runs = ran.0;
-    bound = rw (all_run s e h) ran.1;
+    bound = ran.1;
     is = λ i. record { script = s.script; words = same i; count = ran.2 i };
   });
 }
 
-pub replaces : (s : Contents) (e : Edit) (p : Source) (words : List (List ℕ)) (before needed count : ℕ) → is_of_script e ≡ true → IsScriptAfter s e p
-    → before ≡ s.count → needed ≡ length s.words → needed ≤ max_runs - before
-    → words ≡ s.words → count ≡ s.count + length s.words → Edits (Ok tt) s e (record { script = p; words = words; count = count })
-replaces s e p words before needed count h after so many room same counts = record {
+pub replaces : (s : Contents) (e : Edit) (p : Source) (words : List (List ℕ)) (before needed count : ℕ) → IsScriptAfter s e p
+    → before ≡ s.count → needed ≡ runs_needed s e → needed ≤ max_runs - before
+    → words ≡ words_after s e → count ≡ s.count + runs_needed s e → Edits (Ok tt) s e (record { script = p; words = words; count = count })
+replaces s e p words before needed count after so many room same counts = record {
   script = p;
   after = after;
-  counts = enough s e before needed h so many room;
-  is = λ i. record { script = p; words = (same ∙ sym (same_words s e h)) i; count = (counts ∙ ap (λ (n : ℕ). s.count + n) (sym (all_run s e h))) i };
+  counts = enough s e before needed so many room;
+  is = λ i. record { script = p; words = same i; count = counts i };
 }

@@ -1,5 +1,5 @@
 -- What an edit of the script that is refused for its name, its number or its text answers.
-use Rattle.std.proofs.Common.{◌≡◌, ◌⊎◌, ◌∙◌, ℕ, true, List, Result, Err, inl, inr, refl, sym, ap}
+use Rattle.std.proofs.Common.{◌≡◌, ◌⊎◌, ℕ, true, List, Result, Ok, Err, inl, inr, refl, sym, ap}
 use Rattle.sbl_script.specs.Edits.{ScriptEdit, IsEditFault, home}
 use Rattle.sbl_script.specs.declared.edit_fault.EditFault as declared
 use Rattle.sbl_script.specs.declared.edit_fault.EditFault.TheVariants as script
@@ -13,6 +13,9 @@ not_routine r out missing = cc
 
 not_among : {A : Type 0} (r : Result A declared.EditFault) → r ≡ Err script.OutOfMemory → r ≡ Err script.NoAmong → ⊥
 not_among r out missing = cc
+
+not_made : {A : Type 0} (r : Result A declared.EditFault) (a : A) (f : declared.EditFault) → r ≡ Ok a → r ≡ Err f → ⊥
+not_made r a f made missing = cc
 
 module _ {A : Type 0} (s : Contents) (what : ScriptEdit) (text : List ℕ) (r : Result A declared.EditFault)
     (missing : (f : declared.EditFault) → home s.script.items what ≡ Err f → r ≡ Err f) where
@@ -31,6 +34,18 @@ module _ {A : Type 0} (s : Contents) (what : ScriptEdit) (text : List ℕ) (r : 
   known script.AmongCount is = (inl (script.AmongCount, is, refl), refl)
   known (script.Script f) is = (inl (script.Script f, is, refl), refl)
   known script.OutOfMemory is = absurd is
+
+  -- where a script was made, it is for its text that the edit is refused, if it is
+  of_its_text : (a : A) (g : declared.EditFault) (f : EditFault) → r ≡ Ok a → IsEditFault s.script what text g → f ≡ fault_of_script g → is_of_text f ≡ true
+  of_its_text a script.NoRoutine f made is same = absurd (not_made r a script.NoRoutine made (missing script.NoRoutine is))
+  of_its_text a script.NoAmong f made is same = absurd (not_made r a script.NoAmong made (missing script.NoAmong is))
+  of_its_text a script.AmongCount f made is same = ap is_of_text same
+  of_its_text a (script.Script g) f made is same = ap is_of_text same
+  of_its_text a script.OutOfMemory f made is same = absurd is
+
+  -- where memory was refused behind that
+  pub nothing_made : (a : A) → r ≡ Ok a → Edits (Err fault.OutOfMemory) s (Replace what text) s
+  nothing_made a made = record { wanted = refl; is = inl (λ f refused. of_its_text a refused.0 f made refused.1 refused.2, refl) }
 
   out_of_memory : r ≡ Err script.OutOfMemory → Edits (Err fault.OutOfMemory) s (Replace what text) s
   out_of_memory out = record { wanted = refl; is = inl (λ f refused. for_its_text refused.0 f out refused.1 refused.2, refl) }

@@ -7,11 +7,11 @@ use Rattle.std.specs.declared.vec.Vec.{Vec}
 use Rattle.std.specs.declared.alloc.Global.{Global}
 use Rattle.std.specs.Map.{lookup, remove_entry}
 use Rattle.sbl_script.specs.Parsed.{Source}
-use Rattle.sbl_machine.specs.declared.outcome.Outcome.{Outcome}
-use Rattle.sbl_machine.specs.Outcome.{outcome_of, run_of}
+use Rattle.sbl_machine.specs.declared.outcome.Traced.{Traced}
+use Rattle.sbl_machine.specs.Outcome.{outcome_of}
 use Rattle.sbl_bench.specs.declared.fault.EditFault.{EditFault}
-use Rattle.sbl_bench.specs.Kept.{KeptWord, words_in, AreFresh, IsWord, IsKept}
-use Rattle.sbl_bench.specs.Rows.{Row, rows_of, max_steps}
+use Rattle.sbl_bench.specs.Kept.{KeptWord, words_in, AreFresh, IsFresh, IsWord, IsKept}
+use Rattle.sbl_bench.specs.Rows.{Row, rows_of}
 use Rattle.sbl_bench.specs.Vocabulary.{is_word, without}
 
 abbrev pub is_key : List ℕ → Vec ℕ Global → Bool
@@ -31,7 +31,7 @@ found_word word (e ∷ es) = by (is_key word e.0) refl (found_word word es)
 pub not_found : (word : List ℕ) (es : List KeptWord) → is_word word (words_in es) ≡ false → lookup (is_key word) es ≡ None
 not_found word es new = by (lookup (is_key word) es) (found_word word es ∙ new)
   where
-    by : (o : Option Outcome) → is_some o ≡ false → o ≡ None
+    by : (o : Option Traced) → is_some o ≡ false → o ≡ None
     by None h = refl
     by (Some x) h = cc
 
@@ -39,13 +39,13 @@ pub words-push : (es : List KeptWord) (e : KeptWord) → words_in (es ++ e ∷ [
 words-push [] e = refl
 words-push (x ∷ es) e = ap (λ (ws : List (List ℕ)). x.0.items ∷ ws) (words-push es e)
 
-fresh-push : (script : Source) (es : List KeptWord) (e : KeptWord) → AreFresh script es → outcome_of e.1 ≡ run_of script e.0.items max_steps → AreFresh script (es ++ e ∷ [])
+fresh-push : (script : Source) (es : List KeptWord) (e : KeptWord) → AreFresh script es → IsFresh script e.0.items e.1 → AreFresh script (es ++ e ∷ [])
 fresh-push script [] e h p = (p, tt)
 fresh-push script (x ∷ es) e h p = (h.0, fresh-push script es e h.1 p)
 
 -- a word that is run and put last
 pub kept-push : (script : Source) (es : List KeptWord) (e : KeptWord) → IsKept script es → IsWord e.0.items → length es < 100000
-    → outcome_of e.1 ≡ run_of script e.0.items max_steps → IsKept script (es ++ e ∷ [])
+    → IsFresh script e.0.items e.1 → IsKept script (es ++ e ∷ [])
 kept-push script es e h word room ran = record {
   fresh = fresh-push script es e h.fresh ran;
   sound = subst (All IsWord) (sym (words-push es e)) (All-push IsWord (words_in es) e.0.items h.sound word);
@@ -54,12 +54,12 @@ kept-push script es e h word room ran = record {
 
 -- the row that an entry shows
 abbrev pub shown : KeptWord → Row
-shown e = record { word = e.0.items; outcome = outcome_of e.1 }
+shown e = record { word = e.0.items; outcome = outcome_of e.1.outcome }
 
 -- fresh entries show the rows of their words
 pub rows_shown : (script : Source) (es : List KeptWord) → AreFresh script es → map shown es ≡ rows_of script (words_in es)
 rows_shown script [] h = refl
-rows_shown script (e ∷ es) h = λ i. record { word = e.0.items; outcome = h.0 i } ∷ rows_shown script es h.1 i
+rows_shown script (e ∷ es) h = λ i. record { word = e.0.items; outcome = h.0.outcome i } ∷ rows_shown script es h.1 i
 
 -- entries that are kept, whether a word was put last or not
 pub kept_either : (script : Source) (es new : List KeptWord) (r : Result (Unit {0}) EditFault) → IsKept script es

@@ -1,4 +1,4 @@
--- The set of pairs of a stem and a word that has it, beside the words and their outcomes.
+-- The set of pairs of a stem and a word that has it, beside the words and their runs.
 use Rattle.std.specs.Prelude.{◌≡◌, ◌&&◌, ℕ, Bool, false, List, Option, Some, None}
 use Rattle.std.specs.declared.vec.Vec.{Vec}
 use Rattle.std.specs.declared.alloc.Global.{Global}
@@ -8,7 +8,7 @@ use Rattle.std.specs.Cmp.Lexicographic.{slice_cmp}
 use Rattle.std.specs.Str.{bytes_eq}
 use Rattle.std.specs.Map.{lookup}
 use Rattle.std.specs.BTreeSet.{BTreeSet, contains}
-use Rattle.sbl_machine.specs.declared.outcome.Outcome.{Outcome}
+use Rattle.sbl_machine.specs.declared.outcome.Traced.{Traced}
 use Rattle.sbl_machine.specs.Outcome.{Outcome', outcome_of}
 use Rattle.sbl_bench.specs.Classes.{is_stem}
 use Rattle.sbl_bench.specs.Kept.{KeptWord}
@@ -20,13 +20,13 @@ Text = Vec ℕ Global
 abbrev pub Key : Type 0
 Key = Text × Text
 
--- what the word's run gave
-abbrev pub find : List ℕ → List KeptWord → Option Outcome
+-- the word's last run
+abbrev pub find : List ℕ → List KeptWord → Option Traced
 find word entries = lookup (λ k. bytes_eq word k.items) entries
 
-abbrev pub has_stem : List ℕ → Option Outcome → Bool
+abbrev pub has_stem : List ℕ → Option Traced → Bool
 has_stem s None = false
-has_stem s (Some o) = is_stem s (outcome_of o)
+has_stem s (Some t) = is_stem s (outcome_of t.outcome)
 
 -- by the stem, then by the word, both in code point order, a front first
 abbrev pub key_cmp : Key → Key → Ordering

@@ -1,10 +1,10 @@
 //! The bench, and what it is asked.
 
-ghost use Rattle.std.specs.Prelude.{◌≡◌, ◌≤◌, ◌+◌, ◌^◌, ◌↔◌, IsTrue, length, map, IfOk, slice_get};
+ghost use Rattle.std.specs.Prelude.{◌≡◌, ◌≤◌, ◌+◌, ◌^◌, ◌↔◌, IsTrue, false, length, map, None, Ok, IfOk, slice_get};
 
 use crate::row::Row;
 use indexmap::IndexMap;
-use sbl_machine::{Machine, Meter, Outcome, Table};
+use sbl_machine::{Item, Machine, Meter, Table, Traced};
 use sbl_script::Script;
 use std::alloc::{AllocError, Global};
 use std::collections::BTreeSet;
@@ -22,7 +22,8 @@ pub struct Bench {
     pub(crate) alloc: Global,
     pub(crate) script: Script,
     pub(crate) machine: Machine<Table>,
-    pub(crate) outcomes: IndexMap<Vec<char>, Outcome>,
+    // each word's last run, which a fresh run would not differ from
+    pub(crate) traces: IndexMap<Vec<char>, Traced>,
     // each word that has a stem, behind it
     pub(crate) pairs: BTreeSet<(Vec<char>, Vec<char>)>,
     pub(crate) meter: Meter,
@@ -40,28 +41,31 @@ impl Model for Bench {
 
     ghost coded = { Prim.hlevel (codes, e.the_row.coded) };
 
-    ghost view = { λ b. record { script = b.script; words = words_in b.outcomes.entries; count = b.meter } };
+    ghost view = { λ b. record { script = b.script; words = words_in b.traces.entries; count = b.meter } };
 
-    ghost invariant = { λ b. IsLinkedMachineOf b.machine (source_of b.script) × IsKept (source_of b.script) b.outcomes.entries × ArePaired b.outcomes.entries b.pairs };
+    ghost invariant = { λ b. IsLinkedMachineOf b.machine (source_of b.script) × IsKept (source_of b.script) b.traces.entries × ArePaired b.traces.entries b.pairs };
 }
 
 impl Bench {
     ghost use Rattle.std.specs.Option.{option_map};
     ghost use Rattle.sbl_script.specs.Parsed.{source_of};
+    ghost use Rattle.sbl_machine.specs.Touched.{items_in};
     ghost use Rattle.sbl_bench.specs.Rows.{rows_of, view_row};
+    ghost use Rattle.sbl_bench.specs.Traces.{trace_of};
+    ghost use Rattle.sbl_bench.specs.Vocabulary.{is_word};
 
     /// How many words the vocabulary has. Takes no memory.
     pub fn len(&self) -> usize
         ensures { result ≡ length self.now.words }
     {
-        self.outcomes.len()
+        self.traces.len()
     }
 
     /// Whether the vocabulary has no word. Takes no memory.
     pub fn is_empty(&self) -> bool
         ensures { IsTrue result ↔ (length self.now.words ≡ 0) }
     {
-        self.outcomes.is_empty()
+        self.traces.is_empty()
     }
 
     /// The row of the word at place `i`, counted from 0 in vocabulary order. None exactly where `i` is not below the number of
@@ -69,10 +73,10 @@ impl Bench {
     pub fn row(&self, i: usize) -> Option<Row<'_>>
         ensures { option_map view_row result ≡ slice_get (rows_of (source_of self.now.script) self.now.words) i }
     {
-        let (word, outcome) = self.outcomes.get_index(i)?;
+        let (word, traced) = self.traces.get_index(i)?;
         Some(Row {
             word: word.as_slice(),
-            outcome,
+            outcome: &traced.outcome,
         })
     }
 
@@ -81,14 +85,30 @@ impl Bench {
         ensures { IfOk result (λ rows. map view_row rows.items ≡ rows_of (source_of self.now.script) self.now.words) }
     {
         let mut rows = Vec::with_capacity(self.alloc, self.len())?;
-        for (word, outcome) in self.outcomes.iter() {
+        for (word, traced) in self.traces.iter() {
             let row = Row {
                 word: word.as_slice(),
-                outcome,
+                outcome: &traced.outcome,
             };
             rows.push(row).map_err(|_| AllocError)?;
         }
         Ok(rows)
+    }
+
+    /// What the run of a word touches: the routines whose bodies it enters and the amongs whose searches it pays, each once,
+    /// routines by name in code point order, then amongs by name and number. None exactly where the word is not in the
+    /// vocabulary; that takes no memory. It answers AllocError where a growth is refused.
+    pub fn touched(&self, word: &[char]) -> Result<Option<BTreeSet<Item>>, AllocError>
+        ensures touched { IfOk result (λ items. option_map items_in items ≡ trace_of (source_of self.now.script) self.now.words word.now) }
+        ensures absent { is_word word.now self.now.words ≡ false → result ≡ Ok None }
+    {
+        match self.traces.get(word) {
+            Some(traced) => {
+                let items = self.machine.items(self.alloc, traced.touches.as_slice())?;
+                Ok(Some(items))
+            }
+            None => Ok(None),
+        }
     }
 
     /// How many runs the bench has made since it was opened. Takes no memory.

@@ -32,7 +32,7 @@ impl Bench {
         ensures { IfOk result (λ classes. map view_class classes.items ≡ classes_of (rows_of (source_of self.now.script) self.now.words)) }
     {
         // The count says besides that no word stands twice.
-        let _count = self.outcomes.len();
+        let _count = self.traces.len();
         let mut classes = Vec::new(self.alloc);
         for pair in self.pairs.iter() {
             put_last(
@@ -51,15 +51,17 @@ impl Bench {
         ensures { IfOk result (λ class. option_map view_class class ≡ class_of (rows_of (source_of self.now.script) self.now.words) word.now) }
     {
         // The count says besides that no word stands twice.
-        let _count = self.outcomes.len();
-        match self.outcomes.get(word) {
-            Some(Outcome::Stem(stem)) => {
+        let _count = self.traces.len();
+        let Some(traced) = self.traces.get(word) else {
+            return Ok(None);
+        };
+        match &traced.outcome {
+            Outcome::Stem(stem) => {
                 let words = words_with(self.alloc, stem.as_slice(), &self.pairs)?;
                 let stem = Vec::from_slice(self.alloc, stem.as_slice())?;
                 Ok(Some(Class { stem, words }))
             }
-            Some(Outcome::Refused(_)) => Ok(None),
-            None => Ok(None),
+            Outcome::Refused(_) => Ok(None),
         }
     }
 }

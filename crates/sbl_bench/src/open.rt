@@ -11,9 +11,9 @@ ghost use Rattle.sbl_bench.specs.Pairs.{ArePaired};
 
 use crate::bench::{Bench, MAX_WORD_LENGTH, MAX_WORDS};
 use crate::fault::EditFault;
-use crate::outcomes::{has_word, put_last};
+use crate::traces::{has_word, put_last};
 use indexmap::IndexMap;
-use sbl_machine::{Machine, Meter, Outcome, Table};
+use sbl_machine::{Machine, Meter, Table, Traced};
 use sbl_script::Script;
 use std::alloc::Global;
 use std::collections::BTreeSet;
@@ -33,16 +33,16 @@ impl Bench {
     {
         let machine = Machine::new(alloc, &script)?;
         let mut meter = Meter::new();
-        let mut outcomes = IndexMap::new(alloc);
+        let mut traces = IndexMap::new(alloc);
         let mut pairs = BTreeSet::new(alloc);
         for word in words {
-            take_word(alloc, &machine, &mut meter, &mut outcomes, &mut pairs, word)?;
+            take_word(alloc, &machine, &mut meter, &mut traces, &mut pairs, word)?;
         }
         Ok(Bench {
             alloc,
             script,
             machine,
-            outcomes,
+            traces,
             pairs,
             meter,
         })
@@ -50,10 +50,10 @@ impl Bench {
 }
 
 /// Whether the word is empty or one of those that are kept. Takes no memory.
-fn is_skipped(outcomes: &IndexMap<Vec<char>, Outcome>, word: &[char]) -> bool
-    ensures { result ≡ vocabulary.is_skipped word.now (words_in outcomes.now.entries) }
+fn is_skipped(traces: &IndexMap<Vec<char>, Traced>, word: &[char]) -> bool
+    ensures { result ≡ vocabulary.is_skipped word.now (words_in traces.now.entries) }
 {
-    word.is_empty() || has_word(outcomes, word)
+    word.is_empty() || has_word(traces, word)
 }
 
 /// Takes one word of the list that a bench is opened over: skips it, or runs it and puts it last. It answers WordTooLong, Full
@@ -62,27 +62,27 @@ fn take_word(
     alloc: Global,
     machine: &Machine<Table>,
     meter: &mut Meter,
-    outcomes: &mut IndexMap<Vec<char>, Outcome>,
+    traces: &mut IndexMap<Vec<char>, Traced>,
     pairs: &mut BTreeSet<(Vec<char>, Vec<char>)>,
     word: Vec<char>,
 ) -> Result<(), EditFault>
-    requires counted { meter.old ≡ length outcomes.old.entries }
-    requires room { length outcomes.old.entries ≤ 100000 }
-    ensures words { OnOk result (words_in outcomes.new.entries ≡ with_word (words_in outcomes.old.entries) word.items) }
-    ensures kept { OnOk result ((s : Source) → IsLinkedMachineOf machine.now s → IsKept s outcomes.old.entries → IsKept s outcomes.new.entries) }
-    ensures paired { ArePaired outcomes.old.entries pairs.old → ArePaired outcomes.new.entries pairs.new }
-    ensures counted { OnOk result (meter.new ≡ length outcomes.new.entries) }
-    ensures ok { OnOk result (word_fault (words_in outcomes.old.entries) word.items ≡ None) }
-    ensures fault { IfErr result (λ f. IsFaultOrMemory (word_fault (words_in outcomes.old.entries) word.items) f) }
+    requires counted { meter.old ≡ length traces.old.entries }
+    requires room { length traces.old.entries ≤ 100000 }
+    ensures words { OnOk result (words_in traces.new.entries ≡ with_word (words_in traces.old.entries) word.items) }
+    ensures kept { OnOk result ((s : Source) → IsLinkedMachineOf machine.now s → IsKept s traces.old.entries → IsKept s traces.new.entries) }
+    ensures paired { ArePaired traces.old.entries pairs.old → ArePaired traces.new.entries pairs.new }
+    ensures counted { OnOk result (meter.new ≡ length traces.new.entries) }
+    ensures ok { OnOk result (word_fault (words_in traces.old.entries) word.items ≡ None) }
+    ensures fault { IfErr result (λ f. IsFaultOrMemory (word_fault (words_in traces.old.entries) word.items) f) }
 {
     if word.len() > MAX_WORD_LENGTH {
         return Err(EditFault::WordTooLong);
     }
-    if is_skipped(outcomes, word.as_slice()) {
+    if is_skipped(traces, word.as_slice()) {
         return Ok(());
     }
-    if outcomes.len() >= MAX_WORDS {
+    if traces.len() >= MAX_WORDS {
         return Err(EditFault::Full);
     }
-    put_last(alloc, machine, meter, outcomes, pairs, word)
+    put_last(alloc, machine, meter, traces, pairs, word)
 }

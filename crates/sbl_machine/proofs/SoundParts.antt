@@ -23,20 +23,20 @@ use Rattle.sbl_tree.specs.Tree.{bare, group}
 use Rattle.sbl_program.specs.declared.node.Candidate as code
 use Rattle.sbl_program.specs.Ahead.{found_as}
 use Rattle.sbl_tables.specs.Fitting.{below, fitting, onto, read_as, read_all, ahead_at}
-use Rattle.sbl_program.specs.Items.{Known, place_of}
+use Rattle.sbl_program.specs.Items.{Known}
 use Rattle.sbl_machine.specs.Meaning as meaning
 use Rattle.sbl_machine.specs.Meaning.{Offer, offer, offers}
-use Rattle.sbl_machine.specs.Moves.{characters}
+use Rattle.sbl_run.specs.Moves.{characters}
 use Rattle.sbl_program.specs.Numbered.{change_of, relation_of}
 use Rattle.sbl_program.specs.NumberedAmongs.{strings_in, strings_behind, condition_of, entries_in, entries_behind}
 use Rattle.sbl_program.specs.Grouped.{added, added_all, scaled, scaled_all}
 use Rattle.sbl_program.specs.NumberedNames.{Names, number_of}
 use Rattle.sbl_program.specs.NumberedNumbers.{text, constant, expression, sums_in, product, scales_in, factor}
-use Rattle.sbl_machine.specs.Numbers.{Value, value, fitted, with_value, changed, holds, integer_at}
+use Rattle.sbl_run.specs.Numbers.{Value, value, fitted, with_value, changed, holds, integer_at}
 use Rattle.sbl_program.specs.Program as programs
 use Rattle.sbl_program.specs.Regions.{Among}
-use Rattle.sbl_machine.specs.Search.{bound_in, choose, condition_does, try_one, tries, search_all}
-use Rattle.sbl_machine.specs.State.{State, Ending, Signals, Doing, after, saved_cursor, place_after, then_on, pay}
+use Rattle.sbl_run.specs.Search.{bound_in, choose, condition_does, try_one, tries, searched, search_all, touch_among}
+use Rattle.sbl_run.specs.State.{State, Ending, Signals, Doing, after, saved_cursor, place_after, then_on, pay}
 use Rattle.sbl_program.proofs.SoundItems.{less_suc, placed_by}
 use Rattle.sbl_tree.specs.declared.mode.Mode.{Mode}
 
@@ -61,6 +61,7 @@ pub record Agree (ns : Names) (known : Known) : Type 0 where
   pub integers : ns.integers ≡ known.integers
   pub booleans : ns.booleans ≡ known.booleans
   pub groupings : ns.groupings ≡ known.groupings
+  pub routines : ns.routines ≡ known.routines
 
 module _ (ns : Names) (known : Known) (agree : Agree ns known) where
   pub text_same : (a : trees.Argument) (s : State) → characters (text ns a) s ≡ meaning.text known a s
@@ -212,12 +213,15 @@ module _ (ns : Names) (known : Known) (agree : Agree ns known) where
         (ap (λ i. nat_lt i (length (as_read r os))) (sym e) ∙ offer_there r w os)
         (fun_ext (tries_same k os r m from x l))
 
-    pub search_same : (a : Among) (m : Mode) (s : State) → search_all call (found_as ns a).number (found_as ns a).entries (found_as ns a).strings m s ≡ meaning.search call' a m s
+    searched_same : (a : Among) (m : Mode) (s : State) → searched call (found_as ns a).number (found_as ns a).entries (found_as ns a).strings m s ≡ meaning.searched call' a m s
     unfolding fitting
-    search_same a m s =
+    searched_same a m s =
         let os = offers 0 a.groups in
         let x = ahead_at a.mode s.text s.cursor (bound_in m s) in
         let fits = λ (strings : List (List ℕ)). below (read_all a.mode strings) x (suc (length x)) in
         ap (λ es. tries call a.number es m s (fits (strings_behind a.groups [])) s) (entries_are 0 a.groups [])
         ∙ ap (λ xs. tries call a.number (map entry_by os) m s (fits xs) s) (strings_are 0 a.groups [])
         ∙ tries_same a.number os a.mode m s x (suc (length x)) s
+
+    pub search_same : (a : Among) (m : Mode) (s : State) → search_all call (found_as ns a).number (found_as ns a).entries (found_as ns a).strings m s ≡ meaning.search call' a m s
+    search_same a m s = searched_same a m (touch_among a.number s)

@@ -3,16 +3,17 @@ use Rattle.std.proofs.Common.{◌≡◌, ℕ, zero, suc, Bool, List, [], Option,
 use Rattle.std.proofs.Math.Path.{fun_ext}
 use Rattle.sbl_program.specs.Items.{Known, ItemInMode, Body, in_order, known_in, class_of, classes_behind, body_named}
 use Rattle.sbl_machine.specs.Meaning as meaning
-use Rattle.sbl_program.specs.Numbered.{numbered_script, plan_in, plan_with}
+use Rattle.sbl_machine.specs.Numbered.{numbered_script}
+use Rattle.sbl_program.specs.Numbered.{numbered_items, plan_in, plan_with}
 use Rattle.sbl_program.specs.NumberedNames.{Names, names_behind, no_names, number_of}
-use Rattle.sbl_machine.specs.Outcome.{ending_of, start}
+use Rattle.sbl_run.specs.Start.{ending_of, start}
 use Rattle.sbl_program.specs.Program as programs
 use Rattle.sbl_program.specs.Regions.{behind, behind_others}
-use Rattle.sbl_machine.specs.Run as run
-use Rattle.sbl_machine.specs.Run.{enter, leave, paid, does}
-use Rattle.sbl_machine.specs.State.{State, Doing}
+use Rattle.sbl_run.specs.Run as run
+use Rattle.sbl_run.specs.Run.{enter, leave, paid, does}
+use Rattle.sbl_run.specs.State.{State, Doing}
 use Rattle.sbl_machine.proofs.SoundActs.{row_sound}
-use Rattle.sbl_program.proofs.SoundItems.{placed_is, strings_are, integers_are, booleans_are, groupings_are, as_made}
+use Rattle.sbl_program.proofs.SoundItems.{placed_is, strings_are, integers_are, booleans_are, groupings_are, routines_are, placed_by, as_made}
 use Rattle.sbl_machine.proofs.SoundParts.{Agree}
 use Rattle.sbl_program.proofs.Own.{class_same, routine_same}
 use Rattle.sbl_script.specs.Parsed.{Source}
@@ -38,28 +39,33 @@ module _ (items : List ItemInMode) (external : List ℕ) where
     integers = integers_are items no_names;
     booleans = booleans_are items no_names;
     groupings = groupings_are items no_names;
+    routines = routines_are items no_names;
   }
 
-  body_same : (call : ℕ → Doing) (call' : List ℕ → Doing) (o : Option Body) (m : Mode) (s : State) → ((n : List ℕ) → call (number_of ns.routines n) ≡ call' n) → run.body_does (does program.groupings call) (option_map (as_made ns) o) m s ≡ meaning.body_does known class call' o m s
-  body_same call call' None m s h = refl
-  body_same call call' (Some b) m s h =
-      ap (λ d. leave s.choices (paid d m (enter (behind_others b.others (behind b.first 0)) s))) (row_sound ns known agree program.groupings class call call' (class_same items external) h b.mode b.first b.others)
+  body_same : (call : ℕ → Doing) (call' : List ℕ → Doing) (n : List ℕ) (o : Option Body) (m : Mode) (s : State) → ((n : List ℕ) → call (number_of ns.routines n) ≡ call' n) → run.body_does (does program.groupings call) (number_of ns.routines n) (option_map (as_made ns) o) m s ≡ meaning.body_does known class call' n o m s
+  body_same call call' n None m s h = refl
+  body_same call call' n (Some b) m s h =
+      let i = number_of ns.routines n in
+      let amongs = behind_others b.others (behind b.first 0) in
+      ap (λ d. leave s.routine s.choices (paid d m (enter i amongs s))) (row_sound ns known agree program.groupings class call call' (class_same items external) h b.mode b.first b.others)
+      ∙ ap (λ i. leave s.routine s.choices (paid (meaning.row_does known class call' b.mode b.first b.others) m (enter i amongs s))) (placed_by _ _ n agree.routines)
 
   calls_same : (l : ℕ) (n : List ℕ) (m : Mode) (s : State) → run.calls program l (number_of ns.routines n) m s ≡ meaning.calls known class (body_named items) l n m s
   calls_same zero n m s = refl
   calls_same (suc l) n m s =
-      ap (λ o. run.body_does (does program.groupings (run.calls program l)) o m s) (routine_same items external n)
-      ∙ body_same (run.calls program l) (meaning.calls known class (body_named items) l) (body_named items n) m s (λ n. fun_ext (λ m. fun_ext (λ s. calls_same l n m s)))
+      ap (λ o. run.body_does (does program.groupings (run.calls program l)) (number_of ns.routines n) o m s) (routine_same items external n)
+      ∙ body_same (run.calls program l) (meaning.calls known class (body_named items) l) n (body_named items n) m s (λ n. fun_ext (λ m. fun_ext (λ s. calls_same l n m s)))
 
-  abbrev known_by : List (List ℕ) → List (List ℕ) → List (List ℕ) → List (List ℕ) → Known
-  known_by a b c d = record { strings = a; integers = b; booleans = c; groupings = d }
+  abbrev known_by : List (List ℕ) → List (List ℕ) → List (List ℕ) → List (List ℕ) → List (List ℕ) → Known
+  known_by a b c d e = record { strings = a; integers = b; booleans = c; groupings = d; routines = e }
 
-  known_same : known_by ns.strings ns.integers ns.booleans ns.groupings ≡ known
+  known_same : known_by ns.strings ns.integers ns.booleans ns.groupings ns.routines ≡ known
   known_same =
-      ap (λ a. known_by a ns.integers ns.booleans ns.groupings) agree.strings
-      ∙ ap (λ b. known_by known.strings b ns.booleans ns.groupings) agree.integers
-      ∙ ap (λ c. known_by known.strings known.integers c ns.groupings) agree.booleans
-      ∙ ap (λ d. known_by known.strings known.integers known.booleans d) agree.groupings
+      ap (λ a. known_by a ns.integers ns.booleans ns.groupings ns.routines) agree.strings
+      ∙ ap (λ b. known_by known.strings b ns.booleans ns.groupings ns.routines) agree.integers
+      ∙ ap (λ c. known_by known.strings known.integers c ns.groupings ns.routines) agree.booleans
+      ∙ ap (λ d. known_by known.strings known.integers known.booleans d ns.routines) agree.groupings
+      ∙ ap (λ e. known_by known.strings known.integers known.booleans known.groupings e) agree.routines
 
   start_same : (word : List ℕ) (limit : ℕ) → start program word limit ≡ meaning.start known word limit
   start_same word limit = ap (λ k. meaning.start k word limit) known_same
@@ -68,7 +74,7 @@ module _ (items : List ItemInMode) (external : List ℕ) where
   by_items word limit = calls_same 32 external Forward (start program word limit) ∙ ap (meaning.calls known class (body_named items) 32 external Forward) (start_same word limit)
 
 pub ending_same : (script : Source) (word : List ℕ) (limit : ℕ) → ending_of (numbered_script script) word limit ≡ meaning.ending script word limit
-unfolding numbered_script meaning.ending
+unfolding numbered_items meaning.ending
 ending_same script word limit =
     ap (λ items. ending_of (plan_in items script.external) word limit) (placed_is script.items)
     ∙ by_items (in_order script.items) script.external word limit

@@ -1,13 +1,13 @@
 -- What is done with more steps left: the same, unless it ended for want of them.
 use Rattle.std.proofs.Common.{◌≡◌, ℕ, zero, suc, ◌+◌, ◌-◌, ◌<◌, ◌≤◌, Bool, true, false, Ok, Err, refl, sym, ap, subst, arith}
 use Rattle.std.specs.Prelude.{ℤ, length, nat_le, nat_lt, if◌then◌else◌}
-use Rattle.sbl_machine.specs.declared.fault.RunFault.{RunFault}
-use Rattle.sbl_machine.specs.declared.fault.RunFault.TheVariants as faults
-use Rattle.sbl_machine.specs.declared.state.SavedCursor.{SavedCursor}
-use Rattle.sbl_machine.specs.Moves.{next}
-use Rattle.sbl_machine.specs.Numbers.{Value, given}
-use Rattle.sbl_machine.specs.Run.{turns, times, seeks, found, paid}
-use Rattle.sbl_machine.specs.State.{State, Ending, Signals, Stops, Doing, after, then_on, pay, at_place, at_difference, to_limit, room, saved_cursor, put_back, step_over, place_after}
+use Rattle.sbl_run.specs.declared.fault.RunFault.{RunFault}
+use Rattle.sbl_run.specs.declared.fault.RunFault.TheVariants as faults
+use Rattle.sbl_run.specs.declared.state.SavedCursor.{SavedCursor}
+use Rattle.sbl_run.specs.Moves.{next}
+use Rattle.sbl_run.specs.Numbers.{Value, given}
+use Rattle.sbl_run.specs.Run.{turns, times, seeks, found, paid}
+use Rattle.sbl_run.specs.State.{State, Ending, Signals, Stops, Doing, after, then_on, pay, at_place, at_difference, to_limit, room, saved_cursor, put_back, step_over, place_after}
 use Rattle.sbl_tree.specs.declared.mode.Mode.{Mode}
 use Rattle.sbl_tree.specs.declared.mode.Mode.TheVariants.{Forward, Backward}
 

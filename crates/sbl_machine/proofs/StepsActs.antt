@@ -24,16 +24,16 @@ use Rattle.sbl_tree.specs.Tree as trees
 use Rattle.sbl_tables.specs.Fitting.{read_as, ahead_at}
 use Rattle.sbl_program.specs.Items.{Known, place_of}
 use Rattle.sbl_program.specs.Regions.{Among}
-use Rattle.sbl_machine.specs.declared.fault.RunFault.TheVariants as faults
-use Rattle.sbl_machine.specs.declared.state.Limits.{Limits}
+use Rattle.sbl_run.specs.declared.fault.RunFault.TheVariants as faults
+use Rattle.sbl_run.specs.declared.state.Limits.{Limits}
 use Rattle.sbl_machine.specs.Meaning as meaning
 use Rattle.sbl_machine.specs.Meaning.{Offer, prefixed_does, counted_does, joined_does, limited_does, simple_does, moved_does, assigned_does, compared_does, next_has, class_does, named_does, edited_does, begins, takes, tried, search}
-use Rattle.sbl_machine.specs.Moves.{match, hop, at_mark, to_mark}
-use Rattle.sbl_machine.specs.Numbers.{Value, fitted, natural, with_value, integer_at}
-use Rattle.sbl_machine.specs.Run.{turns, times, count_of, limits, limited, limit_here, limit_back, backwards_from, backwards_end, chosen, paid}
-use Rattle.sbl_machine.specs.Search.{bound_in, choose}
-use Rattle.sbl_machine.specs.Slices.{is_slice, replaced, replace, keep, inserted, put_in}
-use Rattle.sbl_machine.specs.State.{State, Ending, Signals, Stops, Doing, ahead, after, then_on, room, saved_cursor, place_after, put_back}
+use Rattle.sbl_run.specs.Moves.{match, hop, at_mark, to_mark}
+use Rattle.sbl_run.specs.Numbers.{Value, fitted, natural, with_value, integer_at}
+use Rattle.sbl_run.specs.Run.{turns, times, count_of, limits, limited, limit_here, limit_back, backwards_from, backwards_end, chosen, paid}
+use Rattle.sbl_run.specs.Search.{bound_in, choose, touch_among}
+use Rattle.sbl_run.specs.Slices.{is_slice, replaced, replace, keep, inserted, put_in}
+use Rattle.sbl_run.specs.State.{State, Ending, Signals, Stops, Doing, ahead, after, then_on, room, saved_cursor, place_after, put_back}
 use Rattle.sbl_machine.proofs.Steps.{more, Goes, Steady, Pays, signals_go, steady_goes, then_goes, if_goes, given_goes, pays_go, paid_go, at_place_go, to_limit_go, put_back_go, place_after_go, next_go, turns_goes, times_go, seeks_goes}
 use Rattle.std.proofs.Math.Path.{fun_ext}
 use Rattle.sbl_tree.specs.declared.mode.Mode.{Mode}
@@ -251,5 +251,5 @@ module _ (call : List ℕ → Doing) (go : (x : List ℕ) (m : Mode) → Steady 
       (tried_go a.number os a.mode m s x (suc (length x)) k n s l)
 
   pub search_go : (a : Among) (m : Mode) → Steady (search call a m)
-  search_go a Forward k n s l = search_goes a Forward (ahead_at a.mode s.text s.cursor (bound_in Forward s)) k n s l
-  search_go a Backward k n s l = search_goes a Backward (ahead_at a.mode s.text s.cursor (bound_in Backward s)) k n s l
+  search_go a Forward k n s l = search_goes a Forward (ahead_at a.mode s.text s.cursor (bound_in Forward s)) k n (touch_among a.number s) l
+  search_go a Backward k n s l = search_goes a Backward (ahead_at a.mode s.text s.cursor (bound_in Backward s)) k n (touch_among a.number s) l

@@ -1,10 +1,10 @@
 -- Where a limit is enough, each limit of at least the steps that were used is.
 use Rattle.std.proofs.Common.{◌≡◌, ◌⊎◌, inl, inr, ℕ, zero, suc, ◌+◌, ◌-◌, ◌<◌, ◌≤◌, List, [], refl, sym, ap, subst, ◌∙◌, arith}
-use Rattle.sbl_machine.specs.declared.fault.RunFault.TheVariants as faults
+use Rattle.sbl_run.specs.declared.fault.RunFault.TheVariants as faults
 use Rattle.sbl_machine.specs.EnoughSteps.{RefusedForSteps, UsedStepsSuffice}
 use Rattle.sbl_machine.specs.Meaning as meaning
 use Rattle.sbl_machine.specs.Outcome.{Refused, outcome_at, used_at, run_of, used_of}
-use Rattle.sbl_machine.specs.State.{State, Ending, Signals, Stops}
+use Rattle.sbl_run.specs.State.{State, Ending, Signals, Stops}
 use Rattle.sbl_machine.proofs.Steps.{Within, Goes}
 use Rattle.sbl_machine.proofs.StepsRuns.{calls_go}
 use Rattle.sbl_program.specs.Items.{in_order, known_in, class_of, classes_behind, body_named}

@@ -7,10 +7,10 @@ use Rattle.sbl_program.specs.Items.{Known, Body, place_of, is_among}
 use Rattle.sbl_program.specs.Regions.{Among, among_at, behind, behind_rows, behind_others, behind_starter, first, first_rows, first_others, mode_behind, waits, waits_others}
 use Rattle.sbl_machine.specs.Meaning as meaning
 use Rattle.sbl_machine.specs.Meaning.{begins, joined_does, search}
-use Rattle.sbl_machine.specs.Numbers.{integer_at}
-use Rattle.sbl_machine.specs.Run.{chosen, enter, paid}
-use Rattle.sbl_machine.specs.Search.{choice}
-use Rattle.sbl_machine.specs.State.{Signals, Doing}
+use Rattle.sbl_run.specs.Numbers.{integer_at}
+use Rattle.sbl_run.specs.Run.{chosen, back_in, enter, paid}
+use Rattle.sbl_run.specs.Search.{choice}
+use Rattle.sbl_run.specs.State.{Signals, Doing}
 use Rattle.sbl_machine.proofs.Steps.{more, Goes, Steady, signals_go, steady_goes, if_goes, pays_go, paid_pays}
 use Rattle.sbl_machine.proofs.StepsActs.{edited_go, named_go, match_go, class_go, moved_goes, simple_go, assigned_goes, compared_goes, text_more, worth_more, prefixed_go, counted_goes, joined_go, limited_go, begins_go, chosen_goes, search_go}
 use Rattle.sbl_tree.specs.declared.mode.Mode.{Mode}
@@ -85,15 +85,15 @@ module _ (ns : Known) (class : List ℕ → ℕ → Bool) (call : List ℕ → D
   row_go : (r : Mode) (c : trees.Command) (os : trees.Others) (m : Mode) → Steady (meaning.row_does ns class call r c os m)
   row_go r c os = others_go os r (behind c 0) (waits c false) None (does r 0 false (first_others r os (behind c 0) None) c) (act_go c r 0 false (first_others r os (behind c 0) None))
 
-  body_go : (b : Option Body) (m : Mode) → Steady (meaning.body_does ns class call b m)
-  body_go None m k n s l = (l, refl)
-  body_go (Some b) m k n s l =
+  body_go : (x : List ℕ) (b : Option Body) (m : Mode) → Steady (meaning.body_does ns class call x b m)
+  body_go x None m k n s l = (l, refl)
+  body_go x (Some b) m k n s l =
       let d = paid (meaning.row_does ns class call b.mode b.first b.others) m in
-      let begun = enter (behind_others b.others (behind b.first 0)) s in
-      steady_goes k n (d begun) (d (more k begun)) (λ t. Signals true (record t { choices = s.choices })) (λ t. Signals false (record t { choices = s.choices }))
+      let begun = enter (place_of ns.routines x) (behind_others b.others (behind b.first 0)) s in
+      steady_goes k n (d begun) (d (more k begun)) (λ t. Signals true (back_in s.routine s.choices t)) (λ t. Signals false (back_in s.routine s.choices t))
       (pays_go (paid (meaning.row_does ns class call b.mode b.first b.others)) (paid_pays (meaning.row_does ns class call b.mode b.first b.others) (row_go b.mode b.first b.others)) m k n begun l)
       (λ k n t j. (j, refl)) (λ k n t j. (j, refl))
 
 pub calls_go : (ns : Known) (class : List ℕ → ℕ → Bool) (bodies : List ℕ → Option Body) (levels : ℕ) (x : List ℕ) (m : Mode) → Steady (meaning.calls ns class bodies levels x m)
 calls_go ns class bodies zero x m k n s l = (l, refl)
-calls_go ns class bodies (suc levels) x m k n s l = body_go ns class (meaning.calls ns class bodies levels) (calls_go ns class bodies levels) (bodies x) m k n s l
+calls_go ns class bodies (suc levels) x m k n s l = body_go ns class (meaning.calls ns class bodies levels) (calls_go ns class bodies levels) x (bodies x) m k n s l

@@ -1,5 +1,5 @@
 -- The strings of each table of a well declared script differ.
-use Rattle.std.proofs.Common.{◌≡◌, ◌↔◌, ℕ, zero, suc, List, [], ◌∷◌, ◌++◌, length, map, reverse, true, false, Some, refl, sym, ap, subst, ◌∙◌, append_assoc, append-nil}
+use Rattle.std.proofs.Common.{◌≡◌, ◌↔◌, ℕ, zero, suc, List, [], ◌∷◌, ◌++◌, length, map, reverse, false, Some, refl, sym, ap, subst, ◌∙◌, append_assoc, append-nil}
 use Rattle.std.specs.Prelude.{slice_get}
 use Rattle.std.specs.List.{AllByRecursion, IsDistinct}
 use Rattle.std.specs.Str.{bytes_eq}
@@ -133,7 +133,7 @@ in_order_sound (plain x ∷ is) s = (s.0, in_order_sound is s.1)
 in_order_sound (backward xs ∷ is) s = in_mode_sound Backward xs (in_order is) s.0 (in_order_sound is s.1)
 
 pub tables_differ : AmongsAreSound → TablesDiffer
-tables_differ sound script well = all_behind (names_in script) (in_order script.items) [] (in_order_sound script.items (sound script.items script.external well)) tt
+tables_differ sound script well = all_behind (names_in script.items) (in_order script.items) [] (in_order_sound script.items (sound script.items script.external well)) tt
 
 exact_in : FittingAreMatches → (fs : List Found) → AllDo fs → AllByRecursion (λ f. (x : List ℕ) (i : ℕ) → StandsIn i (fitting (strings_read f) x) ↔ Matches (strings_read f) x i) fs
 exact_in fits [] a = tt

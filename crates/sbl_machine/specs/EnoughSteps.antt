@@ -1,6 +1,6 @@
 -- What the limit of a run changes: nothing, where it is not met.
 use Rattle.std.specs.Prelude.{◌≡◌, ◌↔◌, ℕ, ◌<◌, ◌≤◌, List}
-use Rattle.sbl_machine.specs.declared.fault.RunFault.TheVariants.{Steps}
+use Rattle.sbl_run.specs.declared.fault.RunFault.TheVariants.{Steps}
 use Rattle.sbl_machine.specs.Outcome.{Refused, run_of, used_of}
 use Rattle.sbl_script.specs.Parsed.{Source}
 

@@ -1,10 +1,10 @@
 -- What a run has not touched does not matter to it.
 use Rattle.std.specs.Prelude.{◌≡◌, ℕ, Bool, false, List}
 use Rattle.std.specs.List.{list_any}
+use Rattle.std.specs.List.Sorted.{IsStrictlySortedBy}
 use Rattle.sbl_machine.specs.Holes.{holed_script}
-use Rattle.sbl_machine.specs.Meaning.{ending}
 use Rattle.sbl_machine.specs.Outcome.{run_of, used_of, touches_of}
-use Rattle.sbl_machine.specs.Touched.{Item', replaced, same_item, touched_of, touches, routine_names}
+use Rattle.sbl_machine.specs.Touched.{Item', item_cmp, replaced, same_item, touched_of, touches, routine_names}
 use Rattle.sbl_script.specs.Edits.{ScriptEdit, IsEdited}
 use Rattle.sbl_script.specs.Parsed.{Source}
 
@@ -46,3 +46,7 @@ UntouchedStay =
 abbrev pub TouchesAreTouched : Type 0
 TouchesAreTouched =
     (x : Item') (script : Source) (word : List ℕ) (limit : ℕ) → list_any (same_item x) (touched_of script word limit) ≡ touches x script word limit
+
+-- and these rise, each once
+abbrev pub TouchedRise : Type 0
+TouchedRise = (script : Source) (word : List ℕ) (limit : ℕ) → IsStrictlySortedBy item_cmp (touched_of script word limit)

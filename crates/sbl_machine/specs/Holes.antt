@@ -1,5 +1,5 @@
 -- A script with holes in the place of some of its items: of an among only the number of those in it is left, of a routine nothing.
-use Rattle.std.specs.Prelude.{ℕ, zero, suc, Bool, List, [], map, Option, None, if◌then◌else◌}
+use Rattle.std.specs.Prelude.{ℕ, suc, Bool, [], map, None, if◌then◌else◌}
 use Rattle.sbl_machine.specs.Touched.{Item', Routine, Among}
 use Rattle.sbl_program.specs.Regions.{behind, behind_others, behind_rows, behind_starter}
 use Rattle.sbl_script.specs.Parsed.{Source}

@@ -1,16 +1,13 @@
 -- What a run over a word gives, and what it costs.
-use Rattle.std.specs.Prelude.{ℕ, pos, false, ◌+◌, ◌-◌, List, [], replicate}
-use Rattle.sbl_machine.specs.declared.fault.RunFault.{RunFault}
-use Rattle.sbl_machine.specs.declared.fault.RunFault.TheVariants as faults
+use Rattle.std.specs.Prelude.{ℕ, ◌+◌, ◌-◌, List}
+use Rattle.sbl_run.specs.declared.fault.RunFault.{RunFault}
+use Rattle.sbl_run.specs.declared.fault.RunFault.TheVariants as faults
 use Rattle.sbl_machine.specs.declared.outcome.Outcome.{Outcome}
 use Rattle.sbl_machine.specs.declared.outcome.Outcome.TheVariants as code
-use Rattle.sbl_machine.specs.declared.touch.Touch.{Touch}
+use Rattle.sbl_run.specs.declared.touch.Touch.{Touch}
 use Rattle.sbl_machine.specs.Meaning.{ending}
-use Rattle.sbl_program.specs.Program as programs
-use Rattle.sbl_machine.specs.Run.{calls}
-use Rattle.sbl_machine.specs.State.{State, Ending, Signals, Stops}
+use Rattle.sbl_run.specs.State.{Ending, Signals, Stops}
 use Rattle.sbl_script.specs.Parsed.{Source}
-use Rattle.sbl_tree.specs.declared.mode.Mode.TheVariants.{Forward}
 
 -- a stem, or why there is none
 pub data Outcome' : Type 0 where
@@ -21,28 +18,6 @@ pub data Outcome' : Type 0 where
 abbrev pub outcome_of : Outcome → Outcome'
 outcome_of (code.Stem text) = Stem text.items
 outcome_of (code.Refused fault) = Refused fault
-
--- where a run of a word begins: integers 0, booleans false, strings empty, nothing touched
-abbrev pub start : programs.Program → List ℕ → ℕ → State
-start p word steps = record {
-  text = word;
-  cursor = 0;
-  left = 0;
-  beyond = 0;
-  bra = 0;
-  ket = 0;
-  integers = replicate p.integers (pos 0);
-  booleans = replicate p.booleans false;
-  strings = replicate p.strings [];
-  choices = [];
-  routine = 0;
-  touched = [];
-  steps = steps;
-}
-
--- how a run of a word ends: the external's body runs forwards, on the first of 32 levels
-abbrev pub ending_of : programs.Program → List ℕ → ℕ → Ending
-ending_of p word limit = calls p 32 p.external Forward (start p word limit)
 
 -- the text as it stands at the end is the stem, whatever the signal
 abbrev pub outcome_at : Ending → Outcome'

@@ -11,7 +11,7 @@ use Rattle.sbl_script.specs.Parsed.{Source}
 
 -- the amongs of a script, for each of which there is a table
 abbrev pub amongs_of : Source → List Found
-amongs_of script = found_behind (names_in script) (in_order script.items) []
+amongs_of script = found_behind (names_in script.items) (in_order script.items) []
 
 -- an among's strings, as the mode of its place reads them
 abbrev pub strings_read : Found → List (List ℕ)

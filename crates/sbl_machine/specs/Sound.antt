@@ -1,8 +1,8 @@
 -- What is shown of runs.
 use Rattle.std.specs.Prelude.{◌≡◌, ℕ, List}
 use Rattle.sbl_machine.specs.Meaning.{ending}
-use Rattle.sbl_machine.specs.Outcome.{ending_of}
-use Rattle.sbl_program.specs.Numbered.{numbered_script}
+use Rattle.sbl_run.specs.Start.{ending_of}
+use Rattle.sbl_machine.specs.Numbered.{numbered_script}
 use Rattle.sbl_script.specs.Parsed.{Source}
 
 -- a run of a script's program is a run of the script

@@ -9,8 +9,8 @@ use Rattle.std.specs.Cmp.Lexicographic.{slice_cmp}
 use Rattle.std.specs.BTreeSet.{BTreeSet, insert_key}
 use Rattle.sbl_machine.specs.declared.item.Item.{Item}
 use Rattle.sbl_machine.specs.declared.item.Item.TheVariants as code
-use Rattle.sbl_machine.specs.declared.touch.Touch.{Touch}
-use Rattle.sbl_machine.specs.declared.touch.Touch.TheVariants.{Entered, Searched}
+use Rattle.sbl_run.specs.declared.touch.Touch.{Touch}
+use Rattle.sbl_run.specs.declared.touch.Touch.TheVariants.{Entered, Searched}
 use Rattle.sbl_machine.specs.Outcome.{touches_of}
 use Rattle.sbl_program.specs.Items.{in_order, routines_in}
 use Rattle.sbl_script.specs.Edits.{ScriptEdit, body, among}

@@ -1,54 +1,9 @@
-//! How a run ends early.
+//! Why a run is not made.
 
 ghost use Rattle.std.specs.Prelude.{◌≡◌};
 
 use std::alloc::AllocError;
 use thiserror::Error;
-
-/// Why a run is refused. It is displayed as its code and its name.
-#[derive(Clone, Copy, Debug, Drop, PartialEq, Eq, Error)]
-pub enum RunFault {
-    /// The steps are spent (our own choice: each command pays a step).
-    #[error("60 Steps")]
-    Steps,
-    /// A call on a level that is too deep (our own choice).
-    #[error("61 Depth")]
-    Depth,
-    /// The slice is none: its ends are crossed, or it goes past the limit.
-    #[error("62 Slice")]
-    Slice,
-    /// The cursor would leave the text.
-    #[error("63 Cursor")]
-    Cursor,
-    /// A number does not fit.
-    #[error("64 Integer")]
-    Integer,
-    /// A division by zero.
-    #[error("65 Divide")]
-    Divide,
-    /// The text would have more than 1,024 characters (our own choice).
-    #[error("66 TooLong")]
-    TooLong,
-}
-
-impl RunFault {
-    ghost use Rattle.sbl_machine.specs.Names.{name_of};
-
-    /// The name alone.
-    pub fn name(self) -> &'static str
-        ensures { result.now ≡ name_of self }
-    {
-        match self {
-            RunFault::Steps => "Steps",
-            RunFault::Depth => "Depth",
-            RunFault::Slice => "Slice",
-            RunFault::Cursor => "Cursor",
-            RunFault::Integer => "Integer",
-            RunFault::Divide => "Divide",
-            RunFault::TooLong => "TooLong",
-        }
-    }
-}
 
 /// Why `Machine::run` has no answer.
 #[derive(Clone, Copy, Debug, Drop, PartialEq, Eq, Error)]

@@ -2,19 +2,19 @@
 #![tactic(auto)]
 
 mod fault;
-mod halt;
+mod item;
 pub mod laws;
 mod machine;
 mod meter;
+mod naming;
 mod outcome;
-mod run;
-mod state;
-mod table;
 
-pub use fault::{RunFault, RunStop};
+pub use fault::RunStop;
+pub use item::Item;
 pub use machine::Machine;
 pub use meter::Meter;
-pub use outcome::{Outcome, Ran};
+pub use outcome::{Outcome, Ran, Traced};
+pub use sbl_run::{RunFault, Touch};
 pub use sbl_tables::{AmongSearch, LinkedTable, PlainTable};
 
 /// The search that a program runs on.

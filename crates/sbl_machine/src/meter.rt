@@ -2,7 +2,7 @@
 
 ghost use Rattle.std.specs.Prelude.{◌≡◌, ◌+◌, ◌<◌, ◌^◌, IsTrue, false, ◌↔◌};
 
-use crate::state::State;
+use sbl_run::State;
 use std::marker::Model;
 
 /// Counts the runs that were made, and keeps what the last one leaves to the next.
@@ -47,13 +47,14 @@ impl Meter {
         self.count() == u64::MAX
     }
 
-    /// Counts one more run.
-    pub(crate) fn raise(&mut self)
+    /// Counts one more run, and keeps the state in which it ended for the next one.
+    pub(crate) fn count_run(&mut self, state: State)
         requires { self.old < u64.MAX }
         ensures { self.new ≡ self.old + 1 }
     {
-        let Meter { runs, last: _ } = self;
+        let Meter { runs, last } = self;
         *runs += 1;
+        *last = Some(state);
     }
 
     /// The state in which the last run ended, if one is kept. It is kept no more.
@@ -61,12 +62,5 @@ impl Meter {
         ensures { self.new ≡ self.old }
     {
         self.last.take()
-    }
-
-    /// Keeps a state for the next run.
-    pub(crate) fn keep_last(&mut self, state: State)
-        ensures { self.new ≡ self.old }
-    {
-        self.last = Some(state);
     }
 }

@@ -2,15 +2,15 @@
 use Rattle.std.proofs.Common.{◌≡◌, ℕ, List, [], option_map, sym, ap, ◌∙◌}
 use Rattle.std.specs.Prelude.{slice_get, slice_index_or}
 use Rattle.sbl_program.specs.Ahead.{routines_in}
-use Rattle.sbl_program.specs.Items.{ItemInMode, Known, in_order, known_in, class_of, classes_behind, body_named}
-use Rattle.sbl_program.specs.Numbered.{numbered_script, plan_in, plan_with}
+use Rattle.sbl_program.specs.Items.{ItemInMode, in_order, routines_in as routine_names, class_of, classes_behind, body_named}
+use Rattle.sbl_program.specs.Numbered.{numbered_items, plan_in, plan_with}
 use Rattle.sbl_program.specs.NumberedNames.{Names, names_behind, no_names, number_of}
 use Rattle.sbl_program.specs.NumberedSets.{has, sets_behind}
 use Rattle.sbl_program.specs.Program as programs
 use Rattle.sbl_program.specs.Laws.{RoutineIsItsOwn, SetsAreClasses, names_in}
 use Rattle.sbl_program.proofs.Coming.{own_is_made}
-use Rattle.sbl_program.proofs.SoundItems.{placed_by, placed_is, groupings_are, routines_are, routine_names, sets_are, as_made, body_at}
-use Rattle.sbl_script.specs.Parsed.{Source}
+use Rattle.sbl_program.proofs.SoundItems.{placed_by, placed_is, groupings_are, routines_are, sets_are, as_made, body_at}
+use Rattle.sbl_tree.specs.Tree.{Item}
 
 module _ (items : List ItemInMode) (external : List ℕ) where
   abbrev ns : Names
@@ -28,21 +28,21 @@ module _ (items : List ItemInMode) (external : List ℕ) where
       ∙ ap (λ i. slice_get (routines_in ns items) i) (placed_by ns.routines (routine_names items) n (routines_are items no_names))
       ∙ body_at ns items n
 
-program_is : (script : Source) → numbered_script script ≡ plan_in (in_order script.items) script.external
-unfolding numbered_script
-program_is script = ap (λ items. plan_in items script.external) (placed_is script.items)
+program_is : (items : List Item) (external : List ℕ) → numbered_items items external ≡ plan_in (in_order items) external
+unfolding numbered_items
+program_is items external = ap (λ placed. plan_in placed external) (placed_is items)
 
 pub routine_is_its_own : RoutineIsItsOwn
-routine_is_its_own s s' n e h =
+routine_is_its_own s s' external external' n e h =
     let i = number_of (names_in s).routines n in
     let i' = number_of (names_in s').routines n in
-    ap (λ (p : programs.Program). slice_get p.routines i) (program_is s)
-    ∙ routine_same (in_order s.items) s.external n
-    ∙ ap (λ ns. option_map (as_made ns) (body_named (in_order s.items) n)) e
+    ap (λ (p : programs.Program). slice_get p.routines i) (program_is s external)
+    ∙ routine_same (in_order s) external n
+    ∙ ap (λ ns. option_map (as_made ns) (body_named (in_order s) n)) e
     ∙ ap (option_map (as_made (names_in s'))) h
-    ∙ sym (ap (λ (p : programs.Program). slice_get p.routines i') (program_is s') ∙ routine_same (in_order s'.items) s'.external n)
+    ∙ sym (ap (λ (p : programs.Program). slice_get p.routines i') (program_is s' external') ∙ routine_same (in_order s') external' n)
 
 pub sets_are_classes : SetsAreClasses
-sets_are_classes script n c =
-    ap (λ (p : programs.Program). has (slice_index_or p.groupings (number_of (names_in script).groupings n) []) c) (program_is script)
-    ∙ class_same (in_order script.items) script.external n c
+sets_are_classes items external n c =
+    ap (λ (p : programs.Program). has (slice_index_or p.groupings (number_of (names_in items).groupings n) []) c) (program_is items external)
+    ∙ class_same (in_order items) external n c

@@ -8,7 +8,7 @@ use Rattle.sbl_tree.specs.declared.tree.Additive.TheVariants.{Plus, Minus}
 use Rattle.sbl_tree.specs.declared.tree.DeclarationKind.TheVariants as kinds
 use Rattle.sbl_tree.specs.Tree.{Argument, written_out, by_name, Term, term, Item, Plain, declaration, escapes, macro, routine, grouping, plain, backward}
 use Rattle.sbl_program.specs.Ahead.{routine_made, routine_in, routines_in}
-use Rattle.sbl_program.specs.Items.{ItemInMode, in_mode, in_order, is_among, place_of, strings_with, integers_with, booleans_with, groupings_with, strings_in, integers_in, booleans_in, groupings_in, Grouping, class_of, term_has, terms_have, and_grouping, classes_behind, Body, body_or, body_named}
+use Rattle.sbl_program.specs.Items.{ItemInMode, in_mode, in_order, is_among, place_of, strings_with, integers_with, booleans_with, groupings_with, routines_with, strings_in, integers_in, booleans_in, groupings_in, routines_in as routine_names, Grouping, class_of, term_has, terms_have, and_grouping, classes_behind, Body, body_or, body_named}
 use Rattle.sbl_program.specs.NumberedNames.{Names, placed_in, placed, naming, names_behind, number_from, number_of, is_one_of}
 use Rattle.sbl_program.specs.NumberedSets.{has, united, lessened, characters_of, with_terms, with_set, sets_behind}
 use Rattle.sbl_program.specs.Program as programs
@@ -34,14 +34,6 @@ pub placed_is : (is : List Item) → placed is [] ≡ in_order is
 placed_is is = order_is is []
 
 -- ---- names
-
-abbrev pub routines_with : Plain → List (List ℕ) → List (List ℕ)
-routines_with (routine n c os) rest = n ∷ rest
-routines_with x rest = rest
-
-abbrev pub routine_names : List ItemInMode → List (List ℕ)
-routine_names [] = []
-routine_names (x ∷ xs) = routines_with x.plain (routine_names xs)
 
 strings_more : (x : Plain) (all : Names) (more : List (List ℕ)) → (naming x all).strings ++ more ≡ all.strings ++ strings_with x more
 strings_more (declaration kinds.Strings ns) all more = append_assoc all.strings ns more

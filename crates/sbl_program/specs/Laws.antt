@@ -2,33 +2,33 @@
 use Rattle.std.specs.Prelude.{◌≡◌, ℕ, false, List, [], Option, slice_get, slice_index_or}
 use Rattle.sbl_program.specs.Ahead.{routines_in}
 use Rattle.sbl_program.specs.Items.{ItemInMode, body_named, class_of, classes_behind, in_order}
-use Rattle.sbl_program.specs.Numbered.{numbered_script, routines_behind}
+use Rattle.sbl_program.specs.Numbered.{numbered_items, routines_behind}
 use Rattle.sbl_program.specs.NumberedAmongs.{found_behind}
 use Rattle.sbl_program.specs.NumberedNames.{Names, names_behind, no_names, number_of}
 use Rattle.sbl_program.specs.NumberedSets.{has}
 use Rattle.sbl_program.specs.Program.{Routine}
-use Rattle.sbl_script.specs.Parsed.{Source}
+use Rattle.sbl_tree.specs.Tree.{Item}
 
 -- each routine is numbered by itself
 abbrev pub OwnIsMade : Type 0
 OwnIsMade = (ns : Names) (items : List ItemInMode) → routines_behind ns items (record { coming = found_behind ns items []; behind = 0; waits = false }) [] ≡ routines_in ns items
 
-abbrev pub names_in : Source → Names
-names_in script = names_behind (in_order script.items) no_names
+abbrev pub names_in : List Item → Names
+names_in items = names_behind (in_order items) no_names
 
--- the program of the routine of a name
-abbrev pub routine_at : Source → List ℕ → Option Routine
-routine_at script n = slice_get (numbered_script script).routines (number_of (names_in script).routines n)
+-- the program of the routine of a name, in the program of some items and an external
+abbrev pub routine_at : List Item → List ℕ → List ℕ → Option Routine
+routine_at items external n = slice_get (numbered_items items external).routines (number_of (names_in items).routines n)
 
 -- Two scripts with the same names, in which a routine has the same body, have one program for it, whatever else they say:
 -- an edit of a routine leaves the programs of all others.
 abbrev pub RoutineIsItsOwn : Type 0
 RoutineIsItsOwn =
-    (s s' : Source) (n : List ℕ) → names_in s ≡ names_in s' → body_named (in_order s.items) n ≡ body_named (in_order s'.items) n →
-    routine_at s n ≡ routine_at s' n
+    (items items' : List Item) (external external' n : List ℕ) → names_in items ≡ names_in items' →
+    body_named (in_order items) n ≡ body_named (in_order items') n → routine_at items external n ≡ routine_at items' external' n
 
 -- a character is in a grouping's set exactly where its terms, added and taken away from the left, have it
 abbrev pub SetsAreClasses : Type 0
 SetsAreClasses =
-    (script : Source) (n : List ℕ) (c : ℕ) →
-    has (slice_index_or (numbered_script script).groupings (number_of (names_in script).groupings n) []) c ≡ class_of (classes_behind (in_order script.items) []) n c
+    (items : List Item) (external n : List ℕ) (c : ℕ) →
+    has (slice_index_or (numbered_items items external).groupings (number_of (names_in items).groupings n) []) c ≡ class_of (classes_behind (in_order items) []) n c

@@ -19,7 +19,6 @@ use Rattle.sbl_tree.specs.declared.tree.Comparison.TheVariants as comparisons
 use Rattle.sbl_tree.specs.Tree as trees
 use Rattle.sbl_tree.specs.Tree.{bracket, simple_, literal_, name_, non_, prefixed, counted, move_, named, splice_, setlimit_, assign_, compare_, compare_values_, among_, no_rows, row, no_others, joined, no_starter, starter, bare, group, declaration, escapes, macro, routine, grouping}
 use Rattle.sbl_tree.specs.declared.mode.Mode.TheVariants.{Forward}
-use Rattle.sbl_script.specs.Parsed.{Source}
 use Rattle.sbl_program.specs.declared.action.Change.{Change}
 use Rattle.sbl_program.specs.declared.action.Change.TheVariants as changes
 use Rattle.sbl_program.specs.declared.action.Relation.{Relation}
@@ -286,5 +285,5 @@ plan_with ns items external = program_by ns items (found_behind ns items []) ext
 abbrev pub plan_in : List ItemInMode → List ℕ → programs.Program
 plan_in items external = plan_with (names_behind items no_names) items external
 
-unfoldable pub numbered_script : Source → programs.Program
-numbered_script s = plan_in (placed s.items []) s.external
+unfoldable pub numbered_items : List trees.Item → List ℕ → programs.Program
+numbered_items items external = plan_in (placed items []) external

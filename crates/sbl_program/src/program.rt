@@ -1,11 +1,11 @@
 //! The program of a script.
 
-ghost use Rattle.std.specs.Prelude.{◌≡◌, [], false, map, length, OnOk, IfOk};
+ghost use Rattle.std.specs.Prelude.{◌≡◌, [], false, map, length, OnOk, IfOk, string_bytes};
 ghost use Rattle.sbl_tree.specs.View.{view_items, view_plain, view_row};
+ghost use Rattle.sbl_program.specs.Items.{in_order, routines_in};
 ghost use Rattle.sbl_program.specs.Numbered as spec;
 ghost use Rattle.sbl_program.specs.NumberedView.{strings_at, view_found, view_names, view_place, view_placed};
 ghost use Rattle.sbl_program.specs.ProgramOf.{program_of, view_routine};
-ghost use Rattle.sbl_script.specs.Parsed.{source_of};
 
 use crate::amongs::{Found, amongs_of};
 use crate::commands::row_of;
@@ -13,8 +13,7 @@ use crate::names::{ItemInMode, Names, names_of, number_of, place_all};
 use crate::node::{Program, Routine};
 use crate::place::{Position, begun, closed, left_of, past_row};
 use crate::sets::sets_of;
-use sbl_script::Script;
-use sbl_tree::{Plain, Row};
+use sbl_tree::{Item, Plain, Row};
 use std::alloc::{AllocError, Global};
 
 fn routine_of(
@@ -103,15 +102,23 @@ pub struct Made {
     pub program: Program,
     /// The amongs, in the order of the tables.
     pub amongs: Vec<Found>,
+    /// The names of the routines, in the order of their definitions.
+    pub routines: Vec<String>,
 }
 
-/// The program of a script. AllocError where a growth was refused.
-pub fn numbered(alloc: Global, script: &Script) -> Result<Made, AllocError>
-    ensures { IfOk result (λ n. program_of (strings_at n.amongs.items) n.program ≡ spec.numbered_script (source_of script.now)) }
+/// The program of a script's items, whose external is run. AllocError where a growth was refused.
+pub fn numbered(alloc: Global, items: &[Item], external: &str) -> Result<Made, AllocError>
+    ensures program { IfOk result (λ n. program_of (strings_at n.amongs.items) n.program ≡ spec.numbered_items (view_items items.now) external.now) }
+    ensures routines { IfOk result (λ n. map string_bytes n.routines.items ≡ routines_in (in_order (view_items items.now))) }
 {
-    let items = place_all(alloc, script.items())?;
-    let names = names_of(alloc, &items)?;
-    let amongs = amongs_of(alloc, &names, &items)?;
-    let program = program_by(alloc, &names, &items, &amongs, script.external())?;
-    Ok(Made { program, amongs })
+    let placed = place_all(alloc, items)?;
+    let names = names_of(alloc, &placed)?;
+    let amongs = amongs_of(alloc, &names, &placed)?;
+    let program = program_by(alloc, &names, &placed, &amongs, external)?;
+    let Names { routines, .. } = names;
+    Ok(Made {
+        program,
+        amongs,
+        routines,
+    })
 }

@@ -6,10 +6,10 @@ use Rattle.std.proofs.lemmas.Slice.Eq.{bytes_eq-Decides}
 use Rattle.std.specs.Str.{bytes_eq, is_utf8}
 use Rattle.std.specs.Io.KnownBytes.{IsAtEnd}
 use Rattle.snowbench.specs.Block.{AllText, BlockLines, NoPoint, TookBlock, point}
-use Rattle.snowbench.specs.Held.{AllFit, IsTooLong, StandFirst, Took}
-use Rattle.snowbench.specs.LinesOf.{AreWhole, chomped, lines_of, max_line, onto_first, raw_lines}
+use Rattle.sbl_lines.specs.Held.{AllFit, IsTooLong, StandFirst, Took}
+use Rattle.sbl_lines.specs.LinesOf.{AreWhole, chomped, lines_of, max_line, onto_first, raw_lines}
 use Rattle.snowbench.specs.Loaded.{TookWords, WordLines}
-use Rattle.snowbench.proofs.Bytes.{none_of, raw-feed, raw-other, raw-some, stand_lines}
+use Rattle.sbl_lines.proofs.Bytes.{none_of, raw-feed, raw-other, raw-some, stand_lines}
 
 -- ---- the bytes behind some lines
 

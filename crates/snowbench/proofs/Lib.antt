@@ -1,10 +1,8 @@
-pub mod Bytes
 pub mod BlockFacts
 pub mod EditFacts
 pub mod LoadFacts
 pub mod ReportFacts
 pub mod SessionFacts
-pub mod TextFacts
 pub mod CheckFacts
 pub mod CommandFacts
 pub mod NumberFacts

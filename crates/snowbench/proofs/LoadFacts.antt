@@ -12,16 +12,16 @@ use Rattle.sbl_bench.specs.Contents.{IsFaultOrMemory, Contents, opening_fault}
 use Rattle.sbl_bench.specs.declared.fault.EditFault.{EditFault}
 use Rattle.sbl_bench.specs.declared.fault.EditFault.TheVariants as edit
 use Rattle.snowbench.specs.Block.{AllText, BlockLines, Breaks, NoPoint, point}
-use Rattle.snowbench.specs.Held.{AllFit, Took}
-use Rattle.snowbench.specs.Faults.{serve_fault_of}
+use Rattle.sbl_lines.specs.Held.{AllFit, Took}
+use Rattle.sbl_lines.specs.Faults.{serve_fault_of}
 use Rattle.snowbench.specs.Loaded.{IsInput, IsLoaded, ReadsScript, ReadsWords, TookFault, TookSource, WordLines}
-use Rattle.snowbench.specs.declared.faults.LineFault.{LineFault}
+use Rattle.sbl_lines.specs.declared.faults.LineFault.{LineFault}
 use Rattle.snowbench.proofs.BlockFacts.{all_fit-push, no_point-push}
-use Rattle.snowbench.specs.declared.faults.LineFault.TheVariants as line
+use Rattle.sbl_lines.specs.declared.faults.LineFault.TheVariants as line
 use Rattle.snowbench.specs.declared.faults.LoadFault.{LoadFault}
 use Rattle.snowbench.specs.declared.faults.LoadFault.TheVariants.{Input, Open, Script}
-use Rattle.snowbench.specs.declared.faults.ServeFault.{ServeFault}
-use Rattle.snowbench.specs.declared.faults.ServeFault.TheVariants as serve
+use Rattle.sbl_lines.specs.declared.faults.ServeFault.{ServeFault}
+use Rattle.sbl_lines.specs.declared.faults.ServeFault.TheVariants as serve
 
 pub all_text-push : (lines : List (List ℕ)) (line : List ℕ) → AllText lines → is_utf8 line ≡ true → AllText (lines ++ line ∷ [])
 all_text-push [] line h text = (text, tt)

@@ -12,15 +12,15 @@ use Rattle.sbl_script.specs.Reading.{IsFaultOf, IsScriptOf}
 use Rattle.sbl_text.specs.declared.fault.ScriptFault.{ScriptFault}
 use Rattle.sbl_text.specs.declared.fault.ScriptFault.TheVariants as script
 use Rattle.snowbench.specs.Block.{AllText, BlockLines, Breaks, TookBlock, made_text, point}
-use Rattle.snowbench.specs.Held.{BeginsLong, StandFirst, Took}
-use Rattle.snowbench.specs.LinesOf.{lines_of}
+use Rattle.sbl_lines.specs.Held.{BeginsLong, StandFirst, Took}
+use Rattle.sbl_lines.specs.LinesOf.{lines_of}
 use Rattle.snowbench.specs.Loaded.{IsInput, IsLoaded, TookFault, TookNoText, TookSource, TookWords, WordLines}
 use Rattle.snowbench.specs.OneLoading.{IsToldByBytes, LoadingIsOne, RestIsOne}
 use Rattle.snowbench.specs.declared.faults.LoadFault.{LoadFault}
 use Rattle.snowbench.specs.declared.faults.LoadFault.TheVariants.{Input, Open, Script}
-use Rattle.snowbench.specs.declared.faults.ServeFault.{ServeFault}
-use Rattle.snowbench.specs.declared.faults.ServeFault.TheVariants as fault
-use Rattle.snowbench.proofs.Bytes.{none_of, stand_lines}
+use Rattle.sbl_lines.specs.declared.faults.ServeFault.{ServeFault}
+use Rattle.sbl_lines.specs.declared.faults.ServeFault.TheVariants as fault
+use Rattle.sbl_lines.proofs.Bytes.{none_of, stand_lines}
 use Rattle.snowbench.proofs.InputFacts.{AtEnd, AtLong, AtNoText, AtPoint, LinesEnd, end-end, end-long, end-no_text, end-point, lines_end, stand-one}
 
 -- ---- the ending by what ends the lines

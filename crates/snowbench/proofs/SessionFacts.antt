@@ -10,18 +10,18 @@ use Rattle.snowbench.specs.Answers.{Answers, IsReplyTo, Memory}
 use Rattle.snowbench.specs.Block.{BlockLines, Breaks, HoldsText, ReadsBlock, point}
 use Rattle.snowbench.specs.CommandViews.{IsAnswer, IsAnswered, IsReply, IsTextAnswer}
 use Rattle.snowbench.specs.Commands.{block_command, command_of, line_command}
-use Rattle.snowbench.specs.Held.{AllFit, BeginsLong, BreaksOff, GivesLine, Took, TookWhole}
+use Rattle.sbl_lines.specs.Held.{AllFit, BeginsLong, BreaksOff, GivesLine, Took, TookWhole}
 use Rattle.snowbench.specs.Requests.{HasBlock, IsBegun, IsOpen, IsRequest, Request, TookRequests, asks_block, block_lines, lines_in, lines_in_all}
 use Rattle.snowbench.specs.Session.{Answered, HalfAnswered, IsSession, SoFar}
 use Rattle.snowbench.specs.declared.block_text.BlockText.{BlockText}
-use Rattle.snowbench.specs.Faults.{serve_fault_of}
-use Rattle.snowbench.specs.declared.faults.LineFault.{LineFault}
-use Rattle.snowbench.specs.declared.faults.LineFault.TheVariants as read
-use Rattle.snowbench.specs.declared.faults.ServeFault.{ServeFault}
-use Rattle.snowbench.specs.declared.faults.ServeFault.TheVariants as fault
+use Rattle.sbl_lines.specs.Faults.{serve_fault_of}
+use Rattle.sbl_lines.specs.declared.faults.LineFault.{LineFault}
+use Rattle.sbl_lines.specs.declared.faults.LineFault.TheVariants as read
+use Rattle.sbl_lines.specs.declared.faults.ServeFault.{ServeFault}
+use Rattle.sbl_lines.specs.declared.faults.ServeFault.TheVariants as fault
 use Rattle.snowbench.specs.declared.replies.Reply.{Reply}
 use Rattle.snowbench.proofs.BlockFacts.{all_fit-append, all_fit-push, broken}
-use Rattle.snowbench.proofs.Bytes.{took-kept, took-none, took-trans}
+use Rattle.sbl_lines.proofs.Bytes.{took-kept, took-none, took-trans}
 
 -- ---- answers
 

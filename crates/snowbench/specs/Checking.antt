@@ -6,12 +6,12 @@ use Rattle.std.specs.declared.alloc.Global.{Global}
 use Rattle.sbl_script.specs.Parsed.{Source}
 use Rattle.snowbench.specs.Differences as spec
 use Rattle.snowbench.specs.Differences.{difference, differences, ending, pair_fault}
-use Rattle.snowbench.specs.LinesOf.{lines_of}
+use Rattle.sbl_lines.specs.LinesOf.{lines_of}
 use Rattle.snowbench.specs.Rows.{record_line, records_text}
 use Rattle.snowbench.specs.declared.checking.Got.{Got}
 use Rattle.snowbench.specs.declared.checking.Got.TheVariants as got
-use Rattle.snowbench.specs.declared.faults.ServeFault.{ServeFault}
-use Rattle.snowbench.specs.declared.faults.ServeFault.TheVariants as fault
+use Rattle.sbl_lines.specs.declared.faults.ServeFault.{ServeFault}
+use Rattle.sbl_lines.specs.declared.faults.ServeFault.TheVariants as fault
 
 -- the code's answer without where it lies in memory
 abbrev pub view_got : Got → spec.Got

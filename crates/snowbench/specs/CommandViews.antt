@@ -7,9 +7,9 @@ use Rattle.snowbench.specs.Commands as command
 use Rattle.sbl_bench.specs.Contents.{Contents}
 use Rattle.snowbench.specs.Answers.{IsReplyTo, Memory}
 use Rattle.snowbench.specs.Block.{BlockLines, Breaks}
-use Rattle.snowbench.specs.Held.{AllFit, Took}
+use Rattle.sbl_lines.specs.Held.{AllFit, Took}
 use Rattle.snowbench.specs.Requests.{IsRequest, asks_block, block_lines}
-use Rattle.snowbench.specs.declared.faults.ServeFault.{ServeFault}
+use Rattle.sbl_lines.specs.declared.faults.ServeFault.{ServeFault}
 use Rattle.snowbench.specs.declared.commands.Command.{Command}
 use Rattle.snowbench.specs.declared.commands.Command.TheVariants as variants
 use Rattle.snowbench.specs.declared.commands.Target.{Target}

@@ -4,15 +4,15 @@ use Rattle.std.specs.Option.{option_or}
 use Rattle.std.specs.Str.{bytes_eq, chars, encode_utf8_all, is_utf8}
 use Rattle.std.specs.Io.KnownBytes.{Appends}
 use Rattle.sbl_script.specs.Parsed.{Source}
-use Rattle.sbl_machine.specs.Names.{name_of}
+use Rattle.sbl_run.specs.Names.{name_of}
 use Rattle.sbl_machine.specs.Outcome as machine
 use Rattle.sbl_machine.specs.Outcome.{Outcome', run_of}
 use Rattle.sbl_bench.specs.Rows.{max_steps}
 use Rattle.sbl_bench.specs.Contents.{max_word_length}
-use Rattle.snowbench.specs.LinesOf.{lines_of, max_line}
+use Rattle.sbl_lines.specs.LinesOf.{lines_of, max_line}
 use Rattle.snowbench.specs.Rows.{records_text}
-use Rattle.snowbench.specs.declared.faults.ServeFault.{ServeFault}
-use Rattle.snowbench.specs.declared.faults.ServeFault.TheVariants as fault
+use Rattle.sbl_lines.specs.declared.faults.ServeFault.{ServeFault}
+use Rattle.sbl_lines.specs.declared.faults.ServeFault.TheVariants as fault
 
 -- ---- one word
 

@@ -1,9 +1,5 @@
 -- what the contracts of public calls rest on
-pub mod Devices
-pub mod Counted
 pub mod Faults
-pub mod LinesOf
-pub mod Held
 pub mod Words
 pub mod Numbers
 pub mod Block

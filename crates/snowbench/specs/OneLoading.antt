@@ -6,7 +6,7 @@ use Rattle.sbl_text.specs.declared.fault.ScriptFault.TheVariants as script
 use Rattle.snowbench.specs.Loaded.{IsLoaded}
 use Rattle.snowbench.specs.declared.faults.LoadFault.{LoadFault}
 use Rattle.snowbench.specs.declared.faults.LoadFault.TheVariants.{Input, Open, Script}
-use Rattle.snowbench.specs.declared.faults.ServeFault.TheVariants as fault
+use Rattle.sbl_lines.specs.declared.faults.ServeFault.TheVariants as fault
 
 -- the bytes alone tell the ending: the reader did not stop, and no memory was refused
 abbrev pub IsToldByBytes : Result Contents LoadFault → Type 0

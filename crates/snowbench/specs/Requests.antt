@@ -3,8 +3,8 @@ use Rattle.std.specs.Prelude.{◌≡◌, ◌≤◌, ◌||◌, ℕ, length, Bool,
 use Rattle.std.specs.List.{All, before_first, flat_map}
 use Rattle.std.specs.Str.{bytes_eq}
 use Rattle.snowbench.specs.Block.{BlockLines, NoPoint, point}
-use Rattle.snowbench.specs.Held.{AllFit, Took}
-use Rattle.snowbench.specs.LinesOf.{max_line}
+use Rattle.sbl_lines.specs.Held.{AllFit, Took}
+use Rattle.sbl_lines.specs.LinesOf.{max_line}
 use Rattle.snowbench.specs.Words.{command_word}
 
 pub record Request : Type 0 where

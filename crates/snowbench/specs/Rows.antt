@@ -5,7 +5,7 @@ use Rattle.std.specs.Option.{option_map}
 use Rattle.std.specs.Str.{bytes_eq, encode_utf8_all}
 use Rattle.csv.specs.Writing.{default_writer, with_flexible, row_text}
 use Rattle.csv.specs.declared.writer.WriterBuilder.{WriterBuilder}
-use Rattle.sbl_machine.specs.Names.{name_of}
+use Rattle.sbl_run.specs.Names.{name_of}
 use Rattle.sbl_machine.specs.Outcome.{Outcome', Stem, Refused}
 use Rattle.sbl_bench.specs.Classes.{Class, class_of, classes_of}
 use Rattle.sbl_bench.specs.Rows.{Row, rows_of}

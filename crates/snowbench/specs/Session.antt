@@ -5,13 +5,13 @@ use Rattle.sbl_bench.specs.Contents.{Contents}
 use Rattle.snowbench.specs.Answers.{Answers, IsReplyTo, Memory}
 use Rattle.snowbench.specs.Block.{Breaks}
 use Rattle.snowbench.specs.Commands.{command_of}
-use Rattle.snowbench.specs.Devices.{HasStopped}
-use Rattle.snowbench.specs.Held.{HasCause, TookWhole, fault_of}
+use Rattle.sbl_lines.specs.Devices.{HasStopped}
+use Rattle.sbl_lines.specs.Held.{HasCause, TookWhole, fault_of}
 use Rattle.snowbench.specs.Requests.{IsBegun, IsOpen, Request, TookRequests}
-use Rattle.snowbench.specs.declared.lines.Lines.{Lines}
-use Rattle.snowbench.specs.declared.faults.LineFault.TheVariants as line
-use Rattle.snowbench.specs.declared.faults.ServeFault.{ServeFault}
-use Rattle.snowbench.specs.declared.faults.ServeFault.TheVariants as fault
+use Rattle.sbl_lines.specs.declared.lines.Lines.{Lines}
+use Rattle.sbl_lines.specs.declared.faults.LineFault.TheVariants as line
+use Rattle.sbl_lines.specs.declared.faults.ServeFault.{ServeFault}
+use Rattle.sbl_lines.specs.declared.faults.ServeFault.TheVariants as fault
 
 -- These requests, and no more, were answered: for some list m, which says of each whether its memory sufficed, the answers to them
 -- were written, and the bench is the one after them.

@@ -9,7 +9,7 @@ use Rattle.snowbench.specs.Loaded.{IsInput, IsLoaded}
 use Rattle.snowbench.specs.Rows.{stems_text}
 use Rattle.snowbench.specs.declared.faults.LoadFault.{LoadFault}
 use Rattle.snowbench.specs.declared.faults.LoadFault.TheVariants.{Input}
-use Rattle.snowbench.specs.declared.faults.ServeFault.TheVariants as fault
+use Rattle.sbl_lines.specs.declared.faults.ServeFault.TheVariants as fault
 
 -- The rows of the vocabulary are written, and the input stands behind it; a front of them, where the writer failed; and else
 -- nothing, with the fault of the loading, or because memory was refused, at the loading or behind it.

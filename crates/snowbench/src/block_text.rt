@@ -2,13 +2,11 @@
 ghost use Rattle.std.specs.Prelude.{◌≡◌, ◌<◌, ◌≤◌, ◌++◌, [], ◌∷◌, List, ℕ, OnOk, IfOk, IfErr, None, Some, length};
 ghost use Rattle.std.specs.Io.KnownBytes.{Keeps};
 ghost use Rattle.snowbench.specs.Block.{HasText, HoldsText, ReadsBlock, made_text, max_script};
-ghost use Rattle.snowbench.specs.Faults.{left_by, serve_fault_of};
-ghost use Rattle.snowbench.specs.Held.{HasReason, IsDrained, KeepsTime, StaysEnded, TakesFeeds, fault_of, fuel_of, input_of, reads_bound};
-ghost use Rattle.snowbench.specs.declared.faults.LineFault.{LineFault};
+ghost use Rattle.sbl_lines.specs.Faults.{left_by, serve_fault_of};
+ghost use Rattle.sbl_lines.specs.Held.{HasReason, IsDrained, KeepsTime, StaysEnded, TakesFeeds, fault_of, fuel_of, input_of, reads_bound};
+ghost use Rattle.sbl_lines.specs.declared.faults.LineFault.{LineFault};
 
-use crate::devices::Source;
-use crate::faults::ServeFault;
-use crate::lines::Lines;
+use sbl_lines::{Lines, ServeFault, Source};
 use sbl_script::MAX_SCRIPT;
 use std::alloc::{AllocError, Global};
 

@@ -7,13 +7,13 @@ ghost use Rattle.snowbench.specs.Answers as spec;
 ghost use Rattle.snowbench.specs.Block.{HoldsText};
 ghost use Rattle.snowbench.specs.CommandViews.{IsEditAnswer, IsTextAnswer, view_target};
 ghost use Rattle.snowbench.specs.Commands.{block_command};
-ghost use Rattle.snowbench.specs.LinesOf.{max_line};
+ghost use Rattle.sbl_lines.specs.LinesOf.{max_line};
 
 use crate::block_text::{BlockFault, BlockText};
 use crate::commands::{Target, target_of};
-use crate::lines::MAX_LINE;
 use crate::replies::{BAD_COMMAND, edit_text};
 use sbl_bench::{Bench, EditFault, MAX_WORD_LENGTH};
+use sbl_lines::MAX_LINE;
 use sbl_script::ScriptFault;
 
 /// How many characters of a word that is added are looked at: one more than a word may have.

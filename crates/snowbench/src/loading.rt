@@ -3,16 +3,16 @@ ghost use Rattle.std.specs.Prelude.{◌≡◌, ◌⊎◌, ◌≤◌, None, Some,
 ghost use Rattle.std.specs.Str.{chars, is_utf8};
 ghost use Rattle.sbl_bench.specs.Kept.{contents_of};
 ghost use Rattle.std.specs.Io.KnownBytes.{Keeps};
-ghost use Rattle.snowbench.specs.Faults.{left_by_load, serve_fault_of};
-ghost use Rattle.snowbench.specs.declared.faults.LineFault.{LineFault};
-ghost use Rattle.snowbench.specs.Held.{KeepsTime, fault_of, input_of, reads_bound};
+ghost use Rattle.sbl_lines.specs.Faults.{serve_fault_of};
+ghost use Rattle.snowbench.specs.Faults.{left_by_load};
+ghost use Rattle.sbl_lines.specs.declared.faults.LineFault.{LineFault};
+ghost use Rattle.sbl_lines.specs.Held.{KeepsTime, fault_of, input_of, reads_bound};
 ghost use Rattle.snowbench.specs.Loaded.{HasReason, IsLoaded, ReadsScript, ReadsWords};
 
 use crate::block_text::{BlockFault, read_block};
-use crate::devices::Source;
-use crate::faults::{LoadFault, ServeFault};
-use crate::lines::Lines;
+use crate::faults::LoadFault;
 use sbl_bench::Bench;
+use sbl_lines::{Lines, ServeFault, Source};
 use sbl_script::{Script, ScriptFault};
 use std::alloc::Global;
 

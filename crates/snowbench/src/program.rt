@@ -1,17 +1,15 @@
 //! The program, over a reader and two writers.
 ghost use Rattle.std.specs.Prelude.{◌≡◌, ◌≤◌, None, IfOk};
-ghost use Rattle.snowbench.specs.Held.{fault_of, input_of};
+ghost use Rattle.sbl_lines.specs.Held.{fault_of, input_of};
 ghost use Rattle.snowbench.specs.Stemmed.{IsStemmed};
 
 use crate::checking::check;
 use crate::command_line::{Verb, Wanted};
-use crate::devices::{Sink, Source};
-use crate::faults::{LoadFault, ServeFault};
-use crate::lines::Lines;
+use crate::faults::LoadFault;
 use crate::loading::{load, read_script};
 use crate::reports::stems_text;
 use crate::serving::serve;
-use crate::writing::write_all;
+use sbl_lines::{Lines, ServeFault, Sink, Source, write_all};
 use sbl_script::Script;
 use std::alloc::{AllocError, Global};
 use std::fmt;

@@ -3,13 +3,11 @@ ghost use Rattle.std.specs.Prelude.{◌≡◌, ◌≤◌, ℕ, List, Some, IfErr
 ghost use Rattle.std.specs.Io.KnownBytes.{Appends};
 ghost use Rattle.snowbench.specs.Answers as spec;
 ghost use Rattle.snowbench.specs.CommandViews.{IsReply};
-ghost use Rattle.snowbench.specs.Devices.{HasStopped, WritesInTime};
+ghost use Rattle.sbl_lines.specs.Devices.{HasStopped, WritesInTime};
 ghost use Rattle.snowbench.specs.Edits.{fault_in};
 
-use crate::devices::Sink;
-use crate::faults::ServeFault;
-use crate::writing::write_all;
 use sbl_bench::EditFault;
+use sbl_lines::{ServeFault, Sink, write_all};
 use sbl_script::ScriptFault;
 use std::alloc::AllocError;
 

@@ -10,15 +10,15 @@ ghost use Rattle.sbl_print.specs.Canonical.{canonical};
 ghost use Rattle.snowbench.specs.Answers.{ended};
 ghost use Rattle.snowbench.specs.CommandViews.{IsAnswer};
 ghost use Rattle.snowbench.specs.Commands.{Class, Trace};
-ghost use Rattle.snowbench.specs.LinesOf.{max_line};
+ghost use Rattle.sbl_lines.specs.LinesOf.{max_line};
 ghost use Rattle.snowbench.specs.Rows as spec;
 ghost use Rattle.snowbench.specs.Traces as traces;
 
 use crate::edits::first_characters;
-use crate::lines::MAX_LINE;
 use crate::records::records_text;
 use crate::replies::{Reply, edit_text, report};
 use sbl_bench::{Bench, EditFault, Row};
+use sbl_lines::MAX_LINE;
 use sbl_machine::Item;
 use std::alloc::{AllocError, Global};
 use std::collections::BTreeSet;

@@ -4,23 +4,21 @@ ghost use Rattle.std.specs.Io.KnownBytes.{IsAtEnd, Keeps};
 ghost use Rattle.sbl_bench.specs.Kept.{contents_of};
 ghost use Rattle.snowbench.specs.CommandViews.{BreaksBlock, IsAnswer, IsAnswered};
 ghost use Rattle.snowbench.specs.Commands.{line_command};
-ghost use Rattle.snowbench.specs.Devices.{WritesInTime};
-ghost use Rattle.snowbench.specs.Faults.{left_by, serve_fault_of};
-ghost use Rattle.snowbench.specs.declared.faults.LineFault.{LineFault};
-ghost use Rattle.snowbench.specs.Held.{HasReason, IsDrained, KeepsTime, StaysEnded, TakesFeeds, fault_of, fuel_of, input_of, line_of, reads_bound};
-ghost use Rattle.snowbench.specs.LinesOf.{max_line};
+ghost use Rattle.sbl_lines.specs.Devices.{WritesInTime};
+ghost use Rattle.sbl_lines.specs.Faults.{left_by, serve_fault_of};
+ghost use Rattle.sbl_lines.specs.declared.faults.LineFault.{LineFault};
+ghost use Rattle.sbl_lines.specs.Held.{HasReason, IsDrained, KeepsTime, StaysEnded, TakesFeeds, fault_of, fuel_of, input_of, line_of, reads_bound};
+ghost use Rattle.sbl_lines.specs.LinesOf.{max_line};
 ghost use Rattle.snowbench.specs.Requests as requests;
 ghost use Rattle.snowbench.specs.Session.{Ends, IsSession};
 
 use crate::block_text::read_block;
 use crate::commands::{Command, asks_block, command_of};
-use crate::devices::{Sink, Source};
 use crate::edits::{add_word, edit_script, remove_word};
-use crate::faults::ServeFault;
-use crate::lines::{Lines, MAX_LINE};
 use crate::replies::{BAD_COMMAND, Reply, report, write_reply};
 use crate::reports::{class_reply, classes_text, runs_text, script_text, stems_text, trace_reply};
 use sbl_bench::Bench;
+use sbl_lines::{Lines, MAX_LINE, ServeFault, Sink, Source};
 use std::alloc::Global;
 
 /// Makes the edit or the report that a line without a block asks for, and gives the answer.

@@ -1,6 +1,7 @@
 //! Edits of a script, with the rows, the classes and the count of runs after each. Sessions of edits stand in tests/cases.
 
-use crate::tests::bench::{bench_of, classes_shown, rows_shown};
+use crate::tests::bench::{bench_of, classes_shown, rows_shown, touched_shown};
+use crate::tests::characters::word_of;
 use crate::tests::scripts::{PREFIXES, suffixes};
 use sbl_bench::{Bench, EditFault};
 use sbl_script::{Script, ScriptFault};
@@ -30,13 +31,63 @@ fn classes_follow_the_edits_of_routines(rt: HostRuntime) -> Result<(), Fail> {
         classes_shown(alloc, &bench)?.as_str(),
         "box:boxes,;cake:cake,cakes,;cat:cats,;dog:dog,;"
     );
-    assert_eq!(rt; bench.runs(), 10);
+    assert_eq!(rt; bench.runs(), 7);
     assert_eq!(rt; bench.replace_routine("sib", "false\n"), Ok(()));
     assert_eq!(rt;
         classes_shown(alloc, &bench)?.as_str(),
         "boxe:boxes,;cake:cake,cakes,;cat:cats,;dog:dog,;"
     );
-    assert_eq!(rt; bench.runs(), 15);
+    assert_eq!(rt; bench.runs(), 9);
+    Ok(())
+}
+
+// What the runs touch is told by the script as the edits before left it, and only the words whose runs touch what an edit replaces
+// run again.
+#[test]
+fn an_edit_runs_the_words_that_it_meets(rt: HostRuntime) -> Result<(), Fail> {
+    let alloc = rt.alloc();
+    let mut bench = plurals(alloc)?;
+    for (word, items) in [
+        ("cakes", "last;sib;stem;tail;tail 1;"),
+        ("dog", "stem;tail;tail 1;"),
+        ("nope", "none"),
+    ] {
+        let word = word_of(alloc, word)?;
+        assert_eq!(rt;
+            touched_shown(alloc, &bench, word.as_slice())?.as_str(),
+            items
+        );
+    }
+    assert_eq!(rt; bench.replace_routine("tail", "( ['s'] delete )"), Ok(()));
+    assert_eq!(rt; classes_shown(alloc, &bench)?.as_str(), AT_FIRST);
+    assert_eq!(rt; bench.runs(), 10);
+    let cakes = word_of(alloc, "cakes")?;
+    assert_eq!(rt;
+        touched_shown(alloc, &bench, cakes.as_slice())?.as_str(),
+        "last;stem;tail;"
+    );
+    // No run enters this routine any more.
+    assert_eq!(rt; bench.replace_routine("sib", "false"), Ok(()));
+    assert_eq!(rt; bench.runs(), 10);
+    assert_eq!(rt;
+        bench.replace_among("tail", 1, "among ( 's' () )"),
+        Err(EditFault::NoAmong)
+    );
+    Ok(())
+}
+
+#[test]
+fn a_removed_word_is_met_no_more(rt: HostRuntime) -> Result<(), Fail> {
+    let alloc = rt.alloc();
+    let mut bench = plurals(alloc)?;
+    let boxes = word_of(alloc, "boxes")?;
+    assert_eq!(rt; bench.remove(boxes.as_slice()), Ok(()));
+    assert_eq!(rt; bench.replace_routine("sib", "true"), Ok(()));
+    assert_eq!(rt; bench.runs(), 6);
+    assert_eq!(rt;
+        classes_shown(alloc, &bench)?.as_str(),
+        "cak:cake,cakes,;cat:cats,;dog:dog,;"
+    );
     Ok(())
 }
 

@@ -12,10 +12,10 @@ loop-change-init c = record { ready = λ script ready. ready; some = c.requires;
 
 pub loop-change-preserved : goal.loop-change-preserved
 loop-change-preserved c =
-    let step : (script : Source) → IsReady script c.loop-change.outcomes.entries c.loop-change.pairs c.loop-change.changes.items
-    → ((w : Text) → find w.items c.commit_one.new.outcomes.entries ≡ cond (bytes_eq c.in-Some.change.word.items w.items) (Some c.in-Some.change.outcome) (find w.items c.loop-change.outcomes.entries))
-    → ((q : Key) → has c.commit_one.new.pairs q ≡ ((not (has_stem q.0.items (find c.in-Some.change.word.items c.loop-change.outcomes.entries) && bytes_eq c.in-Some.change.word.items q.1.items) || is_pair_of c.in-Some.change.word.items (outcome_of c.in-Some.change.outcome) q) && has c.loop-change.pairs q))
-    → IsReady script c.commit_one.new.outcomes.entries c.commit_one.new.pairs c.pop.new.self.items = λ script. ready_step script c.loop-change.outcomes.entries c.commit_one.new.outcomes.entries c.loop-change.pairs c.commit_one.new.pairs c.in-Some.change c.loop-change.changes.items c.pop.new.self.items c.in-Some.ensures.items in
+    let step : (script : Source) → IsReady script c.loop-change.traces.entries c.loop-change.pairs c.loop-change.changes.items
+    → ((w : Text) → find w.items c.commit_one.new.traces.entries ≡ cond (bytes_eq c.in-Some.change.word.items w.items) (Some c.in-Some.change.traced) (find w.items c.loop-change.traces.entries))
+    → ((q : Key) → has c.commit_one.new.pairs q ≡ ((not (has_stem q.0.items (find c.in-Some.change.word.items c.loop-change.traces.entries) && bytes_eq c.in-Some.change.word.items q.1.items) || is_pair_of c.in-Some.change.word.items (outcome_of c.in-Some.change.traced.outcome) q) && has c.loop-change.pairs q))
+    → IsReady script c.commit_one.new.traces.entries c.commit_one.new.pairs c.pop.new.self.items = λ script. ready_step script c.loop-change.traces.entries c.commit_one.new.traces.entries c.loop-change.pairs c.commit_one.new.pairs c.in-Some.change c.loop-change.changes.items c.pop.new.self.items c.in-Some.ensures.items in
     record {
       ready = λ script before. step script (c.loop-change.invariant.ready script before) c.commit_one.ensures.finds c.commit_one.ensures.pairs;
       some = (c.loop-change.invariant.some.0, step c.loop-change.invariant.some.0 c.loop-change.invariant.some.1 c.commit_one.ensures.finds c.commit_one.ensures.pairs);
@@ -25,14 +25,14 @@ loop-change-preserved c =
 pub commit_one-requires : goal.commit_one-requires
 commit_one-requires c =
     let some = c.loop-change.invariant.some in
-    ready_there some.0 c.loop-change.outcomes.entries c.loop-change.pairs c.in-Some.change c.loop-change.changes.items c.pop.new.self.items c.in-Some.ensures.items some.1
+    ready_there some.0 c.loop-change.traces.entries c.loop-change.pairs c.in-Some.change c.loop-change.changes.items c.pop.new.self.items c.in-Some.ensures.items some.1
 
 pub returns-clause-fresh : goal.returns-clause-fresh
 returns-clause-fresh c = λ script before.
     let none : length c.loop-change.changes.items ≡ 0 = let h = c.in_default.ensures.cases.0 in let k = c.loop-change.changes.ok.0 in omega arith in
-    (ready_done script c.loop-change.outcomes.entries c.loop-change.pairs c.loop-change.changes.items none (c.loop-change.invariant.ready script before)).0
+    (ready_done script c.loop-change.traces.entries c.loop-change.pairs c.loop-change.changes.items none (c.loop-change.invariant.ready script before)).0
 
 pub returns-clause-paired : goal.returns-clause-paired
 returns-clause-paired c = λ script before.
     let none : length c.loop-change.changes.items ≡ 0 = let h = c.in_default.ensures.cases.0 in let k = c.loop-change.changes.ok.0 in omega arith in
-    (ready_done script c.loop-change.outcomes.entries c.loop-change.pairs c.loop-change.changes.items none (c.loop-change.invariant.ready script before)).1
+    (ready_done script c.loop-change.traces.entries c.loop-change.pairs c.loop-change.changes.items none (c.loop-change.invariant.ready script before)).1

@@ -6,9 +6,9 @@ use Rattle.sbl_bench.proofs.change.commit.Given as goal
 
 abbrev pub invariant-loop-change : goal.invariant-loop-change
 invariant-loop-change l = record {
-  ready : (script : Source) → IsReady script l.fn.outcomes.entries l.fn.pairs l.fn.changes.items → IsReady script l.outcomes.entries l.pairs l.changes.items;
-  some : (script : Source) × IsReady script l.outcomes.entries l.pairs l.changes.items;
-  keys : keys l.outcomes ≡ keys l.fn.outcomes;
+  ready : (script : Source) → IsReady script l.fn.traces.entries l.fn.pairs l.fn.changes.items → IsReady script l.traces.entries l.pairs l.changes.items;
+  some : (script : Source) × IsReady script l.traces.entries l.pairs l.changes.items;
+  keys : keys l.traces ≡ keys l.fn.traces;
 }
 
 abbrev pub decreases-loop-change : goal.decreases-loop-change

@@ -2,7 +2,7 @@ use Rattle.std.proofs.Common.{◌≡◌, ◌≤◌, ◌+◌, length}
 use Rattle.sbl_machine.specs.MachineOf.{IsLinkedMachineOf}
 use Rattle.sbl_script.specs.Parsed.{source_of}
 use Rattle.snowbench.specs.Checking.{Compared}
-use Rattle.snowbench.specs.Devices.{WritesInTime}
+use Rattle.sbl_lines.specs.Devices.{WritesInTime}
 use Rattle.snowbench.proofs.checking.check.Given as goal
 
 abbrev pub invariant-loop-word : goal.invariant-loop-word

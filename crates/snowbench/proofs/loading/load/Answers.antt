@@ -3,7 +3,7 @@ use Rattle.std.proofs.lemmas.Result.{err_from_is_err_and}
 use Rattle.sbl_bench.specs.Kept.{contents_of}
 use Rattle.sbl_script.specs.Parsed.{source_of}
 use Rattle.snowbench.specs.Faults.{left_by_load}
-use Rattle.snowbench.specs.Held.{input_of}
+use Rattle.sbl_lines.specs.Held.{input_of}
 use Rattle.snowbench.proofs.LoadFacts.{bench_refused, script_parsed, script_refused, script_unread, words_refused}
 use Rattle.snowbench.proofs.loading.load.Goals as goal
 

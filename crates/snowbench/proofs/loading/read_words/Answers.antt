@@ -4,9 +4,9 @@ use Rattle.std.proofs.lemmas.Result.{err_from_is_err_and}
 use Rattle.std.specs.declared.vec.Vec.{Vec}
 use Rattle.std.specs.declared.alloc.Global.{Global}
 use Rattle.snowbench.specs.Block.{point}
-use Rattle.snowbench.specs.Held.{input_of, line_of, GivesLine}
+use Rattle.sbl_lines.specs.Held.{input_of, line_of, GivesLine}
 use Rattle.snowbench.proofs.BlockFacts.{all_fit-push, no_point-push}
-use Rattle.snowbench.proofs.Bytes.{took-kept, took-none, took-trans}
+use Rattle.sbl_lines.proofs.Bytes.{took-kept, took-none, took-trans}
 use Rattle.snowbench.proofs.LoadFacts.{IsUnreadWord, all_text-push, word_unread, words-push, words_stopped}
 use Rattle.snowbench.proofs.loading.read_words.Goals as goal
 

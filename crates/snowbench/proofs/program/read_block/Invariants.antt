@@ -1,4 +1,4 @@
-use Rattle.snowbench.specs.Held.{fuel_of}
+use Rattle.sbl_lines.specs.Held.{fuel_of}
 use Rattle.snowbench.proofs.program.read_block.Given as goal
 
 abbrev pub decreases-loop-text : goal.decreases-loop-text

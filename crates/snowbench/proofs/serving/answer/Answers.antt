@@ -2,9 +2,9 @@ use Rattle.std.proofs.Common.{◌≡◌, ◌∙◌, List, ℕ, false, rules, sym
 use Rattle.sbl_bench.specs.Kept.{contents_of}
 use Rattle.snowbench.specs.CommandViews.{IsAnswer}
 use Rattle.snowbench.specs.Commands.{line_command}
-use Rattle.snowbench.specs.Held.{input_of, line_of}
+use Rattle.sbl_lines.specs.Held.{input_of, line_of}
 use Rattle.snowbench.specs.Requests.{asks_block}
-use Rattle.snowbench.proofs.Bytes.{whole_none}
+use Rattle.sbl_lines.proofs.Bytes.{whole_none}
 use Rattle.snowbench.proofs.SessionFacts.{answered_line}
 use Rattle.snowbench.proofs.serving.answer.Goals as goal
 

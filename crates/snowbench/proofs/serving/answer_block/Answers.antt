@@ -2,7 +2,7 @@ use Rattle.std.proofs.Common.{◌≡◌, ◌∙◌, List, ℕ, refl, subst, take
 use Rattle.sbl_bench.specs.Kept.{contents_of}
 use Rattle.snowbench.specs.CommandViews.{IsTextAnswer}
 use Rattle.snowbench.specs.Commands.{block_command}
-use Rattle.snowbench.specs.Held.{input_of, line_of}
+use Rattle.sbl_lines.specs.Held.{input_of, line_of}
 use Rattle.snowbench.specs.declared.replies.Reply.TheVariants as reply
 use Rattle.snowbench.proofs.SessionFacts.{answered_block}
 use Rattle.snowbench.proofs.serving.answer_block.Goals as goal

@@ -12,7 +12,7 @@ use Rattle.sbl_bench.proofs.bench.Bench.add.Goals as goal
 pub returns-in_err-word : goal.returns-in_err-word
 returns-in_err-word c =
     let script = source_of c.self.inside.script in
-    let es = c.self.inside.outcomes.entries in
+    let es = c.self.inside.traces.entries in
     let free = accepted_among script es c.self.inside.meter c.args.word.now c.has_word.result c.len.result (search rules) (search rules) c.has_word.ensures c.if-has_word.false c.len.ensures.len (search rules) in
     let p = err_from_is_err_and c.from_residual.result c.from_residual.ensures.1 in
     rw (p.1, p.2) (subst (λ (k : Kept). Edits (Err OutOfMemory) (contents_of k) (Add c.args.word.now) (contents_of k)) c.self.view_is (edits_nothing (record { script = script; words = words_in es; count = c.self.inside.meter }) c.args.word.now free))
@@ -20,7 +20,7 @@ returns-in_err-word c =
 pub returns-then-is_full : goal.returns-then-is_full
 returns-then-is_full c =
     let script = source_of c.self.inside.script in
-    let es = c.self.inside.outcomes.entries in
+    let es = c.self.inside.traces.entries in
     let s : Contents = record { script = script; words = words_in es; count = c.self.inside.meter } in
     let free = accepted_among script es c.self.inside.meter c.args.word.now c.has_word.result c.len.result (search rules) (search rules) c.has_word.ensures c.if-has_word.false c.len.ensures.len (search rules) in
     subst (λ (k : Kept). Edits (Err MeterFull) (contents_of k) (Add c.args.word.now) (contents_of k)) c.self.view_is
@@ -37,11 +37,11 @@ invariant_of-self c = (
 
 pub returns : goal.returns
 returns c =
-    let es = c.self.inside.outcomes.entries in
+    let es = c.self.inside.traces.entries in
     let script = source_of c.self.inside.script in
     let free = accepted_among script es c.self.inside.meter c.args.word.now c.has_word.result c.len.result (search rules) (search rules) c.has_word.ensures c.if-has_word.false c.len.ensures.len (search rules) in
-    let last = subst (λ (w : List ℕ). OnOk c.put_last.result (words_in c.put_last.new.outcomes.entries ≡ words_in es ++ w ∷ [])) c.in_ok-word.ensures.items c.put_last.ensures.words in
+    let last = subst (λ (w : List ℕ). OnOk c.put_last.result (words_in c.put_last.new.traces.entries ≡ words_in es ++ w ∷ [])) c.in_ok-word.ensures.items c.put_last.ensures.words in
     let new = sym c.has_word.ensures ∙ c.if-has_word.false in
-    subst (λ (k : Kept). Edits c.put_last.result (contents_of k) (Add c.args.word.now) (contents_of (record { script = c.self.inside.script; words = words_in c.put_last.new.outcomes.entries; count = c.put_last.new.meter }))) c.self.view_is
-    (adds c.put_last.result (record { script = script; words = words_in es; count = c.self.inside.meter }) c.args.word.now (words_in c.put_last.new.outcomes.entries) c.put_last.new.meter free new (c.is_full.ensures.room c.if-is_full.false) last
+    subst (λ (k : Kept). Edits c.put_last.result (contents_of k) (Add c.args.word.now) (contents_of (record { script = c.self.inside.script; words = words_in c.put_last.new.traces.entries; count = c.put_last.new.meter }))) c.self.view_is
+    (adds c.put_last.result (record { script = script; words = words_in es; count = c.self.inside.meter }) c.args.word.now (words_in c.put_last.new.traces.entries) c.put_last.new.meter free new (c.is_full.ensures.room c.if-is_full.false) last
     c.put_last.ensures.counted (on_err_weaker c.put_last.result (ap words_in) c.put_last.ensures.err) c.put_last.ensures.stop)

@@ -10,30 +10,30 @@ use Rattle.sbl_bench.specs.Rows.{rows_of}
 use Rattle.sbl_bench.proofs.ClassFacts.{class_found, words_kept}
 use Rattle.sbl_bench.proofs.bench.Bench.class_of.Goals as goal
 
-pub returns-in_ok-stem-in-Some-Stem : goal.returns-in_ok-stem-in-Some-Stem
-returns-in_ok-stem-in-Some-Stem c =
+pub returns-in_ok-stem-in-Stem : goal.returns-in_ok-stem-in-Stem
+returns-in_ok-stem-in-Stem c =
     let b = c.self.inside in
-    let rows = rows_of (source_of b.script) (words_in b.outcomes.entries) in
-    let stem = c.in-Some-Stem.stem.items in
+    let rows = rows_of (source_of b.script) (words_in b.traces.entries) in
+    let stem = c.in-Stem.stem.items in
     (λ i. Some (record {
-      stem = (c.in_ok-stem-in-Some-Stem.ensures.items ∙ c.as_slice-in-Some-Stem.ensures.value) i;
+      stem = (c.in_ok-stem-in-Stem.ensures.items ∙ c.as_slice-in-Stem.ensures.value) i;
       words =
-          (c.in_ok-words-in-Some-Stem.ensures.words ∙ ap (λ (s : List ℕ). words_paired s (map plain b.pairs.keys)) c.as_slice.ensures.value
-          ∙ words_kept (source_of b.script) b.outcomes.entries b.pairs stem c.self.invariant.1.fresh c.len-count.ensures.unique c.self.invariant.2 c.words_with.ensures.ordered c.words_with.ensures.found) i;
+          (c.in_ok-words-in-Stem.ensures.words ∙ ap (λ (s : List ℕ). words_paired s (map plain b.pairs.keys)) c.as_slice.ensures.value
+          ∙ words_kept (source_of b.script) b.traces.entries b.pairs stem c.self.invariant.1.fresh c.len-count.ensures.unique c.self.invariant.2 c.words_with.ensures.ordered c.words_with.ensures.found) i;
     }))
-    ∙ ap (λ (o : Outcome). option_map (class_with rows) (stem_of (outcome_of o))) (sym c.in-Some-Stem.field-0-is)
-    ∙ class_found (source_of b.script) b.outcomes.entries c.args.word.now c.self.invariant.1.fresh (Some c.in-Some-Stem.field-0.now) c.in-Some-Stem.ensures.value
+    ∙ ap (λ (o : Outcome). option_map (class_with rows) (stem_of (outcome_of o))) (sym c.in-Stem.is)
+    ∙ class_found (source_of b.script) b.traces.entries c.args.word.now c.self.invariant.1.fresh (Some c.in-Some.traced.now) c.in-Some.ensures.value
     ∙ ap (λ (k : Kept). class_of (rows_of (source_of k.script) k.words) c.args.word.now) c.self.view_is
 
-pub returns-in-Some-Refused : goal.returns-in-Some-Refused
-returns-in-Some-Refused c =
+pub returns-in-Refused : goal.returns-in-Refused
+returns-in-Refused c =
     let b = c.self.inside in
-    ap (λ (o : Outcome). option_map (class_with (rows_of (source_of b.script) (words_in b.outcomes.entries))) (stem_of (outcome_of o))) (sym c.in-Some-Refused.field-0-is)
-    ∙ class_found (source_of b.script) b.outcomes.entries c.args.word.now c.self.invariant.1.fresh (Some c.in-Some-Refused.field-0.now) c.in-Some-Refused.ensures.value
+    ap (λ (o : Outcome). option_map (class_with (rows_of (source_of b.script) (words_in b.traces.entries))) (stem_of (outcome_of o))) (sym c.in-Refused.is)
+    ∙ class_found (source_of b.script) b.traces.entries c.args.word.now c.self.invariant.1.fresh (Some c.in-Some.traced.now) c.in-Some.ensures.value
     ∙ ap (λ (k : Kept). class_of (rows_of (source_of k.script) k.words) c.args.word.now) c.self.view_is
 
-pub returns-in-None : goal.returns-in-None
-returns-in-None c =
+pub returns-in_default : goal.returns-in_default
+returns-in_default c =
     let b = c.self.inside in
-    class_found (source_of b.script) b.outcomes.entries c.args.word.now c.self.invariant.1.fresh None c.in-None.ensures.value
+    class_found (source_of b.script) b.traces.entries c.args.word.now c.self.invariant.1.fresh None c.in_default.ensures.value
     ∙ ap (λ (k : Kept). class_of (rows_of (source_of k.script) k.words) c.args.word.now) c.self.view_is

@@ -9,4 +9,4 @@ abbrev pub invariant-loop-word : goal.invariant-loop-word
 invariant-loop-word l =
     (goal.iterator-loop-word).can_next l.word-iterator ×
     (goal.iterator-loop-word).is_finite l.word-iterator ×
-    IsOpening (source_of l.fn.script) (map (λ w. w.items) l.fn.words.items) (map (λ w. w.items) (into_iter_items l.word-iterator)) l.outcomes.entries l.meter × ArePaired l.outcomes.entries l.pairs
+    IsOpening (source_of l.fn.script) (map (λ w. w.items) l.fn.words.items) (map (λ w. w.items) (into_iter_items l.word-iterator)) l.traces.entries l.meter × ArePaired l.traces.entries l.pairs

@@ -16,7 +16,7 @@ use Rattle.sbl_bench.proofs.bench.Bench.remove.Goals as goal
 
 pub returns-in_default : goal.returns-in_default
 returns-in_default c =
-    let es = c.self.inside.outcomes.entries in
+    let es = c.self.inside.traces.entries in
     let word = c.args.word.now in
     let s : Contents = record { script = source_of c.self.inside.script; words = words_in es; count = c.self.inside.meter } in
     let same : words_in c.shift_remove_entry.new.self.entries ≡ words_in es = ap words_in c.in_default.ensures.unchanged in
@@ -27,19 +27,19 @@ returns-in_default c =
 pub invariant_of-self-2 : goal.invariant_of-self-2
 invariant_of-self-2 c =
     let word = c.args.word.now in
-    let es = c.self.inside.outcomes.entries in
+    let es = c.self.inside.traces.entries in
     let same : c.in-Some.key.items ≡ word = sym ((bytes_eq-Decides word c.in-Some.key.items).0 (lookup_key_passes (λ (k : Text). bytes_eq word k.items) es c.in-Some.key (sym c.in-Some.ensures.key))) in (
       c.self.invariant.0,
       subst (IsKept (source_of c.self.inside.script)) (sym c.in-Some.ensures.entries) (kept-remove (source_of c.self.inside.script) word es c.self.invariant.1),
-      paired_remove es c.shift_remove_entry.new.self.entries c.self.inside.pairs c.remove_pair.new.pairs word c.in-Some.outcome c.self.invariant.2
+      paired_remove es c.shift_remove_entry.new.self.entries c.self.inside.pairs c.remove_pair.new.pairs word c.in-Some.traced c.self.invariant.2
           (sym c.in-Some.ensures.value)
           (λ w. c.in-Some.ensures.updates.0 w)
-          (λ q. c.remove_pair.ensures q ∙ ap (λ (t : List ℕ). not (is_pair_of t (outcome_of c.in-Some.outcome) q) && has c.self.inside.pairs q) same),
+          (λ q. c.remove_pair.ensures q ∙ ap (λ (t : List ℕ). not (is_pair_of t (outcome_of c.in-Some.traced.outcome) q) && has c.self.inside.pairs q) same),
     )
 
 pub returns : goal.returns
 returns c =
-    let es = c.self.inside.outcomes.entries in
+    let es = c.self.inside.traces.entries in
     let word = c.args.word.now in
     subst (λ (k : Kept). Edits (Ok tt) (contents_of k) (Remove word) (record { script = source_of c.self.inside.script; words = words_in c.shift_remove_entry.new.self.entries; count = c.self.inside.meter })) c.self.view_is
     (removes (record { script = source_of c.self.inside.script; words = words_in es; count = c.self.inside.meter }) word (words_in c.shift_remove_entry.new.self.entries)

@@ -15,8 +15,8 @@ row_with w o = Some (record { word = w; outcome = outcome_of o })
 
 pub returns : goal.returns
 returns c =
-    let es = c.self.inside.outcomes.entries in
-    ap (λ (w : List ℕ). row_with w c.in_ok-word.outcome.now) c.as_slice.ensures.value
+    let es = c.self.inside.traces.entries in
+    ap (λ (w : List ℕ). row_with w c.in_ok-word.traced.now.outcome) c.as_slice.ensures.value
     ∙ ap (option_map shown) c.in_ok-word.ensures.entry
     ∙ sym (slice_get-map shown es c.args.i)
     ∙ ap (λ (rows : List Row). slice_get rows c.args.i) (rows_shown (source_of c.self.inside.script) es c.self.invariant.1.fresh)

@@ -7,7 +7,7 @@ use Rattle.sbl_bench.proofs.bench.Bench.rows.Goals as goal
 
 pub loop-word-init : goal.loop-word-init
 loop-word-init c =
-    let es = c.self.inside.outcomes.entries in
+    let es = c.self.inside.traces.entries in
     rw c.in_ok-rows.ensures.items (
     ap (λ (l : List KeptWord). map shown l) (c.into_iter-word-iterator.ensures.into_iter_gives ∙ c.iter-word-items.ensures.rest)
     ∙ rows_shown (source_of c.self.inside.script) es c.self.invariant.1.fresh

@@ -1,11 +1,12 @@
 use Rattle.std.proofs.Common.{ap, ◌∙◌, Ok}
 use Rattle.sbl_tree.specs.declared.mode.Mode.TheVariants.{Forward}
 use Rattle.sbl_machine.specs.MachineOf.{IsMachineOf, listed_in, machine_plan}
-use Rattle.sbl_machine.specs.Outcome.{ending_of, run_of, used_of}
+use Rattle.sbl_machine.specs.Outcome.{run_of, touches_of, used_of}
+use Rattle.sbl_run.specs.Start.{ending_of}
 use Rattle.sbl_program.specs.Program.{Program}
-use Rattle.sbl_machine.specs.Run.{calls}
+use Rattle.sbl_run.specs.Run.{calls}
 use Rattle.sbl_machine.proofs.SoundRuns.{ending_same}
-use Rattle.sbl_machine.proofs.Ended.{same_outcome, same_used}
+use Rattle.sbl_machine.proofs.Ended.{same_outcome, same_touches, same_used}
 use Rattle.sbl_machine.proofs.machine.Machine.ran.Goals as goal
 
 pub returns-clause-outcome : goal.returns-clause-outcome
@@ -14,7 +15,15 @@ returns-clause-outcome g c script h =
     let m = c.args.self.now in
     let T = listed_in _ g.S.AmongSearch.entries g.S.AmongSearch.mode m in
     let does = calls (machine_plan _ g.S.AmongSearch.entries g.S.AmongSearch.mode m) 32 m.program.external Forward in
-    same_outcome (Ok c.in_ok-ran.ran) (does c.in_ok-state.state) _ (c.in_ok-ran.ensures.outcome (does c.in_ok-state.state) c.run_call-end.ensures.follows) (ap does (c.in_ok-state.ensures T) ∙ ap (λ (p : Program). ending_of p c.args.word.now c.args.limit) h ∙ ending_same script c.args.word.now c.args.limit)
+    same_outcome (Ok c.in_ok-traced.traced) (does c.in_ok-state.state) _ (c.in_ok-traced.ensures.outcome (does c.in_ok-state.state) c.run_call-end.ensures.follows) (ap does (c.in_ok-state.ensures T) ∙ ap (λ (p : Program). ending_of p c.args.word.now c.args.limit) h.0 ∙ ending_same script c.args.word.now c.args.limit)
+
+pub returns-clause-touches : goal.returns-clause-touches
+unfolding IsMachineOf touches_of
+returns-clause-touches g c script h =
+    let m = c.args.self.now in
+    let T = listed_in _ g.S.AmongSearch.entries g.S.AmongSearch.mode m in
+    let does = calls (machine_plan _ g.S.AmongSearch.entries g.S.AmongSearch.mode m) 32 m.program.external Forward in
+    same_touches (Ok c.in_ok-traced.traced) (does c.in_ok-state.state) _ (c.in_ok-traced.ensures.touches (does c.in_ok-state.state) c.run_call-end.ensures.follows) (ap does (c.in_ok-state.ensures T) ∙ ap (λ (p : Program). ending_of p c.args.word.now c.args.limit) h.0 ∙ ending_same script c.args.word.now c.args.limit)
 
 pub returns-clause-used : goal.returns-clause-used
 unfolding IsMachineOf used_of
@@ -22,4 +31,4 @@ returns-clause-used g c script h =
     let m = c.args.self.now in
     let T = listed_in _ g.S.AmongSearch.entries g.S.AmongSearch.mode m in
     let does = calls (machine_plan _ g.S.AmongSearch.entries g.S.AmongSearch.mode m) 32 m.program.external Forward in
-    same_used (Ok c.in_ok-ran.ran) c.args.limit (does c.in_ok-state.state) _ (c.in_ok-ran.ensures.used (does c.in_ok-state.state) c.run_call-end.ensures.follows) (ap does (c.in_ok-state.ensures T) ∙ ap (λ (p : Program). ending_of p c.args.word.now c.args.limit) h ∙ ending_same script c.args.word.now c.args.limit)
+    same_used (Ok c.in_ok-traced.traced) c.args.limit (does c.in_ok-state.state) _ (c.in_ok-traced.ensures.used (does c.in_ok-state.state) c.run_call-end.ensures.follows) (ap does (c.in_ok-state.ensures T) ∙ ap (λ (p : Program). ending_of p c.args.word.now c.args.limit) h.0 ∙ ending_same script c.args.word.now c.args.limit)

@@ -1,0 +1,250 @@
+//! What is read from and written to: devices that may fail or be interrupted, and are counted at it.
+ghost use Rattle.std.specs.Prelude.{◌≡◌, ◌≤◌, ◌<◌, ◌^◌, ◌||◌, ℕ, Bool, false, List, Option, length, IfOk, Err};
+ghost use Rattle.std.specs.Io.KnownBytes.{Keeps};
+ghost use Rattle.sbl_lines.specs.Devices.{Reads, Writes, Counts, CountsRead, CountsRow, Judged, is_late_read, is_late_write, max_reads, max_tries, stop_of, tells_end};
+
+use std::io;
+use std::io::{ErrorKind, Read, Write};
+
+/// How many reads one reader is asked for (our own choice).
+pub(crate) const MAX_READS: u64 = 1_099_511_627_776;
+
+/// How often one read or write is tried: 1,000 interruptions in a row are borne (our own choice).
+pub(crate) const MAX_TRIES: u16 = 1_001;
+
+/// Why a read or a write did nothing.
+#[derive(Clone, Copy, Debug, PartialEq, Eq)]
+pub enum Stop {
+    /// It was interrupted: nothing was done, and it may be asked again.
+    Interrupted,
+    /// It failed.
+    Failed,
+}
+
+/// What bytes are read from.
+pub trait Source {
+    /// The bytes left, or nothing of them.
+    ghost left: { Self → Option (List ℕ) };
+
+    /// How often a read has failed.
+    ghost failures: { Self → ℕ };
+
+    /// How many reads in a row were interrupted last, up to 1001.
+    ghost interruptions: { Self → ℕ };
+
+    /// How many reads it was asked for, up to 1,099,511,627,776.
+    ghost reads: { Self → ℕ };
+
+    /// Whether a read has told the end of its bytes.
+    ghost ended: { Self → Bool };
+
+    /// Whether it was asked for a read after its end was told, after 1,001 interruptions in a row, or after 1,099,511,627,776 reads.
+    ghost late: { Self → Bool };
+
+    /// Takes bytes from the front of those left into `buf`, and answers how many: 0 into some room is their end. A stop
+    /// takes none.
+    fn read(&mut self, buf: &mut [u8]) -> Result<usize, Stop>
+        ensures bound { IfOk result (λ n. n ≤ length buf.new) }
+        ensures bytes { Reads (left self.old) (left self.new) result buf.new }
+        ensures counts { Counts (failures self.old) (failures self.new) result }
+        ensures row { CountsRow (interruptions self.old) (interruptions self.new) result }
+        ensures asked { CountsRead (reads self.old) (reads self.new) }
+        ensures end { ended self.new ≡ (ended self.old || tells_end result buf.new) }
+        ensures late { late self.new ≡ (late self.old || is_late_read (ended self.old) (interruptions self.old) (reads self.old)) };
+}
+
+/// What bytes are written to.
+pub trait Sink {
+    /// The bytes held, or nothing of them.
+    ghost held: { Self → Option (List ℕ) };
+
+    /// How often a write has failed.
+    ghost failures: { Self → ℕ };
+
+    /// How many writes in a row were interrupted last, up to 1001.
+    ghost interruptions: { Self → ℕ };
+
+    /// Whether it was asked for a write after 1,001 interruptions in a row.
+    ghost late: { Self → Bool };
+
+    /// Takes a front of `bytes`, at least one of some, and answers how many. A stop takes none.
+    fn write(&mut self, bytes: &[u8]) -> Result<usize, Stop>
+        ensures bound { IfOk result (λ n. n ≤ length bytes.now) }
+        ensures bytes { Writes (held self.old) (held self.new) result bytes.now }
+        ensures counts { Counts (failures self.old) (failures self.new) result }
+        ensures row { CountsRow (interruptions self.old) (interruptions self.new) result }
+        ensures late { late self.new ≡ (late self.old || is_late_write (interruptions self.old)) };
+}
+
+/// A reader or a writer of std. An error whose kind is `Interrupted` is an interruption, and every other a failure; so is a write
+/// of some bytes that takes none. Failures are counted in 64 bits; once that count is full each stop is an interruption (our own
+/// choice).
+#[derive(Drop)]
+pub struct Device<D> {
+    inner: D,
+    stops: Stops,
+}
+
+/// How often a device has failed, how often in a row it was interrupted last, how many reads it was asked for, whether one of them
+/// told the end, and whether it was asked for more than it should be.
+#[derive(Clone, Copy)]
+pub(crate) struct Stops {
+    pub(crate) failures: u64,
+    pub(crate) interruptions: u16,
+    pub(crate) reads: u64,
+    pub(crate) ended: bool,
+    pub(crate) late: bool,
+    ghost capped: { interruptions ≤ max_tries },
+    ghost in_bound: { reads ≤ max_reads },
+}
+
+impl Stops {
+    /// No stop, and no read.
+    pub(crate) fn new() -> Stops
+        ensures failures { result.failures ≡ 0 }
+        ensures interruptions { result.interruptions ≡ 0 }
+        ensures reads { result.reads ≡ 0 }
+        ensures ended { result.ended ≡ false }
+        ensures late { result.late ≡ false }
+    {
+        Stops {
+            failures: 0,
+            interruptions: 0,
+            reads: 0,
+            ended: false,
+            late: false,
+        }
+    }
+
+    /// Counts one more read.
+    pub(crate) fn ask_read(&mut self)
+        ensures late { self.new.late ≡ (self.old.late || is_late_read self.old.ended self.old.interruptions self.old.reads) }
+        ensures reads { CountsRead self.old.reads self.new.reads }
+        ensures failures { self.new.failures ≡ self.old.failures }
+        ensures interruptions { self.new.interruptions ≡ self.old.interruptions }
+        ensures ended { self.new.ended ≡ self.old.ended }
+    {
+        if self.ended || self.interruptions >= MAX_TRIES || self.reads >= MAX_READS {
+            self.late = true;
+        }
+        self.reads = (self.reads + 1).min(MAX_READS);
+    }
+
+    /// Counts one more write.
+    pub(crate) fn ask_write(&mut self)
+        ensures late { self.new.late ≡ (self.old.late || is_late_write self.old.interruptions) }
+        ensures failures { self.new.failures ≡ self.old.failures }
+        ensures interruptions { self.new.interruptions ≡ self.old.interruptions }
+    {
+        if self.interruptions >= MAX_TRIES {
+            self.late = true;
+        }
+    }
+
+    /// Counts a failure or an interruption, and says which it is.
+    fn note(&mut self, kind: ErrorKind) -> Stop
+        ensures stop { result ≡ stop_of self.old.failures kind }
+        ensures counts { Counts self.old.failures self.new.failures (Err result) }
+        ensures row { CountsRow self.old.interruptions self.new.interruptions (Err result) }
+        ensures reads { self.new.reads ≡ self.old.reads }
+        ensures ended { self.new.ended ≡ self.old.ended }
+        ensures late { self.new.late ≡ self.old.late }
+    {
+        if kind == ErrorKind::Interrupted || self.failures == u64::MAX {
+            self.interruptions = (self.interruptions + 1).min(MAX_TRIES);
+            return Stop::Interrupted;
+        }
+        self.failures += 1;
+        self.interruptions = 0;
+        Stop::Failed
+    }
+
+    /// Judges what a read or a write of std answered, and counts it.
+    pub(crate) fn judge(&mut self, answer: io::Result<usize>) -> Result<usize, Stop>
+        ensures judged { Judged self.old.failures answer result }
+        ensures counts { Counts self.old.failures self.new.failures result }
+        ensures row { CountsRow self.old.interruptions self.new.interruptions result }
+        ensures reads { self.new.reads ≡ self.old.reads }
+        ensures ended { self.new.ended ≡ self.old.ended }
+        ensures late { self.new.late ≡ self.old.late }
+    {
+        match answer {
+            Ok(n) => {
+                self.interruptions = 0;
+                Ok(n)
+            }
+            Err(e) => Err(self.note(e.kind())),
+        }
+    }
+}
+
+impl<D> Device<D> {
+    ghost use Rattle.sbl_lines.specs.Counted.{failures_of, has_ended, inner_of, interruptions_of, is_late, reads_of};
+
+    /// A device that has not failed, was not interrupted and was asked for no read.
+    pub fn new(inner: D) -> Device<D>
+        ensures inner { inner_of result ≡ inner }
+        ensures failures { failures_of result ≡ 0 }
+        ensures interruptions { interruptions_of result ≡ 0 }
+        ensures reads { reads_of result ≡ 0 }
+        ensures ended { has_ended result ≡ false }
+        ensures late { is_late result ≡ false }
+    {
+        let stops = Stops::new();
+        Device { inner, stops }
+    }
+
+    /// The reader or writer that it was made with, as it is now.
+    pub fn into_inner(self) -> D
+        ensures { result ≡ inner_of self }
+    {
+        self.inner
+    }
+}
+
+impl<D: Read> Source for Device<D> {
+    ghost use Rattle.sbl_lines.specs.Counted.{failures_of, has_ended, inner_of, interruptions_of, is_late, reads_of};
+
+    ghost left = { λ d. D.remaining (inner_of d) };
+
+    ghost failures = { λ d. failures_of d };
+
+    ghost interruptions = { λ d. interruptions_of d };
+
+    ghost reads = { λ d. reads_of d };
+
+    ghost ended = { λ d. has_ended d };
+
+    ghost late = { λ d. is_late d };
+
+    fn read(&mut self, buf: &mut [u8]) -> Result<usize, Stop> {
+        self.stops.ask_read();
+        let answer = self.inner.read(buf);
+        let judged = self.stops.judge(answer);
+        if judged == Ok(0) && !buf.is_empty() {
+            self.stops.ended = true;
+        }
+        judged
+    }
+}
+
+impl<D: Write> Sink for Device<D> {
+    ghost use Rattle.sbl_lines.specs.Counted.{failures_of, inner_of, interruptions_of, is_late};
+
+    ghost held = { λ d. D.contents (inner_of d) };
+
+    ghost failures = { λ d. failures_of d };
+
+    ghost interruptions = { λ d. interruptions_of d };
+
+    ghost late = { λ d. is_late d };
+
+    fn write(&mut self, bytes: &[u8]) -> Result<usize, Stop> {
+        self.stops.ask_write();
+        let answer = match self.inner.write(bytes) {
+            Ok(0) if !bytes.is_empty() => Err(io::Error::from(ErrorKind::WriteZero)),
+            answer => answer,
+        };
+        self.stops.judge(answer)
+    }
+}

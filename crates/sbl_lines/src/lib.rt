@@ -1,0 +1,14 @@
+//! Readers and writers of bytes, and the lines of a reader: what they give, when they fail, and what is left of them.
+#![tactic(auto)]
+
+mod devices;
+mod faults;
+mod lines;
+mod text_lines;
+mod writing;
+
+pub use devices::{Device, Sink, Source, Stop};
+pub use faults::{LineFault, ServeFault};
+pub use lines::{Lines, MAX_LINE};
+pub use text_lines::first_line;
+pub use writing::write_all;

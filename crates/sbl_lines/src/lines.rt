@@ -1,0 +1,272 @@
+//! Lines of a reader, in buffers of their own that do not grow.
+ghost use Rattle.std.specs.Prelude.{◌≡◌, ◌≢◌, ◌+◌, ◌≤◌, ◌<◌, ◌⊎◌, [], ◌∷◌, vec_len, vec_capacity, OnOk, OnErr, IfOk, IfErr, MatchOption, Some, None, Ok, Err, true, false, length, IsSome};
+ghost use Rattle.std.specs.Io.KnownBytes.{Consumes, IsAtEnd, Keeps};
+ghost use Rattle.sbl_lines.specs.LinesOf.{chomped, max_line};
+
+use crate::devices::{MAX_READS, MAX_TRIES, Source, Stop};
+use crate::faults::LineFault;
+use std::alloc::{AllocError, Global};
+
+/// The longest line in bytes, its end not counted (our own choice).
+pub const MAX_LINE: usize = 65_536;
+
+/// How many bytes are asked for at a read (our own choice).
+const CHUNK: usize = 4_096;
+
+/// What ended a line: a line feed, the end of input, or nothing within the longest line.
+#[derive(Clone, Copy, Debug, PartialEq, Eq)]
+enum LineEnd {
+    /// A line feed.
+    Feed,
+    /// The end of input.
+    Input,
+    /// Nothing: the line has more bytes than it may.
+    Beyond,
+}
+
+/// The lines of a reader. A line ends at a line feed or at the end of input; one carriage return before its end is
+/// dropped.
+#[derive(Drop)]
+pub struct Lines<R> {
+    alloc: Global,
+    reader: R,
+    chunk: Vec<u8>,
+    at: usize,
+    end: usize,
+    line: Vec<u8>,
+    reads_left: u64,
+    ended: bool,
+    fault: Option<LineFault>,
+    ghost in_order: { at ≤ end },
+    ghost in_chunk: { end ≤ vec_len chunk },
+    ghost whole: { vec_len chunk ≡ 4096 },
+    ghost room: { max_line + 1 ≤ vec_capacity line },
+}
+
+impl<R: Source + Drop> Lines<R> {
+    ghost use Rattle.sbl_lines.specs.Devices.{IsUnasked, max_reads};
+    ghost use Rattle.sbl_lines.specs.Held.{fuel_of, line_of, fault_of, input_of, reads_bound, AsksInTime, BeginsLong, BreaksOff, HasCause, InTime, IsDrained, KeepsTime, StaysEnded, TakesFeeds, TakesLine, NoFeed, GivesLine};
+
+    /// The lines of `reader`, which is asked for at most 1,099,511,627,776 reads. Takes its buffers at once; a refused
+    /// growth is the one error.
+    pub fn new(alloc: Global, reader: R) -> Result<Lines<R>, AllocError>
+        ensures input { IfOk result (λ lines. input_of R.left lines ≡ R.left reader) }
+        ensures fault { IfOk result (λ lines. fault_of lines ≡ None) }
+        ensures bound { IfOk result (λ lines. reads_bound R.reads lines ≡ max_reads) }
+        ensures in_time { IsUnasked R.ended R.late R.interruptions R.reads reader → IfOk result (λ lines. InTime R.ended R.late R.interruptions R.reads lines) }
+    {
+        Lines::with_reads(alloc, reader, MAX_READS)
+    }
+
+    /// Takes its buffers at once.
+    fn with_reads(alloc: Global, reader: R, most: u64) -> Result<Lines<R>, AllocError>
+        ensures input { IfOk result (λ lines. input_of R.left lines ≡ R.left reader) }
+        ensures fault { IfOk result (λ lines. fault_of lines ≡ None) }
+        ensures fields { IfOk result (λ lines. (lines.reads_left ≡ most) × (lines.reader ≡ reader) × (lines.ended ≡ false)) }
+    {
+        let chunk = vec![in alloc; 0u8; CHUNK]?;
+        let line = Vec::with_capacity(alloc, MAX_LINE + 1)?;
+        Ok(Lines {
+            alloc,
+            reader,
+            chunk,
+            at: 0,
+            end: 0,
+            line,
+            reads_left: most,
+            ended: false,
+            fault: None,
+        })
+    }
+
+    /// The allocator that the buffers were made with.
+    pub fn alloc(&self) -> Global {
+        self.alloc
+    }
+
+    /// The line that was taken last.
+    pub fn line(&self) -> &[u8]
+        ensures { result.now ≡ line_of self.now }
+    {
+        self.line.as_slice()
+    }
+
+    /// Reads some more bytes into the chunk, all of which were taken. None come at the end of input alone; once a read has told
+    /// that end, none is asked for.
+    fn fill(&mut self) -> Result<(), LineFault>
+        requires { self.old.at ≡ self.old.end }
+        ensures input { Keeps (input_of R.left self.old) (input_of R.left self.new) }
+        ensures end { OnOk result (self.new.at ≡ self.new.end → IsAtEnd (input_of R.left self.new)) }
+        ensures line { line_of self.new ≡ line_of self.old }
+        ensures fault { fault_of self.new ≡ fault_of self.old }
+        ensures drained { OnErr result (IsDrained self.new) }
+        ensures fuel { fuel_of self.new ≤ fuel_of self.old }
+        ensures later { R.failures self.old.reader ≤ R.failures self.new.reader }
+        ensures stays { StaysEnded self.old self.new }
+        ensures told { OnOk result (self.new.at ≡ self.new.end → self.new.ended ≡ true) }
+        ensures steady { OnOk result (R.failures self.new.reader ≡ R.failures self.old.reader) }
+        ensures bound { reads_bound R.reads self.new ≡ reads_bound R.reads self.old }
+        ensures why { IfErr result (λ fault. (fault ≡ LineFault.Read) × HasCause R.failures R.interruptions R.reads self.old self.new) }
+        ensures asks { AsksInTime R.ended R.late R.interruptions R.reads self.old self.new }
+        ensures rested { OnOk result (R.interruptions self.old.reader ≡ 0 → R.interruptions self.new.reader ≡ 0) }
+    {
+        if self.ended {
+            return Ok(());
+        }
+        for _ in 0..MAX_TRIES {
+            if self.reads_left == 0 {
+                return Err(LineFault::Read);
+            }
+            self.reads_left -= 1;
+            match self.reader.read(&mut self.chunk) {
+                Ok(n) => {
+                    self.at = 0;
+                    self.end = n;
+                    self.ended = n == 0;
+                    return Ok(());
+                }
+                Err(Stop::Failed) => return Err(LineFault::Read),
+                Err(Stop::Interrupted) => {}
+            }
+        }
+        Err(LineFault::Read)
+    }
+
+    /// The next byte, if there is one.
+    fn next_byte(&mut self) -> Result<Option<u8>, LineFault>
+        ensures byte { IfOk result (λ o. MatchOption o (IsAtEnd (input_of R.left self.new) × Keeps (input_of R.left self.old) (input_of R.left self.new)) (λ b. Consumes (input_of R.left self.old) (input_of R.left self.new) (b ∷ []))) }
+        ensures err { OnErr result (Keeps (input_of R.left self.old) (input_of R.left self.new)) }
+        ensures drained { OnErr result (IsDrained self.new) }
+        ensures line { line_of self.new ≡ line_of self.old }
+        ensures fault { fault_of self.new ≡ fault_of self.old }
+        ensures fuel { fuel_of self.new ≤ fuel_of self.old }
+        ensures falls { IfOk result (λ o. MatchOption o Unit (λ b. fuel_of self.new < fuel_of self.old)) }
+        ensures later { R.failures self.old.reader ≤ R.failures self.new.reader }
+        ensures stays { StaysEnded self.old self.new }
+        ensures told { IfOk result (λ o. MatchOption o (self.new.ended ≡ true) (λ b. Unit)) }
+        ensures steady { OnOk result (R.failures self.new.reader ≡ R.failures self.old.reader) }
+        ensures bound { reads_bound R.reads self.new ≡ reads_bound R.reads self.old }
+        ensures why { IfErr result (λ fault. (fault ≡ LineFault.Read) × HasCause R.failures R.interruptions R.reads self.old self.new) }
+        ensures asks { AsksInTime R.ended R.late R.interruptions R.reads self.old self.new }
+        ensures rested { OnOk result (R.interruptions self.old.reader ≡ 0 → R.interruptions self.new.reader ≡ 0) }
+    {
+        if self.at == self.end {
+            self.fill()?;
+            if self.at == self.end {
+                return Ok(None);
+            }
+        }
+        let byte = self.chunk[self.at];
+        self.at += 1;
+        Ok(Some(byte))
+    }
+
+    /// Takes the bytes of a line, up to a line feed, the end of input or more than a line may hold.
+    fn take_line(&mut self) -> Result<LineEnd, LineFault>
+        ensures takes { IfOk result (λ end. TakesLine (input_of R.left self.old) (input_of R.left self.new) (line_of self.new) end) }
+        ensures no_feed { OnOk result (NoFeed (line_of self.new)) }
+        ensures cut { OnErr result (BreaksOff (input_of R.left self.old) (input_of R.left self.new) (line_of self.new)) }
+        ensures drained { OnErr result (IsDrained self.new) }
+        ensures fault { fault_of self.new ≡ fault_of self.old }
+        ensures fuel { OnOk result (vec_len self.new.line + fuel_of self.new ≤ fuel_of self.old) }
+        ensures falls { IfOk result (λ end. end ≢ LineEnd.Input → fuel_of self.new < fuel_of self.old) }
+        ensures later { R.failures self.old.reader ≤ R.failures self.new.reader }
+        ensures stays { StaysEnded self.old self.new }
+        ensures told { IfOk result (λ end. end ≡ LineEnd.Input → self.new.ended ≡ true) }
+        ensures steady { OnOk result (R.failures self.new.reader ≡ R.failures self.old.reader) }
+        ensures bound { reads_bound R.reads self.new ≡ reads_bound R.reads self.old }
+        ensures why { IfErr result (λ fault. (fault ≡ LineFault.Read) × HasCause R.failures R.interruptions R.reads self.old self.new) }
+        ensures asks { AsksInTime R.ended R.late R.interruptions R.reads self.old self.new }
+        ensures rested { OnOk result (R.interruptions self.old.reader ≡ 0 → R.interruptions self.new.reader ≡ 0) }
+    {
+        self.line.clear();
+        for _ in 0..MAX_LINE + 1 {
+            match self.next_byte()? {
+                None => return Ok(LineEnd::Input),
+                Some(b'\n') => return Ok(LineEnd::Feed),
+                Some(byte) => self.line.push(byte).unwrap(),
+            }
+        }
+        match self.next_byte()? {
+            None => Ok(LineEnd::Input),
+            Some(b'\n') => Ok(LineEnd::Feed),
+            Some(_) => Ok(LineEnd::Beyond),
+        }
+    }
+
+    /// Takes the next line, or says that the input has ended.
+    fn take_whole(&mut self) -> Result<bool, LineFault>
+        ensures more { IfOk result (λ more. more ≡ true → GivesLine (input_of R.left self.old) (input_of R.left self.new) (line_of self.new)) }
+        ensures fits { IfOk result (λ more. more ≡ true → length (line_of self.new) ≤ max_line) }
+        ensures end { IfOk result (λ more. more ≡ false → IsAtEnd (input_of R.left self.old) × IsAtEnd (input_of R.left self.new) × Keeps (input_of R.left self.old) (input_of R.left self.new)) }
+        ensures long { IfErr result (λ fault. fault ≡ LineFault.TooLong → BeginsLong (input_of R.left self.old)) }
+        ensures cut { IfErr result (λ fault. fault ≡ LineFault.Read → BreaksOff (input_of R.left self.old) (input_of R.left self.new) (line_of self.new)) }
+        ensures drained { IfErr result (λ fault. fault ≡ LineFault.Read → IsDrained self.new) }
+        ensures falls { IfOk result (λ more. more ≡ true → fuel_of self.new < fuel_of self.old) }
+        ensures fault { fault_of self.new ≡ fault_of self.old }
+        ensures later { R.failures self.old.reader ≤ R.failures self.new.reader }
+        ensures stays { StaysEnded self.old self.new }
+        ensures feeds { IfOk result (λ more. more ≡ true → TakesFeeds R.left self.old self.new) }
+        ensures steady { OnOk result (R.failures self.new.reader ≡ R.failures self.old.reader) }
+        ensures bound { reads_bound R.reads self.new ≡ reads_bound R.reads self.old }
+        ensures why { IfErr result (λ fault. fault ≡ LineFault.Read → HasCause R.failures R.interruptions R.reads self.old self.new) }
+        ensures asks { AsksInTime R.ended R.late R.interruptions R.reads self.old self.new }
+        ensures rested { OnOk result (R.interruptions self.old.reader ≡ 0 → R.interruptions self.new.reader ≡ 0) }
+    {
+        let end = self.take_line()?;
+        if end == LineEnd::Input && self.line.is_empty() {
+            return Ok(false);
+        }
+        if end == LineEnd::Beyond {
+            return Err(LineFault::TooLong);
+        }
+        chomp(&mut self.line);
+        if self.line.len() > MAX_LINE {
+            return Err(LineFault::TooLong);
+        }
+        Ok(true)
+    }
+
+    /// Takes the next line and answers true, or answers false at the end of input. A fault is remembered: every later
+    /// call answers it again, and takes nothing.
+    pub fn next_line(&mut self) -> Result<bool, LineFault>
+        ensures more { IfOk result (λ more. more ≡ true → GivesLine (input_of R.left self.old) (input_of R.left self.new) (line_of self.new)) }
+        ensures fits { IfOk result (λ more. more ≡ true → length (line_of self.new) ≤ max_line) }
+        ensures end { IfOk result (λ more. more ≡ false → IsAtEnd (input_of R.left self.old) × IsAtEnd (input_of R.left self.new) × Keeps (input_of R.left self.old) (input_of R.left self.new)) }
+        ensures long { IfErr result (λ fault. fault ≡ LineFault.TooLong → BeginsLong (input_of R.left self.old) ⊎ (fault_of self.old ≡ Some fault)) }
+        ensures cut { IfErr result (λ fault. fault ≡ LineFault.Read → fault_of self.old ≡ None → BreaksOff (input_of R.left self.old) (input_of R.left self.new) (line_of self.new)) }
+        ensures drained { IfErr result (λ fault. fault ≡ LineFault.Read → fault_of self.old ≡ None → IsDrained self.new) }
+        ensures falls { IfOk result (λ more. more ≡ true → fuel_of self.new < fuel_of self.old) }
+        ensures again { IsSome (fault_of self.old) → (fault_of self.new ≡ fault_of self.old) × Keeps (input_of R.left self.old) (input_of R.left self.new) }
+        ensures ready { OnOk result ((fault_of self.old ≡ None) × (fault_of self.new ≡ None)) }
+        ensures fault { IfErr result (λ fault. fault_of self.new ≡ Some fault) }
+        ensures later { R.failures self.old.reader ≤ R.failures self.new.reader }
+        ensures stays { StaysEnded self.old self.new }
+        ensures feeds { IfOk result (λ more. more ≡ true → TakesFeeds R.left self.old self.new) }
+        ensures steady { OnOk result (R.failures self.new.reader ≡ R.failures self.old.reader) }
+        ensures bound { reads_bound R.reads self.new ≡ reads_bound R.reads self.old }
+        ensures why { IfErr result (λ fault. fault ≡ LineFault.Read → HasCause R.failures R.interruptions R.reads self.old self.new ⊎ (fault_of self.old ≡ Some fault)) }
+        ensures in_time { KeepsTime R.ended R.late R.interruptions R.reads self.old self.new }
+    {
+        if let Some(fault) = self.fault {
+            return Err(fault);
+        }
+        match self.take_whole() {
+            Ok(more) => Ok(more),
+            Err(fault) => {
+                self.fault = Some(fault);
+                Err(fault)
+            }
+        }
+    }
+}
+
+/// A carriage return at the end of a line goes.
+fn chomp(line: &mut Vec<u8>)
+    ensures items { line.new.items ≡ chomped line.old.items }
+    ensures capacity { vec_capacity line.new ≡ vec_capacity line.old }
+{
+    if line.last() == Some(&b'\r') {
+        line.pop();
+    }
+}

@@ -1,0 +1,134 @@
+-- Holes leave a script its names and its groupings, and each routine its own body with holes.
+use Rattle.std.proofs.Common.{◌≡◌, ◌∙◌, ℕ, suc, Bool, true, false, List, [], ◌∷◌, map, Option, Some, None, option_map, refl, ap}
+use Rattle.std.specs.Prelude.{if◌then◌else◌, slice_index_or}
+use Rattle.std.specs.Str.{bytes_eq}
+use Rattle.std.proofs.lemmas.Slice.Eq.{bytes_eq-Decides}
+use Rattle.sbl_tree.specs.Tree.{Command, Others, Plain, Item, bracket, no_rows, no_others, declaration, escapes, macro, routine, grouping, plain, backward}
+use Rattle.sbl_tree.specs.declared.mode.Mode.{Mode}
+use Rattle.sbl_tree.specs.declared.mode.Mode.TheVariants.{Forward, Backward}
+use Rattle.sbl_program.specs.Items.{ItemInMode, in_mode, in_order, place_of, strings_with, integers_with, booleans_with, groupings_with, routines_with, strings_in, integers_in, booleans_in, groupings_in, routines_in, known_in, Grouping, and_grouping, classes_behind, Body, body_or, body_named}
+use Rattle.sbl_program.specs.Regions.{behind}
+use Rattle.sbl_machine.specs.Holes.{with_holes, others_with_holes, holed_plain, holed_item, holed_script}
+use Rattle.sbl_machine.specs.Touched.{Item', Routine, Among, routine_names}
+use Rattle.sbl_script.specs.Parsed.{Source}
+
+module _ (picked : Item' → Bool) where
+  abbrev pub holed_in_mode : ItemInMode → ItemInMode
+  holed_in_mode x = record { mode = x.mode; plain = holed_plain picked x.plain }
+
+  abbrev pub holed_items : List ItemInMode → List ItemInMode
+  holed_items xs = map holed_in_mode xs
+
+  mode_holed : (m : Mode) (xs : List Plain) (rest : List ItemInMode) → in_mode m (map (holed_plain picked) xs) (holed_items rest) ≡ holed_items (in_mode m xs rest)
+  mode_holed m [] rest = refl
+  mode_holed m (x ∷ xs) rest = ap (λ (l : List ItemInMode). (record { mode = m; plain = holed_plain picked x }) ∷ l) (mode_holed m xs rest)
+
+  pub order_holed : (is : List Item) → in_order (map (holed_item picked) is) ≡ holed_items (in_order is)
+  order_holed [] = refl
+  order_holed (plain x ∷ is) = ap (λ (l : List ItemInMode). holed_in_mode (record { mode = Forward; plain = x }) ∷ l) (order_holed is)
+  order_holed (backward xs ∷ is) = ap (in_mode Backward (map (holed_plain picked) xs)) (order_holed is) ∙ mode_holed Backward xs (in_order is)
+
+  -- ---- what does not look at a routine's body
+
+  either_body : {A : Type 0} (f : Plain → A) (n : List ℕ) (c c' : Command) (os os' : Others) (b : Bool) (y : A) → f (routine n c os) ≡ y → f (routine n c' os') ≡ y → f (if b then routine n c os else routine n c' os') ≡ y
+  either_body f n c c' os os' true y p q = p
+  either_body f n c c' os os' false y p q = q
+
+  plain_same : {A : Type 0} (f : Plain → A) → ((n : List ℕ) (c c' : Command) (os os' : Others) → f (routine n c os) ≡ f (routine n c' os')) → (x : Plain) → f (holed_plain picked x) ≡ f x
+  plain_same f h (routine n c os) = either_body f n _ _ _ _ (picked (Routine n)) (f (routine n c os)) (h n _ c _ os) (h n _ c _ os)
+  plain_same f h (declaration k xs) = refl
+  plain_same f h (escapes a b) = refl
+  plain_same f h (macro n b q) = refl
+  plain_same f h (grouping n a ts) = refl
+
+  strings_same : (xs : List ItemInMode) → strings_in (holed_items xs) ≡ strings_in xs
+  strings_same [] = refl
+  strings_same (x ∷ xs) = ap (strings_with (holed_plain picked x.plain)) (strings_same xs) ∙ plain_same (λ p. strings_with p (strings_in xs)) (λ n c c' os os'. refl) x.plain
+
+  integers_same : (xs : List ItemInMode) → integers_in (holed_items xs) ≡ integers_in xs
+  integers_same [] = refl
+  integers_same (x ∷ xs) = ap (integers_with (holed_plain picked x.plain)) (integers_same xs) ∙ plain_same (λ p. integers_with p (integers_in xs)) (λ n c c' os os'. refl) x.plain
+
+  booleans_same : (xs : List ItemInMode) → booleans_in (holed_items xs) ≡ booleans_in xs
+  booleans_same [] = refl
+  booleans_same (x ∷ xs) = ap (booleans_with (holed_plain picked x.plain)) (booleans_same xs) ∙ plain_same (λ p. booleans_with p (booleans_in xs)) (λ n c c' os os'. refl) x.plain
+
+  groupings_same : (xs : List ItemInMode) → groupings_in (holed_items xs) ≡ groupings_in xs
+  groupings_same [] = refl
+  groupings_same (x ∷ xs) = ap (groupings_with (holed_plain picked x.plain)) (groupings_same xs) ∙ plain_same (λ p. groupings_with p (groupings_in xs)) (λ n c c' os os'. refl) x.plain
+
+  routines_same : (xs : List ItemInMode) → routines_in (holed_items xs) ≡ routines_in xs
+  routines_same [] = refl
+  routines_same (x ∷ xs) = ap (routines_with (holed_plain picked x.plain)) (routines_same xs) ∙ plain_same (λ p. routines_with p (routines_in xs)) (λ n c c' os os'. refl) x.plain
+
+  pub known_same : (xs : List ItemInMode) → known_in (holed_items xs) ≡ known_in xs
+  known_same xs = λ i. record { strings = strings_same xs i; integers = integers_same xs i; booleans = booleans_same xs i; groupings = groupings_same xs i; routines = routines_same xs i }
+
+  pub classes_same : (xs : List ItemInMode) (gs : List Grouping) → classes_behind (holed_items xs) gs ≡ classes_behind xs gs
+  classes_same [] gs = refl
+  classes_same (x ∷ xs) gs =
+      ap (classes_behind (holed_items xs)) (plain_same (λ p. and_grouping p gs) (λ n c c' os os'. refl) x.plain) ∙ classes_same xs (and_grouping x.plain gs)
+
+  pub names_same : (s : Source) → routine_names (holed_script picked s) ≡ routine_names s
+  names_same s = ap routines_in (order_holed s.items) ∙ routines_same (in_order s.items)
+
+  -- ---- bodies
+
+  abbrev pub hole_of : Bool → List ℕ → Body → Body
+  hole_of true n b = record { mode = b.mode; first = bracket no_rows; others = no_others }
+  hole_of false n b = record {
+    mode = b.mode;
+    first = with_holes (λ k. picked (Among n k)) 0 b.first;
+    others = others_with_holes (λ k. picked (Among n k)) (behind b.first 0) b.others;
+  }
+
+  -- the body of the routine of this name, with holes
+  abbrev pub holed_body : List ℕ → Body → Body
+  holed_body n b = hole_of (picked (Routine n)) n b
+
+  abbrev body_by : Mode → List ℕ → Command → Others → Body
+  body_by m n c os = record { mode = m; first = c; others = os }
+
+  holed_or : (m : Mode) (r n : List ℕ) (c : Command) (os : Others) (rest : Option Body) (b : Bool)
+      → body_or m (if b then routine r (bracket no_rows) no_others else routine r (with_holes (λ k. picked (Among r k)) 0 c) (others_with_holes (λ k. picked (Among r k)) (behind c 0) os)) n rest
+      ≡ (if bytes_eq r n then Some (hole_of b r (body_by m r c os)) else rest)
+  holed_or m r n c os rest true = refl
+  holed_or m r n c os rest false = refl
+
+  one_body : (r n : List ℕ) (x : Body) (rest : Option Body) (b : Bool) → bytes_eq r n ≡ b → (if b then Some (holed_body r x) else option_map (holed_body n) rest) ≡ option_map (holed_body n) (if b then Some x else rest)
+  one_body r n x rest true e = ap (λ (l : List ℕ). Some (holed_body l x)) ((bytes_eq-Decides r n).0 e)
+  one_body r n x rest false e = refl
+
+  item_body : (m : Mode) (x : Plain) (n : List ℕ) (rest : Option Body) → body_or m (holed_plain picked x) n (option_map (holed_body n) rest) ≡ option_map (holed_body n) (body_or m x n rest)
+  item_body m (routine r c os) n rest = holed_or m r n c os (option_map (holed_body n) rest) (picked (Routine r)) ∙ one_body r n (body_by m r c os) rest (bytes_eq r n) refl
+  item_body m (declaration k xs) n rest = refl
+  item_body m (escapes a b) n rest = refl
+  item_body m (macro y b q) n rest = refl
+  item_body m (grouping y a ts) n rest = refl
+
+  pub bodies_holed : (xs : List ItemInMode) (n : List ℕ) → body_named (holed_items xs) n ≡ option_map (holed_body n) (body_named xs n)
+  bodies_holed [] n = refl
+  bodies_holed (x ∷ xs) n = ap (body_or x.mode (holed_plain picked x.plain) n) (bodies_holed xs n) ∙ item_body x.mode x.plain n (body_named xs n)
+
+-- ---- the place of a routine that there is gives its name
+
+-- where a routine of this name is one of some items, its place among their names has its name
+abbrev Stands : List ItemInMode → List ℕ → Type 0
+Stands xs n = (b : Body) → body_named xs n ≡ Some b → slice_index_or (routines_in xs) (place_of (routines_in xs) n) [] ≡ n
+
+stands_first : (r n : List ℕ) (x : Body) (xs : List ItemInMode) → Stands xs n → (b : Bool) → bytes_eq r n ≡ b → (y : Body) → (if b then Some x else body_named xs n) ≡ Some y
+    → slice_index_or (r ∷ routines_in xs) (if b then 0 else suc (place_of (routines_in xs) n)) [] ≡ n
+stands_first r n x xs h true e y is = (bytes_eq-Decides r n).0 e
+stands_first r n x xs h false e y is = h y is
+
+stands_item : (m : Mode) (x : Plain) (n : List ℕ) (xs : List ItemInMode) → Stands xs n → (y : Body) → body_or m x n (body_named xs n) ≡ Some y
+    → slice_index_or (routines_with x (routines_in xs)) (place_of (routines_with x (routines_in xs)) n) [] ≡ n
+stands_item m (routine r c os) n xs h y is = stands_first r n (record { mode = m; first = c; others = os }) xs h (bytes_eq r n) refl y is
+stands_item m (declaration k ys) n xs h y is = h y is
+stands_item m (escapes a b) n xs h y is = h y is
+stands_item m (macro z b q) n xs h y is = h y is
+stands_item m (grouping z a ts) n xs h y is = h y is
+
+pub name_stands : (xs : List ItemInMode) (n : List ℕ) (b : Body) → body_named xs n ≡ Some b → slice_index_or (routines_in xs) (place_of (routines_in xs) n) [] ≡ n
+name_stands [] n b is = let never : None ≡ Some b = is in absurd cc
+name_stands (x ∷ xs) n b is = stands_item x.mode x.plain n xs (name_stands xs n) b is

@@ -1,0 +1,5 @@
+pub mod Arms
+pub mod Rows
+pub mod Nothing
+pub mod NumberingTables
+pub mod Marked

@@ -1,0 +1,17 @@
+-- what the contracts of public calls rest on
+pub mod Names
+pub mod Touches
+pub mod State
+pub mod Moves
+pub mod Slices
+pub mod Numbers
+pub mod Listing
+pub mod Search
+pub mod Actions
+pub mod Run
+pub mod Start
+pub mod Halts
+pub mod Kept
+-- what the functions inside the crate promise each other: nothing in these need be believed
+pub mod Rows
+pub mod Marks

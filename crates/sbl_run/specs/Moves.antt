@@ -1,0 +1,67 @@
+-- Moving and testing: what each of these commands does once its step is paid.
+use Rattle.std.specs.Prelude.{ℕ, pos, ◌+◌, Bool, true, false, not, ◌&&◌, List, [], length, nat_lt, nat_le, nat_eq, if◌then◌else◌, Option, Some, None, slice_get, slice_index_or, slice_set}
+use Rattle.std.specs.List.{starts_with, list_any}
+use Rattle.sbl_tables.specs.Fitting.{read_as}
+use Rattle.sbl_program.specs.Program as programs
+use Rattle.sbl_run.specs.State.{State, Ending, Signals, ahead, moved, room}
+use Rattle.sbl_tree.specs.declared.mode.Mode.{Mode}
+use Rattle.sbl_tree.specs.declared.mode.Mode.TheVariants.{Forward, Backward}
+
+-- the characters of a literal, or of a string variable
+abbrev pub characters : programs.StringTerm → State → List ℕ
+characters (programs.literal cs) s = cs
+characters (programs.variable i) s = slice_index_or s.strings i []
+
+-- a string that is the front of what is ahead is moved over
+abbrev pub match : List ℕ → Mode → State → Ending
+match string m s =
+    if starts_with nat_eq (ahead m s) (read_as m string) then Signals true (moved m (length string) s) else Signals false s
+
+-- whether a character is ahead, and is one of the set or none of it, as is wanted
+abbrev pub next_is : Bool → List ℕ → Option ℕ → Bool
+next_is wanted set None = false
+next_is true set (Some c) = list_any (λ x. nat_eq x c) set
+next_is false set (Some c) = not (list_any (λ x. nat_eq x c) set)
+
+-- a grouping moves over one character of its set, `non` over one that is not in it
+abbrev pub one_of : Bool → List ℕ → Mode → State → Ending
+one_of wanted set m s =
+    if next_is wanted set (slice_get (ahead m s) 0) then Signals true (moved m 1 s) else Signals false s
+
+-- `next` moves over one character
+abbrev pub next : Mode → State → Ending
+next m s = if nat_lt 0 (room m s) then Signals true (moved m 1 s) else Signals false s
+
+-- `hop` moves over so many characters; there are none fewer than none
+abbrev pub hop : Option ℕ → Mode → State → Ending
+hop None m s = Signals false s
+hop (Some n) m s = if nat_le n (room m s) then Signals true (moved m n s) else Signals false s
+
+-- `atlimit` tests that nothing is ahead
+abbrev pub at_limit : Mode → State → Ending
+at_limit m s = Signals (nat_eq (room m s) 0) s
+
+-- `setmark` stores the cursor in an integer
+abbrev pub set_mark : ℕ → State → State
+set_mark x s = record s { integers = slice_set s.integers x (pos s.cursor) }
+
+-- `atmark` tests that the cursor is at a place
+abbrev pub at_mark : Option ℕ → State → Ending
+at_mark None s = Signals false s
+at_mark (Some n) s = Signals (nat_eq s.cursor n) s
+
+-- `tomark` sends the cursor to a place that lies between the cursor and the limit of the direction
+abbrev pub to_mark : Option ℕ → Mode → State → Ending
+to_mark None m s = Signals false s
+to_mark (Some n) Forward s =
+    if nat_le s.cursor n && nat_le (n + s.beyond) (length s.text) then Signals true (record s { cursor = n }) else Signals false s
+to_mark (Some n) Backward s =
+    if nat_le s.left n && nat_le n s.cursor then Signals true (record s { cursor = n }) else Signals false s
+
+-- `set` and `unset` give a boolean its value
+abbrev pub set_boolean : ℕ → Bool → State → State
+set_boolean x b s = record s { booleans = slice_set s.booleans x b }
+
+-- a boolean's name tests it
+abbrev pub test_boolean : ℕ → State → Ending
+test_boolean x s = Signals (slice_index_or s.booleans x false) s

@@ -1,0 +1,169 @@
+-- What a run of a script does: each command by what its parts do.
+use Rattle.std.specs.Prelude.{ℕ, zero, suc, ℤ, pos, negsuc, ◌-◌, Bool, true, false, List, length, Option, Some, None, slice_get, replicate}
+use Rattle.sbl_run.specs.declared.fault.RunFault.TheVariants.{Steps, Depth}
+use Rattle.sbl_run.specs.declared.state.Limits.{Limits}
+use Rattle.sbl_run.specs.declared.touch.Touch.TheVariants.{Entered}
+use Rattle.sbl_run.specs.Actions.{acts}
+use Rattle.sbl_run.specs.Moves.{next}
+use Rattle.sbl_run.specs.Numbers.{value, given}
+use Rattle.sbl_program.specs.Program as programs
+use Rattle.sbl_run.specs.Search.{choice, search_all}
+use Rattle.sbl_run.specs.State.{State, Ending, Signals, Stops, Doing, after, then_on, pay, at_place, to_limit, saved_cursor, put_back}
+use Rattle.sbl_run.specs.Touches.{with_touch}
+use Rattle.sbl_tree.specs.declared.mode.Mode.{Mode}
+use Rattle.sbl_tree.specs.declared.mode.Mode.TheVariants.{Forward, Backward}
+
+-- At most n turns, up to the first f, after which the cursor is put back to before it. Each turn pays a step
+-- at least, so a run begins at most one turn more than it has steps.
+abbrev pub turns : ℕ → Doing → Mode → State → Ending
+turns zero c m s = Stops Steps s
+turns (suc n) c m s = after (c m s) (turns n c m) (put_back m (saved_cursor s))
+
+-- n turns; f at the first f
+abbrev pub times : ℕ → Doing → Mode → State → Ending
+times zero c m s = Signals true s
+times (suc n) c m s = after (c m s) (times n c m) (Signals false)
+
+-- a negative count is none
+abbrev pub count_of : ℤ → ℕ
+count_of (pos n) = n
+count_of (negsuc n) = zero
+
+-- where a command that is sought is t, from the state before it and the one after it:
+-- `gopast` leaves the cursor after its match, `goto` puts it back before it
+abbrev pub found : Bool → Mode → State → State → Ending
+found true m s t = Signals true t
+found false m s t = put_back m (saved_cursor s) t
+
+-- Tries at the cursor, and after each f, the cursor put back, one character further on; f where nothing is
+-- ahead any more. Each try pays a step at least.
+abbrev pub seeks : ℕ → Bool → Doing → Mode → State → Ending
+seeks zero past c m s = Stops Steps s
+seeks (suc n) past c m s =
+    after (c m s) (found past m s)
+    (λ f. then_on (put_back m (saved_cursor s) f) (λ b. after (next m b) (seeks n past c m) (Signals false)))
+
+-- the limits of both directions
+abbrev pub limits : State → Limits
+limits s = record { left = s.left; beyond = s.beyond }
+
+-- the cursor becomes the limit of the direction
+abbrev pub limit_here : Mode → State → State
+limit_here Forward s = record s { beyond = length s.text - s.cursor }
+limit_here Backward s = record s { left = s.cursor }
+
+-- an old limit returns: forwards by its distance from the text's end, backwards as its number
+abbrev pub limit_back : Mode → Limits → State → State
+limit_back Forward from s = record s { beyond = from.beyond }
+limit_back Backward from s = record s { left = from.left }
+
+-- what was done within a limit, with the old one back whatever it signals
+abbrev pub limited : Mode → Limits → Ending → Ending
+limited m from e = after e (λ t. Signals true (limit_back m from t)) (λ f. Signals false (limit_back m from f))
+
+-- where `backwards` begins: the left limit is the cursor, and the cursor goes to the limit
+abbrev pub backwards_from : State → Ending
+backwards_from s = to_limit Forward (record s { left = s.cursor })
+
+-- and where it ends after t
+abbrev pub backwards_end : State → Ending
+backwards_end s = at_place s.left s
+
+-- goes on with the group that is chosen; f where none is
+abbrev pub chosen : Option ℕ → State → (ℕ → Ending) → Ending
+chosen None s go = Signals false s
+chosen (Some g) s go = go g
+
+-- a command pays a step before it does anything
+abbrev pub paid : Doing → Doing
+paid d m s = then_on (pay s.steps s) (d m)
+
+abbrev mutual
+  -- What a command does once its step is paid, by the sets of the groupings and by what a call of each routine does.
+  pub act : List (List ℕ) → (ℕ → Doing) → programs.Node → Mode → State → Ending
+  act sets call (programs.act a) m s = acts sets a m s
+  -- `( C1 C2 .. )`
+  act sets call (programs.sequence cs) m s = in_turn sets call cs m s
+  -- `C1 or C2`, `C1 and C2`
+  act sets call (programs.either a b) m s =
+      after (paid (act sets call a) m s) (Signals true) (λ f. then_on (put_back m (saved_cursor s) f) (paid (act sets call b) m))
+  act sets call (programs.both a b) m s =
+      after (paid (act sets call a) m s) (λ t. then_on (put_back m (saved_cursor s) t) (paid (act sets call b) m)) (Signals false)
+  act sets call (programs.not a) m s = after (paid (act sets call a) m s) (Signals false) (put_back m (saved_cursor s))
+  act sets call (programs.test a) m s = after (paid (act sets call a) m s) (put_back m (saved_cursor s)) (Signals false)
+  act sets call (programs.try a) m s = after (paid (act sets call a) m s) (Signals true) (put_back m (saved_cursor s))
+  act sets call (programs.do_ a) m s = after (paid (act sets call a) m s) (put_back m (saved_cursor s)) (put_back m (saved_cursor s))
+  act sets call (programs.fail a) m s = after (paid (act sets call a) m s) (Signals false) (Signals false)
+  act sets call (programs.repeat a) m s = turns (suc s.steps) (paid (act sets call a)) m s
+  act sets call (programs.loop n a) m s = given (value n m s) s (λ z. times (count_of z) (paid (act sets call a)) m s)
+  -- the loop, and then `repeat`, which pays no step of its own
+  act sets call (programs.atleast n a) m s =
+      after (given (value n m s) s (λ z. times (count_of z) (paid (act sets call a)) m s))
+      (λ t. turns (suc t.steps) (paid (act sets call a)) m t) (Signals false)
+  act sets call (programs.goto a) m s = seeks (suc s.steps) false (paid (act sets call a)) m s
+  act sets call (programs.gopast a) m s = seeks (suc s.steps) true (paid (act sets call a)) m s
+  act sets call (programs.backwards a) m s =
+      then_on (backwards_from s) (λ b. after (paid (act sets call a) Backward b) backwards_end (Signals false))
+  -- `setlimit C1 for C2`
+  act sets call (programs.setlimit a b) m s =
+      after (paid (act sets call a) m s)
+      (λ t. then_on (put_back m (saved_cursor s) (limit_here m t)) (λ u. limited m (limits s) (paid (act sets call b) m u)))
+      (Signals false)
+  -- a routine's name
+  act sets call (programs.call i) m s = call i m s
+  -- `substring`, or the search that an among makes itself
+  act sets call (programs.search k strings entries) m s = search_all call k entries strings m s
+  -- an among: its search and its starter, if they are its own, and then the command of the group that is chosen
+  act sets call (programs.among k before bodies) m s =
+      after (in_turn sets call before m s) (λ t. chosen (choice k t) t (λ g. nth_does sets call bodies g m t)) (Signals false)
+
+  -- in turn, up to the first f
+  pub in_turn : List (List ℕ) → (ℕ → Doing) → programs.Nodes → Mode → State → Ending
+  in_turn sets call programs.no_commands m s = Signals true s
+  in_turn sets call (programs.command c cs) m s = after (paid (act sets call c) m s) (in_turn sets call cs m) (Signals false)
+
+  -- the g-th of some commands; t where there is none
+  pub nth_does : List (List ℕ) → (ℕ → Doing) → programs.Nodes → ℕ → Mode → State → Ending
+  nth_does sets call programs.no_commands g m s = Signals true s
+  nth_does sets call (programs.command c cs) zero m s = paid (act sets call c) m s
+  nth_does sets call (programs.command c cs) (suc g) m s = nth_does sets call cs g m s
+
+-- what a command does
+abbrev pub does : List (List ℕ) → (ℕ → Doing) → programs.Node → Doing
+does sets call c = paid (act sets call c)
+
+-- a call of a routine with n amongs touches it and begins with nothing chosen
+abbrev pub enter : ℕ → ℕ → State → State
+enter i n s = record s { choices = replicate n None; routine = i; touched = with_touch (Entered i) s.touched }
+
+-- the caller's routine and its choices
+abbrev pub back_in : ℕ → List (Option ℕ) → State → State
+back_in i choices s = record s { choices = choices; routine = i }
+
+-- at its return these are back
+abbrev pub leave : ℕ → List (Option ℕ) → Ending → Ending
+leave i choices e = after e (λ t. Signals true (back_in i choices t)) (λ f. Signals false (back_in i choices f))
+
+-- what the i-th routine does, by what its commands do
+abbrev pub body_does : (programs.Node → Doing) → ℕ → Option programs.Routine → Doing
+body_does run i None m s = Signals false s
+body_does run i (Some r) m s = leave s.routine s.choices (run r.body m (enter i r.amongs s))
+
+-- what a call does where this many levels are left
+abbrev pub calls : programs.Program → ℕ → ℕ → Doing
+calls p zero i m s = Stops Depth s
+calls p (suc n) i m s = body_does (does p.groupings (calls p n)) i (slice_get p.routines i) m s
+
+-- what a command does in a program, where this many levels are left
+abbrev pub runs : programs.Program → ℕ → programs.Node → Doing
+runs p levels = does p.groupings (calls p levels)
+
+-- the same of commands in turn, and of the g-th of them
+abbrev pub all_run : programs.Program → ℕ → programs.Nodes → Doing
+all_run p levels = in_turn p.groupings (calls p levels)
+
+abbrev pub nth_runs : programs.Program → ℕ → programs.Nodes → ℕ → Doing
+nth_runs p levels = nth_does p.groupings (calls p levels)
+
+abbrev pub group_runs : programs.Program → ℕ → programs.Nodes → Option ℕ → Doing
+group_runs p levels cs g m s = chosen g s (λ k. nth_runs p levels cs k m s)

@@ -1,0 +1,28 @@
+-- Where a run of a word under a program begins, and how it ends.
+use Rattle.std.specs.Prelude.{ℕ, pos, false, List, [], replicate}
+use Rattle.sbl_program.specs.Program as programs
+use Rattle.sbl_run.specs.Run.{calls}
+use Rattle.sbl_run.specs.State.{State, Ending}
+use Rattle.sbl_tree.specs.declared.mode.Mode.TheVariants.{Forward}
+
+-- where a run of a word begins: integers 0, booleans false, strings empty, nothing touched
+abbrev pub start : programs.Program → List ℕ → ℕ → State
+start p word steps = record {
+  text = word;
+  cursor = 0;
+  left = 0;
+  beyond = 0;
+  bra = 0;
+  ket = 0;
+  integers = replicate p.integers (pos 0);
+  booleans = replicate p.booleans false;
+  strings = replicate p.strings [];
+  choices = [];
+  routine = 0;
+  touched = [];
+  steps = steps;
+}
+
+-- how a run of a word ends: the external's body runs forwards, on the first of 32 levels
+abbrev pub ending_of : programs.Program → List ℕ → ℕ → Ending
+ending_of p word limit = calls p 32 p.external Forward (start p word limit)

@@ -1,0 +1,17 @@
+//! Runs of programs: what each command does to the state of a run, what it costs, and what is touched on the way.
+#![tactic(auto)]
+
+mod fault;
+mod halt;
+mod run;
+mod state;
+mod table;
+mod touch;
+mod touched;
+
+pub use fault::RunFault;
+pub use halt::Halt;
+pub use run::run_call;
+pub use state::State;
+pub use table::{TableList, Tables, tables_of};
+pub use touch::Touch;

@@ -1,0 +1,114 @@
+//! The commands that hold no command.
+
+ghost use Rattle.std.specs.Prelude.{◌≡◌, List, ℕ, [], map, slice_index_or, IfOk};
+ghost use Rattle.sbl_run.specs.Actions.{acts};
+ghost use Rattle.sbl_run.specs.Numbers.{value, natural};
+ghost use Rattle.sbl_program.specs.ProgramOf.{view_action};
+ghost use Rattle.sbl_run.specs.Kept.{Follows};
+
+use crate::halt::Halt;
+use crate::state::State;
+use crate::state::numbers::natural;
+use sbl_program::Action;
+use sbl_tree::Mode;
+
+impl State {
+    /// Does what a command without a command inside it does once its step is paid, and answers its signal. Refused where
+    /// a number of it is out of range, where there is no slice for it, where the cursor would leave the text, and where
+    /// the text would grow too long. `groupings` holds the set of each grouping.
+    pub fn act(
+        &mut self,
+        groupings: &[Vec<char>],
+        mode: Mode,
+        action: &Action,
+    ) -> Result<bool, Halt>
+        ensures follows { Follows result self.new (acts (map (λ v. v.items) groupings.now) (view_action action.now) mode self.old) }
+        ensures same_steps { IfOk result (λ _. self.new.steps ≡ self.old.steps) }
+    {
+        match action {
+            Action::Match(term) => Ok(self.take_term(mode, term)),
+            Action::Grouping(number) => Ok(self.take_one(mode, set_of(groupings, *number), true)),
+            Action::NonGrouping(number) => Ok(self.take_one(
+                mode,
+                set_of(groupings, *number),
+                false,
+            )),
+            Action::Next => Ok(self.take_next(mode)),
+            Action::Hop(expression) => {
+                let number = self.value(mode, expression)?;
+                Ok(self.hop(mode, natural(number)))
+            }
+            Action::ToLimit => {
+                self.to_limit(mode)?;
+                Ok(true)
+            }
+            Action::AtLimit => Ok(self.is_at_limit(mode)),
+            Action::SetMark(number) => {
+                self.set_mark(*number);
+                Ok(true)
+            }
+            Action::AtMark(expression) => {
+                let place = self.value(mode, expression)?;
+                Ok(self.is_at_mark(natural(place)))
+            }
+            Action::ToMark(expression) => {
+                let place = self.value(mode, expression)?;
+                Ok(self.to_mark(mode, natural(place)))
+            }
+            Action::Set(number) => {
+                self.set_boolean(*number, true);
+                Ok(true)
+            }
+            Action::Unset(number) => {
+                self.set_boolean(*number, false);
+                Ok(true)
+            }
+            Action::Boolean(number) => Ok(self.test_boolean(*number)),
+            Action::LeftBracket => {
+                self.left_bracket(mode);
+                Ok(true)
+            }
+            Action::RightBracket => {
+                self.right_bracket(mode);
+                Ok(true)
+            }
+            Action::Replace(term) => {
+                self.replace(term)?;
+                Ok(true)
+            }
+            Action::Delete => {
+                self.delete()?;
+                Ok(true)
+            }
+            Action::Keep(number) => {
+                self.keep(*number)?;
+                Ok(true)
+            }
+            Action::Insert(term) => {
+                self.insert(mode, term)?;
+                Ok(true)
+            }
+            Action::Attach(term) => {
+                self.attach(mode, term)?;
+                Ok(true)
+            }
+            Action::Assign(number, change, expression) => {
+                self.assign(mode, *number, *change, expression)?;
+                Ok(true)
+            }
+            Action::Compare(left, relation, right) => self.compare(mode, left, *relation, right),
+            Action::True => Ok(true),
+            Action::False => Ok(false),
+        }
+    }
+}
+
+// The set of a grouping.
+fn set_of(groupings: &[Vec<char>], number: usize) -> &[char]
+    ensures { result.now ≡ slice_index_or (map (λ v. v.items) groupings.now) number [] }
+{
+    match groupings.get(number) {
+        None => &[],
+        Some(set) => set,
+    }
+}

@@ -1,0 +1,207 @@
+//! The slice, replacement and insertion.
+
+ghost use Rattle.std.specs.Prelude.{◌≡◌, ◌+◌, ◌≤◌, ◌<◌, ◌^◌, [], length, map, slice_set, IfOk};
+ghost use Rattle.std.specs.List.{splice};
+ghost use Rattle.sbl_run.specs.Slices.{left_bracket, right_bracket, is_slice, shifted, replace, keep, pushed, put_in, insert, attach};
+ghost use Rattle.sbl_program.specs.ProgramOf.{view_text};
+ghost use Rattle.sbl_run.specs.Moves.{characters};
+ghost use Rattle.sbl_run.specs.Kept.{Leads};
+
+use crate::halt::Halt;
+use crate::state::{MAX_TEXT_LENGTH, State};
+use sbl_program::StringTerm;
+use sbl_tree::Mode;
+use std::alloc::AllocError;
+use std::mem;
+
+impl State {
+    /// `[`
+    pub fn left_bracket(&mut self, mode: Mode)
+        ensures { self.new ≡ left_bracket mode self.old }
+    {
+        match mode {
+            Mode::Forward => self.bra = self.cursor,
+            Mode::Backward => self.ket = self.cursor,
+        }
+    }
+
+    /// `]`
+    pub fn right_bracket(&mut self, mode: Mode)
+        ensures { self.new ≡ right_bracket mode self.old }
+    {
+        match mode {
+            Mode::Forward => self.ket = self.cursor,
+            Mode::Backward => self.bra = self.cursor,
+        }
+    }
+
+    // Whether bra <= ket <= limit.
+    fn is_slice(&self) -> bool
+        ensures { result ≡ is_slice self.now }
+    {
+        self.bra <= self.ket && self.ket + self.beyond <= self.text.len()
+    }
+
+    // The text with a string in place of a part of it, beside the text.
+    fn spliced(
+        &mut self,
+        from: usize,
+        to: usize,
+        term: &StringTerm,
+    ) -> Result<Vec<char>, AllocError>
+        requires ordered { from ≤ to }
+        requires inside { to ≤ length self.old.text }
+        ensures same { self.new ≡ self.old }
+        ensures made { IfOk result (λ v. v.items ≡ splice self.old.text from to (characters (view_text term.now) self.old)) }
+    {
+        let alloc = *self.text.allocator();
+        let buffer = mem::replace(&mut self.spare, Vec::new(alloc));
+        spliced(buffer, &self.text, from, to, self.characters(term))
+    }
+
+    /// `delete`: replaces the slice by nothing. `Slice` where there is none.
+    pub fn delete(&mut self) -> Result<(), Halt>
+        ensures leads { Leads result self.new (replace [] self.old) }
+        ensures same_steps { IfOk result (λ _. self.new.steps ≡ self.old.steps) }
+    {
+        if !self.is_slice() {
+            return Err(Halt::Slice);
+        }
+        let alloc = *self.text.allocator();
+        let buffer = mem::replace(&mut self.spare, Vec::new(alloc));
+        let made = spliced(buffer, &self.text, self.bra, self.ket, &[])?;
+        self.spare = mem::replace(&mut self.text, made);
+        self.cursor = shift(self.cursor, self.bra, self.ket, 0);
+        self.ket = self.bra;
+        Ok(())
+    }
+
+    /// `<- S`: replaces the slice. `Slice` where there is none, `TooLong` where the text would grow too long.
+    pub fn replace(&mut self, term: &StringTerm) -> Result<(), Halt>
+        ensures leads { Leads result self.new (replace (characters (view_text term.now) self.old) self.old) }
+        ensures same_steps { IfOk result (λ _. self.new.steps ≡ self.old.steps) }
+    {
+        if !self.is_slice() {
+            return Err(Halt::Slice);
+        }
+        let gone = self.ket - self.bra;
+        let length = self.characters(term).len();
+        if length > MAX_TEXT_LENGTH || self.text.len() + length - gone > MAX_TEXT_LENGTH {
+            return Err(Halt::TooLong);
+        }
+        let made = self.spliced(self.bra, self.ket, term)?;
+        self.spare = mem::replace(&mut self.text, made);
+        self.cursor = shift(self.cursor, self.bra, self.ket, length);
+        self.ket = self.bra + length;
+        Ok(())
+    }
+
+    /// `-> s`: copies the slice to a string variable. `Slice` where there is none.
+    pub fn keep(&mut self, number: usize) -> Result<(), Halt>
+        ensures leads { Leads result self.new (keep number self.old) }
+        ensures same_steps { IfOk result (λ _. self.new.steps ≡ self.old.steps) }
+    {
+        if !self.is_slice() {
+            return Err(Halt::Slice);
+        }
+        let alloc = *self.text.allocator();
+        let kept = self.text[self.bra..self.ket].to_vec(alloc)?;
+        set_string(&mut self.strings, number, kept);
+        Ok(())
+    }
+
+    // Puts a string at the cursor, which ends right of it or left of it.
+    fn put_in(&mut self, right: bool, term: &StringTerm) -> Result<(), Halt>
+        ensures leads { Leads result self.new (put_in right (characters (view_text term.now) self.old) self.old) }
+        ensures same_steps { IfOk result (λ _. self.new.steps ≡ self.old.steps) }
+    {
+        if self.cursor + self.beyond > self.text.len() {
+            return Err(Halt::Cursor);
+        }
+        let length = self.characters(term).len();
+        if length > MAX_TEXT_LENGTH || self.text.len() + length > MAX_TEXT_LENGTH {
+            return Err(Halt::TooLong);
+        }
+        let made = self.spliced(self.cursor, self.cursor, term)?;
+        self.spare = mem::replace(&mut self.text, made);
+        self.bra = push(length, self.cursor, self.bra);
+        self.ket = push(length, self.cursor, self.ket);
+        if right {
+            self.cursor += length;
+        }
+        Ok(())
+    }
+
+    /// `insert S` and `<+ S`. `Cursor` where the cursor is beyond the limit, `TooLong` where the text would grow too long.
+    pub fn insert(&mut self, mode: Mode, term: &StringTerm) -> Result<(), Halt>
+        ensures leads { Leads result self.new (insert (characters (view_text term.now) self.old) mode self.old) }
+        ensures same_steps { IfOk result (λ _. self.new.steps ≡ self.old.steps) }
+    {
+        match mode {
+            Mode::Forward => self.put_in(true, term),
+            Mode::Backward => self.put_in(false, term),
+        }
+    }
+
+    /// `attach S`; refused as `insert` is.
+    pub fn attach(&mut self, mode: Mode, term: &StringTerm) -> Result<(), Halt>
+        ensures leads { Leads result self.new (attach (characters (view_text term.now) self.old) mode self.old) }
+        ensures same_steps { IfOk result (λ _. self.new.steps ≡ self.old.steps) }
+    {
+        match mode {
+            Mode::Forward => self.put_in(false, term),
+            Mode::Backward => self.put_in(true, term),
+        }
+    }
+}
+
+// Where a cursor goes when bra..ket is replaced by so many characters.
+fn shift(cursor: usize, bra: usize, ket: usize, length: usize) -> usize
+    requires small { cursor + length < 2 ^ 32 }
+    requires ordered { bra ≤ ket }
+    ensures { result ≡ shifted length bra ket cursor }
+{
+    if ket <= cursor {
+        cursor + length - (ket - bra)
+    } else if bra < cursor {
+        bra
+    } else {
+        cursor
+    }
+}
+
+// Where an end of the slice goes when so many characters come in at a place.
+fn push(length: usize, at: usize, place: usize) -> usize
+    requires { length + place < 2 ^ 32 }
+    ensures { result ≡ pushed length at place }
+{
+    if at <= place { place + length } else { place }
+}
+
+// A text with a string in place of a part of it, made in a buffer.
+fn spliced(
+    mut buffer: Vec<char>,
+    text: &[char],
+    from: usize,
+    to: usize,
+    string: &[char],
+) -> Result<Vec<char>, AllocError>
+    requires ordered { from ≤ to }
+    requires inside { to ≤ length text.now }
+    ensures { IfOk result (λ v. v.items ≡ splice text.now from to string.now) }
+{
+    buffer.clear();
+    buffer.extend_from_slice(&text[..from])?;
+    buffer.extend_from_slice(string)?;
+    buffer.extend_from_slice(&text[to..])?;
+    Ok(buffer)
+}
+
+// Gives a string variable its characters.
+fn set_string(strings: &mut Vec<Vec<char>>, number: usize, string: Vec<char>)
+    ensures { map (λ v. v.items) strings.new.items ≡ slice_set (map (λ v. v.items) strings.old.items) number string.items }
+{
+    if number < strings.len() {
+        strings[number] = string;
+    }
+}

@@ -1,0 +1,63 @@
+//! The tables of a script's amongs, by number.
+
+ghost use Rattle.std.specs.Prelude.{◌≡◌, ◌≤◌, ◌++◌, ◌∷◌, List, ℕ, length, map, slice_get, IfOk};
+ghost use Rattle.sbl_tables.specs.Fitting.{first};
+ghost use Rattle.sbl_program.specs.Listed.{Listed};
+ghost use Rattle.sbl_program.specs.NumberedView.{listing_found};
+ghost use Rattle.sbl_run.specs.Listing.{fits_at, listed_by, listed_of};
+
+use sbl_program::Found;
+use sbl_tables::AmongSearch;
+use std::alloc::{AllocError, Global};
+
+/// Searches of all the amongs of a script.
+pub trait Tables {
+    /// The strings of an among, and the mode that reads them.
+    ghost listed: { Self → ℕ → Listed };
+
+    /// The longest string of an among that fits at a place, up to a bound.
+    fn longest(&self, table: usize, text: &[char], at: usize, bound: usize) -> Option<usize>
+        requires at_in { at ≤ length text.now }
+        requires bound_in { bound ≤ length text.now }
+        ensures { result ≡ first (fits_at (listed self.now table) text.now at bound) };
+
+    /// The longest string below this one that fits wherever this one does.
+    fn next_shorter(&self, table: usize, i: usize) -> Option<usize>
+        ensures { (text : List ℕ) (at bound : ℕ) (before rest : List ℕ) → fits_at (listed self.now table) text at bound ≡ before ++ (i ∷ rest) → result ≡ first rest };
+}
+
+/// One table for each among.
+#[derive(Drop)]
+pub struct TableList<S> {
+    /// The tables, in the order of their amongs.
+    pub tables: Vec<S>,
+}
+
+impl<S: AmongSearch> Tables for TableList<S> {
+    ghost listed = { λ t k. listed_by S S.entries S.mode (slice_get t.tables.items k) };
+
+    fn longest(&self, table: usize, text: &[char], at: usize, bound: usize) -> Option<usize> {
+        match self.tables.get(table) {
+            None => None,
+            Some(search) => search.longest(text, at, bound),
+        }
+    }
+
+    fn next_shorter(&self, table: usize, i: usize) -> Option<usize> {
+        match self.tables.get(table) {
+            None => None,
+            Some(search) => search.next_shorter(i),
+        }
+    }
+}
+
+/// A table for each among. AllocError where a growth was refused.
+pub fn tables_of<S: AmongSearch>(alloc: Global, amongs: &[Found]) -> Result<Vec<S>, AllocError>
+    ensures { IfOk result (λ ts. map (listed_of S S.entries S.mode) ts.items ≡ map listing_found amongs.now) }
+{
+    let mut tables = Vec::new(alloc);
+    for among in amongs {
+        tables.push(S::build(alloc, &among.strings, among.mode)?)?;
+    }
+    Ok(tables)
+}

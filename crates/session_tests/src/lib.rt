@@ -1,0 +1,5 @@
+//! Tests of sessions, and of the lines and the program beside them. Nothing but tests stands here.
+#![tactic(auto)]
+
+#[cfg(test)]
+mod tests;
