@@ -1,12 +1,12 @@
 -- One change made, and all of them.
-use Rattle.std.proofs.Common.{map, append_assoc, ◌≡◌, ◌∙◌, ◌&&◌, ◌||◌, ◌⊎◌, inl, inr, ◌++◌, not, ℕ, Bool, true, false, cond, List, [], ◌∷◌, Option, Some, None, IfSome, IsSome, slice_index_or, length, take, drop, take-append-drop, arith, refl, sym, ap, ap₂, subst}
-use Rattle.std.specs.List.{All, AllByRecursion, IsDistinct, list_any}
+use Rattle.std.proofs.Common.{map, ◌≡◌, ◌∙◌, ◌&&◌, ◌||◌, ◌⊎◌, ◌<◌, ◌+◌, inl, inr, ◌++◌, not, get_or, ℕ, Bool, true, false, cond, List, [], ◌∷◌, Option, Some, None, IfSome, IsSome, slice_index_or, length, take, drop, take-append-drop, arith, refl, sym, ap, ap₂, subst}
+use Rattle.std.specs.List.{AllByRecursion, IsDistinct}
 use Rattle.std.specs.Map.{keys_of}
 use Rattle.std.specs.Str.{bytes_eq}
 use Rattle.std.specs.BTreeSet.{BTreeSet}
 use Rattle.std.proofs.lemmas.Slice.Eq.{bytes_eq-Decides}
-use Rattle.std.proofs.lemmas.List.Folds.{list_any-append}
-use Rattle.std.proofs.lemmas.List.Elements.{All-cons, All-head, All-tail, All-pop}
+use Rattle.std.proofs.lemmas.List.Folds.{list_any-append, list_any_more}
+use Rattle.std.proofs.lemmas.List.Elements.{All-head, All-tail, All-pop}
 use Rattle.std.specs.Option.{option_to_list}
 use Rattle.std.proofs.lemmas.Bool.{and_parts, or_cases, or_parts}
 use Rattle.sbl_machine.specs.Outcome as rows
@@ -156,6 +156,51 @@ keeps (Some p) o s h k = by (outcome_of p.outcome) o h k
     by (rows.Stem a) (rows.Refused g) h k = cc k
     by (rows.Refused f) (rows.Stem b) h k = cc h
     by (rows.Refused f) (rows.Refused g) h k = cc k
+
+-- so its pair is there already
+pair_kept : (es : List KeptWord) (s : BTreeSet Key) (c : Change) (q : Key) → ArePaired es s → is_outcome (outcome_of c.traced.outcome) (find c.word.items es) ≡ true
+    → (is_pair_of c.word.items (outcome_of c.traced.outcome) q || has s q) ≡ has s q
+pair_kept es s c q paired stays = by (is_pair_of c.word.items (outcome_of c.traced.outcome) q) refl
+  where
+    by : (b : Bool) → is_pair_of c.word.items (outcome_of c.traced.outcome) q ≡ b → (b || has s q) ≡ has s q
+    by false h = refl
+    by true h =
+        let p = and_parts (is_stem q.0.items (outcome_of c.traced.outcome)) (bytes_eq c.word.items q.1.items) h in
+        sym (paired q ∙ ap (λ (w : List ℕ). has_stem q.0.items (find w es)) (sym ((bytes_eq-Decides c.word.items q.1.items).0 p.1)) ∙ keeps (find c.word.items es) (outcome_of c.traced.outcome) q.0.items stays p.0)
+
+-- the pairs of one change more
+pair_more : (cs : List Change) (i : ℕ) (c : Change) (q : Key) → i < length cs → c ≡ get_or cs i c
+    → any_pair (take (i + 1) cs) q ≡ (any_pair (take i cs) q || is_pair_of c.word.items (outcome_of c.traced.outcome) q)
+pair_more cs i c q lt is =
+    list_any_more (λ (d : Change). is_pair_of d.word.items (outcome_of d.traced.outcome) q) cs i c lt
+    ∙ ap (λ (d : Change). any_pair (take i cs) q || is_pair_of d.word.items (outcome_of d.traced.outcome) q) (sym is)
+
+or_moved : (a p h : Bool) → (p || (a || h)) ≡ ((a || p) || h)
+or_moved true true h = refl
+or_moved true false h = refl
+or_moved false p h = refl
+
+or_kept : (a p h : Bool) → (p || h) ≡ h → (a || h) ≡ ((a || p) || h)
+or_kept true p h e = refl
+or_kept false p h e = sym e
+
+module _ (cs : List Change) (i : ℕ) (c : Change) (first so_far : BTreeSet Key) (q : Key) (lt : i < length cs) (is : c ≡ get_or cs i c)
+    (before : has so_far q ≡ (any_pair (take i cs) q || has first q)) where
+  -- its pair was put in
+  pub pair_put : (now : BTreeSet Key) → has now q ≡ (is_pair_of c.word.items (outcome_of c.traced.outcome) q || has so_far q)
+      → has now q ≡ (any_pair (take (i + 1) cs) q || has first q)
+  pair_put now put =
+      put ∙ ap (λ (b : Bool). is_pair_of c.word.items (outcome_of c.traced.outcome) q || b) before
+      ∙ or_moved (any_pair (take i cs) q) (is_pair_of c.word.items (outcome_of c.traced.outcome) q) (has first q)
+      ∙ ap (λ (b : Bool). b || has first q) (sym (pair_more cs i c q lt is))
+
+  -- or was there
+  pub pair_left : (es : List KeptWord) → ArePaired es first → is_outcome (outcome_of c.traced.outcome) (find c.word.items es) ≡ true
+      → has so_far q ≡ (any_pair (take (i + 1) cs) q || has first q)
+  pair_left es paired stays =
+      before
+      ∙ or_kept (any_pair (take i cs) q) (is_pair_of c.word.items (outcome_of c.traced.outcome) q) (has first q) (pair_kept es first c q paired stays)
+      ∙ ap (λ (b : Bool). b || has first q) (sym (pair_more cs i c q lt is))
 
 -- and two stems of one text are one outcome
 kept_stem : (p : Option Traced) (o : rows.Outcome') (s : List ℕ) → has_stem s p ≡ true → is_stem s o ≡ true → is_outcome o p ≡ true

@@ -1,5 +1,5 @@
 -- Which words an edit of the script meets, and what their runs change.
-use Rattle.std.proofs.Common.{◌≡◌, ◌∙◌, ◌⊎◌, ◌||◌, inl, inr, ◌++◌, ◌≤◌, ℕ, suc, Bool, true, false, cond, List, [], ◌∷◌, Option, Some, None, IfSome, IsSome, slice_index_or, length, map, arith, append_assoc, refl, sym, ap, subst}
+use Rattle.std.proofs.Common.{◌≡◌, ◌∙◌, ◌⊎◌, ◌||◌, inl, inr, ◌++◌, ℕ, suc, Bool, true, false, cond, List, [], ◌∷◌, Option, Some, None, IfSome, IsSome, slice_index_or, length, map, arith, append_assoc, refl, sym, ap, subst}
 use Rattle.std.specs.List.{All, filter, list_any}
 use Rattle.std.specs.Str.{bytes_eq}
 use Rattle.std.proofs.lemmas.Slice.Eq.{bytes_eq-Decides}

@@ -5,7 +5,7 @@ use Rattle.std.specs.List.Sorted.{IsStrictlySortedBy}
 use Rattle.std.specs.Ordering.{nat_cmp}
 use Rattle.std.specs.Cmp.Lexicographic.{slice_cmp}
 use Rattle.std.specs.Str.{bytes_eq}
-use Rattle.sbl_bench.specs.Classes.{Class, classes_of, is_stem}
+use Rattle.sbl_bench.specs.Classes.{classes_of, is_stem}
 use Rattle.sbl_bench.specs.Rows.{Row}
 
 -- each text is before the next in code point order, a front first

@@ -14,8 +14,8 @@ ghost use Rattle.sbl_bench.specs.Kept.{words_in, AreFresh, IsWord};
 ghost use Rattle.sbl_bench.specs.Pairs.{Key, Text, ArePaired, find, has, has_stem, is_pair_of};
 ghost use Rattle.sbl_bench.specs.Contents.{max_runs};
 
-use crate::traces::MAX_STEPS;
 use crate::pairs::{insert_pair, remove_pair};
+use crate::traces::MAX_STEPS;
 use indexmap::IndexMap;
 use sbl_machine::{Item, Machine, Meter, Outcome, Table, Traced};
 use std::alloc::{AllocError, Global};
@@ -109,18 +109,23 @@ pub(crate) fn commit(
     }
 }
 
-/// Inserts the pairs of all changes. It answers AllocError where a growth is refused; then it may have inserted some.
+/// Inserts the pairs of all changes. A change that keeps its word's outcome takes no memory. It answers AllocError where a growth
+/// is refused; then it may have inserted some.
 fn insert_all(
     alloc: Global,
+    traces: &IndexMap<Vec<char>, Traced>,
     pairs: &mut BTreeSet<(Vec<char>, Vec<char>)>,
     changes: &[Change],
 ) -> Result<(), AllocError>
+    requires { ArePaired traces.now.entries pairs.old }
     ensures ok { OnOk result ((q : Key) → has pairs.new q ≡ (any_pair changes.now q || has pairs.old q)) }
     ensures more { OnErr result ((q : Key) → has pairs.old q ≡ true → has pairs.new q ≡ true) }
     ensures same { OnErr result ((q : Key) → any_pair changes.now q ≡ false → has pairs.new q ≡ has pairs.old q) }
 {
     for change in changes {
-        insert_pair(alloc, pairs, change.word.as_slice(), &change.traced.outcome)?;
+        if !holds(traces, change) {
+            insert_pair(alloc, pairs, change.word.as_slice(), &change.traced.outcome)?;
+        }
     }
     Ok(())
 }
@@ -154,7 +159,7 @@ fn put_in(
     ensures ok { IfOk result (λ all. (all.items ≡ changes.items) × ((q : Key) → has pairs.new q ≡ (any_pair changes.items q || has_stem q.0.items (find q.1.items traces.now.entries)))) }
     ensures err { OnErr result (ArePaired traces.now.entries pairs.new) }
 {
-    match insert_all(alloc, pairs, &changes) {
+    match insert_all(alloc, traces, pairs, &changes) {
         Ok(()) => Ok(changes),
         Err(refused) => {
             undo(traces, pairs, changes);

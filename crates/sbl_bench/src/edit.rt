@@ -5,8 +5,8 @@ ghost use Rattle.std.specs.Prelude.{◌≡◌, ◌≤◌, ◌<◌, ◌+◌, ◌^
 use crate::bench::{Bench, MAX_WORD_LENGTH, MAX_WORDS};
 use crate::change::{changes_of, count_met, make_changes};
 use crate::fault::EditFault;
-use crate::traces::{has_word, put_last};
 use crate::pairs::remove_pair;
+use crate::traces::{has_word, put_last};
 use sbl_machine::laws::untouched_stay;
 use sbl_machine::{Item, Machine};
 use sbl_script::Script;

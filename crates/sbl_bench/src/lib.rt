@@ -11,13 +11,13 @@ mod edit;
 mod fault;
 pub mod laws;
 mod open;
-mod traces;
 mod pairs;
 mod row;
+mod traces;
 
 pub use bench::{Bench, MAX_WORD_LENGTH, MAX_WORDS};
 pub use class::Class;
 pub use fault::EditFault;
-pub use traces::MAX_STEPS;
 pub use row::Row;
 pub use sbl_script::ScriptFault;
+pub use traces::MAX_STEPS;

@@ -28,7 +28,7 @@ use Rattle.sbl_machine.specs.NamesStand.{HasBody, StandsFor, NamesStand}
 
 -- ---- the first of some occurrences of which something is said
 
-abbrev look : {X : Type 0} → (Occurrence → Option X) → List Occurrence → Option X
+abbrev pub look : {X : Type 0} → (Occurrence → Option X) → List Occurrence → Option X
 look f [] = None
 look f (m ∷ ms) = option_or (f m) (look f ms)
 
@@ -48,17 +48,17 @@ look_put : {X : Type 0} (f : Occurrence → Option X) (n : Notice) (p : Site) (s
 look_put f n p s = look-append f s ((record { site = p; notice = n }) ∷ []) ∙ ap (option_or (look f s)) (or_none (f (record { site = p; notice = n })))
 
 -- what was found before stays
-look_kept : {X : Type 0} (f : Occurrence → Option X) (s t : List Occurrence) (x : X) → Extends s t → look f s ≡ Some x → look f t ≡ Some x
+pub look_kept : {X : Type 0} (f : Occurrence → Option X) (s t : List Occurrence) (x : X) → Extends s t → look f s ≡ Some x → look f t ≡ Some x
 look_kept f s t x e h = ap (look f) e.is ∙ look-append f s e.more ∙ ap (λ o. option_or o (look f e.more)) h
 
-abbrev kinds_at : List ℕ → Occurrence → Option DeclarationKind
+abbrev pub kinds_at : List ℕ → Occurrence → Option DeclarationKind
 kinds_at n m = declared_as n m.notice
 
-kind_is : (n : List ℕ) (s : List Occurrence) → kind_of n s ≡ look (kinds_at n) s
+pub kind_is : (n : List ℕ) (s : List Occurrence) → kind_of n s ≡ look (kinds_at n) s
 kind_is n [] = refl
 kind_is n (m ∷ ms) = ap (option_or (declared_as n m.notice)) (kind_is n ms)
 
-site_is : (n : List ℕ) (s : List Occurrence) → definition_of n s ≡ look (defined_at n) s
+pub site_is : (n : List ℕ) (s : List Occurrence) → definition_of n s ≡ look (defined_at n) s
 site_is n [] = refl
 site_is n (m ∷ ms) = ap (option_or (defined_at n m)) (site_is n ms)
 
@@ -186,12 +186,12 @@ module _ {X : Type 0} (f : Occurrence → Option X) (quiet : (n : Notice) (p : S
   terms_still (term o a ∷ ts) p s = terms_still ts p (noted_term a p s) ∙ term_still a p s
 
   -- behind its first occurrence
-  routine_still : (n : List ℕ) (c : Command) (os : Others) (p : Site) (s : List Occurrence) → Still (put (defines_routine n) p s) (noted_plain (routine n c os) p s)
+  pub routine_still : (n : List ℕ) (c : Command) (os : Others) (p : Site) (s : List Occurrence) → Still (put (defines_routine n) p s) (noted_plain (routine n c os) p s)
   routine_still n c os p s =
       let a = put (defines_routine n) p s in
       put_still region_end p (noted_others os p (noted c p a)) refl ∙ others_still os p (noted c p a) ∙ command_still c p a
 
-  grouping_still : (n : List ℕ) (a : Argument) (ts : List Term) (p : Site) (s : List Occurrence) → Still (put (defines_grouping n) p s) (noted_plain (grouping n a ts) p s)
+  pub grouping_still : (n : List ℕ) (a : Argument) (ts : List Term) (p : Site) (s : List Occurrence) → Still (put (defines_grouping n) p s) (noted_plain (grouping n a ts) p s)
   grouping_still n a ts p s = let b = put (defines_grouping n) p s in terms_still ts p (noted_term a p b) ∙ term_still a p b
 
 kinds_quiet : (n : List ℕ) (x : Notice) (p : Site) → is_quiet x ≡ true → kinds_at n (record { site = p; notice = x }) ≡ None
@@ -205,7 +205,7 @@ kinds_quiet n (string o t) p e = refl
 kinds_quiet n backwards p e = refl
 kinds_quiet n region_end p e = refl
 
-sites_quiet : (n : List ℕ) (x : Notice) (p : Site) → is_quiet x ≡ true → defined_at n (record { site = p; notice = x }) ≡ None
+pub sites_quiet : (n : List ℕ) (x : Notice) (p : Site) → is_quiet x ≡ true → defined_at n (record { site = p; notice = x }) ≡ None
 sites_quiet n (declares k x) p e = absurd cc
 sites_quiet n (defines_routine x) p e = absurd cc
 sites_quiet n (defines_grouping x) p e = absurd cc
@@ -218,7 +218,7 @@ sites_quiet n region_end p e = refl
 
 -- ---- names among names
 
-flip : (a b : List ℕ) → bytes_eq a b ≡ true → bytes_eq b a ≡ true
+pub flip : (a b : List ℕ) → bytes_eq a b ≡ true → bytes_eq b a ≡ true
 flip a b h = (bytes_eq-Decides b a).1 (sym ((bytes_eq-Decides a b).0 h))
 
 flip_false : (a b : List ℕ) → bytes_eq a b ≡ false → bytes_eq b a ≡ false
@@ -228,7 +228,7 @@ flip_false a b h = at (bytes_eq b a) refl
     at true e = let k : bytes_eq a b ≡ true = flip b a e in absurd cc
     at false e = e
 
-or_true : (b c : Bool) → c ≡ true → cond b true c ≡ true
+pub or_true : (b c : Bool) → c ≡ true → cond b true c ≡ true
 or_true true c h = refl
 or_true false c h = h
 
@@ -285,7 +285,7 @@ kind_behind (routine r c os) p s n e = inl (routine_still (kinds_at n) (kinds_qu
 kind_behind (grouping g a ts) p s n e = inl (grouping_still (kinds_at n) (kinds_quiet n) g a ts p s ∙ look_put (kinds_at n) (defines_grouping g) p s ∙ or_none (look (kinds_at n) s) ∙ e)
 
 -- an item with its mode, as the definition of a run has it
-abbrev item_of : marks.ItemInMode → ItemInMode
+abbrev pub item_of : marks.ItemInMode → ItemInMode
 item_of x = record { mode = x.mode; plain = x.plain }
 
 abbrev site_of : ℕ → marks.ItemInMode → Site
@@ -347,31 +347,31 @@ booleans_there (grouping g a ts) rest n h = h
 
 -- ---- definitions
 
-test_fails : (b : Bool) (f : ScriptFault) (rest : Option ScriptFault) → cond b (Some f) rest ≡ None → b ≡ false
+pub test_fails : (b : Bool) (f : ScriptFault) (rest : Option ScriptFault) → cond b (Some f) rest ≡ None → b ≡ false
 test_fails true f rest e = absurd cc
 test_fails false f rest e = refl
 
-rest_fails : (b : Bool) (f : ScriptFault) (rest : Option ScriptFault) → cond b (Some f) rest ≡ None → rest ≡ None
+pub rest_fails : (b : Bool) (f : ScriptFault) (rest : Option ScriptFault) → cond b (Some f) rest ≡ None → rest ≡ None
 rest_fails true f rest e = absurd cc
 rest_fails false f rest e = e
 
-not_false : (b : Bool) → not b ≡ false → b ≡ true
+pub not_false : (b : Bool) → not b ≡ false → b ≡ true
 not_false true e = refl
 not_false false e = absurd cc
 
-record Passing (all : List Occurrence) : Type 0 where
-  each : EachPasses all
+pub record Passing (all : List Occurrence) : Type 0 where
+  pub each : EachPasses all
 
 -- no check fails at an occurrence behind which the list goes on
-at_mark : (all s : List Occurrence) (m : Occurrence) → Passing all → Extends (s ++ m ∷ []) all → (rest : List Occurrence) × (fault_at all s m rest ≡ None)
+pub at_mark : (all s : List Occurrence) (m : Occurrence) → Passing all → Extends (s ++ m ∷ []) all → (rest : List Occurrence) × (fault_at all s m rest ≡ None)
 at_mark all s m passing e = (e.more, passing.each s e.more m (e.is ∙ append_assoc s (m ∷ []) e.more))
 
 -- the kind of a name that is defined fits its definition
-kind_kept : (test : DeclarationKind → Bool) (r : List ℕ) (s all : List Occurrence) (o : Option DeclarationKind) → kind_of r s ≡ o → Extends s all → is_kind test o ≡ true → is_kind test (look (kinds_at r) all) ≡ true
+pub kind_kept : (test : DeclarationKind → Bool) (r : List ℕ) (s all : List Occurrence) (o : Option DeclarationKind) → kind_of r s ≡ o → Extends s all → is_kind test o ≡ true → is_kind test (look (kinds_at r) all) ≡ true
 kind_kept test r s all None h e t = absurd cc
 kind_kept test r s all (Some k) h e t = ap (is_kind test) (look_kept (kinds_at r) s all k e (sym (kind_is r s) ∙ h)) ∙ t
 
-routine_kind : (all s : List Occurrence) (r : List ℕ) (p : Site) → Passing all → Extends (put (defines_routine r) p s) all → is_kind is_routine (look (kinds_at r) all) ≡ true
+pub routine_kind : (all s : List Occurrence) (r : List ℕ) (p : Site) → Passing all → Extends (put (defines_routine r) p s) all → is_kind is_routine (look (kinds_at r) all) ≡ true
 routine_kind all s r p passing e =
     let mark : Occurrence = record { site = p; notice = defines_routine r } in
     let h = (at_mark all s mark passing e).1 in
@@ -385,21 +385,21 @@ grouping_kind all s r p passing e =
     kind_kept is_grouping r s all (kind_of r s) refl (then_ (put_more (defines_grouping r) p s) e)
     (not_false (is_kind is_grouping (kind_of r s)) (test_fails (not (is_kind is_grouping (kind_of r s))) (fault.WrongKind p.item) _ (rest_fails (not (is_some (kind_of r s))) (fault.Undeclared p.item) _ h)))
 
-term_extends : (a : Argument) (p : Site) (s : List Occurrence) → Extends s (noted_term a p s)
+pub term_extends : (a : Argument) (p : Site) (s : List Occurrence) → Extends s (noted_term a p s)
 term_extends (written_out q) p s = same s
 term_extends (by_name n) p s = put_more (uses use_as.Term n) p s
 
-terms_extend : (ts : List Term) (p : Site) (s : List Occurrence) → Extends s (noted_terms ts p s)
+pub terms_extend : (ts : List Term) (p : Site) (s : List Occurrence) → Extends s (noted_terms ts p s)
 terms_extend [] p s = same s
 terms_extend (term o a ∷ ts) p s = then_ (term_extends a p s) (terms_extend ts p (noted_term a p s))
 
-plain_after : (n : List ℕ) (c : Command) (os : Others) (p : Site) (s : List Occurrence) → Extends (put (defines_routine n) p s) (noted_plain (routine n c os) p s)
+pub plain_after : (n : List ℕ) (c : Command) (os : Others) (p : Site) (s : List Occurrence) → Extends (put (defines_routine n) p s) (noted_plain (routine n c os) p s)
 plain_after n c os p s =
     let a = put (defines_routine n) p s in
     let b = noted c p a in
     then_ (command_more c p a) (then_ (others_more os p b) (put_more region_end p (noted_others os p b)))
 
-grouping_after : (n : List ℕ) (a : Argument) (ts : List Term) (p : Site) (s : List Occurrence) → Extends (put (defines_grouping n) p s) (noted_plain (grouping n a ts) p s)
+pub grouping_after : (n : List ℕ) (a : Argument) (ts : List Term) (p : Site) (s : List Occurrence) → Extends (put (defines_grouping n) p s) (noted_plain (grouping n a ts) p s)
 grouping_after n a ts p s = let b = put (defines_grouping n) p s in then_ (term_extends a p b) (terms_extend ts p (noted_term a p b))
 
 -- what a name is defined as
@@ -411,10 +411,10 @@ passed_over : (all : List Occurrence) (x : ItemInMode) (xs : List ItemInMode) (n
 passed_over all x xs n m b g (inl h) = inl (h.0, (h.1.0, b ∙ h.1.1, h.1.2))
 passed_over all x xs n m b g (inr h) = inr (h.0, g h.1)
 
-site_put : (n : List ℕ) (x : Notice) (p : Site) (s : List Occurrence) (o : Option Site) → look (defined_at n) s ≡ None → defined_at n (record { site = p; notice = x }) ≡ o → look (defined_at n) (put x p s) ≡ o
+pub site_put : (n : List ℕ) (x : Notice) (p : Site) (s : List Occurrence) (o : Option Site) → look (defined_at n) s ≡ None → defined_at n (record { site = p; notice = x }) ≡ o → look (defined_at n) (put x p s) ≡ o
 site_put n x p s o e h = look_put (defined_at n) x p s ∙ ap (λ a. option_or a (defined_at n (record { site = p; notice = x }))) e ∙ h
 
-names_site : (k : DeclarationKind) (ns : List (List ℕ)) (p : Site) (s : List Occurrence) (n : List ℕ) → look (defined_at n) s ≡ None → look (defined_at n) (noted_names k ns p s) ≡ None
+pub names_site : (k : DeclarationKind) (ns : List (List ℕ)) (p : Site) (s : List Occurrence) (n : List ℕ) → look (defined_at n) s ≡ None → look (defined_at n) (noted_names k ns p s) ≡ None
 names_site k [] p s n e = e
 names_site k (x ∷ ns) p s n e = names_site k ns p (put (declares k x) p s) n (site_put n (declares k x) p s None e refl)
 
@@ -501,7 +501,7 @@ in_mode_same m (x ∷ xs) sofar rest =
     let y : marks.ItemInMode = record { mode = m; plain = x } in
     in_mode_same m xs (sofar ++ (y ∷ [])) rest ∙ ap (λ l. l ++ in_mode m xs rest) (map-append item_of sofar (y ∷ [])) ∙ append_assoc (map item_of sofar) (item_of y ∷ []) (in_mode m xs rest)
 
-in_order_same : (is : List Item) (sofar : List marks.ItemInMode) → map item_of (marks.in_order is sofar) ≡ map item_of sofar ++ in_order is
+pub in_order_same : (is : List Item) (sofar : List marks.ItemInMode) → map item_of (marks.in_order is sofar) ≡ map item_of sofar ++ in_order is
 in_order_same [] sofar = sym (append-nil (map item_of sofar))
 in_order_same (plain x ∷ is) sofar =
     let y : marks.ItemInMode = record { mode = Forward; plain = x } in

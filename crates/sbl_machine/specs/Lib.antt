@@ -10,3 +10,4 @@ pub mod Sound
 pub mod EnoughSteps
 pub mod Searches
 pub mod NamesStand
+pub mod Groupings

@@ -6,7 +6,7 @@ use Rattle.sbl_machine.specs.declared.outcome.Outcome.{Outcome}
 use Rattle.sbl_machine.specs.declared.outcome.Outcome.TheVariants as code
 use Rattle.sbl_run.specs.declared.touch.Touch.{Touch}
 use Rattle.sbl_machine.specs.Meaning.{ending}
-use Rattle.sbl_run.specs.State.{State, Ending, Signals, Stops}
+use Rattle.sbl_run.specs.State.{Ending, Signals, Stops}
 use Rattle.sbl_script.specs.Parsed.{Source}
 
 -- a stem, or why there is none

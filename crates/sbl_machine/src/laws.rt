@@ -2,6 +2,7 @@
 
 ghost use Rattle.sbl_machine.specs.EnoughSteps.{RefusedForSteps, UsedStepsSuffice};
 ghost use Rattle.sbl_machine.specs.Frame.{EditsAgree, Frame, NamesStay, TouchedRise, TouchesAreTouched, UntouchedStay};
+ghost use Rattle.sbl_machine.specs.Groupings.{GroupingsAreTheirTerms, GroupingsHaveTheirTerms};
 ghost use Rattle.sbl_machine.specs.NamesStand.{NamesStand};
 ghost use Rattle.sbl_machine.specs.Searches.{SearchesAreExact, TablesDiffer};
 ghost use Rattle.sbl_machine.specs.Sound.{RunIsSound};
@@ -43,6 +44,15 @@ pub fn names_stand()
     ensures { NamesStand }
 {
     names_resolve();
+    well_declared_passes();
+}
+
+/// In a script that is well declared a grouping has exactly the characters that one of its terms adds and no later one takes
+/// away, where a name among the terms stands for the grouping of that name in the whole script.
+pub fn groupings_are_their_terms()
+    ensures have { GroupingsHaveTheirTerms }
+    ensures computed { GroupingsAreTheirTerms }
+{
     well_declared_passes();
 }
 

@@ -1,0 +1,53 @@
+-- What the groupings of a script that is well declared have.
+use Rattle.std.specs.Prelude.{◌≡◌, ◌↔◌, ℕ, true, List, [], ◌∷◌, ◌++◌, ⊤}
+use Rattle.std.specs.List.{AllByRecursion, Contains}
+use Rattle.sbl_tree.specs.declared.mode.Mode.{Mode}
+use Rattle.sbl_tree.specs.declared.tree.Additive.TheVariants.{Plus, Minus}
+use Rattle.sbl_tree.specs.Tree.{Argument, written_out, by_name, Term, term, grouping}
+use Rattle.sbl_program.specs.Items.{Grouping, ItemInMode, class_of, classes_behind, in_order, term_has, terms_have}
+use Rattle.sbl_script.specs.Checks.{WellDeclared}
+use Rattle.sbl_script.specs.Parsed.{Source}
+
+-- the groupings of a script, all of them
+abbrev pub groupings_of : Source → List Grouping
+groupings_of script = classes_behind (in_order script.items) []
+
+-- an item of the script defines this name by a first term and the others behind it
+abbrev pub Defines : Source → List ℕ → Argument → List Term → Type 0
+Defines script n a ts =
+    (before : List ItemInMode) × (m : Mode) × (after : List ItemInMode) ×
+    (in_order script.items ≡ before ++ (record { mode = m; plain = grouping n a ts }) ∷ after)
+
+-- a term has a character: one that it writes out, or one that the grouping which it names has
+abbrev pub Has : List Grouping → ℕ → Argument → Type 0
+Has all c (written_out q) = Contains q.value c
+Has all c (by_name n) = class_of all n c ≡ true
+
+-- a term does not take a character away
+abbrev pub Leaves : List Grouping → ℕ → Term → Type 0
+Leaves all c (term Plus a) = ⊤
+Leaves all c (term Minus a) = Has all c a → ⊥
+
+-- a term that is added has the character, and none behind it takes it away
+pub record IsOfTerms (all : List Grouping) (ts : List Term) (c : ℕ) : Type 0 where
+  pub before : List Term
+  pub added : Argument
+  pub after : List Term
+  pub parts : ts ≡ before ++ (term Plus added) ∷ after
+  pub has : Has all c added
+  pub stays : AllByRecursion (Leaves all c) after
+
+-- A grouping has exactly the characters that one of its terms adds and no later one takes away. A name among the terms stands for
+-- the grouping of that name among all those of the script, though it is made of the ones before it alone.
+abbrev pub GroupingsHaveTheirTerms : Type 0
+GroupingsHaveTheirTerms =
+    (script : Source) → WellDeclared script.items script.external →
+    (n : List ℕ) (a : Argument) (ts : List Term) → Defines script n a ts → (c : ℕ) →
+    (class_of (groupings_of script) n c ≡ true) ↔ IsOfTerms (groupings_of script) (term Plus a ∷ ts) c
+
+-- the same, computed
+abbrev pub GroupingsAreTheirTerms : Type 0
+GroupingsAreTheirTerms =
+    (script : Source) → WellDeclared script.items script.external →
+    (n : List ℕ) (a : Argument) (ts : List Term) → Defines script n a ts → (c : ℕ) →
+    class_of (groupings_of script) n c ≡ terms_have (groupings_of script) ts (term_has (groupings_of script) a c) c
