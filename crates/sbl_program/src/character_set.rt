@@ -1,0 +1,116 @@
+//! Sets of characters that keep the order in which the characters came.
+
+ghost use Rattle.std.specs.Prelude.{◌≡◌, ◌<◌, ◌++◌, ◌∷◌, ℕ, [], length, nat_eq, ◌||◌, IfOk, OnOk, OnErr, MatchResult};
+ghost use Rattle.sbl_program.specs.CharacterSets.{is_flagged, is_told};
+ghost use Rattle.sbl_program.specs.NumberedSets.{has};
+
+use std::alloc::{AllocError, Global};
+use std::collections::BTreeSet;
+use std::marker::Model;
+
+// Codes below this bound have flags, so that the letters of most scripts of the world are looked up at once. Our own choice.
+const FLAGS: usize = 4_096;
+
+/// The characters of a grouping, in the order in which its terms give them. Whether a character is one of them takes no
+/// search through them: codes below 4,096 have flags, at most 4,096 bytes, and the others stand in an ordered set.
+#[derive(Drop)]
+pub struct CharacterSet {
+    characters: Vec<char>,
+    // Whether the character of each code is there; those past the end are not.
+    flags: Vec<bool>,
+    // The characters that have no flags.
+    others: BTreeSet<char>,
+}
+
+impl Model for CharacterSet {
+    ghost use Rattle.std.specs.Prelude.{ℕ, List};
+    ghost use Rattle.sbl_program.specs.CharacterSets.{AreTold};
+
+    ghost Value = { List ℕ };
+
+    ghost view = { λ s. s.characters.items };
+
+    ghost invariant = { λ s. AreTold s.characters.items s.flags.items s.others };
+}
+
+impl CharacterSet {
+    /// No character. It takes no memory.
+    pub fn new(alloc: Global) -> CharacterSet
+        ensures { result ≡ [] }
+    {
+        CharacterSet {
+            characters: Vec::new(alloc),
+            flags: Vec::new(alloc),
+            others: BTreeSet::new(alloc),
+        }
+    }
+
+    /// The characters, in the order in which they came.
+    pub fn characters(&self) -> &[char]
+        ensures { result.now ≡ self.now }
+    {
+        &self.characters
+    }
+
+    /// Whether a character is one of these. It goes through no more than the logarithm of their number.
+    pub fn contains(&self, c: char) -> bool
+        ensures { result ≡ has self.now c }
+    {
+        is_told(&self.flags, &self.others, c)
+    }
+
+    /// One more character, behind the others. AllocError where a growth was refused; the characters are as they were then.
+    pub fn push(&mut self, c: char) -> Result<(), AllocError>
+        ensures { MatchResult result (λ _. self.new ≡ self.old ++ c ∷ []) (λ _. self.new ≡ self.old) }
+    {
+        self.characters.push(c)?;
+        match tell(&mut self.flags, &mut self.others, c) {
+            Ok(()) => Ok(()),
+            Err(refused) => {
+                let _ = self.characters.pop();
+                Err(refused)
+            }
+        }
+    }
+}
+
+// Whether a character is told to be there.
+fn is_told(flags: &[bool], others: &BTreeSet<char>, c: char) -> bool
+    ensures { result ≡ is_told flags.now others.now c }
+{
+    let code = c as usize;
+    if code < FLAGS {
+        match flags.get(code) {
+            None => false,
+            Some(flag) => *flag,
+        }
+    } else {
+        others.contains(&c)
+    }
+}
+
+// Tells that a character is there.
+fn tell(flags: &mut Vec<bool>, others: &mut BTreeSet<char>, c: char) -> Result<(), AllocError>
+    ensures told { (d : ℕ) → OnOk result (is_told flags.new.items others.new d ≡ (nat_eq c d || is_told flags.old.items others.old d)) }
+    ensures err { (d : ℕ) → OnErr result (is_told flags.new.items others.new d ≡ is_told flags.old.items others.old d) }
+{
+    let code = c as usize;
+    if code < FLAGS {
+        grow(flags, code)?;
+        flags[code] = true;
+    } else {
+        others.insert(c)?;
+    }
+    Ok(())
+}
+
+// Grows flags until this one is there.
+fn grow(flags: &mut Vec<bool>, code: usize) -> Result<(), AllocError>
+    ensures same { (d : ℕ) → is_flagged flags.new.items d ≡ is_flagged flags.old.items d }
+    ensures there { IfOk result (λ _. code < length flags.new.items) }
+{
+    while flags.len() <= code {
+        flags.push(false)?;
+    }
+    Ok(())
+}
