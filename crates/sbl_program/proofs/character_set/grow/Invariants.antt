@@ -7,4 +7,4 @@ abbrev pub invariant-loop-flags : goal.invariant-loop-flags
 invariant-loop-flags l = (d : ℕ) → is_flagged l.flags.items d ≡ is_flagged l.initial.flags.items d
 
 abbrev pub decreases-loop-flags : goal.decreases-loop-flags
-decreases-loop-flags l = suc l.code - length l.flags.items
+decreases-loop-flags l = suc l.place - length l.flags.items
