@@ -63,7 +63,7 @@ impl State {
     /// Moves over one character that is in the set, or over one that is not, as is wanted, and answers whether there is one.
     /// Where there is no set, no character is in it.
     pub fn take_one(&mut self, mode: Mode, set: Option<&CharacterSet>, wanted: bool) -> bool
-        ensures leads { one_of wanted (unwrap_or (option_copied set) []) mode self.old ≡ Signals result self.new }
+        ensures leads { one_of wanted (unwrap_or (option_copied set.entry) []) mode self.old ≡ Signals result self.new }
         ensures same_steps { self.new.steps ≡ self.old.steps }
     {
         let found = is_wanted(self.next_character(mode), set, wanted);
@@ -181,7 +181,7 @@ fn is_front(mode: Mode, part: &[char], string: &[char]) -> bool
 
 // Whether there is a character that is in the set, or is not, as is wanted.
 fn is_wanted(character: Option<char>, set: Option<&CharacterSet>, wanted: bool) -> bool
-    ensures { result ≡ next_is wanted (unwrap_or (option_copied set) []) character }
+    ensures { result ≡ next_is wanted (unwrap_or (option_copied set.entry) []) character }
 {
     match character {
         None => false,
@@ -197,7 +197,7 @@ fn is_wanted(character: Option<char>, set: Option<&CharacterSet>, wanted: bool) 
 
 // Whether a character is in the set.
 fn is_in(set: Option<&CharacterSet>, c: char) -> bool
-    ensures { result ≡ has (unwrap_or (option_copied set) []) c }
+    ensures { result ≡ has (unwrap_or (option_copied set.entry) []) c }
 {
     match set {
         None => false,
