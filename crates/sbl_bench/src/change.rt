@@ -183,7 +183,7 @@ fn push_change(
         .map_err(|_| AllocError)
 }
 
-/// How many words the item is touched by in their last runs, which were those of this machine. Takes no memory.
+/// How many words touched the item in their last runs, which were those of this machine. Takes no memory.
 pub(crate) fn count_met(
     before: &Machine<Table>,
     item: &Item,

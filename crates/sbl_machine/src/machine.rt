@@ -15,7 +15,7 @@ use crate::meter::Meter;
 use crate::naming::{is_touched, items_touched};
 use crate::outcome::{Outcome, Ran, Traced};
 use sbl_program::{Made, Program, numbered};
-use sbl_run::{Halt, RunFault, State, TableList, Touch, run_call, tables_of};
+use sbl_run::{Halt, RunFault, Runner, State, TableList, Touch, tables_of};
 use sbl_script::Script;
 use sbl_tables::AmongSearch;
 use sbl_tree::Mode;
@@ -156,14 +156,13 @@ impl<S: AmongSearch> Machine<S> {
         ensures used { (script : Source) → IsMachineOf S S.entries S.mode self.now script → IfOk result (λ r. r.0.used ≡ used_of script word.now limit) }
     {
         let mut state = State::start(alloc, earlier, &self.program, word, limit)?;
-        let end = run_call(
-            &self.tables,
-            &self.program,
-            MAX_LEVELS,
-            Mode::Forward,
-            self.program.external,
-            &mut state,
-        );
+        let runner = Runner {
+            tables: &self.tables,
+            program: &self.program,
+            levels: MAX_LEVELS,
+            mode: Mode::Forward,
+        };
+        let end = runner.run_call(self.program.external, &mut state);
         let traced = ended(alloc, end, limit, &state)?;
         Ok((traced, state))
     }

@@ -125,7 +125,7 @@ program_of tables p = record {
   integers = p.integers;
   booleans = p.booleans;
   strings = p.strings;
-  groupings = map (λ v. v.items) p.groupings.items;
+  groupings = p.groupings.items;
   routines = map (view_routine tables) p.routines.items;
   external = p.external;
 }

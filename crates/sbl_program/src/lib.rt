@@ -3,6 +3,7 @@
 
 mod action;
 mod amongs;
+mod character_set;
 mod commands;
 pub mod laws;
 mod names;
@@ -14,5 +15,6 @@ mod sets;
 
 pub use action::{Action, Added, Arithmetic, Change, Relation, Scaled, StringTerm};
 pub use amongs::Found;
+pub use character_set::CharacterSet;
 pub use node::{Candidate, Joined, Node, Program, Routine};
 pub use program::{Made, numbered};

@@ -6,6 +6,7 @@ ghost use Rattle.sbl_program.specs.Listed.{Listed};
 ghost use Rattle.sbl_program.specs.ProgramOf.{program_of, view_routine};
 
 use crate::action::{Action, Arithmetic};
+use crate::character_set::CharacterSet;
 use sbl_tree::Joiner;
 
 /// A command of a routine's body.
@@ -110,7 +111,7 @@ pub struct Program {
     /// How many string variables there are.
     pub strings: usize,
     /// The set of each grouping.
-    pub groupings: Vec<Vec<char>>,
+    pub groupings: Vec<CharacterSet>,
     /// The routines.
     pub routines: Vec<Routine>,
     /// The routine that is run, by its number.

@@ -5,36 +5,45 @@ ghost use Rattle.sbl_tree.specs.View.{view_argument, view_plain, view_term};
 ghost use Rattle.sbl_program.specs.NumberedSets as spec;
 ghost use Rattle.sbl_program.specs.NumberedView.{view_names, view_placed};
 
+use crate::character_set::CharacterSet;
 use crate::names::{ItemInMode, Names, number_of};
 use sbl_tree::{Additive, Argument, Plain, Term};
 use std::alloc::{AllocError, Global};
 
-// Whether a character is in a set.
-fn has(set: &[char], c: char) -> bool
-    ensures { result ≡ spec.has set.now c }
-{
-    set.iter().any(|x| *x == c)
-}
-
 // Adds characters to a set.
-fn unite(set: &mut Vec<char>, more: &[char]) -> Result<(), AllocError>
-    ensures { OnOk result (set.new.items ≡ spec.united set.old.items more.now) }
+fn unite(set: &mut CharacterSet, more: &[char]) -> Result<(), AllocError>
+    ensures { OnOk result (set.new ≡ spec.united set.old more.now) }
 {
     for c in more {
-        if !has(set, *c) {
+        if !set.contains(*c) {
             set.push(*c)?;
         }
     }
     Ok(())
 }
 
-// The characters of a set that are not among some.
-fn lessen(alloc: Global, set: &[char], less: &[char]) -> Result<Vec<char>, AllocError>
-    ensures { IfOk result (λ v. v.items ≡ spec.lessened set.now less.now []) }
+// The set of some characters.
+fn set_with(alloc: Global, characters: &[char]) -> Result<CharacterSet, AllocError>
+    ensures { IfOk result (λ set. set ≡ characters.now) }
 {
-    let mut left = Vec::new(alloc);
-    for c in set {
-        if !has(less, *c) {
+    let mut set = CharacterSet::new(alloc);
+    for c in characters {
+        set.push(*c)?;
+    }
+    Ok(set)
+}
+
+// Those of some characters that are not in a set.
+fn lessen(
+    alloc: Global,
+    characters: &[char],
+    less: &CharacterSet,
+) -> Result<CharacterSet, AllocError>
+    ensures { IfOk result (λ left. left ≡ spec.lessened characters.now less.now []) }
+{
+    let mut left = CharacterSet::new(alloc);
+    for c in characters {
+        if !less.contains(*c) {
             left.push(*c)?;
         }
     }
@@ -44,10 +53,10 @@ fn lessen(alloc: Global, set: &[char], less: &[char]) -> Result<Vec<char>, Alloc
 fn combine(
     alloc: Global,
     operator: Additive,
-    set: Vec<char>,
+    set: CharacterSet,
     term: &[char],
-) -> Result<Vec<char>, AllocError>
-    ensures { IfOk result (λ v. v.items ≡ spec.combined operator set.items term.now) }
+) -> Result<CharacterSet, AllocError>
+    ensures { IfOk result (λ combined. combined ≡ spec.combined operator set term.now) }
 {
     match operator {
         Additive::Plus => {
@@ -55,19 +64,26 @@ fn combine(
             unite(&mut whole, term)?;
             Ok(whole)
         }
-        Additive::Minus => lessen(alloc, &set, term),
+        Additive::Minus => {
+            let less = set_with(alloc, term)?;
+            lessen(alloc, set.characters(), &less)
+        }
     }
 }
 
 // The characters of a term.
-fn characters_of<'a>(names: &Names, sets: &'a Vec<Vec<char>>, argument: &'a Argument) -> &'a [char]
-    ensures { result.now ≡ spec.characters_of (view_names names.now) (map (λ v. v.items) sets.now.items) (view_argument argument.now) }
+fn characters_of<'a>(
+    names: &Names,
+    sets: &'a Vec<CharacterSet>,
+    argument: &'a Argument,
+) -> &'a [char]
+    ensures { result.now ≡ spec.characters_of (view_names names.now) sets.now.items (view_argument argument.now) }
 {
     match argument {
         Argument::Literal(literal) => literal.value.as_slice(),
         Argument::Name(name) => match sets.get(number_of(&names.groupings, name.as_str())) {
             None => &[],
-            Some(set) => set.as_slice(),
+            Some(set) => set.characters(),
         },
     }
 }
@@ -76,13 +92,13 @@ fn characters_of<'a>(names: &Names, sets: &'a Vec<Vec<char>>, argument: &'a Argu
 fn set_of(
     alloc: Global,
     names: &Names,
-    sets: &Vec<Vec<char>>,
+    sets: &Vec<CharacterSet>,
     first: &Argument,
     others: &Vec<Term>,
-) -> Result<Vec<char>, AllocError>
-    ensures { IfOk result (λ v. v.items ≡ spec.with_terms (view_names names.now) (map (λ x. x.items) sets.now.items) (map view_term others.now.items) (spec.united [] (spec.characters_of (view_names names.now) (map (λ x. x.items) sets.now.items) (view_argument first.now)))) }
+) -> Result<CharacterSet, AllocError>
+    ensures { IfOk result (λ set. set ≡ spec.with_terms (view_names names.now) sets.now.items (map view_term others.now.items) (spec.united [] (spec.characters_of (view_names names.now) sets.now.items (view_argument first.now)))) }
 {
-    let mut set = Vec::new(alloc);
+    let mut set = CharacterSet::new(alloc);
     unite(&mut set, characters_of(names, sets, first))?;
     for term in others {
         set = combine(
@@ -99,9 +115,9 @@ fn add_set(
     alloc: Global,
     names: &Names,
     plain: &Plain,
-    sets: &mut Vec<Vec<char>>,
+    sets: &mut Vec<CharacterSet>,
 ) -> Result<(), AllocError>
-    ensures { OnOk result (map (λ x. x.items) sets.new.items ≡ spec.with_set (view_names names.now) (view_plain plain.now) (map (λ x. x.items) sets.old.items)) }
+    ensures { OnOk result (sets.new.items ≡ spec.with_set (view_names names.now) (view_plain plain.now) sets.old.items) }
 {
     if let Plain::Grouping {
         name: _,
@@ -120,8 +136,8 @@ pub fn sets_of(
     alloc: Global,
     names: &Names,
     items: &[ItemInMode],
-) -> Result<Vec<Vec<char>>, AllocError>
-    ensures { IfOk result (λ v. map (λ x. x.items) v.items ≡ spec.sets_behind (view_names names.now) (map view_placed items.now) []) }
+) -> Result<Vec<CharacterSet>, AllocError>
+    ensures { IfOk result (λ sets. sets.items ≡ spec.sets_behind (view_names names.now) (map view_placed items.now) []) }
 {
     let mut sets = Vec::new(alloc);
     for item in items {

@@ -11,7 +11,7 @@ mod touched;
 
 pub use fault::RunFault;
 pub use halt::Halt;
-pub use run::run_call;
+pub use run::Runner;
 pub use state::State;
 pub use table::{TableList, Tables, tables_of};
 pub use touch::Touch;

@@ -16,152 +16,324 @@ use crate::table::Tables;
 use sbl_program::{Arithmetic, Candidate, Joined, Node, Program};
 use sbl_tree::{Joiner, Mode};
 
-/// Runs a command: its signal, or why it has none.
-#[cycle(run)]
-fn run_command<T: Tables>(
-    tables: &T,
-    program: &Program,
-    levels: u32,
-    mode: Mode,
-    command: &Node,
-    state: &mut State,
-) -> Result<bool, Halt>
-    ensures follows { Follows result state.new (runs (program_of (T.listed tables.now) program.now) levels (view_node (T.listed tables.now) command.now) mode state.old) }
-    ensures fewer { IfOk result (λ _. state.new.steps < state.old.steps) }
-{
-    state.pay()?;
-    match command {
-        Node::Act(action) => state.act(&program.groupings, mode, action),
-        Node::Sequence(commands) => run_in_turn(tables, program, levels, mode, commands, state),
-        Node::Row { first, others } => {
-            run_row(tables, program, levels, mode, first, others, state)
-        }
-        Node::Not(inner) => {
-            let from = state.saved_cursor();
-            if run_command(tables, program, levels, mode, inner, state)? {
-                return Ok(false);
-            }
-            state.put_back(mode, from)?;
-            Ok(true)
-        }
-        Node::Test(inner) => {
-            let from = state.saved_cursor();
-            if !run_command(tables, program, levels, mode, inner, state)? {
-                return Ok(false);
-            }
-            state.put_back(mode, from)?;
-            Ok(true)
-        }
-        Node::Try(inner) => {
-            let from = state.saved_cursor();
-            if !run_command(tables, program, levels, mode, inner, state)? {
-                state.put_back(mode, from)?;
-            }
-            Ok(true)
-        }
-        Node::Do(inner) => {
-            let from = state.saved_cursor();
-            run_command(tables, program, levels, mode, inner, state)?;
-            state.put_back(mode, from)?;
-            Ok(true)
-        }
-        Node::Fail(inner) => {
-            run_command(tables, program, levels, mode, inner, state)?;
-            Ok(false)
-        }
-        Node::Repeat(inner) => run_turns(tables, program, levels, mode, inner, state),
-        Node::Loop(count, inner) => run_times(tables, program, levels, mode, count, inner, state),
-        Node::AtLeast(count, inner) => {
-            if !run_times(tables, program, levels, mode, count, inner, state)? {
-                return Ok(false);
-            }
-            run_turns(tables, program, levels, mode, inner, state)
-        }
-        Node::Goto(inner) => run_seek(tables, program, levels, mode, false, inner, state),
-        Node::GoPast(inner) => run_seek(tables, program, levels, mode, true, inner, state),
-        Node::Backwards(inner) => {
-            state.begin_backwards()?;
-            if !run_command(tables, program, levels, Mode::Backward, inner, state)? {
-                return Ok(false);
-            }
-            state.end_backwards()?;
-            Ok(true)
-        }
-        Node::SetLimit(first, second) => {
-            let from = state.saved_cursor();
-            let limits = state.limits();
-            if !run_command(tables, program, levels, mode, first, state)? {
-                return Ok(false);
-            }
-            state.limit_here(mode);
-            state.put_back(mode, from)?;
-            let signal = run_command(tables, program, levels, mode, second, state)?;
-            state.limit_back(mode, limits);
-            Ok(signal)
-        }
-        Node::Call(number) => run_call(tables, program, levels, mode, *number, state),
-        Node::Search {
-            among,
-            table,
-            entries,
-        } => {
-            state.touch_among(*among)?;
-            run_search(
-                tables, program, levels, mode, *among, *table, entries, state,
-            )
-        }
-        Node::Among {
-            among,
-            before,
-            bodies,
-        } => run_among(tables, program, levels, mode, *among, before, bodies, state),
-    }
+/// What commands run with, and what stays the same in them: a call and `backwards` run theirs with a runner of their own.
+#[derive_where(Clone, Copy)]
+pub struct Runner<'a, T> {
+    /// The tables of the program's amongs.
+    pub tables: &'a T,
+    /// The program whose routines are called.
+    pub program: &'a Program,
+    /// How deep calls may go from here on.
+    pub levels: u32,
+    /// The direction in which commands read the text.
+    pub mode: Mode,
 }
 
-/// Runs a row, grouped from the left, whose first step is paid.
-#[cycle(run)]
-fn run_row<T: Tables>(
-    tables: &T,
-    program: &Program,
-    levels: u32,
-    mode: Mode,
-    first: &Node,
-    others: &[Joined],
-    state: &mut State,
-) -> Result<bool, Halt>
-    ensures follows { Follows result state.new (row_runs (program_of (T.listed tables.now) program.now) levels (view_node (T.listed tables.now) first.now) (map (view_joined (T.listed tables.now)) others.now) mode state.old) }
-    ensures no_more { IfOk result (λ _. state.new.steps ≤ state.old.steps) }
-{
-    state.pay_for(others.len().saturating_sub(1))?;
-    let from = state.saved_cursor();
-    let mut signal = run_command(tables, program, levels, mode, first, state)?;
-    for joined in others {
-        signal = run_joined(tables, program, levels, mode, from, signal, joined, state)?;
+impl<'a, T: Tables> Runner<'a, T> {
+    /// Runs a command: its signal, or why it has none.
+    #[cycle(run)]
+    fn run_command(&self, command: &Node, state: &mut State) -> Result<bool, Halt>
+        ensures follows { Follows result state.new (runs (program_of (T.listed self.now.tables.now) self.now.program.now) self.now.levels (view_node (T.listed self.now.tables.now) command.now) self.now.mode state.old) }
+        ensures fewer { IfOk result (λ _. state.new.steps < state.old.steps) }
+    {
+        state.pay()?;
+        match command {
+            Node::Act(action) => state.act(&self.program.groupings, self.mode, action),
+            Node::Sequence(commands) => self.run_in_turn(commands, state),
+            Node::Row { first, others } => { self.run_row(first, others, state) }
+            Node::Not(inner) => {
+                let from = state.saved_cursor();
+                if self.run_command(inner, state)? {
+                    return Ok(false);
+                }
+                state.put_back(self.mode, from)?;
+                Ok(true)
+            }
+            Node::Test(inner) => {
+                let from = state.saved_cursor();
+                if !self.run_command(inner, state)? {
+                    return Ok(false);
+                }
+                state.put_back(self.mode, from)?;
+                Ok(true)
+            }
+            Node::Try(inner) => {
+                let from = state.saved_cursor();
+                if !self.run_command(inner, state)? {
+                    state.put_back(self.mode, from)?;
+                }
+                Ok(true)
+            }
+            Node::Do(inner) => {
+                let from = state.saved_cursor();
+                self.run_command(inner, state)?;
+                state.put_back(self.mode, from)?;
+                Ok(true)
+            }
+            Node::Fail(inner) => {
+                self.run_command(inner, state)?;
+                Ok(false)
+            }
+            Node::Repeat(inner) => self.run_turns(inner, state),
+            Node::Loop(count, inner) => self.run_times(count, inner, state),
+            Node::AtLeast(count, inner) => {
+                if !self.run_times(count, inner, state)? {
+                    return Ok(false);
+                }
+                self.run_turns(inner, state)
+            }
+            Node::Goto(inner) => self.run_seek(false, inner, state),
+            Node::GoPast(inner) => self.run_seek(true, inner, state),
+            Node::Backwards(inner) => {
+                state.begin_backwards()?;
+                let backwards = Runner {
+                    mode: Mode::Backward,
+                    ..*self
+                };
+                if !backwards.run_command(inner, state)? {
+                    return Ok(false);
+                }
+                state.end_backwards()?;
+                Ok(true)
+            }
+            Node::SetLimit(first, second) => {
+                let from = state.saved_cursor();
+                let limits = state.limits();
+                if !self.run_command(first, state)? {
+                    return Ok(false);
+                }
+                state.limit_here(self.mode);
+                state.put_back(self.mode, from)?;
+                let signal = self.run_command(second, state)?;
+                state.limit_back(self.mode, limits);
+                Ok(signal)
+            }
+            Node::Call(number) => self.run_call(*number, state),
+            Node::Search {
+                among,
+                table,
+                entries,
+            } => {
+                state.touch_among(*among)?;
+                self.run_search(*among, *table, entries, state)
+            }
+            Node::Among {
+                among,
+                before,
+                bodies,
+            } => self.run_among(*among, before, bodies, state),
+        }
     }
-    Ok(signal)
-}
 
-/// Runs the next command of a row from the saved cursor at its beginning, unless the signal before it settles the row so far.
-#[cycle(run)]
-fn run_joined<T: Tables>(
-    tables: &T,
-    program: &Program,
-    levels: u32,
-    mode: Mode,
-    from: SavedCursor,
-    signal: bool,
-    joined: &Joined,
-    state: &mut State,
-) -> Result<bool, Halt>
-    requires { from.cursor + from.beyond + from.length ≤ 4096 }
-    ensures follows { Follows result state.new (joined_runs (program_of (T.listed tables.now) program.now) levels mode from (view_joined (T.listed tables.now) joined.now) signal state.old) }
-    ensures no_more { IfOk result (λ _. state.new.steps ≤ state.old.steps) }
-{
-    if is_settled(joined.joiner, signal) {
-        return Ok(signal);
+    /// Runs a row, grouped from the left, whose first step is paid.
+    #[cycle(run)]
+    fn run_row(&self, first: &Node, others: &[Joined], state: &mut State) -> Result<bool, Halt>
+        ensures follows { Follows result state.new (row_runs (program_of (T.listed self.now.tables.now) self.now.program.now) self.now.levels (view_node (T.listed self.now.tables.now) first.now) (map (view_joined (T.listed self.now.tables.now)) others.now) self.now.mode state.old) }
+        ensures no_more { IfOk result (λ _. state.new.steps ≤ state.old.steps) }
+    {
+        state.pay_for(others.len().saturating_sub(1))?;
+        let from = state.saved_cursor();
+        let mut signal = self.run_command(first, state)?;
+        for joined in others {
+            signal = self.run_joined(from, signal, joined, state)?;
+        }
+        Ok(signal)
     }
-    state.put_back(mode, from)?;
-    run_command(tables, program, levels, mode, &joined.command, state)
+
+    /// Runs the next command of a row from the saved cursor at its beginning, unless the signal before it settles the row so far.
+    #[cycle(run)]
+    fn run_joined(
+        &self,
+        from: SavedCursor,
+        signal: bool,
+        joined: &Joined,
+        state: &mut State,
+    ) -> Result<bool, Halt>
+        requires { from.cursor + from.beyond + from.length ≤ 4096 }
+        ensures follows { Follows result state.new (joined_runs (program_of (T.listed self.now.tables.now) self.now.program.now) self.now.levels self.now.mode from (view_joined (T.listed self.now.tables.now) joined.now) signal state.old) }
+        ensures no_more { IfOk result (λ _. state.new.steps ≤ state.old.steps) }
+    {
+        if is_settled(joined.joiner, signal) {
+            return Ok(signal);
+        }
+        state.put_back(self.mode, from)?;
+        self.run_command(&joined.command, state)
+    }
+
+    /// Runs commands in turn, up to the first f.
+    #[cycle(run)]
+    fn run_in_turn(&self, commands: &[Node], state: &mut State) -> Result<bool, Halt>
+        ensures follows { Follows result state.new (all_run (program_of (T.listed self.now.tables.now) self.now.program.now) self.now.levels (view_nodes (T.listed self.now.tables.now) commands.now) self.now.mode state.old) }
+        ensures no_more { IfOk result (λ _. state.new.steps ≤ state.old.steps) }
+    {
+        for one in commands {
+            if !self.run_command(one, state)? {
+                return Ok(false);
+            }
+        }
+        Ok(true)
+    }
+
+    /// Runs a command up to its first f, and puts the cursor back to before that.
+    #[cycle(run)]
+    fn run_turns(&self, inner: &Node, state: &mut State) -> Result<bool, Halt>
+        ensures follows { Follows result state.new (turns (suc state.old.steps) (runs (program_of (T.listed self.now.tables.now) self.now.program.now) self.now.levels (view_node (T.listed self.now.tables.now) inner.now)) self.now.mode state.old) }
+        ensures no_more { IfOk result (λ _. state.new.steps ≤ state.old.steps) }
+    {
+        loop {
+            let from = state.saved_cursor();
+            if !self.run_command(inner, state)? {
+                state.put_back(self.mode, from)?;
+                return Ok(true);
+            }
+        }
+    }
+
+    /// Runs a command so many times, up to the first f.
+    #[cycle(run)]
+    fn run_times(&self, count: &Arithmetic, inner: &Node, state: &mut State) -> Result<bool, Halt>
+        ensures follows { Follows result state.new (given (value (view_number count.now) self.now.mode state.old) state.old (λ z. times (count_of z) (runs (program_of (T.listed self.now.tables.now) self.now.program.now) self.now.levels (view_node (T.listed self.now.tables.now) inner.now)) self.now.mode state.old)) }
+        ensures no_more { IfOk result (λ _. state.new.steps ≤ state.old.steps) }
+    {
+        let number = state.value(self.mode, count)?;
+        let mut left = count_of(number);
+        while 0 < left {
+            if !self.run_command(inner, state)? {
+                return Ok(false);
+            }
+            left -= 1;
+        }
+        Ok(true)
+    }
+
+    /// Tries a command at the cursor and further on, up to its first t; the cursor stays after its match, or goes before it.
+    #[cycle(run)]
+    fn run_seek(&self, past: bool, inner: &Node, state: &mut State) -> Result<bool, Halt>
+        ensures follows { Follows result state.new (seeks (suc state.old.steps) past (runs (program_of (T.listed self.now.tables.now) self.now.program.now) self.now.levels (view_node (T.listed self.now.tables.now) inner.now)) self.now.mode state.old) }
+        ensures no_more { IfOk result (λ _. state.new.steps ≤ state.old.steps) }
+    {
+        loop {
+            let from = state.saved_cursor();
+            if self.run_command(inner, state)? {
+                if !past {
+                    state.put_back(self.mode, from)?;
+                }
+                return Ok(true);
+            }
+            state.put_back(self.mode, from)?;
+            if !state.take_next(self.mode) {
+                return Ok(false);
+            }
+        }
+    }
+
+    /// Calls the routine with this number: its signal, f where there is none. `Depth` where no level is left, `OutOfMemory` where
+    /// a growth was refused, else the fault of a command in it; the state is then as the fault found it.
+    #[cycle(run)]
+    pub fn run_call(&self, number: usize, state: &mut State) -> Result<bool, Halt>
+        ensures follows { Follows result state.new (calls (program_of (T.listed self.now.tables.now) self.now.program.now) self.now.levels number self.now.mode state.old) }
+        ensures no_more { IfOk result (λ _. state.new.steps ≤ state.old.steps) }
+    {
+        if self.levels == 0 {
+            return Err(Halt::Depth);
+        }
+        match self.program.routine(number) {
+            None => Ok(false),
+            Some(routine) => {
+                let caller = state.routine();
+                let kept = state.enter(number, routine.amongs)?;
+                let deeper = Runner {
+                    levels: self.levels - 1,
+                    ..*self
+                };
+                let signal = deeper.run_command(&routine.body, state)?;
+                state.leave(caller, kept);
+                Ok(signal)
+            }
+        }
+    }
+
+    /// Runs what an among does before its group's command, and then the command of the group that is chosen.
+    #[cycle(run)]
+    fn run_among(
+        &self,
+        among: usize,
+        before: &Vec<Node>,
+        bodies: &Vec<Node>,
+        state: &mut State,
+    ) -> Result<bool, Halt>
+        ensures follows { Follows result state.new (after (all_run (program_of (T.listed self.now.tables.now) self.now.program.now) self.now.levels (view_nodes (T.listed self.now.tables.now) before.now.items) self.now.mode state.old) (λ t. group_runs (program_of (T.listed self.now.tables.now) self.now.program.now) self.now.levels (view_nodes (T.listed self.now.tables.now) bodies.now.items) (choice among t) self.now.mode t) (Signals false)) }
+        ensures no_more { IfOk result (λ _. state.new.steps ≤ state.old.steps) }
+    {
+        if !self.run_in_turn(before, state)? {
+            return Ok(false);
+        }
+        let Some(group) = state.choice(among) else {
+            return Ok(false);
+        };
+        match bodies.get(group) {
+            None => Ok(true),
+            Some(body) => self.run_command(body, state),
+        }
+    }
+
+    /// Tries the strings that fit, the longest first.
+    #[cycle(run)]
+    fn run_search(
+        &self,
+        among: usize,
+        table: usize,
+        entries: &[Candidate],
+        state: &mut State,
+    ) -> Result<bool, Halt>
+        ensures follows { Follows result state.new (searched (calls (program_of (T.listed self.now.tables.now) self.now.program.now) self.now.levels) among entries.now (T.listed self.now.tables.now table) self.now.mode state.old) }
+        ensures no_more { IfOk result (λ _. state.new.steps ≤ state.old.steps) }
+    {
+        let from = state.saved_cursor();
+        let mut place = self
+            .tables
+            .longest(table, state.text(), state.place(), state.bound(self.mode));
+        while let Some(i) = place {
+            match self.run_try(among, from, entries, i, state) {
+                Err(halt) => return Err(halt),
+                Ok(true) => return Ok(true),
+                Ok(false) => {}
+            }
+            place = self.tables.next_shorter(table, i);
+        }
+        state.choose(among, None);
+        Ok(false)
+    }
+
+    /// Tries one string, and answers whether it is taken: not where its condition signals f.
+    #[cycle(run)]
+    fn run_try(
+        &self,
+        among: usize,
+        from: SavedCursor,
+        entries: &[Candidate],
+        i: usize,
+        state: &mut State,
+    ) -> Result<bool, Halt>
+        requires { from.cursor + from.beyond + from.length ≤ 4096 }
+        ensures tried { (begun : RunState) (follow : RunState → Ending) → from ≡ saved_cursor begun → Tried result state.new (try_one (calls (program_of (T.listed self.now.tables.now) self.now.program.now) self.now.levels) among (slice_get entries.now i) self.now.mode begun state.old follow) (follow state.new) }
+        ensures no_more { IfOk result (λ _. state.new.steps ≤ state.old.steps) }
+        ensures fewer { IfOk result (λ b. b ≡ false → state.new.steps < state.old.steps) }
+    {
+        let Some(entry) = entries.get(i).copied() else {
+            return Ok(true);
+        };
+        state.place_after(self.mode, from, entry.length)?;
+        if let Some(number) = entry.condition {
+            state.pay()?;
+            if !self.run_call(number, state)? {
+                return Ok(false);
+            }
+        }
+        state.place_after(self.mode, from, entry.length)?;
+        state.choose(among, Some(entry.group));
+        Ok(true)
+    }
 }
 
 // Whether a signal is that of the row so far, whatever its next command would do.
@@ -172,220 +344,4 @@ fn is_settled(joiner: Joiner, signal: bool) -> bool
         Joiner::Or => signal,
         Joiner::And => !signal,
     }
-}
-
-/// Runs commands in turn, up to the first f.
-#[cycle(run)]
-fn run_in_turn<T: Tables>(
-    tables: &T,
-    program: &Program,
-    levels: u32,
-    mode: Mode,
-    commands: &[Node],
-    state: &mut State,
-) -> Result<bool, Halt>
-    ensures follows { Follows result state.new (all_run (program_of (T.listed tables.now) program.now) levels (view_nodes (T.listed tables.now) commands.now) mode state.old) }
-    ensures no_more { IfOk result (λ _. state.new.steps ≤ state.old.steps) }
-{
-    for one in commands {
-        if !run_command(tables, program, levels, mode, one, state)? {
-            return Ok(false);
-        }
-    }
-    Ok(true)
-}
-
-/// Runs a command up to its first f, and puts the cursor back to before that.
-#[cycle(run)]
-fn run_turns<T: Tables>(
-    tables: &T,
-    program: &Program,
-    levels: u32,
-    mode: Mode,
-    inner: &Node,
-    state: &mut State,
-) -> Result<bool, Halt>
-    ensures follows { Follows result state.new (turns (suc state.old.steps) (runs (program_of (T.listed tables.now) program.now) levels (view_node (T.listed tables.now) inner.now)) mode state.old) }
-    ensures no_more { IfOk result (λ _. state.new.steps ≤ state.old.steps) }
-{
-    loop {
-        let from = state.saved_cursor();
-        if !run_command(tables, program, levels, mode, inner, state)? {
-            state.put_back(mode, from)?;
-            return Ok(true);
-        }
-    }
-}
-
-/// Runs a command so many times, up to the first f.
-#[cycle(run)]
-fn run_times<T: Tables>(
-    tables: &T,
-    program: &Program,
-    levels: u32,
-    mode: Mode,
-    count: &Arithmetic,
-    inner: &Node,
-    state: &mut State,
-) -> Result<bool, Halt>
-    ensures follows { Follows result state.new (given (value (view_number count.now) mode state.old) state.old (λ z. times (count_of z) (runs (program_of (T.listed tables.now) program.now) levels (view_node (T.listed tables.now) inner.now)) mode state.old)) }
-    ensures no_more { IfOk result (λ _. state.new.steps ≤ state.old.steps) }
-{
-    let number = state.value(mode, count)?;
-    let mut left = count_of(number);
-    while 0 < left {
-        if !run_command(tables, program, levels, mode, inner, state)? {
-            return Ok(false);
-        }
-        left -= 1;
-    }
-    Ok(true)
-}
-
-/// Tries a command at the cursor and further on, up to its first t; the cursor stays after its match, or goes before it.
-#[cycle(run)]
-fn run_seek<T: Tables>(
-    tables: &T,
-    program: &Program,
-    levels: u32,
-    mode: Mode,
-    past: bool,
-    inner: &Node,
-    state: &mut State,
-) -> Result<bool, Halt>
-    ensures follows { Follows result state.new (seeks (suc state.old.steps) past (runs (program_of (T.listed tables.now) program.now) levels (view_node (T.listed tables.now) inner.now)) mode state.old) }
-    ensures no_more { IfOk result (λ _. state.new.steps ≤ state.old.steps) }
-{
-    loop {
-        let from = state.saved_cursor();
-        if run_command(tables, program, levels, mode, inner, state)? {
-            if !past {
-                state.put_back(mode, from)?;
-            }
-            return Ok(true);
-        }
-        state.put_back(mode, from)?;
-        if !state.take_next(mode) {
-            return Ok(false);
-        }
-    }
-}
-
-/// Calls a routine, where this many levels are left.
-#[cycle(run)]
-pub fn run_call<T: Tables>(
-    tables: &T,
-    program: &Program,
-    levels: u32,
-    mode: Mode,
-    number: usize,
-    state: &mut State,
-) -> Result<bool, Halt>
-    ensures follows { Follows result state.new (calls (program_of (T.listed tables.now) program.now) levels number mode state.old) }
-    ensures no_more { IfOk result (λ _. state.new.steps ≤ state.old.steps) }
-{
-    if levels == 0 {
-        return Err(Halt::Depth);
-    }
-    match program.routine(number) {
-        None => Ok(false),
-        Some(routine) => {
-            let caller = state.routine();
-            let kept = state.enter(number, routine.amongs)?;
-            let signal = run_command(tables, program, levels - 1, mode, &routine.body, state)?;
-            state.leave(caller, kept);
-            Ok(signal)
-        }
-    }
-}
-
-/// Runs what an among does before its group's command, and then the command of the group that is chosen.
-#[cycle(run)]
-fn run_among<T: Tables>(
-    tables: &T,
-    program: &Program,
-    levels: u32,
-    mode: Mode,
-    among: usize,
-    before: &Vec<Node>,
-    bodies: &Vec<Node>,
-    state: &mut State,
-) -> Result<bool, Halt>
-    ensures follows { Follows result state.new (after (all_run (program_of (T.listed tables.now) program.now) levels (view_nodes (T.listed tables.now) before.now.items) mode state.old) (λ t. group_runs (program_of (T.listed tables.now) program.now) levels (view_nodes (T.listed tables.now) bodies.now.items) (choice among t) mode t) (Signals false)) }
-    ensures no_more { IfOk result (λ _. state.new.steps ≤ state.old.steps) }
-{
-    if !run_in_turn(tables, program, levels, mode, before, state)? {
-        return Ok(false);
-    }
-    let Some(group) = state.choice(among) else {
-        return Ok(false);
-    };
-    match bodies.get(group) {
-        None => Ok(true),
-        Some(body) => run_command(tables, program, levels, mode, body, state),
-    }
-}
-
-/// Tries the strings that fit, the longest first.
-#[cycle(run)]
-fn run_search<T: Tables>(
-    tables: &T,
-    program: &Program,
-    levels: u32,
-    mode: Mode,
-    among: usize,
-    table: usize,
-    entries: &[Candidate],
-    state: &mut State,
-) -> Result<bool, Halt>
-    ensures follows { Follows result state.new (searched (calls (program_of (T.listed tables.now) program.now) levels) among entries.now (T.listed tables.now table) mode state.old) }
-    ensures no_more { IfOk result (λ _. state.new.steps ≤ state.old.steps) }
-{
-    let from = state.saved_cursor();
-    let mut place = tables.longest(table, state.text(), state.place(), state.bound(mode));
-    while let Some(i) = place {
-        match run_try(
-            tables, program, levels, mode, among, from, entries, i, state,
-        ) {
-            Err(halt) => return Err(halt),
-            Ok(true) => return Ok(true),
-            Ok(false) => {}
-        }
-        place = tables.next_shorter(table, i);
-    }
-    state.choose(among, None);
-    Ok(false)
-}
-
-/// Tries one string, and answers whether it is taken: not where its condition signals f.
-#[cycle(run)]
-fn run_try<T: Tables>(
-    tables: &T,
-    program: &Program,
-    levels: u32,
-    mode: Mode,
-    among: usize,
-    from: SavedCursor,
-    entries: &[Candidate],
-    i: usize,
-    state: &mut State,
-) -> Result<bool, Halt>
-    requires { from.cursor + from.beyond + from.length ≤ 4096 }
-    ensures tried { (begun : RunState) (follow : RunState → Ending) → from ≡ saved_cursor begun → Tried result state.new (try_one (calls (program_of (T.listed tables.now) program.now) levels) among (slice_get entries.now i) mode begun state.old follow) (follow state.new) }
-    ensures no_more { IfOk result (λ _. state.new.steps ≤ state.old.steps) }
-    ensures fewer { IfOk result (λ b. b ≡ false → state.new.steps < state.old.steps) }
-{
-    let Some(entry) = entries.get(i).copied() else {
-        return Ok(true);
-    };
-    state.place_after(mode, from, entry.length)?;
-    if let Some(number) = entry.condition {
-        state.pay()?;
-        if !run_call(tables, program, levels, mode, number, state)? {
-            return Ok(false);
-        }
-    }
-    state.place_after(mode, from, entry.length)?;
-    state.choose(among, Some(entry.group));
-    Ok(true)
 }

@@ -2,7 +2,7 @@
 
 use crate::tests::bench::{bench_of, classes_shown, rows_shown, touched_shown};
 use crate::tests::characters::word_of;
-use crate::tests::scripts::{PREFIXES, suffixes};
+use crate::tests::scripts::{PORTER, PREFIXES, suffixes};
 use sbl_bench::{Bench, EditFault};
 use sbl_script::{Script, ScriptFault};
 use std::alloc::Global;
@@ -72,6 +72,24 @@ fn an_edit_runs_the_words_that_it_meets(rt: HostRuntime) -> Result<(), Fail> {
     assert_eq!(rt;
         bench.replace_among("tail", 1, "among ( 's' () )"),
         Err(EditFault::NoAmong)
+    );
+    Ok(())
+}
+
+// Both words enter the routine, and one alone searches its second among.
+#[test]
+fn an_among_is_met_by_the_words_that_search_it(rt: HostRuntime) -> Result<(), Fail> {
+    let alloc = rt.alloc();
+    let mut bench = bench_of(alloc, PORTER, &["hopping", "sky"])?;
+    assert_eq!(rt; bench.runs(), 2);
+    assert_eq!(rt;
+        bench.replace_among("Step_1b", 2, "among ( '' (<+ 'e') )"),
+        Ok(())
+    );
+    assert_eq!(rt; bench.runs(), 3);
+    assert_eq!(rt;
+        rows_shown(alloc, &bench)?.as_str(),
+        "hopping hopp;sky sky;"
     );
     Ok(())
 }

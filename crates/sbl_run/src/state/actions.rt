@@ -1,6 +1,6 @@
 //! The commands that hold no command.
 
-ghost use Rattle.std.specs.Prelude.{◌≡◌, List, ℕ, [], map, slice_index_or, IfOk};
+ghost use Rattle.std.specs.Prelude.{◌≡◌, List, ℕ, [], slice_index_or, IfOk};
 ghost use Rattle.sbl_run.specs.Actions.{acts};
 ghost use Rattle.sbl_run.specs.Numbers.{value, natural};
 ghost use Rattle.sbl_program.specs.ProgramOf.{view_action};
@@ -9,7 +9,7 @@ ghost use Rattle.sbl_run.specs.Kept.{Follows};
 use crate::halt::Halt;
 use crate::state::State;
 use crate::state::numbers::natural;
-use sbl_program::Action;
+use sbl_program::{Action, CharacterSet};
 use sbl_tree::Mode;
 
 impl State {
@@ -18,21 +18,17 @@ impl State {
     /// the text would grow too long. `groupings` holds the set of each grouping.
     pub fn act(
         &mut self,
-        groupings: &[Vec<char>],
+        groupings: &[CharacterSet],
         mode: Mode,
         action: &Action,
     ) -> Result<bool, Halt>
-        ensures follows { Follows result self.new (acts (map (λ v. v.items) groupings.now) (view_action action.now) mode self.old) }
+        ensures follows { Follows result self.new (acts groupings.now (view_action action.now) mode self.old) }
         ensures same_steps { IfOk result (λ _. self.new.steps ≡ self.old.steps) }
     {
         match action {
             Action::Match(term) => Ok(self.take_term(mode, term)),
-            Action::Grouping(number) => Ok(self.take_one(mode, set_of(groupings, *number), true)),
-            Action::NonGrouping(number) => Ok(self.take_one(
-                mode,
-                set_of(groupings, *number),
-                false,
-            )),
+            Action::Grouping(number) => Ok(self.take_one(mode, groupings.get(*number), true)),
+            Action::NonGrouping(number) => Ok(self.take_one(mode, groupings.get(*number), false)),
             Action::Next => Ok(self.take_next(mode)),
             Action::Hop(expression) => {
                 let number = self.value(mode, expression)?;
@@ -100,15 +96,5 @@ impl State {
             Action::True => Ok(true),
             Action::False => Ok(false),
         }
-    }
-}
-
-// The set of a grouping.
-fn set_of(groupings: &[Vec<char>], number: usize) -> &[char]
-    ensures { result.now ≡ slice_index_or (map (λ v. v.items) groupings.now) number [] }
-{
-    match groupings.get(number) {
-        None => &[],
-        Some(set) => set,
     }
 }

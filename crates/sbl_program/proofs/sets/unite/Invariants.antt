@@ -3,4 +3,4 @@ use Rattle.sbl_program.specs.NumberedSets.{united}
 use Rattle.sbl_program.proofs.sets.unite.Given as goal
 
 abbrev pub invariant-loop-c : goal.invariant-loop-c
-invariant-loop-c l = united l.set.items (drop l.c-index l.more) ≡ united l.initial.set.items l.more
+invariant-loop-c l = united l.set (drop l.c-index l.more) ≡ united l.initial.set l.more

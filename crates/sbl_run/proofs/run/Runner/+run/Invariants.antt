@@ -7,7 +7,7 @@ use Rattle.sbl_run.specs.Run.{runs, all_run, calls, turns, times, seeks}
 use Rattle.sbl_run.specs.Rows.{others_run, row_runs}
 use Rattle.sbl_run.specs.State.{Signals}
 use Rattle.sbl_run.specs.Search.{tries, searched, bound_in}
-use Rattle.sbl_run.proofs.run.+run.Given as goal
+use Rattle.sbl_run.proofs.run.Runner.+run.Given as goal
 
 abbrev pub decreases-run_command : goal.decreases-run_command
 decreases-run_command g l = 4 * l.state.now.steps
@@ -45,23 +45,23 @@ decreases-run_try g l = 4 * l.state.now.steps + 2
 -- the commands that are left do from here what all of them do from the start
 abbrev pub invariant-run_in_turn-loop-one : goal.invariant-run_in_turn-loop-one
 invariant-run_in_turn-loop-one g l =
-    let T = g.T.Tables.listed l.tables in
-    let p = program_of T l.program in
-    (all_run p l.levels (view_nodes T (drop l.one-index l.commands)) l.mode l.state ≡ all_run p l.levels (view_nodes T l.commands) l.mode l.initial.state) × (l.state.steps ≤ l.initial.state.steps)
+    let T = g.T.Tables.listed l.self.tables.now in
+    let p = program_of T l.self.program.now in
+    (all_run p l.self.levels (view_nodes T (drop l.one-index l.commands)) l.self.mode l.state ≡ all_run p l.self.levels (view_nodes T l.commands) l.self.mode l.initial.state) × (l.state.steps ≤ l.initial.state.steps)
 
 -- the others that are left do from here what the row does from the start
 abbrev pub invariant-run_row-loop-joined : goal.invariant-run_row-loop-joined
 invariant-run_row-loop-joined g l =
-    let T = g.T.Tables.listed l.tables in
-    let p = program_of T l.program in
-    (others_run p l.levels l.mode l.from (map (view_joined T) (drop l.joined-index l.others)) (Signals l.signal l.state) ≡ row_runs p l.levels (view_node T l.first) (map (view_joined T) l.others) l.mode l.fn.state) × (l.state.steps ≤ l.fn.state.steps)
+    let T = g.T.Tables.listed l.self.tables.now in
+    let p = program_of T l.self.program.now in
+    (others_run p l.self.levels l.self.mode l.from (map (view_joined T) (drop l.joined-index l.others)) (Signals l.signal l.state) ≡ row_runs p l.self.levels (view_node T l.first) (map (view_joined T) l.others) l.self.mode l.fn.state) × (l.state.steps ≤ l.fn.state.steps)
 
 -- turns enough for the steps that are left do from here what all of them do from the start
 abbrev pub invariant-run_turns-loop-state : goal.invariant-run_turns-loop-state
 invariant-run_turns-loop-state g l =
-    let T = g.T.Tables.listed l.tables in
-    let c = runs (program_of T l.program) l.levels (view_node T l.inner) in
-    (n : ℕ) × (l.state.steps ≤ n) × (turns (suc n) c l.mode l.state ≡ turns (suc l.initial.state.steps) c l.mode l.initial.state) × (l.state.steps ≤ l.initial.state.steps)
+    let T = g.T.Tables.listed l.self.tables.now in
+    let c = runs (program_of T l.self.program.now) l.self.levels (view_node T l.inner) in
+    (n : ℕ) × (l.state.steps ≤ n) × (turns (suc n) c l.self.mode l.state ≡ turns (suc l.initial.state.steps) c l.self.mode l.initial.state) × (l.state.steps ≤ l.initial.state.steps)
 
 abbrev pub decreases-run_turns-loop-state : goal.decreases-run_turns-loop-state
 decreases-run_turns-loop-state g l = l.state.steps
@@ -69,9 +69,9 @@ decreases-run_turns-loop-state g l = l.state.steps
 -- the turns that are left do from here what all of them do from the start
 abbrev pub invariant-run_times-loop-left : goal.invariant-run_times-loop-left
 invariant-run_times-loop-left g l =
-    let T = g.T.Tables.listed l.tables in
-    let c = runs (program_of T l.program) l.levels (view_node T l.inner) in
-    (times l.left c l.mode l.state ≡ times l.initial.left c l.mode l.initial.state) × (l.state.steps ≤ l.initial.state.steps)
+    let T = g.T.Tables.listed l.self.tables.now in
+    let c = runs (program_of T l.self.program.now) l.self.levels (view_node T l.inner) in
+    (times l.left c l.self.mode l.state ≡ times l.initial.left c l.self.mode l.initial.state) × (l.state.steps ≤ l.initial.state.steps)
 
 abbrev pub decreases-run_times-loop-left : goal.decreases-run_times-loop-left
 decreases-run_times-loop-left g l = l.left
@@ -79,9 +79,9 @@ decreases-run_times-loop-left g l = l.left
 -- the same of the tries of `goto` and `gopast`
 abbrev pub invariant-run_seek-loop-state : goal.invariant-run_seek-loop-state
 invariant-run_seek-loop-state g l =
-    let T = g.T.Tables.listed l.tables in
-    let c = runs (program_of T l.program) l.levels (view_node T l.inner) in
-    (n : ℕ) × (l.state.steps ≤ n) × (seeks (suc n) l.past c l.mode l.state ≡ seeks (suc l.initial.state.steps) l.past c l.mode l.initial.state) × (l.state.steps ≤ l.initial.state.steps)
+    let T = g.T.Tables.listed l.self.tables.now in
+    let c = runs (program_of T l.self.program.now) l.self.levels (view_node T l.inner) in
+    (n : ℕ) × (l.state.steps ≤ n) × (seeks (suc n) l.past c l.self.mode l.state ≡ seeks (suc l.initial.state.steps) l.past c l.self.mode l.initial.state) × (l.state.steps ≤ l.initial.state.steps)
 
 abbrev pub decreases-run_seek-loop-state : goal.decreases-run_seek-loop-state
 decreases-run_seek-loop-state g l = l.state.steps
@@ -89,10 +89,10 @@ decreases-run_seek-loop-state g l = l.state.steps
 -- the strings that are left do from here what all of them do from the start
 abbrev pub invariant-run_search-loop-place : goal.invariant-run_search-loop-place
 invariant-run_search-loop-place g l =
-    let T = g.T.Tables.listed l.tables in
-    let call = calls (program_of T l.program) l.levels in
-    (before : List ℕ) × (rest : List ℕ) × (fits_at (T l.table) l.initial.state.text l.initial.state.cursor (bound_in l.mode l.initial.state) ≡ before ++ rest) × (l.place ≡ first rest) ×
-    (tries call l.among l.entries l.mode l.initial.state rest l.state ≡ searched call l.among l.entries (T l.table) l.mode l.initial.state) ×
+    let T = g.T.Tables.listed l.self.tables.now in
+    let call = calls (program_of T l.self.program.now) l.self.levels in
+    (before : List ℕ) × (rest : List ℕ) × (fits_at (T l.table) l.initial.state.text l.initial.state.cursor (bound_in l.self.mode l.initial.state) ≡ before ++ rest) × (l.place ≡ first rest) ×
+    (tries call l.among l.entries l.self.mode l.initial.state rest l.state ≡ searched call l.among l.entries (T l.table) l.self.mode l.initial.state) ×
     (l.state.steps ≤ l.initial.state.steps)
 
 abbrev pub decreases-run_search-loop-place : goal.decreases-run_search-loop-place

@@ -16,16 +16,16 @@ use Rattle.sbl_run.specs.Search.{tries, try_one, searched, search_all, touch_amo
 use Rattle.sbl_run.specs.Listing.{fits_at}
 use Rattle.sbl_tables.specs.Fitting.{first}
 use Rattle.sbl_tree.specs.declared.mode.Mode.TheVariants.{Backward}
-use Rattle.sbl_run.proofs.run.+run.Goals as goal
+use Rattle.sbl_run.proofs.run.Runner.+run.Goals as goal
 
 pub run_command-returns-in-Repeat-clause-follows : goal.run_command-returns-in-Repeat-clause-follows
 run_command-returns-in-Repeat-clause-follows g t c =
-    let T = g.T.Tables.listed c.args.tables.now in
-    let P = program_of T c.args.program.now in
-    let levels = c.args.levels in
+    let T = g.T.Tables.listed c.args.self.now.tables.now in
+    let P = program_of T c.args.self.now.program.now in
+    let levels = c.args.self.now.levels in
     let D = λ (n : Node). runs P levels (view_node T n) in
     let a = c.in-Repeat in
-    let m = c.args.mode in
+    let m = c.args.self.now.mode in
     let s = c.args.state.now in
     let q = c.pay.new.self in
     let p = ap (λ n. D n m s) a.is ∙ repeat_does T P levels a.inner m s ∙ ap (λ r. then_on r (λ q. turns (suc q.steps) (D a.inner.value) m q)) c.in_ok-pay.ensures in
@@ -33,12 +33,12 @@ run_command-returns-in-Repeat-clause-follows g t c =
 
 pub run_command-returns-in-Loop-clause-follows : goal.run_command-returns-in-Loop-clause-follows
 run_command-returns-in-Loop-clause-follows g t c =
-    let T = g.T.Tables.listed c.args.tables.now in
-    let P = program_of T c.args.program.now in
-    let levels = c.args.levels in
+    let T = g.T.Tables.listed c.args.self.now.tables.now in
+    let P = program_of T c.args.self.now.program.now in
+    let levels = c.args.self.now.levels in
     let D = λ (n : Node). runs P levels (view_node T n) in
     let a = c.in-Loop in
-    let m = c.args.mode in
+    let m = c.args.self.now.mode in
     let s = c.args.state.now in
     let q = c.pay.new.self in
     let p = ap (λ n. D n m s) a.is ∙ loop_does T P levels a.count a.inner m s ∙ ap (λ r. then_on r (λ q. given (value (view_number a.count) m q) q (λ z. times (count_of z) (D a.inner.value) m q))) c.in_ok-pay.ensures in
@@ -46,12 +46,12 @@ run_command-returns-in-Loop-clause-follows g t c =
 
 pub run_command-returns-in_ok-touch_among-in-Search-clause-follows : goal.run_command-returns-in_ok-touch_among-in-Search-clause-follows
 run_command-returns-in_ok-touch_among-in-Search-clause-follows g t c =
-    let T = g.T.Tables.listed c.args.tables.now in
-    let P = program_of T c.args.program.now in
-    let levels = c.args.levels in
+    let T = g.T.Tables.listed c.args.self.now.tables.now in
+    let P = program_of T c.args.self.now.program.now in
+    let levels = c.args.self.now.levels in
     let D = λ (n : Node). runs P levels (view_node T n) in
     let a = c.in-Search in
-    let m = c.args.mode in
+    let m = c.args.self.now.mode in
     let s = c.args.state.now in
     let q = c.pay.new.self in
     let p = ap (λ n. D n m s) a.is ∙ search_does T P levels a.among a.table a.entries m s ∙ ap (λ r. then_on r (search_all (calls P levels) a.among a.entries.items (T a.table) m)) c.in_ok-pay.ensures in
@@ -61,11 +61,11 @@ run_command-returns-in_ok-touch_among-in-Search-clause-follows g t c =
 
 pub run_command-returns-in_err-run_times-in-AtLeast-clause-follows : goal.run_command-returns-in_err-run_times-in-AtLeast-clause-follows
 run_command-returns-in_err-run_times-in-AtLeast-clause-follows g t c =
-    let T = g.T.Tables.listed c.args.tables.now in
-    let P = program_of T c.args.program.now in
-    let levels = c.args.levels in
+    let T = g.T.Tables.listed c.args.self.now.tables.now in
+    let P = program_of T c.args.self.now.program.now in
+    let levels = c.args.self.now.levels in
     let D = λ (n : Node). runs P levels (view_node T n) in
-    let m = c.args.mode in
+    let m = c.args.self.now.mode in
     let s = c.args.state.now in
     let a = c.in-AtLeast in
     let q = c.pay.new.self in
@@ -81,12 +81,12 @@ run_command-returns-in_err-run_times-in-AtLeast-clause-follows g t c =
 
 pub run_command-returns-then-not-branch-3-clause-follows : goal.run_command-returns-then-not-branch-3-clause-follows
 run_command-returns-then-not-branch-3-clause-follows g t c =
-    let T = g.T.Tables.listed c.args.tables.now in
-    let P = program_of T c.args.program.now in
-    let levels = c.args.levels in
+    let T = g.T.Tables.listed c.args.self.now.tables.now in
+    let P = program_of T c.args.self.now.program.now in
+    let levels = c.args.self.now.levels in
     let D = λ (n : Node). runs P levels (view_node T n) in
     let a = c.in-AtLeast in
-    let m = c.args.mode in
+    let m = c.args.self.now.mode in
     let s = c.args.state.now in
     let q = c.pay.new.self in
     let rest = λ (e : Ending). after e (λ t. turns (suc t.steps) (D a.inner.value) m t) (Signals false) in
@@ -97,12 +97,12 @@ run_command-returns-then-not-branch-3-clause-follows g t c =
 
 pub run_command-returns-else-not-branch-3-clause-follows : goal.run_command-returns-else-not-branch-3-clause-follows
 run_command-returns-else-not-branch-3-clause-follows g t c =
-    let T = g.T.Tables.listed c.args.tables.now in
-    let P = program_of T c.args.program.now in
-    let levels = c.args.levels in
+    let T = g.T.Tables.listed c.args.self.now.tables.now in
+    let P = program_of T c.args.self.now.program.now in
+    let levels = c.args.self.now.levels in
     let D = λ (n : Node). runs P levels (view_node T n) in
     let a = c.in-AtLeast in
-    let m = c.args.mode in
+    let m = c.args.self.now.mode in
     let s = c.args.state.now in
     let q = c.pay.new.self in
     let u = c.run_times-in-AtLeast.new.state in
@@ -115,10 +115,10 @@ run_command-returns-else-not-branch-3-clause-follows g t c =
 
 pub run_among-returns-in-Some-get-clause-follows : goal.run_among-returns-in-Some-get-clause-follows
 run_among-returns-in-Some-get-clause-follows g t c =
-    let T = g.T.Tables.listed c.args.tables.now in
-    let P = program_of T c.args.program.now in
-    let levels = c.args.levels in
-    let m = c.args.mode in
+    let T = g.T.Tables.listed c.args.self.now.tables.now in
+    let P = program_of T c.args.self.now.program.now in
+    let levels = c.args.self.now.levels in
+    let m = c.args.self.now.mode in
     let u = c.run_in_turn.new.state in
     let bs = c.args.bodies.now.items in
     let ds = c.deref-2.result.now in
@@ -135,9 +135,9 @@ run_among-returns-in-Some-get-clause-follows g t c =
 
 pub run_search-loop-place-init : goal.run_search-loop-place-init
 run_search-loop-place-init g t c =
-    let T = g.T.Tables.listed c.args.tables.now c.args.table in
+    let T = g.T.Tables.listed c.args.self.now.tables.now c.args.table in
     let s = c.args.state.now in
-    let fits = fits_at T s.text s.cursor (bound_in c.args.mode s) in
+    let fits = fits_at T s.text s.cursor (bound_in c.args.self.now.mode s) in
     let e = ap (λ x. first (fits_at T x c.place.result c.bound.result)) c.text.ensures ∙ ap (λ x. first (fits_at T s.text x c.bound.result)) c.place.ensures.value ∙ ap (λ x. first (fits_at T s.text s.cursor x)) c.bound.ensures.value in
     ([], fits, refl, c.longest-place.ensures ∙ e, refl, omega arith)
 
@@ -146,42 +146,42 @@ run_search-loop-place-preserved g t c =
     let inv = c.loop-place.invariant in
     let s0 = c.args.state.now in
     let es = c.args.entries.now in
-    let call = calls (program_of (g.T.Tables.listed c.args.tables.now) c.args.program.now) c.args.levels in
-    let o = one_more call c.args.among es c.args.mode s0 inv.1 c.in-Some.i c.loop-place.state c.loop-place.place inv.3 c.in-Some.is in
-    let follow = tries call c.args.among es c.args.mode s0 o.0 in
+    let call = calls (program_of (g.T.Tables.listed c.args.self.now.tables.now) c.args.self.now.program.now) c.args.self.now.levels in
+    let o = one_more call c.args.among es c.args.self.now.mode s0 inv.1 c.in-Some.i c.loop-place.state c.loop-place.place inv.3 c.in-Some.is in
+    let follow = tries call c.args.among es c.args.self.now.mode s0 o.0 in
     let i = c.in-Some.i in
     let b : c.in-Ok-false.field-0 ≡ false = search rules in
     let cut = inv.2 ∙ ap (λ r. inv.0 ++ r) o.1 in
     let steps : c.run_try.new.state.steps ≤ s0.steps = omega (arith, c.in-Ok-false.ensures.no_more, inv.5) in
-    (inv.0 ++ (i ∷ []), o.0, cut ∙ sym (append_assoc inv.0 (i ∷ []) o.0), c.next_shorter-place.ensures s0.text s0.cursor (bound_in c.args.mode s0) inv.0 o.0 cut, sym (rw b at (c.in-Ok-false.ensures.tried s0 follow c.saved_cursor-from.ensures.value)) ∙ sym o.2 ∙ inv.4, steps)
+    (inv.0 ++ (i ∷ []), o.0, cut ∙ sym (append_assoc inv.0 (i ∷ []) o.0), c.next_shorter-place.ensures s0.text s0.cursor (bound_in c.args.self.now.mode s0) inv.0 o.0 cut, sym (rw b at (c.in-Ok-false.ensures.tried s0 follow c.saved_cursor-from.ensures.value)) ∙ sym o.2 ∙ inv.4, steps)
 
 pub run_search-returns-in-Err-clause-follows : goal.run_search-returns-in-Err-clause-follows
 run_search-returns-in-Err-clause-follows g t c =
     let inv = c.loop-place.invariant in
     let s0 = c.args.state.now in
     let es = c.args.entries.now in
-    let call = calls (program_of (g.T.Tables.listed c.args.tables.now) c.args.program.now) c.args.levels in
-    let o = one_more call c.args.among es c.args.mode s0 inv.1 c.in-Some.i c.loop-place.state c.loop-place.place inv.3 c.in-Some.is in
-    let follow = tries call c.args.among es c.args.mode s0 o.0 in
-    halted c.in-Err.halt c.run_try.new.state (try_one call c.args.among (slice_get es c.in-Some.i) c.args.mode s0 c.loop-place.state follow) (follow c.run_try.new.state) _ (c.in-Err.ensures.tried s0 follow c.saved_cursor-from.ensures.value) (sym o.2 ∙ inv.4)
+    let call = calls (program_of (g.T.Tables.listed c.args.self.now.tables.now) c.args.self.now.program.now) c.args.self.now.levels in
+    let o = one_more call c.args.among es c.args.self.now.mode s0 inv.1 c.in-Some.i c.loop-place.state c.loop-place.place inv.3 c.in-Some.is in
+    let follow = tries call c.args.among es c.args.self.now.mode s0 o.0 in
+    halted c.in-Err.halt c.run_try.new.state (try_one call c.args.among (slice_get es c.in-Some.i) c.args.self.now.mode s0 c.loop-place.state follow) (follow c.run_try.new.state) _ (c.in-Err.ensures.tried s0 follow c.saved_cursor-from.ensures.value) (sym o.2 ∙ inv.4)
 
 pub run_search-returns-in-Ok-true-clause-follows : goal.run_search-returns-in-Ok-true-clause-follows
 run_search-returns-in-Ok-true-clause-follows g t c =
     let inv = c.loop-place.invariant in
     let s0 = c.args.state.now in
     let es = c.args.entries.now in
-    let call = calls (program_of (g.T.Tables.listed c.args.tables.now) c.args.program.now) c.args.levels in
-    let o = one_more call c.args.among es c.args.mode s0 inv.1 c.in-Some.i c.loop-place.state c.loop-place.place inv.3 c.in-Some.is in
-    let follow = tries call c.args.among es c.args.mode s0 o.0 in
+    let call = calls (program_of (g.T.Tables.listed c.args.self.now.tables.now) c.args.self.now.program.now) c.args.self.now.levels in
+    let o = one_more call c.args.among es c.args.self.now.mode s0 inv.1 c.in-Some.i c.loop-place.state c.loop-place.place inv.3 c.in-Some.is in
+    let follow = tries call c.args.among es c.args.self.now.mode s0 o.0 in
     let b : c.in-Ok-true.field-0 ≡ true = search rules in
     sym (sym o.2 ∙ inv.4) ∙ (rw b at (c.in-Ok-true.ensures.tried s0 follow c.saved_cursor-from.ensures.value))
 
 pub run_seek-loop-state-preserved : goal.run_seek-loop-state-preserved
 run_seek-loop-state-preserved g t c =
     let inv = c.loop-state.invariant in
-    let T = g.T.Tables.listed c.args.tables.now in
-    let D = runs (program_of T c.args.program.now) c.args.levels (view_node T c.args.inner.now) in
-    let m = c.args.mode in
+    let T = g.T.Tables.listed c.args.self.now.tables.now in
+    let D = runs (program_of T c.args.self.now.program.now) c.args.self.now.levels (view_node T c.args.inner.now) in
+    let m = c.args.self.now.mode in
     let s = c.loop-state.state in
     let f = c.run_command.new.state in
     let b = c.put_back-in-loop-state.new.self in
@@ -203,28 +203,28 @@ run_seek-loop-state-preserved g t c =
 pub run_turns-loop-state-preserved : goal.run_turns-loop-state-preserved
 run_turns-loop-state-preserved g t c =
     let inv = c.loop-state.invariant in
-    let T = g.T.Tables.listed c.args.tables.now in
-    let D = runs (program_of T c.args.program.now) c.args.levels (view_node T c.args.inner.now) in
+    let T = g.T.Tables.listed c.args.self.now.tables.now in
+    let D = runs (program_of T c.args.self.now.program.now) c.args.self.now.levels (view_node T c.args.inner.now) in
     let b : c.in_ok-run_command.field-0 ≡ true = search rules in
     let e = c.in_ok-run_command.ensures.follows ∙ ap (λ v. Signals v c.run_command.new.state) b in
-    let w = turns (suc c.args.state.now.steps) D c.args.mode c.args.state.now in
-    let o = one_turn inv.0 D c.args.mode c.loop-state.state c.run_command.new.state w c.in_ok-run_command.ensures.fewer inv.1 e inv.2 in
+    let w = turns (suc c.args.state.now.steps) D c.args.self.now.mode c.args.state.now in
+    let o = one_turn inv.0 D c.args.self.now.mode c.loop-state.state c.run_command.new.state w c.in_ok-run_command.ensures.fewer inv.1 e inv.2 in
     let less : c.run_command.new.state.steps < c.loop-state.state.steps = c.in_ok-run_command.ensures.fewer in
     let steps : c.run_command.new.state.steps ≤ c.args.state.now.steps = omega (arith, less, inv.3) in
     (o.0, o.1, o.2, steps)
 
 pub run_call-returns-in_err-signal-in-Some-clause-follows : goal.run_call-returns-in_err-signal-in-Some-clause-follows
 run_call-returns-in_err-signal-in-Some-clause-follows g t c =
-    let T = g.T.Tables.listed c.args.tables.now in
-    let p = program_of T c.args.program.now in
-    let m = c.args.mode in
+    let T = g.T.Tables.listed c.args.self.now.tables.now in
+    let p = program_of T c.args.self.now.program.now in
+    let m = c.args.self.now.mode in
     let s = c.args.state.now in
     let routine = c.in-Some.routine.now in
     let new = c.run_command.new.state in
-    let some : 0 < c.args.levels = omega (arith, c.if-levels-eq0.false) in
+    let some : 0 < c.args.self.now.levels = omega (arith, c.if-self-eq0.false) in
     let is : slice_get p.routines c.args.number ≡ Some (view_routine T routine) = c.routine.ensures T ∙ ap (option_map (λ (r : Bor Routine). view_routine T r.now)) c.in-Some.is in
-    let q = called p c.args.levels c.args.number m s (view_routine T routine) some is in
-    let body = runs p (c.args.levels - 1) (view_node T routine.body) m (enter c.args.number routine.amongs s) in
+    let q = called p c.args.self.now.levels c.args.number m s (view_routine T routine) some is in
+    let body = runs p (c.args.self.now.levels - 1) (view_node T routine.body) m (enter c.args.number routine.amongs s) in
     let halt = c.in_err-signal-in-Some.field-0.0 in
     let r : c.from_residual-in_err-signal-in-Some.result ≡ Err halt = search rules in
     let h : Follows (Err halt) new body = search rules in
@@ -232,16 +232,16 @@ run_call-returns-in_err-signal-in-Some-clause-follows g t c =
 
 pub run_call-returns-in_ok-signal-in-Some-clause-follows : goal.run_call-returns-in_ok-signal-in-Some-clause-follows
 run_call-returns-in_ok-signal-in-Some-clause-follows g t c =
-    let T = g.T.Tables.listed c.args.tables.now in
-    let p = program_of T c.args.program.now in
-    let m = c.args.mode in
+    let T = g.T.Tables.listed c.args.self.now.tables.now in
+    let p = program_of T c.args.self.now.program.now in
+    let m = c.args.self.now.mode in
     let s = c.args.state.now in
     let routine = c.in-Some.routine.now in
     let new = c.run_command.new.state in
-    let some : 0 < c.args.levels = omega (arith, c.if-levels-eq0.false) in
+    let some : 0 < c.args.self.now.levels = omega (arith, c.if-self-eq0.false) in
     let is : slice_get p.routines c.args.number ≡ Some (view_routine T routine) = c.routine.ensures T ∙ ap (option_map (λ (r : Bor Routine). view_routine T r.now)) c.in-Some.is in
-    let q = called p c.args.levels c.args.number m s (view_routine T routine) some is in
-    let body = runs p (c.args.levels - 1) (view_node T routine.body) m (enter c.args.number routine.amongs s) in
+    let q = called p c.args.self.now.levels c.args.number m s (view_routine T routine) some is in
+    let body = runs p (c.args.self.now.levels - 1) (view_node T routine.body) m (enter c.args.number routine.amongs s) in
     let b = c.in_ok-signal-in-Some.signal in
     let h : body ≡ Signals b new = search rules in
     let kept : c.in_ok-kept-in-Some.kept.items ≡ s.choices = c.in_ok-kept-in-Some.ensures.kept in
@@ -249,11 +249,11 @@ run_call-returns-in_ok-signal-in-Some-clause-follows g t c =
 
 pub run_command-returns-in-Goto-clause-follows : goal.run_command-returns-in-Goto-clause-follows
 run_command-returns-in-Goto-clause-follows g t c =
-    let T = g.T.Tables.listed c.args.tables.now in
-    let P = program_of T c.args.program.now in
-    let levels = c.args.levels in
+    let T = g.T.Tables.listed c.args.self.now.tables.now in
+    let P = program_of T c.args.self.now.program.now in
+    let levels = c.args.self.now.levels in
     let D = λ (n : Node). runs P levels (view_node T n) in
-    let m = c.args.mode in
+    let m = c.args.self.now.mode in
     let s = c.args.state.now in
     let q = c.pay.new.self in
     let a = c.in-Goto in
@@ -262,11 +262,11 @@ run_command-returns-in-Goto-clause-follows g t c =
 
 pub run_command-returns-in-GoPast-clause-follows : goal.run_command-returns-in-GoPast-clause-follows
 run_command-returns-in-GoPast-clause-follows g t c =
-    let T = g.T.Tables.listed c.args.tables.now in
-    let P = program_of T c.args.program.now in
-    let levels = c.args.levels in
+    let T = g.T.Tables.listed c.args.self.now.tables.now in
+    let P = program_of T c.args.self.now.program.now in
+    let levels = c.args.self.now.levels in
     let D = λ (n : Node). runs P levels (view_node T n) in
-    let m = c.args.mode in
+    let m = c.args.self.now.mode in
     let s = c.args.state.now in
     let q = c.pay.new.self in
     let a = c.in-GoPast in
@@ -275,11 +275,11 @@ run_command-returns-in-GoPast-clause-follows g t c =
 
 pub run_command-returns-in_ok-signal-in-SetLimit-clause-follows : goal.run_command-returns-in_ok-signal-in-SetLimit-clause-follows
 run_command-returns-in_ok-signal-in-SetLimit-clause-follows g t c =
-    let T = g.T.Tables.listed c.args.tables.now in
-    let P = program_of T c.args.program.now in
-    let levels = c.args.levels in
+    let T = g.T.Tables.listed c.args.self.now.tables.now in
+    let P = program_of T c.args.self.now.program.now in
+    let levels = c.args.self.now.levels in
     let D = λ (n : Node). runs P levels (view_node T n) in
-    let m = c.args.mode in
+    let m = c.args.self.now.mode in
     let s = c.args.state.now in
     let q = c.pay.new.self in
     let a = c.in-SetLimit in
@@ -299,11 +299,11 @@ run_command-returns-in_ok-signal-in-SetLimit-clause-follows g t c =
 
 pub run_command-returns-in_err-signal-in-SetLimit-clause-follows : goal.run_command-returns-in_err-signal-in-SetLimit-clause-follows
 run_command-returns-in_err-signal-in-SetLimit-clause-follows g t c =
-    let T = g.T.Tables.listed c.args.tables.now in
-    let P = program_of T c.args.program.now in
-    let levels = c.args.levels in
+    let T = g.T.Tables.listed c.args.self.now.tables.now in
+    let P = program_of T c.args.self.now.program.now in
+    let levels = c.args.self.now.levels in
     let D = λ (n : Node). runs P levels (view_node T n) in
-    let m = c.args.mode in
+    let m = c.args.self.now.mode in
     let s = c.args.state.now in
     let q = c.pay.new.self in
     let a = c.in-SetLimit in
@@ -324,11 +324,11 @@ run_command-returns-in_err-signal-in-SetLimit-clause-follows g t c =
 
 pub run_command-returns-in-Among-clause-follows : goal.run_command-returns-in-Among-clause-follows
 run_command-returns-in-Among-clause-follows g t c =
-    let T = g.T.Tables.listed c.args.tables.now in
-    let P = program_of T c.args.program.now in
-    let levels = c.args.levels in
+    let T = g.T.Tables.listed c.args.self.now.tables.now in
+    let P = program_of T c.args.self.now.program.now in
+    let levels = c.args.self.now.levels in
     let D = λ (n : Node). runs P levels (view_node T n) in
-    let m = c.args.mode in
+    let m = c.args.self.now.mode in
     let s = c.args.state.now in
     let q = c.pay.new.self in
     let a = c.in-Among in
@@ -337,10 +337,10 @@ run_command-returns-in-Among-clause-follows g t c =
 
 pub run_among-returns-in-None-clause-follows : goal.run_among-returns-in-None-clause-follows
 run_among-returns-in-None-clause-follows g t c =
-    let T = g.T.Tables.listed c.args.tables.now in
-    let P = program_of T c.args.program.now in
-    let levels = c.args.levels in
-    let m = c.args.mode in
+    let T = g.T.Tables.listed c.args.self.now.tables.now in
+    let P = program_of T c.args.self.now.program.now in
+    let levels = c.args.self.now.levels in
+    let m = c.args.self.now.mode in
     let u = c.run_in_turn.new.state in
     let bs = c.args.bodies.now.items in
     let ds = c.deref-2.result.now in
@@ -354,9 +354,9 @@ run_among-returns-in-None-clause-follows g t c =
 pub run_times-loop-left-preserved : goal.run_times-loop-left-preserved
 run_times-loop-left-preserved g t c =
     let inv = c.loop-left.invariant in
-    let T = g.T.Tables.listed c.args.tables.now in
-    let D = runs (program_of T c.args.program.now) c.args.levels (view_node T c.args.inner.now) in
-    let m = c.args.mode in
+    let T = g.T.Tables.listed c.args.self.now.tables.now in
+    let D = runs (program_of T c.args.self.now.program.now) c.args.self.now.levels (view_node T c.args.inner.now) in
+    let m = c.args.self.now.mode in
     let s = c.loop-left.state in
     let new = c.run_command.new.state in
     let b : c.in_ok-run_command.field-0 ≡ true = search rules in
@@ -368,11 +368,11 @@ run_times-loop-left-preserved g t c =
 
 pub run_command-returns-in_err-run_command-in-Not-clause-follows : goal.run_command-returns-in_err-run_command-in-Not-clause-follows
 run_command-returns-in_err-run_command-in-Not-clause-follows g t c =
-    let T = g.T.Tables.listed c.args.tables.now in
-    let P = program_of T c.args.program.now in
-    let levels = c.args.levels in
+    let T = g.T.Tables.listed c.args.self.now.tables.now in
+    let P = program_of T c.args.self.now.program.now in
+    let levels = c.args.self.now.levels in
     let D = λ (n : Node). runs P levels (view_node T n) in
-    let m = c.args.mode in
+    let m = c.args.self.now.mode in
     let s = c.args.state.now in
     let q = c.pay.new.self in
     let a = c.in-Not in
@@ -386,11 +386,11 @@ run_command-returns-in_err-run_command-in-Not-clause-follows g t c =
 
 pub run_command-returns-in_err-put_back-in-Not-clause-follows : goal.run_command-returns-in_err-put_back-in-Not-clause-follows
 run_command-returns-in_err-put_back-in-Not-clause-follows g t c =
-    let T = g.T.Tables.listed c.args.tables.now in
-    let P = program_of T c.args.program.now in
-    let levels = c.args.levels in
+    let T = g.T.Tables.listed c.args.self.now.tables.now in
+    let P = program_of T c.args.self.now.program.now in
+    let levels = c.args.self.now.levels in
     let D = λ (n : Node). runs P levels (view_node T n) in
-    let m = c.args.mode in
+    let m = c.args.self.now.mode in
     let s = c.args.state.now in
     let q = c.pay.new.self in
     let a = c.in-Not in
@@ -407,11 +407,11 @@ run_command-returns-in_err-put_back-in-Not-clause-follows g t c =
 
 pub run_command-returns-in_err-run_command-in-Test-clause-follows : goal.run_command-returns-in_err-run_command-in-Test-clause-follows
 run_command-returns-in_err-run_command-in-Test-clause-follows g t c =
-    let T = g.T.Tables.listed c.args.tables.now in
-    let P = program_of T c.args.program.now in
-    let levels = c.args.levels in
+    let T = g.T.Tables.listed c.args.self.now.tables.now in
+    let P = program_of T c.args.self.now.program.now in
+    let levels = c.args.self.now.levels in
     let D = λ (n : Node). runs P levels (view_node T n) in
-    let m = c.args.mode in
+    let m = c.args.self.now.mode in
     let s = c.args.state.now in
     let q = c.pay.new.self in
     let a = c.in-Test in
@@ -425,11 +425,11 @@ run_command-returns-in_err-run_command-in-Test-clause-follows g t c =
 
 pub run_command-returns-in_err-put_back-in-Test-clause-follows : goal.run_command-returns-in_err-put_back-in-Test-clause-follows
 run_command-returns-in_err-put_back-in-Test-clause-follows g t c =
-    let T = g.T.Tables.listed c.args.tables.now in
-    let P = program_of T c.args.program.now in
-    let levels = c.args.levels in
+    let T = g.T.Tables.listed c.args.self.now.tables.now in
+    let P = program_of T c.args.self.now.program.now in
+    let levels = c.args.self.now.levels in
     let D = λ (n : Node). runs P levels (view_node T n) in
-    let m = c.args.mode in
+    let m = c.args.self.now.mode in
     let s = c.args.state.now in
     let q = c.pay.new.self in
     let a = c.in-Test in
@@ -446,11 +446,11 @@ run_command-returns-in_err-put_back-in-Test-clause-follows g t c =
 
 pub run_command-returns-in_err-run_command-in-Try-clause-follows : goal.run_command-returns-in_err-run_command-in-Try-clause-follows
 run_command-returns-in_err-run_command-in-Try-clause-follows g t c =
-    let T = g.T.Tables.listed c.args.tables.now in
-    let P = program_of T c.args.program.now in
-    let levels = c.args.levels in
+    let T = g.T.Tables.listed c.args.self.now.tables.now in
+    let P = program_of T c.args.self.now.program.now in
+    let levels = c.args.self.now.levels in
     let D = λ (n : Node). runs P levels (view_node T n) in
-    let m = c.args.mode in
+    let m = c.args.self.now.mode in
     let s = c.args.state.now in
     let q = c.pay.new.self in
     let a = c.in-Try in
@@ -464,11 +464,11 @@ run_command-returns-in_err-run_command-in-Try-clause-follows g t c =
 
 pub run_command-returns-in_err-put_back-in-Try-clause-follows : goal.run_command-returns-in_err-put_back-in-Try-clause-follows
 run_command-returns-in_err-put_back-in-Try-clause-follows g t c =
-    let T = g.T.Tables.listed c.args.tables.now in
-    let P = program_of T c.args.program.now in
-    let levels = c.args.levels in
+    let T = g.T.Tables.listed c.args.self.now.tables.now in
+    let P = program_of T c.args.self.now.program.now in
+    let levels = c.args.self.now.levels in
     let D = λ (n : Node). runs P levels (view_node T n) in
-    let m = c.args.mode in
+    let m = c.args.self.now.mode in
     let s = c.args.state.now in
     let q = c.pay.new.self in
     let a = c.in-Try in
@@ -485,11 +485,11 @@ run_command-returns-in_err-put_back-in-Try-clause-follows g t c =
 
 pub run_command-returns-in_err-run_command-in-Do-clause-follows : goal.run_command-returns-in_err-run_command-in-Do-clause-follows
 run_command-returns-in_err-run_command-in-Do-clause-follows g t c =
-    let T = g.T.Tables.listed c.args.tables.now in
-    let P = program_of T c.args.program.now in
-    let levels = c.args.levels in
+    let T = g.T.Tables.listed c.args.self.now.tables.now in
+    let P = program_of T c.args.self.now.program.now in
+    let levels = c.args.self.now.levels in
     let D = λ (n : Node). runs P levels (view_node T n) in
-    let m = c.args.mode in
+    let m = c.args.self.now.mode in
     let s = c.args.state.now in
     let q = c.pay.new.self in
     let a = c.in-Do in
@@ -503,11 +503,11 @@ run_command-returns-in_err-run_command-in-Do-clause-follows g t c =
 
 pub run_command-returns-in_err-put_back-in-Do-clause-follows : goal.run_command-returns-in_err-put_back-in-Do-clause-follows
 run_command-returns-in_err-put_back-in-Do-clause-follows g t c =
-    let T = g.T.Tables.listed c.args.tables.now in
-    let P = program_of T c.args.program.now in
-    let levels = c.args.levels in
+    let T = g.T.Tables.listed c.args.self.now.tables.now in
+    let P = program_of T c.args.self.now.program.now in
+    let levels = c.args.self.now.levels in
     let D = λ (n : Node). runs P levels (view_node T n) in
-    let m = c.args.mode in
+    let m = c.args.self.now.mode in
     let s = c.args.state.now in
     let q = c.pay.new.self in
     let a = c.in-Do in
@@ -524,11 +524,11 @@ run_command-returns-in_err-put_back-in-Do-clause-follows g t c =
 
 pub run_command-returns-in_err-run_command-in-Fail-clause-follows : goal.run_command-returns-in_err-run_command-in-Fail-clause-follows
 run_command-returns-in_err-run_command-in-Fail-clause-follows g t c =
-    let T = g.T.Tables.listed c.args.tables.now in
-    let P = program_of T c.args.program.now in
-    let levels = c.args.levels in
+    let T = g.T.Tables.listed c.args.self.now.tables.now in
+    let P = program_of T c.args.self.now.program.now in
+    let levels = c.args.self.now.levels in
     let D = λ (n : Node). runs P levels (view_node T n) in
-    let m = c.args.mode in
+    let m = c.args.self.now.mode in
     let s = c.args.state.now in
     let q = c.pay.new.self in
     let a = c.in-Fail in
@@ -542,11 +542,11 @@ run_command-returns-in_err-run_command-in-Fail-clause-follows g t c =
 
 pub run_command-returns-in_err-run_command-in-SetLimit-clause-follows : goal.run_command-returns-in_err-run_command-in-SetLimit-clause-follows
 run_command-returns-in_err-run_command-in-SetLimit-clause-follows g t c =
-    let T = g.T.Tables.listed c.args.tables.now in
-    let P = program_of T c.args.program.now in
-    let levels = c.args.levels in
+    let T = g.T.Tables.listed c.args.self.now.tables.now in
+    let P = program_of T c.args.self.now.program.now in
+    let levels = c.args.self.now.levels in
     let D = λ (n : Node). runs P levels (view_node T n) in
-    let m = c.args.mode in
+    let m = c.args.self.now.mode in
     let s = c.args.state.now in
     let q = c.pay.new.self in
     let a = c.in-SetLimit in
@@ -560,11 +560,11 @@ run_command-returns-in_err-run_command-in-SetLimit-clause-follows g t c =
 
 pub run_command-returns-in_err-put_back-in-SetLimit-clause-follows : goal.run_command-returns-in_err-put_back-in-SetLimit-clause-follows
 run_command-returns-in_err-put_back-in-SetLimit-clause-follows g t c =
-    let T = g.T.Tables.listed c.args.tables.now in
-    let P = program_of T c.args.program.now in
-    let levels = c.args.levels in
+    let T = g.T.Tables.listed c.args.self.now.tables.now in
+    let P = program_of T c.args.self.now.program.now in
+    let levels = c.args.self.now.levels in
     let D = λ (n : Node). runs P levels (view_node T n) in
-    let m = c.args.mode in
+    let m = c.args.self.now.mode in
     let s = c.args.state.now in
     let q = c.pay.new.self in
     let a = c.in-SetLimit in
@@ -581,11 +581,11 @@ run_command-returns-in_err-put_back-in-SetLimit-clause-follows g t c =
 
 pub run_command-returns-in_err-run_command-in-Backwards-clause-follows : goal.run_command-returns-in_err-run_command-in-Backwards-clause-follows
 run_command-returns-in_err-run_command-in-Backwards-clause-follows g t c =
-    let T = g.T.Tables.listed c.args.tables.now in
-    let P = program_of T c.args.program.now in
-    let levels = c.args.levels in
+    let T = g.T.Tables.listed c.args.self.now.tables.now in
+    let P = program_of T c.args.self.now.program.now in
+    let levels = c.args.self.now.levels in
     let D = λ (n : Node). runs P levels (view_node T n) in
-    let m = c.args.mode in
+    let m = c.args.self.now.mode in
     let s = c.args.state.now in
     let q = c.pay.new.self in
     let a = c.in-Backwards in
@@ -599,11 +599,11 @@ run_command-returns-in_err-run_command-in-Backwards-clause-follows g t c =
 
 pub run_command-returns-in-Sequence-clause-follows : goal.run_command-returns-in-Sequence-clause-follows
 run_command-returns-in-Sequence-clause-follows g t c =
-    let T = g.T.Tables.listed c.args.tables.now in
-    let P = program_of T c.args.program.now in
-    let levels = c.args.levels in
+    let T = g.T.Tables.listed c.args.self.now.tables.now in
+    let P = program_of T c.args.self.now.program.now in
+    let levels = c.args.self.now.levels in
     let D = λ (n : Node). runs P levels (view_node T n) in
-    let m = c.args.mode in
+    let m = c.args.self.now.mode in
     let s = c.args.state.now in
     let q = c.pay.new.self in
     let a = c.in-Sequence in
@@ -612,11 +612,11 @@ run_command-returns-in-Sequence-clause-follows g t c =
 
 pub run_in_turn-returns-in_err-run_command-clause-follows : goal.run_in_turn-returns-in_err-run_command-clause-follows
 run_in_turn-returns-in_err-run_command-clause-follows g t c =
-    let T = g.T.Tables.listed c.args.tables.now in
-    let P = program_of T c.args.program.now in
-    let levels = c.args.levels in
+    let T = g.T.Tables.listed c.args.self.now.tables.now in
+    let P = program_of T c.args.self.now.program.now in
+    let levels = c.args.self.now.levels in
     let D = λ (n : Node). runs P levels (view_node T n) in
-    let m = c.args.mode in
+    let m = c.args.self.now.mode in
     let cs = c.args.commands.now in
     let i = c.loop-one.one-index in
     let x = c.one-item.result in
@@ -631,11 +631,11 @@ run_in_turn-returns-in_err-run_command-clause-follows g t c =
 
 pub run_in_turn-loop-one-preserved : goal.run_in_turn-loop-one-preserved
 run_in_turn-loop-one-preserved g t c =
-    let T = g.T.Tables.listed c.args.tables.now in
-    let P = program_of T c.args.program.now in
-    let levels = c.args.levels in
+    let T = g.T.Tables.listed c.args.self.now.tables.now in
+    let P = program_of T c.args.self.now.program.now in
+    let levels = c.args.self.now.levels in
     let D = λ (n : Node). runs P levels (view_node T n) in
-    let m = c.args.mode in
+    let m = c.args.self.now.mode in
     let cs = c.args.commands.now in
     let i = c.loop-one.one-index in
     let x = c.one-item.result in
@@ -652,9 +652,9 @@ run_in_turn-loop-one-preserved g t c =
 
 pub run_times-returns-in_err-run_command-clause-follows : goal.run_times-returns-in_err-run_command-clause-follows
 run_times-returns-in_err-run_command-clause-follows g t c =
-    let T = g.T.Tables.listed c.args.tables.now in
-    let D = runs (program_of T c.args.program.now) c.args.levels (view_node T c.args.inner.now) in
-    let m = c.args.mode in
+    let T = g.T.Tables.listed c.args.self.now.tables.now in
+    let D = runs (program_of T c.args.self.now.program.now) c.args.self.now.levels (view_node T c.args.inner.now) in
+    let m = c.args.self.now.mode in
     let s = c.loop-left.state in
     let u = c.run_command.new.state in
     let inv = c.loop-left.invariant in
@@ -668,11 +668,11 @@ run_times-returns-in_err-run_command-clause-follows g t c =
 
 pub run_command-returns-then-branch-clause-follows : goal.run_command-returns-then-branch-clause-follows
 run_command-returns-then-branch-clause-follows g t c =
-    let T = g.T.Tables.listed c.args.tables.now in
-    let P = program_of T c.args.program.now in
-    let levels = c.args.levels in
+    let T = g.T.Tables.listed c.args.self.now.tables.now in
+    let P = program_of T c.args.self.now.program.now in
+    let levels = c.args.self.now.levels in
     let D = λ (n : Node). runs P levels (view_node T n) in
-    let m = c.args.mode in
+    let m = c.args.self.now.mode in
     let s = c.args.state.now in
     let q = c.pay.new.self in
     let a = c.in-Not in
@@ -686,11 +686,11 @@ run_command-returns-then-branch-clause-follows g t c =
 
 pub run_command-returns-in_ok-put_back-in-Not-clause-follows : goal.run_command-returns-in_ok-put_back-in-Not-clause-follows
 run_command-returns-in_ok-put_back-in-Not-clause-follows g t c =
-    let T = g.T.Tables.listed c.args.tables.now in
-    let P = program_of T c.args.program.now in
-    let levels = c.args.levels in
+    let T = g.T.Tables.listed c.args.self.now.tables.now in
+    let P = program_of T c.args.self.now.program.now in
+    let levels = c.args.self.now.levels in
     let D = λ (n : Node). runs P levels (view_node T n) in
-    let m = c.args.mode in
+    let m = c.args.self.now.mode in
     let s = c.args.state.now in
     let q = c.pay.new.self in
     let a = c.in-Not in
@@ -704,11 +704,11 @@ run_command-returns-in_ok-put_back-in-Not-clause-follows g t c =
 
 pub run_command-returns-in_ok-put_back-in-Test-clause-follows : goal.run_command-returns-in_ok-put_back-in-Test-clause-follows
 run_command-returns-in_ok-put_back-in-Test-clause-follows g t c =
-    let T = g.T.Tables.listed c.args.tables.now in
-    let P = program_of T c.args.program.now in
-    let levels = c.args.levels in
+    let T = g.T.Tables.listed c.args.self.now.tables.now in
+    let P = program_of T c.args.self.now.program.now in
+    let levels = c.args.self.now.levels in
     let D = λ (n : Node). runs P levels (view_node T n) in
-    let m = c.args.mode in
+    let m = c.args.self.now.mode in
     let s = c.args.state.now in
     let q = c.pay.new.self in
     let a = c.in-Test in
@@ -722,11 +722,11 @@ run_command-returns-in_ok-put_back-in-Test-clause-follows g t c =
 
 pub run_command-returns-in_ok-put_back-in-Try-clause-follows : goal.run_command-returns-in_ok-put_back-in-Try-clause-follows
 run_command-returns-in_ok-put_back-in-Try-clause-follows g t c =
-    let T = g.T.Tables.listed c.args.tables.now in
-    let P = program_of T c.args.program.now in
-    let levels = c.args.levels in
+    let T = g.T.Tables.listed c.args.self.now.tables.now in
+    let P = program_of T c.args.self.now.program.now in
+    let levels = c.args.self.now.levels in
     let D = λ (n : Node). runs P levels (view_node T n) in
-    let m = c.args.mode in
+    let m = c.args.self.now.mode in
     let s = c.args.state.now in
     let q = c.pay.new.self in
     let a = c.in-Try in
@@ -740,11 +740,11 @@ run_command-returns-in_ok-put_back-in-Try-clause-follows g t c =
 
 pub run_command-returns-in_ok-put_back-in-Do-clause-follows : goal.run_command-returns-in_ok-put_back-in-Do-clause-follows
 run_command-returns-in_ok-put_back-in-Do-clause-follows g t c =
-    let T = g.T.Tables.listed c.args.tables.now in
-    let P = program_of T c.args.program.now in
-    let levels = c.args.levels in
+    let T = g.T.Tables.listed c.args.self.now.tables.now in
+    let P = program_of T c.args.self.now.program.now in
+    let levels = c.args.self.now.levels in
     let D = λ (n : Node). runs P levels (view_node T n) in
-    let m = c.args.mode in
+    let m = c.args.self.now.mode in
     let s = c.args.state.now in
     let q = c.pay.new.self in
     let a = c.in-Do in
@@ -758,11 +758,11 @@ run_command-returns-in_ok-put_back-in-Do-clause-follows g t c =
 
 pub run_command-returns-in_ok-run_command-in-Fail-clause-follows : goal.run_command-returns-in_ok-run_command-in-Fail-clause-follows
 run_command-returns-in_ok-run_command-in-Fail-clause-follows g t c =
-    let T = g.T.Tables.listed c.args.tables.now in
-    let P = program_of T c.args.program.now in
-    let levels = c.args.levels in
+    let T = g.T.Tables.listed c.args.self.now.tables.now in
+    let P = program_of T c.args.self.now.program.now in
+    let levels = c.args.self.now.levels in
     let D = λ (n : Node). runs P levels (view_node T n) in
-    let m = c.args.mode in
+    let m = c.args.self.now.mode in
     let s = c.args.state.now in
     let q = c.pay.new.self in
     let a = c.in-Fail in
@@ -776,11 +776,11 @@ run_command-returns-in_ok-run_command-in-Fail-clause-follows g t c =
 
 pub run_command-returns-in_ok-end_backwards-in-Backwards-clause-follows : goal.run_command-returns-in_ok-end_backwards-in-Backwards-clause-follows
 run_command-returns-in_ok-end_backwards-in-Backwards-clause-follows g t c =
-    let T = g.T.Tables.listed c.args.tables.now in
-    let P = program_of T c.args.program.now in
-    let levels = c.args.levels in
+    let T = g.T.Tables.listed c.args.self.now.tables.now in
+    let P = program_of T c.args.self.now.program.now in
+    let levels = c.args.self.now.levels in
     let D = λ (n : Node). runs P levels (view_node T n) in
-    let m = c.args.mode in
+    let m = c.args.self.now.mode in
     let s = c.args.state.now in
     let q = c.pay.new.self in
     let a = c.in-Backwards in
@@ -795,11 +795,11 @@ run_command-returns-in_ok-end_backwards-in-Backwards-clause-follows g t c =
 
 pub run_command-returns-in_err-end_backwards-in-Backwards-clause-follows : goal.run_command-returns-in_err-end_backwards-in-Backwards-clause-follows
 run_command-returns-in_err-end_backwards-in-Backwards-clause-follows g t c =
-    let T = g.T.Tables.listed c.args.tables.now in
-    let P = program_of T c.args.program.now in
-    let levels = c.args.levels in
+    let T = g.T.Tables.listed c.args.self.now.tables.now in
+    let P = program_of T c.args.self.now.program.now in
+    let levels = c.args.self.now.levels in
     let D = λ (n : Node). runs P levels (view_node T n) in
-    let m = c.args.mode in
+    let m = c.args.self.now.mode in
     let s = c.args.state.now in
     let q = c.pay.new.self in
     let a = c.in-Backwards in
@@ -817,11 +817,11 @@ run_command-returns-in_err-end_backwards-in-Backwards-clause-follows g t c =
 
 pub run_command-returns-in-Row-clause-follows : goal.run_command-returns-in-Row-clause-follows
 run_command-returns-in-Row-clause-follows g t c =
-    let T = g.T.Tables.listed c.args.tables.now in
-    let P = program_of T c.args.program.now in
-    let levels = c.args.levels in
+    let T = g.T.Tables.listed c.args.self.now.tables.now in
+    let P = program_of T c.args.self.now.program.now in
+    let levels = c.args.self.now.levels in
     let D = λ (n : Node). runs P levels (view_node T n) in
-    let m = c.args.mode in
+    let m = c.args.self.now.mode in
     let s = c.args.state.now in
     let q = c.pay.new.self in
     let a = c.in-Row in
@@ -833,10 +833,10 @@ run_command-returns-in-Row-clause-follows g t c =
 
 pub run_row-returns-in_err-signal-clause-follows : goal.run_row-returns-in_err-signal-clause-follows
 run_row-returns-in_err-signal-clause-follows g t c =
-    let T = g.T.Tables.listed c.args.tables.now in
-    let P = program_of T c.args.program.now in
-    let levels = c.args.levels in
-    let m = c.args.mode in
+    let T = g.T.Tables.listed c.args.self.now.tables.now in
+    let P = program_of T c.args.self.now.program.now in
+    let levels = c.args.self.now.levels in
+    let m = c.args.self.now.mode in
     let s = c.args.state.now in
     let xs = c.args.others.now in
     let os = map (view_joined T) xs in
@@ -855,10 +855,10 @@ run_row-returns-in_err-signal-clause-follows g t c =
 
 pub run_row-loop-joined-init : goal.run_row-loop-joined-init
 run_row-loop-joined-init g t c =
-    let T = g.T.Tables.listed c.args.tables.now in
-    let P = program_of T c.args.program.now in
-    let levels = c.args.levels in
-    let m = c.args.mode in
+    let T = g.T.Tables.listed c.args.self.now.tables.now in
+    let P = program_of T c.args.self.now.program.now in
+    let levels = c.args.self.now.levels in
+    let m = c.args.self.now.mode in
     let s = c.args.state.now in
     let xs = c.args.others.now in
     let os = map (view_joined T) xs in
@@ -880,10 +880,10 @@ run_row-loop-joined-init g t c =
 
 pub run_row-returns-in_err-signal-2-clause-follows : goal.run_row-returns-in_err-signal-2-clause-follows
 run_row-returns-in_err-signal-2-clause-follows g t c =
-    let T = g.T.Tables.listed c.args.tables.now in
-    let P = program_of T c.args.program.now in
-    let levels = c.args.levels in
-    let m = c.args.mode in
+    let T = g.T.Tables.listed c.args.self.now.tables.now in
+    let P = program_of T c.args.self.now.program.now in
+    let levels = c.args.self.now.levels in
+    let m = c.args.self.now.mode in
     let xs = c.args.others.now in
     let i = c.loop-joined.joined-index in
     let x = c.joined-item.result in
@@ -902,10 +902,10 @@ run_row-returns-in_err-signal-2-clause-follows g t c =
 
 pub run_row-loop-joined-preserved : goal.run_row-loop-joined-preserved
 run_row-loop-joined-preserved g t c =
-    let T = g.T.Tables.listed c.args.tables.now in
-    let P = program_of T c.args.program.now in
-    let levels = c.args.levels in
-    let m = c.args.mode in
+    let T = g.T.Tables.listed c.args.self.now.tables.now in
+    let P = program_of T c.args.self.now.program.now in
+    let levels = c.args.self.now.levels in
+    let m = c.args.self.now.mode in
     let xs = c.args.others.now in
     let i = c.loop-joined.joined-index in
     let x = c.joined-item.result in
@@ -925,10 +925,10 @@ run_row-loop-joined-preserved g t c =
 
 pub run_row-returns-clause-follows : goal.run_row-returns-clause-follows
 run_row-returns-clause-follows g t c =
-    let T = g.T.Tables.listed c.args.tables.now in
-    let P = program_of T c.args.program.now in
+    let T = g.T.Tables.listed c.args.self.now.tables.now in
+    let P = program_of T c.args.self.now.program.now in
     let xs = c.args.others.now in
     let i = c.loop-joined.joined-index in
     let inv = c.loop-joined.invariant in
     let none : drop i xs ≡ [] = drop_all i xs (omega arith) in
-    sym inv.0 ∙ ap (λ ys. others_run P c.args.levels c.args.mode c.saved_cursor-from.result (map (view_joined T) ys) (Signals c.loop-joined.signal c.loop-joined.state)) none
+    sym inv.0 ∙ ap (λ ys. others_run P c.args.self.now.levels c.args.self.now.mode c.saved_cursor-from.result (map (view_joined T) ys) (Signals c.loop-joined.signal c.loop-joined.state)) none
