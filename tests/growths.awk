@@ -1,6 +1,7 @@
 # Whether what a session answered where one growth was refused (the second file) fits what it answers with ample memory (the first);
-# see tests/growths. An answer ends with that to a line that is no command. Of a session's answers a third are reports, then comes the command's,
-# the same reports, the command's again and the reports again.
+# see tests/growths. An answer ends with that to a line that is no command. There are so many reports, the command's answer and the
+# count of runs, the reports again, the command's answer and the count again, and the reports once more. What is steady has no
+# answer for want of memory but a report's.
 BEGIN { refusal = "no 49 OutOfMemory\n"; end = "no 52 BadCommand" }
 FNR == 1 { part++ }
 FNR == NR && part == 1 {
@@ -18,16 +19,32 @@ END {
   reports = (wanted - 2) / 3
   command = reports + 1
   again = 2 * reports + 2
-  if (answer[command] == refusal && expected[command] != refusal) {
-    for (i = 1; i <= reports; i++)
-      if (answer[i] != expected[i] || answer[command + i] != expected[i] || answer[again + i] != expected[command + i]) exit 1
-    exit answer[again] != expected[command]
-  }
-  refused = 0
+  wrong = was_refused() ? !changes_nothing() : others_refused() > 1
+  exit wrong
+}
+
+# The parts of an answer: the command's, and the count of runs behind it, its last line.
+function said(text) { sub(/[0-9]+\n$|no 49 OutOfMemory\n$/, "", text); return text }
+function counted(text) { sub(/\n$/, "", text); sub(/^.*\n/, "", text); return text + 0 }
+
+function was_refused() { return !steady && said(answer[command]) == refusal && said(expected[command]) != refusal }
+
+# The command was refused for want of memory, and made again.
+function changes_nothing(   i) {
+  for (i = 1; i <= reports; i++)
+    if (answer[i] != expected[i] || answer[command + i] != expected[i] || answer[again + i] != expected[command + i]) return 0
+  if (counted(answer[command]) > counted(expected[command])) return 0
+  return said(answer[again]) == said(expected[command])
+}
+
+# How many other answers are other than with ample memory, each for want of it; two where one is so for another reason.
+function others_refused(   i, refused) {
   for (i = 1; i <= wanted; i++)
     if (answer[i] != expected[i]) {
-      if (answer[i] != refusal) exit 1
+      if (i == command || i == again) {
+        if (said(answer[i]) == said(expected[i]) ? answer[i] !~ /no 49 OutOfMemory\n$/ : steady || said(answer[i]) != refusal) return 2
+      } else if (answer[i] != refusal) return 2
       refused++
     }
-  exit refused > 1
+  return refused
 }
