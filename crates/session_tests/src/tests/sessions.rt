@@ -33,10 +33,6 @@ const UN: &[u8] =
 
 const A: &[u8] = b"externals ( stem ) define stem as ( [ 'a' ] <- 'bc' )\n.\n";
 
-/// A script whose `among` has a condition, which may signal f.
-const TAIL: &[u8] =
-    b"externals ( stem ) routines ( tail last sib ) backwardmode ( define sib as ( 'x' or 's' ) define tail as ( [substring] among ( 's' (delete) 'es' sib (delete) ) ) define last as ( ['e'] delete ) ) define stem as ( backwards ( do tail do ( test 'e' last ) ) )\n.\n";
-
 // A script block and what follows it.
 fn after(alloc: Global, script: &[u8], rest: &[u8]) -> Result<Vec<u8>, Fail> {
     let mut input = Vec::from_slice(alloc, script)?;
@@ -52,12 +48,7 @@ fn prefixes(alloc: Global, rest: &[u8]) -> Result<Ended, Fail> {
 
 #[test]
 fn a_session_answers_its_lines(rt: HostRuntime) -> Result<(), Fail> {
-    let rows: [(&[u8], &[u8], &[u8]); 9] = [
-        (
-            TAIL,
-            b"cats\nboxes\ncakes\ncake\ndog\n.\nruns\ntrace cakes\ntrace dog\nroutine last\ntrue\n.\nruns\nclasses\nroutine sib\nfalse\n.\nruns\nclasses\ntrace nope\n",
-            b"5\nroutine,last\nroutine,sib\nroutine,stem\nroutine,tail\namong,tail,1\nroutine,stem\nroutine,tail\namong,tail,1\nok\n7\nbox,boxes\ncake,cake,cakes\ncat,cats\ndog,dog\nok\n9\nboxe,boxes\ncake,cake,cakes\ncat,cats\ndog,dog\nno 41 Absent\n",
-        ),
+    let rows: [(&[u8], &[u8], &[u8]); 8] = [
         (
             UN,
             b".\nadd undo\nadd redo\nstems\n",
