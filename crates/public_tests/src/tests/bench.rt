@@ -3,7 +3,7 @@
 use crate::tests::characters::{text_of, word_of};
 use crate::tests::scripts::PREFIXES;
 use sbl_bench::{Bench, EditFault, Row};
-use sbl_machine::{Item, Outcome};
+use sbl_machine::Outcome;
 use sbl_script::{Script, ScriptFault};
 use std::alloc::Global;
 use std::test::Fail;
@@ -53,24 +53,6 @@ pub(crate) fn classes_shown(alloc: Global, bench: &Bench) -> Result<String, Fail
             text.push(',')?;
         }
         text.push(';')?;
-    }
-    Ok(text)
-}
-
-/// What the run of a word touches, as `NAME;` for a routine and `NAME K;` for an among; `none` for a word that is not there.
-pub(crate) fn touched_shown(alloc: Global, bench: &Bench, word: &[char]) -> Result<String, Fail> {
-    let mut text = String::new(alloc);
-    match bench.touched(word)? {
-        Some(items) => {
-            for item in items.iter() {
-                let shown = match item {
-                    Item::Routine(name) => format!(in alloc; "{name};")?,
-                    Item::Among(name, k) => format!(in alloc; "{name} {k};")?,
-                };
-                text.push_str(shown.as_str())?;
-            }
-        }
-        None => text.push_str("none")?,
     }
     Ok(text)
 }
