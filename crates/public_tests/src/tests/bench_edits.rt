@@ -49,7 +49,7 @@ fn an_among_without_its_command_takes_nothing_off(rt: HostRuntime) -> Result<(),
         rows_shown(alloc, &bench)?.as_str(),
         "cats cats;boxes boxes;cakes cakes;cake cak;dog dog;"
     );
-    assert_eq!(rt; bench.runs(), 7);
+    assert_eq!(rt; bench.runs(), 10);
     Ok(())
 }
 
