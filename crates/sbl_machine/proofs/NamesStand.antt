@@ -23,7 +23,7 @@ use Rattle.sbl_script.specs.Occurrences.{Occurrence, Notice, put, uses, substrin
 use Rattle.sbl_script.specs.Checks.{declared_as, kind_of, defined_at, definition_of, may_be, is_kind, is_routine, is_grouping, is_boolean, is_integer, is_string, is_mode, needs_definition, fault_at}
 use Rattle.sbl_script.specs.Laws.{EachPasses, NamesResolve, Resolves, WellDeclaredPasses}
 use Rattle.sbl_script.proofs.Extends.{Extends, same, then_, items_more, put_more, command_more, others_more}
-use Rattle.sbl_program.specs.Items.{ItemInMode, Body, body_named, booleans_in, booleans_with, groupings_in, in_mode, in_order, integers_in, integers_with, is_among, strings_in, strings_with}
+use Rattle.sbl_program.specs.Items.{ItemInMode, Body, body_named, in_mode, in_order, is_among, known_in, names_by}
 use Rattle.sbl_machine.specs.NamesStand.{HasBody, StandsFor, NamesStand}
 
 -- ---- the first of some occurrences of which something is said
@@ -291,59 +291,20 @@ item_of x = record { mode = x.mode; plain = x.plain }
 abbrev site_of : ℕ → marks.ItemInMode → Site
 site_of i x = record { item = i; mode = x.mode }
 
--- the names of one kind, by the items
-module _ (kind : DeclarationKind) (with_ : Plain → List (List ℕ) → List (List ℕ)) (names : List ItemInMode → List (List ℕ))
-    (step : (x : ItemInMode) (xs : List ItemInMode) → names (x ∷ xs) ≡ with_ x.plain (names xs))
-    (here : (ns rest : List (List ℕ)) → with_ (declaration kind ns) rest ≡ ns ++ rest)
-    (there : (y : Plain) (rest : List (List ℕ)) (n : List ℕ) → is_among rest n ≡ true → is_among (with_ y rest) n ≡ true) where
-  declared : (n : List ℕ) (xs : List marks.ItemInMode) (i : ℕ) (s : List Occurrence) → look (kinds_at n) s ≡ None → look (kinds_at n) (noted_items xs i s) ≡ Some kind → is_among (names (map item_of xs)) n ≡ true
+-- the names of one kind of variables, by the items
+module _ (kind : DeclarationKind) (here : (ns : List (List ℕ)) → names_by kind (declaration kind ns) ≡ ns) where
+  declared : (n : List ℕ) (xs : List marks.ItemInMode) (i : ℕ) (s : List Occurrence) → look (kinds_at n) s ≡ None → look (kinds_at n) (noted_items xs i s) ≡ Some kind → is_among (known_in (map item_of xs) kind) n ≡ true
   declared n [] i s e h = let no : ⊥ = cc in absurd no
-  declared n (x ∷ xs) i s e h = ap (λ l. is_among l n) (step (item_of x) (map item_of xs)) ∙ at (kind_behind x.plain (site_of i x) s n e) (λ none. declared n xs (i + 1) (noted_plain x.plain (site_of i x) s) none h)
+  declared n (x ∷ xs) i s e h = at (kind_behind x.plain (site_of i x) s n e) (λ none. declared n xs (i + 1) (noted_plain x.plain (site_of i x) s) none h)
     where
-      at : (look (kinds_at n) (noted_plain x.plain (site_of i x) s) ≡ None) ⊎ Declares x.plain (site_of i x) s n → (look (kinds_at n) (noted_plain x.plain (site_of i x) s) ≡ None → is_among (names (map item_of xs)) n ≡ true) → is_among (with_ x.plain (names (map item_of xs))) n ≡ true
-      at (inl none) rest = there x.plain (names (map item_of xs)) n (rest none)
+      at : (look (kinds_at n) (noted_plain x.plain (site_of i x) s) ≡ None) ⊎ Declares x.plain (site_of i x) s n → (look (kinds_at n) (noted_plain x.plain (site_of i x) s) ≡ None → is_among (known_in (map item_of xs) kind) n ≡ true) → is_among (names_by kind x.plain ++ known_in (map item_of xs) kind) n ≡ true
+      at (inl none) rest = among_right (names_by kind x.plain) (known_in (map item_of xs) kind) n (rest none)
       at (inr d) rest =
           let kept : look (kinds_at n) (noted_items xs (i + 1) (noted_plain x.plain (site_of i x) s)) ≡ Some d.kind = look_kept (kinds_at n) (noted_plain x.plain (site_of i x) s) (noted_items xs (i + 1) (noted_plain x.plain (site_of i x) s)) d.kind (items_more xs (i + 1) (noted_plain x.plain (site_of i x) s)) d.is in
           let same : d.kind ≡ kind = cc in
-          ap (λ y. is_among (with_ y (names (map item_of xs))) n) (d.item ∙ ap (λ k. declaration k d.names) same)
-          ∙ ap (λ l. is_among l n) (here d.names (names (map item_of xs)))
-          ∙ among_left d.names (names (map item_of xs)) n d.there
-
-strings_there : (y : Plain) (rest : List (List ℕ)) (n : List ℕ) → is_among rest n ≡ true → is_among (strings_with y rest) n ≡ true
-strings_there (declaration kinds.Strings ns) rest n h = among_right ns rest n h
-strings_there (declaration kinds.Integers ns) rest n h = h
-strings_there (declaration kinds.Booleans ns) rest n h = h
-strings_there (declaration kinds.Routines ns) rest n h = h
-strings_there (declaration kinds.Externals ns) rest n h = h
-strings_there (declaration kinds.Groupings ns) rest n h = h
-strings_there (escapes a b) rest n h = h
-strings_there (macro m b q) rest n h = h
-strings_there (routine r c os) rest n h = h
-strings_there (grouping g a ts) rest n h = h
-
-integers_there : (y : Plain) (rest : List (List ℕ)) (n : List ℕ) → is_among rest n ≡ true → is_among (integers_with y rest) n ≡ true
-integers_there (declaration kinds.Strings ns) rest n h = h
-integers_there (declaration kinds.Integers ns) rest n h = among_right ns rest n h
-integers_there (declaration kinds.Booleans ns) rest n h = h
-integers_there (declaration kinds.Routines ns) rest n h = h
-integers_there (declaration kinds.Externals ns) rest n h = h
-integers_there (declaration kinds.Groupings ns) rest n h = h
-integers_there (escapes a b) rest n h = h
-integers_there (macro m b q) rest n h = h
-integers_there (routine r c os) rest n h = h
-integers_there (grouping g a ts) rest n h = h
-
-booleans_there : (y : Plain) (rest : List (List ℕ)) (n : List ℕ) → is_among rest n ≡ true → is_among (booleans_with y rest) n ≡ true
-booleans_there (declaration kinds.Strings ns) rest n h = h
-booleans_there (declaration kinds.Integers ns) rest n h = h
-booleans_there (declaration kinds.Booleans ns) rest n h = among_right ns rest n h
-booleans_there (declaration kinds.Routines ns) rest n h = h
-booleans_there (declaration kinds.Externals ns) rest n h = h
-booleans_there (declaration kinds.Groupings ns) rest n h = h
-booleans_there (escapes a b) rest n h = h
-booleans_there (macro m b q) rest n h = h
-booleans_there (routine r c os) rest n h = h
-booleans_there (grouping g a ts) rest n h = h
+          ap (λ y. is_among (names_by kind y ++ known_in (map item_of xs) kind) n) (d.item ∙ ap (λ k. declaration k d.names) same)
+          ∙ ap (λ l. is_among (l ++ known_in (map item_of xs) kind) n) (here d.names)
+          ∙ among_left d.names (known_in (map item_of xs) kind) n d.there
 
 -- ---- definitions
 
@@ -404,10 +365,10 @@ grouping_after n a ts p s = let b = put (defines_grouping n) p s in then_ (term_
 
 -- what a name is defined as
 abbrev Defined : List Occurrence → List ItemInMode → List ℕ → Mode → Type 0
-Defined all items n m = ((is_kind is_routine (look (kinds_at n) all) ≡ true) × HasBody items n m) ⊎ ((is_kind is_grouping (look (kinds_at n) all) ≡ true) × (is_among (groupings_in items) n ≡ true))
+Defined all items n m = ((is_kind is_routine (look (kinds_at n) all) ≡ true) × HasBody items n m) ⊎ ((is_kind is_grouping (look (kinds_at n) all) ≡ true) × (is_among (known_in items kinds.Groupings) n ≡ true))
 
 -- an item that does not define the name
-passed_over : (all : List Occurrence) (x : ItemInMode) (xs : List ItemInMode) (n : List ℕ) (m : Mode) → body_named (x ∷ xs) n ≡ body_named xs n → (is_among (groupings_in xs) n ≡ true → is_among (groupings_in (x ∷ xs)) n ≡ true) → Defined all xs n m → Defined all (x ∷ xs) n m
+passed_over : (all : List Occurrence) (x : ItemInMode) (xs : List ItemInMode) (n : List ℕ) (m : Mode) → body_named (x ∷ xs) n ≡ body_named xs n → (is_among (known_in xs kinds.Groupings) n ≡ true → is_among (known_in (x ∷ xs) kinds.Groupings) n ≡ true) → Defined all xs n m → Defined all (x ∷ xs) n m
 passed_over all x xs n m b g (inl h) = inl (h.0, (h.1.0, b ∙ h.1.1, h.1.2))
 passed_over all x xs n m b g (inr h) = inr (h.0, g h.1)
 
@@ -473,10 +434,10 @@ module _ (all : List Occurrence) (passing : Passing all) (n : List ℕ) (d : Sit
       at true h =
           inr (
             ap (λ z. is_kind is_grouping (look (kinds_at z) all)) ((bytes_eq-Decides n r).0 h) ∙ grouping_kind all s r p passing (then_ (grouping_after r a ts p s) more),
-            ap (λ k. cond k true (is_among (groupings_in xs) n)) (flip n r h),
+            ap (λ k. cond k true (is_among (known_in xs kinds.Groupings) n)) (flip n r h),
           )
       at false h =
-          passed_over all x xs n d.mode refl (or_true (bytes_eq r n) (is_among (groupings_in xs) n))
+          passed_over all x xs n d.mode refl (or_true (bytes_eq r n) (is_among (known_in xs kinds.Groupings) n))
           (later (still ∙ site_put n (defines_grouping r) p s None e (ap (λ k. cond k (Some p) None) h)))
 
   in_item : (y : Plain) (p : Site) (s : List Occurrence) (xs : List ItemInMode) → Extends (noted_plain y p s) all → look (defined_at n) s ≡ None → Later y p s xs → Goal (record { mode = p.mode; plain = y }) xs
@@ -527,20 +488,20 @@ module _ (items : List Item) (passing : Passing (occurrences_of items)) (u : Use
   kind_there : look (kinds_at n) all ≡ Some r.kind
   kind_there = sym (kind_is n all) ∙ r.declared
 
-  string_there : r.kind ≡ kinds.Strings → is_among (strings_in ours) n ≡ true
+  string_there : r.kind ≡ kinds.Strings → is_among (known_in ours kinds.Strings) n ≡ true
   string_there k =
-      subst (λ l. is_among (strings_in l) n ≡ true) ordered
-      (declared kinds.Strings strings_with strings_in (λ x xs. refl) (λ ns rest. refl) strings_there n (marks.in_order items []) 1 [] refl (kind_there ∙ ap Some k))
+      subst (λ l. is_among (known_in l kinds.Strings) n ≡ true) ordered
+      (declared kinds.Strings (λ ns. refl) n (marks.in_order items []) 1 [] refl (kind_there ∙ ap Some k))
 
-  integer_there : r.kind ≡ kinds.Integers → is_among (integers_in ours) n ≡ true
+  integer_there : r.kind ≡ kinds.Integers → is_among (known_in ours kinds.Integers) n ≡ true
   integer_there k =
-      subst (λ l. is_among (integers_in l) n ≡ true) ordered
-      (declared kinds.Integers integers_with integers_in (λ x xs. refl) (λ ns rest. refl) integers_there n (marks.in_order items []) 1 [] refl (kind_there ∙ ap Some k))
+      subst (λ l. is_among (known_in l kinds.Integers) n ≡ true) ordered
+      (declared kinds.Integers (λ ns. refl) n (marks.in_order items []) 1 [] refl (kind_there ∙ ap Some k))
 
-  boolean_there : r.kind ≡ kinds.Booleans → is_among (booleans_in ours) n ≡ true
+  boolean_there : r.kind ≡ kinds.Booleans → is_among (known_in ours kinds.Booleans) n ≡ true
   boolean_there k =
-      subst (λ l. is_among (booleans_in l) n ≡ true) ordered
-      (declared kinds.Booleans booleans_with booleans_in (λ x xs. refl) (λ ns rest. refl) booleans_there n (marks.in_order items []) 1 [] refl (kind_there ∙ ap Some k))
+      subst (λ l. is_among (known_in l kinds.Booleans) n ≡ true) ordered
+      (declared kinds.Booleans (λ ns. refl) n (marks.in_order items []) 1 [] refl (kind_there ∙ ap Some k))
 
   definition_there : (d : Site) → definition_of n all ≡ Some d → Defined all ours n d.mode
   definition_there d h =
@@ -575,13 +536,13 @@ module _ (items : List Item) (passing : Passing (occurrences_of items)) (u : Use
           pick (inl h) = (h.1.0, h.1.1, h.1.2 ∙ same_mode m d.0.mode (r.same_mode k d.0 d.1))
           pick (inr h) = absurd (never_both r.kind k (tested is_grouping h.0))
 
-  grouping_there : is_grouping r.kind ≡ true → is_among (groupings_in ours) n ≡ true
+  grouping_there : is_grouping r.kind ≡ true → is_among (known_in ours kinds.Groupings) n ≡ true
   grouping_there k = at (r.defined (either (is_routine r.kind) (is_grouping r.kind) k))
     where
-      at : (p : Site) × (definition_of n all ≡ Some p) → is_among (groupings_in ours) n ≡ true
+      at : (p : Site) × (definition_of n all ≡ Some p) → is_among (known_in ours kinds.Groupings) n ≡ true
       at d = pick (definition_there d.0 d.1)
         where
-          pick : Defined all ours n d.0.mode → is_among (groupings_in ours) n ≡ true
+          pick : Defined all ours n d.0.mode → is_among (known_in ours kinds.Groupings) n ≡ true
           pick (inl h) = absurd (never_both r.kind (tested is_routine h.0) k)
           pick (inr h) = h.1
 

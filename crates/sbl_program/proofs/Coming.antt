@@ -11,7 +11,7 @@ use Rattle.sbl_tree.specs.declared.tree.Simple.TheVariants as simples
 use Rattle.sbl_program.specs.Ahead.{found_as, search_of, search_then, search_next as search_by, simple_by, made, made_rows, made_others, made_starter, made_groups, routine_made, routine_in, routines_in}
 use Rattle.sbl_program.specs.NumberedAmongs.{Found, found_of, found, found_rows, found_others, found_starter, found_groups, found_plain, found_behind}
 use Rattle.sbl_program.specs.NumberedNames.{Names, ItemInMode}
-use Rattle.sbl_program.specs.Regions.{Among, among_at, mode_behind, behind, behind_rows, behind_others, behind_starter, behind_groups, first, first_rows, first_others, waits_simple, waits, waits_rows, waits_others}
+use Rattle.sbl_program.specs.Regions.{Among, among_at, mode_behind, behind, behind_rows, behind_others, behind_starter, behind_groups, first, first_rows, first_others, waits, waits_rows, waits_others}
 use Rattle.sbl_program.specs.NumberedNumbers.{expression}
 use Rattle.sbl_program.specs.Grouped.{join}
 use Rattle.sbl_program.specs.Numbered.{Position, next_of, inside, closed, past, past_simple, past_rows, past_others, past_starter, past_groups, past_body, past_plain, begun, region, body_begun, search_next, simple, behind_prefix, behind_count, numbered, numbered_rows, numbered_others, numbered_starter, numbered_groups, routine_of, with_routine, routines_behind}
@@ -197,7 +197,7 @@ module _ (ns : Names) where
 
   -- ---- and whether a `substring` waits there
 
-  past_simple_waits : (s : Simple) (p : Position) → (past_simple s p).waits ≡ waits_simple s p.waits
+  past_simple_waits : (s : Simple) (p : Position) → (past_simple s p).waits ≡ waits (simple_ s) p.waits
   past_simple_waits simples.Substring p = refl
   past_simple_waits simples.LeftBracket p = refl
   past_simple_waits simples.RightBracket p = refl
