@@ -16,7 +16,8 @@ use Rattle.sbl_script.specs.Occurrences.{Occurrence, put, uses, defines_routine,
 use Rattle.sbl_script.specs.Checks.{kind_of, defined_at, definition_of, is_kind, is_routine, is_grouping, is_earlier}
 use Rattle.sbl_script.proofs.Extends.{Extends, then_, items_more, put_more}
 use Rattle.sbl_program.specs.Items.{ItemInMode, known_in, names_by, in_order, is_among}
-use Rattle.sbl_machine.proofs.NamesStand.{look, look_kept, kinds_at, site_is, sites_quiet, routine_still, grouping_still, names_site, site_put, Passing, at_mark, kind_kept, routine_kind, test_fails, rest_fails, not_false, terms_extend, plain_after, grouping_after, item_of, in_order_same, flip, or_true}
+use Rattle.sbl_machine.proofs.Noticed.{look, look_kept, kinds_at, site_is, sites_quiet, routine_still, grouping_still}
+use Rattle.sbl_machine.proofs.NamesStand.{names_site, site_put, Passing, at_mark, kind_kept, routine_kind, test_fails, rest_fails, not_false, terms_extend, plain_after, grouping_after, item_of, in_order_same, flip, or_true}
 
 -- ---- the occurrences of items as the definition of a run has them
 

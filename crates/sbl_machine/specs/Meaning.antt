@@ -34,7 +34,7 @@ use Rattle.sbl_program.specs.Items.{Known, Body, is_among, place_of, body_named,
 use Rattle.sbl_run.specs.Moves.{match, next, hop, at_limit, set_mark, at_mark, to_mark, set_boolean, test_boolean}
 use Rattle.sbl_run.specs.Numbers.{Value, natural, given, fitted, divided, with_value, with_both, limit_value, integer_at}
 use Rattle.sbl_program.specs.Regions.{Among, among_at, behind, behind_rows, behind_others, behind_starter, first, first_rows, first_others, mode_behind, waits, waits_others}
-use Rattle.sbl_run.specs.Run.{turns, times, count_of, seeks, limits, limited as within, limit_here, backwards_from, backwards_end, chosen as go_on, enter, leave, paid}
+use Rattle.sbl_run.specs.Run.{turns, times, count_of, seeks, limits, limit_here, limit_back, backwards_from, backwards_end, chosen as go_on, enter, back_in, paid}
 use Rattle.sbl_run.specs.Search.{choose, choice, touch_among}
 use Rattle.sbl_run.specs.Slices.{left_bracket, right_bracket, replace, keep, insert, attach}
 use Rattle.sbl_run.specs.State.{State, Ending, Signals, Stops, Doing, ahead, bound_of, after, moved as further, then_on, saved_cursor, place_after, put_back, to_limit}
@@ -68,9 +68,13 @@ abbrev pub joined_does : Joiner → Doing → Doing → Doing
 joined_does Or a b m s = after (a m s) (Signals true) (λ f. then_on (put_back m (saved_cursor s) f) (b m))
 joined_does And a b m s = after (a m s) (λ t. then_on (put_back m (saved_cursor s) t) (b m)) (Signals false)
 
--- `setlimit C1 for C2`
+-- a change at the end, whatever is signalled
+abbrev pub at_end : (State → State) → Ending → Ending
+at_end change e = after e (λ t. Signals true (change t)) (λ f. Signals false (change f))
+
+-- `setlimit C1 for C2`: the old limit is back at the end
 abbrev pub limited_does : Doing → Doing → Doing
-limited_does a b m s = after (a m s) (λ t. then_on (put_back m (saved_cursor s) (limit_here m t)) (λ u. within m (limits s) (b m u))) (Signals false)
+limited_does a b m s = after (a m s) (λ t. then_on (put_back m (saved_cursor s) (limit_here m t)) (λ u. at_end (limit_back m (limits s)) (b m u))) (Signals false)
 
 -- the words that stand alone, by the search of the next among
 abbrev pub simple_does : Doing → Simple → Doing
@@ -312,7 +316,7 @@ module _ (ns : Known) (class : List ℕ → ℕ → Bool) (call : List ℕ → D
   abbrev pub body_does : List ℕ → Option Body → Doing
   body_does n None m s = Signals false s
   body_does n (Some b) m s =
-      leave s.routine s.choices
+      at_end (back_in s.routine s.choices)
       (paid (row_does b.mode b.first b.others) m (enter (place_of (ns kinds.Routines) n) (behind_others b.others (behind b.first 0)) s))
 
 -- ---- runs

@@ -8,7 +8,7 @@ use Rattle.sbl_program.specs.NumberedNames.{Names, names_behind, no_names, numbe
 use Rattle.sbl_program.specs.NumberedSets.{has, sets_behind}
 use Rattle.sbl_program.specs.Program as programs
 use Rattle.sbl_program.specs.Laws.{RoutineIsItsOwn, SetsAreClasses, names_in}
-use Rattle.sbl_program.proofs.Coming.{own_is_made}
+use Rattle.sbl_program.proofs.OwnMade.{own_is_made}
 use Rattle.sbl_program.proofs.SoundItems.{placed_by, placed_is, groupings_are, routines_are, sets_are, as_made, body_at}
 use Rattle.sbl_tree.specs.declared.tree.DeclarationKind.TheVariants as kinds
 use Rattle.sbl_tree.specs.Tree.{Item}
