@@ -11,7 +11,7 @@ use Rattle.sbl_run.specs.declared.touch.Touch.{Touch}
 use Rattle.sbl_run.specs.declared.touch.Touch.TheVariants.{Searched}
 use Rattle.sbl_machine.specs.Holes.{blank, blanks, blanks_rows, blanks_others, blanks_starter, blanks_groups, nothing, hole, with_holes, rows_with_holes, others_with_holes, starter_with_holes, groups_with_holes}
 use Rattle.sbl_machine.specs.Meaning as meaning
-use Rattle.sbl_machine.specs.Meaning.{Offer, offers, joined_does, search, worth, text}
+use Rattle.sbl_machine.specs.Meaning.{offers, search, worth, text}
 use Rattle.sbl_run.specs.Moves.{match}
 use Rattle.sbl_run.specs.Numbers.{integer_at}
 use Rattle.sbl_run.specs.Run.{paid}

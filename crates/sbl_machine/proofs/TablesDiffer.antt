@@ -8,7 +8,8 @@ use Rattle.std.proofs.lemmas.List.{map-id, reverse-reverse}
 use Rattle.std.proofs.lemmas.Option.{same_Some}
 use Rattle.std.proofs.lemmas.Slice.Eq.{bytes_eq-Decides}
 use Rattle.sbl_machine.specs.Searches.{strings_read, amongs_of, TablesDiffer, SearchesAreExact}
-use Rattle.sbl_program.specs.Items.{ItemInMode, in_mode, in_order}
+use Rattle.sbl_program.specs.Items.{ItemInMode, in_order}
+use Rattle.sbl_program.proofs.SoundItems.{in_mode}
 use Rattle.sbl_program.specs.Laws.{names_in}
 use Rattle.sbl_program.specs.NumberedAmongs.{Found, strings_in, strings_behind, found_of, found, found_rows, found_others, found_starter, found_groups, found_plain, found_behind}
 use Rattle.sbl_program.specs.NumberedNames.{Names}

@@ -8,7 +8,7 @@ use Rattle.sbl_tree.specs.declared.tree.Additive.TheVariants.{Plus, Minus}
 use Rattle.sbl_tree.specs.declared.tree.DeclarationKind.TheVariants as kinds
 use Rattle.sbl_tree.specs.Tree.{Argument, written_out, by_name, Term, term, Item, Plain, declaration, escapes, macro, routine, grouping, plain, backward}
 use Rattle.sbl_program.specs.Ahead.{routine_made, routine_in, routines_in}
-use Rattle.sbl_program.specs.Items.{ItemInMode, in_mode, in_order, is_among, place_of, names_by, known_in, Grouping, class_of, term_has, terms_have, and_grouping, classes_behind, Body, body_or, body_named}
+use Rattle.sbl_program.specs.Items.{ItemInMode, in_order, is_among, place_of, names_by, known_in, Grouping, class_of, term_has, terms_have, and_grouping, classes_behind, Body, body_or, body_named}
 use Rattle.sbl_program.specs.NumberedNames.{Names, placed_in, placed, naming, names_behind, number_from, number_of, is_one_of}
 use Rattle.sbl_program.specs.NumberedSets.{has, united, lessened, characters_of, with_terms, with_set, sets_behind}
 use Rattle.sbl_program.specs.Program as programs
@@ -16,6 +16,10 @@ use Rattle.sbl_tree.specs.declared.mode.Mode.{Mode}
 use Rattle.sbl_tree.specs.declared.mode.Mode.TheVariants.{Forward, Backward}
 
 -- ---- items in order
+
+-- items of this mode, before others
+abbrev pub in_mode : Mode → List Plain → List ItemInMode → List ItemInMode
+in_mode m xs rest = map (λ (x : Plain). record { mode = m; plain = x }) xs ++ rest
 
 in_mode_is : (m : Mode) (xs : List Plain) (sofar rest : List ItemInMode) → placed_in m xs sofar ++ rest ≡ sofar ++ in_mode m xs rest
 in_mode_is m [] sofar rest = refl

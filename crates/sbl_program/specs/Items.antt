@@ -1,6 +1,6 @@
 -- What the items of a script say, by name.
-use Rattle.std.specs.Prelude.{ℕ, suc, Bool, true, false, not, ◌&&◌, ◌||◌, List, [], ◌∷◌, ◌++◌, nat_eq, if◌then◌else◌, Option, Some, None}
-use Rattle.std.specs.List.{list_any}
+use Rattle.std.specs.Prelude.{ℕ, suc, Bool, true, false, not, ◌&&◌, ◌||◌, List, [], ◌∷◌, ◌++◌, map, nat_eq, if◌then◌else◌, Option, Some, None}
+use Rattle.std.specs.List.{list_any, flat_map}
 use Rattle.std.specs.Str.{bytes_eq}
 use Rattle.sbl_tree.specs.declared.tree.Additive.TheVariants.{Plus, Minus}
 use Rattle.sbl_tree.specs.declared.tree.DeclarationKind.{DeclarationKind}
@@ -14,16 +14,11 @@ pub record ItemInMode : Type 0 where
   pub mode : Mode
   pub plain : Plain
 
--- items of this mode, before others
-abbrev pub in_mode : Mode → List Plain → List ItemInMode → List ItemInMode
-in_mode m [] rest = rest
-in_mode m (x ∷ xs) rest = (record { mode = m; plain = x }) ∷ in_mode m xs rest
-
 -- the items in text order, those of a `backwardmode` in its place
 abbrev pub in_order : List Item → List ItemInMode
 in_order [] = []
 in_order (plain x ∷ is) = (record { mode = Forward; plain = x }) ∷ in_order is
-in_order (backward xs ∷ is) = in_mode Backward xs (in_order is)
+in_order (backward xs ∷ is) = map (λ (x : Plain). record { mode = Backward; plain = x }) xs ++ in_order is
 
 -- ---- names
 
@@ -51,8 +46,7 @@ names_by kinds.Routines (routine n c os) = n ∷ []
 names_by k x = []
 
 abbrev pub known_in : List ItemInMode → Known
-known_in [] k = []
-known_in (x ∷ xs) k = names_by k x.plain ++ known_in xs k
+known_in xs k = flat_map (λ x. names_by k x.plain) xs
 
 -- ---- groupings
 
