@@ -74,7 +74,9 @@ at_end change e = after e (λ t. Signals true (change t)) (λ f. Signals false (
 
 -- `setlimit C1 for C2`: the old limit is back at the end
 abbrev pub limited_does : Doing → Doing → Doing
-limited_does a b m s = after (a m s) (λ t. then_on (put_back m (saved_cursor s) (limit_here m t)) (λ u. at_end (limit_back m (limits s)) (b m u))) (Signals false)
+limited_does a b m s =
+    after (a m s)
+    (λ t. then_on (put_back m (saved_cursor s) (limit_here m t)) (λ u. at_end (limit_back m (limits s)) (b m u))) (Signals false)
 
 -- the words that stand alone, by the search of the next among
 abbrev pub simple_does : Doing → Simple → Doing
@@ -348,4 +350,5 @@ start ns word steps = record {
 unfoldable pub ending : Source → List ℕ → ℕ → Ending
 ending script word limit =
     let items = in_order script.items in
-    calls (known_in items) (class_of (classes_behind items [])) (body_named items) 32 script.external Forward (start (known_in items) word limit)
+    calls (known_in items) (class_of (classes_behind items [])) (body_named items) 32 script.external Forward
+    (start (known_in items) word limit)

@@ -23,7 +23,8 @@ StandsFor items use_as.Excluded n m = is_among (known_in items kinds.Groupings) 
 StandsFor items use_as.Term n m = is_among (known_in items kinds.Groupings) n ≡ true
 StandsFor items use_as.Condition n m = HasBody items n m
 StandsFor items use_as.Command n m =
-    (is_among (known_in items kinds.Strings) n ≡ true) ⊎ ((is_among (known_in items kinds.Booleans) n ≡ true) ⊎ ((is_among (known_in items kinds.Groupings) n ≡ true) ⊎ HasBody items n m))
+    (is_among (known_in items kinds.Strings) n ≡ true) ⊎
+    ((is_among (known_in items kinds.Booleans) n ≡ true) ⊎ ((is_among (known_in items kinds.Groupings) n ≡ true) ⊎ HasBody items n m))
 
 -- Each name that a script uses stands for what there is: so what the definition of a run says of a name that stands for nothing is
 -- never met, and a routine is called in the mode in which it is defined.
