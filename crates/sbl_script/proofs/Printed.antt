@@ -11,8 +11,7 @@ use Rattle.sbl_text.specs.Laws.{SpacedAreRead}
 use Rattle.sbl_tree.specs.Terminal.{Terminal, lexeme_as, terminal_of}
 use Rattle.sbl_tree.specs.Tree.{Item, lexemes_of, written}
 use Rattle.sbl_grammar.specs.Laws.{PlacesAreWritten}
-use Rattle.sbl_grammar.specs.Places.{places}
-use Rattle.sbl_grammar.specs.Reading.{AreShallow}
+use Rattle.sbl_tree.specs.Places.{places, AreShallow}
 use Rattle.sbl_print.specs.Canonical.{canonical}
 use Rattle.sbl_print.specs.Spaced.{CanonicalIsSpaced}
 use Rattle.sbl_script.specs.Parsed.{Source}

@@ -1,5 +1,6 @@
 -- The tokens of a tree with the depth at which each stands, and then the rest.
-use Rattle.std.specs.Prelude.{ℕ, true, false, ◌+◌, List, [], ◌∷◌, map, Option, Some, None}
+use Rattle.std.specs.Prelude.{ℕ, true, false, ◌+◌, ◌≤◌, List, [], ◌∷◌, map, Option, Some, None}
+use Rattle.std.specs.List.{AllByRecursion}
 use Rattle.sbl_tree.specs.declared.tree.Base.{Base}
 use Rattle.sbl_tree.specs.declared.tree.Additive.TheVariants as additives
 use Rattle.sbl_tree.specs.Terminal.{Terminal}
@@ -13,6 +14,10 @@ max_depth = 64
 -- a token with the depth at which it stands
 abbrev pub AtDepth : Type 0
 AtDepth = Terminal × ℕ
+
+-- none stands too deep
+abbrev pub AreShallow : List AtDepth → Type 0
+AreShallow ps = AllByRecursion (λ p. p.1 ≤ max_depth) ps
 
 -- an arithmetic bracket or minus stands one deeper than what holds it
 abbrev mutual

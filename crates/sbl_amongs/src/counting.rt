@@ -1,7 +1,7 @@
 //! Whether two amongs hold as many.
 
 ghost use Rattle.std.specs.Prelude.{◌≡◌, ◌<◌, ◌-◌, List, nat_eq};
-ghost use Rattle.sbl_grammar.specs.Amongs as spec;
+ghost use Rattle.sbl_tree.specs.Counts as spec;
 ghost use Rattle.sbl_tree.specs.Tree as trees;
 ghost use Rattle.sbl_tree.specs.View.{view_among, view_command, view_groups, view_others, view_row, view_rows};
 

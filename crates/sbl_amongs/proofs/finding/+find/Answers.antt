@@ -5,9 +5,9 @@ use Rattle.sbl_tree.specs.View as view
 use Rattle.sbl_tree.specs.declared.tree.Command.{Command}
 use Rattle.sbl_tree.specs.declared.tree.Command.TheViews.{out-Group, out-Among, out-Row}
 use Rattle.sbl_tree.proofs.Views as views
-use Rattle.sbl_grammar.proofs.Putting as p
-use Rattle.sbl_grammar.proofs.Walking as f
-use Rattle.sbl_grammar.proofs.finding.+find.Goals as goal
+use Rattle.sbl_amongs.proofs.Putting as p
+use Rattle.sbl_amongs.proofs.Walking as f
+use Rattle.sbl_amongs.proofs.finding.+find.Goals as goal
 
 pub in_among-returns-in-Behind : goal.in_among-returns-in-Behind
 in_among-returns-in-Behind t c =

@@ -1,9 +1,9 @@
 -- What a walk through a part of a tree finds of the among with a number.
 use Rattle.std.specs.Prelude.{◌≡◌, ℕ, ◌≤◌, List, Some}
-use Rattle.sbl_grammar.specs.declared.finding.Found.{Found}
-use Rattle.sbl_grammar.specs.declared.finding.Found.TheVariants as found
-use Rattle.sbl_grammar.specs.Amongs.{Held, nth_held}
-use Rattle.sbl_grammar.specs.Places.{max_depth}
+use Rattle.sbl_amongs.specs.declared.finding.Found.{Found}
+use Rattle.sbl_amongs.specs.declared.finding.Found.TheVariants as found
+use Rattle.sbl_amongs.specs.Amongs.{Held, nth_held}
+use Rattle.sbl_tree.specs.Places.{max_depth}
 use Rattle.sbl_tree.specs.View.{view_among}
 
 -- the among is in the part, or it has another number behind it

@@ -2,7 +2,7 @@
 use Rattle.std.specs.Prelude.{ℕ, List, [], ◌∷◌}
 use Rattle.sbl_tree.specs.Terminal.{Terminal}
 use Rattle.sbl_tree.specs.Tree.{Item, Command, Others, Starter, Groups, among_, Argument, Term, argument_terminal}
-use Rattle.sbl_grammar.specs.Places.{AtDepth, placed, placed_others, placed_terms, places, tokens}
+use Rattle.sbl_tree.specs.Places.{AtDepth, placed, placed_others, placed_terms, places, tokens}
 
 -- a script; the body of a routine; the terms of a grouping; an among, at the depth where it comes to stand
 pub data Text : Type 0 where

@@ -1,8 +1,8 @@
 use Rattle.std.proofs.Common.{◌≡◌, ◌-◌, List, drop}
-use Rattle.sbl_grammar.specs.Amongs.{count_in_rows, count_in_others, count_in_groups}
+use Rattle.sbl_tree.specs.Counts.{count_in_rows, count_in_others, count_in_groups}
 use Rattle.sbl_tree.specs.Tree as trees
 use Rattle.sbl_tree.specs.View.{view_rows, view_others, view_groups}
-use Rattle.sbl_grammar.proofs.counting.+less.Given as goal
+use Rattle.sbl_amongs.proofs.counting.+less.Given as goal
 
 abbrev pub invariant-less_groups-loop-group : goal.invariant-less_groups-loop-group
 invariant-less_groups-loop-group l = (bare : List trees.Entry) → l.left - count_in_groups (view_groups (drop l.group-index l.groups.items) bare) ≡ l.number - count_in_groups (view_groups l.groups.items bare)

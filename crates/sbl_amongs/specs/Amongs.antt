@@ -1,8 +1,8 @@
 -- The amongs of a tree, in the order of the word `among`, and a tree in which another stands in the place of one.
 use Rattle.std.specs.Prelude.{◌≡◌, ℕ, ◌+◌, ◌-◌, List, [], ◌∷◌, Option, Some, None, nat_eq, if◌then◌else◌}
 use Rattle.sbl_tree.specs.Tree.{Command, bracket, prefixed, counted, setlimit_, among_, Rows, no_rows, row, Others, no_others, joined, Starter, no_starter, starter, Groups, bare, group}
-use Rattle.sbl_grammar.specs.Places.{placed}
-use Rattle.sbl_grammar.specs.Reading.{AreShallow}
+use Rattle.sbl_tree.specs.Places.{placed, AreShallow}
+use Rattle.sbl_tree.specs.Counts.{count_amongs, count_in_rows, count_in_others, count_in_starter}
 
 -- the depth at which an among stands, its starter and its groups
 abbrev pub Held : Type 0
@@ -42,36 +42,6 @@ amongs_of_body b = amongs b.0 1 (amongs_of_others b.1 1 [])
 abbrev pub nth_held : ℕ → List Held → Option Held
 nth_held k [] = None
 nth_held k (h ∷ hs) = if nat_eq k 1 then Some h else nth_held (k - 1) hs
-
--- how many there are
-abbrev mutual
-  pub count_amongs : Command → ℕ
-  count_amongs (bracket rs) = count_in_rows rs
-  count_amongs (prefixed p c) = count_amongs c
-  count_amongs (counted n e c) = count_amongs c
-  count_amongs (setlimit_ b c) = count_amongs b + count_amongs c
-  count_amongs (among_ s gs) = 1 + (count_in_starter s + count_in_groups gs)
-  count_amongs _ = 0
-
-  pub count_in_rows : Rows → ℕ
-  count_in_rows no_rows = 0
-  count_in_rows (row c os rs) = count_amongs c + (count_in_others os + count_in_rows rs)
-
-  pub count_in_others : Others → ℕ
-  count_in_others no_others = 0
-  count_in_others (joined j c os) = count_amongs c + count_in_others os
-
-  pub count_in_starter : Starter → ℕ
-  count_in_starter no_starter = 0
-  count_in_starter (starter rs) = count_in_rows rs
-
-  pub count_in_groups : Groups → ℕ
-  count_in_groups (bare es) = 0
-  count_in_groups (group e es rs gs) = count_in_rows rs + count_in_groups gs
-
--- an among with all that are inside it
-abbrev pub count_in_among : Starter × Groups → ℕ
-count_in_among a = 1 + (count_in_starter a.0 + count_in_groups a.1)
 
 -- The tree with another among in the place of the k-th, counted from 1: for what stands behind a part, k is less by the
 -- part's amongs. There is no 0-th.

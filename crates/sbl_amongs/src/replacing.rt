@@ -1,10 +1,11 @@
 //! The amongs of a tree, in the order of the word `among`, and copies in which another stands in the place of one.
 
 ghost use Rattle.std.specs.Prelude.{◌≡◌, ◌-◌, List, IfOk};
-ghost use Rattle.sbl_grammar.specs.Amongs.{FitsAt, amongs_of_body, count_amongs, count_in_among, count_in_groups, count_in_others, count_in_rows, put_in_among, put_in_body};
-ghost use Rattle.sbl_grammar.specs.Amongs as spec;
-ghost use Rattle.sbl_grammar.specs.Reading.{AreShallow};
-ghost use Rattle.sbl_grammar.specs.Texts.{body, places_in};
+ghost use Rattle.sbl_tree.specs.Counts.{count_amongs, count_in_among, count_in_groups, count_in_others, count_in_rows};
+ghost use Rattle.sbl_amongs.specs.Amongs.{FitsAt, amongs_of_body, put_in_among, put_in_body};
+ghost use Rattle.sbl_amongs.specs.Amongs as spec;
+ghost use Rattle.sbl_tree.specs.Places.{AreShallow};
+ghost use Rattle.sbl_tree.specs.Texts.{body, places_in};
 ghost use Rattle.sbl_tree.specs.View.{view_among, view_command, view_groups, view_others, view_row, view_rows};
 ghost use Rattle.sbl_tree.specs.Tree as trees;
 

@@ -1,12 +1,12 @@
-//! The among of a routine's body that has a number, and whether two amongs hold as many.
+//! The among of a routine's body that has a number.
 
 ghost use Rattle.std.specs.Prelude.{◌≡◌, ◌≤◌, ◌<◌, ◌-◌, List, [], MatchOption, None, Some, nat_eq};
-ghost use Rattle.sbl_grammar.specs.Amongs as spec;
-ghost use Rattle.sbl_grammar.specs.Amongs.{Held, amongs_of_body, count_amongs, count_in_among, count_in_groups, count_in_others, count_in_rows, nth_held};
-ghost use Rattle.sbl_grammar.specs.Found.{Finds};
-ghost use Rattle.sbl_grammar.specs.Places.{placed, placed_groups, placed_others, placed_rows, placed_starter, max_depth};
-ghost use Rattle.sbl_grammar.specs.Reading.{AreShallow};
-ghost use Rattle.sbl_grammar.specs.Texts.{body, places_in};
+ghost use Rattle.sbl_amongs.specs.Amongs as spec;
+ghost use Rattle.sbl_tree.specs.Counts.{count_amongs, count_in_among, count_in_groups, count_in_others, count_in_rows};
+ghost use Rattle.sbl_amongs.specs.Amongs.{Held, amongs_of_body, nth_held};
+ghost use Rattle.sbl_amongs.specs.Found.{Finds};
+ghost use Rattle.sbl_tree.specs.Places.{placed, placed_groups, placed_others, placed_rows, placed_starter, max_depth, AreShallow};
+ghost use Rattle.sbl_tree.specs.Texts.{body, places_in};
 ghost use Rattle.sbl_tree.specs.Tree as trees;
 ghost use Rattle.sbl_tree.specs.View.{view_among, view_command, view_groups, view_others, view_row, view_rows};
 
