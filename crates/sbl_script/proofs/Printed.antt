@@ -63,7 +63,7 @@ terminals_are k (t ∷ ts) (u ∷ us) e =
 -- ---- the canonical text
 
 -- the canonical text has the tokens of the items
-tokens_back : Known → (items : List Item) → AreSaid start (lexemes_of items) → MayEnd (after_all start (lexemes_of items)) → AreTokensFrom start (chars (canonical items)) (lexemes_of items)
+pub tokens_back : Known → (items : List Item) → AreSaid start (lexemes_of items) → MayEnd (after_all start (lexemes_of items)) → AreTokensFrom start (chars (canonical items)) (lexemes_of items)
 tokens_back k items said end =
     let p = k.spaced items in
     let t = k.read start p.spaced p.white (subst (AreSaid start) (sym p.tokens) said) (subst (λ (ls : List Lexeme). MayEnd (after_all start ls)) (sym p.tokens) end) in

@@ -4,7 +4,7 @@ ghost use Rattle.sbl_script.specs.Amongs.{AmongsAreSound};
 ghost use Rattle.sbl_script.specs.OneEdit.{EditFaultIsOne, EditIsOne, EditOrFault};
 ghost use Rattle.sbl_script.specs.OneReading.{FaultIsOne, ScriptIsOne, ScriptOrFault};
 ghost use Rattle.sbl_script.specs.Parsed.{source_of};
-ghost use Rattle.sbl_script.specs.Printed.{CanonicalIsRead};
+ghost use Rattle.sbl_script.specs.Printed.{CanonicalIsOne, CanonicalIsRead};
 ghost use Rattle.sbl_script.specs.Laws.{FaultIsFirst, NamesResolve, SubstringsArePaired, WellDeclaredPasses};
 
 use crate::script::Script;
@@ -78,4 +78,17 @@ pub fn canonical_is_read(script: &Script, text: &str)
     script.is_shallow();
     script.is_spelled();
     let _ = text;
+}
+
+/// Two scripts with one canonical text have the same items, however long that text is.
+pub fn canonical_is_one(script: &Script, other: &Script)
+    ensures { CanonicalIsOne (source_of script.now) (source_of other.now) }
+{
+    tokens_are_one();
+    spaced_are_read();
+    canonical_is_spaced();
+    one_part();
+    one_tree();
+    script.is_spelled();
+    other.is_spelled();
 }

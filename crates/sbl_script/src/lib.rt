@@ -8,6 +8,7 @@ mod edits;
 pub mod laws;
 mod noting;
 mod occurrences;
+mod same;
 mod script;
 
 pub use edit_fault::EditFault;
