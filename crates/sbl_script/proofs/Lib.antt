@@ -15,4 +15,4 @@ pub mod Spelled
 pub mod OneEdit
 pub mod Offered
 pub mod Printed
-pub mod Same
+pub mod Compared
