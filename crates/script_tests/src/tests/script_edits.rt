@@ -1,9 +1,9 @@
 //! Edits of scripts, and why they are refused, with places and items. What sessions can show of them stands in tests/cases.
 
-use crate::tests::scripts::{FRONT, PLURALS};
 use sbl_script::{EditFault, Script, ScriptFault};
 use std::alloc::Global;
 use std::process::Abort;
+use test_scripts::{FRONT, PLURALS};
 
 /// Why a text is refused in the place of an among of the external, or of its body where the number is 0; `None` where it is
 /// taken.

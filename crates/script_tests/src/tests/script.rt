@@ -1,7 +1,6 @@
 //! Scripts as they are parsed: each way to be refused once, depth, length, and what a script keeps.
 //! Rows of single checks stand in tests/cases.
 
-use crate::tests::scripts::PORTER;
 use sbl_script::laws::{
     amongs_are_sound, fault_is_first, names_resolve, one_edit, one_reading, substrings_are_paired,
     well_declared_passes,
@@ -9,6 +8,7 @@ use sbl_script::laws::{
 use sbl_script::{Script, ScriptFault};
 use std::alloc::Global;
 use std::process::Abort;
+use test_scripts::PORTER;
 
 /// The fault of a script; `None` where it is accepted.
 fn fault_of(alloc: Global, text: &str) -> Option<ScriptFault> {

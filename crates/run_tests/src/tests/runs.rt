@@ -1,19 +1,18 @@
 //! Runs of scripts over words, on both searches.
 
-use crate::tests::characters::word_of;
-use crate::tests::scripts::with_body;
 use sbl_machine::{AmongSearch, LinkedTable, Machine, Meter, Outcome, PlainTable, RunFault};
 use sbl_script::Script;
 use std::alloc::Global;
 use std::process::Abort;
 use std::test::Fail;
+use test_scripts::FRONT;
 
 /// What a word gives, and the steps that it uses (0: not asked).
 pub(crate) type Row<'a> = (&'a str, Result<&'a str, RunFault>, u64);
 
 fn outcome_of(alloc: Global, want: Result<&str, RunFault>) -> Result<Outcome, Fail> {
     Ok(match want {
-        Ok(stem) => Outcome::Stem(word_of(alloc, stem)?),
+        Ok(stem) => Outcome::Stem(stem.chars().collect(alloc)?),
         Err(fault) => Outcome::Refused(fault),
     })
 }
@@ -28,7 +27,7 @@ fn run_all<S: AmongSearch>(
 ) -> Result<(), Fail> {
     for row in rows {
         let (text, want, used) = *row;
-        let word = word_of(alloc, text)?;
+        let word: Vec<char> = text.chars().collect(alloc)?;
         assert!(rt; word.len() <= 255);
         let mut meter = Meter::new();
         let ran = machine.run(alloc, &mut meter, &word, limit)?;
@@ -69,6 +68,6 @@ pub(crate) fn body_runs(
     body: &str,
     rows: &[Row],
 ) -> Result<(), Fail> {
-    let text = with_body(alloc, body)?;
+    let text = format!(in alloc; "{FRONT}{body}")?;
     runs(rt, alloc, text.as_str(), rows)
 }

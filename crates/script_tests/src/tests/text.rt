@@ -1,6 +1,5 @@
 //! The tokens of texts, literals and codes, and what is printed of their faults. Rows of faults stand in tests/cases.
 
-use crate::tests::characters::text_of;
 use sbl_text::{
     Escapes, Kind, Lexer, ScriptFault, Sign, Token, Value, Word, read_codes, read_literal, tokens,
 };
@@ -170,7 +169,7 @@ fn last_value(alloc: Global, text: &str) -> Result<String, ScriptFault> {
     let mut shown = String::new(alloc);
     for token in &tokens(alloc, text)? {
         if let Value::Literal { value, .. } = &token.value {
-            shown = text_of(alloc, value)?;
+            shown = value.iter().collect(alloc)?;
         }
     }
     Ok(shown)
@@ -238,7 +237,7 @@ fn a_literal_is_read_under_the_escapes_in_force(rt: HostRuntime) -> Result<(), F
     ];
     for (spelling, want) in rows {
         let shown = match read_literal(rt.alloc(), &escapes, spelling) {
-            Ok(value) => text_of(rt.alloc(), &value)?,
+            Ok(value) => value.iter().collect(rt.alloc())?,
             Err(fault) => format!(in rt.alloc(); "{fault}")?,
         };
         assert_eq!(rt; shown.as_str(), want, "in {spelling:?}");

@@ -1,6 +1,5 @@
 //! Searches of the strings of an among, and what is printed of a run's faults.
 
-use crate::tests::characters::word_of;
 use sbl_machine::{AmongSearch, LinkedTable, PlainTable, RunFault, RunStop};
 use sbl_tree::Mode;
 use std::alloc::{AllocError, Global};
@@ -10,7 +9,7 @@ use std::test::Fail;
 fn table_of<S: AmongSearch>(alloc: Global, mode: Mode, strings: &[&str]) -> Result<S, AllocError> {
     let mut all = Vec::new(alloc);
     for string in strings {
-        all.push(word_of(alloc, string)?)?;
+        all.push(string.chars().collect(alloc)?)?;
     }
     S::build(alloc, &all, mode)
 }

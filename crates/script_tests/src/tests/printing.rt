@@ -1,9 +1,9 @@
 //! Canonical texts of scripts.
 
-use crate::tests::scripts::{PLURALS, PORTER, PREFIXES};
 use sbl_script::Script;
 use sbl_script::laws::canonical_is_read;
 use std::alloc::Global;
+use test_scripts::{PLURALS, PORTER, PREFIXES};
 
 /// The canonical text of a script with the external `stem`.
 fn printed(alloc: Global, text: &str) -> Option<String> {

@@ -1,21 +1,15 @@
-//! Whole scripts, and what stands before the body that a test gives.
-
-use std::alloc::{AllocError, Global};
+//! Whole scripts for tests, and what stands before the body that a test gives.
+#![tactic(auto)]
 
 /// A body stands behind it at byte 34.
-pub(crate) const FRONT: &str = "externals ( stem ) define stem as ";
-
-/// A script whose external has this body.
-pub(crate) fn with_body(alloc: Global, body: &str) -> Result<String, AllocError> {
-    format!(in alloc; "{FRONT}{body}")
-}
+pub const FRONT: &str = "externals ( stem ) define stem as ";
 
 /// Takes `un` or `re` off a word's front.
-pub(crate) const PREFIXES: &str =
+pub const PREFIXES: &str =
     "externals ( stem ) define stem as ( [ among ( 'un' () 're' () ) ] delete )";
 
 /// Takes plural endings off, and then an `e`: three routines in a `backwardmode`, one with an among, one a condition of it.
-pub(crate) const PLURALS: &str = "externals ( stem )
+pub const PLURALS: &str = "externals ( stem )
 routines ( tail last sib )
 backwardmode (
   define sib as ( 'x' or 's' )
@@ -24,28 +18,8 @@ backwardmode (
 )
 define stem as ( backwards ( do tail do ( test 'e' last ) ) )";
 
-/// Three routines in a `backwardmode`, one with an among, one a condition of it. The external's body is left out.
-pub(crate) const SUFFIX_ROUTINES: &str = "externals ( stem )
-routines ( tail last sib )
-backwardmode (
-  define sib as ( 'x' or 's' )
-  define tail as ( [substring] among ( 's' (delete) 'es' sib (delete) ) )
-  define last as ( ['e'] delete )
-)
-define stem as ";
-
-/// These routines, and this body of the external behind them: the sixth item.
-pub(crate) fn suffixes_with(alloc: Global, body: &str) -> Result<String, AllocError> {
-    format!(in alloc; "{SUFFIX_ROUTINES}{body}")
-}
-
-/// Takes plural endings off, and then an `e`.
-pub(crate) fn suffixes(alloc: Global) -> Result<String, AllocError> {
-    suffixes_with(alloc, "( backwards ( do tail do ( test 'e' last ) ) )")
-}
-
 /// After the published stemmer of Porter.
-pub(crate) const PORTER: &str = "integers ( p1 p2 )
+pub const PORTER: &str = "integers ( p1 p2 )
 booleans ( Y_found )
 
 routines (

@@ -1,13 +1,12 @@
 //! What runs touch, by names and by numbers.
 
-use crate::tests::characters::word_of;
-use crate::tests::scripts::suffixes;
 use sbl_machine::{Item, Machine, Meter, Table};
 use sbl_script::Script;
 use std::alloc::{AllocError, Global};
 use std::collections::BTreeSet;
 use std::process::Abort;
 use std::test::Fail;
+use test_scripts::PLURALS;
 
 /// A word, the steps that its run is given, those that it uses (0: not asked), and the items that it touches.
 type Row<'a> = (&'a str, u32, u64, &'a str);
@@ -33,7 +32,7 @@ fn touches_one(
     row: Row,
 ) -> Result<(), Fail> {
     let (text, limit, used, want) = row;
-    let word = word_of(alloc, text)?;
+    let word: Vec<char> = text.chars().collect(alloc)?;
     assert!(rt; word.len() <= 255);
     let mut meter = Meter::new();
     let ran = machine.run(alloc, &mut meter, &word, limit)?;
@@ -70,11 +69,10 @@ fn touches(rt: &impl Abort, alloc: Global, script: &str, rows: &[Row]) -> Result
 fn runs_touch(rt: HostRuntime) -> Result<(), Fail> {
     let alloc = rt.alloc();
     // a condition that signals f is entered, and a search that finds nothing is made
-    let plurals = suffixes(alloc)?;
     touches(
         &rt,
         alloc,
-        plurals.as_str(),
+        PLURALS,
         &[
             ("cakes", 100_000, 0, "last,sib,stem,tail,tail 1,"),
             ("dog", 100_000, 12, "stem,tail,tail 1,"),

@@ -1,11 +1,11 @@
 //! The trees of texts, and faults of the grammar. More of them stand in tests/cases.
 
-use crate::tests::scripts::{FRONT, PLURALS, PORTER};
 use sbl_grammar::{one_fault, one_part, one_tree, parse};
 use sbl_script::{Command, Item, Plain};
 use sbl_text::{ScriptFault, tokens};
 use std::alloc::{AllocError, Global};
 use std::test::Fail;
+use test_scripts::{FRONT, PLURALS, PORTER};
 
 fn read(alloc: Global, text: &str) -> Result<Vec<Item>, ScriptFault> {
     let tokens = tokens(alloc, text)?;

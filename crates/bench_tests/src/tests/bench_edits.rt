@@ -1,22 +1,17 @@
 //! Edits of a script, with the rows, the classes and the count of runs after each. Sessions of edits stand in tests/cases.
 
 use crate::tests::bench::{bench_of, classes_shown, rows_shown};
-use crate::tests::scripts::{PREFIXES, suffixes};
 use sbl_bench::{Bench, EditFault};
 use sbl_script::{Script, ScriptFault};
 use std::alloc::Global;
 use std::test::Fail;
+use test_scripts::{PLURALS, PREFIXES};
 
 const AT_FIRST: &str = "box:boxes,;cak:cake,cakes,;cat:cats,;dog:dog,;";
 
 /// A bench of a script that takes plural endings off.
 fn plurals(alloc: Global) -> Result<Bench, Fail> {
-    let script = suffixes(alloc)?;
-    bench_of(
-        alloc,
-        script.as_str(),
-        &["cats", "boxes", "cakes", "cake", "dog"],
-    )
+    bench_of(alloc, PLURALS, &["cats", "boxes", "cakes", "cake", "dog"])
 }
 
 #[test]

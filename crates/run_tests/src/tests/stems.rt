@@ -1,16 +1,15 @@
 //! A whole script over words, with the steps that its runs pay. More rows stand in tests/cases.
 
 use crate::tests::runs::{runs, runs_with};
-use crate::tests::scripts::suffixes;
 use sbl_machine::RunFault;
 use std::test::Fail;
+use test_scripts::PLURALS;
 
 #[test]
 fn plural_endings_are_taken_off(rt: HostRuntime) -> Result<(), Fail> {
     let alloc = rt.alloc();
     let steps = Err(RunFault::Steps);
-    let script = suffixes(alloc)?;
-    let script = script.as_str();
+    let script = PLURALS;
     runs(
         &rt,
         alloc,
