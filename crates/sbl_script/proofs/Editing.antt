@@ -6,9 +6,9 @@ use Rattle.sbl_text.specs.declared.fault.ScriptFault.TheVariants as fault
 use Rattle.sbl_text.specs.Escapes.{InForce}
 use Rattle.sbl_text.specs.Directives.{Directives, start_under}
 use Rattle.sbl_text.specs.Tokens.{Placed, ArePlacedFrom, IsFirstFaultFrom}
-use Rattle.sbl_grammar.specs.Amongs.{Held, amongs_of_body, nth_held}
+use Rattle.sbl_amongs.specs.Amongs.{Held, amongs_of_body, nth_held}
 use Rattle.sbl_tree.specs.Tree.{Item}
-use Rattle.sbl_grammar.specs.Texts.{TreeOf}
+use Rattle.sbl_tree.specs.Texts.{TreeOf}
 use Rattle.sbl_tree.specs.View.{RowView}
 use Rattle.sbl_grammar.specs.Reading.{IsReadAs}
 use Rattle.sbl_script.specs.declared.edit_fault.EditFault.{EditFault}

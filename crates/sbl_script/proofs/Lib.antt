@@ -8,3 +8,4 @@ pub mod Spelled
 pub mod OneEdit
 pub mod Offered
 pub mod Printed
+pub mod Same

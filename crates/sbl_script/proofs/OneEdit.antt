@@ -3,7 +3,7 @@ use Rattle.std.proofs.Common.{◌≡◌, ℕ, Bool, true, false, List, length, R
 use Rattle.sbl_text.specs.declared.fault.ScriptFault.{ScriptFault}
 use Rattle.sbl_text.specs.Tokens.{Placed}
 use Rattle.sbl_tree.specs.Tree.{Item}
-use Rattle.sbl_grammar.specs.Texts.{Text, TreeOf}
+use Rattle.sbl_tree.specs.Texts.{Text, TreeOf}
 use Rattle.sbl_grammar.specs.Reading.{IsReadAs}
 use Rattle.sbl_script.specs.declared.edit_fault.EditFault.{EditFault}
 use Rattle.sbl_script.specs.declared.edit_fault.EditFault.TheVariants as edits

@@ -3,16 +3,15 @@
 ghost use Rattle.sbl_script.specs.OneEdit.{EditFaultIsOne, EditIsOne, EditOrFault};
 ghost use Rattle.sbl_script.specs.OneReading.{FaultIsOne, ScriptIsOne, ScriptOrFault};
 ghost use Rattle.sbl_script.specs.Parsed.{source_of};
-ghost use Rattle.sbl_script.specs.Printed.{CanonicalIsRead};
+ghost use Rattle.sbl_script.specs.Printed.{CanonicalIsOne, CanonicalIsRead};
 
 use crate::script::Script;
-use sbl_grammar::{one_fault, one_part, one_tree};
-use sbl_print::laws::canonical_is_spaced;
-use sbl_text::laws::{first_fault_is_one, spaced_are_read, tokens_are_one};
-
 pub use sbl_checks::laws::{
     amongs_are_sound, fault_is_first, names_resolve, substrings_are_paired, well_declared_passes,
 };
+use sbl_grammar::{one_fault, one_part, one_tree};
+use sbl_print::laws::canonical_is_spaced;
+use sbl_text::laws::{first_fault_is_one, spaced_are_read, tokens_are_one};
 
 /// Bytes are read as one script, or they have one fault, and never both: `Script::parse` is a function of its bytes and
 /// of the external, want of memory aside.
@@ -54,4 +53,17 @@ pub fn canonical_is_read(script: &Script, text: &str)
     script.is_shallow();
     script.is_spelled();
     let _ = text;
+}
+
+/// Two scripts with one canonical text have the same items, however long that text is.
+pub fn canonical_is_one(script: &Script, other: &Script)
+    ensures { CanonicalIsOne (source_of script.now) (source_of other.now) }
+{
+    tokens_are_one();
+    spaced_are_read();
+    canonical_is_spaced();
+    one_part();
+    one_tree();
+    script.is_spelled();
+    other.is_spelled();
 }

@@ -4,6 +4,7 @@
 mod edit_fault;
 mod edits;
 pub mod laws;
+mod same;
 mod script;
 
 pub use edit_fault::EditFault;

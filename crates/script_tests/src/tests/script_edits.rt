@@ -3,7 +3,7 @@
 use sbl_script::{EditFault, Script, ScriptFault};
 use std::alloc::Global;
 use std::process::Abort;
-use test_scripts::{FRONT, PLURALS};
+use test_scripts::{FRONT, PLURALS, PORTER};
 
 /// Why a text is refused in the place of an among of the external, or of its body where the number is 0; `None` where it is
 /// taken.
@@ -231,5 +231,93 @@ fn a_routine_is_found_by_its_name(rt: HostRuntime) {
     ] {
         let taken = script.with_routine(alloc, name, text);
         assert_eq!(rt; taken.err(), want, "{name} {text}");
+    }
+}
+
+/// Whether a script with this text in the place of the among, or of the routine's body where the number is 0, is the script
+/// that it was.
+fn stays(
+    rt: &impl Abort,
+    alloc: Global,
+    script: &Script,
+    (routine, k, text): (&str, u64, &str),
+) -> bool {
+    let edited = if k == 0 {
+        script.with_routine(alloc, routine, text)
+    } else {
+        script.with_among(alloc, routine, k, text)
+    };
+    let edited = edited.expect(rt, "an edit");
+    script.is_same(alloc, &edited).expect(rt, "memory")
+}
+
+#[test]
+fn a_routine_with_its_own_text_is_the_same(rt: HostRuntime) {
+    let alloc = rt.alloc();
+    let script = Script::parse(alloc, PORTER.as_bytes(), "stem").expect(&rt, "a script");
+    let text = script.print(alloc).expect(&rt, "memory");
+    let mut routines: u64 = 0;
+    for line in text.as_str().split('\n') {
+        let Some((front, body)) = line.split_once(" as ") else {
+            continue;
+        };
+        let name = front.strip_prefix("define ").expect(&rt, "a name");
+        assert!(rt; stays(&rt, alloc, &script, (name, 0, body)), "{name}");
+        assert!(rt;
+            !stays(&rt, alloc, &script, (name, 0, "fail true")),
+            "{name}"
+        );
+        routines = routines.saturating_add(1);
+    }
+    assert_eq!(rt; routines, 12);
+}
+
+#[test]
+fn an_among_with_its_own_text_is_the_same(rt: HostRuntime) {
+    let alloc = rt.alloc();
+    let script = Script::parse(alloc, PORTER.as_bytes(), "stem").expect(&rt, "a script");
+    let inside = "among('at' 'bl' 'iz' (<+ 'e') 'bb' 'dd' 'ff' 'gg' 'mm' 'nn' 'pp' 'rr' 'tt'
+        ([next] delete) '' (atmark p1 test shortv <+ 'e'))";
+    for (routine, k, text, want) in [
+        (
+            "Step_1a",
+            1,
+            "among('sses'(<-'ss')'ies'(<-'i')'ss'()'s'(delete))",
+            true,
+        ),
+        (
+            "Step_1a",
+            1,
+            "among('ies'(<-'i')'sses'(<-'ss')'ss'()'s'(delete))",
+            false,
+        ),
+        (
+            "Step_1a",
+            1,
+            "among('sses'(<-'ss')'ies'(<-'i')'ss' 's'(delete))",
+            false,
+        ),
+        (
+            "Step_1a",
+            1,
+            "among('sses'(<-'ss')'ies'(<-'y')'ss'()'s'(delete))",
+            false,
+        ),
+        ("Step_1b", 2, inside, true),
+        ("Step_1b", 2, "among('at'(<+ 'e'))", false),
+    ] {
+        let found = stays(&rt, alloc, &script, (routine, k, text));
+        assert_eq!(rt; found, want, "{routine} {text}");
+    }
+}
+
+#[test]
+fn a_script_under_another_external_is_another(rt: HostRuntime) {
+    let alloc = rt.alloc();
+    let text = "externals ( stem other ) define stem as next define other as next";
+    let script = Script::parse(alloc, text.as_bytes(), "stem").expect(&rt, "a script");
+    for (external, want) in [("stem", true), ("other", false)] {
+        let again = Script::parse(alloc, text.as_bytes(), external).expect(&rt, "a script");
+        assert_eq!(rt; script.is_same(alloc, &again).expect(&rt, "memory"), want);
     }
 }
