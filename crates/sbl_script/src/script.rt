@@ -7,19 +7,18 @@ ghost use Rattle.sbl_grammar.specs.Reading.{IsReadAs};
 ghost use Rattle.sbl_tree.specs.Texts as texts;
 ghost use Rattle.sbl_tree.specs.View.{view_among, view_items, view_row};
 ghost use Rattle.sbl_tree.specs.Counts.{count_in_among};
-ghost use Rattle.sbl_script.specs.Checks.{WellDeclared, fault_of};
+ghost use Rattle.sbl_checks.specs.Checks.{WellDeclared, fault_of};
 ghost use Rattle.sbl_script.specs.Spelled.{AreSpelled, IsRowSpelled};
 ghost use Rattle.sbl_text.specs.Lexemes.{lexeme_of};
 ghost use Rattle.sbl_text.specs.Directives.{start, Directives};
 ghost use Rattle.sbl_text.specs.Tokens.{placed_of};
 ghost use Rattle.sbl_script.specs.Reading as spec;
 
-use crate::bodies::body_in;
-use crate::checks::check;
 use crate::edit_fault::EditFault;
 use crate::edits;
 use crate::edits::{escapes_before, items_with};
 use sbl_amongs::{has_as_many_amongs, nth_among, put_in_place};
+use sbl_checks::{body_in, check};
 use sbl_grammar::{parse, parse_among, parse_body};
 use sbl_print::canonical_text;
 use sbl_text::{Kind, ScriptFault, Sign, Token, Word, tokens, tokens_under};
@@ -135,7 +134,7 @@ impl Model for Script {
     ghost use Rattle.sbl_tree.specs.contracts.tree.Item as e;
     ghost use Rattle.sbl_tree.specs.View.{view_items};
     ghost use Rattle.sbl_script.specs.Parsed.{Parsed};
-    ghost use Rattle.sbl_script.specs.Checks.{WellDeclared};
+    ghost use Rattle.sbl_checks.specs.Checks.{WellDeclared};
     ghost use Rattle.sbl_tree.specs.Places.{places, AreShallow};
     ghost use Rattle.sbl_script.specs.Spelled.{AreSpelled};
 
