@@ -3,10 +3,11 @@ use Rattle.std.proofs.Common.{◌≡◌, ◌∙◌, ℕ, zero, suc, Bool, true, 
 use Rattle.std.specs.Prelude.{slice_index_or}
 use Rattle.std.specs.List.{list_any}
 use Rattle.std.proofs.lemmas.Bool.{true≢false}
+use Rattle.sbl_tree.specs.declared.tree.DeclarationKind.TheVariants as kinds
 use Rattle.sbl_tree.specs.Tree.{bracket, no_rows, no_others}
 use Rattle.sbl_tree.specs.declared.mode.Mode.{Mode}
 use Rattle.sbl_tree.specs.declared.mode.Mode.TheVariants.{Forward}
-use Rattle.sbl_program.specs.Items.{ItemInMode, Known, in_order, known_in, class_of, classes_behind, routines_in, place_of, Body, body_named}
+use Rattle.sbl_program.specs.Items.{ItemInMode, Known, in_order, known_in, class_of, classes_behind, place_of, Body, body_named}
 use Rattle.sbl_program.specs.Regions.{behind, behind_others}
 use Rattle.sbl_run.specs.declared.fault.RunFault.TheVariants.{Depth}
 use Rattle.sbl_run.specs.declared.touch.Touch.{Touch}
@@ -93,19 +94,19 @@ module _ (picked : Item' → Bool) (items : List ItemInMode) where
   class = class_of (classes_behind items [])
 
   abbrev marked : Touch → Bool
-  marked = marked_by picked (routines_in items)
+  marked = marked_by picked (known_in items kinds.Routines)
 
-  routine_by : (i : ℕ) (n : List ℕ) (body : Body) (call call' : List ℕ → Doing) (m : Mode) (b : Bool) → picked (Routine n) ≡ b → slice_index_or (routines_in items) (place_of (routines_in items) n) [] ≡ n
-      → Alike marked (place_of (routines_in items) n) (paid (row_does ns class call body.mode body.first body.others))
+  routine_by : (i : ℕ) (n : List ℕ) (body : Body) (call call' : List ℕ → Doing) (m : Mode) (b : Bool) → picked (Routine n) ≡ b → slice_index_or (known_in items kinds.Routines) (place_of (known_in items kinds.Routines) n) [] ≡ n
+      → Alike marked (place_of (known_in items kinds.Routines) n) (paid (row_does ns class call body.mode body.first body.others))
       (paid (row_does ns class call' body.mode (with_holes (λ k. picked (Among n k)) 0 body.first) (others_with_holes (λ k. picked (Among n k)) (behind body.first 0) body.others)))
       → Pair marked i (body_does ns class call n (Some body) m) (body_does ns class call' n (Some (hole_of picked b n body)) m)
   routine_by i n body call call' m true c name a =
-      let j = place_of (routines_in items) n in
+      let j = place_of (known_in items kinds.Routines) n in
       entered_pair marked i j (behind_others body.others (behind body.first 0)) 0 (paid (row_does ns class call body.mode body.first body.others))
       (paid (row_does ns class call' body.mode (bracket no_rows) no_others)) m (ap (λ x. picked (Routine x)) name ∙ c) (a.in_mode m).grown
       (λ s. grown_after marked s (pay s.steps s) (Signals true) (Signals false) (same_grown marked s _ (pay_same s.steps s)) (λ t. same_grown marked t _ refl) (λ t. same_grown marked t _ refl))
   routine_by i n body call call' m false c name a =
-      let j = place_of (routines_in items) n in
+      let j = place_of (known_in items kinds.Routines) n in
       let holes = λ (k : ℕ). picked (Among n k) in
       let d = paid (row_does ns class call body.mode body.first body.others) in
       let d' = paid (row_does ns class call' body.mode (with_holes holes 0 body.first) (others_with_holes holes (behind body.first 0) body.others)) in
@@ -117,8 +118,8 @@ module _ (picked : Item' → Bool) (items : List ItemInMode) where
       → Pair marked i (body_does ns class call n o m) (body_does ns class call' n (option_map (holed_body picked n) o) m)
   body_pair i n call call' m h None is = signals_pair marked i false
   body_pair i n call call' m h (Some body) is =
-      let j = place_of (routines_in items) n in
-      let name : slice_index_or (routines_in items) j [] ≡ n = name_stands items n body is in
+      let j = place_of (known_in items kinds.Routines) n in
+      let name : slice_index_or (known_in items kinds.Routines) j [] ≡ n = name_stands items n body is in
       routine_by i n body call call' m (picked (Routine n)) refl name
       (paid_alike marked j _ _ (row_alike marked ns class call call' j (h j) (λ k. picked (Among n k)) (λ k. ap (λ (x : List ℕ). picked (Among x (suc k))) name) body.mode body.first body.others))
 

@@ -1,6 +1,7 @@
 -- A command beside the same with holes: they run alike unless something that is picked is touched.
 use Rattle.std.proofs.Common.{◌≡◌, ℕ, zero, suc, Bool, true, false, List, [], refl, sym, ◌∙◌, subst, Option, Some, None, Ok}
 use Rattle.std.specs.Prelude.{if◌then◌else◌, slice_index_or}
+use Rattle.sbl_tree.specs.declared.tree.DeclarationKind.TheVariants as kinds
 use Rattle.sbl_tree.specs.Tree as trees
 use Rattle.sbl_tree.specs.Tree.{bracket, simple_, literal_, name_, non_, prefixed, counted, move_, named, splice_, setlimit_, assign_, compare_, compare_values_, among_, no_rows, row, no_others, joined, no_starter, starter, bare, group, entry}
 use Rattle.sbl_tree.specs.declared.mode.Mode.{Mode}
@@ -149,9 +150,9 @@ module _ (picked : Touch → Bool) (ns : Known) (class : List ℕ → ℕ → Bo
   -- a name alone
   name_pair : (x : List ℕ) (m : Mode) → Pair picked i (meaning.name_does ns class call x m) (meaning.name_does ns class call' x m)
   name_pair x m =
-      if_pair picked i (is_among ns.strings x) _ _ _ _ (same_pair picked i (λ s. match (slice_index_or s.strings (place_of ns.strings x) []) m s) (λ s. match_same (slice_index_or s.strings (place_of ns.strings x) []) m s))
-      (if_pair picked i (is_among ns.booleans x) _ _ _ _ (same_pair picked i _ (λ s. refl))
-      (if_pair picked i (is_among ns.groupings x) _ _ _ _ (same_pair picked i _ (class_same true (class x) m)) ((calls_alike x).in_mode m)))
+      if_pair picked i (is_among (ns kinds.Strings) x) _ _ _ _ (same_pair picked i (λ s. match (slice_index_or s.strings (place_of (ns kinds.Strings) x) []) m s) (λ s. match_same (slice_index_or s.strings (place_of (ns kinds.Strings) x) []) m s))
+      (if_pair picked i (is_among (ns kinds.Booleans) x) _ _ _ _ (same_pair picked i _ (λ s. refl))
+      (if_pair picked i (is_among (ns kinds.Groupings) x) _ _ _ _ (same_pair picked i _ (class_same true (class x) m)) ((calls_alike x).in_mode m)))
 
   abbrev does : Mode → ℕ → Bool → Option Among → trees.Command → Doing
   does = meaning.act ns class call
@@ -208,8 +209,8 @@ module _ (picked : Touch → Bool) (ns : Known) (class : List ℕ → ℕ → Bo
               limited_pair picked i _ _ _ _ (paid_alike picked i _ _ (act_alike b r k k' w w' _ _ p q ahead))
               (paid_alike picked i _ _ (act_alike c r (behind b k) _ (waits b w) _ n n' p1 (waits_same holes b k w w' q) h)) m;
         }
-    act_alike (assign_ x o e) r k k' w w' n n' p q h = record { in_mode = λ m. same_pair picked i _ (λ s. assigned_same (place_of ns.integers x) o (worth ns e m s) s) }
-    act_alike (compare_ x o e) r k k' w w' n n' p q h = record { in_mode = λ m. same_pair picked i _ (λ s. compared_same o (Ok (integer_at (place_of ns.integers x) s)) (worth ns e m s) s) }
+    act_alike (assign_ x o e) r k k' w w' n n' p q h = record { in_mode = λ m. same_pair picked i _ (λ s. assigned_same (place_of (ns kinds.Integers) x) o (worth ns e m s) s) }
+    act_alike (compare_ x o e) r k k' w w' n n' p q h = record { in_mode = λ m. same_pair picked i _ (λ s. compared_same o (Ok (integer_at (place_of (ns kinds.Integers) x) s)) (worth ns e m s) s) }
     act_alike (compare_values_ e o f) r k k' w w' n n' p q h = record { in_mode = λ m. same_pair picked i _ (λ s. compared_same o (worth ns e m s) (worth ns f m s) s) }
     act_alike (among_ st gs) r k k' w w' n n' p q h =
         let t = among_ st gs in

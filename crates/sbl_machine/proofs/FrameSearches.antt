@@ -9,8 +9,8 @@ use Rattle.sbl_run.specs.declared.touch.Touch.{Touch}
 use Rattle.sbl_run.specs.declared.touch.Touch.TheVariants.{Searched}
 use Rattle.sbl_machine.specs.Meaning.{Offer, offering, condition_does, takes, tried, begins}
 use Rattle.sbl_run.specs.Run.{chosen, paid}
-use Rattle.sbl_run.specs.Search.{choose, choice, touch_among, bound_in}
-use Rattle.sbl_run.specs.State.{State, Ending, Signals, Doing, after, then_on, pay, saved_cursor, put_back, place_after, step_over}
+use Rattle.sbl_run.specs.Search.{choose, choice, touch_among}
+use Rattle.sbl_run.specs.State.{State, bound_of, Ending, Signals, Doing, after, then_on, pay, saved_cursor, put_back, place_after, step_over}
 use Rattle.sbl_machine.proofs.Touching.{with_chosen, with_grows, not_then}
 use Rattle.sbl_machine.proofs.Stays.{pay_same, back_same, over_same}
 use Rattle.sbl_machine.proofs.FramePairs.{Here, dirty, dirty_at, Grown, Within, Kept, Pair, Alike, here_from, grown_after, dirty_after, within_dirty, after_pair, from_pair, same_grown, same_pair, signals_pair, spoiled_pair, chosen_pair, paid_alike}
@@ -19,7 +19,7 @@ use Rattle.sbl_machine.proofs.FramePairs.{Here, dirty, dirty_at, Grown, Within, 
 abbrev pub finds : (List ℕ → Doing) → ℕ → List Offer → Mode → Doing
 finds call k os r m s =
     let t = touch_among k s in
-    let x = ahead_at r t.text t.cursor (bound_in m t) in
+    let x = ahead_at r t.text t.cursor (bound_of m t) in
     tried call k os r m t x (suc (length x)) t
 
 module _ (picked : Touch → Bool) where
@@ -50,7 +50,7 @@ module _ (picked : Touch → Bool) where
     pub finds_grown : (k : ℕ) (os : List Offer) (r m : Mode) (s : State) → Grown picked s (finds call k os r m s)
     finds_grown k os r m s =
         let t = touch_among k s in
-        let x = ahead_at r t.text t.cursor (bound_in m t) in
+        let x = ahead_at r t.text t.cursor (bound_of m t) in
         let g = tried_grown k os r m t x (suc (length x)) t in
         record { up = λ d. g.up (with_grows picked (Searched s.routine k) s.touched d); here = g.here }
 
@@ -58,7 +58,7 @@ module _ (picked : Touch → Bool) where
     pub finds_dirty : (i k : ℕ) → picked (Searched i k) ≡ true → (os : List Offer) (r m : Mode) (s : State) → Within picked i s → dirty_at picked (finds call k os r m s) ≡ true
     finds_dirty i k c os r m s w =
         let t = touch_among k s in
-        let x = ahead_at r t.text t.cursor (bound_in m t) in
+        let x = ahead_at r t.text t.cursor (bound_of m t) in
         (tried_grown k os r m t x (suc (length x)) t).up (with_chosen picked (Searched s.routine k) s.touched (ap (λ n. picked (Searched n k)) w.here ∙ c))
 
   chosen_grown : (o : Option ℕ) (go : ℕ → State → Ending) → ((g : ℕ) (s : State) → Grown picked s (go g s)) → (s : State) → Grown picked s (chosen o s (λ g. go g s))
@@ -143,12 +143,12 @@ module _ (picked : Touch → Bool) where
         record {
           in_mode = λ m.
               touched_pair k
-              (λ t. tried call k os r m t (ahead_at r t.text t.cursor (bound_in m t)) (suc (length (ahead_at r t.text t.cursor (bound_in m t)))) t)
-              (λ t. tried call' k os r m t (ahead_at r t.text t.cursor (bound_in m t)) (suc (length (ahead_at r t.text t.cursor (bound_in m t)))) t)
+              (λ t. tried call k os r m t (ahead_at r t.text t.cursor (bound_of m t)) (suc (length (ahead_at r t.text t.cursor (bound_of m t)))) t)
+              (λ t. tried call' k os r m t (ahead_at r t.text t.cursor (bound_of m t)) (suc (length (ahead_at r t.text t.cursor (bound_of m t)))) t)
               (from_pair picked i (λ s. s)
-              (λ x s. tried call k os r m x (ahead_at r x.text x.cursor (bound_in m x)) (suc (length (ahead_at r x.text x.cursor (bound_in m x)))) s)
-              (λ x s. tried call' k os r m x (ahead_at r x.text x.cursor (bound_in m x)) (suc (length (ahead_at r x.text x.cursor (bound_in m x)))) s)
-              (λ x. tried_pair k n os r m x (ahead_at r x.text x.cursor (bound_in m x)) (suc (length (ahead_at r x.text x.cursor (bound_in m x))))));
+              (λ x s. tried call k os r m x (ahead_at r x.text x.cursor (bound_of m x)) (suc (length (ahead_at r x.text x.cursor (bound_of m x)))) s)
+              (λ x s. tried call' k os r m x (ahead_at r x.text x.cursor (bound_of m x)) (suc (length (ahead_at r x.text x.cursor (bound_of m x)))) s)
+              (λ x. tried_pair k n os r m x (ahead_at r x.text x.cursor (bound_of m x)) (suc (length (ahead_at r x.text x.cursor (bound_of m x))))));
         }
 
     -- that of one that is

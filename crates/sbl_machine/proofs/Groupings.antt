@@ -8,9 +8,10 @@ use Rattle.std.proofs.lemmas.List.{map-append}
 use Rattle.std.proofs.lemmas.Slice.Eq.{bytes_eq-Decides}
 use Rattle.sbl_tree.specs.declared.mode.Mode.{Mode}
 use Rattle.sbl_tree.specs.declared.tree.Additive.TheVariants.{Plus, Minus}
+use Rattle.sbl_tree.specs.declared.tree.DeclarationKind.TheVariants as kinds
 use Rattle.sbl_tree.specs.Tree.{Argument, written_out, by_name, Term, term, Plain, declaration, escapes, macro, routine, grouping}
 use Rattle.sbl_checks.specs.Laws.{WellDeclaredPasses}
-use Rattle.sbl_program.specs.Items.{ItemInMode, Grouping, and_grouping, class_of, classes_behind, groupings_in, groupings_with, in_order, is_among, term_has, terms_have}
+use Rattle.sbl_program.specs.Items.{ItemInMode, Grouping, and_grouping, class_of, classes_behind, known_in, names_by, in_order, is_among, term_has, terms_have}
 use Rattle.sbl_machine.specs.Groupings.{groupings_of, Has, Leaves, IsOfTerms, GroupingsAreTheirTerms, GroupingsHaveTheirTerms}
 use Rattle.sbl_machine.proofs.GroupingNames.{IsKnown, AreKnown, AreNames, names_are}
 
@@ -41,7 +42,7 @@ classes_split : (xs ys : List ItemInMode) (gs : List Grouping) → classes_behin
 classes_split [] ys gs = refl
 classes_split (x ∷ xs) ys gs = classes_split xs ys (and_grouping x.plain gs)
 
-names_more : (y : Plain) (gs : List Grouping) (rest : List (List ℕ)) → map name_of (and_grouping y gs) ++ rest ≡ map name_of gs ++ groupings_with y rest
+names_more : (y : Plain) (gs : List Grouping) (rest : List (List ℕ)) → map name_of (and_grouping y gs) ++ rest ≡ map name_of gs ++ (names_by kinds.Groupings y ++ rest)
 names_more (grouping n a ts) gs rest =
     let g : Grouping = record { name = n; has = λ c. terms_have gs ts (term_has gs a c) c } in
     ap (λ l. l ++ rest) (map-append name_of gs (g ∷ [])) ∙ append_assoc (map name_of gs) (n ∷ []) rest
@@ -50,9 +51,9 @@ names_more (escapes a b) gs rest = refl
 names_more (macro m b q) gs rest = refl
 names_more (routine r c os) gs rest = refl
 
-class_names : (xs : List ItemInMode) (gs : List Grouping) → map name_of (classes_behind xs gs) ≡ map name_of gs ++ groupings_in xs
+class_names : (xs : List ItemInMode) (gs : List Grouping) → map name_of (classes_behind xs gs) ≡ map name_of gs ++ known_in xs kinds.Groupings
 class_names [] gs = sym (append-nil (map name_of gs))
-class_names (x ∷ xs) gs = class_names xs (and_grouping x.plain gs) ∙ names_more x.plain gs (groupings_in xs)
+class_names (x ∷ xs) gs = class_names xs (and_grouping x.plain gs) ∙ names_more x.plain gs (known_in xs kinds.Groupings)
 
 -- ---- names among groupings
 
@@ -103,7 +104,7 @@ module _ (bs after : List ItemInMode) (m : Mode) (n : List ℕ) (a : Argument) (
   abbrev all : List Grouping
   all = classes_behind ours []
 
-  known : map name_of gs ≡ groupings_in bs
+  known : map name_of gs ≡ known_in bs kinds.Groupings
   known = class_names bs []
 
   whole : (more : List Grouping) × (all ≡ gs ++ g ∷ more)

@@ -1,12 +1,15 @@
 -- Holes leave a script its names and its groupings, and each routine its own body with holes.
-use Rattle.std.proofs.Common.{◌≡◌, ◌∙◌, ℕ, suc, Bool, true, false, List, [], ◌∷◌, map, Option, Some, None, option_map, refl, ap}
+use Rattle.std.proofs.Common.{◌≡◌, ◌∙◌, ℕ, suc, Bool, true, false, List, [], ◌∷◌, ◌++◌, map, Option, Some, None, option_map, refl, ap}
 use Rattle.std.specs.Prelude.{if◌then◌else◌, slice_index_or}
 use Rattle.std.specs.Str.{bytes_eq}
 use Rattle.std.proofs.lemmas.Slice.Eq.{bytes_eq-Decides}
+use Rattle.std.proofs.Math.Path.{fun_ext}
+use Rattle.sbl_tree.specs.declared.tree.DeclarationKind.{DeclarationKind}
+use Rattle.sbl_tree.specs.declared.tree.DeclarationKind.TheVariants as kinds
 use Rattle.sbl_tree.specs.Tree.{Command, Others, Plain, Item, bracket, no_rows, no_others, declaration, escapes, macro, routine, grouping, plain, backward}
 use Rattle.sbl_tree.specs.declared.mode.Mode.{Mode}
 use Rattle.sbl_tree.specs.declared.mode.Mode.TheVariants.{Forward, Backward}
-use Rattle.sbl_program.specs.Items.{ItemInMode, in_mode, in_order, place_of, strings_with, integers_with, booleans_with, groupings_with, routines_with, strings_in, integers_in, booleans_in, groupings_in, routines_in, known_in, Grouping, and_grouping, classes_behind, Body, body_or, body_named}
+use Rattle.sbl_program.specs.Items.{ItemInMode, in_mode, in_order, place_of, names_by, known_in, Grouping, and_grouping, classes_behind, Body, body_or, body_named}
 use Rattle.sbl_program.specs.Regions.{behind}
 use Rattle.sbl_machine.specs.Holes.{with_holes, others_with_holes, holed_plain, holed_item, holed_script}
 use Rattle.sbl_machine.specs.Touched.{Item', Routine, Among, routine_names}
@@ -41,28 +44,20 @@ module _ (picked : Item' → Bool) where
   plain_same f h (macro n b q) = refl
   plain_same f h (grouping n a ts) = refl
 
-  strings_same : (xs : List ItemInMode) → strings_in (holed_items xs) ≡ strings_in xs
-  strings_same [] = refl
-  strings_same (x ∷ xs) = ap (strings_with (holed_plain picked x.plain)) (strings_same xs) ∙ plain_same (λ p. strings_with p (strings_in xs)) (λ n c c' os os'. refl) x.plain
+  routine_by : (k : DeclarationKind) (n : List ℕ) (c c' : Command) (os os' : Others) → names_by k (routine n c os) ≡ names_by k (routine n c' os')
+  routine_by kinds.Strings n c c' os os' = refl
+  routine_by kinds.Integers n c c' os os' = refl
+  routine_by kinds.Booleans n c c' os os' = refl
+  routine_by kinds.Routines n c c' os os' = refl
+  routine_by kinds.Externals n c c' os os' = refl
+  routine_by kinds.Groupings n c c' os os' = refl
 
-  integers_same : (xs : List ItemInMode) → integers_in (holed_items xs) ≡ integers_in xs
-  integers_same [] = refl
-  integers_same (x ∷ xs) = ap (integers_with (holed_plain picked x.plain)) (integers_same xs) ∙ plain_same (λ p. integers_with p (integers_in xs)) (λ n c c' os os'. refl) x.plain
-
-  booleans_same : (xs : List ItemInMode) → booleans_in (holed_items xs) ≡ booleans_in xs
-  booleans_same [] = refl
-  booleans_same (x ∷ xs) = ap (booleans_with (holed_plain picked x.plain)) (booleans_same xs) ∙ plain_same (λ p. booleans_with p (booleans_in xs)) (λ n c c' os os'. refl) x.plain
-
-  groupings_same : (xs : List ItemInMode) → groupings_in (holed_items xs) ≡ groupings_in xs
-  groupings_same [] = refl
-  groupings_same (x ∷ xs) = ap (groupings_with (holed_plain picked x.plain)) (groupings_same xs) ∙ plain_same (λ p. groupings_with p (groupings_in xs)) (λ n c c' os os'. refl) x.plain
-
-  routines_same : (xs : List ItemInMode) → routines_in (holed_items xs) ≡ routines_in xs
-  routines_same [] = refl
-  routines_same (x ∷ xs) = ap (routines_with (holed_plain picked x.plain)) (routines_same xs) ∙ plain_same (λ p. routines_with p (routines_in xs)) (λ n c c' os os'. refl) x.plain
+  names_by_kind : (xs : List ItemInMode) (k : DeclarationKind) → known_in (holed_items xs) k ≡ known_in xs k
+  names_by_kind [] k = refl
+  names_by_kind (x ∷ xs) k = ap (λ l. names_by k (holed_plain picked x.plain) ++ l) (names_by_kind xs k) ∙ ap (λ l. l ++ known_in xs k) (plain_same (names_by k) (routine_by k) x.plain)
 
   pub known_same : (xs : List ItemInMode) → known_in (holed_items xs) ≡ known_in xs
-  known_same xs = λ i. record { strings = strings_same xs i; integers = integers_same xs i; booleans = booleans_same xs i; groupings = groupings_same xs i; routines = routines_same xs i }
+  known_same xs = fun_ext (names_by_kind xs)
 
   pub classes_same : (xs : List ItemInMode) (gs : List Grouping) → classes_behind (holed_items xs) gs ≡ classes_behind xs gs
   classes_same [] gs = refl
@@ -70,7 +65,7 @@ module _ (picked : Item' → Bool) where
       ap (classes_behind (holed_items xs)) (plain_same (λ p. and_grouping p gs) (λ n c c' os os'. refl) x.plain) ∙ classes_same xs (and_grouping x.plain gs)
 
   pub names_same : (s : Source) → routine_names (holed_script picked s) ≡ routine_names s
-  names_same s = ap routines_in (order_holed s.items) ∙ routines_same (in_order s.items)
+  names_same s = ap (λ is. known_in is kinds.Routines) (order_holed s.items) ∙ names_by_kind (in_order s.items) kinds.Routines
 
   -- ---- bodies
 
@@ -114,21 +109,21 @@ module _ (picked : Item' → Bool) where
 
 -- where a routine of this name is one of some items, its place among their names has its name
 abbrev Stands : List ItemInMode → List ℕ → Type 0
-Stands xs n = (b : Body) → body_named xs n ≡ Some b → slice_index_or (routines_in xs) (place_of (routines_in xs) n) [] ≡ n
+Stands xs n = (b : Body) → body_named xs n ≡ Some b → slice_index_or (known_in xs kinds.Routines) (place_of (known_in xs kinds.Routines) n) [] ≡ n
 
 stands_first : (r n : List ℕ) (x : Body) (xs : List ItemInMode) → Stands xs n → (b : Bool) → bytes_eq r n ≡ b → (y : Body) → (if b then Some x else body_named xs n) ≡ Some y
-    → slice_index_or (r ∷ routines_in xs) (if b then 0 else suc (place_of (routines_in xs) n)) [] ≡ n
+    → slice_index_or (r ∷ known_in xs kinds.Routines) (if b then 0 else suc (place_of (known_in xs kinds.Routines) n)) [] ≡ n
 stands_first r n x xs h true e y is = (bytes_eq-Decides r n).0 e
 stands_first r n x xs h false e y is = h y is
 
 stands_item : (m : Mode) (x : Plain) (n : List ℕ) (xs : List ItemInMode) → Stands xs n → (y : Body) → body_or m x n (body_named xs n) ≡ Some y
-    → slice_index_or (routines_with x (routines_in xs)) (place_of (routines_with x (routines_in xs)) n) [] ≡ n
+    → slice_index_or (names_by kinds.Routines x ++ known_in xs kinds.Routines) (place_of (names_by kinds.Routines x ++ known_in xs kinds.Routines) n) [] ≡ n
 stands_item m (routine r c os) n xs h y is = stands_first r n (record { mode = m; first = c; others = os }) xs h (bytes_eq r n) refl y is
 stands_item m (declaration k ys) n xs h y is = h y is
 stands_item m (escapes a b) n xs h y is = h y is
 stands_item m (macro z b q) n xs h y is = h y is
 stands_item m (grouping z a ts) n xs h y is = h y is
 
-pub name_stands : (xs : List ItemInMode) (n : List ℕ) (b : Body) → body_named xs n ≡ Some b → slice_index_or (routines_in xs) (place_of (routines_in xs) n) [] ≡ n
+pub name_stands : (xs : List ItemInMode) (n : List ℕ) (b : Body) → body_named xs n ≡ Some b → slice_index_or (known_in xs kinds.Routines) (place_of (known_in xs kinds.Routines) n) [] ≡ n
 name_stands [] n b is = let never : None ≡ Some b = is in absurd cc
 name_stands (x ∷ xs) n b is = stands_item x.mode x.plain n xs (name_stands xs n) b is

@@ -2,7 +2,7 @@
 use Rattle.std.proofs.Common.{◌≡◌, ℕ, suc, ◌+◌, Bool, true, false, ◌∷◌, ◌++◌, map, refl, ap, ◌∙◌}
 use Rattle.std.specs.Prelude.{if◌then◌else◌}
 use Rattle.sbl_tree.specs.Tree.{Command, Rows, Others, Starter, Groups, bracket, simple_, literal_, name_, non_, prefixed, counted, move_, named, splice_, setlimit_, assign_, compare_, compare_values_, among_, no_rows, row, no_others, joined, no_starter, starter, bare, group}
-use Rattle.sbl_program.specs.Regions.{behind, behind_rows, behind_others, behind_starter, behind_groups, waits, waits_rows, waits_others, waits_simple}
+use Rattle.sbl_program.specs.Regions.{behind, behind_rows, behind_others, behind_starter, behind_groups, waits, waits_rows, waits_others}
 use Rattle.sbl_machine.specs.Holes.{blanks, blanks_rows, blanks_others, blanks_starter, blanks_groups, hole, with_holes, rows_with_holes, others_with_holes, starter_with_holes, groups_with_holes}
 use Rattle.sbl_machine.specs.Meaning.{offer, offers}
 
@@ -100,7 +100,7 @@ module _ (holes : ℕ → Bool) where
   mutual
     pub waits_same : (t : Command) (k : ℕ) (w w' : Bool) → w' ≡ w → waits (with_holes holes k t) w' ≡ waits t w
     waits_same (bracket rs) k w w' p = waits_rows_same rs k w w' p
-    waits_same (simple_ s) k w w' p = ap (waits_simple s) p
+    waits_same (simple_ s) k w w' p = ap (waits (simple_ s)) p
     waits_same (literal_ x) k w w' p = p
     waits_same (name_ x) k w w' p = p
     waits_same (non_ x y) k w w' p = p

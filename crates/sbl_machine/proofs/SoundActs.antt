@@ -18,6 +18,7 @@ use Rattle.sbl_tree.specs.declared.tree.Naming.{Naming}
 use Rattle.sbl_tree.specs.declared.tree.Naming.TheVariants as namings
 use Rattle.sbl_tree.specs.declared.tree.Splice.{Splice}
 use Rattle.sbl_tree.specs.declared.tree.Splice.TheVariants as edits
+use Rattle.sbl_tree.specs.declared.tree.DeclarationKind.TheVariants as kinds
 use Rattle.sbl_tree.specs.Tree as trees
 use Rattle.sbl_tree.specs.Tree.{bracket, simple_, literal_, name_, non_, prefixed, counted, move_, named, splice_, setlimit_, assign_, compare_, compare_values_, among_, no_rows, row, no_others, joined, no_starter, starter, bare, group}
 use Rattle.sbl_program.specs.Ahead.{search_next, search_of, found_as, search_then, simple_by, made, made_rows, made_others, made_starter, made_groups}
@@ -67,13 +68,13 @@ module _ (ns : Names) (known : Known) (agree : Agree ns known) (sets : List (Lis
   if_does true x y m s = refl
   if_does false x y m s = refl
 
-  string_at : (n : List ℕ) → number_of ns.strings n ≡ place_of known.strings n
+  string_at : (n : List ℕ) → number_of ns.strings n ≡ place_of (known kinds.Strings) n
   string_at n = placed_by _ _ n agree.strings
 
-  integer_of : (n : List ℕ) → number_of ns.integers n ≡ place_of known.integers n
+  integer_of : (n : List ℕ) → number_of ns.integers n ≡ place_of (known kinds.Integers) n
   integer_of n = placed_by _ _ n agree.integers
 
-  boolean_of : (n : List ℕ) → number_of ns.booleans n ≡ place_of known.booleans n
+  boolean_of : (n : List ℕ) → number_of ns.booleans n ≡ place_of (known kinds.Booleans) n
   boolean_of n = placed_by _ _ n agree.booleans
 
   one_kind : (xs ys : List (List ℕ)) (n : List ℕ) → xs ≡ ys → is_one_of xs n ≡ is_among ys n
@@ -155,11 +156,11 @@ module _ (ns : Names) (known : Known) (agree : Agree ns known) (sets : List (Lis
   abbrev assigning : ℕ → (ℤ → ℤ → Value) → Value → State → Ending
   assigning x f v s = given (with_value v (f (integer_at x s))) s (λ z. Signals true (record s { integers = slice_set s.integers x z }))
 
-  assign_same : (n : List ℕ) (o : Assignment) (e : trees.Expression) → does_as (programs.act (programs.assign (number_of ns.integers n) (change_of o) (expression ns e))) (λ m s. assigned_does (place_of known.integers n) o (worth known e m s) s)
+  assign_same : (n : List ℕ) (o : Assignment) (e : trees.Expression) → does_as (programs.act (programs.assign (number_of ns.integers n) (change_of o) (expression ns e))) (λ m s. assigned_does (place_of (known kinds.Integers) n) o (worth known e m s) s)
   assign_same n o e m s =
       ap (λ x. assigning x (changed (change_of o)) (value (expression ns e) m s) s) (integer_of n)
-      ∙ ap (λ f. assigning (place_of known.integers n) f (value (expression ns e) m s) s) (changed_same o)
-      ∙ ap (λ v. assigning (place_of known.integers n) (meaning.altered o) v s) (worth_same ns known agree e m s)
+      ∙ ap (λ f. assigning (place_of (known kinds.Integers) n) f (value (expression ns e) m s) s) (changed_same o)
+      ∙ ap (λ v. assigning (place_of (known kinds.Integers) n) (meaning.altered o) v s) (worth_same ns known agree e m s)
 
   abbrev comparing : Value → (ℤ → ℤ → Bool) → Value → State → Ending
   comparing v f w s = given v s (λ x. given w s (λ y. Signals (f x y) s))

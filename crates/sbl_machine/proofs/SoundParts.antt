@@ -2,11 +2,13 @@
 use Rattle.std.proofs.Common.{◌≡◌, ℕ, zero, suc, ◌+◌, List, [], ◌∷◌, ◌++◌, length, map, Option, Some, None, option_map, refl, sym, arith, ap, ◌∙◌, append_assoc, append-nil}
 use Rattle.std.specs.Cmp.Lexicographic.{pointwise}
 use Rattle.std.specs.List.{position_or_len}
-use Rattle.std.proofs.lemmas.Bool.{lt-ltb, true≢false}
+use Rattle.std.proofs.lemmas.Bool.{lt-ltb, ltb-false, true≢false}
 use Rattle.std.proofs.lemmas.List.Recursion.{is_position_or_len}
-use Rattle.std.specs.Prelude.{Bool, true, false, cond, if◌then◌else◌, take, nat_eq, nat_lt, pos, neg_ℤ, Ok, slice_get, slice_index_or}
+use Rattle.std.specs.Prelude.{Bool, true, false, cond, if◌then◌else◌, ◌-◌, take, drop, reverse, nat_eq, nat_lt, pos, neg_ℤ, Ok, slice_get, slice_index_or}
 use Rattle.std.proofs.Math.Path.{fun_ext}
-use Rattle.std.proofs.lemmas.List.{map-append}
+use Rattle.std.proofs.lemmas.List.{map-append, length-drop, take_all, take_rest}
+use Rattle.std.proofs.Math.ListN.{drop_of_length-le}
+use Rattle.std.proofs.Math.Seq.{drop-length, take-nil}
 use Rattle.std.proofs.lemmas.Option.{slice_get-map}
 use Rattle.sbl_tree.specs.declared.tree.Additive.{Additive}
 use Rattle.sbl_tree.specs.declared.tree.Additive.TheVariants as additives
@@ -18,6 +20,7 @@ use Rattle.sbl_tree.specs.declared.tree.Multiplicative.{Multiplicative}
 use Rattle.sbl_tree.specs.declared.tree.Multiplicative.TheVariants as multiplicatives
 use Rattle.sbl_tree.specs.declared.tree.Constant.{Constant}
 use Rattle.sbl_tree.specs.declared.tree.Constant.TheVariants as constants
+use Rattle.sbl_tree.specs.declared.tree.DeclarationKind.TheVariants as kinds
 use Rattle.sbl_tree.specs.Tree as trees
 use Rattle.sbl_tree.specs.Tree.{bare, group}
 use Rattle.sbl_program.specs.declared.node.Candidate as code
@@ -36,9 +39,10 @@ use Rattle.sbl_run.specs.Numbers.{Value, value, fitted, with_value, changed, hol
 use Rattle.sbl_program.specs.Program as programs
 use Rattle.sbl_program.specs.Regions.{Among}
 use Rattle.sbl_run.specs.Search.{bound_in, choose, condition_does, try_one, tries, searched, search_all, touch_among}
-use Rattle.sbl_run.specs.State.{State, Ending, Signals, Doing, after, saved_cursor, place_after, then_on, pay}
+use Rattle.sbl_run.specs.State.{State, bound_of, Ending, Signals, Doing, after, saved_cursor, place_after, then_on, pay}
 use Rattle.sbl_program.proofs.SoundItems.{less_suc, placed_by}
 use Rattle.sbl_tree.specs.declared.mode.Mode.{Mode}
+use Rattle.sbl_tree.specs.declared.mode.Mode.TheVariants.{Forward, Backward}
 
 pub changed_same : (o : Assignment) → changed (change_of o) ≡ meaning.altered o
 changed_same assignments.Equals = refl
@@ -57,11 +61,11 @@ holds_same comparisons.AtLeast = refl
 
 -- the names of a script, in both
 pub record Agree (ns : Names) (known : Known) : Type 0 where
-  pub strings : ns.strings ≡ known.strings
-  pub integers : ns.integers ≡ known.integers
-  pub booleans : ns.booleans ≡ known.booleans
-  pub groupings : ns.groupings ≡ known.groupings
-  pub routines : ns.routines ≡ known.routines
+  pub strings : ns.strings ≡ known kinds.Strings
+  pub integers : ns.integers ≡ known kinds.Integers
+  pub booleans : ns.booleans ≡ known kinds.Booleans
+  pub groupings : ns.groupings ≡ known kinds.Groupings
+  pub routines : ns.routines ≡ known kinds.Routines
 
 module _ (ns : Names) (known : Known) (agree : Agree ns known) where
   pub text_same : (a : trees.Argument) (s : State) → characters (text ns a) s ≡ meaning.text known a s
@@ -107,6 +111,22 @@ module _ (ns : Names) (known : Known) (agree : Agree ns known) where
     factor_same (trees.length_of a) m s = ap (λ cs. fitted (pos (length cs))) (text_same a s)
 
   -- ---- searches
+
+  -- behind the end of the text nothing is ahead, so that a bound there is as good as the end
+  cut_same : (r : Mode) (text : List ℕ) (at left : ℕ) (b : Bool) → nat_lt left (length text) ≡ b → ahead_at r text at (if b then left else length text) ≡ ahead_at r text at left
+  cut_same r text at left true h = refl
+  cut_same Forward text at left false h =
+      let end = ltb-false left (length text) h in
+      take_rest text at ∙ sym (take_all (left - at) (drop at text) (omega (arith, length-drop at text)))
+  cut_same Backward text at left false h =
+      let end = ltb-false left (length text) h in
+      ap (λ xs. reverse (take (at - length text) xs)) (drop-length text)
+      ∙ ap reverse (take-nil (at - length text) ∙ sym (take-nil (at - left)))
+      ∙ sym (ap (λ xs. reverse (take (at - left) xs)) (drop_of_length-le text end))
+
+  bound_same : (r m : Mode) (s : State) → ahead_at r s.text s.cursor (bound_in m s) ≡ ahead_at r s.text s.cursor (bound_of m s)
+  bound_same r Forward s = refl
+  bound_same r Backward s = cut_same r s.text s.cursor s.left (nat_lt s.left (length s.text)) refl
 
   entry_by : Offer → code.Candidate
   entry_by o = record { condition = condition_of ns o.condition; group = o.group; length = length o.string }
@@ -217,9 +237,10 @@ module _ (ns : Names) (known : Known) (agree : Agree ns known) where
     unfolding fitting
     searched_same a m s =
         let os = offers 0 a.groups in
-        let x = ahead_at a.mode s.text s.cursor (bound_in m s) in
+        let x = ahead_at a.mode s.text s.cursor (bound_of m s) in
         let fits = λ (strings : List (List ℕ)). below (read_all a.mode strings) x (suc (length x)) in
-        ap (λ es. tries call a.number es m s (fits (strings_behind a.groups [])) s) (entries_are 0 a.groups [])
+        ap (λ x. tries call a.number (found_as ns a).entries m s (below (read_all a.mode (found_as ns a).strings.entries) x (suc (length x))) s) (bound_same a.mode m s)
+        ∙ ap (λ es. tries call a.number es m s (fits (strings_behind a.groups [])) s) (entries_are 0 a.groups [])
         ∙ ap (λ xs. tries call a.number (map entry_by os) m s (fits xs) s) (strings_are 0 a.groups [])
         ∙ tries_same a.number os a.mode m s x (suc (length x)) s
 

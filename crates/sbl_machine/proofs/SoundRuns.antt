@@ -1,6 +1,7 @@
 -- A run of the numbered script is a run of the script.
 use Rattle.std.proofs.Common.{◌≡◌, ℕ, zero, suc, Bool, List, [], Option, Some, None, option_map, refl, ap, ◌∙◌}
 use Rattle.std.proofs.Math.Path.{fun_ext}
+use Rattle.sbl_tree.specs.declared.tree.DeclarationKind.TheVariants as kinds
 use Rattle.sbl_program.specs.Items.{Known, ItemInMode, Body, in_order, known_in, class_of, classes_behind, body_named}
 use Rattle.sbl_machine.specs.Meaning as meaning
 use Rattle.sbl_machine.specs.Numbered.{numbered_script}
@@ -33,6 +34,12 @@ module _ (items : List ItemInMode) (external : List ℕ) where
   abbrev program : programs.Program
   program = plan_with ns items external
 
+  abbrev variables : List (List ℕ) → List (List ℕ) → List (List ℕ) → Known
+  variables integers booleans strings kinds.Integers = integers
+  variables integers booleans strings kinds.Booleans = booleans
+  variables integers booleans strings kinds.Strings = strings
+  variables integers booleans strings k = []
+
   agree : Agree ns known
   agree = record {
     strings = strings_are items no_names;
@@ -56,19 +63,15 @@ module _ (items : List ItemInMode) (external : List ℕ) where
       ap (λ o. run.body_does (does program.groupings (run.calls program l)) (number_of ns.routines n) o m s) (routine_same items external n)
       ∙ body_same (run.calls program l) (meaning.calls known class (body_named items) l) n (body_named items n) m s (λ n. fun_ext (λ m. fun_ext (λ s. calls_same l n m s)))
 
-  abbrev known_by : List (List ℕ) → List (List ℕ) → List (List ℕ) → List (List ℕ) → List (List ℕ) → Known
-  known_by a b c d e = record { strings = a; integers = b; booleans = c; groupings = d; routines = e }
-
-  known_same : known_by ns.strings ns.integers ns.booleans ns.groupings ns.routines ≡ known
-  known_same =
-      ap (λ a. known_by a ns.integers ns.booleans ns.groupings ns.routines) agree.strings
-      ∙ ap (λ b. known_by known.strings b ns.booleans ns.groupings ns.routines) agree.integers
-      ∙ ap (λ c. known_by known.strings known.integers c ns.groupings ns.routines) agree.booleans
-      ∙ ap (λ d. known_by known.strings known.integers known.booleans d ns.routines) agree.groupings
-      ∙ ap (λ e. known_by known.strings known.integers known.booleans known.groupings e) agree.routines
+  -- where a run begins, by the names of its variables
+  abbrev started : List (List ℕ) → List (List ℕ) → List (List ℕ) → List ℕ → ℕ → State
+  started integers booleans strings word limit = meaning.start (variables integers booleans strings) word limit
 
   start_same : (word : List ℕ) (limit : ℕ) → start program word limit ≡ meaning.start known word limit
-  start_same word limit = ap (λ k. meaning.start k word limit) known_same
+  start_same word limit =
+      ap (λ l. started l ns.booleans ns.strings word limit) agree.integers
+      ∙ ap (λ l. started (known kinds.Integers) l ns.strings word limit) agree.booleans
+      ∙ ap (λ l. started (known kinds.Integers) (known kinds.Booleans) l word limit) agree.strings
 
   by_items : (word : List ℕ) (limit : ℕ) → ending_of program word limit ≡ meaning.calls known class (body_named items) 32 external Forward (meaning.start known word limit)
   by_items word limit = calls_same 32 external Forward (start program word limit) ∙ ap (meaning.calls known class (body_named items) 32 external Forward) (start_same word limit)

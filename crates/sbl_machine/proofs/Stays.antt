@@ -11,6 +11,7 @@ use Rattle.sbl_tree.specs.declared.tree.Naming.{Naming}
 use Rattle.sbl_tree.specs.declared.tree.Naming.TheVariants as namings
 use Rattle.sbl_tree.specs.declared.tree.Splice.{Splice}
 use Rattle.sbl_tree.specs.declared.tree.Splice.TheVariants as edits
+use Rattle.sbl_tree.specs.declared.tree.DeclarationKind.TheVariants as kinds
 use Rattle.sbl_tree.specs.declared.mode.Mode.{Mode}
 use Rattle.sbl_tree.specs.declared.mode.Mode.TheVariants.{Forward, Backward}
 use Rattle.sbl_program.specs.Items.{Known, place_of}
@@ -154,7 +155,7 @@ pub named_same : (ns : Known) (x : Naming) (n : List ℕ) (m : Mode) (s : State)
 named_same ns namings.SetMark n m s = refl
 named_same ns namings.Set n m s = refl
 named_same ns namings.Unset n m s = refl
-named_same ns namings.Arrow n m s = keep_same (place_of ns.strings n) s
+named_same ns namings.Arrow n m s = keep_same (place_of (ns kinds.Strings) n) s
 
 pub edited_same : (x : Splice) (cs : List ℕ) (m : Mode) (s : State) → Same s (edited_does x cs m s)
 edited_same edits.Replace cs m s = replace_same cs s

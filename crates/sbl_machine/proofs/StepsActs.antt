@@ -31,11 +31,12 @@ use Rattle.sbl_machine.specs.Meaning.{Offer, prefixed_does, counted_does, joined
 use Rattle.sbl_run.specs.Moves.{match, hop, at_mark, to_mark}
 use Rattle.sbl_run.specs.Numbers.{Value, fitted, natural, with_value, integer_at}
 use Rattle.sbl_run.specs.Run.{turns, times, count_of, limits, limited, limit_here, limit_back, backwards_from, backwards_end, chosen, paid}
-use Rattle.sbl_run.specs.Search.{bound_in, choose, touch_among}
+use Rattle.sbl_run.specs.Search.{choose, touch_among}
 use Rattle.sbl_run.specs.Slices.{is_slice, replaced, replace, keep, inserted, put_in}
-use Rattle.sbl_run.specs.State.{State, Ending, Signals, Stops, Doing, ahead, after, then_on, room, saved_cursor, place_after, put_back}
+use Rattle.sbl_run.specs.State.{State, bound_of, Ending, Signals, Stops, Doing, ahead, after, then_on, room, saved_cursor, place_after, put_back}
 use Rattle.sbl_machine.proofs.Steps.{more, Goes, Steady, Pays, signals_go, steady_goes, then_goes, if_goes, given_goes, pays_go, paid_go, at_place_go, to_limit_go, put_back_go, place_after_go, next_go, turns_goes, times_go, seeks_goes}
 use Rattle.std.proofs.Math.Path.{fun_ext}
+use Rattle.sbl_tree.specs.declared.tree.DeclarationKind.TheVariants as kinds
 use Rattle.sbl_tree.specs.declared.mode.Mode.{Mode}
 use Rattle.sbl_tree.specs.declared.mode.Mode.TheVariants.{Forward, Backward}
 
@@ -63,7 +64,7 @@ pub named_go : (ns : Known) (x : Naming) (y : List ℕ) (m : Mode) → Steady (n
 named_go ns namings.SetMark y m k n s l = (l, refl)
 named_go ns namings.Set y m k n s l = (l, refl)
 named_go ns namings.Unset y m k n s l = (l, refl)
-named_go ns namings.Arrow y m k n s l = keep_go (place_of ns.strings y) k n s l
+named_go ns namings.Arrow y m k n s l = keep_go (place_of (ns kinds.Strings) y) k n s l
 
 -- ---- moving and testing
 
@@ -251,5 +252,5 @@ module _ (call : List ℕ → Doing) (go : (x : List ℕ) (m : Mode) → Steady 
       (tried_go a.number os a.mode m s x (suc (length x)) k n s l)
 
   pub search_go : (a : Among) (m : Mode) → Steady (search call a m)
-  search_go a Forward k n s l = search_goes a Forward (ahead_at a.mode s.text s.cursor (bound_in Forward s)) k n (touch_among a.number s) l
-  search_go a Backward k n s l = search_goes a Backward (ahead_at a.mode s.text s.cursor (bound_in Backward s)) k n (touch_among a.number s) l
+  search_go a Forward k n s l = search_goes a Forward (ahead_at a.mode s.text s.cursor (bound_of Forward s)) k n (touch_among a.number s) l
+  search_go a Backward k n s l = search_goes a Backward (ahead_at a.mode s.text s.cursor (bound_of Backward s)) k n (touch_among a.number s) l

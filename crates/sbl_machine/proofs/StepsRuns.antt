@@ -1,6 +1,7 @@
 -- A script with more steps left.
 use Rattle.std.proofs.Common.{ℕ, zero, suc, Bool, true, false, List, [], Option, Some, None, Ok, refl, sym, subst}
 use Rattle.std.specs.Prelude.{slice_index_or}
+use Rattle.sbl_tree.specs.declared.tree.DeclarationKind.TheVariants as kinds
 use Rattle.sbl_tree.specs.Tree as trees
 use Rattle.sbl_tree.specs.Tree.{bracket, simple_, literal_, name_, non_, prefixed, counted, move_, named, splice_, setlimit_, assign_, compare_, compare_values_, among_, no_rows, row, no_others, joined, no_starter, starter, bare, group}
 use Rattle.sbl_program.specs.Items.{Known, Body, place_of, is_among}
@@ -22,9 +23,9 @@ module _ (ns : Known) (class : List ℕ → ℕ → Bool) (call : List ℕ → D
 
   name_go : (x : List ℕ) (m : Mode) → Steady (meaning.name_does ns class call x m)
   name_go x m k n s l =
-      if_goes k n (is_among ns.strings x) _ _ _ _ (match_go (slice_index_or s.strings (place_of ns.strings x) []) m k n s l)
-      (if_goes k n (is_among ns.booleans x) _ _ _ _ (l, refl)
-      (if_goes k n (is_among ns.groupings x) _ _ _ _ (class_go true (class x) m k n s l) (go x m k n s l)))
+      if_goes k n (is_among (ns kinds.Strings) x) _ _ _ _ (match_go (slice_index_or s.strings (place_of (ns kinds.Strings) x) []) m k n s l)
+      (if_goes k n (is_among (ns kinds.Booleans) x) _ _ _ _ (l, refl)
+      (if_goes k n (is_among (ns kinds.Groupings) x) _ _ _ _ (class_go true (class x) m k n s l) (go x m k n s l)))
 
   abbrev does : Mode → ℕ → Bool → Option Among → trees.Command → Doing
   does = meaning.act ns class call
@@ -47,8 +48,8 @@ module _ (ns : Known) (class : List ℕ → ℕ → Bool) (call : List ℕ → D
     act_go (setlimit_ b c) r i w x m k n s l =
         let x' = first r c (behind b i) x in
         limited_go_on b c r i w x x' (act_go b r i w x') (act_go c r (behind b i) (waits b w) x) m k n s l
-    act_go (assign_ y o e) r i w x m k n s l = assigned_goes (place_of ns.integers y) o k n s _ _ (worth_more ns m k s e) l
-    act_go (compare_ y o e) r i w x m k n s l = compared_goes o k n s (Ok (integer_at (place_of ns.integers y) s)) (Ok (integer_at (place_of ns.integers y) s)) _ _ refl (worth_more ns m k s e) l
+    act_go (assign_ y o e) r i w x m k n s l = assigned_goes (place_of (ns kinds.Integers) y) o k n s _ _ (worth_more ns m k s e) l
+    act_go (compare_ y o e) r i w x m k n s l = compared_goes o k n s (Ok (integer_at (place_of (ns kinds.Integers) y) s)) (Ok (integer_at (place_of (ns kinds.Integers) y) s)) _ _ refl (worth_more ns m k s e) l
     act_go (compare_values_ e o f) r i w x m k n s l = compared_goes o k n s _ _ _ _ (worth_more ns m k s e) (worth_more ns m k s f) l
     act_go (among_ st gs) r i w x m k n s l =
         let begun = begins w (search call (among_at r i gs)) (meaning.starter_does ns class call r (suc i) st) m in
@@ -89,7 +90,7 @@ module _ (ns : Known) (class : List ℕ → ℕ → Bool) (call : List ℕ → D
   body_go x None m k n s l = (l, refl)
   body_go x (Some b) m k n s l =
       let d = paid (meaning.row_does ns class call b.mode b.first b.others) m in
-      let begun = enter (place_of ns.routines x) (behind_others b.others (behind b.first 0)) s in
+      let begun = enter (place_of (ns kinds.Routines) x) (behind_others b.others (behind b.first 0)) s in
       steady_goes k n (d begun) (d (more k begun)) (λ t. Signals true (back_in s.routine s.choices t)) (λ t. Signals false (back_in s.routine s.choices t))
       (pays_go (paid (meaning.row_does ns class call b.mode b.first b.others)) (paid_pays (meaning.row_does ns class call b.mode b.first b.others) (row_go b.mode b.first b.others)) m k n begun l)
       (λ k n t j. (j, refl)) (λ k n t j. (j, refl))

@@ -28,15 +28,16 @@ use Rattle.sbl_tree.specs.declared.tree.Comparison.TheVariants as comparisons
 use Rattle.sbl_tree.specs.Tree as trees
 use Rattle.sbl_tree.specs.Tree.{bracket, simple_, literal_, name_, non_, prefixed, counted, move_, named, splice_, setlimit_, assign_, compare_, compare_values_, among_, no_rows, row, no_others, joined, no_starter, starter, bare, group}
 use Rattle.std.specs.Cmp.Lexicographic.{pointwise}
+use Rattle.sbl_tree.specs.declared.tree.DeclarationKind.TheVariants as kinds
 use Rattle.sbl_tables.specs.Fitting.{read_as, ahead_at}
 use Rattle.sbl_program.specs.Items.{Known, Body, is_among, place_of, body_named, class_of, classes_behind, in_order, known_in}
 use Rattle.sbl_run.specs.Moves.{match, next, hop, at_limit, set_mark, at_mark, to_mark, set_boolean, test_boolean}
 use Rattle.sbl_run.specs.Numbers.{Value, natural, given, fitted, divided, with_value, with_both, limit_value, integer_at}
 use Rattle.sbl_program.specs.Regions.{Among, among_at, behind, behind_rows, behind_others, behind_starter, first, first_rows, first_others, mode_behind, waits, waits_others}
-use Rattle.sbl_run.specs.Run.{turns, times, count_of, seeks, limits, limited as within, limit_here, backwards_from, backwards_end, chosen as go_on, enter, leave, paid}
-use Rattle.sbl_run.specs.Search.{choose, choice, bound_in, touch_among}
+use Rattle.sbl_run.specs.Run.{turns, times, count_of, seeks, limits, limit_here, limit_back, backwards_from, backwards_end, chosen as go_on, enter, back_in, paid}
+use Rattle.sbl_run.specs.Search.{choose, choice, touch_among}
 use Rattle.sbl_run.specs.Slices.{left_bracket, right_bracket, replace, keep, insert, attach}
-use Rattle.sbl_run.specs.State.{State, Ending, Signals, Stops, Doing, ahead, after, moved as further, then_on, pay, saved_cursor, place_after, put_back, to_limit}
+use Rattle.sbl_run.specs.State.{State, Ending, Signals, Stops, Doing, ahead, bound_of, after, moved as further, then_on, saved_cursor, place_after, put_back, to_limit}
 use Rattle.sbl_run.specs.declared.fault.RunFault.TheVariants.{Depth}
 use Rattle.sbl_script.specs.Parsed.{Source}
 use Rattle.sbl_tree.specs.declared.mode.Mode.{Mode}
@@ -67,9 +68,13 @@ abbrev pub joined_does : Joiner → Doing → Doing → Doing
 joined_does Or a b m s = after (a m s) (Signals true) (λ f. then_on (put_back m (saved_cursor s) f) (b m))
 joined_does And a b m s = after (a m s) (λ t. then_on (put_back m (saved_cursor s) t) (b m)) (Signals false)
 
--- `setlimit C1 for C2`
+-- a change at the end, whatever is signalled
+abbrev pub at_end : (State → State) → Ending → Ending
+at_end change e = after e (λ t. Signals true (change t)) (λ f. Signals false (change f))
+
+-- `setlimit C1 for C2`: the old limit is back at the end
 abbrev pub limited_does : Doing → Doing → Doing
-limited_does a b m s = after (a m s) (λ t. then_on (put_back m (saved_cursor s) (limit_here m t)) (λ u. within m (limits s) (b m u))) (Signals false)
+limited_does a b m s = after (a m s) (λ t. then_on (put_back m (saved_cursor s) (limit_here m t)) (λ u. at_end (limit_back m (limits s)) (b m u))) (Signals false)
 
 -- the words that stand alone, by the search of the next among
 abbrev pub simple_does : Doing → Simple → Doing
@@ -121,10 +126,10 @@ abbrev pub class_does : Bool → (ℕ → Bool) → Doing
 class_does wanted has m s = if next_has wanted has (slice_get (ahead m s) 0) then Signals true (further m 1 s) else Signals false s
 
 abbrev pub named_does : Known → Naming → List ℕ → Doing
-named_does ns namings.SetMark n m s = Signals true (set_mark (place_of ns.integers n) s)
-named_does ns namings.Set n m s = Signals true (set_boolean (place_of ns.booleans n) true s)
-named_does ns namings.Unset n m s = Signals true (set_boolean (place_of ns.booleans n) false s)
-named_does ns namings.Arrow n m s = keep (place_of ns.strings n) s
+named_does ns namings.SetMark n m s = Signals true (set_mark (place_of (ns kinds.Integers) n) s)
+named_does ns namings.Set n m s = Signals true (set_boolean (place_of (ns kinds.Booleans) n) true s)
+named_does ns namings.Unset n m s = Signals true (set_boolean (place_of (ns kinds.Booleans) n) false s)
+named_does ns namings.Arrow n m s = keep (place_of (ns kinds.Strings) n) s
 
 -- `<+` is `insert`
 abbrev pub edited_does : Splice → List ℕ → Doing
@@ -143,7 +148,7 @@ begins false search begun m s = after (paid search m s) (begun m) (Signals false
 module _ (ns : Known) where
   abbrev pub text : trees.Argument → State → List ℕ
   text (trees.written_out q) s = q.value
-  text (trees.by_name n) s = slice_index_or s.strings (place_of ns.strings n) []
+  text (trees.by_name n) s = slice_index_or s.strings (place_of (ns kinds.Strings) n) []
 
   abbrev pub constant_worth : Constant → Mode → State → Value
   constant_worth constants.MaxInt m s = Ok (pos 2147483647)
@@ -182,7 +187,7 @@ module _ (ns : Known) where
     factor_worth (trees.negated f) m s = with_value (factor_worth f m s) (λ x. fitted (neg_ℤ x))
     factor_worth (trees.bracketed e) m s = worth e m s
     factor_worth (trees.numeral n) m s = fitted (pos n)
-    factor_worth (trees.variable n) m s = Ok (integer_at (place_of ns.integers n) s)
+    factor_worth (trees.variable n) m s = Ok (integer_at (place_of (ns kinds.Integers) n) s)
     factor_worth (trees.fixed c) m s = constant_worth c m s
     factor_worth (trees.length_of a) m s = fitted (pos (length (text a s)))
 
@@ -211,7 +216,7 @@ module _ (call : List ℕ → Doing) where
   -- a condition is a call, which pays a step of its own
   abbrev pub condition_does : Option (List ℕ) → Doing
   condition_does None m s = Signals true s
-  condition_does (Some n) m s = then_on (pay s.steps s) (call n m)
+  condition_does (Some n) m s = paid (call n) m s
 
   -- One string, if there is one: the cursor goes just after it, and its condition is called. At t it is taken, and the cursor
   -- set just after it again; at f what comes next goes on from the state that the condition left.
@@ -232,7 +237,7 @@ module _ (call : List ℕ → Doing) where
   -- the strings that are a front of what is ahead, both read in the mode of the among's place
   abbrev pub searched : Among → Doing
   searched a m s =
-      let x = ahead_at a.mode s.text s.cursor (bound_in m s) in
+      let x = ahead_at a.mode s.text s.cursor (bound_of m s) in
       tried a.number (offers 0 a.groups) a.mode m s x (suc (length x)) s
 
   -- a search touches its among, whatever it finds
@@ -250,9 +255,9 @@ module _ (ns : Known) (class : List ℕ → ℕ → Bool) (call : List ℕ → D
   -- a name alone: a string variable, a boolean, a grouping or a routine
   abbrev pub name_does : List ℕ → Doing
   name_does n m s =
-      if is_among ns.strings n then match (slice_index_or s.strings (place_of ns.strings n) []) m s else
-      if is_among ns.booleans n then test_boolean (place_of ns.booleans n) s else
-      if is_among ns.groupings n then class_does true (class n) m s else
+      if is_among (ns kinds.Strings) n then match (slice_index_or s.strings (place_of (ns kinds.Strings) n) []) m s else
+      if is_among (ns kinds.Booleans) n then test_boolean (place_of (ns kinds.Booleans) n) s else
+      if is_among (ns kinds.Groupings) n then class_does true (class n) m s else
       call n m s
 
   abbrev mutual
@@ -271,8 +276,8 @@ module _ (ns : Known) (class : List ℕ → ℕ → Bool) (call : List ℕ → D
     act r k w n (splice_ x a) m s = edited_does x (text ns a s) m s
     act r k w n (setlimit_ b c) m s =
         limited_does (paid (act r k w (first r c (behind b k) n) b)) (paid (act r (behind b k) (waits b w) n c)) m s
-    act r k w n (assign_ x o e) m s = assigned_does (place_of ns.integers x) o (worth ns e m s) s
-    act r k w n (compare_ x o e) m s = compared_does (Ok (integer_at (place_of ns.integers x) s)) o (worth ns e m s) s
+    act r k w n (assign_ x o e) m s = assigned_does (place_of (ns kinds.Integers) x) o (worth ns e m s) s
+    act r k w n (compare_ x o e) m s = compared_does (Ok (integer_at (place_of (ns kinds.Integers) x) s)) o (worth ns e m s) s
     act r k w n (compare_values_ e o f) m s = compared_does (worth ns e m s) o (worth ns f m s) s
     act r k w n (among_ st gs) m s =
         after (begins w (search call (among_at r k gs)) (starter_does r (suc k) st) m s)
@@ -311,8 +316,8 @@ module _ (ns : Known) (class : List ℕ → ℕ → Bool) (call : List ℕ → D
   abbrev pub body_does : List ℕ → Option Body → Doing
   body_does n None m s = Signals false s
   body_does n (Some b) m s =
-      leave s.routine s.choices
-      (paid (row_does b.mode b.first b.others) m (enter (place_of ns.routines n) (behind_others b.others (behind b.first 0)) s))
+      at_end (back_in s.routine s.choices)
+      (paid (row_does b.mode b.first b.others) m (enter (place_of (ns kinds.Routines) n) (behind_others b.others (behind b.first 0)) s))
 
 -- ---- runs
 
@@ -330,9 +335,9 @@ start ns word steps = record {
   beyond = 0;
   bra = 0;
   ket = 0;
-  integers = replicate (length ns.integers) (pos 0);
-  booleans = replicate (length ns.booleans) false;
-  strings = replicate (length ns.strings) [];
+  integers = replicate (length (ns kinds.Integers)) (pos 0);
+  booleans = replicate (length (ns kinds.Booleans)) false;
+  strings = replicate (length (ns kinds.Strings)) [];
   choices = [];
   routine = 0;
   touched = [];

@@ -7,12 +7,13 @@ use Rattle.std.specs.declared.cmp.Ordering.TheVariants.{Less, Greater}
 use Rattle.std.specs.Ordering.{nat_cmp, ordering_then}
 use Rattle.std.specs.Cmp.Lexicographic.{slice_cmp}
 use Rattle.std.specs.BTreeSet.{BTreeSet, insert_key}
+use Rattle.sbl_tree.specs.declared.tree.DeclarationKind.TheVariants as kinds
 use Rattle.sbl_machine.specs.declared.item.Item.{Item}
 use Rattle.sbl_machine.specs.declared.item.Item.TheVariants as code
 use Rattle.sbl_run.specs.declared.touch.Touch.{Touch}
 use Rattle.sbl_run.specs.declared.touch.Touch.TheVariants.{Entered, Searched}
 use Rattle.sbl_machine.specs.Outcome.{touches_of}
-use Rattle.sbl_program.specs.Items.{in_order, routines_in}
+use Rattle.sbl_program.specs.Items.{in_order, known_in}
 use Rattle.sbl_script.specs.Edits.{ScriptEdit, body, among}
 use Rattle.sbl_script.specs.Parsed.{Source}
 
@@ -41,7 +42,7 @@ same_item (Among m k) (Among n l) = bytes_eq m n && nat_eq k l
 
 -- the routines of a script, in the order of their definitions
 abbrev pub routine_names : Source → List (List ℕ)
-routine_names script = routines_in (in_order script.items)
+routine_names script = known_in (in_order script.items) kinds.Routines
 
 -- a touch by its routine's name
 abbrev pub named : List (List ℕ) → Touch → Item'
@@ -66,7 +67,7 @@ ordered (x ∷ xs) = insert_key item_cmp (ordered xs) x
 
 -- those of some touches, by the names of the routines
 abbrev pub items_of : List (List ℕ) → List Touch → List Item'
-items_of names touches = ordered (map (named names) touches)
+items_of names ts = ordered (map (named names) ts)
 
 unfoldable pub touched_of : Source → List ℕ → ℕ → List Item'
 touched_of script word limit = items_of (routine_names script) (touches_of script word limit)

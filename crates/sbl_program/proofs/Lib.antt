@@ -1,4 +1,5 @@
 pub mod NumberingPlaces
 pub mod Coming
+pub mod OwnMade
 pub mod SoundItems
 pub mod Own

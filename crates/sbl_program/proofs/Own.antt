@@ -2,14 +2,15 @@
 use Rattle.std.proofs.Common.{◌≡◌, ℕ, List, [], option_map, sym, ap, ◌∙◌}
 use Rattle.std.specs.Prelude.{slice_get, slice_index_or}
 use Rattle.sbl_program.specs.Ahead.{routines_in}
-use Rattle.sbl_program.specs.Items.{ItemInMode, in_order, routines_in as routine_names, class_of, classes_behind, body_named}
+use Rattle.sbl_program.specs.Items.{ItemInMode, in_order, known_in, class_of, classes_behind, body_named}
 use Rattle.sbl_program.specs.Numbered.{numbered_items, plan_in, plan_with}
 use Rattle.sbl_program.specs.NumberedNames.{Names, names_behind, no_names, number_of}
 use Rattle.sbl_program.specs.NumberedSets.{has, sets_behind}
 use Rattle.sbl_program.specs.Program as programs
 use Rattle.sbl_program.specs.Laws.{RoutineIsItsOwn, SetsAreClasses, names_in}
-use Rattle.sbl_program.proofs.Coming.{own_is_made}
+use Rattle.sbl_program.proofs.OwnMade.{own_is_made}
 use Rattle.sbl_program.proofs.SoundItems.{placed_by, placed_is, groupings_are, routines_are, sets_are, as_made, body_at}
+use Rattle.sbl_tree.specs.declared.tree.DeclarationKind.TheVariants as kinds
 use Rattle.sbl_tree.specs.Tree.{Item}
 
 module _ (items : List ItemInMode) (external : List ℕ) where
@@ -25,7 +26,7 @@ module _ (items : List ItemInMode) (external : List ℕ) where
   pub routine_same : (n : List ℕ) → slice_get program.routines (number_of ns.routines n) ≡ option_map (as_made ns) (body_named items n)
   routine_same n =
       ap (λ rs. slice_get rs (number_of ns.routines n)) (own_is_made ns items)
-      ∙ ap (λ i. slice_get (routines_in ns items) i) (placed_by ns.routines (routine_names items) n (routines_are items no_names))
+      ∙ ap (λ i. slice_get (routines_in ns items) i) (placed_by ns.routines (known_in items kinds.Routines) n (routines_are items no_names))
       ∙ body_at ns items n
 
 program_is : (items : List Item) (external : List ℕ) → numbered_items items external ≡ plan_in (in_order items) external

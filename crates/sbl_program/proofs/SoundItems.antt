@@ -8,7 +8,7 @@ use Rattle.sbl_tree.specs.declared.tree.Additive.TheVariants.{Plus, Minus}
 use Rattle.sbl_tree.specs.declared.tree.DeclarationKind.TheVariants as kinds
 use Rattle.sbl_tree.specs.Tree.{Argument, written_out, by_name, Term, term, Item, Plain, declaration, escapes, macro, routine, grouping, plain, backward}
 use Rattle.sbl_program.specs.Ahead.{routine_made, routine_in, routines_in}
-use Rattle.sbl_program.specs.Items.{ItemInMode, in_mode, in_order, is_among, place_of, strings_with, integers_with, booleans_with, groupings_with, routines_with, strings_in, integers_in, booleans_in, groupings_in, routines_in as routine_names, Grouping, class_of, term_has, terms_have, and_grouping, classes_behind, Body, body_or, body_named}
+use Rattle.sbl_program.specs.Items.{ItemInMode, in_mode, in_order, is_among, place_of, names_by, known_in, Grouping, class_of, term_has, terms_have, and_grouping, classes_behind, Body, body_or, body_named}
 use Rattle.sbl_program.specs.NumberedNames.{Names, placed_in, placed, naming, names_behind, number_from, number_of, is_one_of}
 use Rattle.sbl_program.specs.NumberedSets.{has, united, lessened, characters_of, with_terms, with_set, sets_behind}
 use Rattle.sbl_program.specs.Program as programs
@@ -35,7 +35,7 @@ placed_is is = order_is is []
 
 -- ---- names
 
-strings_more : (x : Plain) (all : Names) (more : List (List ℕ)) → (naming x all).strings ++ more ≡ all.strings ++ strings_with x more
+strings_more : (x : Plain) (all : Names) (more : List (List ℕ)) → (naming x all).strings ++ more ≡ all.strings ++ (names_by kinds.Strings x ++ more)
 strings_more (declaration kinds.Strings ns) all more = append_assoc all.strings ns more
 strings_more (declaration kinds.Integers ns) all more = refl
 strings_more (declaration kinds.Booleans ns) all more = refl
@@ -47,11 +47,11 @@ strings_more (macro n b q) all more = refl
 strings_more (routine n c os) all more = refl
 strings_more (grouping n a ts) all more = refl
 
-pub strings_are : (xs : List ItemInMode) (all : Names) → (names_behind xs all).strings ≡ all.strings ++ strings_in xs
+pub strings_are : (xs : List ItemInMode) (all : Names) → (names_behind xs all).strings ≡ all.strings ++ known_in xs kinds.Strings
 strings_are [] all = sym (append-nil all.strings)
-strings_are (x ∷ xs) all = strings_are xs (naming x.plain all) ∙ strings_more x.plain all (strings_in xs)
+strings_are (x ∷ xs) all = strings_are xs (naming x.plain all) ∙ strings_more x.plain all (known_in xs kinds.Strings)
 
-integers_more : (x : Plain) (all : Names) (more : List (List ℕ)) → (naming x all).integers ++ more ≡ all.integers ++ integers_with x more
+integers_more : (x : Plain) (all : Names) (more : List (List ℕ)) → (naming x all).integers ++ more ≡ all.integers ++ (names_by kinds.Integers x ++ more)
 integers_more (declaration kinds.Strings ns) all more = refl
 integers_more (declaration kinds.Integers ns) all more = append_assoc all.integers ns more
 integers_more (declaration kinds.Booleans ns) all more = refl
@@ -63,11 +63,11 @@ integers_more (macro n b q) all more = refl
 integers_more (routine n c os) all more = refl
 integers_more (grouping n a ts) all more = refl
 
-pub integers_are : (xs : List ItemInMode) (all : Names) → (names_behind xs all).integers ≡ all.integers ++ integers_in xs
+pub integers_are : (xs : List ItemInMode) (all : Names) → (names_behind xs all).integers ≡ all.integers ++ known_in xs kinds.Integers
 integers_are [] all = sym (append-nil all.integers)
-integers_are (x ∷ xs) all = integers_are xs (naming x.plain all) ∙ integers_more x.plain all (integers_in xs)
+integers_are (x ∷ xs) all = integers_are xs (naming x.plain all) ∙ integers_more x.plain all (known_in xs kinds.Integers)
 
-booleans_more : (x : Plain) (all : Names) (more : List (List ℕ)) → (naming x all).booleans ++ more ≡ all.booleans ++ booleans_with x more
+booleans_more : (x : Plain) (all : Names) (more : List (List ℕ)) → (naming x all).booleans ++ more ≡ all.booleans ++ (names_by kinds.Booleans x ++ more)
 booleans_more (declaration kinds.Strings ns) all more = refl
 booleans_more (declaration kinds.Integers ns) all more = refl
 booleans_more (declaration kinds.Booleans ns) all more = append_assoc all.booleans ns more
@@ -79,11 +79,11 @@ booleans_more (macro n b q) all more = refl
 booleans_more (routine n c os) all more = refl
 booleans_more (grouping n a ts) all more = refl
 
-pub booleans_are : (xs : List ItemInMode) (all : Names) → (names_behind xs all).booleans ≡ all.booleans ++ booleans_in xs
+pub booleans_are : (xs : List ItemInMode) (all : Names) → (names_behind xs all).booleans ≡ all.booleans ++ known_in xs kinds.Booleans
 booleans_are [] all = sym (append-nil all.booleans)
-booleans_are (x ∷ xs) all = booleans_are xs (naming x.plain all) ∙ booleans_more x.plain all (booleans_in xs)
+booleans_are (x ∷ xs) all = booleans_are xs (naming x.plain all) ∙ booleans_more x.plain all (known_in xs kinds.Booleans)
 
-groupings_more : (x : Plain) (all : Names) (more : List (List ℕ)) → (naming x all).groupings ++ more ≡ all.groupings ++ groupings_with x more
+groupings_more : (x : Plain) (all : Names) (more : List (List ℕ)) → (naming x all).groupings ++ more ≡ all.groupings ++ (names_by kinds.Groupings x ++ more)
 groupings_more (declaration kinds.Strings ns) all more = refl
 groupings_more (declaration kinds.Integers ns) all more = refl
 groupings_more (declaration kinds.Booleans ns) all more = refl
@@ -95,11 +95,11 @@ groupings_more (macro n b q) all more = refl
 groupings_more (routine n c os) all more = refl
 groupings_more (grouping n a ts) all more = append_assoc all.groupings (n ∷ []) more
 
-pub groupings_are : (xs : List ItemInMode) (all : Names) → (names_behind xs all).groupings ≡ all.groupings ++ groupings_in xs
+pub groupings_are : (xs : List ItemInMode) (all : Names) → (names_behind xs all).groupings ≡ all.groupings ++ known_in xs kinds.Groupings
 groupings_are [] all = sym (append-nil all.groupings)
-groupings_are (x ∷ xs) all = groupings_are xs (naming x.plain all) ∙ groupings_more x.plain all (groupings_in xs)
+groupings_are (x ∷ xs) all = groupings_are xs (naming x.plain all) ∙ groupings_more x.plain all (known_in xs kinds.Groupings)
 
-routines_more : (x : Plain) (all : Names) (more : List (List ℕ)) → (naming x all).routines ++ more ≡ all.routines ++ routines_with x more
+routines_more : (x : Plain) (all : Names) (more : List (List ℕ)) → (naming x all).routines ++ more ≡ all.routines ++ (names_by kinds.Routines x ++ more)
 routines_more (declaration kinds.Strings ns) all more = refl
 routines_more (declaration kinds.Integers ns) all more = refl
 routines_more (declaration kinds.Booleans ns) all more = refl
@@ -111,9 +111,9 @@ routines_more (macro n b q) all more = refl
 routines_more (routine n c os) all more = append_assoc all.routines (n ∷ []) more
 routines_more (grouping n a ts) all more = refl
 
-pub routines_are : (xs : List ItemInMode) (all : Names) → (names_behind xs all).routines ≡ all.routines ++ routine_names xs
+pub routines_are : (xs : List ItemInMode) (all : Names) → (names_behind xs all).routines ≡ all.routines ++ known_in xs kinds.Routines
 routines_are [] all = sym (append-nil all.routines)
-routines_are (x ∷ xs) all = routines_are xs (naming x.plain all) ∙ routines_more x.plain all (routine_names xs)
+routines_are (x ∷ xs) all = routines_are xs (naming x.plain all) ∙ routines_more x.plain all (known_in xs kinds.Routines)
 
 -- ---- the number of a name is its place
 
@@ -263,7 +263,7 @@ module _ (ns : Names) where
     pub same : Same ss gs
     pub names : ns.groupings ≡ names_of gs ++ rest
 
-  far_more : (x : Plain) (ss : List (List ℕ)) (gs : List Grouping) (rest : List (List ℕ)) → Far ss gs (groupings_with x rest) → Far (with_set ns x ss) (and_grouping x gs) rest
+  far_more : (x : Plain) (ss : List (List ℕ)) (gs : List Grouping) (rest : List (List ℕ)) → Far ss gs (names_by kinds.Groupings x ++ rest) → Far (with_set ns x ss) (and_grouping x gs) rest
   far_more (grouping n a ts) ss gs rest f =
       let e = f.names in
       let h = f.same in
@@ -279,12 +279,12 @@ module _ (ns : Names) where
   far_more (macro n b q) ss gs rest f = f
   far_more (routine n c os) ss gs rest f = f
 
-  pub far_all : (xs : List ItemInMode) (ss : List (List ℕ)) (gs : List Grouping) → Far ss gs (groupings_in xs) → Far (sets_behind ns xs ss) (classes_behind xs gs) []
+  pub far_all : (xs : List ItemInMode) (ss : List (List ℕ)) (gs : List Grouping) → Far ss gs (known_in xs kinds.Groupings) → Far (sets_behind ns xs ss) (classes_behind xs gs) []
   far_all [] ss gs f = f
-  far_all (x ∷ xs) ss gs f = far_all xs (with_set ns x.plain ss) (and_grouping x.plain gs) (far_more x.plain ss gs (groupings_in xs) f)
+  far_all (x ∷ xs) ss gs f = far_all xs (with_set ns x.plain ss) (and_grouping x.plain gs) (far_more x.plain ss gs (known_in xs kinds.Groupings) f)
 
   -- the set of a grouping has what its terms say
-  pub sets_are : (xs : List ItemInMode) → ns.groupings ≡ groupings_in xs → (n : List ℕ) (c : ℕ) → has (slice_index_or (sets_behind ns xs []) (number_of ns.groupings n) []) c ≡ class_of (classes_behind xs []) n c
+  pub sets_are : (xs : List ItemInMode) → ns.groupings ≡ known_in xs kinds.Groupings → (n : List ℕ) (c : ℕ) → has (slice_index_or (sets_behind ns xs []) (number_of ns.groupings n) []) c ≡ class_of (classes_behind xs []) n c
   sets_are xs e n c =
       let f = far_all xs [] [] (record { same = tt; names = e }) in
       class_is (sets_behind ns xs []) (classes_behind xs []) [] f.names f.same n c
@@ -298,13 +298,13 @@ module _ (ns : Names) where
   body_step true r rs p x o h k = ap Some h
   body_step false r rs p x o h k = k
 
-  body_more : (m : Mode) (x : Plain) (n : List ℕ) (rs : List programs.Routine) (rest : List (List ℕ)) (o : Option Body) → slice_get rs (place_of rest n) ≡ option_map as_made o → slice_get (routine_in ns m x rs) (place_of (routines_with x rest) n) ≡ option_map as_made (body_or m x n o)
+  body_more : (m : Mode) (x : Plain) (n : List ℕ) (rs : List programs.Routine) (rest : List (List ℕ)) (o : Option Body) → slice_get rs (place_of rest n) ≡ option_map as_made o → slice_get (routine_in ns m x rs) (place_of (names_by kinds.Routines x ++ rest) n) ≡ option_map as_made (body_or m x n o)
   body_more m (routine r c os) n rs rest o h = body_step (bytes_eq r n) _ rs (place_of rest n) (record { mode = m; first = c; others = os }) o refl h
   body_more m (declaration k xs) n rs rest o h = h
   body_more m (escapes a b) n rs rest o h = h
   body_more m (macro y b q) n rs rest o h = h
   body_more m (grouping y a ts) n rs rest o h = h
 
-  pub body_at : (xs : List ItemInMode) (n : List ℕ) → slice_get (routines_in ns xs) (place_of (routine_names xs) n) ≡ option_map as_made (body_named xs n)
+  pub body_at : (xs : List ItemInMode) (n : List ℕ) → slice_get (routines_in ns xs) (place_of (known_in xs kinds.Routines) n) ≡ option_map as_made (body_named xs n)
   body_at [] n = refl
-  body_at (x ∷ xs) n = body_more x.mode x.plain n (routines_in ns xs) (routine_names xs) (body_named xs n) (body_at xs n)
+  body_at (x ∷ xs) n = body_more x.mode x.plain n (routines_in ns xs) (known_in xs kinds.Routines) (body_named xs n) (body_at xs n)

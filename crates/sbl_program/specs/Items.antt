@@ -3,6 +3,7 @@ use Rattle.std.specs.Prelude.{ℕ, suc, Bool, true, false, not, ◌&&◌, ◌||�
 use Rattle.std.specs.List.{list_any}
 use Rattle.std.specs.Str.{bytes_eq}
 use Rattle.sbl_tree.specs.declared.tree.Additive.TheVariants.{Plus, Minus}
+use Rattle.sbl_tree.specs.declared.tree.DeclarationKind.{DeclarationKind}
 use Rattle.sbl_tree.specs.declared.tree.DeclarationKind.TheVariants as kinds
 use Rattle.sbl_tree.specs.Tree.{Command, Others, Argument, written_out, by_name, Term, term, Item, Plain, declaration, routine, grouping, plain, backward}
 use Rattle.sbl_tree.specs.declared.mode.Mode.{Mode}
@@ -36,62 +37,22 @@ abbrev pub place_of : List (List ℕ) → List ℕ → ℕ
 place_of [] n = 0
 place_of (x ∷ xs) n = if bytes_eq x n then 0 else suc (place_of xs n)
 
--- the variables of each kind in the order of their declarations, and the groupings and routines in that of their definitions
-pub record Known : Type 0 where
-  pub strings : List (List ℕ)
-  pub integers : List (List ℕ)
-  pub booleans : List (List ℕ)
-  pub groupings : List (List ℕ)
-  pub routines : List (List ℕ)
+-- names by their kinds: variables in the order of their declarations, groupings and routines in that of their definitions
+abbrev pub Known : Type 0
+Known = DeclarationKind → List (List ℕ)
 
-abbrev pub strings_with : Plain → List (List ℕ) → List (List ℕ)
-strings_with (declaration kinds.Strings ns) rest = ns ++ rest
-strings_with x rest = rest
-
-abbrev pub integers_with : Plain → List (List ℕ) → List (List ℕ)
-integers_with (declaration kinds.Integers ns) rest = ns ++ rest
-integers_with x rest = rest
-
-abbrev pub booleans_with : Plain → List (List ℕ) → List (List ℕ)
-booleans_with (declaration kinds.Booleans ns) rest = ns ++ rest
-booleans_with x rest = rest
-
-abbrev pub groupings_with : Plain → List (List ℕ) → List (List ℕ)
-groupings_with (grouping n a ts) rest = n ∷ rest
-groupings_with x rest = rest
-
-abbrev pub routines_with : Plain → List (List ℕ) → List (List ℕ)
-routines_with (routine n c os) rest = n ∷ rest
-routines_with x rest = rest
-
-abbrev pub strings_in : List ItemInMode → List (List ℕ)
-strings_in [] = []
-strings_in (x ∷ xs) = strings_with x.plain (strings_in xs)
-
-abbrev pub integers_in : List ItemInMode → List (List ℕ)
-integers_in [] = []
-integers_in (x ∷ xs) = integers_with x.plain (integers_in xs)
-
-abbrev pub booleans_in : List ItemInMode → List (List ℕ)
-booleans_in [] = []
-booleans_in (x ∷ xs) = booleans_with x.plain (booleans_in xs)
-
-abbrev pub groupings_in : List ItemInMode → List (List ℕ)
-groupings_in [] = []
-groupings_in (x ∷ xs) = groupings_with x.plain (groupings_in xs)
-
-abbrev pub routines_in : List ItemInMode → List (List ℕ)
-routines_in [] = []
-routines_in (x ∷ xs) = routines_with x.plain (routines_in xs)
+-- the names of a kind that an item adds
+abbrev pub names_by : DeclarationKind → Plain → List (List ℕ)
+names_by kinds.Strings (declaration kinds.Strings ns) = ns
+names_by kinds.Integers (declaration kinds.Integers ns) = ns
+names_by kinds.Booleans (declaration kinds.Booleans ns) = ns
+names_by kinds.Groupings (grouping n a ts) = n ∷ []
+names_by kinds.Routines (routine n c os) = n ∷ []
+names_by k x = []
 
 abbrev pub known_in : List ItemInMode → Known
-known_in xs = record {
-  strings = strings_in xs;
-  integers = integers_in xs;
-  booleans = booleans_in xs;
-  groupings = groupings_in xs;
-  routines = routines_in xs;
-}
+known_in [] k = []
+known_in (x ∷ xs) k = names_by k x.plain ++ known_in xs k
 
 -- ---- groupings
 

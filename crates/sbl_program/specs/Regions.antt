@@ -3,7 +3,6 @@
 use Rattle.std.specs.Prelude.{ℕ, suc, Bool, true, false, Option, Some}
 use Rattle.sbl_tree.specs.declared.tree.Prefix.{Prefix}
 use Rattle.sbl_tree.specs.declared.tree.Prefix.TheVariants as prefixes
-use Rattle.sbl_tree.specs.declared.tree.Simple.{Simple}
 use Rattle.sbl_tree.specs.declared.tree.Simple.TheVariants as simples
 use Rattle.sbl_tree.specs.Tree as trees
 use Rattle.sbl_tree.specs.Tree.{bracket, simple_, prefixed, counted, setlimit_, among_, no_rows, row, no_others, joined, no_starter, starter, bare, group}
@@ -41,15 +40,11 @@ abbrev mutual
   behind_groups (bare es) k = k
   behind_groups (group e es rs gs) k = behind_groups gs (behind_rows rs k)
 
-abbrev pub waits_simple : Simple → Bool → Bool
-waits_simple simples.Substring w = true
-waits_simple x w = w
-
 -- whether a `substring` waits behind a command
 abbrev mutual
   pub waits : trees.Command → Bool → Bool
   waits (bracket rs) w = waits_rows rs w
-  waits (simple_ s) w = waits_simple s w
+  waits (simple_ simples.Substring) w = true
   waits (prefixed x c) w = waits c w
   waits (counted n e c) w = waits c w
   waits (setlimit_ b c) w = waits c (waits b w)

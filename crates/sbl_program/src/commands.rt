@@ -11,7 +11,7 @@ ghost use Rattle.sbl_program.specs.Program as programs;
 ghost use Rattle.sbl_program.specs.Grouped.{joined_all};
 ghost use Rattle.sbl_program.specs.ProgramOf.{view_action, view_joined, view_node, view_number, view_text, commands_of};
 
-use crate::action::{Action, Arithmetic, Change, Relation, StringTerm};
+use crate::action::{Action, Arithmetic, StringTerm, change_of, relation_of};
 use crate::amongs::Found;
 use crate::names::{Names, is_one_of, number_of};
 use crate::node::{self, Candidate, Node};
@@ -185,31 +185,6 @@ fn edited(edit: Splice, string: StringTerm) -> Action
         Splice::Replace => Action::Replace(string),
         Splice::InsertSign | Splice::Insert => Action::Insert(string),
         Splice::Attach => Action::Attach(string),
-    }
-}
-
-fn change_of(assignment: Assignment) -> Change
-    ensures { result ≡ spec.change_of assignment }
-{
-    match assignment {
-        Assignment::Equals => Change::Becomes,
-        Assignment::Plus => Change::Plus,
-        Assignment::Minus => Change::Minus,
-        Assignment::Times => Change::Times,
-        Assignment::Over => Change::Over,
-    }
-}
-
-fn relation_of(comparison: Comparison) -> Relation
-    ensures { result ≡ spec.relation_of comparison }
-{
-    match comparison {
-        Comparison::Same => Relation::Equal,
-        Comparison::Differs => Relation::Unequal,
-        Comparison::Less => Relation::Less,
-        Comparison::AtMost => Relation::LessOrEqual,
-        Comparison::Greater => Relation::Greater,
-        Comparison::AtLeast => Relation::GreaterOrEqual,
     }
 }
 

@@ -2,7 +2,8 @@
 
 ghost use Rattle.std.specs.Prelude.{◌≡◌, [], false, map, length, OnOk, IfOk, string_bytes};
 ghost use Rattle.sbl_tree.specs.View.{view_items, view_plain, view_row};
-ghost use Rattle.sbl_program.specs.Items.{in_order, routines_in};
+ghost use Rattle.sbl_program.specs.Items.{in_order, known_in};
+ghost use Rattle.sbl_tree.specs.declared.tree.DeclarationKind.TheVariants as kinds;
 ghost use Rattle.sbl_program.specs.Numbered as spec;
 ghost use Rattle.sbl_program.specs.NumberedView.{strings_at, view_found, view_names, view_place, view_placed};
 ghost use Rattle.sbl_program.specs.ProgramOf.{program_of, view_routine};
@@ -109,7 +110,7 @@ pub struct Made {
 /// The program of a script's items, whose external is run. AllocError where a growth was refused.
 pub fn numbered(alloc: Global, items: &[Item], external: &str) -> Result<Made, AllocError>
     ensures program { IfOk result (λ n. program_of (strings_at n.amongs.items) n.program ≡ spec.numbered_items (view_items items.now) external.now) }
-    ensures routines { IfOk result (λ n. map string_bytes n.routines.items ≡ routines_in (in_order (view_items items.now))) }
+    ensures routines { IfOk result (λ n. map string_bytes n.routines.items ≡ known_in (in_order (view_items items.now)) kinds.Routines) }
 {
     let placed = place_all(alloc, items)?;
     let names = names_of(alloc, &placed)?;

@@ -173,8 +173,8 @@ impl State {
         Ok(())
     }
 
-    /// Pays so many steps. `Steps` where fewer are left, which are paid then.
-    pub fn pay_for(&mut self, count: usize) -> Result<(), Halt>
+    // Pays so many steps. `Steps` where fewer are left, which are paid then.
+    pub(crate) fn pay_for(&mut self, count: usize) -> Result<(), Halt>
         ensures leads { Leads result self.new (pays count self.old) }
         ensures no_more { IfOk result (λ _. self.new.steps ≤ self.old.steps) }
     {

@@ -1,4 +1,4 @@
-use Rattle.sbl_program.proofs.Coming.{own_is_made}
+use Rattle.sbl_program.proofs.OwnMade.{own_is_made}
 use Rattle.sbl_program.proofs.laws.own_is_made.Goals as goal
 
 pub returns : goal.returns

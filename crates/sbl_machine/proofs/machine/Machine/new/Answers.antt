@@ -1,5 +1,6 @@
 use Rattle.std.proofs.Common.{map, ap, ◌∙◌, ℕ}
-use Rattle.sbl_program.specs.Items.{in_order, routines_in}
+use Rattle.sbl_tree.specs.declared.tree.DeclarationKind.TheVariants as kinds
+use Rattle.sbl_program.specs.Items.{in_order, known_in}
 use Rattle.sbl_program.specs.Listed.{Listed}
 use Rattle.sbl_program.specs.Numbered.{numbered_items}
 use Rattle.sbl_machine.specs.MachineOf.{IsMachineOf}
@@ -19,5 +20,5 @@ returns g c =
           ∙ c.in_ok-program.ensures.program
           ∙ ap (λ is. numbered_items (view_items is) c.external.result.now) c.items.ensures
           ∙ ap (numbered_items items) c.external.ensures,
-      c.in_ok-program.ensures.routines ∙ ap (λ is. routines_in (in_order (view_items is))) c.items.ensures,
+      c.in_ok-program.ensures.routines ∙ ap (λ is. known_in (in_order (view_items is)) kinds.Routines) c.items.ensures,
     )

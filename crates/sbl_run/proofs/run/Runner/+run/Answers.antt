@@ -9,107 +9,156 @@ use Rattle.sbl_run.proofs.run.Runner.+run.Answers.Loops as loops
 
 pub run_command-returns-in-Repeat-clause-follows : goal.run_command-returns-in-Repeat-clause-follows
 run_command-returns-in-Repeat-clause-follows = commands.run_command-returns-in-Repeat-clause-follows
+
 pub run_command-returns-in-Loop-clause-follows : goal.run_command-returns-in-Loop-clause-follows
 run_command-returns-in-Loop-clause-follows = commands.run_command-returns-in-Loop-clause-follows
+
 pub run_command-returns-in_ok-touch_among-in-Search-clause-follows : goal.run_command-returns-in_ok-touch_among-in-Search-clause-follows
 run_command-returns-in_ok-touch_among-in-Search-clause-follows = commands.run_command-returns-in_ok-touch_among-in-Search-clause-follows
+
 pub run_command-returns-in_err-run_times-in-AtLeast-clause-follows : goal.run_command-returns-in_err-run_times-in-AtLeast-clause-follows
 run_command-returns-in_err-run_times-in-AtLeast-clause-follows = commands.run_command-returns-in_err-run_times-in-AtLeast-clause-follows
+
 pub run_command-returns-then-not-branch-3-clause-follows : goal.run_command-returns-then-not-branch-3-clause-follows
 run_command-returns-then-not-branch-3-clause-follows = commands.run_command-returns-then-not-branch-3-clause-follows
+
 pub run_command-returns-else-not-branch-3-clause-follows : goal.run_command-returns-else-not-branch-3-clause-follows
 run_command-returns-else-not-branch-3-clause-follows = commands.run_command-returns-else-not-branch-3-clause-follows
+
 pub run_command-returns-in-Goto-clause-follows : goal.run_command-returns-in-Goto-clause-follows
 run_command-returns-in-Goto-clause-follows = commands.run_command-returns-in-Goto-clause-follows
+
 pub run_command-returns-in-GoPast-clause-follows : goal.run_command-returns-in-GoPast-clause-follows
 run_command-returns-in-GoPast-clause-follows = commands.run_command-returns-in-GoPast-clause-follows
+
 pub run_command-returns-in_ok-signal-in-SetLimit-clause-follows : goal.run_command-returns-in_ok-signal-in-SetLimit-clause-follows
 run_command-returns-in_ok-signal-in-SetLimit-clause-follows = commands.run_command-returns-in_ok-signal-in-SetLimit-clause-follows
+
 pub run_command-returns-in_err-signal-in-SetLimit-clause-follows : goal.run_command-returns-in_err-signal-in-SetLimit-clause-follows
 run_command-returns-in_err-signal-in-SetLimit-clause-follows = commands.run_command-returns-in_err-signal-in-SetLimit-clause-follows
+
 pub run_command-returns-in-Among-clause-follows : goal.run_command-returns-in-Among-clause-follows
 run_command-returns-in-Among-clause-follows = commands.run_command-returns-in-Among-clause-follows
+
 pub run_command-returns-in_err-run_command-in-SetLimit-clause-follows : goal.run_command-returns-in_err-run_command-in-SetLimit-clause-follows
 run_command-returns-in_err-run_command-in-SetLimit-clause-follows = commands.run_command-returns-in_err-run_command-in-SetLimit-clause-follows
+
 pub run_command-returns-in_err-put_back-in-SetLimit-clause-follows : goal.run_command-returns-in_err-put_back-in-SetLimit-clause-follows
 run_command-returns-in_err-put_back-in-SetLimit-clause-follows = commands.run_command-returns-in_err-put_back-in-SetLimit-clause-follows
+
 pub run_command-returns-in-Sequence-clause-follows : goal.run_command-returns-in-Sequence-clause-follows
 run_command-returns-in-Sequence-clause-follows = commands.run_command-returns-in-Sequence-clause-follows
+
 pub run_command-returns-then-branch-clause-follows : goal.run_command-returns-then-branch-clause-follows
 run_command-returns-then-branch-clause-follows = commands.run_command-returns-then-branch-clause-follows
+
 pub run_command-returns-in-Row-clause-follows : goal.run_command-returns-in-Row-clause-follows
 run_command-returns-in-Row-clause-follows = commands.run_command-returns-in-Row-clause-follows
 
 pub run_command-returns-in_err-run_command-in-Not-clause-follows : goal.run_command-returns-in_err-run_command-in-Not-clause-follows
 run_command-returns-in_err-run_command-in-Not-clause-follows = prefixes.run_command-returns-in_err-run_command-in-Not-clause-follows
+
 pub run_command-returns-in_err-put_back-in-Not-clause-follows : goal.run_command-returns-in_err-put_back-in-Not-clause-follows
 run_command-returns-in_err-put_back-in-Not-clause-follows = prefixes.run_command-returns-in_err-put_back-in-Not-clause-follows
+
 pub run_command-returns-in_err-run_command-in-Test-clause-follows : goal.run_command-returns-in_err-run_command-in-Test-clause-follows
 run_command-returns-in_err-run_command-in-Test-clause-follows = prefixes.run_command-returns-in_err-run_command-in-Test-clause-follows
+
 pub run_command-returns-in_err-put_back-in-Test-clause-follows : goal.run_command-returns-in_err-put_back-in-Test-clause-follows
 run_command-returns-in_err-put_back-in-Test-clause-follows = prefixes.run_command-returns-in_err-put_back-in-Test-clause-follows
+
 pub run_command-returns-in_err-run_command-in-Try-clause-follows : goal.run_command-returns-in_err-run_command-in-Try-clause-follows
 run_command-returns-in_err-run_command-in-Try-clause-follows = prefixes.run_command-returns-in_err-run_command-in-Try-clause-follows
+
 pub run_command-returns-in_err-put_back-in-Try-clause-follows : goal.run_command-returns-in_err-put_back-in-Try-clause-follows
 run_command-returns-in_err-put_back-in-Try-clause-follows = prefixes.run_command-returns-in_err-put_back-in-Try-clause-follows
+
 pub run_command-returns-in_err-run_command-in-Do-clause-follows : goal.run_command-returns-in_err-run_command-in-Do-clause-follows
 run_command-returns-in_err-run_command-in-Do-clause-follows = prefixes.run_command-returns-in_err-run_command-in-Do-clause-follows
+
 pub run_command-returns-in_err-put_back-in-Do-clause-follows : goal.run_command-returns-in_err-put_back-in-Do-clause-follows
 run_command-returns-in_err-put_back-in-Do-clause-follows = prefixes.run_command-returns-in_err-put_back-in-Do-clause-follows
+
 pub run_command-returns-in_err-run_command-in-Fail-clause-follows : goal.run_command-returns-in_err-run_command-in-Fail-clause-follows
 run_command-returns-in_err-run_command-in-Fail-clause-follows = prefixes.run_command-returns-in_err-run_command-in-Fail-clause-follows
+
 pub run_command-returns-in_err-run_command-in-Backwards-clause-follows : goal.run_command-returns-in_err-run_command-in-Backwards-clause-follows
 run_command-returns-in_err-run_command-in-Backwards-clause-follows = prefixes.run_command-returns-in_err-run_command-in-Backwards-clause-follows
+
 pub run_command-returns-in_ok-put_back-in-Not-clause-follows : goal.run_command-returns-in_ok-put_back-in-Not-clause-follows
 run_command-returns-in_ok-put_back-in-Not-clause-follows = prefixes.run_command-returns-in_ok-put_back-in-Not-clause-follows
+
 pub run_command-returns-in_ok-put_back-in-Test-clause-follows : goal.run_command-returns-in_ok-put_back-in-Test-clause-follows
 run_command-returns-in_ok-put_back-in-Test-clause-follows = prefixes.run_command-returns-in_ok-put_back-in-Test-clause-follows
+
 pub run_command-returns-in_ok-put_back-in-Try-clause-follows : goal.run_command-returns-in_ok-put_back-in-Try-clause-follows
 run_command-returns-in_ok-put_back-in-Try-clause-follows = prefixes.run_command-returns-in_ok-put_back-in-Try-clause-follows
+
 pub run_command-returns-in_ok-put_back-in-Do-clause-follows : goal.run_command-returns-in_ok-put_back-in-Do-clause-follows
 run_command-returns-in_ok-put_back-in-Do-clause-follows = prefixes.run_command-returns-in_ok-put_back-in-Do-clause-follows
+
 pub run_command-returns-in_ok-run_command-in-Fail-clause-follows : goal.run_command-returns-in_ok-run_command-in-Fail-clause-follows
 run_command-returns-in_ok-run_command-in-Fail-clause-follows = prefixes.run_command-returns-in_ok-run_command-in-Fail-clause-follows
+
 pub run_command-returns-in_ok-end_backwards-in-Backwards-clause-follows : goal.run_command-returns-in_ok-end_backwards-in-Backwards-clause-follows
 run_command-returns-in_ok-end_backwards-in-Backwards-clause-follows = prefixes.run_command-returns-in_ok-end_backwards-in-Backwards-clause-follows
+
 pub run_command-returns-in_err-end_backwards-in-Backwards-clause-follows : goal.run_command-returns-in_err-end_backwards-in-Backwards-clause-follows
 run_command-returns-in_err-end_backwards-in-Backwards-clause-follows = prefixes.run_command-returns-in_err-end_backwards-in-Backwards-clause-follows
 
 pub run_among-returns-in-Some-get-clause-follows : goal.run_among-returns-in-Some-get-clause-follows
 run_among-returns-in-Some-get-clause-follows = loops.run_among-returns-in-Some-get-clause-follows
+
 pub run_search-loop-place-init : goal.run_search-loop-place-init
 run_search-loop-place-init = loops.run_search-loop-place-init
+
 pub run_search-loop-place-preserved : goal.run_search-loop-place-preserved
 run_search-loop-place-preserved = loops.run_search-loop-place-preserved
+
 pub run_search-returns-in-Err-clause-follows : goal.run_search-returns-in-Err-clause-follows
 run_search-returns-in-Err-clause-follows = loops.run_search-returns-in-Err-clause-follows
+
 pub run_search-returns-in-Ok-true-clause-follows : goal.run_search-returns-in-Ok-true-clause-follows
 run_search-returns-in-Ok-true-clause-follows = loops.run_search-returns-in-Ok-true-clause-follows
+
 pub run_seek-loop-state-preserved : goal.run_seek-loop-state-preserved
 run_seek-loop-state-preserved = loops.run_seek-loop-state-preserved
+
 pub run_turns-loop-state-preserved : goal.run_turns-loop-state-preserved
 run_turns-loop-state-preserved = loops.run_turns-loop-state-preserved
+
 pub run_call-returns-in_err-signal-in-Some-clause-follows : goal.run_call-returns-in_err-signal-in-Some-clause-follows
 run_call-returns-in_err-signal-in-Some-clause-follows = loops.run_call-returns-in_err-signal-in-Some-clause-follows
+
 pub run_call-returns-in_ok-signal-in-Some-clause-follows : goal.run_call-returns-in_ok-signal-in-Some-clause-follows
 run_call-returns-in_ok-signal-in-Some-clause-follows = loops.run_call-returns-in_ok-signal-in-Some-clause-follows
+
 pub run_among-returns-in-None-clause-follows : goal.run_among-returns-in-None-clause-follows
 run_among-returns-in-None-clause-follows = loops.run_among-returns-in-None-clause-follows
+
 pub run_times-loop-left-preserved : goal.run_times-loop-left-preserved
 run_times-loop-left-preserved = loops.run_times-loop-left-preserved
+
 pub run_in_turn-returns-in_err-run_command-clause-follows : goal.run_in_turn-returns-in_err-run_command-clause-follows
 run_in_turn-returns-in_err-run_command-clause-follows = loops.run_in_turn-returns-in_err-run_command-clause-follows
+
 pub run_in_turn-loop-one-preserved : goal.run_in_turn-loop-one-preserved
 run_in_turn-loop-one-preserved = loops.run_in_turn-loop-one-preserved
+
 pub run_times-returns-in_err-run_command-clause-follows : goal.run_times-returns-in_err-run_command-clause-follows
 run_times-returns-in_err-run_command-clause-follows = loops.run_times-returns-in_err-run_command-clause-follows
+
 pub run_row-returns-in_err-signal-clause-follows : goal.run_row-returns-in_err-signal-clause-follows
 run_row-returns-in_err-signal-clause-follows = loops.run_row-returns-in_err-signal-clause-follows
+
 pub run_row-loop-joined-init : goal.run_row-loop-joined-init
 run_row-loop-joined-init = loops.run_row-loop-joined-init
+
 pub run_row-returns-in_err-signal-2-clause-follows : goal.run_row-returns-in_err-signal-2-clause-follows
 run_row-returns-in_err-signal-2-clause-follows = loops.run_row-returns-in_err-signal-2-clause-follows
+
 pub run_row-loop-joined-preserved : goal.run_row-loop-joined-preserved
 run_row-loop-joined-preserved = loops.run_row-loop-joined-preserved
+
 pub run_row-returns-clause-follows : goal.run_row-returns-clause-follows
 run_row-returns-clause-follows = loops.run_row-returns-clause-follows
