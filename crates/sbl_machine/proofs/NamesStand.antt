@@ -19,7 +19,7 @@ use Rattle.sbl_script.specs.declared.occurrences.Site.{Site}
 use Rattle.sbl_script.specs.declared.occurrences.Use.{Use}
 use Rattle.sbl_script.specs.declared.occurrences.Use.TheVariants as use_as
 use Rattle.sbl_script.specs.Occurrences as marks
-use Rattle.sbl_script.specs.Occurrences.{Occurrence, Notice, put, uses, substring, among, string, backwards, region_end, declares, defines_routine, defines_grouping, noted_string, noted_expression, noted_sums, noted_product, noted_scales, noted_factor, noted_simple, noted_prefix, site_behind, use_of, noted_condition, noted_entry, noted_entries, has_starter, is_empty, noted, noted_rows, noted_others, noted_starter, noted_groups, noted_names, noted_term, noted_terms, noted_plain, noted_items, occurrences_of}
+use Rattle.sbl_script.specs.Occurrences.{Occurrence, Notice, put, uses, substring, among, string, backwards, region_end, declares, defines_routine, defines_grouping, amongs_in, noted_string, noted_expression, noted_sums, noted_product, noted_scales, noted_factor, noted_simple, noted_prefix, site_behind, use_of, noted_condition, noted_entry, noted_entries, has_starter, is_empty, noted, noted_rows, noted_others, noted_starter, noted_groups, noted_names, noted_term, noted_terms, noted_plain, noted_items, occurrences_of}
 use Rattle.sbl_script.specs.Checks.{declared_as, kind_of, defined_at, definition_of, may_be, is_kind, is_routine, is_grouping, is_boolean, is_integer, is_string, is_mode, needs_definition, fault_at}
 use Rattle.sbl_script.specs.Laws.{EachPasses, NamesResolve, Resolves, WellDeclaredPasses}
 use Rattle.sbl_script.proofs.Extends.{Extends, same, then_, items_more, put_more, command_more, others_more}
@@ -155,7 +155,7 @@ module _ {X : Type 0} (f : Occurrence → Option X) (quiet : (n : Notice) (p : S
     command_still (compare_values_ e o g) p s = expression_still g p (noted_expression e p s) ∙ expression_still e p s
     command_still (among_ x gs) p s =
         let t = put (among (has_starter x) (is_empty gs)) p s in
-        groups_still gs (length s) p (noted_starter x p t) ∙ starter_still x p t ∙ put_still (among (has_starter x) (is_empty gs)) p s refl
+        groups_still gs (amongs_in s 0 + 1) p (noted_starter x p t) ∙ starter_still x p t ∙ put_still (among (has_starter x) (is_empty gs)) p s refl
 
     rows_still : (rs : Rows) (p : Site) (s : List Occurrence) → Still s (noted_rows rs p s)
     rows_still no_rows p s = refl

@@ -1,4 +1,5 @@
 pub mod Noted
+pub mod Counted
 pub mod Keeping
 pub mod Turns
 pub mod Places
@@ -13,5 +14,11 @@ pub mod Putting
 pub mod Quiet
 pub mod Spelled
 pub mod OneEdit
+pub mod Own
+pub mod RoundItem
+pub mod ItemParts
+pub mod SameFaults
+pub mod TextFaults
+pub mod OnlyTheItem
 pub mod Offered
 pub mod Printed

@@ -9,6 +9,7 @@ pub mod Amongs
 pub mod Laws
 pub mod OneReading
 pub mod OneEdit
+pub mod OnlyTheItem
 pub mod Printed
 -- what the functions inside the crate promise each other: nothing in these need be believed
 pub mod OccurrenceView

@@ -2,6 +2,7 @@
 
 ghost use Rattle.sbl_script.specs.Amongs.{AmongsAreSound};
 ghost use Rattle.sbl_script.specs.OneEdit.{EditFaultIsOne, EditIsOne, EditOrFault};
+ghost use Rattle.sbl_script.specs.OnlyTheItem.{ExternalStays, OnlyTheItem};
 ghost use Rattle.sbl_script.specs.OneReading.{FaultIsOne, ScriptIsOne, ScriptOrFault};
 ghost use Rattle.sbl_script.specs.Parsed.{source_of};
 ghost use Rattle.sbl_script.specs.Printed.{CanonicalIsRead};
@@ -37,6 +38,13 @@ pub fn one_edit()
     one_tree();
     one_fault();
 }
+
+/// A fault of an edit of a script, by `Script::with_routine` or `Script::with_among`, that tells an item tells the one that is
+/// changed: that which holds the routine. No check fails in another item, and the external that is run stays one.
+pub fn only_the_item()
+    ensures item { OnlyTheItem }
+    ensures external { ExternalStays }
+{}
 
 /// In a script that is well declared no check fails at any occurrence, and its external is declared and defined in forward mode.
 pub fn well_declared_passes()

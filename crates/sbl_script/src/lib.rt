@@ -9,6 +9,7 @@ pub mod laws;
 mod noting;
 mod occurrences;
 mod script;
+mod sofar;
 
 pub use edit_fault::EditFault;
 pub use occurrences::{Notice, Occurrence, Site, Use};
