@@ -15,14 +15,14 @@ use Rattle.sbl_tree.specs.declared.tree.Simple.TheVariants as simples
 use Rattle.sbl_tree.specs.declared.mode.Mode.{Mode}
 use Rattle.sbl_tree.specs.declared.mode.Mode.TheVariants.{Forward, Backward}
 use Rattle.sbl_tree.specs.Tree.{Argument, written_out, by_name, Expression, expression, Sums, no_sums, sum, Product, product, Scales, no_scales, scale, Factor, negated, bracketed, numeral, variable, fixed, length_of, Entry, entry, Command, bracket, simple_, literal_, name_, non_, prefixed, counted, move_, named, splice_, setlimit_, assign_, compare_, compare_values_, among_, Rows, no_rows, row, Others, no_others, joined, Starter, no_starter, starter, Groups, bare, group, Term, term, Plain, declaration, escapes, macro, routine, grouping, Item, plain, backward}
-use Rattle.sbl_script.specs.declared.occurrences.Site.{Site}
-use Rattle.sbl_script.specs.declared.occurrences.Use.{Use}
-use Rattle.sbl_script.specs.declared.occurrences.Use.TheVariants as use_as
-use Rattle.sbl_script.specs.Occurrences as marks
-use Rattle.sbl_script.specs.Occurrences.{Occurrence, Notice, put, uses, substring, among, string, backwards, region_end, declares, defines_routine, defines_grouping, amongs_in, noted_string, noted_expression, noted_sums, noted_product, noted_scales, noted_factor, noted_simple, noted_prefix, site_behind, use_of, noted_condition, noted_entry, noted_entries, has_starter, is_empty, noted, noted_rows, noted_others, noted_starter, noted_groups, noted_names, noted_term, noted_terms, noted_plain, noted_items, occurrences_of}
-use Rattle.sbl_script.specs.Checks.{declared_as, kind_of, defined_at, definition_of, may_be, is_kind, is_routine, is_grouping, is_boolean, is_integer, is_string, is_mode, needs_definition, fault_at}
-use Rattle.sbl_script.specs.Laws.{EachPasses, NamesResolve, Resolves, WellDeclaredPasses}
-use Rattle.sbl_script.proofs.Extends.{Extends, same, then_, items_more, put_more, command_more, others_more}
+use Rattle.sbl_checks.specs.declared.occurrences.Site.{Site}
+use Rattle.sbl_checks.specs.declared.occurrences.Use.{Use}
+use Rattle.sbl_checks.specs.declared.occurrences.Use.TheVariants as use_as
+use Rattle.sbl_checks.specs.Occurrences as marks
+use Rattle.sbl_checks.specs.Occurrences.{Occurrence, Notice, put, uses, substring, among, string, backwards, region_end, declares, defines_routine, defines_grouping, amongs_in, noted_string, noted_expression, noted_sums, noted_product, noted_scales, noted_factor, noted_simple, noted_prefix, site_behind, use_of, noted_condition, noted_entry, noted_entries, has_starter, is_empty, noted, noted_rows, noted_others, noted_starter, noted_groups, noted_names, noted_term, noted_terms, noted_plain, noted_items, occurrences_of}
+use Rattle.sbl_checks.specs.Checks.{declared_as, kind_of, defined_at, definition_of, may_be, is_kind, is_routine, is_grouping, is_boolean, is_integer, is_string, is_mode, needs_definition, fault_at}
+use Rattle.sbl_checks.specs.Laws.{EachPasses, NamesResolve, Resolves, WellDeclaredPasses}
+use Rattle.sbl_checks.proofs.Extends.{Extends, same, then_, items_more, put_more, command_more, others_more}
 use Rattle.sbl_program.specs.Items.{ItemInMode, Body, body_named, booleans_in, booleans_with, groupings_in, in_mode, in_order, integers_in, integers_with, is_among, strings_in, strings_with}
 use Rattle.sbl_machine.specs.NamesStand.{HasBody, StandsFor, NamesStand}
 

@@ -14,7 +14,7 @@ use Rattle.sbl_grammar.specs.Reading.{IsReadAs}
 use Rattle.sbl_script.specs.declared.edit_fault.EditFault.{EditFault}
 use Rattle.sbl_script.specs.declared.edit_fault.EditFault.TheVariants as edits
 use Rattle.sbl_script.specs.Parsed.{Source}
-use Rattle.sbl_script.specs.Checks.{WellDeclared, fault_of}
+use Rattle.sbl_checks.specs.Checks.{WellDeclared, fault_of}
 use Rattle.sbl_script.specs.Reading.{HasTokens, IsTextFault, IsUnread, first_left_out, max_script, terminals}
 use Rattle.sbl_script.specs.Refusals.{Refuses}
 use Rattle.sbl_script.specs.Edits.{ScriptEdit, body, among, Home, IsEditFault, IsFaultAt, IsSubstituted, home, home_in, home_of_among, home_of_body, home_of_held, items_with, routine_name, routine_of, state_before}

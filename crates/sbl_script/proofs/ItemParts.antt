@@ -8,8 +8,8 @@ use Rattle.sbl_tree.specs.declared.mode.Mode.{Mode}
 use Rattle.sbl_tree.specs.declared.mode.Mode.TheVariants.{Forward, Backward}
 use Rattle.sbl_tree.specs.Tree.{Command, Others, Plain, declaration, escapes, macro, routine, grouping, Item, plain, backward}
 use Rattle.sbl_tree.specs.View.{RowView}
-use Rattle.sbl_script.specs.Occurrences.{ItemInMode, in_mode, in_order}
-use Rattle.sbl_script.specs.Parsed.{body_in}
+use Rattle.sbl_checks.specs.Occurrences.{ItemInMode, in_mode, in_order}
+use Rattle.sbl_checks.specs.Bodies.{body_in}
 use Rattle.sbl_script.specs.Edits.{is_routine, body_if, routine_in, routine_of, holds_routine, plains_with, item_with, items_with}
 use Rattle.sbl_script.specs.OnlyTheItem.{number_from, number_of}
 

@@ -1,12 +1,4 @@
-pub mod Noted
-pub mod Counted
-pub mod Keeping
-pub mod Turns
 pub mod Places
-pub mod FirstFault
-pub mod Extends
-pub mod Sound
-pub mod Resolving
 pub mod OneReading
 pub mod Editing
 pub mod Shallow

@@ -8,14 +8,15 @@ use Rattle.sbl_text.specs.declared.fault.ScriptFault.TheVariants as fault
 use Rattle.sbl_text.specs.Tokens.{Placed}
 use Rattle.sbl_tree.specs.Tree.{routine, Item}
 use Rattle.sbl_tree.specs.View.{RowView}
-use Rattle.sbl_script.specs.declared.occurrences.Site.{Site}
-use Rattle.sbl_script.specs.Occurrences.{Occurrence, Notice, declares, defines_routine, defines_grouping, uses, substring, among, string, backwards, region_end, noted_items, occurrences_of}
-use Rattle.sbl_script.specs.Parsed.{Source, body_in}
-use Rattle.sbl_script.specs.Checks.{declared_as, kind_of, defined_at, definition_of, is_followed, waits_after, is_awaited, is_text, is_text_of, has_text, is_external, has_external, fault_at, fault_of, WellDeclared}
-use Rattle.sbl_script.specs.Laws.{EachPasses, IsFirst}
+use Rattle.sbl_checks.specs.declared.occurrences.Site.{Site}
+use Rattle.sbl_checks.specs.Occurrences.{Occurrence, Notice, declares, defines_routine, defines_grouping, uses, substring, among, string, backwards, region_end, noted_items, occurrences_of}
+use Rattle.sbl_script.specs.Parsed.{Source}
+use Rattle.sbl_checks.specs.Bodies.{body_in}
+use Rattle.sbl_checks.specs.Checks.{declared_as, kind_of, defined_at, definition_of, is_followed, waits_after, is_awaited, is_text, is_text_of, has_text, is_external, has_external, fault_at, fault_of, WellDeclared}
+use Rattle.sbl_checks.specs.Laws.{EachPasses, IsFirst}
 use Rattle.sbl_script.specs.Edits.{ScriptEdit, Home, home, home_in, routine_name, routine_of, items_with, state_before, IsFaultAt, IsCheckFaultWith}
 use Rattle.sbl_script.specs.OnlyTheItem.{item_of, number_from, number_of, OnlyTheItem, ExternalStays}
-use Rattle.sbl_script.proofs.FirstFault as first
+use Rattle.sbl_checks.proofs.FirstFault as first
 use Rattle.sbl_script.proofs.Own.{Each, is_quiet, IsOfCommand, RoutineParts, routine_parts}
 use Rattle.sbl_script.proofs.RoundItem.{Closed, followed_same, decided_at, own, InItem, NotBefore, routine_sites, items_closed, items_sites, round_item}
 use Rattle.sbl_script.proofs.TextFaults.{is_checked, text_fault, unread}

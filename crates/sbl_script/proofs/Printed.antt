@@ -16,7 +16,7 @@ use Rattle.sbl_grammar.specs.Reading.{AreShallow}
 use Rattle.sbl_print.specs.Canonical.{canonical}
 use Rattle.sbl_print.specs.Spaced.{CanonicalIsSpaced}
 use Rattle.sbl_script.specs.Parsed.{Source}
-use Rattle.sbl_script.specs.Checks.{WellDeclared}
+use Rattle.sbl_checks.specs.Checks.{WellDeclared}
 use Rattle.sbl_script.specs.Printed.{CanonicalIsRead}
 use Rattle.sbl_script.specs.Reading.{first_left_out, is_left_out, terminals}
 use Rattle.sbl_script.specs.Spelled.{AreSpelled}

@@ -3,9 +3,9 @@ use Rattle.std.proofs.Common.{◌≡◌, ℕ, ◌+◌, ◌≤◌, Bool, true, fa
 use Rattle.std.specs.Prelude.{⊤}
 use Rattle.sbl_tree.specs.declared.mode.Mode.{Mode}
 use Rattle.sbl_tree.specs.Tree.{Plain, declaration, escapes, macro, routine, grouping}
-use Rattle.sbl_script.specs.declared.occurrences.Site.{Site}
-use Rattle.sbl_script.specs.Occurrences.{Occurrence, Notice, declares, defines_routine, defines_grouping, uses, substring, among, string, backwards, region_end, noted_plain, ItemInMode, noted_items}
-use Rattle.sbl_script.specs.Checks.{is_followed}
+use Rattle.sbl_checks.specs.declared.occurrences.Site.{Site}
+use Rattle.sbl_checks.specs.Occurrences.{Occurrence, Notice, declares, defines_routine, defines_grouping, uses, substring, among, string, backwards, region_end, noted_plain, ItemInMode, noted_items}
+use Rattle.sbl_checks.specs.Checks.{is_followed}
 use Rattle.sbl_script.proofs.Own.{Each, each_both, each_as, IsOfCommand, IsOfList, RoutineParts, routine_parts, plain_alone, names_are, grouping_are}
 
 -- ---- a substring's among stands in its own item

@@ -4,9 +4,9 @@ use Rattle.sbl_text.specs.declared.fault.ScriptFault.{ScriptFault}
 use Rattle.sbl_text.specs.declared.fault.ScriptFault.TheVariants as fault
 use Rattle.sbl_tree.specs.Tree.{Item}
 use Rattle.sbl_script.specs.declared.edit_fault.EditFault.TheVariants as edits
-use Rattle.sbl_script.specs.Occurrences.{ItemInMode, in_order}
+use Rattle.sbl_checks.specs.Occurrences.{ItemInMode, in_order}
 use Rattle.sbl_script.specs.Parsed.{Source}
-use Rattle.sbl_script.specs.Checks.{WellDeclared}
+use Rattle.sbl_checks.specs.Checks.{WellDeclared}
 use Rattle.sbl_script.specs.Edits.{ScriptEdit, is_routine, routine_name, IsEditFault}
 
 -- the number of the item that a fault tells

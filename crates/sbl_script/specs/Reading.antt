@@ -15,7 +15,7 @@ use Rattle.sbl_tree.specs.Tree.{Item}
 use Rattle.sbl_grammar.specs.Texts.{Text, script}
 use Rattle.sbl_grammar.specs.Reading.{IsReadAs, IsSyntaxAt, IsTooDeepAt, IsOutOfProfileAt}
 use Rattle.sbl_script.specs.Parsed.{Source}
-use Rattle.sbl_script.specs.Checks.{WellDeclared, fault_of}
+use Rattle.sbl_checks.specs.Checks.{WellDeclared, fault_of}
 
 -- the most bytes of a script
 abbrev pub max_script : ℕ

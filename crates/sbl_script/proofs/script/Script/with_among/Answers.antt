@@ -9,7 +9,7 @@ use Rattle.sbl_grammar.specs.Reading.{AreShallow, IsReadAs}
 use Rattle.sbl_grammar.specs.Texts as texts
 use Rattle.sbl_tree.specs.Tree.{Item}
 use Rattle.sbl_tree.specs.View.{RowView, view_among, view_items, view_row}
-use Rattle.sbl_script.specs.Checks.{fault_of}
+use Rattle.sbl_checks.specs.Checks.{fault_of}
 use Rattle.sbl_script.specs.Parsed.{source_of}
 use Rattle.sbl_script.specs.Reading.{IsUnread, first_left_out, terminals}
 use Rattle.sbl_script.specs.Edits.{among, home_of_among, items_with, routine_of, state_before}
