@@ -1,5 +1,5 @@
 -- The items before a routine and behind it, where it has another body.
-use Rattle.std.proofs.Common.{◌≡◌, ℕ, ◌+◌, Bool, true, false, cond, ◌||◌, List, [], ◌∷◌, ◌++◌, length, Option, Some, None, is_some, refl, sym, ap, subst, ◌∙◌, append_assoc, append-nil, arith}
+use Rattle.std.proofs.Common.{◌≡◌, ℕ, ◌+◌, Bool, true, false, cond, ◌||◌, List, [], ◌∷◌, ◌++◌, length, Option, Some, None, is_some, refl, sym, ap, ◌∙◌, append_assoc, append-nil, arith}
 use Rattle.std.specs.List.{list_any}
 use Rattle.std.specs.Option.{option_or}
 use Rattle.std.specs.Str.{bytes_eq}
@@ -10,8 +10,8 @@ use Rattle.sbl_tree.specs.Tree.{Command, Others, Plain, declaration, escapes, ma
 use Rattle.sbl_tree.specs.View.{RowView}
 use Rattle.sbl_checks.specs.Occurrences.{ItemInMode, in_mode, in_order}
 use Rattle.sbl_checks.specs.Bodies.{body_in}
-use Rattle.sbl_script.specs.Edits.{is_routine, body_if, routine_in, routine_of, holds_routine, plains_with, item_with, items_with}
-use Rattle.sbl_script.specs.OnlyTheItem.{number_from, number_of}
+use Rattle.sbl_script.specs.Edits.{is_routine, body_if, routine_in, routine_of, plains_with, items_with}
+use Rattle.sbl_script.specs.OnlyTheItem.{number_from}
 
 -- ---- text order, with what stands behind
 

@@ -1,5 +1,5 @@
 -- A check that fails for an edit tells the item that the edit changes.
-use Rattle.std.proofs.Common.{◌≡◌, ◌⊎◌, inl, inr, ℕ, ◌+◌, ◌≤◌, Bool, true, false, cond, ◌&&◌, ◌||◌, nat_eq, List, [], ◌∷◌, ◌++◌, length, Option, Some, None, Ok, is_some, refl, sym, ap, subst, ◌∙◌, append_assoc, arith}
+use Rattle.std.proofs.Common.{◌≡◌, ◌⊎◌, inl, inr, ℕ, ◌+◌, ◌≤◌, Bool, true, false, ◌&&◌, ◌||◌, nat_eq, List, [], ◌∷◌, ◌++◌, length, Option, Some, None, Ok, is_some, refl, sym, ap, subst, ◌∙◌, append_assoc, arith}
 use Rattle.std.specs.Option.{option_or}
 use Rattle.std.proofs.lemmas.Bool.Decides.{nat_tests}
 use Rattle.std.proofs.lemmas.List.Folds.{list_any-append}
@@ -12,7 +12,7 @@ use Rattle.sbl_checks.specs.declared.occurrences.Site.{Site}
 use Rattle.sbl_checks.specs.Occurrences.{Occurrence, Notice, declares, defines_routine, defines_grouping, uses, substring, among, string, backwards, region_end, noted_items, occurrences_of}
 use Rattle.sbl_script.specs.Parsed.{Source}
 use Rattle.sbl_checks.specs.Bodies.{body_in}
-use Rattle.sbl_checks.specs.Checks.{declared_as, kind_of, defined_at, definition_of, is_followed, waits_after, is_awaited, is_text, is_text_of, has_text, is_external, has_external, fault_at, fault_of, WellDeclared}
+use Rattle.sbl_checks.specs.Checks.{declared_as, kind_of, defined_at, definition_of, waits_after, is_awaited, is_text, is_text_of, has_text, is_external, has_external, fault_at, fault_of, WellDeclared}
 use Rattle.sbl_checks.specs.Laws.{EachPasses, IsFirst}
 use Rattle.sbl_script.specs.Edits.{ScriptEdit, Home, home, home_in, routine_name, routine_of, items_with, state_before, IsFaultAt, IsCheckFaultWith}
 use Rattle.sbl_script.specs.OnlyTheItem.{item_of, number_from, number_of, OnlyTheItem, ExternalStays}

@@ -1,6 +1,6 @@
 -- A fault of a text, and of its tokens, is none of a check.
 use Rattle.std.proofs.Common.{◌≡◌, ◌⊎◌, inl, inr, ℕ, ◌+◌, Bool, true, false, cond, ◌&&◌, ◌||◌, List, [], ◌∷◌, Option, Some, None, is_some, Result, Ok, Err, refl, subst, ap, ◌∙◌}
-use Rattle.std.specs.Prelude.{◌==◌, length}
+use Rattle.std.specs.Prelude.{◌==◌}
 use Rattle.std.specs.List.{list_all}
 use Rattle.sbl_text.specs.declared.fault.ScriptFault.{ScriptFault}
 use Rattle.sbl_text.specs.declared.fault.ScriptFault.TheVariants as fault
@@ -14,7 +14,7 @@ use Rattle.sbl_text.specs.Escapes.{InForce, find, opens}
 use Rattle.sbl_text.specs.Literals.{Refusal, byte_length, code_or_fault, character_named, value_or_character, inserted, FirstWrong}
 use Rattle.sbl_text.specs.Codes.{code_of}
 use Rattle.sbl_text.specs.Directives.{Directives}
-use Rattle.sbl_text.specs.Tokens.{Placed, starts_star, pair_fault, token_fault, fault_at, IsRefused, IsFirstFaultFrom}
+use Rattle.sbl_text.specs.Tokens.{Placed, starts_star, pair_fault, token_fault, fault_at, IsRefused}
 use Rattle.sbl_grammar.specs.Texts.{Text}
 use Rattle.sbl_script.specs.OnlyTheItem.{item_of}
 use Rattle.sbl_script.specs.Reading.{IsTextFault, IsUnread}

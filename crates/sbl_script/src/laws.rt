@@ -7,13 +7,12 @@ ghost use Rattle.sbl_script.specs.Parsed.{source_of};
 ghost use Rattle.sbl_script.specs.Printed.{CanonicalIsRead};
 
 use crate::script::Script;
-use sbl_grammar::{one_fault, one_part, one_tree};
-use sbl_print::laws::canonical_is_spaced;
-use sbl_text::laws::{first_fault_is_one, spaced_are_read, tokens_are_one};
-
 pub use sbl_checks::laws::{
     amongs_are_sound, fault_is_first, names_resolve, substrings_are_paired, well_declared_passes,
 };
+use sbl_grammar::{one_fault, one_part, one_tree};
+use sbl_print::laws::canonical_is_spaced;
+use sbl_text::laws::{first_fault_is_one, spaced_are_read, tokens_are_one};
 
 /// Bytes are read as one script, or they have one fault, and never both: `Script::parse` is a function of its bytes and
 /// of the external, want of memory aside.
