@@ -1,5 +1,5 @@
 -- Marks are only added.
-use Rattle.std.proofs.Common.{◌≡◌, ℕ, List, [], ◌∷◌, ◌++◌, Option, Some, None, length, refl, sym, ap, ◌∙◌, append_assoc, append-nil, ◌+◌}
+use Rattle.std.proofs.Common.{◌≡◌, ℕ, List, [], ◌∷◌, ◌++◌, Option, Some, None, refl, sym, ap, ◌∙◌, append_assoc, append-nil, ◌+◌}
 use Rattle.sbl_tree.specs.declared.tree.DeclarationKind.{DeclarationKind}
 use Rattle.sbl_tree.specs.declared.tree.Simple.{Simple}
 use Rattle.sbl_tree.specs.declared.tree.Simple.TheVariants as simples
@@ -8,7 +8,7 @@ use Rattle.sbl_tree.specs.declared.tree.Prefix.TheVariants as prefixes
 use Rattle.sbl_tree.specs.Tree.{Argument, written_out, by_name, Expression, expression, Sums, no_sums, sum, Product, product, Scales, no_scales, scale, Factor, negated, bracketed, numeral, variable, fixed, length_of, Entry, entry, Command, bracket, simple_, literal_, name_, non_, prefixed, counted, move_, named, splice_, setlimit_, assign_, compare_, compare_values_, among_, Rows, no_rows, row, Others, no_others, joined, Starter, no_starter, starter, Groups, bare, group, Term, term, Plain, declaration, escapes, macro, routine, grouping}
 use Rattle.sbl_checks.specs.declared.occurrences.Use.TheVariants as use_as
 use Rattle.sbl_checks.specs.declared.occurrences.Site.{Site}
-use Rattle.sbl_checks.specs.Occurrences.{Occurrence, Notice, put, uses, substring, among, string, backwards, region_end, declares, defines_routine, defines_grouping, noted_string, noted_expression, noted_sums, noted_product, noted_scales, noted_factor, noted_simple, noted_prefix, site_behind, use_of, noted_condition, noted_entry, noted_entries, has_starter, is_empty, noted, noted_rows, noted_others, noted_starter, noted_groups, noted_names, noted_term, noted_terms, noted_plain, ItemInMode, noted_items}
+use Rattle.sbl_checks.specs.Occurrences.{Occurrence, Notice, put, uses, substring, among, string, backwards, region_end, declares, defines_routine, defines_grouping, amongs_in, noted_string, noted_expression, noted_sums, noted_product, noted_scales, noted_factor, noted_simple, noted_prefix, site_behind, use_of, noted_condition, noted_entry, noted_entries, has_starter, is_empty, noted, noted_rows, noted_others, noted_starter, noted_groups, noted_names, noted_term, noted_terms, noted_plain, ItemInMode, noted_items}
 
 -- the second list is the first, and then more
 pub record Extends (a b : List Occurrence) : Type 0 where
@@ -102,7 +102,7 @@ mutual
   command_more (compare_values_ e o f) p s = then_ (expression_more e p s) (expression_more f p (noted_expression e p s))
   command_more (among_ x gs) p s =
       let occurrence = among (has_starter x) (is_empty gs) in
-      then_ (put_more occurrence p s) (then_ (starter_more x p (put occurrence p s)) (groups_more gs (length s) p (noted_starter x p (put occurrence p s))))
+      then_ (put_more occurrence p s) (then_ (starter_more x p (put occurrence p s)) (groups_more gs (amongs_in s 0 + 1) p (noted_starter x p (put occurrence p s))))
 
   pub rows_more : (rs : Rows) (p : Site) (s : List Occurrence) → Extends s (noted_rows rs p s)
   rows_more no_rows p s = same s

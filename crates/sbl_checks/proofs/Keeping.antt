@@ -14,7 +14,7 @@ use Rattle.std.proofs.lemmas.Bool.Decides.{nat_tests}
 use Rattle.std.proofs.lemmas.Cmp.{nat_list_eq_equiv}
 use Rattle.std.proofs.lemmas.Slice.Eq.{bytes_eq-Decides}
 use Rattle.std.proofs.lemmas.Map.Text.{btree_map_updates_str, is_eq-slice_cmp}
-use Rattle.sbl_checks.specs.Met.{at_name, has_pair}
+use Rattle.sbl_checks.specs.Met.{at_name, has_string}
 
 abbrev pub order : Bor (List ℕ) → Bor (List ℕ) → Ordering
 order x y = slice_cmp nat_cmp x.now y.now
@@ -52,8 +52,8 @@ kept_first {X} old new name w lacks changed n =
       go true e = by_value (at_name old n) (subst (λ (x : List ℕ). is_some (at_name old x) ≡ false) (sym (same n name e)) lacks)
       go false e = none_more (at_name old n)
 
-abbrev pub pair_order : ℕ × Bor (List ℕ) → ℕ × Bor (List ℕ) → Ordering
-pair_order x y = ordering_then (nat_cmp x.0 y.0) (slice_cmp nat_cmp x.1.now y.1.now)
+abbrev pub string_order : ℕ × ℕ × Bor (List ℕ) → ℕ × ℕ × Bor (List ℕ) → Ordering
+string_order x y = ordering_then (ordering_then (nat_cmp x.0 y.0) (nat_cmp x.1 y.1)) (slice_cmp nat_cmp x.2.now y.2.now)
 
 -- some reference to a list
 abbrev at : List ℕ → Bor (List ℕ)
@@ -67,11 +67,20 @@ both Greater b = refl
 numbers : (x y : ℕ) → is_eq (nat_cmp x y) ≡ nat_eq y x
 numbers x y = grind (arith, nat_tests)
 
-tied : (x o : ℕ) (v t : List ℕ) → is_eq (ordering_then (nat_cmp x o) (slice_cmp nat_cmp v t)) ≡ (nat_eq o x && bytes_eq t v)
-tied x o v t =
-    both (nat_cmp x o) (slice_cmp nat_cmp v t)
-    ∙ ap (λ (b : Bool). b && is_eq (slice_cmp nat_cmp v t)) (numbers x o)
-    ∙ ap (λ (b : Bool). nat_eq o x && b) (is_eq-slice_cmp v t ∙ IsEquivalence.symm nat_list_eq_equiv v t)
+turned : (a b c : Bool) → ((a && b) && c) ≡ ((b && c) && a)
+turned true true true = refl
+turned true true false = refl
+turned true false c = refl
+turned false true true = refl
+turned false true false = refl
+turned false false c = refl
+
+tied : (x i y k : ℕ) (v t : List ℕ) → is_eq (ordering_then (ordering_then (nat_cmp x i) (nat_cmp y k)) (slice_cmp nat_cmp v t)) ≡ ((nat_eq k y && bytes_eq t v) && nat_eq i x)
+tied x i y k v t =
+    both (ordering_then (nat_cmp x i) (nat_cmp y k)) (slice_cmp nat_cmp v t)
+    ∙ ap (λ (b : Bool). b && is_eq (slice_cmp nat_cmp v t)) (both (nat_cmp x i) (nat_cmp y k) ∙ ap (λ (b : Bool). b && is_eq (nat_cmp y k)) (numbers x i) ∙ ap (λ (b : Bool). nat_eq i x && b) (numbers y k))
+    ∙ ap (λ (b : Bool). (nat_eq i x && nat_eq k y) && b) (is_eq-slice_cmp v t ∙ IsEquivalence.symm nat_list_eq_equiv v t)
+    ∙ turned (nat_eq i x) (nat_eq k y) (bytes_eq t v)
 
 either : (a b : Bool) → cond a true b ≡ (b || a)
 either true true = refl
@@ -80,9 +89,9 @@ either false true = refl
 either false false = refl
 
 -- a string of an among is among those that were put
-pub kept_string : (old new : sorted.BTreeSet (ℕ × Bor (List ℕ))) (key : ℕ × Bor (List ℕ)) → sorted.Updates pair_order old new key true
-    → (o : ℕ) (t : List ℕ) → has_pair new o t ≡ (has_pair old o t || (nat_eq o key.0 && bytes_eq t key.1.now))
-kept_string old new key changed o t =
-    changed.0 (o, at t)
-    ∙ ap (λ (b : Bool). cond b true (has_pair old o t)) (tied key.0 o key.1.now t)
-    ∙ either (nat_eq o key.0 && bytes_eq t key.1.now) (has_pair old o t)
+pub kept_string : (old new : sorted.BTreeSet (ℕ × ℕ × Bor (List ℕ))) (key : ℕ × ℕ × Bor (List ℕ)) → sorted.Updates string_order old new key true
+    → (i k : ℕ) (t : List ℕ) → has_string new i k t ≡ (has_string old i k t || ((nat_eq k key.1 && bytes_eq t key.2.now) && nat_eq i key.0))
+kept_string old new key changed i k t =
+    changed.0 (i, k, at t)
+    ∙ ap (λ (b : Bool). cond b true (has_string old i k t)) (tied key.0 i key.1 k key.2.now t)
+    ∙ either ((nat_eq k key.1 && bytes_eq t key.2.now) && nat_eq i key.0) (has_string old i k t)

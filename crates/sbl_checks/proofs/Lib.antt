@@ -1,4 +1,5 @@
 pub mod Noted
+pub mod Counted
 pub mod Keeping
 pub mod Turns
 pub mod FirstFault

@@ -1,5 +1,5 @@
 -- The strings of each among of a script that is well declared differ.
-use Rattle.std.proofs.Common.{◌≡◌, ℕ, ◌+◌, Bool, true, false, cond, ◌||◌, ◌&&◌, nat_eq, List, [], ◌∷◌, ◌++◌, Option, Some, None, map, length, refl, sym, ap, subst, ◌∙◌, append_assoc, append-nil}
+use Rattle.std.proofs.Common.{◌≡◌, ℕ, ◌+◌, Bool, true, false, cond, ◌||◌, ◌&&◌, nat_eq, List, [], ◌∷◌, ◌++◌, Option, Some, None, map, refl, sym, subst, ◌∙◌, append_assoc, append-nil}
 use Rattle.std.specs.List.{list_any, IsDistinct}
 use Rattle.std.specs.Str.{bytes_eq}
 use Rattle.std.specs.Cmp.{IsEquivalence}
@@ -12,7 +12,7 @@ use Rattle.sbl_tree.specs.Tree.{Entry, entry, Command, bracket, simple_, literal
 use Rattle.sbl_tree.specs.declared.mode.Mode.{Mode}
 use Rattle.sbl_tree.specs.declared.mode.Mode.TheVariants.{Forward, Backward}
 use Rattle.sbl_checks.specs.declared.occurrences.Site.{Site}
-use Rattle.sbl_checks.specs.Occurrences.{Occurrence, put, among, string, region_end, defines_routine, noted_expression, noted_prefix, site_behind, noted_condition, noted_entry, noted_entries, has_starter, is_empty, noted, noted_rows, noted_others, noted_starter, noted_groups, noted_plain, ItemInMode, in_mode, in_order, noted_items, occurrences_of}
+use Rattle.sbl_checks.specs.Occurrences.{Occurrence, put, among, string, region_end, defines_routine, amongs_in, noted_expression, noted_prefix, site_behind, noted_condition, noted_entry, noted_entries, has_starter, is_empty, noted, noted_rows, noted_others, noted_starter, noted_groups, noted_plain, ItemInMode, in_mode, in_order, noted_items, occurrences_of}
 use Rattle.sbl_checks.specs.Checks.{fault_at, has_text, is_text_of, is_awaited}
 use Rattle.sbl_checks.specs.Laws.{EachPasses}
 use Rattle.sbl_checks.specs.Amongs.{text_of, texts_of, IsSound, EachAmong, EachAmongOfRows, EachAmongOfOthers, EachAmongOfStarter, EachAmongOfGroups, EachAmongOfPlain, EachAmongOfPlains, EachAmongOfItems, AmongsAreSound}
@@ -35,8 +35,8 @@ rest_fails : (b : Bool) (f : ScriptFault) (rest : Option ScriptFault) → cond b
 rest_fails true f rest e = absurd cc
 rest_fails false f rest e = e
 
-string_new : (all s more : List Occurrence) (p : Site) (o : ℕ) (t : List ℕ) → fault_at all s (record { site = p; notice = string o t }) more ≡ None → has_text o t s ≡ false
-string_new all s more p o t e = test_fails (has_text o t s) (fault.RepeatedString p.item) None e
+string_new : (all s more : List Occurrence) (p : Site) (o : ℕ) (t : List ℕ) → fault_at all s (record { site = p; notice = string o t }) more ≡ None → has_text p.item o t s ≡ false
+string_new all s more p o t e = test_fails (has_text p.item o t s) (fault.RepeatedString p.item) None e
 
 among_full : (all s more : List Occurrence) (p : Site) (b empty : Bool) → fault_at all s (record { site = p; notice = among b empty }) more ≡ None → empty ≡ false
 among_full all s more p b empty e =
@@ -45,20 +45,20 @@ among_full all s more p b empty e =
 -- ---- the strings so far
 
 -- they differ, and each has its occurrence among these
-record Kept (o : ℕ) (s : List Occurrence) (texts : List (List ℕ)) : Type 0 where
+record Kept (i o : ℕ) (s : List Occurrence) (texts : List (List ℕ)) : Type 0 where
   differ : IsDistinct bytes_eq texts
-  occurrences : (q : List ℕ) → list_any (bytes_eq q) texts ≡ true → has_text o q s ≡ true
+  occurrences : (q : List ℕ) → list_any (bytes_eq q) texts ≡ true → has_text i o q s ≡ true
 
 or_true : (a b : Bool) → a ≡ true → (a || b) ≡ true
 or_true true b e = refl
 or_true false b e = absurd cc
 
-kept_more : (o : ℕ) (s t : List Occurrence) (texts : List (List ℕ)) → Extends s t → Kept o s texts → Kept o t texts
-kept_more o s t texts e k = record {
+kept_more : (i o : ℕ) (s t : List Occurrence) (texts : List (List ℕ)) → Extends s t → Kept i o s texts → Kept i o t texts
+kept_more i o s t texts e k = record {
   differ = k.differ;
   occurrences = λ q h.
-      subst (λ (x : List Occurrence). has_text o q x ≡ true) (sym e.is)
-      (list_any-append (λ (m : Occurrence). is_text_of o q m.notice) s e.more ∙ or_true (has_text o q s) (has_text o q e.more) (k.occurrences q h));
+      subst (λ (x : List Occurrence). has_text i o q x ≡ true) (sym e.is)
+      (list_any-append (is_text_of i o q) s e.more ∙ or_true (has_text i o q s) (has_text i o q e.more) (k.occurrences q h));
 }
 
 is_false : (b : Bool) → (b ≡ true → true ≡ false) → b ≡ false
@@ -82,32 +82,37 @@ or_moves true false c d e f g = first_one c (d || false) (f refl) where
   first_one false r h = absurd cc
 or_moves false false c d e f g = absurd cc
 
-own : (o : ℕ) (b : Bool) → b ≡ (nat_eq o o && b)
-own o b = ap (λ (x : Bool). x && b) (sym (IsEquivalence.refl nat_eq_equiv o))
+own : (i o : ℕ) (b : Bool) → b ≡ ((nat_eq o o && b) && nat_eq i i)
+own i o b = at b (nat_eq o o) (nat_eq i i) (IsEquivalence.refl nat_eq_equiv o) (IsEquivalence.refl nat_eq_equiv i) where
+  at : (b x y : Bool) → x ≡ true → y ≡ true → b ≡ ((x && b) && y)
+  at true true true e f = refl
+  at false true true e f = refl
+  at b false y e f = absurd cc
+  at b true false e f = absurd cc
 
-kept_string : (o : ℕ) (s : List Occurrence) (texts : List (List ℕ)) (t : List ℕ) (p : Site) → has_text o t s ≡ false → Kept o s texts → Kept o (put (string o t) p s) (texts ++ t ∷ [])
+kept_string : (o : ℕ) (s : List Occurrence) (texts : List (List ℕ)) (t : List ℕ) (p : Site) → has_text p.item o t s ≡ false → Kept p.item o s texts → Kept p.item o (put (string o t) p s) (texts ++ t ∷ [])
 kept_string o s texts t p new k = record {
   differ = IsDistinct-push nat_list_eq_equiv texts t k.differ (is_false (list_any (bytes_eq t) texts) (λ h. sym (k.occurrences t h) ∙ new));
   occurrences = λ q h.
-      list_any-append (λ (m : Occurrence). is_text_of o q m.notice) s ((record { site = p; notice = string o t }) ∷ [])
-      ∙ or_moves (list_any (bytes_eq q) texts) (bytes_eq q t) (has_text o q s) (nat_eq o o && bytes_eq q t) (sym (list_any-append (bytes_eq q) texts (t ∷ [])) ∙ h) (k.occurrences q) (own o (bytes_eq q t));
+      list_any-append (is_text_of p.item o q) s ((record { site = p; notice = string o t }) ∷ [])
+      ∙ or_moves (list_any (bytes_eq q) texts) (bytes_eq q t) (has_text p.item o q s) ((nat_eq o o && bytes_eq q t) && nat_eq p.item p.item) (sym (list_any-append (bytes_eq q) texts (t ∷ [])) ∙ h) (k.occurrences q) (own p.item o (bytes_eq q t));
 }
 
-kept_entry : (all : List Occurrence) (e : Entry) (o : ℕ) (p : Site) (s : List Occurrence) (texts : List (List ℕ)) → Passing all → Extends (noted_entry e o p s) all → Kept o s texts
-    → Kept o (noted_entry e o p s) (texts ++ text_of e ∷ [])
+kept_entry : (all : List Occurrence) (e : Entry) (o : ℕ) (p : Site) (s : List Occurrence) (texts : List (List ℕ)) → Passing all → Extends (noted_entry e o p s) all → Kept p.item o s texts
+    → Kept p.item o (noted_entry e o p s) (texts ++ text_of e ∷ [])
 kept_entry all (entry q c) o p s texts passing e k =
     let here = at_mark all s (record { site = p; notice = string o q.value }) passing (then_ (condition_more c p (put (string o q.value) p s)) e) in
-    kept_more o (put (string o q.value) p s) (noted_condition c p (put (string o q.value) p s)) (texts ++ q.value ∷ []) (condition_more c p (put (string o q.value) p s))
+    kept_more p.item o (put (string o q.value) p s) (noted_condition c p (put (string o q.value) p s)) (texts ++ q.value ∷ []) (condition_more c p (put (string o q.value) p s))
     (kept_string o s texts q.value p (string_new all s here.0 p o q.value here.1) k)
 
-kept_entries : (all : List Occurrence) (es : List Entry) (o : ℕ) (p : Site) (s : List Occurrence) (texts : List (List ℕ)) → Passing all → Extends (noted_entries es o p s) all → Kept o s texts
-    → Kept o (noted_entries es o p s) (texts ++ map text_of es)
-kept_entries all [] o p s texts passing e k = subst (λ (ts : List (List ℕ)). Kept o s ts) (sym (append-nil texts)) k
+kept_entries : (all : List Occurrence) (es : List Entry) (o : ℕ) (p : Site) (s : List Occurrence) (texts : List (List ℕ)) → Passing all → Extends (noted_entries es o p s) all → Kept p.item o s texts
+    → Kept p.item o (noted_entries es o p s) (texts ++ map text_of es)
+kept_entries all [] o p s texts passing e k = subst (λ (ts : List (List ℕ)). Kept p.item o s ts) (sym (append-nil texts)) k
 kept_entries all (x ∷ es) o p s texts passing e k =
-    subst (λ (ts : List (List ℕ)). Kept o (noted_entries es o p (noted_entry x o p s)) ts) (append_assoc texts (text_of x ∷ []) (map text_of es))
+    subst (λ (ts : List (List ℕ)). Kept p.item o (noted_entries es o p (noted_entry x o p s)) ts) (append_assoc texts (text_of x ∷ []) (map text_of es))
     (kept_entries all es o p (noted_entry x o p s) (texts ++ text_of x ∷ []) passing e (kept_entry all x o p s texts passing (then_ (entries_more es o p (noted_entry x o p s)) e) k))
 
-kept_groups : (all : List Occurrence) (gs : Groups) (o : ℕ) (p : Site) (s : List Occurrence) (texts : List (List ℕ)) → Passing all → Extends (noted_groups gs o p s) all → Kept o s texts
+kept_groups : (all : List Occurrence) (gs : Groups) (o : ℕ) (p : Site) (s : List Occurrence) (texts : List (List ℕ)) → Passing all → Extends (noted_groups gs o p s) all → Kept p.item o s texts
     → IsDistinct bytes_eq (texts ++ texts_of gs)
 kept_groups all (bare es) o p s texts passing e k = (kept_entries all es o p s texts passing e k).differ
 kept_groups all (group x es rs gs) o p s texts passing e k =
@@ -117,8 +122,8 @@ kept_groups all (group x es rs gs) o p s texts passing e k =
     let d = put region_end p c in
     let after_d : Extends d all = then_ (groups_more gs o p d) e in
     let after_b : Extends b all = then_ (rows_more rs p b) (then_ (put_more region_end p c) after_d) in
-    let kb : Kept o b ((texts ++ text_of x ∷ []) ++ map text_of es) = kept_entries all es o p a (texts ++ text_of x ∷ []) passing after_b (kept_entry all x o p s texts passing (then_ (entries_more es o p a) after_b) k) in
-    let kd : Kept o d ((texts ++ text_of x ∷ []) ++ map text_of es) = kept_more o b d ((texts ++ text_of x ∷ []) ++ map text_of es) (then_ (rows_more rs p b) (put_more region_end p c)) kb in
+    let kb : Kept p.item o b ((texts ++ text_of x ∷ []) ++ map text_of es) = kept_entries all es o p a (texts ++ text_of x ∷ []) passing after_b (kept_entry all x o p s texts passing (then_ (entries_more es o p a) after_b) k) in
+    let kd : Kept p.item o d ((texts ++ text_of x ∷ []) ++ map text_of es) = kept_more p.item o b d ((texts ++ text_of x ∷ []) ++ map text_of es) (then_ (rows_more rs p b) (put_more region_end p c)) kb in
     subst (λ (ts : List (List ℕ)). IsDistinct bytes_eq ts)
     (append_assoc (texts ++ text_of x ∷ []) (map text_of es) (texts_of gs) ∙ append_assoc texts (text_of x ∷ []) (map text_of es ++ texts_of gs))
     (kept_groups all gs o p d ((texts ++ text_of x ∷ []) ++ map text_of es) passing e kd)
@@ -132,10 +137,10 @@ sound all x gs p s passing e =
     let occurrence = among (has_starter x) (is_empty gs) in
     let a = put occurrence p s in
     let b = noted_starter x p a in
-    let after_a : Extends a all = then_ (starter_more x p a) (then_ (groups_more gs (length s) p b) e) in
+    let after_a : Extends a all = then_ (starter_more x p a) (then_ (groups_more gs (amongs_in s 0 + 1) p b) e) in
     let here = at_mark all s (record { site = p; notice = occurrence }) passing after_a in
     record {
-      strings_differ = kept_groups all gs (length s) p b [] passing e (record { differ = none_differ; occurrences = λ q h. absurd (none q h) });
+      strings_differ = kept_groups all gs (amongs_in s 0 + 1) p b [] passing e (record { differ = none_differ; occurrences = λ q h. absurd (none q h) });
       has_strings = among_full all s here.0 p (has_starter x) (is_empty gs) here.1;
     } where
       none : (q : List ℕ) → false ≡ true → ⊥
@@ -162,7 +167,7 @@ mutual
   each_command all (among_ x gs) p s passing e =
       let a = put (among (has_starter x) (is_empty gs)) p s in
       let b = noted_starter x p a in
-      (sound all x gs p s passing e, each_starter all x p a passing (then_ (groups_more gs (length s) p b) e), each_group all gs (length s) p b passing e)
+      (sound all x gs p s passing e, each_starter all x p a passing (then_ (groups_more gs (amongs_in s 0 + 1) p b) e), each_group all gs (amongs_in s 0 + 1) p b passing e)
 
   each_rows : (all : List Occurrence) (rs : Rows) (p : Site) (s : List Occurrence) → Passing all → Extends (noted_rows rs p s) all → EachAmongOfRows IsSound rs
   each_rows all no_rows p s passing e = tt

@@ -32,19 +32,18 @@ or_false : (b : Bool) → (b || false) ≡ b
 or_false true = refl
 or_false false = refl
 
-has_text-push : (o : ℕ) (t : List ℕ) (ms : List Occurrence) (m : Occurrence) → has_text o t (ms ++ m ∷ []) ≡ (has_text o t ms || is_text_of o t m.notice)
-has_text-push o t ms m =
-    list_any-append (λ (x : Occurrence). is_text_of o t x.notice) ms (m ∷ []) ∙ ap (λ (b : Bool). has_text o t ms || b) (or_false (is_text_of o t m.notice))
+has_text-push : (i k : ℕ) (t : List ℕ) (ms : List Occurrence) (m : Occurrence) → has_text i k t (ms ++ m ∷ []) ≡ (has_text i k t ms || is_text_of i k t m)
+has_text-push i k t ms m = list_any-append (is_text_of i k t) ms (m ∷ []) ∙ ap (λ (b : Bool). has_text i k t ms || b) (or_false (is_text_of i k t m))
 
 is_awaited-push : (ms : List Occurrence) (m : Occurrence) (b : Bool) → is_awaited (ms ++ m ∷ []) b ≡ waits_after m.notice (is_awaited ms b)
 is_awaited-push [] m b = refl
 is_awaited-push (x ∷ ms) m b = is_awaited-push ms m (waits_after x.notice b)
 
 -- one more occurrence is met
-pub met_more : (old new : Met) (ms : List Occurrence) (m : Occurrence) → HasMet old ms → Notes old new m.notice → HasMet new (ms ++ m ∷ [])
+pub met_more : (old new : Met) (ms : List Occurrence) (m : Occurrence) → HasMet old ms → Notes old new m → HasMet new (ms ++ m ∷ [])
 met_more old new ms m met notes = record {
   kinds = λ n. notes.kinds n ∙ ap (λ (o : Option DeclarationKind). option_or o (declared_as n m.notice)) (met.kinds n) ∙ sym (kind_of-push n ms m);
-  strings = λ o t. notes.strings o t ∙ ap (λ (b : Bool). b || is_text_of o t m.notice) (met.strings o t) ∙ sym (has_text-push o t ms m);
+  strings = λ i k t. notes.strings i k t ∙ ap (λ (b : Bool). b || is_text_of i k t m) (met.strings i k t) ∙ sym (has_text-push i k t ms m);
   waits = notes.waits ∙ ap (waits_after m.notice) met.waits ∙ sym (is_awaited-push ms m false);
 }
 

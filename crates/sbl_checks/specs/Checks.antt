@@ -170,19 +170,23 @@ abbrev pub is_started_twice : List Occurrence → Notice → Bool
 is_started_twice before (among has_starter is_empty) = has_starter && is_awaited before false
 is_started_twice before _ = false
 
--- these characters are a string of this among
-abbrev pub is_text_of : ℕ → List ℕ → Notice → Bool
-is_text_of owner text (string o t) = nat_eq owner o && bytes_eq text t
-is_text_of owner text _ = false
+-- these characters are a string of the among of this number
+abbrev pub is_text : ℕ → List ℕ → Notice → Bool
+is_text k text (string o t) = nat_eq k o && bytes_eq text t
+is_text k text _ = false
+
+-- and that among stands in this item
+abbrev pub is_text_of : ℕ → ℕ → List ℕ → Occurrence → Bool
+is_text_of item k text m = is_text k text m.notice && nat_eq item m.site.item
 
 -- some occurrence says so
-abbrev pub has_text : ℕ → List ℕ → List Occurrence → Bool
-has_text owner text ms = list_any (λ (m : Occurrence). is_text_of owner text m.notice) ms
+abbrev pub has_text : ℕ → ℕ → List ℕ → List Occurrence → Bool
+has_text item k text ms = list_any (is_text_of item k text) ms
 
 -- 17: its characters are those of an earlier string of this among
-abbrev pub is_repeated : List Occurrence → Notice → Bool
-is_repeated before (string owner text) = has_text owner text before
-is_repeated before _ = false
+abbrev pub is_repeated : List Occurrence → ℕ → Notice → Bool
+is_repeated before item (string k text) = has_text item k text before
+is_repeated before item _ = false
 
 -- 18: an among with no string
 abbrev pub is_empty_among : Notice → Bool
@@ -205,7 +209,7 @@ fault_at all before m after =
     if is_wrong_mode all before m.site.mode m.notice then Some (fault.WrongMode m.site.item) else
     if is_unpaired m.site.mode m.notice after then Some (fault.Substring m.site.item) else
     if is_started_twice before m.notice then Some (fault.Starter m.site.item) else
-    if is_repeated before m.notice then Some (fault.RepeatedString m.site.item) else
+    if is_repeated before m.site.item m.notice then Some (fault.RepeatedString m.site.item) else
     if is_empty_among m.notice then Some (fault.EmptyAmong m.site.item) else
     if is_nested m.site.mode m.notice then Some (fault.NestedBackwards m.site.item) else
     None

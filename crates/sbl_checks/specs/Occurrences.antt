@@ -1,5 +1,5 @@
 -- What the checks look at: the occurrences of a script, in text order.
-use Rattle.std.specs.Prelude.{ℕ, ◌+◌, Bool, true, false, List, [], ◌∷◌, ◌++◌, length, Option, Some, None}
+use Rattle.std.specs.Prelude.{ℕ, ◌+◌, Bool, true, false, List, [], ◌∷◌, ◌++◌, Option, Some, None}
 use Rattle.sbl_tree.specs.declared.tree.DeclarationKind.{DeclarationKind}
 use Rattle.sbl_tree.specs.declared.tree.Simple.{Simple}
 use Rattle.sbl_tree.specs.declared.tree.Simple.TheVariants as simples
@@ -22,7 +22,7 @@ pub data Notice : Type 0 where
   substring : Notice
   -- an among: whether it has a starter, whether it has no string
   among : Bool → Bool → Notice
-  -- a string of an among, which is told by the number of occurrences before its own: its characters
+  -- a string of an among, which is told by its number in its item: its characters
   string : ℕ → List ℕ → Notice
   backwards : Notice
   -- the end of a routine's body, or of a group's or starter's bracket
@@ -35,6 +35,17 @@ pub record Occurrence : Type 0 where
 -- Each of the following takes the occurrences so far, and gives them with its own behind them.
 abbrev pub put : Notice → Site → List Occurrence → List Occurrence
 put n p sofar = sofar ++ (record { site = p; notice = n }) ∷ []
+
+-- how many amongs a routine has so far, where it had so many before
+abbrev pub amongs_after : Notice → ℕ → ℕ
+amongs_after (defines_routine n) k = 0
+amongs_after (among has_starter is_empty) k = k + 1
+amongs_after _ k = k
+
+-- how many amongs the routine that was defined last has so far
+abbrev pub amongs_in : List Occurrence → ℕ → ℕ
+amongs_in [] k = k
+amongs_in (m ∷ ms) k = amongs_in ms (amongs_after m.notice k)
 
 -- ---- names of strings and integers
 
@@ -91,13 +102,13 @@ abbrev pub noted_condition : Option (List ℕ) → Site → List Occurrence → 
 noted_condition None p sofar = sofar
 noted_condition (Some n) p sofar = put (uses use_as.Condition n) p sofar
 
--- strings of the among whose occurrence has so many before it
+-- strings of the among of this number
 abbrev pub noted_entry : Entry → ℕ → Site → List Occurrence → List Occurrence
-noted_entry (entry q c) owner p sofar = noted_condition c p (put (string owner q.value) p sofar)
+noted_entry (entry q c) k p sofar = noted_condition c p (put (string k q.value) p sofar)
 
 abbrev pub noted_entries : List Entry → ℕ → Site → List Occurrence → List Occurrence
-noted_entries [] owner p sofar = sofar
-noted_entries (e ∷ es) owner p sofar = noted_entries es owner p (noted_entry e owner p sofar)
+noted_entries [] k p sofar = sofar
+noted_entries (e ∷ es) k p sofar = noted_entries es k p (noted_entry e k p sofar)
 
 abbrev pub has_starter : Starter → Bool
 has_starter no_starter = false
@@ -123,7 +134,7 @@ abbrev mutual
   noted (assign_ n o e) p sofar = noted_expression e p (put (uses use_as.Integer n) p sofar)
   noted (compare_ n o e) p sofar = noted_expression e p (put (uses use_as.Integer n) p sofar)
   noted (compare_values_ e o f) p sofar = noted_expression f p (noted_expression e p sofar)
-  noted (among_ s gs) p sofar = noted_groups gs (length sofar) p (noted_starter s p (put (among (has_starter s) (is_empty gs)) p sofar))
+  noted (among_ s gs) p sofar = noted_groups gs (amongs_in sofar 0 + 1) p (noted_starter s p (put (among (has_starter s) (is_empty gs)) p sofar))
 
   pub noted_rows : Rows → Site → List Occurrence → List Occurrence
   noted_rows no_rows p sofar = sofar
@@ -138,9 +149,8 @@ abbrev mutual
   noted_starter (starter rs) p sofar = put region_end p (noted_rows rs p sofar)
 
   pub noted_groups : Groups → ℕ → Site → List Occurrence → List Occurrence
-  noted_groups (bare es) owner p sofar = noted_entries es owner p sofar
-  noted_groups (group e es rs gs) owner p sofar =
-      noted_groups gs owner p (put region_end p (noted_rows rs p (noted_entries es owner p (noted_entry e owner p sofar))))
+  noted_groups (bare es) k p sofar = noted_entries es k p sofar
+  noted_groups (group e es rs gs) k p sofar = noted_groups gs k p (put region_end p (noted_rows rs p (noted_entries es k p (noted_entry e k p sofar))))
 
 -- ---- items
 

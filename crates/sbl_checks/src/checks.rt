@@ -4,7 +4,7 @@ ghost use Rattle.std.specs.Prelude.{◌≡◌, ℕ, ◌∷◌, [], ◌++◌, Lis
 ghost use Rattle.sbl_checks.specs.Checks as spec;
 ghost use Rattle.sbl_checks.specs.Occurrences.{Occurrence as PlainOccurrence, occurrences_of as spec_occurrences};
 ghost use Rattle.sbl_checks.specs.OccurrenceView.{view_notice, view_occurrence, view_occurrences};
-ghost use Rattle.sbl_checks.specs.Met.{at_name, has_pair, HasPlaces, HasMet, Notes, Finds};
+ghost use Rattle.sbl_checks.specs.Met.{at_name, has_string, HasPlaces, HasMet, Notes, Finds};
 ghost use Rattle.std.specs.Option.{option_or};
 ghost use Rattle.sbl_tree.specs.View.{view_items};
 ghost use Rattle.std.specs.Str.{bytes_eq};
@@ -178,8 +178,8 @@ fn is_followed(mode: Mode, occurrences: &[Occurrence]) -> bool
 pub struct Met<'a> {
     /// What each name is declared as.
     pub kinds: BTreeMap<&'a str, DeclarationKind>,
-    /// The strings of each among.
-    pub strings: BTreeSet<(usize, &'a [char])>,
+    /// The strings of each among, with the item and the number of the among in it.
+    pub strings: BTreeSet<(usize, usize, &'a [char])>,
     /// Whether a `substring` waits for its `among`.
     pub waits: bool,
 }
@@ -238,8 +238,8 @@ fn fault_at<'a>(
             has_starter,
             is_empty,
         } => fault_of_among(item, has_starter && met.waits, is_empty),
-        Notice::String(owner, text) => fault_if(
-            met.strings.contains(&(owner, text)),
+        Notice::String(among, text) => fault_if(
+            met.strings.contains(&(item, among, text)),
             ScriptFault::RepeatedString { item },
         ),
         Notice::Backwards => fault_if(
@@ -264,25 +264,31 @@ fn keep_first<'a, T: Copy>(
     Ok(())
 }
 
-/// Keeps a string of an among.
+/// Keeps a string of an among of an item.
 fn keep_string<'a>(
-    strings: &mut BTreeSet<(usize, &'a [char])>,
-    owner: usize,
+    strings: &mut BTreeSet<(usize, usize, &'a [char])>,
+    item: usize,
+    among: usize,
     text: &'a [char],
 ) -> Result<(), AllocError>
-    ensures { OnOk result ((o : ℕ) (t : List ℕ) → has_pair strings.new o t ≡ (has_pair strings.old o t || (nat_eq o owner && bytes_eq t text.now))) }
+    ensures { OnOk result ((i k : ℕ) (t : List ℕ) → has_string strings.new i k t ≡ (has_string strings.old i k t || ((nat_eq k among && bytes_eq t text.now) && nat_eq i item))) }
 {
-    strings.insert((owner, text))?;
+    strings.insert((item, among, text))?;
     Ok(())
 }
 
 /// Notes what an occurrence says besides what was met.
 fn note<'a>(occurrence: &Occurrence<'a>, met: &mut Met<'a>) -> Result<(), AllocError>
-    ensures { OnOk result (Notes met.old met.new (view_notice occurrence.now.notice)) }
+    ensures { OnOk result (Notes met.old met.new (view_occurrence occurrence.now)) }
 {
     match occurrence.notice {
         Notice::Declares(kind, name) => keep_first(&mut met.kinds, name, kind)?,
-        Notice::String(owner, text) => keep_string(&mut met.strings, owner, text)?,
+        Notice::String(among, text) => keep_string(
+            &mut met.strings,
+            occurrence.site.item,
+            among,
+            text,
+        )?,
         Notice::Substring => met.waits = true,
         Notice::RegionEnd => met.waits = false,
         Notice::Among {

@@ -6,6 +6,7 @@ mod checks;
 pub mod laws;
 mod noting;
 mod occurrences;
+mod sofar;
 
 pub use bodies::body_in;
 pub use checks::check;

@@ -7,35 +7,24 @@ ghost use Rattle.sbl_checks.specs.Occurrences as spec;
 ghost use Rattle.sbl_checks.specs.OccurrenceView.{view_notice, view_occurrences, view_in_mode};
 
 use crate::occurrences::{ItemInMode, Notice, Occurrence, Site, Use};
+use crate::sofar::SoFar;
 use sbl_tree::{
     Added, Among, Argument, Command, DeclarationKind, Entry, Expression, Factor, Group, Item,
     Joined, Mode, Naming, Plain, Prefix, Product, Row, Scaled, Simple, Term,
 };
 use std::alloc::{AllocError, Global};
 
-/// Puts an occurrence behind the others.
-fn put<'a>(
-    notice: Notice<'a>,
-    site: Site,
-    occurrences: &mut Vec<Occurrence<'a>>,
-) -> Result<(), AllocError>
-    ensures { OnOk result (view_occurrences occurrences.new.items ≡ spec.put (view_notice notice.entry) site (view_occurrences occurrences.old.items)) }
-{
-    occurrences.push(Occurrence { site, notice })?;
-    Ok(())
-}
-
 /// The occurrences of a string that may be named.
 fn note_string<'a>(
     string: &'a Argument,
     site: Site,
-    occurrences: &mut Vec<Occurrence<'a>>,
+    occurrences: &mut SoFar<'a>,
 ) -> Result<(), AllocError>
-    ensures { OnOk result (view_occurrences occurrences.new.items ≡ spec.noted_string (view_argument string.now) site (view_occurrences occurrences.old.items)) }
+    ensures { OnOk result (view_occurrences occurrences.new ≡ spec.noted_string (view_argument string.now) site (view_occurrences occurrences.old)) }
 {
     match string {
         Argument::Literal(_) => Ok(()),
-        Argument::Name(name) => put(Notice::Uses(Use::String, name.as_str()), site, occurrences),
+        Argument::Name(name) => occurrences.put(Notice::Uses(Use::String, name.as_str()), site),
     }
 }
 
@@ -44,9 +33,9 @@ fn note_string<'a>(
 fn note_expression<'a>(
     expression: &'a Expression,
     site: Site,
-    occurrences: &mut Vec<Occurrence<'a>>,
+    occurrences: &mut SoFar<'a>,
 ) -> Result<(), AllocError>
-    ensures { OnOk result (view_occurrences occurrences.new.items ≡ spec.noted_expression (view_expression expression.now) site (view_occurrences occurrences.old.items)) }
+    ensures { OnOk result (view_occurrences occurrences.new ≡ spec.noted_expression (view_expression expression.now) site (view_occurrences occurrences.old)) }
 {
     note_product(&expression.first, site, occurrences)?;
     note_sums(&expression.others, site, occurrences)
@@ -56,9 +45,9 @@ fn note_expression<'a>(
 fn note_sums<'a>(
     others: &'a Vec<Added>,
     site: Site,
-    occurrences: &mut Vec<Occurrence<'a>>,
+    occurrences: &mut SoFar<'a>,
 ) -> Result<(), AllocError>
-    ensures { OnOk result (view_occurrences occurrences.new.items ≡ spec.noted_sums (view_sums others.now.items) site (view_occurrences occurrences.old.items)) }
+    ensures { OnOk result (view_occurrences occurrences.new ≡ spec.noted_sums (view_sums others.now.items) site (view_occurrences occurrences.old)) }
 {
     for added in others {
         note_product(&added.product, site, occurrences)?;
@@ -70,9 +59,9 @@ fn note_sums<'a>(
 fn note_product<'a>(
     product: &'a Product,
     site: Site,
-    occurrences: &mut Vec<Occurrence<'a>>,
+    occurrences: &mut SoFar<'a>,
 ) -> Result<(), AllocError>
-    ensures { OnOk result (view_occurrences occurrences.new.items ≡ spec.noted_product (view_product product.now) site (view_occurrences occurrences.old.items)) }
+    ensures { OnOk result (view_occurrences occurrences.new ≡ spec.noted_product (view_product product.now) site (view_occurrences occurrences.old)) }
 {
     note_factor(&product.first, site, occurrences)?;
     note_scales(&product.others, site, occurrences)
@@ -82,9 +71,9 @@ fn note_product<'a>(
 fn note_scales<'a>(
     others: &'a Vec<Scaled>,
     site: Site,
-    occurrences: &mut Vec<Occurrence<'a>>,
+    occurrences: &mut SoFar<'a>,
 ) -> Result<(), AllocError>
-    ensures { OnOk result (view_occurrences occurrences.new.items ≡ spec.noted_scales (view_scales others.now.items) site (view_occurrences occurrences.old.items)) }
+    ensures { OnOk result (view_occurrences occurrences.new ≡ spec.noted_scales (view_scales others.now.items) site (view_occurrences occurrences.old)) }
 {
     for scaled in others {
         note_factor(&scaled.factor, site, occurrences)?;
@@ -96,41 +85,33 @@ fn note_scales<'a>(
 fn note_factor<'a>(
     factor: &'a Factor,
     site: Site,
-    occurrences: &mut Vec<Occurrence<'a>>,
+    occurrences: &mut SoFar<'a>,
 ) -> Result<(), AllocError>
-    ensures { OnOk result (view_occurrences occurrences.new.items ≡ spec.noted_factor (view_factor factor.now) site (view_occurrences occurrences.old.items)) }
+    ensures { OnOk result (view_occurrences occurrences.new ≡ spec.noted_factor (view_factor factor.now) site (view_occurrences occurrences.old)) }
 {
     match factor {
         Factor::Minus(inner) => note_factor(inner, site, occurrences),
         Factor::Bracket(inner) => note_expression(inner, site, occurrences),
-        Factor::Name(name) => put(Notice::Uses(Use::Integer, name.as_str()), site, occurrences),
+        Factor::Name(name) => occurrences.put(Notice::Uses(Use::Integer, name.as_str()), site),
         Factor::LenOf(string) => note_string(string, site, occurrences),
         Factor::Number(_) | Factor::Constant(_) => Ok(()),
     }
 }
 
-fn note_simple(
-    simple: Simple,
-    site: Site,
-    occurrences: &mut Vec<Occurrence>,
-) -> Result<(), AllocError>
-    ensures { OnOk result (view_occurrences occurrences.new.items ≡ spec.noted_simple simple site (view_occurrences occurrences.old.items)) }
+fn note_simple(simple: Simple, site: Site, occurrences: &mut SoFar) -> Result<(), AllocError>
+    ensures { OnOk result (view_occurrences occurrences.new ≡ spec.noted_simple simple site (view_occurrences occurrences.old)) }
 {
     match simple {
-        Simple::Substring => put(Notice::Substring, site, occurrences),
+        Simple::Substring => occurrences.put(Notice::Substring, site),
         _ => Ok(()),
     }
 }
 
-fn note_prefix(
-    prefix: Prefix,
-    site: Site,
-    occurrences: &mut Vec<Occurrence>,
-) -> Result<(), AllocError>
-    ensures { OnOk result (view_occurrences occurrences.new.items ≡ spec.noted_prefix prefix site (view_occurrences occurrences.old.items)) }
+fn note_prefix(prefix: Prefix, site: Site, occurrences: &mut SoFar) -> Result<(), AllocError>
+    ensures { OnOk result (view_occurrences occurrences.new ≡ spec.noted_prefix prefix site (view_occurrences occurrences.old)) }
 {
     match prefix {
-        Prefix::Backwards => put(Notice::Backwards, site, occurrences),
+        Prefix::Backwards => occurrences.put(Notice::Backwards, site),
         _ => Ok(()),
     }
 }
@@ -160,37 +141,29 @@ fn use_of(naming: Naming) -> Use
 
 fn note_entry<'a>(
     entry: &'a Entry,
-    owner: usize,
+    number: usize,
     site: Site,
-    occurrences: &mut Vec<Occurrence<'a>>,
+    occurrences: &mut SoFar<'a>,
 ) -> Result<(), AllocError>
-    ensures { OnOk result (view_occurrences occurrences.new.items ≡ spec.noted_entry (view_entry entry.now) owner site (view_occurrences occurrences.old.items)) }
+    ensures { OnOk result (view_occurrences occurrences.new ≡ spec.noted_entry (view_entry entry.now) number site (view_occurrences occurrences.old)) }
 {
-    put(
-        Notice::String(owner, entry.string.value.as_slice()),
-        site,
-        occurrences,
-    )?;
+    occurrences.put(Notice::String(number, entry.string.value.as_slice()), site)?;
     match &entry.condition {
         None => Ok(()),
-        Some(name) => put(
-            Notice::Uses(Use::Condition, name.as_str()),
-            site,
-            occurrences,
-        ),
+        Some(name) => occurrences.put(Notice::Uses(Use::Condition, name.as_str()), site),
     }
 }
 
 fn note_entries<'a>(
     entries: &'a Vec<Entry>,
-    owner: usize,
+    number: usize,
     site: Site,
-    occurrences: &mut Vec<Occurrence<'a>>,
+    occurrences: &mut SoFar<'a>,
 ) -> Result<(), AllocError>
-    ensures { OnOk result (view_occurrences occurrences.new.items ≡ spec.noted_entries (map view_entry entries.now.items) owner site (view_occurrences occurrences.old.items)) }
+    ensures { OnOk result (view_occurrences occurrences.new ≡ spec.noted_entries (map view_entry entries.now.items) number site (view_occurrences occurrences.old)) }
 {
     for entry in entries {
-        note_entry(entry, owner, site, occurrences)?;
+        note_entry(entry, number, site, occurrences)?;
     }
     Ok(())
 }
@@ -218,23 +191,19 @@ fn has_none(groups: &[Group], bare: &[Entry]) -> bool
 fn note_command<'a>(
     command: &'a Command,
     site: Site,
-    occurrences: &mut Vec<Occurrence<'a>>,
+    occurrences: &mut SoFar<'a>,
 ) -> Result<(), AllocError>
-    ensures { OnOk result (view_occurrences occurrences.new.items ≡ spec.noted (view_command command.now) site (view_occurrences occurrences.old.items)) }
+    ensures { OnOk result (view_occurrences occurrences.new ≡ spec.noted (view_command command.now) site (view_occurrences occurrences.old)) }
 {
     match command {
         Command::Bracket(rows) => note_rows(rows, site, occurrences),
         Command::Simple(simple) => note_simple(*simple, site, occurrences),
         Command::Literal(_) => Ok(()),
-        Command::Name(name) => put(Notice::Uses(Use::Command, name.as_str()), site, occurrences),
+        Command::Name(name) => occurrences.put(Notice::Uses(Use::Command, name.as_str()), site),
         Command::Non {
             with_minus: _,
             name,
-        } => put(
-            Notice::Uses(Use::Excluded, name.as_str()),
-            site,
-            occurrences,
-        ),
+        } => occurrences.put(Notice::Uses(Use::Excluded, name.as_str()), site),
         Command::Prefixed(prefix, inner) => {
             note_prefix(*prefix, site, occurrences)?;
             note_command(inner, site_behind(*prefix, site), occurrences)
@@ -244,10 +213,9 @@ fn note_command<'a>(
             note_command(inner, site, occurrences)
         }
         Command::Move(_, number) => note_expression(number, site, occurrences),
-        Command::Named(naming, name) => put(
+        Command::Named(naming, name) => occurrences.put(
             Notice::Uses(use_of(*naming), name.as_str()),
             site,
-            occurrences,
         ),
         Command::Splice(_, string) => note_string(string, site, occurrences),
         Command::SetLimit(first, second) => {
@@ -255,7 +223,7 @@ fn note_command<'a>(
             note_command(second, site, occurrences)
         }
         Command::Assign(name, _, number) | Command::Compare(name, _, number) => {
-            put(Notice::Uses(Use::Integer, name.as_str()), site, occurrences)?;
+            occurrences.put(Notice::Uses(Use::Integer, name.as_str()), site)?;
             note_expression(number, site, occurrences)
         }
         Command::CompareValues(first, _, second) => {
@@ -270,9 +238,9 @@ fn note_command<'a>(
 fn note_rows<'a>(
     rows: &'a Vec<Row>,
     site: Site,
-    occurrences: &mut Vec<Occurrence<'a>>,
+    occurrences: &mut SoFar<'a>,
 ) -> Result<(), AllocError>
-    ensures { OnOk result (view_occurrences occurrences.new.items ≡ spec.noted_rows (view_rows rows.now.items) site (view_occurrences occurrences.old.items)) }
+    ensures { OnOk result (view_occurrences occurrences.new ≡ spec.noted_rows (view_rows rows.now.items) site (view_occurrences occurrences.old)) }
 {
     for row in rows {
         note_row(row, site, occurrences)?;
@@ -281,12 +249,8 @@ fn note_rows<'a>(
 }
 
 #[cycle(commands)]
-fn note_row<'a>(
-    row: &'a Row,
-    site: Site,
-    occurrences: &mut Vec<Occurrence<'a>>,
-) -> Result<(), AllocError>
-    ensures { OnOk result (view_occurrences occurrences.new.items ≡ spec.noted_others (view_row row.now).1 site (spec.noted (view_row row.now).0 site (view_occurrences occurrences.old.items))) }
+fn note_row<'a>(row: &'a Row, site: Site, occurrences: &mut SoFar<'a>) -> Result<(), AllocError>
+    ensures { OnOk result (view_occurrences occurrences.new ≡ spec.noted_others (view_row row.now).1 site (spec.noted (view_row row.now).0 site (view_occurrences occurrences.old))) }
 {
     note_command(&row.first, site, occurrences)?;
     note_others(&row.others, site, occurrences)
@@ -296,9 +260,9 @@ fn note_row<'a>(
 fn note_others<'a>(
     others: &'a Vec<Joined>,
     site: Site,
-    occurrences: &mut Vec<Occurrence<'a>>,
+    occurrences: &mut SoFar<'a>,
 ) -> Result<(), AllocError>
-    ensures { OnOk result (view_occurrences occurrences.new.items ≡ spec.noted_others (view_others others.now.items) site (view_occurrences occurrences.old.items)) }
+    ensures { OnOk result (view_occurrences occurrences.new ≡ spec.noted_others (view_others others.now.items) site (view_occurrences occurrences.old)) }
 {
     for joined in others {
         note_command(&joined.command, site, occurrences)?;
@@ -311,39 +275,39 @@ fn note_others<'a>(
 fn note_among<'a>(
     among: &'a Among,
     site: Site,
-    occurrences: &mut Vec<Occurrence<'a>>,
+    occurrences: &mut SoFar<'a>,
 ) -> Result<(), AllocError>
-    ensures { OnOk result (view_occurrences occurrences.new.items ≡ spec.noted (trees.among_ (view_among among.now).0 (view_among among.now).1) site (view_occurrences occurrences.old.items)) }
+    ensures { OnOk result (view_occurrences occurrences.new ≡ spec.noted (trees.among_ (view_among among.now).0 (view_among among.now).1) site (view_occurrences occurrences.old)) }
 {
-    let owner = occurrences.len();
+    let number = occurrences.next_among();
     let notice = Notice::Among {
         has_starter: has_starter(among),
         is_empty: is_empty(among),
     };
-    put(notice, site, occurrences)?;
+    occurrences.put(notice, site)?;
     if let Some(rows) = &among.starter {
         note_rows(rows, site, occurrences)?;
-        put(Notice::RegionEnd, site, occurrences)?;
+        occurrences.put(Notice::RegionEnd, site)?;
     }
-    note_groups(&among.groups, owner, site, occurrences)?;
-    note_entries(&among.bare, owner, site, occurrences)
+    note_groups(&among.groups, number, site, occurrences)?;
+    note_entries(&among.bare, number, site, occurrences)
 }
 
 #[cycle(commands)]
 fn note_groups<'a>(
     groups: &'a Vec<Group>,
-    owner: usize,
+    number: usize,
     site: Site,
-    occurrences: &mut Vec<Occurrence<'a>>,
+    occurrences: &mut SoFar<'a>,
 ) -> Result<(), AllocError>
     ensures { OnOk result ((bare : List trees.Entry) →
-        spec.noted_entries bare owner site (view_occurrences occurrences.new.items) ≡ spec.noted_groups (view_groups groups.now.items bare) owner site (view_occurrences occurrences.old.items)) }
+        spec.noted_entries bare number site (view_occurrences occurrences.new) ≡ spec.noted_groups (view_groups groups.now.items bare) number site (view_occurrences occurrences.old)) }
 {
     for group in groups {
-        note_entry(&group.first, owner, site, occurrences)?;
-        note_entries(&group.others, owner, site, occurrences)?;
+        note_entry(&group.first, number, site, occurrences)?;
+        note_entries(&group.others, number, site, occurrences)?;
         note_rows(&group.rows, site, occurrences)?;
-        put(Notice::RegionEnd, site, occurrences)?;
+        occurrences.put(Notice::RegionEnd, site)?;
     }
     Ok(())
 }
@@ -352,12 +316,12 @@ fn note_names<'a>(
     kind: DeclarationKind,
     names: &'a Vec<String>,
     site: Site,
-    occurrences: &mut Vec<Occurrence<'a>>,
+    occurrences: &mut SoFar<'a>,
 ) -> Result<(), AllocError>
-    ensures { OnOk result (view_occurrences occurrences.new.items ≡ spec.noted_names kind (map string_bytes names.now.items) site (view_occurrences occurrences.old.items)) }
+    ensures { OnOk result (view_occurrences occurrences.new ≡ spec.noted_names kind (map string_bytes names.now.items) site (view_occurrences occurrences.old)) }
 {
     for name in names {
-        put(Notice::Declares(kind, name.as_str()), site, occurrences)?;
+        occurrences.put(Notice::Declares(kind, name.as_str()), site)?;
     }
     Ok(())
 }
@@ -365,22 +329,22 @@ fn note_names<'a>(
 fn note_term<'a>(
     argument: &'a Argument,
     site: Site,
-    occurrences: &mut Vec<Occurrence<'a>>,
+    occurrences: &mut SoFar<'a>,
 ) -> Result<(), AllocError>
-    ensures { OnOk result (view_occurrences occurrences.new.items ≡ spec.noted_term (view_argument argument.now) site (view_occurrences occurrences.old.items)) }
+    ensures { OnOk result (view_occurrences occurrences.new ≡ spec.noted_term (view_argument argument.now) site (view_occurrences occurrences.old)) }
 {
     match argument {
         Argument::Literal(_) => Ok(()),
-        Argument::Name(name) => put(Notice::Uses(Use::Term, name.as_str()), site, occurrences),
+        Argument::Name(name) => occurrences.put(Notice::Uses(Use::Term, name.as_str()), site),
     }
 }
 
 fn note_terms<'a>(
     terms: &'a Vec<Term>,
     site: Site,
-    occurrences: &mut Vec<Occurrence<'a>>,
+    occurrences: &mut SoFar<'a>,
 ) -> Result<(), AllocError>
-    ensures { OnOk result (view_occurrences occurrences.new.items ≡ spec.noted_terms (map view_term terms.now.items) site (view_occurrences occurrences.old.items)) }
+    ensures { OnOk result (view_occurrences occurrences.new ≡ spec.noted_terms (map view_term terms.now.items) site (view_occurrences occurrences.old)) }
 {
     for term in terms {
         note_term(&term.argument, site, occurrences)?;
@@ -391,9 +355,9 @@ fn note_terms<'a>(
 fn note_plain<'a>(
     plain: &'a Plain,
     site: Site,
-    occurrences: &mut Vec<Occurrence<'a>>,
+    occurrences: &mut SoFar<'a>,
 ) -> Result<(), AllocError>
-    ensures { OnOk result (view_occurrences occurrences.new.items ≡ spec.noted_plain (view_plain plain.now) site (view_occurrences occurrences.old.items)) }
+    ensures { OnOk result (view_occurrences occurrences.new ≡ spec.noted_plain (view_plain plain.now) site (view_occurrences occurrences.old)) }
 {
     match plain {
         Plain::Declaration(kind, names) => note_names(*kind, names, site, occurrences),
@@ -404,16 +368,16 @@ fn note_plain<'a>(
             value: _,
         } => Ok(()),
         Plain::Routine { name, body } => {
-            put(Notice::DefinesRoutine(name.as_str()), site, occurrences)?;
+            occurrences.put(Notice::DefinesRoutine(name.as_str()), site)?;
             note_row(body, site, occurrences)?;
-            put(Notice::RegionEnd, site, occurrences)
+            occurrences.put(Notice::RegionEnd, site)
         }
         Plain::Grouping {
             name,
             first,
             others,
         } => {
-            put(Notice::DefinesGrouping(name.as_str()), site, occurrences)?;
+            occurrences.put(Notice::DefinesGrouping(name.as_str()), site)?;
             note_term(first, site, occurrences)?;
             note_terms(others, site, occurrences)
         }
@@ -459,9 +423,9 @@ fn put_forward<'a>(plain: &'a Plain, in_order: &mut Vec<ItemInMode<'a>>) -> Resu
 
 fn note_in_order<'a>(
     in_order: &[ItemInMode<'a>],
-    occurrences: &mut Vec<Occurrence<'a>>,
+    occurrences: &mut SoFar<'a>,
 ) -> Result<(), AllocError>
-    ensures { OnOk result (view_occurrences occurrences.new.items ≡ spec.noted_items (map view_in_mode in_order.now) 1 (view_occurrences occurrences.old.items)) }
+    ensures { OnOk result (view_occurrences occurrences.new ≡ spec.noted_items (map view_in_mode in_order.now) 1 (view_occurrences occurrences.old)) }
 {
     let mut item = 0;
     for one in in_order {
@@ -486,7 +450,7 @@ pub fn occurrences_of<'a>(
     ensures { IfOk result (λ occurrences. view_occurrences occurrences.items ≡ spec.occurrences_of (view_items items.now)) }
 {
     let in_order = in_order_of(alloc, items)?;
-    let mut occurrences = Vec::new(alloc);
+    let mut occurrences = SoFar::new(alloc);
     note_in_order(&in_order, &mut occurrences)?;
-    Ok(occurrences)
+    Ok(occurrences.into_vec())
 }

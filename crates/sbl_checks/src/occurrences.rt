@@ -50,7 +50,7 @@ pub enum Notice<'a> {
         /// Whether it has no string.
         is_empty: bool,
     },
-    /// A string of an `among`, which is told by the number of occurrences before its own.
+    /// A string of an `among`, which is told by its number in its item: they are counted from 1, in the order of the words `among`.
     String(usize, &'a [char]),
     /// `backwards`
     Backwards,

@@ -6,6 +6,12 @@ pub mod Putting
 pub mod Quiet
 pub mod Spelled
 pub mod OneEdit
+pub mod Own
+pub mod RoundItem
+pub mod ItemParts
+pub mod SameFaults
+pub mod TextFaults
+pub mod OnlyTheItem
 pub mod Offered
 pub mod Printed
 pub mod Compared

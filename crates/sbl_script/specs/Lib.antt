@@ -5,6 +5,7 @@ pub mod Edits
 pub mod Spelled
 pub mod OneReading
 pub mod OneEdit
+pub mod OnlyTheItem
 pub mod Printed
 -- what the functions inside the crate promise each other: nothing in these need be believed
 pub mod Refusals

@@ -1,6 +1,7 @@
 //! What is shown of scripts.
 
 ghost use Rattle.sbl_script.specs.OneEdit.{EditFaultIsOne, EditIsOne, EditOrFault};
+ghost use Rattle.sbl_script.specs.OnlyTheItem.{ExternalStays, OnlyTheItem};
 ghost use Rattle.sbl_script.specs.OneReading.{FaultIsOne, ScriptIsOne, ScriptOrFault};
 ghost use Rattle.sbl_script.specs.Parsed.{source_of};
 ghost use Rattle.sbl_script.specs.Printed.{CanonicalIsOne, CanonicalIsRead};
@@ -38,6 +39,13 @@ pub fn one_edit()
     one_tree();
     one_fault();
 }
+
+/// A fault of an edit of a script, by `Script::with_routine` or `Script::with_among`, that tells an item tells the one that is
+/// changed: that which holds the routine. No check fails in another item, and the external that is run stays one.
+pub fn only_the_item()
+    ensures item { OnlyTheItem }
+    ensures external { ExternalStays }
+{}
 
 /// A text that is the canonical text of a script (`Script::print`), one that edits have made too, and has at most 1,048,576
 /// bytes, is read as that same script under the same external: by `one_reading` `Script::parse` answers this script for it,

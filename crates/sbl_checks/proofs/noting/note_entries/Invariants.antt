@@ -6,4 +6,4 @@ use Rattle.sbl_checks.proofs.noting.note_entries.Given as goal
 
 abbrev pub invariant-loop-entry : goal.invariant-loop-entry
 invariant-loop-entry l =
-    noted_entries (map view_entry (drop l.entry-index l.entries.items)) l.owner l.site (view_occurrences l.occurrences.items) ≡ noted_entries (map view_entry l.entries.items) l.owner l.site (view_occurrences l.initial.occurrences.items)
+    noted_entries (map view_entry (drop l.entry-index l.entries.items)) l.number l.site (view_occurrences l.occurrences) ≡ noted_entries (map view_entry l.entries.items) l.number l.site (view_occurrences l.initial.occurrences)

@@ -6,5 +6,5 @@ use Rattle.sbl_checks.proofs.noting.note_in_order.Given as goal
 abbrev pub invariant-loop-one : goal.invariant-loop-one
 invariant-loop-one l = record {
   counted : l.item ≡ l.one-index;
-  noted : noted_items (map view_in_mode (drop l.one-index l.in_order)) (l.item + 1) (view_occurrences l.occurrences.items) ≡ noted_items (map view_in_mode l.in_order) 1 (view_occurrences l.initial.occurrences.items);
+  noted : noted_items (map view_in_mode (drop l.one-index l.in_order)) (l.item + 1) (view_occurrences l.occurrences) ≡ noted_items (map view_in_mode l.in_order) 1 (view_occurrences l.initial.occurrences);
 }

@@ -5,4 +5,4 @@ use Rattle.sbl_checks.proofs.noting.note_names.Given as goal
 
 abbrev pub invariant-loop-name : goal.invariant-loop-name
 invariant-loop-name l =
-    noted_names l.kind (map string_bytes (drop l.name-index l.names.items)) l.site (view_occurrences l.occurrences.items) ≡ noted_names l.kind (map string_bytes l.names.items) l.site (view_occurrences l.initial.occurrences.items)
+    noted_names l.kind (map string_bytes (drop l.name-index l.names.items)) l.site (view_occurrences l.occurrences) ≡ noted_names l.kind (map string_bytes l.names.items) l.site (view_occurrences l.initial.occurrences)

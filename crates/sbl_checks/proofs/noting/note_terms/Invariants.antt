@@ -6,4 +6,4 @@ use Rattle.sbl_checks.proofs.noting.note_terms.Given as goal
 
 abbrev pub invariant-loop-term : goal.invariant-loop-term
 invariant-loop-term l =
-    noted_terms (map view_term (drop l.term-index l.terms.items)) l.site (view_occurrences l.occurrences.items) ≡ noted_terms (map view_term l.terms.items) l.site (view_occurrences l.initial.occurrences.items)
+    noted_terms (map view_term (drop l.term-index l.terms.items)) l.site (view_occurrences l.occurrences) ≡ noted_terms (map view_term l.terms.items) l.site (view_occurrences l.initial.occurrences)
