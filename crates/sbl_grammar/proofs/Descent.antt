@@ -34,7 +34,7 @@ use Rattle.sbl_grammar.specs.Roles.{role_as, role_of}
 use Rattle.sbl_tree.specs.Terminal as t
 use Rattle.sbl_grammar.specs.First.{first_text, first_number, first_inserts, first_literal, quoted_in}
 use Rattle.sbl_grammar.specs.Starts.{begins_command, begins_plain, begins_item, begins_argument}
-use Rattle.sbl_grammar.specs.Places.{max_depth}
+use Rattle.sbl_tree.specs.Places.{max_depth}
 use Rattle.sbl_grammar.specs.Steps.{Stack, Step, goes, stuck, step, Fault, syntax, too_deep, no_operator, fault, after_step}
 use Rattle.sbl_grammar.specs.Steps as s
 use Rattle.sbl_grammar.specs.Gives.{Fails}

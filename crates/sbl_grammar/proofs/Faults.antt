@@ -9,12 +9,12 @@ use Rattle.sbl_tree.specs.declared.tree.Additive.TheVariants as additives
 use Rattle.sbl_tree.specs.Terminal.{Terminal}
 use Rattle.sbl_tree.specs.Terminal as t
 use Rattle.sbl_tree.specs.Tree.{Expression, expression, Sums, no_sums, sum, Product, product, Scales, no_scales, scale, Factor, negated, bracketed, numeral, variable, fixed, length_of, Entry, entry, Command, bracket, simple_, literal_, name_, non_, prefixed, counted, move_, named, splice_, setlimit_, assign_, compare_, compare_values_, among_, Rows, no_rows, row, Others, no_others, joined, Starter, no_starter, starter, Groups, bare, group, Term, term, Plain, declaration, escapes, macro, routine, grouping, Item, plain, backward, argument_terminal, spelled_expression, spelled_sums, spelled_product, spelled_scales, spelled_factor, spelled_entry, spelled_entries, spelled, spelled_rows, spelled_others, spelled_starter, spelled_groups, spelled_names, spelled_base, spelled_terms, spelled_plain, spelled_plains, spelled_item, spelled_items, written}
-use Rattle.sbl_grammar.specs.Places.{AtDepth, placed_expression, placed_sums, placed_product, placed_scales, placed_factor, placed_entry, placed_entries, placed, placed_rows, placed_others, placed_starter, placed_groups, placed_names, placed_base, placed_terms, placed_plain, placed_plains, placed_item, placed_items, places, tokens, max_depth}
+use Rattle.sbl_tree.specs.Places.{AtDepth, placed_expression, placed_sums, placed_product, placed_scales, placed_factor, placed_entry, placed_entries, placed, placed_rows, placed_others, placed_starter, placed_groups, placed_names, placed_base, placed_terms, placed_plain, placed_plains, placed_item, placed_items, places, tokens, max_depth}
 use Rattle.sbl_grammar.specs.Steps.{Stack, Step, goes, stuck, unassigned, is_done, step, Fault, syntax, too_deep, no_operator, fault, after_step}
 use Rattle.sbl_grammar.specs.Reading.{IsFront, IsTooDeep, HasNoneTooDeep, IsReadAs, CannotFollow, LacksOperator, StopsAt, IsSyntaxAt, IsTooDeepAt, IsOutOfProfileAt}
-use Rattle.sbl_grammar.specs.Texts.{Text, TreeOf, places_in, tokens_of}
+use Rattle.sbl_tree.specs.Texts.{Text, TreeOf, places_in, tokens_of}
 use Rattle.sbl_grammar.specs.Fronts.{first_stack}
-use Rattle.sbl_grammar.specs.Texts as texts
+use Rattle.sbl_tree.specs.Texts as texts
 use Rattle.sbl_grammar.proofs.Runs.{Runs, IsDone, text_runs}
 use Rattle.sbl_grammar.proofs.Viable.{runs_made}
 use Rattle.sbl_grammar.proofs.Operators.{came, wants}

@@ -6,10 +6,10 @@ use Rattle.sbl_text.specs.Lexemes.{lexeme_of}
 use Rattle.sbl_tree.specs.Terminal as t
 use Rattle.sbl_tree.specs.Terminal.{Terminal, terminal_of, terminals_of}
 use Rattle.sbl_tree.specs.Tree.{Command, bracket, simple_, literal_, name_, non_, prefixed, counted, move_, named, splice_, setlimit_, assign_, compare_, compare_values_, among_, Rows, no_rows, row, Others, no_others, joined, Starter, no_starter, starter, Groups, bare, group}
-use Rattle.sbl_grammar.specs.Amongs.{count_amongs, count_in_rows, count_in_others, count_in_starter, count_in_groups, count_in_among}
-use Rattle.sbl_grammar.specs.Places.{AtDepth, placed_expression, placed_entry, placed_entries, placed, placed_rows, placed_others, placed_starter, placed_groups}
-use Rattle.sbl_grammar.specs.Texts.{among, tokens_of}
-use Rattle.sbl_grammar.proofs.Behind.{IsBefore, entry_before, entries_before, expression_before}
+use Rattle.sbl_tree.specs.Counts.{count_amongs, count_in_rows, count_in_others, count_in_starter, count_in_groups, count_in_among}
+use Rattle.sbl_tree.specs.Places.{AtDepth, placed_expression, placed_entry, placed_entries, placed, placed_rows, placed_others, placed_starter, placed_groups}
+use Rattle.sbl_tree.specs.Texts.{among, tokens_of}
+use Rattle.sbl_tree.proofs.Behind.{IsBefore, entry_before, entries_before, expression_before}
 
 abbrev Ps : Type 0
 Ps = List AtDepth

@@ -3,8 +3,8 @@ use Rattle.std.proofs.Common.{◌≡◌, ◌⊎◌, inl, inr, ℕ, List, [], ◌
 use Rattle.std.proofs.lemmas.List.{append-nil, map-append}
 use Rattle.sbl_tree.specs.Terminal.{Terminal}
 use Rattle.sbl_tree.specs.Terminal as t
-use Rattle.sbl_grammar.specs.Texts.{Text, TreeOf, places_in, tokens_of}
-use Rattle.sbl_grammar.specs.Places.{AtDepth, tokens}
+use Rattle.sbl_tree.specs.Texts.{Text, TreeOf, places_in, tokens_of}
+use Rattle.sbl_tree.specs.Places.{AtDepth, tokens}
 use Rattle.sbl_grammar.specs.Reading.{IsFront, IsTooDeep, HasNoneTooDeep, IsReadAs, CannotFollow, LacksOperator, StopsAt, IsSyntaxAt, IsTooDeepAt, IsOutOfProfileAt}
 use Rattle.sbl_grammar.specs.Laws.{Wrong, syntax, too_deep, out_of_profile, IsWrongAt}
 use Rattle.sbl_grammar.proofs.Runs.{IsDone, text_runs}

@@ -2,8 +2,8 @@
 use Rattle.std.proofs.Common.{List, [], ◌∷◌, ◌∙◌, sym, ap}
 use Rattle.sbl_tree.specs.Terminal.{Terminal}
 use Rattle.sbl_tree.specs.Tree.{among_, argument_terminal}
-use Rattle.sbl_grammar.specs.Texts.{Text, TreeOf, tokens_of}
-use Rattle.sbl_grammar.specs.Texts as texts
+use Rattle.sbl_tree.specs.Texts.{Text, TreeOf, tokens_of}
+use Rattle.sbl_tree.specs.Texts as texts
 use Rattle.sbl_grammar.specs.Laws.{TreesAreOne}
 use Rattle.sbl_grammar.proofs.Faults.{places_tokens, body_tokens, tree_tokens, terms_tokens}
 use Rattle.sbl_grammar.proofs.Unique.{one_tree, one_body, one_row_of_terms, one_among}

@@ -4,12 +4,12 @@ use Rattle.std.specs.Prelude.{if◌then◌else◌, ◌&&◌}
 use Rattle.sbl_tree.specs.declared.tree.Additive.TheVariants as additives
 use Rattle.sbl_tree.specs.Terminal.{Terminal}
 use Rattle.sbl_tree.specs.Terminal as t
-use Rattle.sbl_grammar.specs.Places.{AtDepth, tokens}
+use Rattle.sbl_tree.specs.Places.{AtDepth, tokens}
 use Rattle.sbl_grammar.specs.Steps.{Symbol, Stack, Step, goes, stuck, unassigned, is_optional, behind, behind_opening, behind_closing, behind_name, behind_argument, behind_for, behind_excluded, behind_comparison, behind_factor, behind_scales, behind_sums, behind_command, behind_among, behind_others, behind_starter, behind_groups, behind_entries, behind_inserts, behind_macro, behind_base, behind_literal, behind_definition, behind_terms, behind_names, behind_plain, behind_item, or_else, step}
 use Rattle.sbl_grammar.specs.Steps as s
-use Rattle.sbl_grammar.specs.Texts.{Text}
+use Rattle.sbl_tree.specs.Texts.{Text}
 use Rattle.sbl_grammar.specs.Fronts.{first_stack}
-use Rattle.sbl_grammar.specs.Texts as texts
+use Rattle.sbl_tree.specs.Texts as texts
 use Rattle.sbl_grammar.proofs.Runs.{Runs}
 
 -- what stands at the top alone

@@ -5,12 +5,12 @@ use Rattle.sbl_tree.specs.declared.tree.Base.{Base}
 use Rattle.sbl_tree.specs.Terminal.{Terminal}
 use Rattle.sbl_tree.specs.Terminal as t
 use Rattle.sbl_tree.specs.Tree.{Argument, written_out, by_name, Expression, expression, Sums, no_sums, sum, Product, product, Scales, no_scales, scale, Factor, negated, bracketed, numeral, variable, fixed, length_of, Entry, entry, Command, bracket, simple_, literal_, name_, non_, prefixed, counted, move_, named, splice_, setlimit_, assign_, compare_, compare_values_, among_, Rows, no_rows, row, Others, no_others, joined, Starter, no_starter, starter, Groups, bare, group, Term, term, Plain, declaration, escapes, macro, routine, grouping, Item, plain, backward, argument_terminal}
-use Rattle.sbl_grammar.specs.Places.{AtDepth, placed_expression, placed_sums, placed_product, placed_scales, placed_factor, placed_entry, placed_entries, placed, placed_rows, placed_others, placed_starter, placed_groups, placed_names, placed_base, placed_terms, placed_plain, placed_plains, placed_item, placed_items, places}
+use Rattle.sbl_tree.specs.Places.{AtDepth, placed_expression, placed_sums, placed_product, placed_scales, placed_factor, placed_entry, placed_entries, placed, placed_rows, placed_others, placed_starter, placed_groups, placed_names, placed_base, placed_terms, placed_plain, placed_plains, placed_item, placed_items, places}
 use Rattle.sbl_grammar.specs.Steps.{Symbol, Stack, Step, goes, stuck, unassigned, is_optional, is_done, behind, behind_sums, behind_scales, behind_others, behind_terms, behind_plain, behind_item, or_else, step}
 use Rattle.sbl_grammar.specs.Steps as s
-use Rattle.sbl_grammar.specs.Texts.{Text, TreeOf, places_in}
+use Rattle.sbl_tree.specs.Texts.{Text, TreeOf, places_in}
 use Rattle.sbl_grammar.specs.Fronts.{first_stack}
-use Rattle.sbl_grammar.specs.Texts as texts
+use Rattle.sbl_tree.specs.Texts as texts
 
 -- over tokens at their depths, from one stack to an end
 abbrev pub Runs : List AtDepth → Stack → (Stack → Type 0) → Type 0

@@ -10,9 +10,9 @@ use Rattle.sbl_tree.specs.Terminal.{Terminal, terminal_of, terminals_of, left}
 use Rattle.sbl_tree.specs.Terminal as t
 use Rattle.sbl_text.specs.Lexemes.{lexeme_of}
 use Rattle.sbl_tree.specs.Tree.{Item, Command, Others, Starter, Groups, among_, Argument, Term, argument_terminal, spelled, spelled_terms, spelled_others, spelled_items}
-use Rattle.sbl_grammar.specs.Texts.{Text, TreeOf, tokens_of}
+use Rattle.sbl_tree.specs.Texts.{Text, TreeOf, tokens_of}
 use Rattle.sbl_grammar.specs.Fronts.{first_stack}
-use Rattle.sbl_grammar.specs.Texts as texts
+use Rattle.sbl_tree.specs.Texts as texts
 use Rattle.sbl_grammar.specs.Steps.{Stack, items, fault, syntax, no_operator}
 use Rattle.sbl_grammar.specs.Steps as s
 use Rattle.sbl_grammar.specs.Reading.{IsReadAs, IsOutOfProfileAt}

@@ -1,6 +1,6 @@
 -- What is wanted at the front of each text.
 use Rattle.std.specs.Prelude.{[], ◌∷◌}
-use Rattle.sbl_grammar.specs.Texts.{Text, script, body, terms, among}
+use Rattle.sbl_tree.specs.Texts.{Text, script, body, terms, among}
 use Rattle.sbl_grammar.specs.Steps.{Stack, command, others, argument, items}
 use Rattle.sbl_grammar.specs.Steps as wanted
 

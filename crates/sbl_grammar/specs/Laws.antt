@@ -2,7 +2,7 @@
 use Rattle.std.specs.Prelude.{◌≡◌, List}
 use Rattle.sbl_tree.specs.Terminal.{Terminal}
 use Rattle.sbl_tree.specs.Tree.{Item, written}
-use Rattle.sbl_grammar.specs.Texts.{Text, TreeOf, script, tokens_of}
+use Rattle.sbl_tree.specs.Texts.{Text, TreeOf, script, tokens_of}
 use Rattle.sbl_grammar.specs.Reading.{IsReadAs, IsSyntaxAt, IsTooDeepAt, IsOutOfProfileAt}
 
 -- two trees of a text with the same tokens are one

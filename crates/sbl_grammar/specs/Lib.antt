@@ -1,9 +1,6 @@
 -- what the contracts of public calls rest on
-pub mod Places
-pub mod Texts
 pub mod Reading
 pub mod Told
-pub mod Amongs
 pub mod Laws
 -- what the functions inside the crate promise each other: nothing in these need be believed
 pub mod Roles
@@ -11,5 +8,4 @@ pub mod Steps
 pub mod Fronts
 pub mod First
 pub mod Starts
-pub mod Found
 pub mod Gives

@@ -1,9 +1,8 @@
 -- What reading is: a condition on all trees.
-use Rattle.std.specs.Prelude.{◌≡◌, ℕ, ◌<◌, ◌≤◌, List, [], ◌∷◌, ◌++◌}
-use Rattle.std.specs.List.{AllByRecursion}
+use Rattle.std.specs.Prelude.{◌≡◌, ℕ, ◌<◌, List, [], ◌∷◌, ◌++◌}
 use Rattle.sbl_tree.specs.Terminal.{Terminal, dollar, name}
-use Rattle.sbl_grammar.specs.Texts.{Text, TreeOf, places_in, tokens_of}
-use Rattle.sbl_grammar.specs.Places.{AtDepth, tokens, max_depth}
+use Rattle.sbl_tree.specs.Texts.{Text, TreeOf, places_in, tokens_of}
+use Rattle.sbl_tree.specs.Places.{AreShallow, AtDepth, tokens, max_depth}
 
 -- these tokens are the front of a tree's
 abbrev pub IsFront : Text → List Terminal → Type 0
@@ -17,10 +16,6 @@ IsTooDeep t before x = (tree : TreeOf t) × (front : List AtDepth) × (depth : �
 -- none of these tokens does
 abbrev pub HasNoneTooDeep : Text → List Terminal → Type 0
 HasNoneTooDeep t before = (b c : List Terminal) (x : Terminal) → before ≡ b ++ x ∷ c → IsTooDeep t b x → ⊥
-
--- none stands too deep
-abbrev pub AreShallow : List AtDepth → Type 0
-AreShallow ps = AllByRecursion (λ p. p.1 ≤ max_depth) ps
 
 -- the tree of the tokens, nowhere too deep
 abbrev pub IsReadAs : (t : Text) → List Terminal → TreeOf t → Type 0

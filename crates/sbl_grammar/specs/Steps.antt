@@ -1,6 +1,6 @@
 -- What may come next, token by token: a stack of what is still wanted.
 use Rattle.std.specs.Prelude.{ℕ, ◌+◌, Bool, true, false, ◌&&◌, List, [], ◌∷◌, Option, Some, None, nat_lt, if◌then◌else◌}
-use Rattle.sbl_grammar.specs.Places.{max_depth}
+use Rattle.sbl_tree.specs.Places.{max_depth}
 use Rattle.sbl_tree.specs.declared.tree.Additive.TheVariants as additives
 use Rattle.sbl_tree.specs.Terminal.{Terminal}
 use Rattle.sbl_tree.specs.Terminal as t

@@ -7,7 +7,7 @@ use Rattle.sbl_grammar.specs.declared.error.Fault.TheVariants.{Syntax, TooDeep, 
 use Rattle.sbl_grammar.specs.declared.error.ReadError.{ReadError}
 use Rattle.sbl_grammar.specs.declared.error.ReadError.TheVariants as errors
 use Rattle.sbl_tree.specs.Terminal.{terminals_of, left}
-use Rattle.sbl_grammar.specs.Texts.{Text}
+use Rattle.sbl_tree.specs.Texts.{Text}
 use Rattle.sbl_grammar.specs.Reading.{IsSyntaxAt, IsTooDeepAt, IsOutOfProfileAt}
 
 -- where the first of some tokens begins, or the end

@@ -4,7 +4,7 @@ ghost use Rattle.std.specs.Prelude.{◌≡◌, ◌≤◌, ◌∷◌, [], string_
 ghost use Rattle.sbl_tree.specs.Terminal.{left};
 ghost use Rattle.sbl_grammar.specs.Roles.{role_of};
 ghost use Rattle.sbl_grammar.specs.Steps as wanted;
-ghost use Rattle.sbl_grammar.specs.Places.{max_depth};
+ghost use Rattle.sbl_tree.specs.Places.{max_depth};
 ghost use Rattle.sbl_tree.specs.Tree.{spelled_expression, spelled_sums, spelled_product, spelled_scales, spelled_factor};
 ghost use Rattle.sbl_tree.specs.View.{view_expression, view_sums, view_product, view_scales, view_factor};
 ghost use Rattle.sbl_grammar.specs.Gives.{Gives};

@@ -5,7 +5,7 @@ ghost use Rattle.sbl_tree.specs.Terminal.{left};
 ghost use Rattle.sbl_grammar.specs.Roles.{role_of};
 ghost use Rattle.sbl_tree.specs.Terminal as t;
 ghost use Rattle.sbl_grammar.specs.Steps as wanted;
-ghost use Rattle.sbl_grammar.specs.Places.{max_depth};
+ghost use Rattle.sbl_tree.specs.Places.{max_depth};
 ghost use Rattle.sbl_tree.specs.Tree.{among_, spelled, spelled_rows, spelled_others, spelled_starter, spelled_groups};
 ghost use Rattle.sbl_tree.specs.View.{view_among, view_command, view_rows, view_others, view_starter, view_groups, view_entry};
 ghost use Rattle.sbl_grammar.specs.Gives.{Gives};

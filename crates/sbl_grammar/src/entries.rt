@@ -4,7 +4,7 @@ ghost use Rattle.std.specs.Prelude.{◌≡◌, ◌≤◌, ◌∷◌, [], drop, m
 ghost use Rattle.sbl_tree.specs.Terminal.{left};
 ghost use Rattle.sbl_grammar.specs.Roles.{role_of};
 ghost use Rattle.sbl_grammar.specs.Steps as wanted;
-ghost use Rattle.sbl_grammar.specs.Places.{max_depth};
+ghost use Rattle.sbl_tree.specs.Places.{max_depth};
 ghost use Rattle.sbl_tree.specs.Tree.{spelled_condition, spelled_entry, spelled_entries};
 ghost use Rattle.sbl_tree.specs.View.{view_name, view_entry};
 ghost use Rattle.sbl_grammar.specs.Gives.{Gives};

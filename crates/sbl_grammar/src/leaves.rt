@@ -4,7 +4,7 @@ ghost use Rattle.std.specs.Prelude.{◌≡◌, ◌≤◌, ◌∷◌, [], drop, s
 ghost use Rattle.sbl_tree.specs.Terminal.{left};
 ghost use Rattle.sbl_grammar.specs.Roles.{role_of};
 ghost use Rattle.sbl_grammar.specs.Steps as wanted;
-ghost use Rattle.sbl_grammar.specs.Places.{max_depth};
+ghost use Rattle.sbl_tree.specs.Places.{max_depth};
 ghost use Rattle.sbl_tree.specs.Tree.{spelled};
 ghost use Rattle.sbl_tree.specs.View.{view_command};
 ghost use Rattle.sbl_grammar.specs.Gives.{Gives};

@@ -4,7 +4,7 @@ ghost use Rattle.std.specs.Prelude.{◌≡◌, ◌≤◌, ◌∷◌, [], string_
 ghost use Rattle.sbl_tree.specs.Terminal.{left};
 ghost use Rattle.sbl_tree.specs.Terminal as t;
 ghost use Rattle.sbl_grammar.specs.Steps as wanted;
-ghost use Rattle.sbl_grammar.specs.Places.{max_depth};
+ghost use Rattle.sbl_tree.specs.Places.{max_depth};
 ghost use Rattle.sbl_tree.specs.Tree.{argument_terminal};
 ghost use Rattle.sbl_tree.specs.View.{view_argument};
 ghost use Rattle.sbl_grammar.specs.Gives.{Gives};

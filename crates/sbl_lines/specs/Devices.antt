@@ -1,5 +1,5 @@
 -- What a read and a write do to a device: the bytes that it tells of, and how often it has failed.
-use Rattle.std.specs.Prelude.{◌≡◌, ◌+◌, ◌-◌, ◌^◌, ◌<◌, ◌≤◌, ◌==◌, ◌⊎◌, ◌||◌, ◌&&◌, nat_le, nat_lt, min, ℕ, Bool, true, false, List, length, take, if◌then◌else◌, Option, Result, Ok, Err}
+use Rattle.std.specs.Prelude.{◌≡◌, ◌+◌, ◌-◌, ◌^◌, ◌<◌, ◌≤◌, ◌==◌, ◌⊎◌, ◌||◌, ◌&&◌, nat_le, nat_lt, min, ℕ, Bool, false, List, length, take, if◌then◌else◌, Option, Result, Ok, Err}
 use Rattle.std.specs.Io.KnownBytes.{Appends, Consumes, IsAtEnd, Keeps}
 use Rattle.std.specs.IoError.{error_kind}
 use Rattle.std.specs.declared.io.Error.{Error}
@@ -83,6 +83,12 @@ stop_of failures k = if failures == 2 ^ 64 - 1 then Interrupted else stop_of_kin
 abbrev pub Judged : ℕ → Result ℕ Error → Result ℕ Stop → Type 0
 Judged failures (Ok n) judged = judged ≡ Ok n
 Judged failures (Err e) judged = judged ≡ Err (stop_of failures (error_kind e))
+
+-- the same of a write of these bytes, which failed where it took none of some
+abbrev pub JudgedWrite : ℕ → List ℕ → Result ℕ Error → Result ℕ Stop → Type 0
+JudgedWrite failures bytes (Ok n) judged =
+    judged ≡ (if nat_lt 0 (length bytes) && (n == 0) then Err (stop_of failures kind.WriteZero) else Ok n)
+JudgedWrite failures bytes (Err e) judged = Judged failures (Err e) judged
 
 -- the writer has failed since, or was interrupted more than 1,000 times in a row
 abbrev pub HasStopped : {W : Type 0} → (W → ℕ) → (W → ℕ) → W → W → Type 0

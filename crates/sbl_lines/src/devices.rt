@@ -1,7 +1,7 @@
 //! What is read from and written to: devices that may fail or be interrupted, and are counted at it.
-ghost use Rattle.std.specs.Prelude.{◌≡◌, ◌≤◌, ◌<◌, ◌^◌, ◌||◌, ℕ, Bool, false, List, Option, length, IfOk, Err};
+ghost use Rattle.std.specs.Prelude.{◌≡◌, ◌≤◌, ◌<◌, ◌^◌, ◌-◌, ◌||◌, ℕ, Bool, false, List, Option, length, IfOk, Err};
 ghost use Rattle.std.specs.Io.KnownBytes.{Keeps};
-ghost use Rattle.sbl_lines.specs.Devices.{Reads, Writes, Counts, CountsRead, CountsRow, Judged, is_late_read, is_late_write, max_reads, max_tries, stop_of, tells_end};
+ghost use Rattle.sbl_lines.specs.Devices.{Reads, Writes, Counts, CountsRead, CountsRow, Judged, JudgedWrite, is_late_read, is_late_write, max_reads, max_tries, tells_end};
 
 use std::io;
 use std::io::{ErrorKind, Read, Write};
@@ -141,40 +141,54 @@ impl Stops {
         }
     }
 
-    /// Counts a failure or an interruption, and says which it is.
-    fn note(&mut self, kind: ErrorKind) -> Stop
-        ensures stop { result ≡ stop_of self.old.failures kind }
-        ensures counts { Counts self.old.failures self.new.failures (Err result) }
-        ensures row { CountsRow self.old.interruptions self.new.interruptions (Err result) }
+    /// Counts what a read or a write was judged as.
+    pub(crate) fn count(&mut self, judged: Result<usize, Stop>)
+        requires { judged ≡ Err Stop.Failed → self.old.failures < 2 ^ 64 - 1 }
+        ensures counts { Counts self.old.failures self.new.failures judged }
+        ensures row { CountsRow self.old.interruptions self.new.interruptions judged }
         ensures reads { self.new.reads ≡ self.old.reads }
         ensures ended { self.new.ended ≡ self.old.ended }
         ensures late { self.new.late ≡ self.old.late }
     {
-        if kind == ErrorKind::Interrupted || self.failures == u64::MAX {
-            self.interruptions = (self.interruptions + 1).min(MAX_TRIES);
-            return Stop::Interrupted;
-        }
-        self.failures += 1;
-        self.interruptions = 0;
-        Stop::Failed
-    }
-
-    /// Judges what a read or a write of std answered, and counts it.
-    pub(crate) fn judge(&mut self, answer: io::Result<usize>) -> Result<usize, Stop>
-        ensures judged { Judged self.old.failures answer result }
-        ensures counts { Counts self.old.failures self.new.failures result }
-        ensures row { CountsRow self.old.interruptions self.new.interruptions result }
-        ensures reads { self.new.reads ≡ self.old.reads }
-        ensures ended { self.new.ended ≡ self.old.ended }
-        ensures late { self.new.late ≡ self.old.late }
-    {
-        match answer {
-            Ok(n) => {
-                self.interruptions = 0;
-                Ok(n)
+        match judged {
+            Ok(_) => self.interruptions = 0,
+            Err(Stop::Interrupted) => {
+                self.interruptions = (self.interruptions + 1).min(MAX_TRIES);
             }
-            Err(e) => Err(self.note(e.kind())),
+            Err(Stop::Failed) => {
+                self.failures += 1;
+                self.interruptions = 0;
+            }
         }
+    }
+}
+
+/// What a read of std answered, as a device that has failed so often answers it: an error whose kind is `Interrupted` is an
+/// interruption, and every other a failure; but once 64 bits count no further failure, each error is an interruption.
+pub fn judge_read(failures: u64, answer: io::Result<usize>) -> Result<usize, Stop>
+    ensures judged { Judged failures answer result }
+    ensures counted { result ≡ Err Stop.Failed → failures < 2 ^ 64 - 1 }
+{
+    match answer {
+        Ok(n) => Ok(n),
+        Err(error) if error.kind() == ErrorKind::Interrupted => Err(Stop::Interrupted),
+        Err(_) if failures == u64::MAX => Err(Stop::Interrupted),
+        Err(_) => Err(Stop::Failed),
+    }
+}
+
+/// What a write of std of these bytes answered, judged like a read, but that a write of some bytes that took none is an error
+/// whose kind is `WriteZero`.
+pub fn judge_write(failures: u64, bytes: &[u8], answer: io::Result<usize>) -> Result<usize, Stop>
+    ensures judged { JudgedWrite failures bytes.now answer result }
+    ensures counted { result ≡ Err Stop.Failed → failures < 2 ^ 64 - 1 }
+{
+    match answer {
+        Ok(0) if !bytes.is_empty() => judge_read(
+            failures,
+            Err(io::Error::from(ErrorKind::WriteZero)),
+        ),
+        answer => judge_read(failures, answer),
     }
 }
 
@@ -220,7 +234,8 @@ impl<D: Read> Source for Device<D> {
     fn read(&mut self, buf: &mut [u8]) -> Result<usize, Stop> {
         self.stops.ask_read();
         let answer = self.inner.read(buf);
-        let judged = self.stops.judge(answer);
+        let judged = judge_read(self.stops.failures, answer);
+        self.stops.count(judged);
         if judged == Ok(0) && !buf.is_empty() {
             self.stops.ended = true;
         }
@@ -241,10 +256,9 @@ impl<D: Write> Sink for Device<D> {
 
     fn write(&mut self, bytes: &[u8]) -> Result<usize, Stop> {
         self.stops.ask_write();
-        let answer = match self.inner.write(bytes) {
-            Ok(0) if !bytes.is_empty() => Err(io::Error::from(ErrorKind::WriteZero)),
-            answer => answer,
-        };
-        self.stops.judge(answer)
+        let answer = self.inner.write(bytes);
+        let judged = judge_write(self.stops.failures, bytes, answer);
+        self.stops.count(judged);
+        judged
     }
 }

@@ -7,7 +7,7 @@ mod lines;
 mod text_lines;
 mod writing;
 
-pub use devices::{Device, Sink, Source, Stop};
+pub use devices::{Device, Sink, Source, Stop, judge_read, judge_write};
 pub use faults::{LineFault, ServeFault};
 pub use lines::{Lines, MAX_LINE};
 pub use text_lines::first_line;

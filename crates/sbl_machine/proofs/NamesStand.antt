@@ -11,14 +11,14 @@ use Rattle.sbl_tree.specs.declared.tree.DeclarationKind.TheVariants as kinds
 use Rattle.sbl_tree.specs.declared.mode.Mode.{Mode}
 use Rattle.sbl_tree.specs.declared.mode.Mode.TheVariants.{Forward, Backward}
 use Rattle.sbl_tree.specs.Tree.{Argument, written_out, by_name, Command, Others, Term, term, Plain, declaration, escapes, macro, routine, grouping, Item, plain, backward}
-use Rattle.sbl_script.specs.declared.occurrences.Site.{Site}
-use Rattle.sbl_script.specs.declared.occurrences.Use.{Use}
-use Rattle.sbl_script.specs.declared.occurrences.Use.TheVariants as use_as
-use Rattle.sbl_script.specs.Occurrences as marks
-use Rattle.sbl_script.specs.Occurrences.{Occurrence, Notice, put, uses, region_end, declares, defines_routine, defines_grouping, noted, noted_others, noted_names, noted_term, noted_terms, noted_plain, noted_items, occurrences_of}
-use Rattle.sbl_script.specs.Checks.{kind_of, defined_at, definition_of, may_be, is_kind, is_routine, is_grouping, is_boolean, is_integer, is_string, is_mode, needs_definition, fault_at}
-use Rattle.sbl_script.specs.Laws.{EachPasses, NamesResolve, Resolves, WellDeclaredPasses}
-use Rattle.sbl_script.proofs.Extends.{Extends, same, then_, items_more, put_more, command_more, others_more}
+use Rattle.sbl_checks.specs.declared.occurrences.Site.{Site}
+use Rattle.sbl_checks.specs.declared.occurrences.Use.{Use}
+use Rattle.sbl_checks.specs.declared.occurrences.Use.TheVariants as use_as
+use Rattle.sbl_checks.specs.Occurrences as marks
+use Rattle.sbl_checks.specs.Occurrences.{Occurrence, Notice, put, uses, region_end, declares, defines_routine, defines_grouping, noted, noted_others, noted_names, noted_term, noted_terms, noted_plain, noted_items, occurrences_of}
+use Rattle.sbl_checks.specs.Checks.{kind_of, defined_at, definition_of, may_be, is_kind, is_routine, is_grouping, is_boolean, is_integer, is_string, is_mode, needs_definition, fault_at}
+use Rattle.sbl_checks.specs.Laws.{EachPasses, NamesResolve, Resolves, WellDeclaredPasses}
+use Rattle.sbl_checks.proofs.Extends.{Extends, same, then_, items_more, put_more, command_more, others_more}
 use Rattle.sbl_program.specs.Items.{ItemInMode, Body, body_named, in_order, is_among, known_in, names_by}
 use Rattle.sbl_program.proofs.SoundItems.{in_mode}
 use Rattle.sbl_machine.specs.NamesStand.{HasBody, StandsFor, NamesStand}

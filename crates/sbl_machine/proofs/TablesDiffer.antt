@@ -14,7 +14,7 @@ use Rattle.sbl_program.specs.Laws.{names_in}
 use Rattle.sbl_program.specs.NumberedAmongs.{Found, strings_in, strings_behind, found_of, found, found_rows, found_others, found_starter, found_groups, found_plain, found_behind}
 use Rattle.sbl_program.specs.NumberedNames.{Names}
 use Rattle.sbl_program.specs.Regions.{mode_behind}
-use Rattle.sbl_script.specs.Amongs.{text_of, texts_of, IsSound, EachAmong, EachAmongOfRows, EachAmongOfOthers, EachAmongOfStarter, EachAmongOfGroups, EachAmongOfPlain, EachAmongOfPlains, EachAmongOfItems, AmongsAreSound}
+use Rattle.sbl_checks.specs.Amongs.{text_of, texts_of, IsSound, EachAmong, EachAmongOfRows, EachAmongOfOthers, EachAmongOfStarter, EachAmongOfGroups, EachAmongOfPlain, EachAmongOfPlains, EachAmongOfItems, AmongsAreSound}
 use Rattle.sbl_tables.specs.Fitting.{fitting, read_all}
 use Rattle.sbl_tables.specs.Laws.{AllDiffer, FittingAreMatches, Matches, StandsIn}
 use Rattle.sbl_tree.specs.Tree as trees

@@ -3,12 +3,12 @@ use Rattle.std.specs.Prelude.{◌≡◌, ◌⊎◌, ℕ, true, List, ◌∷◌, 
 use Rattle.sbl_tree.specs.declared.tree.DeclarationKind.TheVariants as kinds
 use Rattle.sbl_tree.specs.declared.mode.Mode.{Mode}
 use Rattle.sbl_program.specs.Items.{ItemInMode, Body, body_named, known_in, in_order, is_among}
-use Rattle.sbl_script.specs.Checks.{WellDeclared}
-use Rattle.sbl_script.specs.Occurrences.{Occurrence, uses, occurrences_of}
+use Rattle.sbl_checks.specs.Checks.{WellDeclared}
+use Rattle.sbl_checks.specs.Occurrences.{Occurrence, uses, occurrences_of}
 use Rattle.sbl_script.specs.Parsed.{Source}
-use Rattle.sbl_script.specs.declared.occurrences.Site.{Site}
-use Rattle.sbl_script.specs.declared.occurrences.Use.{Use}
-use Rattle.sbl_script.specs.declared.occurrences.Use.TheVariants as use_as
+use Rattle.sbl_checks.specs.declared.occurrences.Site.{Site}
+use Rattle.sbl_checks.specs.declared.occurrences.Use.{Use}
+use Rattle.sbl_checks.specs.declared.occurrences.Use.TheVariants as use_as
 
 -- there is a routine of this name, in this mode
 abbrev pub HasBody : List ItemInMode → List ℕ → Mode → Type 0

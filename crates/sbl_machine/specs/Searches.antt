@@ -6,7 +6,7 @@ use Rattle.sbl_tables.specs.Laws.{AllDiffer, Matches, StandsIn}
 use Rattle.sbl_program.specs.Items.{in_order}
 use Rattle.sbl_program.specs.Laws.{names_in}
 use Rattle.sbl_program.specs.NumberedAmongs.{Found, found_behind}
-use Rattle.sbl_script.specs.Checks.{WellDeclared}
+use Rattle.sbl_checks.specs.Checks.{WellDeclared}
 use Rattle.sbl_script.specs.Parsed.{Source}
 
 -- the amongs of a script, for each of which there is a table

@@ -7,7 +7,7 @@ ghost use Rattle.sbl_machine.specs.NamesStand.{NamesStand};
 ghost use Rattle.sbl_machine.specs.Searches.{SearchesAreExact, TablesDiffer};
 ghost use Rattle.sbl_machine.specs.Sound.{RunIsSound};
 
-use sbl_script::laws::{amongs_are_sound, names_resolve, well_declared_passes};
+use sbl_checks::laws::{amongs_are_sound, names_resolve, well_declared_passes};
 use sbl_tables::laws::fitting_are_matches;
 
 /// A run of a script's program is a run of the script.

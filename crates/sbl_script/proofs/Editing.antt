@@ -6,15 +6,15 @@ use Rattle.sbl_text.specs.declared.fault.ScriptFault.TheVariants as fault
 use Rattle.sbl_text.specs.Escapes.{InForce}
 use Rattle.sbl_text.specs.Directives.{Directives, start_under}
 use Rattle.sbl_text.specs.Tokens.{Placed, ArePlacedFrom, IsFirstFaultFrom}
-use Rattle.sbl_grammar.specs.Amongs.{Held, amongs_of_body, nth_held}
+use Rattle.sbl_amongs.specs.Amongs.{Held, amongs_of_body, nth_held}
 use Rattle.sbl_tree.specs.Tree.{Item}
-use Rattle.sbl_grammar.specs.Texts.{TreeOf}
+use Rattle.sbl_tree.specs.Texts.{TreeOf}
 use Rattle.sbl_tree.specs.View.{RowView}
 use Rattle.sbl_grammar.specs.Reading.{IsReadAs}
 use Rattle.sbl_script.specs.declared.edit_fault.EditFault.{EditFault}
 use Rattle.sbl_script.specs.declared.edit_fault.EditFault.TheVariants as edits
 use Rattle.sbl_script.specs.Parsed.{Source}
-use Rattle.sbl_script.specs.Checks.{WellDeclared, fault_of}
+use Rattle.sbl_checks.specs.Checks.{WellDeclared, fault_of}
 use Rattle.sbl_script.specs.Reading.{HasTokens, IsTextFault, IsUnread, first_left_out, max_script, terminals}
 use Rattle.sbl_script.specs.Refusals.{Refuses}
 use Rattle.sbl_script.specs.Edits.{ScriptEdit, body, among, Home, IsEditFault, IsFaultAt, IsSubstituted, home, home_in, home_of_among, home_of_body, home_of_held, items_with, routine_name, routine_of, state_before}

@@ -1,11 +1,4 @@
-pub mod Noted
-pub mod Keeping
-pub mod Turns
 pub mod Places
-pub mod FirstFault
-pub mod Extends
-pub mod Sound
-pub mod Resolving
 pub mod OneReading
 pub mod Editing
 pub mod Shallow
@@ -13,5 +6,12 @@ pub mod Putting
 pub mod Quiet
 pub mod Spelled
 pub mod OneEdit
+pub mod Own
+pub mod RoundItem
+pub mod ItemParts
+pub mod SameFaults
+pub mod TextFaults
+pub mod OnlyTheItem
 pub mod Offered
 pub mod Printed
+pub mod Compared

@@ -8,7 +8,7 @@ use Rattle.sbl_text.specs.Lexemes.{lexeme_of}
 use Rattle.sbl_text.specs.Tokens.{Placed, placed_of}
 use Rattle.sbl_tree.specs.Terminal.{Terminal, terminal_of, terminals_of, left}
 use Rattle.sbl_grammar.specs.Reading.{IsSyntaxAt, IsTooDeepAt, IsOutOfProfileAt}
-use Rattle.sbl_grammar.specs.Texts.{Text}
+use Rattle.sbl_tree.specs.Texts.{Text}
 use Rattle.sbl_grammar.specs.Told as grammar
 use Rattle.sbl_script.specs.Reading.{terminals, place_of, IsGrammarFault, IsUnread, first_left_out}
 

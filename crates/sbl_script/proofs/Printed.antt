@@ -11,12 +11,11 @@ use Rattle.sbl_text.specs.Laws.{SpacedAreRead}
 use Rattle.sbl_tree.specs.Terminal.{Terminal, lexeme_as, terminal_of}
 use Rattle.sbl_tree.specs.Tree.{Item, lexemes_of, written}
 use Rattle.sbl_grammar.specs.Laws.{PlacesAreWritten}
-use Rattle.sbl_grammar.specs.Places.{places}
-use Rattle.sbl_grammar.specs.Reading.{AreShallow}
+use Rattle.sbl_tree.specs.Places.{places, AreShallow}
 use Rattle.sbl_print.specs.Canonical.{canonical}
 use Rattle.sbl_print.specs.Spaced.{CanonicalIsSpaced}
 use Rattle.sbl_script.specs.Parsed.{Source}
-use Rattle.sbl_script.specs.Checks.{WellDeclared}
+use Rattle.sbl_checks.specs.Checks.{WellDeclared}
 use Rattle.sbl_script.specs.Printed.{CanonicalIsRead}
 use Rattle.sbl_script.specs.Reading.{first_left_out, is_left_out, terminals}
 use Rattle.sbl_script.specs.Spelled.{AreSpelled}
@@ -64,7 +63,7 @@ terminals_are k (t ∷ ts) (u ∷ us) e =
 -- ---- the canonical text
 
 -- the canonical text has the tokens of the items
-tokens_back : Known → (items : List Item) → AreSaid start (lexemes_of items) → MayEnd (after_all start (lexemes_of items)) → AreTokensFrom start (chars (canonical items)) (lexemes_of items)
+pub tokens_back : Known → (items : List Item) → AreSaid start (lexemes_of items) → MayEnd (after_all start (lexemes_of items)) → AreTokensFrom start (chars (canonical items)) (lexemes_of items)
 tokens_back k items said end =
     let p = k.spaced items in
     let t = k.read start p.spaced p.white (subst (AreSaid start) (sym p.tokens) said) (subst (λ (ls : List Lexeme). MayEnd (after_all start ls)) (sym p.tokens) end) in

@@ -31,8 +31,8 @@ use Rattle.sbl_tree.specs.declared.tree.Constant.TheVariants as constants
 use Rattle.sbl_tree.specs.Terminal.{Terminal, lexeme_as}
 use Rattle.sbl_tree.specs.Terminal as t
 use Rattle.sbl_tree.specs.Tree.{Argument, written_out, by_name, argument_terminal, Expression, expression, Sums, no_sums, sum, Product, product, Scales, no_scales, scale, Factor, negated, bracketed, numeral, variable, fixed, length_of, Entry, entry, Command, bracket, simple_, literal_, name_, non_, prefixed, counted, move_, named, splice_, setlimit_, assign_, compare_, compare_values_, among_, Rows, no_rows, row, Others, no_others, joined, Starter, no_starter, starter, Groups, bare, group, Term, term}
-use Rattle.sbl_grammar.specs.Places.{AtDepth, placed, placed_rows, placed_others, placed_starter, placed_groups, placed_entry, placed_entries, placed_expression, placed_sums, placed_product, placed_scales, placed_factor, placed_names, placed_terms}
-use Rattle.sbl_grammar.specs.Texts.{body, places_in}
+use Rattle.sbl_tree.specs.Places.{AtDepth, placed, placed_rows, placed_others, placed_starter, placed_groups, placed_entry, placed_entries, placed_expression, placed_sums, placed_product, placed_scales, placed_factor, placed_names, placed_terms}
+use Rattle.sbl_tree.specs.Texts.{body, places_in}
 use Rattle.sbl_script.proofs.Putting.{Each}
 
 abbrev Ps : Type 0

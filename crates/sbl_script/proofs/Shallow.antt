@@ -3,14 +3,13 @@ use Rattle.std.proofs.Common.{◌≡◌, ◌≤◌, ℕ, Bool, true, false, List
 use Rattle.std.specs.List.{list_any}
 use Rattle.std.specs.Option.{option_or}
 use Rattle.std.specs.Str.{bytes_eq}
-use Rattle.sbl_grammar.specs.Amongs.{FitsAt, Held, nth_held}
+use Rattle.sbl_amongs.specs.Amongs.{FitsAt, Held, nth_held}
 use Rattle.sbl_tree.specs.Terminal as t
 use Rattle.sbl_tree.specs.Tree.{Plain, declaration, escapes, macro, routine, grouping, Item, plain, backward, Starter, Groups, among_}
-use Rattle.sbl_grammar.specs.Places.{AtDepth, placed, placed_plain, placed_plains, placed_items}
-use Rattle.sbl_grammar.specs.Reading.{AreShallow}
-use Rattle.sbl_grammar.specs.Texts.{among, body, places_in}
+use Rattle.sbl_tree.specs.Places.{AtDepth, placed, placed_plain, placed_plains, placed_items, AreShallow}
+use Rattle.sbl_tree.specs.Texts.{among, body, places_in}
 use Rattle.sbl_tree.specs.View.{RowView}
-use Rattle.sbl_grammar.proofs.Behind.{IsBefore, by_itself, behind_it, with_behind, plain_before}
+use Rattle.sbl_tree.proofs.Behind.{IsBefore, by_itself, behind_it, with_behind, plain_before}
 use Rattle.sbl_script.specs.Edits.{body_if, is_routine, items_with, plains_with, routine_in, routine_of}
 
 abbrev Ps : Type 0

@@ -17,12 +17,12 @@ use Rattle.sbl_tree.specs.Terminal.{Terminal, lexeme_as, terminal_of}
 use Rattle.sbl_tree.specs.Terminal as t
 use Rattle.sbl_tree.specs.Tree.{Command, Others, Starter, Groups, among_, Plain, declaration, escapes, macro, routine, grouping, Item, plain, backward, lexemes_of}
 use Rattle.sbl_tree.specs.View.{RowView}
-use Rattle.sbl_grammar.specs.Amongs.{put_in_body}
-use Rattle.sbl_grammar.specs.Places.{AtDepth, placed, placed_plain, placed_plains, placed_items, places, tokens}
-use Rattle.sbl_grammar.specs.Texts.{Text, TreeOf, body, places_in, script, tokens_of}
-use Rattle.sbl_grammar.specs.Texts as texts
+use Rattle.sbl_amongs.specs.Amongs.{put_in_body}
+use Rattle.sbl_tree.specs.Places.{AtDepth, placed, placed_plain, placed_plains, placed_items, places, tokens}
+use Rattle.sbl_tree.specs.Texts.{Text, TreeOf, body, places_in, script, tokens_of}
+use Rattle.sbl_tree.specs.Texts as texts
 use Rattle.sbl_grammar.specs.Reading.{IsReadAs}
-use Rattle.sbl_grammar.proofs.Behind.{IsBefore, plain_before}
+use Rattle.sbl_tree.proofs.Behind.{IsBefore, plain_before}
 use Rattle.sbl_grammar.proofs.Faults.{tree_tokens, places_tokens}
 use Rattle.sbl_grammar.proofs.Parts.{there}
 use Rattle.sbl_script.specs.Edits.{Reached, body_if, escapes_behind, is_routine, items_with, plains_with, reached, reached_in, routine_in, routine_of, state_before}

@@ -1,4 +1,4 @@
--- The canonical text of a script is read as that script.
+-- The canonical text of a script is read as that script, and no other script has it.
 use Rattle.std.specs.Prelude.{◌≡◌, ℕ, List, length, ◌≤◌}
 use Rattle.sbl_print.specs.Canonical.{canonical}
 use Rattle.sbl_script.specs.Parsed.{Source}
@@ -7,3 +7,7 @@ use Rattle.sbl_script.specs.Reading.{IsScriptOf, max_script}
 -- this text, if it is the canonical text of the script and short enough, is read as that script
 abbrev pub CanonicalIsRead : Source → List ℕ → Type 0
 CanonicalIsRead s text = text ≡ canonical s.items → length text ≤ max_script → IsScriptOf text s.external s
+
+-- two scripts with one canonical text have the same items
+abbrev pub CanonicalIsOne : Source → Source → Type 0
+CanonicalIsOne s t = canonical s.items ≡ canonical t.items → s.items ≡ t.items

@@ -12,10 +12,10 @@ use Rattle.sbl_text.specs.Directives.{Directives, start}
 use Rattle.sbl_text.specs.Tokens.{Placed, ArePlacedFrom, IsFirstFaultFrom}
 use Rattle.sbl_tree.specs.Terminal.{Terminal, terminal_of}
 use Rattle.sbl_tree.specs.Tree.{Item}
-use Rattle.sbl_grammar.specs.Texts.{Text, script}
+use Rattle.sbl_tree.specs.Texts.{Text, script}
 use Rattle.sbl_grammar.specs.Reading.{IsReadAs, IsSyntaxAt, IsTooDeepAt, IsOutOfProfileAt}
 use Rattle.sbl_script.specs.Parsed.{Source}
-use Rattle.sbl_script.specs.Checks.{WellDeclared, fault_of}
+use Rattle.sbl_checks.specs.Checks.{WellDeclared, fault_of}
 
 -- the most bytes of a script
 abbrev pub max_script : ℕ

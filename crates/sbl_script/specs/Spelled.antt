@@ -5,7 +5,7 @@ use Rattle.sbl_text.specs.Spaced.{AreSaid}
 use Rattle.sbl_tree.specs.Terminal.{lexeme_as}
 use Rattle.sbl_tree.specs.Tree.{Item, lexemes_of}
 use Rattle.sbl_tree.specs.View.{RowView}
-use Rattle.sbl_grammar.specs.Texts.{body, tokens_of}
+use Rattle.sbl_tree.specs.Texts.{body, tokens_of}
 
 -- some text can say each token of the script under what those before it have set
 abbrev pub AreSpelled : List Item → Type 0

@@ -1,13 +1,15 @@
-//! What is shown of the checks.
+//! What is shown of scripts.
 
-ghost use Rattle.sbl_script.specs.Amongs.{AmongsAreSound};
 ghost use Rattle.sbl_script.specs.OneEdit.{EditFaultIsOne, EditIsOne, EditOrFault};
+ghost use Rattle.sbl_script.specs.OnlyTheItem.{ExternalStays, OnlyTheItem};
 ghost use Rattle.sbl_script.specs.OneReading.{FaultIsOne, ScriptIsOne, ScriptOrFault};
 ghost use Rattle.sbl_script.specs.Parsed.{source_of};
-ghost use Rattle.sbl_script.specs.Printed.{CanonicalIsRead};
-ghost use Rattle.sbl_script.specs.Laws.{FaultIsFirst, NamesResolve, SubstringsArePaired, WellDeclaredPasses};
+ghost use Rattle.sbl_script.specs.Printed.{CanonicalIsOne, CanonicalIsRead};
 
 use crate::script::Script;
+pub use sbl_checks::laws::{
+    amongs_are_sound, fault_is_first, names_resolve, substrings_are_paired, well_declared_passes,
+};
 use sbl_grammar::{one_fault, one_part, one_tree};
 use sbl_print::laws::canonical_is_spaced;
 use sbl_text::laws::{first_fault_is_one, spaced_are_read, tokens_are_one};
@@ -38,30 +40,11 @@ pub fn one_edit()
     one_fault();
 }
 
-/// In a script that is well declared no check fails at any occurrence, and its external is declared and defined in forward mode.
-pub fn well_declared_passes()
-    ensures { WellDeclaredPasses }
-{}
-
-/// The fault of a script is that of the first occurrence at which a check fails; that of the external comes last.
-pub fn fault_is_first()
-    ensures { FaultIsFirst }
-{}
-
-/// Each among of a script that is well declared has a string, and its strings differ in their characters.
-pub fn amongs_are_sound()
-    ensures { AmongsAreSound }
-{}
-
-/// Each name that is used in a script that is well declared is declared as what may stand there; a routine or a grouping is
-/// defined, and a routine in the mode of its use.
-pub fn names_resolve()
-    ensures { NamesResolve }
-{}
-
-/// Each `substring` in a script that is well declared has its `among`.
-pub fn substrings_are_paired()
-    ensures { SubstringsArePaired }
+/// A fault of an edit of a script, by `Script::with_routine` or `Script::with_among`, that tells an item tells the one that is
+/// changed: that which holds the routine. No check fails in another item, and the external that is run stays one.
+pub fn only_the_item()
+    ensures item { OnlyTheItem }
+    ensures external { ExternalStays }
 {}
 
 /// A text that is the canonical text of a script (`Script::print`), one that edits have made too, and has at most 1,048,576
@@ -78,4 +61,17 @@ pub fn canonical_is_read(script: &Script, text: &str)
     script.is_shallow();
     script.is_spelled();
     let _ = text;
+}
+
+/// Two scripts with one canonical text have the same items, however long that text is.
+pub fn canonical_is_one(script: &Script, other: &Script)
+    ensures { CanonicalIsOne (source_of script.now) (source_of other.now) }
+{
+    tokens_are_one();
+    spaced_are_read();
+    canonical_is_spaced();
+    one_part();
+    one_tree();
+    script.is_spelled();
+    other.is_spelled();
 }

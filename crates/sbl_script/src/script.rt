@@ -2,25 +2,24 @@
 
 ghost use Rattle.std.specs.Prelude.{◌≡◌, ◌⊎◌, ◌≤◌, None, Some, length, map, IfOk, IfErr};
 ghost use Rattle.std.specs.Str.{IsUtf8};
-ghost use Rattle.sbl_grammar.specs.Reading.{AreShallow, IsReadAs};
-ghost use Rattle.sbl_grammar.specs.Texts as texts;
+ghost use Rattle.sbl_tree.specs.Places.{AreShallow, places, max_depth};
+ghost use Rattle.sbl_grammar.specs.Reading.{IsReadAs};
+ghost use Rattle.sbl_tree.specs.Texts as texts;
 ghost use Rattle.sbl_tree.specs.View.{view_among, view_items, view_row};
-ghost use Rattle.sbl_grammar.specs.Amongs.{count_in_among};
-ghost use Rattle.sbl_grammar.specs.Places.{places};
-ghost use Rattle.sbl_grammar.specs.Places.{max_depth};
-ghost use Rattle.sbl_script.specs.Checks.{WellDeclared, fault_of};
+ghost use Rattle.sbl_tree.specs.Counts.{count_in_among};
+ghost use Rattle.sbl_checks.specs.Checks.{WellDeclared, fault_of};
 ghost use Rattle.sbl_script.specs.Spelled.{AreSpelled, IsRowSpelled};
 ghost use Rattle.sbl_text.specs.Lexemes.{lexeme_of};
 ghost use Rattle.sbl_text.specs.Directives.{start, Directives};
 ghost use Rattle.sbl_text.specs.Tokens.{placed_of};
 ghost use Rattle.sbl_script.specs.Reading as spec;
 
-use crate::bodies::body_in;
-use crate::checks::check;
 use crate::edit_fault::EditFault;
 use crate::edits;
 use crate::edits::{escapes_before, items_with};
-use sbl_grammar::{has_as_many_amongs, nth_among, parse, parse_among, parse_body, put_in_place};
+use sbl_amongs::{has_as_many_amongs, nth_among, put_in_place};
+use sbl_checks::{body_in, check};
+use sbl_grammar::{parse, parse_among, parse_body};
 use sbl_print::canonical_text;
 use sbl_text::{Kind, ScriptFault, Sign, Token, Word, tokens, tokens_under};
 use sbl_tree::{Among, Item, Row};
@@ -135,9 +134,8 @@ impl Model for Script {
     ghost use Rattle.sbl_tree.specs.contracts.tree.Item as e;
     ghost use Rattle.sbl_tree.specs.View.{view_items};
     ghost use Rattle.sbl_script.specs.Parsed.{Parsed};
-    ghost use Rattle.sbl_script.specs.Checks.{WellDeclared};
-    ghost use Rattle.sbl_grammar.specs.Places.{places};
-    ghost use Rattle.sbl_grammar.specs.Reading.{AreShallow};
+    ghost use Rattle.sbl_checks.specs.Checks.{WellDeclared};
+    ghost use Rattle.sbl_tree.specs.Places.{places, AreShallow};
     ghost use Rattle.sbl_script.specs.Spelled.{AreSpelled};
 
     ghost Value = { Parsed };
@@ -152,9 +150,8 @@ impl Model for Script {
 impl Script {
     ghost use Rattle.sbl_script.specs.Parsed.{source_of, body_of};
     ghost use Rattle.std.specs.Prelude.{Err};
-    ghost use Rattle.sbl_grammar.specs.Places.{places};
-    ghost use Rattle.sbl_grammar.specs.Texts.{places_in};
-    ghost use Rattle.sbl_grammar.specs.Reading.{AreShallow};
+    ghost use Rattle.sbl_tree.specs.Places.{places, AreShallow};
+    ghost use Rattle.sbl_tree.specs.Texts.{places_in};
     ghost use Rattle.std.specs.Prelude.{string_bytes};
     ghost use Rattle.sbl_print.specs.Canonical.{canonical};
     ghost use Rattle.sbl_text.specs.Spaced.{after_all};

@@ -2,3 +2,6 @@
 pub mod Terminal
 pub mod Tree
 pub mod View
+pub mod Places
+pub mod Texts
+pub mod Counts

@@ -14,7 +14,7 @@ use Rattle.sbl_bench.specs.Rows.{max_steps}
 use Rattle.snowbench.specs.Checking.{Compared, ComparesPair, IsRow, count}
 use Rattle.snowbench.specs.Differences.{Got, Refused, IsChecked, all_differences, difference, differences, ending, line_fault, made_of, of_outcome, pair_fault, row_of}
 use Rattle.sbl_lines.specs.LinesOf.{lines_of}
-use Rattle.snowbench.specs.Rows.{record_line, records_text}
+use Rattle.sbl_sessions.specs.Rows.{record_line, records_text}
 use Rattle.sbl_lines.specs.declared.faults.ServeFault.{ServeFault}
 use Rattle.sbl_lines.specs.declared.faults.ServeFault.TheVariants as fault
 

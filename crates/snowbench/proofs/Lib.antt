@@ -1,11 +1,1 @@
-pub mod BlockFacts
-pub mod EditFacts
-pub mod LoadFacts
-pub mod ReportFacts
-pub mod SessionFacts
 pub mod CheckFacts
-pub mod CommandFacts
-pub mod NumberFacts
-pub mod OneAnswer
-pub mod InputFacts
-pub mod OneLoading

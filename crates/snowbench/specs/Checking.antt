@@ -7,7 +7,7 @@ use Rattle.sbl_script.specs.Parsed.{Source}
 use Rattle.snowbench.specs.Differences as spec
 use Rattle.snowbench.specs.Differences.{difference, differences, ending, pair_fault}
 use Rattle.sbl_lines.specs.LinesOf.{lines_of}
-use Rattle.snowbench.specs.Rows.{record_line, records_text}
+use Rattle.sbl_sessions.specs.Rows.{record_line, records_text}
 use Rattle.snowbench.specs.declared.checking.Got.{Got}
 use Rattle.snowbench.specs.declared.checking.Got.TheVariants as got
 use Rattle.sbl_lines.specs.declared.faults.ServeFault.{ServeFault}

@@ -1,22 +1,6 @@
 -- what the contracts of public calls rest on
-pub mod Faults
-pub mod Words
-pub mod Numbers
-pub mod Block
-pub mod Requests
-pub mod Commands
-pub mod Rows
-pub mod Traces
-pub mod Answers
-pub mod Session
-pub mod OneAnswer
-pub mod Loaded
-pub mod OneLoading
 pub mod CommandLine
 pub mod Differences
 -- what the functions inside the crate promise each other: nothing in these need be believed
-pub mod CommandViews
-pub mod Edits
-pub mod RowWriter
 pub mod Checking
 pub mod Stemmed

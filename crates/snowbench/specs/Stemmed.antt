@@ -5,10 +5,10 @@ use Rattle.std.specs.Io.KnownBytes.{Appends}
 use Rattle.sbl_bench.specs.Kept.{contents_of}
 use Rattle.sbl_bench.specs.Contents.{opened, opening_fault}
 use Rattle.sbl_script.specs.Parsed.{Source}
-use Rattle.snowbench.specs.Loaded.{IsInput, IsLoaded}
-use Rattle.snowbench.specs.Rows.{stems_text}
-use Rattle.snowbench.specs.declared.faults.LoadFault.{LoadFault}
-use Rattle.snowbench.specs.declared.faults.LoadFault.TheVariants.{Input}
+use Rattle.sbl_sessions.specs.Loaded.{IsInput, IsLoaded}
+use Rattle.sbl_sessions.specs.Rows.{stems_text}
+use Rattle.sbl_sessions.specs.declared.faults.LoadFault.{LoadFault}
+use Rattle.sbl_sessions.specs.declared.faults.LoadFault.TheVariants.{Input}
 use Rattle.sbl_lines.specs.declared.faults.ServeFault.TheVariants as fault
 
 -- The rows of the vocabulary are written, and the input stands behind it; a front of them, where the writer failed; and else

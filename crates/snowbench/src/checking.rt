@@ -8,14 +8,14 @@ ghost use Rattle.snowbench.specs.Checking.{ComparesPair, IsRow, view_got};
 ghost use Rattle.sbl_lines.specs.Devices.{HasStopped, WritesInTime};
 ghost use Rattle.snowbench.specs.Differences as spec;
 ghost use Rattle.snowbench.specs.Differences.{IsChecked};
-ghost use Rattle.snowbench.specs.Rows as rows;
+ghost use Rattle.sbl_sessions.specs.Rows as rows;
 
-use crate::records::text_of;
 use csv::{ByteRecord, WriterBuilder};
 use sbl_bench::{MAX_STEPS, MAX_WORD_LENGTH};
 use sbl_lines::{MAX_LINE, ServeFault, Sink, first_line, write_all};
 use sbl_machine::{Machine, Meter, Outcome, Table, Traced};
 use sbl_script::Script;
+use sbl_sessions::text_of;
 use std::alloc::{AllocError, Global};
 
 /// What a script makes of a word.

@@ -5,12 +5,9 @@ ghost use Rattle.snowbench.specs.Stemmed.{IsStemmed};
 
 use crate::checking::check;
 use crate::command_line::{Verb, Wanted};
-use crate::faults::LoadFault;
-use crate::loading::{load, read_script};
-use crate::reports::stems_text;
-use crate::serving::serve;
 use sbl_lines::{Lines, ServeFault, Sink, Source, write_all};
 use sbl_script::Script;
+use sbl_sessions::{LoadFault, load, read_script, serve, stems_text};
 use std::alloc::{AllocError, Global};
 use std::fmt;
 use std::fmt::Write;

@@ -13,7 +13,7 @@ use Rattle.sbl_grammar.specs.declared.role.Role.{Role}
 use Rattle.sbl_grammar.specs.Starts.{begins_command}
 use Rattle.sbl_grammar.specs.First.{first_literal}
 use Rattle.sbl_tree.specs.Tree as trees
-use Rattle.sbl_grammar.specs.Places.{max_depth}
+use Rattle.sbl_tree.specs.Places.{max_depth}
 use Rattle.sbl_grammar.specs.Steps.{Stack, fault}
 use Rattle.sbl_grammar.specs.Steps as s
 use Rattle.sbl_tree.specs.View as view

@@ -4,7 +4,7 @@ use Rattle.sbl_tree.specs.Terminal.{Terminal, left}
 use Rattle.sbl_grammar.specs.Roles.{role_of, role_as}
 use Rattle.sbl_tree.specs.Terminal as t
 use Rattle.sbl_tree.specs.Tree as trees
-use Rattle.sbl_grammar.specs.Places.{max_depth}
+use Rattle.sbl_tree.specs.Places.{max_depth}
 use Rattle.sbl_grammar.specs.Steps.{Stack, fault}
 use Rattle.sbl_grammar.specs.Steps as s
 use Rattle.sbl_grammar.proofs.Descent as d

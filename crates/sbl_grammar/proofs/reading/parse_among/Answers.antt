@@ -1,4 +1,4 @@
-use Rattle.sbl_grammar.specs.Texts.{among}
+use Rattle.sbl_tree.specs.Texts.{among}
 use Rattle.sbl_tree.specs.View.{view_among}
 use Rattle.sbl_grammar.proofs.Few.{among_few}
 use Rattle.sbl_grammar.proofs.Whole.{fault_of}

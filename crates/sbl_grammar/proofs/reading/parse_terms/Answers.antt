@@ -1,4 +1,4 @@
-use Rattle.sbl_grammar.specs.Texts.{terms}
+use Rattle.sbl_tree.specs.Texts.{terms}
 use Rattle.sbl_grammar.proofs.Whole.{fault_of}
 use Rattle.sbl_grammar.proofs.reading.parse_terms.Goals as goal
 

@@ -5,7 +5,7 @@ use Rattle.sbl_script.specs.Parsed.{Source}
 use Rattle.sbl_machine.specs.MachineOf.{IsLinkedMachineOf}
 use Rattle.snowbench.specs.Checking.{view_got}
 use Rattle.snowbench.specs.Differences.{difference, row_of}
-use Rattle.snowbench.specs.Rows.{records_text}
+use Rattle.sbl_sessions.specs.Rows.{records_text}
 use Rattle.sbl_lines.specs.declared.faults.ServeFault.TheVariants as fault
 use Rattle.snowbench.proofs.CheckFacts.{difference_is, no_pair_fault, no_row, one_row, row_text_is}
 use Rattle.snowbench.proofs.checking.compare.Goals as goal

@@ -5,7 +5,7 @@ use Rattle.sbl_text.specs.declared.token.Token.{Token}
 use Rattle.sbl_text.specs.Directives.{start}
 use Rattle.sbl_text.specs.Tokens.{ArePlacedFrom, placed_of}
 use Rattle.sbl_grammar.specs.Reading.{IsReadAs}
-use Rattle.sbl_grammar.specs.Texts as texts
+use Rattle.sbl_tree.specs.Texts as texts
 use Rattle.sbl_tree.specs.View.{view_items}
 use Rattle.sbl_script.specs.Reading.{terminals}
 use Rattle.sbl_script.proofs.Spelled.{script_said}

@@ -3,13 +3,13 @@ use Rattle.std.proofs.lemmas.Result.{err_from_is_err_and}
 use Rattle.sbl_text.specs.declared.fault.ScriptFault.TheVariants as fault
 use Rattle.sbl_text.specs.declared.token.Token.{Token}
 use Rattle.sbl_text.specs.Tokens.{placed_of}
-use Rattle.sbl_grammar.specs.Amongs.{Held, amongs_of_body}
-use Rattle.sbl_grammar.specs.Places.{places}
-use Rattle.sbl_grammar.specs.Reading.{AreShallow, IsReadAs}
-use Rattle.sbl_grammar.specs.Texts as texts
+use Rattle.sbl_amongs.specs.Amongs.{Held, amongs_of_body}
+use Rattle.sbl_tree.specs.Places.{places, AreShallow}
+use Rattle.sbl_grammar.specs.Reading.{IsReadAs}
+use Rattle.sbl_tree.specs.Texts as texts
 use Rattle.sbl_tree.specs.Tree.{Item}
 use Rattle.sbl_tree.specs.View.{RowView, view_among, view_items, view_row}
-use Rattle.sbl_script.specs.Checks.{fault_of}
+use Rattle.sbl_checks.specs.Checks.{fault_of}
 use Rattle.sbl_script.specs.Parsed.{source_of}
 use Rattle.sbl_script.specs.Reading.{IsUnread, first_left_out, terminals}
 use Rattle.sbl_script.specs.Edits.{among, home_of_among, items_with, routine_of, state_before}

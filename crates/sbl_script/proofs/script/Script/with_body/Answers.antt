@@ -1,6 +1,5 @@
 use Rattle.std.proofs.Common.{rules, ◌≡◌, List, sym, subst}
-use Rattle.sbl_grammar.specs.Places.{places}
-use Rattle.sbl_grammar.specs.Reading.{AreShallow}
+use Rattle.sbl_tree.specs.Places.{places, AreShallow}
 use Rattle.sbl_tree.specs.Tree.{Item}
 use Rattle.sbl_tree.specs.View.{view_items, view_row}
 use Rattle.sbl_script.specs.Edits.{items_with, state_before}

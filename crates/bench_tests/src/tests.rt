@@ -1,0 +1,4 @@
+//! Public calls, each file by what it tries.
+
+mod bench;
+mod bench_edits;

@@ -1,0 +1,9 @@
+//! Public calls, each file by what it tries.
+
+mod amongs;
+mod control;
+mod runs;
+mod slices;
+mod stems;
+mod tables;
+mod touched;

@@ -1,0 +1,89 @@
+//! Searches of the strings of an among, and what is printed of a run's faults.
+
+use sbl_machine::{AmongSearch, LinkedTable, PlainTable, RunFault, RunStop};
+use sbl_tree::Mode;
+use std::alloc::{AllocError, Global};
+use std::process::Abort;
+use std::test::Fail;
+
+fn table_of<S: AmongSearch>(alloc: Global, mode: Mode, strings: &[&str]) -> Result<S, AllocError> {
+    let mut all = Vec::new(alloc);
+    for string in strings {
+        all.push(string.chars().collect(alloc)?)?;
+    }
+    S::build(alloc, &all, mode)
+}
+
+/// Asks the tables of one search.
+fn asked<S: AmongSearch>(
+    rt: &impl Abort,
+    forwards: S,
+    backwards: S,
+    empty: S,
+    apart: S,
+) -> Result<(), Fail> {
+    let text = ['a', 'b', 'd'];
+    assert_eq!(rt; forwards.longest(&text, 0, 3), Some(2));
+    assert_eq!(rt; forwards.next_shorter(1), Some(2));
+    assert_eq!(rt; forwards.next_shorter(2), Some(0));
+    assert_eq!(rt; forwards.next_shorter(0), None);
+    let word = ['b', 'o', 'x', 'e', 's'];
+    assert_eq!(rt; backwards.longest(&word, 5, 0), Some(1));
+    assert_eq!(rt; backwards.longest(&word, 5, 4), Some(0));
+    assert_eq!(rt; backwards.next_shorter(1), Some(0));
+    assert_eq!(rt; empty.longest(&[], 0, 0), Some(0));
+    assert_eq!(rt; empty.next_shorter(0), None);
+    // no string but a front is a shorter one
+    assert_eq!(rt; apart.next_shorter(1), None);
+    Ok(())
+}
+
+const FORWARDS: &[&str] = &["a", "abc", "ab"];
+
+const BACKWARDS: &[&str] = &["s", "es"];
+
+const EMPTY: &[&str] = &[""];
+
+const APART: &[&str] = &["a", "b"];
+
+#[test]
+fn a_plain_table_finds_the_longest_and_then_the_next_shorter(rt: HostRuntime) -> Result<(), Fail> {
+    let alloc = rt.alloc();
+    let forwards: PlainTable = table_of(alloc, Mode::Forward, FORWARDS)?;
+    let backwards: PlainTable = table_of(alloc, Mode::Backward, BACKWARDS)?;
+    let empty: PlainTable = table_of(alloc, Mode::Forward, EMPTY)?;
+    let apart: PlainTable = table_of(alloc, Mode::Forward, APART)?;
+    asked(&rt, forwards, backwards, empty, apart)
+}
+
+#[test]
+fn a_linked_table_finds_the_longest_and_then_the_next_shorter(rt: HostRuntime) -> Result<(), Fail> {
+    let alloc = rt.alloc();
+    let forwards: LinkedTable = table_of(alloc, Mode::Forward, FORWARDS)?;
+    let backwards: LinkedTable = table_of(alloc, Mode::Backward, BACKWARDS)?;
+    let empty: LinkedTable = table_of(alloc, Mode::Forward, EMPTY)?;
+    let apart: LinkedTable = table_of(alloc, Mode::Forward, APART)?;
+    asked(&rt, forwards, backwards, empty, apart)
+}
+
+#[test]
+fn faults_of_runs_are_printed_with_their_numbers(rt: HostRuntime) -> Result<(), Fail> {
+    let alloc = rt.alloc();
+    let faults = [
+        (RunFault::Steps, "60 Steps"),
+        (RunFault::Depth, "61 Depth"),
+        (RunFault::Slice, "62 Slice"),
+        (RunFault::Cursor, "63 Cursor"),
+        (RunFault::Integer, "64 Integer"),
+        (RunFault::Divide, "65 Divide"),
+        (RunFault::TooLong, "66 TooLong"),
+    ];
+    for (fault, text) in faults {
+        assert_eq!(rt; format!(in alloc; "{fault}")?.as_str(), text);
+    }
+    assert_eq!(rt;
+        format!(in alloc; "{}", RunStop::MeterFull)?.as_str(),
+        "50 MeterFull"
+    );
+    Ok(())
+}

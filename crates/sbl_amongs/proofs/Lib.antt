@@ -1,0 +1,4 @@
+pub mod Putting
+pub mod Held
+pub mod Walking
+pub mod Swapped

@@ -1,0 +1,5 @@
+-- what the contracts of public calls rest on
+pub mod Amongs
+pub mod Replaced
+-- what the functions inside the crate promise each other: nothing in these need be believed
+pub mod Found

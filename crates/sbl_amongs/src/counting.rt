@@ -1,0 +1,96 @@
+//! Whether two amongs hold as many.
+
+ghost use Rattle.std.specs.Prelude.{◌≡◌, ◌<◌, ◌-◌, List, nat_eq};
+ghost use Rattle.sbl_tree.specs.Counts as spec;
+ghost use Rattle.sbl_tree.specs.Tree as trees;
+ghost use Rattle.sbl_tree.specs.View.{view_among, view_command, view_groups, view_others, view_row, view_rows};
+
+use sbl_tree::{Among, Command, Group, Joined, Row};
+
+/// A number less the count of amongs in a command; 0 where there are more.
+#[cycle(less)]
+fn less_command(command: &Command, number: u64) -> u64
+    ensures { result ≡ number - spec.count_amongs (view_command command.now) }
+{
+    match command {
+        Command::Bracket(rows) => less_rows(rows, number),
+        Command::Prefixed(_, inner) => less_command(inner, number),
+        Command::Counted(_, _, inner) => less_command(inner, number),
+        Command::SetLimit(limit, inner) => less_command(inner, less_command(limit, number)),
+        Command::Among(among) => less_among(among, number),
+        Command::Simple(_)
+        | Command::Literal(_)
+        | Command::Name(_)
+        | Command::Non {
+            with_minus: _,
+            name: _,
+        }
+        | Command::Move(_, _)
+        | Command::Named(_, _)
+        | Command::Splice(_, _)
+        | Command::Assign(_, _, _)
+        | Command::Compare(_, _, _)
+        | Command::CompareValues(_, _, _) => number,
+    }
+}
+
+/// Less the among itself, too.
+#[cycle(less)]
+fn less_among(among: &Among, number: u64) -> u64
+    ensures { result ≡ number - spec.count_in_among (view_among among.now) }
+{
+    let inside = number.saturating_sub(1);
+    let behind = match &among.starter {
+        None => inside,
+        Some(rows) => less_rows(rows, inside),
+    };
+    less_groups(&among.groups, behind)
+}
+
+#[cycle(less)]
+fn less_groups(groups: &Vec<Group>, number: u64) -> u64
+    ensures { (bare : List trees.Entry) → result ≡ number - spec.count_in_groups (view_groups groups.now.items bare) }
+{
+    let mut left = number;
+    for group in groups {
+        left = less_rows(&group.rows, left);
+    }
+    left
+}
+
+#[cycle(less)]
+fn less_rows(rows: &Vec<Row>, number: u64) -> u64
+    ensures { result ≡ number - spec.count_in_rows (view_rows rows.now.items) }
+{
+    let mut left = number;
+    for row in rows {
+        left = less_row(row, left);
+    }
+    left
+}
+
+#[cycle(less)]
+fn less_row(row: &Row, number: u64) -> u64
+    ensures { result ≡ number - spec.count_amongs (view_row row.now).0 - spec.count_in_others (view_row row.now).1 }
+{
+    less_others(&row.others, less_command(&row.first, number))
+}
+
+#[cycle(less)]
+fn less_others(others: &Vec<Joined>, number: u64) -> u64
+    ensures { result ≡ number - spec.count_in_others (view_others others.now.items) }
+{
+    let mut left = number;
+    for joined in others {
+        left = less_command(&joined.command, left);
+    }
+    left
+}
+
+/// Whether two amongs hold as many, those inside and themselves counted. The first holds fewer than 2^64 - 1.
+pub fn has_as_many_amongs(among: &Among, other: &Among) -> bool
+    requires { spec.count_in_among (view_among among.now) < 18446744073709551615 }
+    ensures { result ≡ nat_eq (spec.count_in_among (view_among among.now)) (spec.count_in_among (view_among other.now)) }
+{
+    less_among(among, u64::MAX) == less_among(other, u64::MAX)
+}

@@ -1,0 +1,12 @@
+//! The amongs of a routine's body: the one with a number, how many an among holds, and a body with another in the place of one.
+#![tactic(auto)]
+
+mod counting;
+mod finding;
+mod laws;
+mod replacing;
+
+pub use counting::has_as_many_amongs;
+pub use finding::nth_among;
+pub use laws::one_is_replaced;
+pub use replacing::put_in_place;

@@ -1,0 +1,194 @@
+//! The amongs of a tree, in the order of the word `among`, and copies in which another stands in the place of one.
+
+ghost use Rattle.std.specs.Prelude.{◌≡◌, ◌-◌, List, IfOk};
+ghost use Rattle.sbl_tree.specs.Counts.{count_amongs, count_in_among, count_in_groups, count_in_others, count_in_rows};
+ghost use Rattle.sbl_amongs.specs.Amongs.{FitsAt, amongs_of_body, put_in_among, put_in_body};
+ghost use Rattle.sbl_amongs.specs.Amongs as spec;
+ghost use Rattle.sbl_tree.specs.Places.{AreShallow};
+ghost use Rattle.sbl_tree.specs.Texts.{body, places_in};
+ghost use Rattle.sbl_tree.specs.View.{view_among, view_command, view_groups, view_others, view_row, view_rows};
+ghost use Rattle.sbl_tree.specs.Tree as trees;
+
+use sbl_tree::{
+    Among, Command, Group, Joined, Row, copy_among, copy_command, copy_entries, copy_entry,
+    copy_expression,
+};
+use std::alloc::{AllocError, Global};
+
+/// A copy with `among` in the place of the `at`-th among, counted from 1, and `at` less the number of amongs.
+#[cycle(put_among)]
+fn put_in_command(
+    alloc: Global,
+    command: &Command,
+    at: u64,
+    among: &Among,
+) -> Result<(Command, u64), AllocError>
+    ensures put { IfOk result (λ x. view_command x.0 ≡ spec.put_among (view_command command.now) at (view_among among.now)) }
+    ensures rest { IfOk result (λ x. x.1 ≡ at - count_amongs (view_command command.now)) }
+{
+    match command {
+        Command::Bracket(rows) => {
+            let (rows, rest) = put_in_rows(alloc, rows, at, among)?;
+            Ok((Command::Bracket(rows), rest))
+        }
+        Command::Prefixed(prefix, inner) => {
+            let (inner, rest) = put_in_command(alloc, inner, at, among)?;
+            Ok((Command::Prefixed(*prefix, Box::new(alloc, inner)?), rest))
+        }
+        Command::Counted(count, times, inner) => {
+            let times = copy_expression(alloc, times)?;
+            let (inner, rest) = put_in_command(alloc, inner, at, among)?;
+            Ok((
+                Command::Counted(*count, times, Box::new(alloc, inner)?),
+                rest,
+            ))
+        }
+        Command::SetLimit(limit, inner) => {
+            let (limit, rest) = put_in_command(alloc, limit, at, among)?;
+            let (inner, rest) = put_in_command(alloc, inner, rest, among)?;
+            Ok((
+                Command::SetLimit(Box::new(alloc, limit)?, Box::new(alloc, inner)?),
+                rest,
+            ))
+        }
+        Command::Among(one) => {
+            let (one, rest) = put_in_one(alloc, one, at, among)?;
+            Ok((Command::Among(one), rest))
+        }
+        Command::Simple(_)
+        | Command::Literal(_)
+        | Command::Name(_)
+        | Command::Non {
+            with_minus: _,
+            name: _,
+        }
+        | Command::Move(_, _)
+        | Command::Named(_, _)
+        | Command::Splice(_, _)
+        | Command::Assign(_, _, _)
+        | Command::Compare(_, _, _)
+        | Command::CompareValues(_, _, _) => Ok((copy_command(alloc, command)?, at)),
+    }
+}
+
+#[cycle(put_among)]
+fn put_in_one(
+    alloc: Global,
+    one: &Among,
+    at: u64,
+    among: &Among,
+) -> Result<(Among, u64), AllocError>
+    ensures put { IfOk result (λ x. view_among x.0 ≡ put_in_among (view_among one.now) at (view_among among.now)) }
+    ensures rest { IfOk result (λ x. x.1 ≡ at - count_in_among (view_among one.now)) }
+{
+    if at == 1 {
+        return Ok((copy_among(alloc, among)?, 0));
+    }
+    let inside = at.saturating_sub(1);
+    let (starter, rest) = match &one.starter {
+        None => (None, inside),
+        Some(rows) => {
+            let (rows, rest) = put_in_rows(alloc, rows, inside, among)?;
+            (Some(rows), rest)
+        }
+    };
+    let (groups, rest) = put_in_groups(alloc, &one.groups, rest, among)?;
+    let bare = copy_entries(alloc, &one.bare)?;
+    Ok((
+        Among {
+            starter,
+            groups,
+            bare,
+        },
+        rest,
+    ))
+}
+
+#[cycle(put_among)]
+fn put_in_groups(
+    alloc: Global,
+    groups: &Vec<Group>,
+    at: u64,
+    among: &Among,
+) -> Result<(Vec<Group>, u64), AllocError>
+    ensures put { IfOk result (λ x. (bare : List trees.Entry) → view_groups x.0.items bare ≡ spec.put_in_groups (view_groups groups.now.items bare) at (view_among among.now)) }
+    ensures rest { IfOk result (λ x. (bare : List trees.Entry) → x.1 ≡ at - count_in_groups (view_groups groups.now.items bare)) }
+{
+    let mut copies = Vec::new(alloc);
+    let mut rest = at;
+    for group in groups {
+        let first = copy_entry(alloc, &group.first)?;
+        let others = copy_entries(alloc, &group.others)?;
+        let (rows, after) = put_in_rows(alloc, &group.rows, rest, among)?;
+        copies.push(Group {
+            first,
+            others,
+            rows,
+        })?;
+        rest = after;
+    }
+    Ok((copies, rest))
+}
+
+#[cycle(put_among)]
+fn put_in_rows(
+    alloc: Global,
+    rows: &Vec<Row>,
+    at: u64,
+    among: &Among,
+) -> Result<(Vec<Row>, u64), AllocError>
+    ensures put { IfOk result (λ x. view_rows x.0.items ≡ spec.put_in_rows (view_rows rows.now.items) at (view_among among.now)) }
+    ensures rest { IfOk result (λ x. x.1 ≡ at - count_in_rows (view_rows rows.now.items)) }
+{
+    let mut copies = Vec::new(alloc);
+    let mut rest = at;
+    for row in rows {
+        let (copy, after) = put_in_row(alloc, row, rest, among)?;
+        copies.push(copy)?;
+        rest = after;
+    }
+    Ok((copies, rest))
+}
+
+#[cycle(put_among)]
+fn put_in_row(alloc: Global, row: &Row, at: u64, among: &Among) -> Result<(Row, u64), AllocError>
+    ensures put { IfOk result (λ x. view_row x.0 ≡ put_in_body (view_row row.now) at (view_among among.now)) }
+    ensures rest { IfOk result (λ x. x.1 ≡ at - count_amongs (view_row row.now).0 - count_in_others (view_row row.now).1) }
+{
+    let (first, rest) = put_in_command(alloc, &row.first, at, among)?;
+    let (others, rest) = put_in_others(alloc, &row.others, rest, among)?;
+    Ok((Row { first, others }, rest))
+}
+
+#[cycle(put_among)]
+fn put_in_others(
+    alloc: Global,
+    others: &Vec<Joined>,
+    at: u64,
+    among: &Among,
+) -> Result<(Vec<Joined>, u64), AllocError>
+    ensures put { IfOk result (λ x. view_others x.0.items ≡ spec.put_in_others (view_others others.now.items) at (view_among among.now)) }
+    ensures rest { IfOk result (λ x. x.1 ≡ at - count_in_others (view_others others.now.items)) }
+{
+    let mut copies = Vec::new(alloc);
+    let mut rest = at;
+    for joined in others {
+        let (command, after) = put_in_command(alloc, &joined.command, rest, among)?;
+        copies.push(Joined {
+            joiner: joined.joiner,
+            command,
+        })?;
+        rest = after;
+    }
+    Ok((copies, rest))
+}
+
+/// A copy of a routine's body with `among` in the place of the `at`-th, counted from 1 in the order of the word `among`.
+/// Where there is none, as for 0, it is a plain copy. It is nowhere too deep where the body is not and `among` fits.
+pub fn put_in_place(alloc: Global, row: &Row, at: u64, among: &Among) -> Result<Row, AllocError>
+    ensures put { IfOk result (λ r. view_row r ≡ put_in_body (view_row row.now) at (view_among among.now)) }
+    ensures shallow { IfOk result (λ r. AreShallow (places_in body (view_row row.now)) → FitsAt at (amongs_of_body (view_row row.now)) (view_among among.now) → AreShallow (places_in body (view_row r))) }
+{
+    let (copy, _) = put_in_row(alloc, row, at, among)?;
+    Ok(copy)
+}

@@ -1,0 +1,396 @@
+//! What is asked of a script beside its grammar.
+
+ghost use Rattle.std.specs.Prelude.{◌≡◌, ℕ, ◌∷◌, [], ◌++◌, List, not, is_some, ◌||◌, ◌+◌, ◌<◌, length, drop, nat_eq, ◌&&◌, ◌⊎◌, IfOk, IfErr, OnOk, if◌then◌else◌, Some, None, ◌==◌};
+ghost use Rattle.sbl_checks.specs.Checks as spec;
+ghost use Rattle.sbl_checks.specs.Occurrences.{Occurrence as PlainOccurrence, occurrences_of as spec_occurrences};
+ghost use Rattle.sbl_checks.specs.OccurrenceView.{view_notice, view_occurrence, view_occurrences};
+ghost use Rattle.sbl_checks.specs.Met.{at_name, has_string, HasPlaces, HasMet, Notes, Finds};
+ghost use Rattle.std.specs.Option.{option_or};
+ghost use Rattle.sbl_tree.specs.View.{view_items};
+ghost use Rattle.std.specs.Str.{bytes_eq};
+
+use crate::bodies::body_in;
+use crate::noting::occurrences_of;
+use crate::occurrences::{Notice, Occurrence, Site, Use};
+use sbl_text::ScriptFault;
+use sbl_tree::{DeclarationKind, Item, Mode, Row};
+use std::alloc::{AllocError, Global};
+use std::collections::{BTreeMap, BTreeSet};
+
+fn is_routine(kind: DeclarationKind) -> bool
+    ensures { result ≡ spec.is_routine kind }
+{
+    matches!(kind, DeclarationKind::Routines | DeclarationKind::Externals)
+}
+
+fn is_grouping(kind: DeclarationKind) -> bool
+    ensures { result ≡ spec.is_grouping kind }
+{
+    matches!(kind, DeclarationKind::Groupings)
+}
+
+/// Whether a name of this kind may be used so.
+fn may_be(how: Use, kind: DeclarationKind) -> bool
+    ensures { result ≡ spec.may_be how kind }
+{
+    match how {
+        Use::Command => !matches!(kind, DeclarationKind::Integers),
+        Use::Condition => is_routine(kind),
+        Use::Excluded | Use::Term => is_grouping(kind),
+        Use::Boolean => matches!(kind, DeclarationKind::Booleans),
+        Use::Integer => matches!(kind, DeclarationKind::Integers),
+        Use::String => matches!(kind, DeclarationKind::Strings),
+    }
+}
+
+fn is_mode(wanted: Mode, mode: Mode) -> bool
+    ensures { result ≡ spec.is_mode wanted mode }
+{
+    match wanted {
+        Mode::Forward => matches!(mode, Mode::Forward),
+        Mode::Backward => matches!(mode, Mode::Backward),
+    }
+}
+
+/// Whether there is a definition, in an item before this.
+fn is_earlier(item: usize, definition: Option<Site>) -> bool
+    ensures { result ≡ spec.is_earlier item definition }
+{
+    match definition {
+        None => false,
+        Some(site) => site.item < item,
+    }
+}
+
+/// Whether there is a definition, in the other mode.
+fn is_in_other(mode: Mode, definition: Option<Site>) -> bool
+    ensures { result ≡ spec.is_in_other mode definition }
+{
+    match definition {
+        None => false,
+        Some(site) => !is_mode(mode, site.mode),
+    }
+}
+
+/// Whether a use lacks its definition.
+fn lacks_definition(how: Use, item: usize, kind: DeclarationKind, definition: Option<Site>) -> bool
+    ensures { result ≡ spec.lacks_definition how item (Some kind) definition }
+{
+    match how {
+        Use::Term => !is_earlier(item, definition),
+        _ => (is_routine(kind) || is_grouping(kind)) && definition.is_none(),
+    }
+}
+
+/// Whether a name of this kind may be defined so.
+fn may_define(wants_grouping: bool, kind: DeclarationKind) -> bool
+    ensures { result ≡ spec.may_define wants_grouping kind }
+{
+    if wants_grouping {
+        is_grouping(kind)
+    } else {
+        is_routine(kind)
+    }
+}
+
+/// The fault of a name in a definition, with what is known of the name.
+fn fault_of_definition(
+    item: usize,
+    wants_grouping: bool,
+    kind: Option<DeclarationKind>,
+    definition: Option<Site>,
+) -> Option<ScriptFault>
+    ensures { result ≡ spec.fault_of_definition item wants_grouping kind definition }
+{
+    let Some(kind) = kind else {
+        return Some(ScriptFault::Undeclared { item });
+    };
+    if !may_define(wants_grouping, kind) {
+        return Some(ScriptFault::WrongKind { item });
+    }
+    if is_earlier(item, definition) {
+        return Some(ScriptFault::DefinedTwice { item });
+    }
+    None
+}
+
+/// The fault of a name that is used, with what is known of the name.
+fn fault_of_use(
+    site: Site,
+    how: Use,
+    kind: Option<DeclarationKind>,
+    definition: Option<Site>,
+) -> Option<ScriptFault>
+    ensures { result ≡ spec.fault_of_use site how kind definition }
+{
+    let item = site.item;
+    let Some(kind) = kind else {
+        return Some(ScriptFault::Undeclared { item });
+    };
+    if !may_be(how, kind) {
+        return Some(ScriptFault::WrongKind { item });
+    }
+    if lacks_definition(how, item, kind, definition) {
+        return Some(ScriptFault::Undefined { item });
+    }
+    if is_routine(kind) && is_in_other(site.mode, definition) {
+        return Some(ScriptFault::WrongMode { item });
+    }
+    None
+}
+
+/// This fault where the condition holds.
+fn fault_if(condition: bool, fault: ScriptFault) -> Option<ScriptFault>
+    ensures { result ≡ (if condition then Some fault else None) }
+{
+    if condition { Some(fault) } else { None }
+}
+
+/// The fault of an among.
+fn fault_of_among(item: usize, is_started_twice: bool, is_empty: bool) -> Option<ScriptFault>
+    ensures { result ≡ (if is_started_twice then Some (ScriptFault.Starter item) else if is_empty then Some (ScriptFault.EmptyAmong item) else None) }
+{
+    if is_started_twice {
+        return Some(ScriptFault::Starter { item });
+    }
+    fault_if(is_empty, ScriptFault::EmptyAmong { item })
+}
+
+/// Whether the first among, substring or end of a region is an among of this mode.
+fn is_followed(mode: Mode, occurrences: &[Occurrence]) -> bool
+    ensures { result ≡ spec.is_followed mode (view_occurrences occurrences.now) }
+{
+    for occurrence in occurrences {
+        match occurrence.notice {
+            Notice::Among {
+                has_starter: _,
+                is_empty: _,
+            } => return is_mode(mode, occurrence.site.mode),
+            Notice::Substring | Notice::RegionEnd => return false,
+            _ => {}
+        }
+    }
+    false
+}
+
+/// What was met among some occurrences.
+#[derive(Drop)]
+pub struct Met<'a> {
+    /// What each name is declared as.
+    pub kinds: BTreeMap<&'a str, DeclarationKind>,
+    /// The strings of each among, with the item and the number of the among in it.
+    pub strings: BTreeSet<(usize, usize, &'a [char])>,
+    /// Whether a `substring` waits for its `among`.
+    pub waits: bool,
+}
+
+fn kind_of(met: &Met, name: &str) -> Option<DeclarationKind>
+    ensures { result ≡ at_name met.now.kinds name.now }
+{
+    met.kinds.get(name).copied()
+}
+
+fn definition_of(sites: &BTreeMap<&str, Site>, name: &str) -> Option<Site>
+    ensures { result ≡ at_name sites.now name.now }
+{
+    sites.get(name).copied()
+}
+
+/// The fault of an occurrence, with the occurrences behind it, with the sites of the definitions, and with what was met before.
+fn fault_at<'a>(
+    occurrence: &Occurrence<'a>,
+    after: &[Occurrence<'a>],
+    sites: &BTreeMap<&'a str, Site>,
+    met: &Met<'a>,
+) -> Option<ScriptFault>
+    ensures { (all before : List PlainOccurrence) → HasPlaces sites.now all → HasMet met.now before → result ≡ spec.fault_at all before (view_occurrence occurrence.now) (view_occurrences after.now) }
+{
+    let site = occurrence.site;
+    let item = site.item;
+    match occurrence.notice {
+        Notice::Declares(_, name) => fault_if(
+            met.kinds.contains_key(name),
+            ScriptFault::DeclaredTwice { item },
+        ),
+        Notice::DefinesRoutine(name) => fault_of_definition(
+            item,
+            false,
+            kind_of(met, name),
+            definition_of(sites, name),
+        ),
+        Notice::DefinesGrouping(name) => fault_of_definition(
+            item,
+            true,
+            kind_of(met, name),
+            definition_of(sites, name),
+        ),
+        Notice::Uses(how, name) => fault_of_use(
+            site,
+            how,
+            kind_of(met, name),
+            definition_of(sites, name),
+        ),
+        Notice::Substring => fault_if(
+            !is_followed(site.mode, after),
+            ScriptFault::Substring { item },
+        ),
+        Notice::Among {
+            has_starter,
+            is_empty,
+        } => fault_of_among(item, has_starter && met.waits, is_empty),
+        Notice::String(among, text) => fault_if(
+            met.strings.contains(&(item, among, text)),
+            ScriptFault::RepeatedString { item },
+        ),
+        Notice::Backwards => fault_if(
+            is_mode(Mode::Backward, site.mode),
+            ScriptFault::NestedBackwards { item },
+        ),
+        Notice::RegionEnd => None,
+    }
+}
+
+/// Keeps a value for a name that has none.
+fn keep_first<'a, T: Copy>(
+    map: &mut BTreeMap<&'a str, T>,
+    name: &'a str,
+    value: T,
+) -> Result<(), AllocError>
+    ensures { OnOk result ((n : List ℕ) → at_name map.new n ≡ option_or (at_name map.old n) (if bytes_eq n name.now then Some value else None)) }
+{
+    if !map.contains_key(name) {
+        map.insert(name, value)?;
+    }
+    Ok(())
+}
+
+/// Keeps a string of an among of an item.
+fn keep_string<'a>(
+    strings: &mut BTreeSet<(usize, usize, &'a [char])>,
+    item: usize,
+    among: usize,
+    text: &'a [char],
+) -> Result<(), AllocError>
+    ensures { OnOk result ((i k : ℕ) (t : List ℕ) → has_string strings.new i k t ≡ (has_string strings.old i k t || ((nat_eq k among && bytes_eq t text.now) && nat_eq i item))) }
+{
+    strings.insert((item, among, text))?;
+    Ok(())
+}
+
+/// Notes what an occurrence says besides what was met.
+fn note<'a>(occurrence: &Occurrence<'a>, met: &mut Met<'a>) -> Result<(), AllocError>
+    ensures { OnOk result (Notes met.old met.new (view_occurrence occurrence.now)) }
+{
+    match occurrence.notice {
+        Notice::Declares(kind, name) => keep_first(&mut met.kinds, name, kind)?,
+        Notice::String(among, text) => keep_string(
+            &mut met.strings,
+            occurrence.site.item,
+            among,
+            text,
+        )?,
+        Notice::Substring => met.waits = true,
+        Notice::RegionEnd => met.waits = false,
+        Notice::Among {
+            has_starter: _,
+            is_empty: _,
+        } => met.waits = false,
+        _ => {}
+    }
+    Ok(())
+}
+
+/// Notes where an occurrence defines a name.
+fn note_definition<'a>(
+    occurrence: &Occurrence<'a>,
+    sites: &mut BTreeMap<&'a str, Site>,
+) -> Result<(), AllocError>
+    ensures { OnOk result ((n : List ℕ) → at_name sites.new n ≡ option_or (at_name sites.old n) (spec.defined_at n (view_occurrence occurrence.now))) }
+{
+    match occurrence.notice {
+        Notice::DefinesRoutine(name) | Notice::DefinesGrouping(name) => keep_first(
+            sites,
+            name,
+            occurrence.site,
+        ),
+        _ => Ok(()),
+    }
+}
+
+/// Where each name is defined first.
+fn sites_of<'a>(
+    alloc: Global,
+    occurrences: &[Occurrence<'a>],
+) -> Result<BTreeMap<&'a str, Site>, AllocError>
+    ensures { IfOk result (λ sites. HasPlaces sites (view_occurrences occurrences.now)) }
+{
+    let mut sites = BTreeMap::new(alloc);
+    for occurrence in occurrences {
+        note_definition(occurrence, &mut sites)?;
+    }
+    Ok(sites)
+}
+
+/// Nothing is met yet.
+fn met_nothing<'a>(alloc: Global) -> Met<'a>
+    ensures { HasMet result [] }
+{
+    Met {
+        kinds: BTreeMap::new(alloc),
+        strings: BTreeSet::new(alloc),
+        waits: false,
+    }
+}
+
+/// The occurrences behind one.
+fn behind<'a, 'b>(occurrences: &'b [Occurrence<'a>], index: usize) -> &'b [Occurrence<'a>]
+    requires { index < length occurrences.now }
+    ensures { result.now ≡ drop (index + 1) occurrences.now }
+{
+    &occurrences[index + 1..]
+}
+
+/// The checks of all occurrences, in their order.
+fn check_occurrences<'a>(
+    occurrences: &[Occurrence<'a>],
+    sites: &BTreeMap<&'a str, Site>,
+    met: &mut Met<'a>,
+) -> Result<(), ScriptFault>
+    requires sites { HasPlaces sites.now (view_occurrences occurrences.now) }
+    requires met { HasMet met.old [] }
+    ensures fault { Finds result (spec.fault_behind (view_occurrences occurrences.now) [] (view_occurrences occurrences.now)) }
+    ensures met { OnOk result (HasMet met.new (view_occurrences occurrences.now)) }
+{
+    for index in 0..occurrences.len() {
+        let occurrence = &occurrences[index];
+        if let Some(fault) = fault_at(occurrence, behind(occurrences, index), sites, met) {
+            return Err(fault);
+        }
+        note(occurrence, met)?;
+    }
+    Ok(())
+}
+
+/// All checks of a script, whose external is asked for.
+///
+/// Answers the first fault in text order; that of the external comes last. Besides `OutOfMemory` where memory was refused.
+pub fn check(alloc: Global, items: &[Item], external: &str) -> Result<(), ScriptFault>
+    ensures well_declared { IfOk result (λ _. spec.WellDeclared (view_items items.now) external.now) }
+    ensures fault { IfErr result (λ f. (f ≡ ScriptFault.OutOfMemory) ⊎ (spec.fault_of (view_items items.now) external.now ≡ Some f)) }
+{
+    let occurrences = occurrences_of(alloc, items)?;
+    let sites = sites_of(alloc, &occurrences)?;
+    let mut met = met_nothing(alloc);
+    check_occurrences(&occurrences, &sites, &mut met)?;
+    check_external(kind_of(&met, external), body_in(items, external))
+}
+
+/// The external is declared as such, and has a body.
+fn check_external(kind: Option<DeclarationKind>, body: Option<&Row>) -> Result<(), ScriptFault>
+    ensures { Finds result (if spec.is_external kind && is_some body.entry then None else Some ScriptFault.NoExternal) }
+{
+    match kind {
+        Some(DeclarationKind::Externals) if body.is_some() => Ok(()),
+        _ => Err(ScriptFault::NoExternal),
+    }
+}

@@ -1,0 +1,80 @@
+//! The occurrences that were noted so far.
+
+ghost use Rattle.std.specs.Prelude.{◌≡◌, [], List, ◌+◌, OnOk, ◌≤◌, length};
+ghost use Rattle.sbl_checks.specs.Occurrences as spec;
+ghost use Rattle.sbl_checks.specs.OccurrenceView.{view_notice, view_occurrences};
+
+use crate::occurrences::{Notice, Occurrence, Site};
+use std::alloc::{AllocError, Global};
+use std::marker::Model;
+
+/// The occurrences so far, with how many amongs the routine that was defined last has among them.
+#[derive(Drop)]
+pub struct SoFar<'a> {
+    occurrences: Vec<Occurrence<'a>>,
+    amongs: usize,
+}
+
+impl<'a> Model for SoFar<'a> {
+    ghost use Rattle.std.specs.Prelude.{◌≡◌, List};
+    ghost use Rattle.sbl_checks.specs.declared.occurrences.Occurrence.{Occurrence};
+    ghost use Rattle.sbl_checks.specs.Occurrences.{amongs_in};
+    ghost use Rattle.sbl_checks.specs.OccurrenceView.{view_occurrences};
+
+    ghost Value = { List Occurrence };
+
+    ghost view = { λ s. s.occurrences.items };
+
+    ghost invariant = { λ s. s.amongs ≡ amongs_in (view_occurrences s.occurrences.items) 0 };
+}
+
+impl<'a> SoFar<'a> {
+    /// Nothing yet. It takes no memory.
+    pub fn new(alloc: Global) -> SoFar<'a>
+        ensures { result ≡ [] }
+    {
+        SoFar {
+            occurrences: Vec::new(alloc),
+            amongs: 0,
+        }
+    }
+
+    /// The number of an among that comes next, in its item.
+    pub fn next_among(&self) -> usize
+        ensures { result ≡ spec.amongs_in (view_occurrences self.now) 0 + 1 }
+    {
+        let _most = self.occurrences.as_slice().len() + 1;
+        self.amongs + 1
+    }
+
+    /// Puts an occurrence behind the others.
+    pub fn put(&mut self, notice: Notice<'a>, site: Site) -> Result<(), AllocError>
+        ensures { OnOk result (view_occurrences self.new ≡ spec.put (view_notice notice.entry) site (view_occurrences self.old)) }
+    {
+        let next = self.next_among();
+        self.occurrences.push(Occurrence { site, notice })?;
+        self.amongs = amongs_after(notice, self.amongs, next);
+        Ok(())
+    }
+
+    /// The occurrences.
+    pub fn into_vec(self) -> Vec<Occurrence<'a>>
+        ensures { result.items ≡ self.entry }
+    {
+        self.occurrences
+    }
+}
+
+/// How many amongs a routine has behind an occurrence, which so many stand before, and the number that comes next.
+fn amongs_after(notice: Notice, amongs: usize, next: usize) -> usize
+    ensures { next ≡ amongs + 1 → result ≡ spec.amongs_after (view_notice notice.entry) amongs }
+{
+    match notice {
+        Notice::DefinesRoutine(_) => 0,
+        Notice::Among {
+            has_starter: _,
+            is_empty: _,
+        } => next,
+        _ => amongs,
+    }
+}

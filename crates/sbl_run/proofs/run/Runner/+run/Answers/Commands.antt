@@ -1,0 +1,282 @@
+-- Commands that hold others, but prefixes: each does what the definition of a run says.
+use Rattle.std.proofs.Common.{◌≡◌, map, suc, true, false, Err, sym, ap, ◌∙◌, rules}
+use Rattle.sbl_run.specs.Kept.{Follows}
+use Rattle.sbl_run.proofs.Arms.{by_fault, stops_at, sequence_does, not_does, follows_at, repeat_does, loop_does, atleast_does, goto_does, gopast_does, setlimit_does, limited_signals, limited_halts, search_does, among_does, after_halts}
+use Rattle.sbl_run.proofs.Rows.{row_does}
+use Rattle.sbl_run.specs.Rows.{row_runs}
+use Rattle.sbl_run.specs.State.{State, Ending, Signals, after, then_on, saved_cursor, put_back}
+use Rattle.sbl_program.specs.declared.node.Node.{Node}
+use Rattle.sbl_program.specs.ProgramOf.{program_of, view_joined, view_node, view_nodes, view_number}
+use Rattle.sbl_run.specs.Run.{runs, all_run, group_runs, calls, turns, times, seeks, count_of, limits, limited, limit_here, limit_back}
+use Rattle.sbl_run.specs.Numbers.{value, given}
+use Rattle.sbl_run.specs.Search.{searched, search_all, touch_among, choice}
+use Rattle.sbl_run.proofs.run.Runner.+run.Goals as goal
+
+pub run_command-returns-in-Repeat-clause-follows : goal.run_command-returns-in-Repeat-clause-follows
+run_command-returns-in-Repeat-clause-follows g t c =
+    let T = g.T.Tables.listed c.args.self.now.tables.now in
+    let P = program_of T c.args.self.now.program.now in
+    let levels = c.args.self.now.levels in
+    let D = λ (n : Node). runs P levels (view_node T n) in
+    let a = c.in-Repeat in
+    let m = c.args.self.now.mode in
+    let s = c.args.state.now in
+    let q = c.pay.new.self in
+    let p = ap (λ n. D n m s) a.is ∙ repeat_does T P levels a.inner m s ∙ ap (λ r. then_on r (λ q. turns (suc q.steps) (D a.inner.value) m q)) c.in_ok-pay.ensures in
+    follows_at c.run_turns.result c.run_turns.new.state _ _ (p ∙ ap (λ n. turns (suc q.steps) (D n) m q) (sym c.deref-in-Repeat.ensures)) c.run_turns.ensures.follows
+
+pub run_command-returns-in-Loop-clause-follows : goal.run_command-returns-in-Loop-clause-follows
+run_command-returns-in-Loop-clause-follows g t c =
+    let T = g.T.Tables.listed c.args.self.now.tables.now in
+    let P = program_of T c.args.self.now.program.now in
+    let levels = c.args.self.now.levels in
+    let D = λ (n : Node). runs P levels (view_node T n) in
+    let a = c.in-Loop in
+    let m = c.args.self.now.mode in
+    let s = c.args.state.now in
+    let q = c.pay.new.self in
+    let p = ap (λ n. D n m s) a.is ∙ loop_does T P levels a.count a.inner m s ∙ ap (λ r. then_on r (λ q. given (value (view_number a.count) m q) q (λ z. times (count_of z) (D a.inner.value) m q))) c.in_ok-pay.ensures in
+    follows_at c.run_times.result c.run_times.new.state _ _ (p ∙ ap (λ n. given (value (view_number a.count) m q) q (λ z. times (count_of z) (D n) m q)) (sym c.deref-in-Loop.ensures)) c.run_times.ensures.follows
+
+pub run_command-returns-in_ok-touch_among-in-Search-clause-follows : goal.run_command-returns-in_ok-touch_among-in-Search-clause-follows
+run_command-returns-in_ok-touch_among-in-Search-clause-follows g t c =
+    let T = g.T.Tables.listed c.args.self.now.tables.now in
+    let P = program_of T c.args.self.now.program.now in
+    let levels = c.args.self.now.levels in
+    let D = λ (n : Node). runs P levels (view_node T n) in
+    let a = c.in-Search in
+    let m = c.args.self.now.mode in
+    let s = c.args.state.now in
+    let q = c.pay.new.self in
+    let p = ap (λ n. D n m s) a.is ∙ search_does T P levels a.among a.table a.entries m s ∙ ap (λ r. then_on r (search_all (calls P levels) a.among a.entries.items (T a.table) m)) c.in_ok-pay.ensures in
+    let d = ap (λ es. searched (calls P levels) a.among es (T a.table) m (touch_among a.among q)) (sym c.deref-in-Search.ensures.value) in
+    let u = ap (searched (calls P levels) a.among c.deref-in-Search.result.now (T a.table) m) (sym c.in_ok-touch_among-in-Search.ensures) in
+    follows_at c.run_search.result c.run_search.new.state _ _ (p ∙ d ∙ u) c.run_search.ensures.follows
+
+pub run_command-returns-in_err-run_times-in-AtLeast-clause-follows : goal.run_command-returns-in_err-run_times-in-AtLeast-clause-follows
+run_command-returns-in_err-run_times-in-AtLeast-clause-follows g t c =
+    let T = g.T.Tables.listed c.args.self.now.tables.now in
+    let P = program_of T c.args.self.now.program.now in
+    let levels = c.args.self.now.levels in
+    let D = λ (n : Node). runs P levels (view_node T n) in
+    let m = c.args.self.now.mode in
+    let s = c.args.state.now in
+    let a = c.in-AtLeast in
+    let q = c.pay.new.self in
+    let new = c.run_times-in-AtLeast.new.state in
+    let on_t = λ (t : State). turns (suc t.steps) (D a.inner.value) m t in
+    let on_f = λ (f : State). Signals false f in
+    let p = ap (λ n. D n m s) a.is ∙ atleast_does T P levels a.count a.inner m s ∙ ap (λ r. then_on r (λ q. after (given (value (view_number a.count) m q) q (λ z. times (count_of z) (D a.inner.value) m q)) on_t on_f)) c.in_ok-pay.ensures in
+    let d = ap (λ n. after (given (value (view_number a.count) m q) q (λ z. times (count_of z) (D n) m q)) on_t on_f) (sym c.deref-in-AtLeast.ensures) in
+    let halt = c.in_err-run_times-in-AtLeast.field-0.0 in
+    let r : c.from_residual-in_err-run_times-in-AtLeast.result ≡ Err halt = search rules in
+    let h : Follows (Err halt) new (given (value (view_number a.count) m q) q (λ z. times (count_of z) (D c.deref-in-AtLeast.result.now) m q)) = search rules in
+    rw r (follows_at (Err halt) new _ _ (p ∙ d) (after_halts halt new _ on_t on_f h))
+
+pub run_command-returns-then-not-branch-3-clause-follows : goal.run_command-returns-then-not-branch-3-clause-follows
+run_command-returns-then-not-branch-3-clause-follows g t c =
+    let T = g.T.Tables.listed c.args.self.now.tables.now in
+    let P = program_of T c.args.self.now.program.now in
+    let levels = c.args.self.now.levels in
+    let D = λ (n : Node). runs P levels (view_node T n) in
+    let a = c.in-AtLeast in
+    let m = c.args.self.now.mode in
+    let s = c.args.state.now in
+    let q = c.pay.new.self in
+    let rest = λ (e : Ending). after e (λ t. turns (suc t.steps) (D a.inner.value) m t) (Signals false) in
+    let p = ap (λ n. D n m s) a.is ∙ atleast_does T P levels a.count a.inner m s ∙ ap (λ r. then_on r (λ q. rest (given (value (view_number a.count) m q) q (λ z. times (count_of z) (D a.inner.value) m q)))) c.in_ok-pay.ensures in
+    let d = ap (λ n. rest (given (value (view_number a.count) m q) q (λ z. times (count_of z) (D n) m q))) (sym c.deref-in-AtLeast.ensures) in
+    let b : c.in_ok-run_times-in-AtLeast.field-0 ≡ false = search rules in
+    p ∙ d ∙ ap rest (c.in_ok-run_times-in-AtLeast.ensures.follows ∙ ap (λ v. Signals v c.run_times-in-AtLeast.new.state) b)
+
+pub run_command-returns-else-not-branch-3-clause-follows : goal.run_command-returns-else-not-branch-3-clause-follows
+run_command-returns-else-not-branch-3-clause-follows g t c =
+    let T = g.T.Tables.listed c.args.self.now.tables.now in
+    let P = program_of T c.args.self.now.program.now in
+    let levels = c.args.self.now.levels in
+    let D = λ (n : Node). runs P levels (view_node T n) in
+    let a = c.in-AtLeast in
+    let m = c.args.self.now.mode in
+    let s = c.args.state.now in
+    let q = c.pay.new.self in
+    let u = c.run_times-in-AtLeast.new.state in
+    let rest = λ (e : Ending). after e (λ t. turns (suc t.steps) (D a.inner.value) m t) (Signals false) in
+    let p = ap (λ n. D n m s) a.is ∙ atleast_does T P levels a.count a.inner m s ∙ ap (λ r. then_on r (λ q. rest (given (value (view_number a.count) m q) q (λ z. times (count_of z) (D a.inner.value) m q)))) c.in_ok-pay.ensures in
+    let d = ap (λ n. rest (given (value (view_number a.count) m q) q (λ z. times (count_of z) (D n) m q))) (sym c.deref-in-AtLeast.ensures) in
+    let b : c.in_ok-run_times-in-AtLeast.field-0 ≡ true = search rules in
+    let w = p ∙ d ∙ ap rest (c.in_ok-run_times-in-AtLeast.ensures.follows ∙ ap (λ v. Signals v u) b) ∙ ap (λ n. turns (suc u.steps) (D n) m u) (sym c.deref-in-AtLeast-2.ensures) in
+    follows_at c.run_turns-in-AtLeast.result c.run_turns-in-AtLeast.new.state _ _ w c.run_turns-in-AtLeast.ensures.follows
+
+pub run_command-returns-in-Goto-clause-follows : goal.run_command-returns-in-Goto-clause-follows
+run_command-returns-in-Goto-clause-follows g t c =
+    let T = g.T.Tables.listed c.args.self.now.tables.now in
+    let P = program_of T c.args.self.now.program.now in
+    let levels = c.args.self.now.levels in
+    let D = λ (n : Node). runs P levels (view_node T n) in
+    let m = c.args.self.now.mode in
+    let s = c.args.state.now in
+    let q = c.pay.new.self in
+    let a = c.in-Goto in
+    let p = ap (λ n. D n m s) a.is ∙ goto_does T P levels a.inner m s ∙ ap (λ r. then_on r (λ q. seeks (suc q.steps) false (D a.inner.value) m q)) c.in_ok-pay.ensures in
+    follows_at c.run_seek.result c.run_seek.new.state _ _ (p ∙ ap (λ n. seeks (suc q.steps) false (D n) m q) (sym c.deref-in-Goto.ensures)) c.run_seek.ensures.follows
+
+pub run_command-returns-in-GoPast-clause-follows : goal.run_command-returns-in-GoPast-clause-follows
+run_command-returns-in-GoPast-clause-follows g t c =
+    let T = g.T.Tables.listed c.args.self.now.tables.now in
+    let P = program_of T c.args.self.now.program.now in
+    let levels = c.args.self.now.levels in
+    let D = λ (n : Node). runs P levels (view_node T n) in
+    let m = c.args.self.now.mode in
+    let s = c.args.state.now in
+    let q = c.pay.new.self in
+    let a = c.in-GoPast in
+    let p = ap (λ n. D n m s) a.is ∙ gopast_does T P levels a.inner m s ∙ ap (λ r. then_on r (λ q. seeks (suc q.steps) true (D a.inner.value) m q)) c.in_ok-pay.ensures in
+    follows_at c.run_seek-in-GoPast.result c.run_seek-in-GoPast.new.state _ _ (p ∙ ap (λ n. seeks (suc q.steps) true (D n) m q) (sym c.deref-in-GoPast.ensures)) c.run_seek-in-GoPast.ensures.follows
+
+pub run_command-returns-in_ok-signal-in-SetLimit-clause-follows : goal.run_command-returns-in_ok-signal-in-SetLimit-clause-follows
+run_command-returns-in_ok-signal-in-SetLimit-clause-follows g t c =
+    let T = g.T.Tables.listed c.args.self.now.tables.now in
+    let P = program_of T c.args.self.now.program.now in
+    let levels = c.args.self.now.levels in
+    let D = λ (n : Node). runs P levels (view_node T n) in
+    let m = c.args.self.now.mode in
+    let s = c.args.state.now in
+    let q = c.pay.new.self in
+    let a = c.in-SetLimit in
+    let u = c.run_command-in-SetLimit.new.state in
+    let w = c.put_back-in-SetLimit.new.self in
+    let new = c.run_command-in-SetLimit-2.new.state in
+    let go = λ (q : State) (t : State). then_on (put_back m (saved_cursor q) (limit_here m t)) (λ u. limited m (limits q) (D a.second.value m u)) in
+    let p = ap (λ n. D n m s) a.is ∙ setlimit_does T P levels a.first a.second m s ∙ ap (λ r. then_on r (λ q. after (D a.first.value m q) (go q) (Signals false))) c.in_ok-pay.ensures in
+    let b : c.in_ok-run_command-in-SetLimit.field-0 ≡ true = search rules in
+    let e : D a.first.value m q ≡ Signals true u = ap (λ n. D n m q) (sym c.deref-in-SetLimit.ensures) ∙ c.in_ok-run_command-in-SetLimit.ensures.follows ∙ ap (λ v. Signals v u) b in
+    let k : put_back m (saved_cursor q) (limit_here m u) ≡ Signals true w = ap (λ r. put_back m r (limit_here m u)) (sym c.saved_cursor-from-in-SetLimit.ensures.value) ∙ ap (put_back m c.saved_cursor-from-in-SetLimit.result) (sym c.limit_here.ensures) ∙ c.in_ok-put_back-in-SetLimit.ensures.leads in
+    let x = p ∙ ap (λ r. after r (go q) (Signals false)) e ∙ ap (λ r. then_on r (λ u. limited m (limits q) (D a.second.value m u))) k ∙ ap (λ n. limited m (limits q) (D n m w)) (sym c.deref-in-SetLimit-2.ensures) in
+    let second = D c.deref-in-SetLimit-2.result.now m w in
+    let v = c.in_ok-signal-in-SetLimit.signal in
+    let h : second ≡ Signals v new = search rules in
+    x ∙ limited_signals m (limits q) second v new h ∙ ap (λ l. Signals v (limit_back m l new)) (sym c.limits-limits.ensures.value) ∙ ap (Signals v) (sym c.limit_back.ensures)
+
+pub run_command-returns-in_err-signal-in-SetLimit-clause-follows : goal.run_command-returns-in_err-signal-in-SetLimit-clause-follows
+run_command-returns-in_err-signal-in-SetLimit-clause-follows g t c =
+    let T = g.T.Tables.listed c.args.self.now.tables.now in
+    let P = program_of T c.args.self.now.program.now in
+    let levels = c.args.self.now.levels in
+    let D = λ (n : Node). runs P levels (view_node T n) in
+    let m = c.args.self.now.mode in
+    let s = c.args.state.now in
+    let q = c.pay.new.self in
+    let a = c.in-SetLimit in
+    let u = c.run_command-in-SetLimit.new.state in
+    let w = c.put_back-in-SetLimit.new.self in
+    let new = c.run_command-in-SetLimit-2.new.state in
+    let go = λ (q : State) (t : State). then_on (put_back m (saved_cursor q) (limit_here m t)) (λ u. limited m (limits q) (D a.second.value m u)) in
+    let p = ap (λ n. D n m s) a.is ∙ setlimit_does T P levels a.first a.second m s ∙ ap (λ r. then_on r (λ q. after (D a.first.value m q) (go q) (Signals false))) c.in_ok-pay.ensures in
+    let b : c.in_ok-run_command-in-SetLimit.field-0 ≡ true = search rules in
+    let e : D a.first.value m q ≡ Signals true u = ap (λ n. D n m q) (sym c.deref-in-SetLimit.ensures) ∙ c.in_ok-run_command-in-SetLimit.ensures.follows ∙ ap (λ v. Signals v u) b in
+    let k : put_back m (saved_cursor q) (limit_here m u) ≡ Signals true w = ap (λ r. put_back m r (limit_here m u)) (sym c.saved_cursor-from-in-SetLimit.ensures.value) ∙ ap (put_back m c.saved_cursor-from-in-SetLimit.result) (sym c.limit_here.ensures) ∙ c.in_ok-put_back-in-SetLimit.ensures.leads in
+    let x = p ∙ ap (λ r. after r (go q) (Signals false)) e ∙ ap (λ r. then_on r (λ u. limited m (limits q) (D a.second.value m u))) k ∙ ap (λ n. limited m (limits q) (D n m w)) (sym c.deref-in-SetLimit-2.ensures) in
+    let second = D c.deref-in-SetLimit-2.result.now m w in
+    let halt = c.in_err-signal-in-SetLimit.field-0.0 in
+    let r : c.from_residual-in_err-signal-in-SetLimit.result ≡ Err halt = search rules in
+    let h : Follows (Err halt) new second = search rules in
+    rw r (follows_at (Err halt) new _ _ x (limited_halts m (limits q) halt new second h))
+
+pub run_command-returns-in-Among-clause-follows : goal.run_command-returns-in-Among-clause-follows
+run_command-returns-in-Among-clause-follows g t c =
+    let T = g.T.Tables.listed c.args.self.now.tables.now in
+    let P = program_of T c.args.self.now.program.now in
+    let levels = c.args.self.now.levels in
+    let D = λ (n : Node). runs P levels (view_node T n) in
+    let m = c.args.self.now.mode in
+    let s = c.args.state.now in
+    let q = c.pay.new.self in
+    let a = c.in-Among in
+    let p = ap (λ n. D n m s) a.is ∙ among_does T P levels a.among a.before a.bodies m s ∙ ap (λ r. then_on r (λ q. after (all_run P levels (view_nodes T a.before.items) m q) (λ t. group_runs P levels (view_nodes T a.bodies.items) (choice a.among t) m t) (Signals false))) c.in_ok-pay.ensures in
+    follows_at c.run_among.result c.run_among.new.state _ _ p c.run_among.ensures.follows
+
+pub run_command-returns-in_err-run_command-in-SetLimit-clause-follows : goal.run_command-returns-in_err-run_command-in-SetLimit-clause-follows
+run_command-returns-in_err-run_command-in-SetLimit-clause-follows g t c =
+    let T = g.T.Tables.listed c.args.self.now.tables.now in
+    let P = program_of T c.args.self.now.program.now in
+    let levels = c.args.self.now.levels in
+    let D = λ (n : Node). runs P levels (view_node T n) in
+    let m = c.args.self.now.mode in
+    let s = c.args.state.now in
+    let q = c.pay.new.self in
+    let a = c.in-SetLimit in
+    let u = c.run_command-in-SetLimit.new.state in
+    let on_t : State → State → Ending = λ (q : State). λ (t : State). then_on (put_back m (saved_cursor q) (limit_here m t)) (λ u. limited m (limits q) (D a.second.value m u)) in
+    let on_f : State → State → Ending = λ (q : State). Signals false in
+    let p = ap (λ n. D n m s) a.is ∙ setlimit_does T P levels a.first a.second m s ∙ ap (λ r. then_on r (λ q. after (D a.first.value m q) (on_t q) (on_f q))) c.in_ok-pay.ensures in
+    let halt = c.in_err-run_command-in-SetLimit.field-0.0 in
+    let r : c.from_residual-in_err-run_command-in-SetLimit.result ≡ Err halt = search rules in
+    rw r (by_fault halt u _ (λ fault is. p ∙ ap (λ r. after r (on_t q) (on_f q)) (ap (λ n. D n m q) (sym c.deref-in-SetLimit.ensures) ∙ stops_at halt u _ fault is c.in_err-run_command-in-SetLimit.ensures.follows)))
+
+pub run_command-returns-in_err-put_back-in-SetLimit-clause-follows : goal.run_command-returns-in_err-put_back-in-SetLimit-clause-follows
+run_command-returns-in_err-put_back-in-SetLimit-clause-follows g t c =
+    let T = g.T.Tables.listed c.args.self.now.tables.now in
+    let P = program_of T c.args.self.now.program.now in
+    let levels = c.args.self.now.levels in
+    let D = λ (n : Node). runs P levels (view_node T n) in
+    let m = c.args.self.now.mode in
+    let s = c.args.state.now in
+    let q = c.pay.new.self in
+    let a = c.in-SetLimit in
+    let u = c.run_command-in-SetLimit.new.state in
+    let on_t : State → State → Ending = λ (q : State). λ (t : State). then_on (put_back m (saved_cursor q) (limit_here m t)) (λ u. limited m (limits q) (D a.second.value m u)) in
+    let on_f : State → State → Ending = λ (q : State). Signals false in
+    let p = ap (λ n. D n m s) a.is ∙ setlimit_does T P levels a.first a.second m s ∙ ap (λ r. then_on r (λ q. after (D a.first.value m q) (on_t q) (on_f q))) c.in_ok-pay.ensures in
+    let w = c.put_back-in-SetLimit.new.self in
+    let b : c.in_ok-run_command-in-SetLimit.field-0 ≡ true = search rules in
+    let e : D a.first.value m q ≡ Signals true u = ap (λ n. D n m q) (sym c.deref-in-SetLimit.ensures) ∙ c.in_ok-run_command-in-SetLimit.ensures.follows ∙ ap (λ v. Signals v u) b in
+    let halt = c.in_err-put_back-in-SetLimit.field-0.0 in
+    let r : c.from_residual-in_err-put_back-in-SetLimit.result ≡ Err halt = search rules in
+    rw r (by_fault halt w _ (λ fault is. p ∙ ap (λ r. after r (on_t q) (on_f q)) e ∙ ap (λ r. then_on r (λ u. limited m (limits q) (D a.second.value m u))) (ap (λ r. put_back m r (limit_here m u)) (sym c.saved_cursor-from-in-SetLimit.ensures.value) ∙ ap (put_back m c.saved_cursor-from-in-SetLimit.result) (sym c.limit_here.ensures) ∙ stops_at halt w _ fault is c.in_err-put_back-in-SetLimit.ensures.leads)))
+
+pub run_command-returns-in-Sequence-clause-follows : goal.run_command-returns-in-Sequence-clause-follows
+run_command-returns-in-Sequence-clause-follows g t c =
+    let T = g.T.Tables.listed c.args.self.now.tables.now in
+    let P = program_of T c.args.self.now.program.now in
+    let levels = c.args.self.now.levels in
+    let D = λ (n : Node). runs P levels (view_node T n) in
+    let m = c.args.self.now.mode in
+    let s = c.args.state.now in
+    let q = c.pay.new.self in
+    let a = c.in-Sequence in
+    let p = ap (λ n. D n m s) a.is ∙ sequence_does T P levels a.commands m s ∙ ap (λ r. then_on r (all_run P levels (view_nodes T a.commands.items) m)) c.in_ok-pay.ensures in
+    follows_at c.run_in_turn.result c.run_in_turn.new.state _ _ (p ∙ ap (λ ns. all_run P levels (view_nodes T ns) m q) (sym c.deref-in-Sequence.ensures.value)) c.run_in_turn.ensures.follows
+
+pub run_command-returns-then-branch-clause-follows : goal.run_command-returns-then-branch-clause-follows
+run_command-returns-then-branch-clause-follows g t c =
+    let T = g.T.Tables.listed c.args.self.now.tables.now in
+    let P = program_of T c.args.self.now.program.now in
+    let levels = c.args.self.now.levels in
+    let D = λ (n : Node). runs P levels (view_node T n) in
+    let m = c.args.self.now.mode in
+    let s = c.args.state.now in
+    let q = c.pay.new.self in
+    let a = c.in-Not in
+    let u = c.run_command.new.state in
+    let on_t : State → State → Ending = λ (q : State). Signals false in
+    let on_f : State → State → Ending = λ (q : State). put_back m (saved_cursor q) in
+    let p = ap (λ n. D n m s) a.is ∙ not_does T P levels a.inner m s ∙ ap (λ r. then_on r (λ q. after (D a.inner.value m q) (on_t q) (on_f q))) c.in_ok-pay.ensures in
+    let b : c.in_ok-run_command-in-Not.field-0 ≡ true = search rules in
+    let e : D a.inner.value m q ≡ Signals true u = ap (λ n. D n m q) (sym c.deref-in-Not.ensures) ∙ c.in_ok-run_command-in-Not.ensures.follows ∙ ap (λ v. Signals v u) b in
+    p ∙ ap (λ r. after r (on_t q) (on_f q)) e
+
+pub run_command-returns-in-Row-clause-follows : goal.run_command-returns-in-Row-clause-follows
+run_command-returns-in-Row-clause-follows g t c =
+    let T = g.T.Tables.listed c.args.self.now.tables.now in
+    let P = program_of T c.args.self.now.program.now in
+    let levels = c.args.self.now.levels in
+    let D = λ (n : Node). runs P levels (view_node T n) in
+    let m = c.args.self.now.mode in
+    let s = c.args.state.now in
+    let q = c.pay.new.self in
+    let a = c.in-Row in
+    let os = map (view_joined T) a.others.items in
+    let first = c.deref-in-Row.result.now in
+    let p = ap (λ n. D n m s) a.is ∙ row_does T P levels a.first a.others m s ∙ ap (λ r. then_on r (row_runs P levels (view_node T a.first.value) os m)) c.in_ok-pay.ensures in
+    let d = ap (λ n. row_runs P levels (view_node T n) os m q) (sym c.deref-in-Row.ensures) ∙ ap (λ xs. row_runs P levels (view_node T first) (map (view_joined T) xs) m q) (sym c.deref-in-Row-2.ensures.value) in
+    follows_at c.run_row.result c.run_row.new.state _ _ (p ∙ d) c.run_row.ensures.follows

@@ -1,0 +1,323 @@
+-- A check that fails for an edit tells the item that the edit changes.
+use Rattle.std.proofs.Common.{◌≡◌, ◌⊎◌, inl, inr, ℕ, ◌+◌, ◌≤◌, Bool, true, false, ◌&&◌, ◌||◌, nat_eq, List, [], ◌∷◌, ◌++◌, length, Option, Some, None, Ok, is_some, refl, sym, ap, subst, ◌∙◌, append_assoc, arith}
+use Rattle.std.specs.Option.{option_or}
+use Rattle.std.proofs.lemmas.Bool.Decides.{nat_tests}
+use Rattle.std.proofs.lemmas.List.Folds.{list_any-append}
+use Rattle.sbl_text.specs.declared.fault.ScriptFault.{ScriptFault}
+use Rattle.sbl_text.specs.declared.fault.ScriptFault.TheVariants as fault
+use Rattle.sbl_text.specs.Tokens.{Placed}
+use Rattle.sbl_tree.specs.Tree.{routine, Item}
+use Rattle.sbl_tree.specs.View.{RowView}
+use Rattle.sbl_checks.specs.declared.occurrences.Site.{Site}
+use Rattle.sbl_checks.specs.Occurrences.{Occurrence, Notice, declares, defines_routine, defines_grouping, uses, substring, among, string, backwards, region_end, noted_items, occurrences_of}
+use Rattle.sbl_script.specs.Parsed.{Source}
+use Rattle.sbl_checks.specs.Bodies.{body_in}
+use Rattle.sbl_checks.specs.Checks.{declared_as, kind_of, defined_at, definition_of, waits_after, is_awaited, is_text, is_text_of, has_text, is_external, has_external, fault_at, fault_of, WellDeclared}
+use Rattle.sbl_checks.specs.Laws.{EachPasses, IsFirst}
+use Rattle.sbl_script.specs.Edits.{ScriptEdit, Home, home, home_in, routine_name, routine_of, items_with, state_before, IsFaultAt, IsCheckFaultWith}
+use Rattle.sbl_script.specs.OnlyTheItem.{item_of, number_from, number_of, OnlyTheItem, ExternalStays}
+use Rattle.sbl_checks.proofs.FirstFault as first
+use Rattle.sbl_script.proofs.Own.{Each, is_quiet, IsOfCommand, RoutineParts, routine_parts}
+use Rattle.sbl_script.proofs.RoundItem.{Closed, followed_same, decided_at, own, InItem, NotBefore, routine_sites, items_closed, items_sites, round_item}
+use Rattle.sbl_script.proofs.TextFaults.{is_checked, text_fault, unread}
+use Rattle.sbl_script.proofs.SameFaults.{Same, same_fault, item_told}
+use Rattle.sbl_script.proofs.ItemParts.{ordered, in_text_order, Parts, the_routine, parts_of, still_defined}
+
+-- ---- some occurrences behind others
+
+or_assoc : {X : Type 0} (a b c : Option X) → option_or a (option_or b c) ≡ option_or (option_or a b) c
+or_assoc (Some x) b c = refl
+or_assoc None b c = refl
+
+kinds_both : (n : List ℕ) (xs ys : List Occurrence) → kind_of n (xs ++ ys) ≡ option_or (kind_of n xs) (kind_of n ys)
+kinds_both n [] ys = refl
+kinds_both n (x ∷ xs) ys = ap (option_or (declared_as n x.notice)) (kinds_both n xs ys) ∙ or_assoc (declared_as n x.notice) (kind_of n xs) (kind_of n ys)
+
+definitions_both : (n : List ℕ) (xs ys : List Occurrence) → definition_of n (xs ++ ys) ≡ option_or (definition_of n xs) (definition_of n ys)
+definitions_both n [] ys = refl
+definitions_both n (x ∷ xs) ys = ap (option_or (defined_at n x)) (definitions_both n xs ys) ∙ or_assoc (defined_at n x) (definition_of n xs) (definition_of n ys)
+
+awaited_both : (xs ys : List Occurrence) (w : Bool) → is_awaited (xs ++ ys) w ≡ is_awaited ys (is_awaited xs w)
+awaited_both [] ys w = refl
+awaited_both (x ∷ xs) ys w = awaited_both xs ys (waits_after x.notice w)
+
+texts_both : (i k : ℕ) (t : List ℕ) (xs ys : List Occurrence) → has_text i k t (xs ++ ys) ≡ (has_text i k t xs || has_text i k t ys)
+texts_both i k t xs ys = list_any-append (is_text_of i k t) xs ys
+
+-- ---- what two bodies of a routine have in common
+
+record Alike (i : ℕ) (old new : List Occurrence) : Type 0 where
+  kinds : (n : List ℕ) → kind_of n old ≡ kind_of n new
+  definitions : (n : List ℕ) → definition_of n old ≡ definition_of n new
+  awaited : (w : Bool) → is_awaited old w ≡ is_awaited new w
+  old_sites : Each (InItem i) old
+  new_sites : Each (InItem i) new
+
+quiet_kind : (n : List ℕ) (x : Notice) → is_quiet x ≡ true → declared_as n x ≡ None
+quiet_kind n (declares k x) e = absurd cc
+quiet_kind n (defines_routine x) e = absurd cc
+quiet_kind n (defines_grouping x) e = absurd cc
+quiet_kind n (uses u x) e = refl
+quiet_kind n substring e = refl
+quiet_kind n (among a b) e = refl
+quiet_kind n (string k t) e = refl
+quiet_kind n backwards e = refl
+quiet_kind n region_end e = refl
+
+quiet_definition : (n : List ℕ) (p : Site) (x : Notice) → is_quiet x ≡ true → defined_at n (record { site = p; notice = x }) ≡ None
+quiet_definition n p (declares k x) e = absurd cc
+quiet_definition n p (defines_routine x) e = absurd cc
+quiet_definition n p (defines_grouping x) e = absurd cc
+quiet_definition n p (uses u x) e = refl
+quiet_definition n p substring e = refl
+quiet_definition n p (among a b) e = refl
+quiet_definition n p (string k t) e = refl
+quiet_definition n p backwards e = refl
+quiet_definition n p region_end e = refl
+
+quiet_kinds : (i : ℕ) (n : List ℕ) (xs ys : List Occurrence) → Each (IsOfCommand i) xs → kind_of n (xs ++ ys) ≡ kind_of n ys
+quiet_kinds i n [] ys h = refl
+quiet_kinds i n (x ∷ xs) ys h = ap (λ o. option_or o (kind_of n (xs ++ ys))) (quiet_kind n x.notice h.0.1) ∙ quiet_kinds i n xs ys h.1
+
+quiet_definitions : (i : ℕ) (n : List ℕ) (xs ys : List Occurrence) → Each (IsOfCommand i) xs → definition_of n (xs ++ ys) ≡ definition_of n ys
+quiet_definitions i n [] ys h = refl
+quiet_definitions i n (x ∷ xs) ys h = ap (λ o. option_or o (definition_of n (xs ++ ys))) (quiet_definition n x.site x.notice h.0.1) ∙ quiet_definitions i n xs ys h.1
+
+abbrev end_at : Site → List Occurrence
+end_at p = (record { site = p; notice = region_end }) ∷ []
+
+abbrev start_at : List ℕ → Site → Occurrence
+start_at n p = record { site = p; notice = defines_routine n }
+
+routine_kinds : (n : List ℕ) (p : Site) (xs : List Occurrence) → RoutineParts n p xs → (x : List ℕ) → kind_of x xs ≡ None
+routine_kinds n p xs r x = ap (kind_of x) r.are ∙ quiet_kinds p.item x r.commands (end_at p) r.each
+
+routine_definitions : (n : List ℕ) (p : Site) (xs : List Occurrence) → RoutineParts n p xs → (x : List ℕ) → definition_of x xs ≡ option_or (defined_at x (start_at n p)) None
+routine_definitions n p xs r x = ap (definition_of x) r.are ∙ ap (option_or (defined_at x (start_at n p))) (quiet_definitions p.item x r.commands (end_at p) r.each)
+
+routine_awaits : (n : List ℕ) (p : Site) (xs : List Occurrence) → RoutineParts n p xs → (w : Bool) → is_awaited xs w ≡ false
+routine_awaits n p xs r w = ap (λ l. is_awaited l w) r.are ∙ awaited_both r.commands (end_at p) w
+
+alike : (n : List ℕ) (p : Site) (xs ys : List Occurrence) → RoutineParts n p xs → RoutineParts n p ys → Alike p.item xs ys
+alike n p xs ys h g = record {
+  kinds = λ x. routine_kinds n p xs h x ∙ sym (routine_kinds n p ys g x);
+  definitions = λ x. routine_definitions n p xs h x ∙ sym (routine_definitions n p ys g x);
+  awaited = λ w. routine_awaits n p xs h w ∙ sym (routine_awaits n p ys g w);
+  old_sites = routine_sites n p xs h;
+  new_sites = routine_sites n p ys g;
+}
+
+-- ---- where an occurrence stands
+
+split : (xs ys b c : List Occurrence) (m : Occurrence) → xs ++ ys ≡ b ++ m ∷ c
+    → ((d : List Occurrence) × (xs ≡ b ++ m ∷ d) × (c ≡ d ++ ys)) ⊎ ((d : List Occurrence) × (b ≡ xs ++ d) × (ys ≡ d ++ m ∷ c))
+split [] ys b c m e = inr (b, refl, e)
+split (x ∷ xs) ys [] c m e =
+    let same : x ≡ m = cc in
+    let rest : xs ++ ys ≡ c = cc in
+    inl (xs, ap (λ z. z ∷ xs) same, sym rest)
+split (x ∷ xs) ys (y ∷ b) c m e =
+    let same : x ≡ y = cc in
+    let rest : xs ++ ys ≡ b ++ m ∷ c = cc in
+    at same (split xs ys b c m rest) where
+      at : x ≡ y → ((d : List Occurrence) × (xs ≡ b ++ m ∷ d) × (c ≡ d ++ ys)) ⊎ ((d : List Occurrence) × (b ≡ xs ++ d) × (ys ≡ d ++ m ∷ c))
+          → ((d : List Occurrence) × (x ∷ xs ≡ y ∷ (b ++ m ∷ d)) × (c ≡ d ++ ys)) ⊎ ((d : List Occurrence) × (y ∷ b ≡ x ∷ (xs ++ d)) × (ys ≡ d ++ m ∷ c))
+      at same (inl h) = inl (h.0, ap (λ z. z ∷ xs) same ∙ ap (λ l. y ∷ l) h.1, h.2)
+      at same (inr h) = inr (h.0, ap (λ z. z ∷ b) (sym same) ∙ ap (λ l. x ∷ l) h.1, h.2)
+
+each_at : (Q : Occurrence → Type 0) (xs : List Occurrence) (m : Occurrence) (ys : List Occurrence) → Each Q (xs ++ m ∷ ys) → Q m
+each_at Q [] m ys h = h.0
+each_at Q (x ∷ xs) m ys h = each_at Q xs m ys h.1
+
+no_text : (i j k : ℕ) (t : List ℕ) (xs : List Occurrence) → Each (InItem i) xs → i + 1 ≤ j → has_text j k t xs ≡ false
+no_text i j k t [] h later = refl
+no_text i j k t (x ∷ xs) h later =
+    or_is (is_text k t x.notice) (nat_eq j x.site.item) (has_text j k t xs) (another j x.site.item (ap (λ z. z + 1) h.0)) (no_text i j k t xs h.1 later) where
+      another : (a c : ℕ) → c + 1 ≡ i + 1 → nat_eq j x.site.item ≡ false
+      another a c e = let is : x.site.item ≡ i = h.0 in grind (arith, nat_tests)
+
+      or_is : (a b c : Bool) → b ≡ false → c ≡ false → ((a && b) || c) ≡ false
+      or_is true true c e f = absurd cc
+      or_is true false c e f = f
+      or_is false b c e f = f
+
+-- ---- the first fault stands in the item
+
+module _ (front mine other rest : List Occurrence) (i : ℕ) (closed : Closed front) (two : Alike i mine other) (later : Each (NotBefore (i + 1)) rest) where
+  abbrev old : List Occurrence
+  old = front ++ (mine ++ rest)
+
+  abbrev new : List Occurrence
+  new = front ++ (other ++ rest)
+
+  three : (n : List ℕ) (xs cs : List Occurrence) → definition_of n (front ++ (xs ++ cs)) ≡ option_or (definition_of n front) (option_or (definition_of n xs) (definition_of n cs))
+  three n xs cs = definitions_both n front (xs ++ cs) ∙ ap (option_or (definition_of n front)) (definitions_both n xs cs)
+
+  three_kinds : (n : List ℕ) (xs cs : List Occurrence) → kind_of n (front ++ (xs ++ cs)) ≡ option_or (kind_of n front) (option_or (kind_of n xs) (kind_of n cs))
+  three_kinds n xs cs = kinds_both n front (xs ++ cs) ∙ ap (option_or (kind_of n front)) (kinds_both n xs cs)
+
+  three_texts : (j k : ℕ) (t : List ℕ) (xs cs : List Occurrence) → has_text j k t (front ++ (xs ++ cs)) ≡ (has_text j k t front || (has_text j k t xs || has_text j k t cs))
+  three_texts j k t xs cs = texts_both j k t front (xs ++ cs) ∙ ap (λ b. has_text j k t front || b) (texts_both j k t xs cs)
+
+  three_awaited : (xs cs : List Occurrence) → is_awaited (front ++ (xs ++ cs)) false ≡ is_awaited cs (is_awaited xs (is_awaited front false))
+  three_awaited xs cs = awaited_both front (xs ++ cs) false ∙ awaited_both xs cs (is_awaited front false)
+
+  definitions_same : (n : List ℕ) → definition_of n new ≡ definition_of n old
+  definitions_same n = three n other rest ∙ ap (λ o. option_or (definition_of n front) (option_or o (definition_of n rest))) (sym (two.definitions n)) ∙ sym (three n mine rest)
+
+  kinds_same : (n : List ℕ) (cs : List Occurrence) → kind_of n (front ++ (other ++ cs)) ≡ kind_of n (front ++ (mine ++ cs))
+  kinds_same n cs = three_kinds n other cs ∙ ap (λ o. option_or (kind_of n front) (option_or o (kind_of n cs))) (sym (two.kinds n)) ∙ sym (three_kinds n mine cs)
+
+  -- an occurrence before the item
+  in_front : (b d : List Occurrence) (m : Occurrence) → front ≡ b ++ m ∷ d → Same new (d ++ (other ++ rest)) b old (d ++ (mine ++ rest)) b m
+  in_front b d m e = record {
+    kinds = λ n. refl;
+    definitions = definitions_same;
+    followed = λ s. followed_same m.site.mode d (other ++ rest) (mine ++ rest) (decided_at b m d (subst Closed e closed) s);
+    awaited = refl;
+    texts = λ k t. refl;
+  }
+
+  -- an occurrence behind it
+  behind : (d c : List Occurrence) (m : Occurrence) → rest ≡ d ++ m ∷ c → Same new c (front ++ (other ++ d)) old c (front ++ (mine ++ d)) m
+  behind d c m e =
+      let low : i + 1 ≤ m.site.item = each_at (NotBefore (i + 1)) d m c (subst (Each (NotBefore (i + 1))) e later) in
+      record {
+        kinds = λ n. kinds_same n d;
+        definitions = definitions_same;
+        followed = λ s. refl;
+        awaited = three_awaited other d ∙ ap (is_awaited d) (sym (two.awaited (is_awaited front false))) ∙ sym (three_awaited mine d);
+        texts = λ k t.
+            three_texts m.site.item k t other d
+            ∙ ap (λ x. has_text m.site.item k t front || (x || has_text m.site.item k t d)) (no_text i m.site.item k t other two.new_sites low ∙ sym (no_text i m.site.item k t mine two.old_sites low))
+            ∙ sym (three_texts m.site.item k t mine d);
+      }
+
+  not_both : (o : Option ScriptFault) (f : ScriptFault) → o ≡ None → o ≡ Some f → ⊥
+  not_both (Some x) f h g = cc
+  not_both None f h g = cc
+
+  module _ (passes : EachPasses old) (f : ScriptFault) where
+    front_passes : (b c d : List Occurrence) (m : Occurrence) → front ≡ b ++ m ∷ d → c ≡ d ++ (other ++ rest) → fault_at new b m c ≡ None
+    front_passes b c d m e r =
+        ap (fault_at new b m) r ∙ same_fault new (d ++ (other ++ rest)) b old (d ++ (mine ++ rest)) b m (in_front b d m e)
+        ∙ passes b (d ++ (mine ++ rest)) m (ap (λ l. l ++ (mine ++ rest)) e ∙ append_assoc b (m ∷ d) (mine ++ rest))
+
+    behind_passes : (b c d : List Occurrence) (m : Occurrence) → b ≡ front ++ (other ++ d) → rest ≡ d ++ m ∷ c → fault_at new b m c ≡ None
+    behind_passes b c d m e r =
+        ap (λ l. fault_at new l m c) e ∙ same_fault new c (front ++ (other ++ d)) old c (front ++ (mine ++ d)) m (behind d c m r)
+        ∙ passes (front ++ (mine ++ d)) c m (ap (λ l. front ++ (mine ++ l)) r ∙ ap (λ l. front ++ l) (sym (append_assoc mine d (m ∷ c))) ∙ sym (append_assoc front (mine ++ d) (m ∷ c)))
+
+    inside : (b c d : List Occurrence) (m : Occurrence) → other ++ rest ≡ d ++ m ∷ c → b ≡ front ++ d → fault_at new b m c ≡ Some f → item_of f ≡ Some i
+    inside b c d m e r bad = at (split other rest d c m e) where
+      at : ((x : List Occurrence) × (other ≡ d ++ m ∷ x) × (c ≡ x ++ rest)) ⊎ ((x : List Occurrence) × (d ≡ other ++ x) × (rest ≡ x ++ m ∷ c)) → item_of f ≡ Some i
+      at (inl h) = item_told new b c m f bad ∙ ap Some (each_at (InItem i) d m h.0 (subst (Each (InItem i)) h.1 two.new_sites))
+      at (inr h) = absurd (not_both (fault_at new b m c) f (behind_passes b c h.0 m (r ∙ ap (λ l. front ++ l) h.1) h.2) bad)
+
+    in_item : IsFirst new f → item_of f ≡ Some i
+    in_item r = at (split front (other ++ rest) r.before r.after r.occurrence r.parts) where
+      at : ((d : List Occurrence) × (front ≡ r.before ++ r.occurrence ∷ d) × (r.after ≡ d ++ (other ++ rest))) ⊎ ((d : List Occurrence) × (r.before ≡ front ++ d) × (other ++ rest ≡ d ++ r.occurrence ∷ r.after)) → item_of f ≡ Some i
+      at (inl h) = absurd (not_both (fault_at new r.before r.occurrence r.after) f (front_passes r.before r.after h.0 r.occurrence h.1 h.2) r.fault)
+      at (inr h) = inside r.before r.after h.0 r.occurrence h.2 h.1 r.fault
+
+-- ---- a script
+
+module _ (items : List Item) (external : List ℕ) (n : List ℕ) (b : RowView) (well : WellDeclared items external) (there : is_some (routine_of n items) ≡ true) where
+  abbrev edited : List Item
+  edited = items_with n b items
+
+  parts : Parts n b (ordered items) (ordered edited)
+  parts = parts_of n b items there
+
+  told : (q : Parts n b (ordered items) (ordered edited)) (f : ScriptFault) → fault_of edited external ≡ Some f → (i : ℕ) × (item_of f ≡ Some i) × (number_of n items ≡ Some i)
+  told q f bad = (i, at (first.fault_is_first edited external f bad), ap (λ l. number_from n l 1) (in_text_order items) ∙ q.number 1)
+    where
+      i : ℕ
+      i = 1 + length q.before
+
+      p : Site
+      p = record { item = 1 + length q.before; mode = q.mode }
+
+      front : List Occurrence
+      front = noted_items q.before 1 []
+
+      mine : List Occurrence
+      mine = own (routine n q.first q.others) p
+
+      other : List Occurrence
+      other = own (routine n b.0 b.1) p
+
+      rest : List Occurrence
+      rest = noted_items q.after (1 + length q.before + 1) []
+
+      old_is : occurrences_of items ≡ front ++ (mine ++ rest)
+      old_is = ap (λ l. noted_items l 1 []) (in_text_order items ∙ q.old) ∙ round_item q.before (the_routine q.mode n q.first q.others) q.after
+
+      new_is : occurrences_of edited ≡ front ++ (other ++ rest)
+      new_is = ap (λ l. noted_items l 1 []) (in_text_order edited ∙ q.new) ∙ round_item q.before (the_routine q.mode n b.0 b.1) q.after
+
+      two : Alike (1 + length q.before) mine other
+      two = alike n p mine other (routine_parts n q.first q.others p) (routine_parts n b.0 b.1 p)
+
+      closed : Closed front
+      closed = items_closed q.before 1
+
+      later : Each (NotBefore (1 + length q.before + 1)) rest
+      later = items_sites q.after (1 + length q.before + 1)
+
+      fine : EachPasses (occurrences_of items) × (has_external items external (occurrences_of items) ≡ true)
+      fine = first.well_declared_passes items external well
+
+      kept : has_external edited external (occurrences_of edited) ≡ true
+      kept =
+          ap (λ o. is_external o && is_some (body_in external edited)) (ap (kind_of external) new_is ∙ kinds_same front mine other rest (1 + length q.before) closed two later external rest ∙ sym (ap (kind_of external) old_is))
+          ∙ ap (λ c. is_external (kind_of external (occurrences_of items)) && c) (still_defined n b items external) ∙ fine.1
+
+      at : IsFirst (occurrences_of edited) f ⊎ (EachPasses (occurrences_of edited) × (has_external edited external (occurrences_of edited) ≡ false) × (f ≡ fault.NoExternal)) → item_of f ≡ Some (1 + length q.before)
+      at (inl h) = in_item front mine other rest (1 + length q.before) closed two later (subst EachPasses old_is fine.0) f (subst (λ l. IsFirst l f) new_is h)
+      at (inr h) = let no : ⊥ = true_false (has_external edited external (occurrences_of edited)) kept h.1 in absurd no where
+        true_false : (c : Bool) → c ≡ true → c ≡ false → ⊥
+        true_false true h g = cc
+        true_false false h g = cc
+
+-- an edit that has a home changes a routine that there is
+has_routine : (o : Option RowView) (e : ScriptEdit) (h : Home) → home_in o e ≡ Ok h → is_some o ≡ true
+has_routine (Some b) e h r = refl
+has_routine None e h r = absurd cc
+
+-- a check that fails tells the item
+check_tells : (s : Source) (e : ScriptEdit) (h : Home) (ts : List Placed) (f : ScriptFault) → WellDeclared s.items s.external → home s.items e ≡ Ok h → IsCheckFaultWith s (routine_name e) h ts f →
+    (i : ℕ) × (item_of f ≡ Some i) × (number_of (routine_name e) s.items ≡ Some i)
+check_tells s e h ts f well there bad =
+    let routine_there = has_routine (routine_of (routine_name e) s.items) e h there in
+    told s.items s.external (routine_name e) (h.around bad.tree) well routine_there (parts s.items s.external (routine_name e) (h.around bad.tree) well routine_there) f bad.is
+
+-- a fault of a text tells none
+not_told : (f : ScriptFault) (i : ℕ) → is_checked f ≡ false → item_of f ≡ Some i → ⊥
+not_told f i unchecked tells = at _ (item_of f) unchecked tells where
+  at : (b : Bool) (o : Option ℕ) → (is_some o || b) ≡ false → o ≡ Some i → ⊥
+  at b (Some x) g h = cc
+  at b None g h = cc
+
+same_number : (i j : ℕ) → Some i ≡ Some j → i ≡ j
+same_number i j e = cc
+
+pub only_the_item : OnlyTheItem
+only_the_item s e text f i well bad tells = at bad.2 where
+  at : IsFaultAt s (routine_name e) bad.0 text f → number_of (routine_name e) s.items ≡ Some i
+  at (inl h) = absurd (not_told f i (text_fault (state_before (routine_name e) s.items) text f h) tells)
+  at (inr (inl h)) = absurd (not_told f i (unread bad.0.text h.0 (length text) f h.2) tells)
+  at (inr (inr h)) = let r = check_tells s e bad.0 h.0 f well bad.1 h.3 in r.2 ∙ ap Some (same_number r.0 i (sym r.1 ∙ tells))
+
+pub external_stays : ExternalStays
+external_stays s e text well bad = at bad.2 where
+  not_text : is_checked fault.NoExternal ≡ false → ⊥
+  not_text h = cc
+
+  no_item : (i : ℕ) → item_of fault.NoExternal ≡ Some i → ⊥
+  no_item i h = cc
+
+  at : IsFaultAt s (routine_name e) bad.0 text fault.NoExternal → ⊥
+  at (inl h) = not_text (text_fault (state_before (routine_name e) s.items) text fault.NoExternal h)
+  at (inr (inl h)) = not_text (unread bad.0.text h.0 (length text) fault.NoExternal h.2)
+  at (inr (inr h)) = let r = check_tells s e bad.0 h.0 fault.NoExternal well bad.1 h.3 in no_item r.0 r.1

@@ -1,5 +1,0 @@
-use Rattle.sbl_script.proofs.Sound as sound
-use Rattle.sbl_script.proofs.laws.amongs_are_sound.Goals as goal
-
-pub returns : goal.returns
-returns c = sound.amongs_are_sound

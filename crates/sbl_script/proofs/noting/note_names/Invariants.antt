@@ -1,8 +1,0 @@
-use Rattle.std.proofs.Common.{◌≡◌, drop, map, string_bytes}
-use Rattle.sbl_script.specs.Occurrences.{noted_names}
-use Rattle.sbl_script.specs.OccurrenceView.{view_occurrences}
-use Rattle.sbl_script.proofs.noting.note_names.Given as goal
-
-abbrev pub invariant-loop-name : goal.invariant-loop-name
-invariant-loop-name l =
-    noted_names l.kind (map string_bytes (drop l.name-index l.names.items)) l.site (view_occurrences l.occurrences.items) ≡ noted_names l.kind (map string_bytes l.names.items) l.site (view_occurrences l.initial.occurrences.items)

@@ -1,0 +1,187 @@
+-- What an edit answers, as a session answers it.
+use Rattle.std.proofs.Common.{codes, if◌then◌else◌, ◌≡◌, ◌⊎◌, inl, inr, ◌∙◌, ◌≤◌, ◌<◌, ◌+◌, ℕ, Bool, true, false, List, [], ◌∷◌, length, take, Option, Some, None, Result, Ok, Err, refl, sym, ap, subst, arith, nat_lt, length-take}
+use Rattle.std.proofs.lemmas.Bool.Decides.{nat_tests}
+use Rattle.std.proofs.lemmas.Grind.{common_steps}
+use Rattle.std.proofs.lemmas.Str.{IsUtf8-from_is_utf8, chars-encodes, length-le-encodes}
+use Rattle.std.specs.Str.{IsUtf8, chars, is_utf8}
+use Rattle.sbl_bench.specs.Contents.{Contents}
+use Rattle.sbl_bench.specs.Edits.{Edit, Edits, Add, Replace, IsAccepted, IsBrokenOff, IsMeterFull, IsOutOfMemory, IsRefused, IsVerdict, PassesTests, counted, refusal_of_add}
+use Rattle.sbl_bench.specs.declared.fault.EditFault.{EditFault}
+use Rattle.sbl_bench.specs.declared.fault.EditFault.TheVariants as fault
+use Rattle.sbl_script.specs.Edits.{ScriptEdit}
+use Rattle.sbl_text.specs.declared.fault.ScriptFault.{ScriptFault}
+use Rattle.sbl_text.specs.declared.fault.ScriptFault.TheVariants as script
+use Rattle.sbl_sessions.specs.Answers.{BlockRefused, Enough, RefusedAfter, edit_text, ended}
+use Rattle.sbl_sessions.specs.Block.{HasText, made_text, max_script}
+use Rattle.sbl_sessions.specs.CommandViews.{IsEditAnswer, IsTextAnswer}
+use Rattle.sbl_sessions.specs.Commands.{Command, block_command, target_of, target_of_text, text_of_block, with_target, with_text}
+use Rattle.sbl_sessions.specs.Edits.{fault_in}
+
+-- where memory was refused
+out_of_memory : (s t : Contents) (e : Edit) → IsOutOfMemory s e t → IsEditAnswer s e (edit_text (Some fault.OutOfMemory)) t
+out_of_memory s t e h = by h.is
+  where
+    none_more : s.count ≡ s.count + 0
+    none_more = omega arith
+
+    by : (PassesTests s e × (t ≡ s)) ⊎ IsBrokenOff s e t → IsEditAnswer s e (edit_text (Some fault.OutOfMemory)) t
+    by (inl p) = (RefusedAfter 0, (Some fault.OutOfMemory, (refl, p.1 ∙ ap (λ (k : ℕ). record s { count = k }) none_more, h), refl))
+    by (inr b) = (RefusedAfter b.runs, (Some fault.OutOfMemory, (refl, b.is, h), refl))
+
+pub answered : (r : Result (Unit {0}) EditFault) (s t : Contents) (e : Edit) → Edits r s e t → IsEditAnswer s e (edit_text (fault_in r)) t
+answered (Ok u) s t e h = (Enough, (None, h, refl))
+answered (Err fault.OutOfMemory) s t e h = out_of_memory s t e h
+answered (Err fault.Present) s t e h = (Enough, (Some fault.Present, h, refl))
+answered (Err fault.Absent) s t e h = (Enough, (Some fault.Absent, h, refl))
+answered (Err fault.EmptyWord) s t e h = (Enough, (Some fault.EmptyWord, h, refl))
+answered (Err fault.WordTooLong) s t e h = (Enough, (Some fault.WordTooLong, h, refl))
+answered (Err fault.Full) s t e h = (Enough, (Some fault.Full, h, refl))
+answered (Err fault.NoRoutine) s t e h = (Enough, (Some fault.NoRoutine, h, refl))
+answered (Err fault.NoAmong) s t e h = (Enough, (Some fault.NoAmong, h, refl))
+answered (Err fault.AmongCount) s t e h = (Enough, (Some fault.AmongCount, h, refl))
+answered (Err (fault.Script f)) s t e h = (Enough, (Some (fault.Script f), h, refl))
+answered (Err fault.MeterFull) s t e h = (Enough, (Some fault.MeterFull, h, refl))
+
+-- ---- a word that is added, by its first characters
+
+-- a word of more than 255 characters is refused for that
+too_long : (s : Contents) (word : List ℕ) → 255 < length word → refusal_of_add s word ≡ Some fault.WordTooLong
+too_long s [] long = absurd (omega arith)
+too_long s (c ∷ word) long = let test : nat_lt 255 (length (c ∷ word)) ≡ true = grind (arith, nat_tests) in rw test refl
+
+not_accepted : (s t : Contents) (word : List ℕ) → refusal_of_add s word ≡ Some fault.WordTooLong → IsAccepted s (Add word) t → ⊥
+not_accepted s t word f h = let none : Some fault.WordTooLong ≡ None = sym f ∙ h.after.0 in cc none
+
+-- a refusal for one word that is too long is one for another
+verdict_long : (s t : Contents) (word cut : List ℕ) (f : EditFault) → refusal_of_add s word ≡ Some fault.WordTooLong
+    → refusal_of_add s cut ≡ Some fault.WordTooLong → IsVerdict s (Add cut) (Some f) t → IsVerdict s (Add word) (Some f) t
+verdict_long s t word cut f long short h = by h.0
+  where
+    by : IsRefused s (Add cut) f ⊎ IsMeterFull s (Add cut) f → IsVerdict s (Add word) (Some f) t
+    by (inl is) = (inl (long ∙ sym short ∙ is), h.1)
+    by (inr m) = let none : Some fault.WordTooLong ≡ None = sym short ∙ m.after.0 in absurd (cc none)
+
+not_for_memory : (s t : Contents) (cut : List ℕ) → refusal_of_add s cut ≡ Some fault.WordTooLong → IsOutOfMemory s (Add cut) t → ⊥
+not_for_memory s t cut short h = by h.is
+  where
+    by : (PassesTests s (Add cut) × (t ≡ s)) ⊎ IsBrokenOff s (Add cut) t → ⊥
+    by (inl p) = let no : false ≡ true = p.0 fault.WordTooLong short in cc no
+    by (inr b) = not_accepted s b.made cut short b.accepted
+
+refused_long : (r : Result (Unit {0}) EditFault) (s t : Contents) (word cut : List ℕ) → refusal_of_add s word ≡ Some fault.WordTooLong
+    → refusal_of_add s cut ≡ Some fault.WordTooLong → Edits r s (Add cut) t → Edits r s (Add word) t
+refused_long (Ok u) s t word cut long short h = absurd (not_accepted s t cut short h)
+refused_long (Err fault.OutOfMemory) s t word cut long short h = absurd (not_for_memory s t cut short h)
+refused_long (Err fault.Present) s t word cut long short h = verdict_long s t word cut fault.Present long short h
+refused_long (Err fault.Absent) s t word cut long short h = verdict_long s t word cut fault.Absent long short h
+refused_long (Err fault.EmptyWord) s t word cut long short h = verdict_long s t word cut fault.EmptyWord long short h
+refused_long (Err fault.WordTooLong) s t word cut long short h = verdict_long s t word cut fault.WordTooLong long short h
+refused_long (Err fault.Full) s t word cut long short h = verdict_long s t word cut fault.Full long short h
+refused_long (Err fault.NoRoutine) s t word cut long short h = verdict_long s t word cut fault.NoRoutine long short h
+refused_long (Err fault.NoAmong) s t word cut long short h = verdict_long s t word cut fault.NoAmong long short h
+refused_long (Err fault.AmongCount) s t word cut long short h = verdict_long s t word cut fault.AmongCount long short h
+refused_long (Err (fault.Script f)) s t word cut long short h = verdict_long s t word cut (fault.Script f) long short h
+refused_long (Err fault.MeterFull) s t word cut long short h = verdict_long s t word cut fault.MeterFull long short h
+
+all_of : (n : ℕ) (xs : List ℕ) → length xs ≤ n → take n xs ≡ xs
+all_of n xs h = grind (arith, common_steps)
+
+-- the first 256 characters of a word say what becomes of it
+pub by_first : (r : Result (Unit {0}) EditFault) (s t : Contents) (word : List ℕ) → Edits r s (Add (take 256 word)) t → Edits r s (Add word) t
+by_first r s t word h = by (nat_lt 256 (length word)) refl
+  where
+    by : (b : Bool) → nat_lt 256 (length word) ≡ b → Edits r s (Add word) t
+    by true e =
+        let long : 256 < length word = grind (arith, nat_tests) in
+        let cut : 255 < length (take 256 word) = rw length-take (omega arith) in
+        refused_long r s t word (take 256 word) (too_long s word (omega arith)) (too_long s (take 256 word) cut) h
+    by false e =
+        let short : length word ≤ 256 = grind (arith, nat_tests) in
+        let whole : take 256 word ≡ word = all_of 256 word short in
+        subst (λ (w : List ℕ). Edits r s (Add w) t) whole h
+
+-- ---- the characters of a line
+
+-- a text has no more characters than bytes
+chars_fit : (bytes : List ℕ) → IsUtf8 bytes → length (chars bytes) ≤ length bytes
+chars_fit bytes valid =
+    let x = valid.0 in
+    let same : chars bytes ≡ x = rw (← valid.1.1) (chars-encodes x valid.1.0) in
+    let bound = length-le-encodes x in
+    rw (same, ← valid.1.1) bound
+
+-- so many of them are all
+pub all_chars : (n : ℕ) (bytes : List ℕ) → IsUtf8 bytes → length bytes ≤ n → take n (chars bytes) ≡ chars bytes
+all_chars n bytes valid few = let fit : length (chars bytes) ≤ length bytes = chars_fit bytes valid in all_of n (chars bytes) (omega (arith, fit, few))
+
+-- ---- an edit of the script
+
+-- the text of a block that is one
+text_is : (lines : List (List ℕ)) → length (made_text lines) ≤ max_script → (b : Bool) → is_utf8 (made_text lines) ≡ b
+    → text_of_block lines ≡ (if b then Ok (made_text lines) else Err script.NotUtf8)
+text_is lines few b is = let test : nat_lt max_script (length (made_text lines)) ≡ false = grind (arith, nat_tests) in rw (test, is) refl
+
+text_long : (lines : List (List ℕ)) → max_script < length (made_text lines) → text_of_block lines ≡ Err script.ScriptTooLong
+text_long lines long = let test : nat_lt max_script (length (made_text lines)) ≡ true = grind (arith, nat_tests) in rw test refl
+
+-- the line is no command
+bad_target : (s : Contents) (line : List ℕ) (lines : List (List ℕ)) → target_of line ≡ None → IsTextAnswer s (block_command line lines) (ended (codes "no 52 BadCommand")) s
+bad_target s line lines none = subst (λ (c : Command). IsTextAnswer s c (ended (codes "no 52 BadCommand")) s) (sym (ap (λ (t : Option ScriptEdit). with_target t lines) none)) (Enough, (refl, refl))
+
+-- the line is no text, whatever its block is
+pub bad_line : (s : Contents) (line : List ℕ) (lines : List (List ℕ)) → is_utf8 line ≡ false → IsTextAnswer s (block_command line lines) (ended (codes "no 52 BadCommand")) s
+bad_line s line lines bytes = bad_target s line lines (rw bytes refl)
+
+-- what is replaced, by a line that is text
+target_is : (line : List ℕ) (t : Option ScriptEdit) → is_utf8 line ≡ true → t ≡ target_of_text line → target_of line ≡ t
+target_is line t utf8 is = rw utf8 (sym is)
+
+-- the line is text, and no command, whatever its block is
+pub bad_argument : (s : Contents) (line : List ℕ) (lines : List (List ℕ)) → is_utf8 line ≡ true → None ≡ target_of_text line → IsTextAnswer s (block_command line lines) (ended (codes "no 52 BadCommand")) s
+bad_argument s line lines utf8 none = bad_target s line lines (target_is line None utf8 none)
+
+command_is : (line : List ℕ) (lines : List (List ℕ)) (what : ScriptEdit) → is_utf8 line ≡ true → Some what ≡ target_of_text line → block_command line lines ≡ with_text what (text_of_block lines)
+command_is line lines what utf8 is = ap (λ (t : Option ScriptEdit). with_target t lines) (target_is line (Some what) utf8 is)
+
+-- the block is too long
+pub block_too_long : (s : Contents) (line : List ℕ) (lines : List (List ℕ)) (what : ScriptEdit) → is_utf8 line ≡ true → Some what ≡ target_of_text line → max_script < length (made_text lines)
+    → IsTextAnswer s (block_command line lines) (edit_text (Some (fault.Script script.ScriptTooLong))) s
+block_too_long s line lines what utf8 is long =
+    subst (λ (c : Command). IsTextAnswer s c (edit_text (Some (fault.Script script.ScriptTooLong))) s)
+    (sym (command_is line lines what utf8 is ∙ ap (with_text what) (text_long lines long))) (Enough, (refl, refl))
+
+-- the memory of the block was refused
+pub block_refused : (s : Contents) (line : List ℕ) (lines : List (List ℕ)) (what : ScriptEdit) → is_utf8 line ≡ true → Some what ≡ target_of_text line
+    → IsTextAnswer s (block_command line lines) (edit_text (Some fault.OutOfMemory)) s
+block_refused s line lines what utf8 is =
+    subst (λ (c : Command). IsTextAnswer s c (edit_text (Some fault.OutOfMemory)) s) (sym (command_is line lines what utf8 is)) (by (text_of_block lines))
+  where
+    by : (r : Result (List ℕ) ScriptFault) → IsTextAnswer s (with_text what r) (edit_text (Some fault.OutOfMemory)) s
+    by (Ok text) = (BlockRefused, (Some fault.OutOfMemory, (refl, refl, refl), refl))
+    by (Err f) = (BlockRefused, (refl, refl))
+
+-- the block is held: it is a text, or it is not UTF-8
+pub block_held : (s t : Contents) (line bytes answer : List ℕ) (lines : List (List ℕ)) (what : ScriptEdit) → is_utf8 line ≡ true → Some what ≡ target_of_text line
+    → HasText None bytes lines → (is_utf8 bytes ≡ true → IsEditAnswer s (Replace what bytes) answer t)
+    → (is_utf8 bytes ≡ false → (answer ≡ edit_text (Some (fault.Script script.NotUtf8))) × (t ≡ s)) → IsTextAnswer s (block_command line lines) answer t
+block_held s t line bytes answer lines what utf8 target holds text bad = by (is_utf8 bytes) refl
+  where
+    same : (b : Bool) → is_utf8 bytes ≡ b → is_utf8 (made_text lines) ≡ b
+    same b is = ap is_utf8 (sym holds.0) ∙ is
+
+    by : (b : Bool) → is_utf8 bytes ≡ b → IsTextAnswer s (block_command line lines) answer t
+    by true is =
+        subst (λ (c : Command). IsTextAnswer s c answer t)
+        (sym (command_is line lines what utf8 target ∙ ap (with_text what) (text_is lines holds.1 true (same true is) ∙ ap Ok (sym holds.0)))) (text is)
+    by false is =
+        let refused = bad is in
+        subst (λ (c : Command). IsTextAnswer s c answer t)
+        (sym (command_is line lines what utf8 target ∙ ap (with_text what) (text_is lines holds.1 false (same false is)))) (Enough, (refused.0, refused.1))
+
+-- bytes that are no text
+pub not_text : (bytes : List ℕ) → ¬ (IsUtf8 bytes) → is_utf8 bytes ≡ false
+not_text bytes none = by (is_utf8 bytes) refl
+  where
+    by : (t : Bool) → is_utf8 bytes ≡ t → is_utf8 bytes ≡ false
+    by true e = absurd (none (IsUtf8-from_is_utf8 bytes e))
+    by false e = e

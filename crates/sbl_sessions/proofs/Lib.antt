@@ -1,0 +1,10 @@
+pub mod BlockFacts
+pub mod EditFacts
+pub mod LoadFacts
+pub mod ReportFacts
+pub mod SessionFacts
+pub mod CommandFacts
+pub mod NumberFacts
+pub mod OneAnswer
+pub mod InputFacts
+pub mod OneLoading

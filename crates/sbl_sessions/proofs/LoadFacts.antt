@@ -1,0 +1,128 @@
+-- Lines are taken from an input, up to a point; and what is made of them.
+use Rattle.std.proofs.Common.{◌≢◌, false, ◌≡◌, ◌⊎◌, inl, inr, ◌∙◌, ◌++◌, ◌<◌, ◌≤◌, ℕ, true, List, [], ◌∷◌, Option, Some, None, Result, Ok, Err, IfOk, IfErr, refl, sym, ap, subst, map, length}
+use Rattle.std.proofs.lemmas.List.{map-append}
+use Rattle.std.specs.Str.{chars, is_utf8}
+use Rattle.std.specs.declared.vec.Vec.{Vec}
+use Rattle.std.specs.declared.alloc.Global.{Global}
+use Rattle.sbl_text.specs.declared.fault.ScriptFault.{ScriptFault}
+use Rattle.sbl_text.specs.declared.fault.ScriptFault.TheVariants as script
+use Rattle.sbl_script.specs.Parsed.{Parsed, Source, source_of}
+use Rattle.sbl_script.specs.Reading.{IsFaultOf, IsScriptOf}
+use Rattle.sbl_bench.specs.Contents.{IsFaultOrMemory, Contents, opening_fault}
+use Rattle.sbl_bench.specs.declared.fault.EditFault.{EditFault}
+use Rattle.sbl_bench.specs.declared.fault.EditFault.TheVariants as edit
+use Rattle.sbl_sessions.specs.Block.{AllText, BlockLines, Breaks, NoPoint, point}
+use Rattle.sbl_lines.specs.Held.{AllFit, Took}
+use Rattle.sbl_lines.specs.Faults.{serve_fault_of}
+use Rattle.sbl_sessions.specs.Loaded.{IsInput, IsLoaded, ReadsScript, ReadsWords, TookFault, TookSource, WordLines}
+use Rattle.sbl_lines.specs.declared.faults.LineFault.{LineFault}
+use Rattle.sbl_sessions.proofs.BlockFacts.{all_fit-push, no_point-push}
+use Rattle.sbl_lines.specs.declared.faults.LineFault.TheVariants as line
+use Rattle.sbl_sessions.specs.declared.faults.LoadFault.{LoadFault}
+use Rattle.sbl_sessions.specs.declared.faults.LoadFault.TheVariants.{Input, Open, Script}
+use Rattle.sbl_lines.specs.declared.faults.ServeFault.{ServeFault}
+use Rattle.sbl_lines.specs.declared.faults.ServeFault.TheVariants as serve
+
+pub all_text-push : (lines : List (List ℕ)) (line : List ℕ) → AllText lines → is_utf8 line ≡ true → AllText (lines ++ line ∷ [])
+all_text-push [] line h text = (text, tt)
+all_text-push (l ∷ lines) line h text = (h.0, all_text-push lines line h.1 text)
+
+pub words-push : (words : List (Vec ℕ Global)) (lines : List (List ℕ)) (word : Vec ℕ Global) (line : List ℕ) → map (λ w. w.items) words ≡ map chars lines
+    → word.items ≡ chars line → map (λ w. w.items) (words ++ word ∷ []) ≡ map chars (lines ++ line ∷ [])
+words-push words lines word line before is =
+    map-append {A = Vec ℕ Global} (λ w. w.items) words (word ∷ []) ∙ ap (λ (x : List (List ℕ)). x ++ word.items ∷ []) before
+    ∙ ap (λ (w : List ℕ). map chars lines ++ w ∷ []) is ∙ sym (map-append chars lines (line ∷ []))
+
+-- a block that was not read to its end
+pub script_broken : (a b : Option (List ℕ)) (f : ServeFault) → Breaks BlockLines a b f → ReadsScript a b (Err (Input f))
+script_broken a b serve.Read breaks = breaks
+script_broken a b serve.Write breaks = breaks
+script_broken a b serve.LineTooLong breaks = breaks
+script_broken a b serve.Cut breaks = breaks
+script_broken a b serve.NotText breaks = breaks
+script_broken a b serve.OutOfMemory breaks = absurd breaks
+script_broken a b serve.LengthsDiffer breaks = absurd breaks
+
+-- words that were not read to their end
+pub words_broken : (a b : Option (List ℕ)) (f : LineFault) → Breaks WordLines a b (serve_fault_of f) → ReadsWords a b (Err (Input (serve_fault_of f)))
+words_broken a b line.Read breaks = breaks
+words_broken a b line.TooLong breaks = breaks
+
+-- why a line gave no word
+abbrev pub IsUnreadWord : List ℕ → LoadFault → Type 0
+IsUnreadWord line fault = ((fault ≡ Input serve.NotText) × (is_utf8 line ≡ false)) ⊎ (fault ≡ Input serve.OutOfMemory)
+
+-- the words so far, and a line that is none
+pub words_stopped : (a b : Option (List ℕ)) (taken : List (List ℕ)) (line : List ℕ) → NoPoint taken → AllFit taken → line ≢ point → length line ≤ 65536
+    → Took a b (taken ++ line ∷ []) → ReadsWords a b (Err (Input serve.OutOfMemory))
+words_stopped a b taken line free fit other fits took = (taken ++ line ∷ [], (no_point-push taken line free other, all_fit-push taken line fit fits), took)
+
+pub word_unread : (a b : Option (List ℕ)) (taken : List (List ℕ)) (line : List ℕ) (fault : LoadFault) → NoPoint taken → AllFit taken → AllText taken
+    → line ≢ point → length line ≤ 65536 → Took a b (taken ++ line ∷ []) → IsUnreadWord line fault → ReadsWords a b (Err fault)
+word_unread a b taken line fault free fit text other fits took (inl bad) =
+    subst (λ (f : LoadFault). ReadsWords a b (Err f)) (sym bad.0) (taken, line, ((free, fit), text), other, fits, bad.1, took)
+word_unread a b taken line fault free fit text other fits took (inr bad) =
+    subst (λ (f : LoadFault). ReadsWords a b (Err f)) (sym bad) (words_stopped a b taken line free fit other fits took)
+
+-- ---- behind the block
+
+-- a script that was parsed from a block
+pub script_parsed : (old new : Option (List ℕ)) (text : Vec ℕ Global) (bytes external : List ℕ) (p : Parsed) → ReadsScript old new (Ok text) → bytes ≡ text.items
+    → IsScriptOf bytes external (source_of p) → TookSource old new external (source_of p)
+script_parsed old new text bytes external p reads whole is =
+    (reads.0, reads.1, subst (λ (t : List ℕ). IsScriptOf t external (source_of p)) (whole ∙ reads.2) is)
+
+-- a block that was not parsed
+pub script_refused : (old new : Option (List ℕ)) (text : Vec ℕ Global) (bytes external : List ℕ) (f : ScriptFault) → ReadsScript old new (Ok text) → bytes ≡ text.items
+    → (f ≡ script.OutOfMemory) ⊎ IsFaultOf bytes external f → TookFault old new external f
+script_refused old new text bytes external f reads whole why =
+    (reads.0, reads.1, subst (λ (t : List ℕ). (f ≡ script.OutOfMemory) ⊎ IsFaultOf t external f) (whole ∙ reads.2) why)
+
+-- a script block that gave no text
+pub script_unread : {B : Type 0} (old new : Option (List ℕ)) (external : List ℕ) (state : B → Contents) (fault : LoadFault)
+    → ReadsScript old new (Err fault) → IsLoaded old new external state (Err fault)
+script_unread old new external state (Script script.ScriptTooLong) reads = (reads.0, reads.1, inr (inl (inl (reads.2, refl))))
+script_unread old new external state (Script f) reads = absurd reads
+script_unread old new external state (Open f) reads = absurd reads
+script_unread old new external state (Input serve.Read) reads = inl reads
+script_unread old new external state (Input serve.Write) reads = absurd reads
+script_unread old new external state (Input serve.LineTooLong) reads = inl reads
+script_unread old new external state (Input serve.Cut) reads = reads
+script_unread old new external state (Input serve.NotText) reads = absurd reads
+script_unread old new external state (Input serve.OutOfMemory) reads = inl reads
+script_unread old new external state (Input serve.LengthsDiffer) reads = absurd reads
+
+-- words that were not read
+pub words_refused : {B : Type 0} (old between new : Option (List ℕ)) (external : List ℕ) (s : Source) (state : B → Contents) (fault : LoadFault)
+    → TookSource old between external s → ReadsWords between new (Err fault) → IsLoaded old new external state (Err fault)
+words_refused old between new external s state (Script f) begins reads = absurd reads
+words_refused old between new external s state (Open f) begins reads = absurd reads
+words_refused old between new external s state (Input serve.Read) begins reads = inr (s, between, begins, reads)
+words_refused old between new external s state (Input serve.Write) begins reads = absurd reads
+words_refused old between new external s state (Input serve.LineTooLong) begins reads = inr (s, between, begins, reads)
+words_refused old between new external s state (Input serve.Cut) begins reads = absurd reads
+words_refused old between new external s state (Input serve.LengthsDiffer) begins reads = absurd reads
+words_refused old between new external s state (Input serve.NotText) begins reads = (s, between, begins, reads)
+words_refused old between new external s state (Input serve.OutOfMemory) begins reads = inr (s, between, begins, reads)
+
+words_given : (old between new : Option (List ℕ)) (external : List ℕ) (s : Source) (words : Vec (Vec ℕ Global) Global) (f : EditFault)
+    → TookSource old between external s → ReadsWords between new (Ok words) → opening_fault [] (map (λ w. w.items) words.items) ≡ Some f
+    → (s : Source) × (lines : List (List ℕ)) × IsInput old new external s lines × (opening_fault [] (map chars lines) ≡ Some f)
+words_given old between new external s words f begins reads fault =
+    (s, reads.0, (between, begins, reads.1), ap (opening_fault []) (sym reads.2) ∙ fault)
+
+-- words that make no vocabulary
+pub bench_refused : {B : Type 0} (old between new : Option (List ℕ)) (external : List ℕ) (s : Source) (words : Vec (Vec ℕ Global) Global) (state : B → Contents) (f : EditFault)
+    → TookSource old between external s → ReadsWords between new (Ok words) → IsFaultOrMemory (opening_fault [] (map (λ w. w.items) words.items)) f
+    → IsLoaded old new external state (Err (Open f))
+bench_refused old between new external s words state edit.Present begins reads fault = words_given old between new external s words edit.Present begins reads fault
+bench_refused old between new external s words state edit.Absent begins reads fault = words_given old between new external s words edit.Absent begins reads fault
+bench_refused old between new external s words state edit.EmptyWord begins reads fault = words_given old between new external s words edit.EmptyWord begins reads fault
+bench_refused old between new external s words state edit.WordTooLong begins reads fault = words_given old between new external s words edit.WordTooLong begins reads fault
+bench_refused old between new external s words state edit.Full begins reads fault = words_given old between new external s words edit.Full begins reads fault
+bench_refused old between new external s words state edit.NoRoutine begins reads fault = words_given old between new external s words edit.NoRoutine begins reads fault
+bench_refused old between new external s words state edit.NoAmong begins reads fault = words_given old between new external s words edit.NoAmong begins reads fault
+bench_refused old between new external s words state edit.AmongCount begins reads fault = words_given old between new external s words edit.AmongCount begins reads fault
+bench_refused old between new external s words state (edit.Script f) begins reads fault = words_given old between new external s words (edit.Script f) begins reads fault
+bench_refused old between new external s words state edit.OutOfMemory begins reads fault = (s, reads.0, (between, begins, reads.1))
+bench_refused old between new external s words state edit.MeterFull begins reads fault = words_given old between new external s words edit.MeterFull begins reads fault

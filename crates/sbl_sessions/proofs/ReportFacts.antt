@@ -1,0 +1,128 @@
+-- Reports: the rows and classes that they write, and the row of a word.
+use Rattle.std.proofs.Common.{append_assoc, get_or, length, subst, ◌<◌, ◌++◌, ◌≡◌, ◌∙◌, ◌+◌, ℕ, Bool, true, false, List, [], ◌∷◌, Option, Some, None, Result, Ok, Err, IfOk, OnErr, refl, sym, ap, map, take, slice_get, suc}
+use Prim.Native.Nat.{zero}
+use Rattle.std.specs.List.{find}
+use Rattle.std.specs.declared.vec.Vec.{Vec}
+use Rattle.std.specs.declared.alloc.Global.{Global}
+use Rattle.std.specs.declared.alloc.AllocError.{AllocError}
+use Rattle.sbl_bench.specs.Contents.{Contents}
+use Rattle.std.proofs.lemmas.List.{map-append, take_more}
+use Rattle.std.specs.Option.{option_map}
+use Rattle.std.specs.Str.{bytes_eq, encode_utf8_all}
+use Rattle.sbl_bench.specs.Classes.{Class, class_of, words_of}
+use Rattle.sbl_bench.specs.Rows.{Row, max_steps}
+use Rattle.sbl_bench.specs.Traces.{trace_of}
+use Rattle.sbl_bench.specs.Vocabulary.{is_word}
+use Rattle.sbl_bench.specs.declared.fault.EditFault.TheVariants as fault
+use Rattle.sbl_machine.specs.Touched.{Item', touched_of}
+use Rattle.sbl_sessions.specs.Answers.{Enough, IsReport, IsReportOrAbsent, Memory, RefusedAfter, edit_text}
+use Rattle.sbl_sessions.specs.CommandViews.{IsReply}
+use Rattle.sbl_sessions.specs.Rows.{class_fields, class_or_row, class_or_row_text, class_text, records_text, row_fields, rows_now}
+use Rattle.sbl_sessions.specs.Traces.{items_text, trace_text}
+use Rattle.sbl_sessions.specs.declared.replies.Reply.{Reply}
+
+pub map_twice : {A B C : Type 0} (g : B → C) (f : A → B) (xs : List A) → map (λ (x : A). g (f x)) xs ≡ map g (map f xs)
+map_twice g f [] = refl
+map_twice {A} {B} {C} g f (x ∷ xs) = ap (λ (ys : List C). g (f x) ∷ ys) (map_twice g f xs)
+
+-- the text of records is that of what they show
+pub text_of_views : {A B : Type 0} (r : Result (Vec ℕ Global) AllocError) (fields : B → List (List ℕ)) (view : A → B) (given : List A) (shown : List B)
+    → map view given ≡ shown → IfOk r (λ text. text.items ≡ records_text (map (λ (x : A). fields (view x)) given)) → IfOk r (λ text. text.items ≡ records_text (map fields shown))
+text_of_views {A} {B} (Ok text) fields view given shown are h =
+    h ∙ ap records_text (map_twice fields view given ∙ ap (map fields) are)
+text_of_views (Err e) fields view given shown are h = tt
+
+-- a report that was made, or whose memory was refused
+pub report_answer : (r : Result (Vec ℕ Global) AllocError) (reply : Reply) (s : Contents) (expected : List ℕ) → IfOk r (λ text. text.items ≡ expected)
+    → IfOk r (λ made. IsReply reply made.items) → OnErr r (IsReply reply (edit_text (Some fault.OutOfMemory)))
+    → (memory : Memory) × (text : List ℕ) × IsReply reply text × IsReport s expected memory text s
+report_answer (Ok text) reply s expected is made refused = (Enough, text.items, made, (is, refl))
+report_answer (Err e) reply s expected is made refused = (RefusedAfter 0, edit_text (Some fault.OutOfMemory), refused, (refl, refl))
+
+-- ---- the class of a word, or its row
+
+pub text_of_class : (r : Result (Vec ℕ Global) AllocError) (s : Contents) (word : List ℕ) (row : Row) (class : Class) → Some class ≡ class_of (rows_now s) word
+    → IfOk r (λ text. text.items ≡ records_text (class_fields class ∷ [])) → IfOk r (λ text. text.items ≡ class_or_row_text s word row)
+text_of_class (Ok text) s word row class is h = h ∙ ap (λ (o : Option Class). records_text (class_or_row o row ∷ [])) is
+text_of_class (Err e) s word row class is h = tt
+
+pub text_of_row : (r : Result (Vec ℕ Global) AllocError) (s : Contents) (word : List ℕ) (row : Row) → None ≡ class_of (rows_now s) word
+    → IfOk r (λ text. text.items ≡ records_text (row_fields row ∷ [])) → IfOk r (λ text. text.items ≡ class_or_row_text s word row)
+text_of_row (Ok text) s word row is h = h ∙ ap (λ (o : Option Class). records_text (class_or_row o row ∷ [])) is
+text_of_row (Err e) s word row is h = tt
+
+-- ---- the row of a word
+
+some_none : {A : Type 0} {x : A} → Some x ≡ None → ⊥
+some_none e = cc e
+
+-- the first element that passes
+pub found : {A : Type 0} (p : A → Bool) (xs : List A) (i : ℕ) (x : A) → find p (take i xs) ≡ None → slice_get xs i ≡ Some x → p x ≡ true → find p xs ≡ Some x
+found p [] i x none at passes = absurd (some_none (sym at))
+found {A} p (y ∷ xs) zero x none at passes = let same : y ≡ x = cc at in rw (same, passes) refl
+found {A} p (y ∷ xs) (suc i) x none at passes = by (λ rest. found p xs i x rest at passes) (p y) refl
+  where
+    by : (find p (take i xs) ≡ None → find p xs ≡ Some x) → (t : Bool) → p y ≡ t → find p (y ∷ xs) ≡ Some x
+    by more true e = let some : Some y ≡ None = (rw e at none) in absurd (some_none some)
+    by more false e = let rest : find p (take i xs) ≡ None = (rw e at none) in rw e (more rest)
+
+-- no element so far passes, and the next does not
+pub missed : {A : Type 0} (p : A → Bool) (xs : List A) (i : ℕ) (x : A) → find p (take i xs) ≡ None → slice_get xs i ≡ Some x → p x ≡ false → find p (take (suc i) xs) ≡ None
+missed p [] i x none at fails = absurd (some_none (sym at))
+missed {A} p (y ∷ xs) zero x none at fails = let same : y ≡ x = cc at in rw (same, fails) refl
+missed {A} p (y ∷ xs) (suc i) x none at fails = by (λ rest. missed p xs i x rest at fails) (p y) refl
+  where
+    by : (find p (take i xs) ≡ None → find p (take (suc i) xs) ≡ None) → (t : Bool) → p y ≡ t → find p (take (suc (suc i)) (y ∷ xs)) ≡ None
+    by more true e = let some : Some y ≡ None = (rw e at none) in absurd (some_none some)
+    by more false e = let rest : find p (take i xs) ≡ None = (rw e at none) in rw e (more rest)
+
+-- ---- the report of a word's class
+
+pub class_text_is : (s : Contents) (word : List ℕ) (row : Option Row) → find (λ (r : Row). bytes_eq word r.word) (rows_now s) ≡ row → class_text s word ≡ option_map (class_or_row_text s word) row
+unfolding class_text
+class_text_is s word row is = ap (option_map (class_or_row_text s word)) is
+
+-- ---- the fields of a class
+
+pub word_field : (words : List (Vec ℕ Global)) (i : ℕ) (w : Vec ℕ Global) (first old new : List (List ℕ)) → i < length words → w ≡ get_or words i w
+    → old ≡ first ++ map encode_utf8_all (words_of (take i words)) → new ≡ old ++ encode_utf8_all w.items ∷ []
+    → new ≡ first ++ map encode_utf8_all (words_of (take (i + 1) words))
+word_field words i w first old new lt is before more =
+    let enc = encode_utf8_all in
+    let one : words_of (take (i + 1) words) ≡ words_of (take i words) ++ w.items ∷ [] =
+    ap words_of (take_more words i w lt ∙ ap (λ (x : Vec ℕ Global). take i words ++ x ∷ []) (sym is)) ∙ map-append {A = Vec ℕ Global} (λ x. x.items) (take i words) (w ∷ []) in
+    more ∙ ap (λ (x : List (List ℕ)). x ++ enc w.items ∷ []) before ∙ append_assoc first (map enc (words_of (take i words))) (enc w.items ∷ [])
+    ∙ ap (λ (x : List (List ℕ)). first ++ x) (sym (ap (map enc) one ∙ map-append enc (words_of (take i words)) (w.items ∷ [])))
+
+-- ---- the trace of a word
+
+pub trace_text_is : (s : Contents) (word : List ℕ) (items : Option (List Item')) → items ≡ trace_of s.script s.words word → trace_text s word ≡ option_map items_text items
+unfolding trace_text
+trace_text_is s word items is = ap (option_map items_text) (sym is)
+
+-- its items, or want of memory for their text
+pub trace_answer : (s : Contents) (word : List ℕ) (items : List Item') (r : Result (Vec ℕ Global) AllocError) (reply : Reply) → Some items ≡ trace_of s.script s.words word
+    → IfOk r (λ text. text.items ≡ items_text items) → IfOk r (λ made. IsReply reply made.items) → OnErr r (IsReply reply (edit_text (Some fault.OutOfMemory)))
+    → (memory : Memory) × (text : List ℕ) × IsReply reply text × IsReportOrAbsent s (trace_text s word) memory text s
+trace_answer s word items r reply is text made refused =
+    subst (λ (o : Option (List ℕ)). (memory : Memory) × (text : List ℕ) × IsReply reply text × IsReportOrAbsent s o memory text s) (sym (trace_text_is s word (Some items) is))
+    (report_answer r reply s (items_text items) text made refused)
+
+-- the word is not there
+pub trace_absent : (s : Contents) (word told : List ℕ) → None ≡ trace_of s.script s.words word → told ≡ edit_text (Some fault.Absent)
+    → (memory : Memory) × (text : List ℕ) × (told ≡ text) × IsReportOrAbsent s (trace_text s word) memory text s
+trace_absent s word told is absent =
+    subst (λ (o : Option (List ℕ)). (memory : Memory) × (text : List ℕ) × (told ≡ text) × IsReportOrAbsent s o memory text s) (sym (trace_text_is s word None is)) (Enough, told, refl, (absent, refl))
+
+-- the word is there, and the memory of its items was refused
+pub trace_refused : (s : Contents) (word : List ℕ) (reply : Reply) → (is_word word s.words ≡ false → ⊥) → IsReply reply (edit_text (Some fault.OutOfMemory))
+    → (memory : Memory) × (text : List ℕ) × IsReply reply text × IsReportOrAbsent s (trace_text s word) memory text s
+trace_refused s word reply there refused = by (is_word word s.words) refl
+  where
+    by : (b : Bool) → is_word word s.words ≡ b → (memory : Memory) × (text : List ℕ) × IsReply reply text × IsReportOrAbsent s (trace_text s word) memory text s
+    by false absent = absurd (there absent)
+    by true e =
+        let items = touched_of s.script word max_steps in
+        let is : Some items ≡ trace_of s.script s.words word = rw e refl in
+        subst (λ (o : Option (List ℕ)). (memory : Memory) × (text : List ℕ) × IsReply reply text × IsReportOrAbsent s o memory text s) (sym (trace_text_is s word (Some items) is))
+        (RefusedAfter 0, edit_text (Some fault.OutOfMemory), refused, (refl, refl))

@@ -1,0 +1,75 @@
+use Rattle.std.proofs.Common.{refl, ap, ◌≡◌, ◌≢◌, ◌∙◌, ◌++◌, [], ◌∷◌, arith, rules, inl, inr, map, sym, subst, List, ℕ, true}
+use Rattle.std.specs.Str.{chars, is_utf8}
+use Rattle.std.proofs.lemmas.Result.{err_from_is_err_and}
+use Rattle.std.specs.declared.vec.Vec.{Vec}
+use Rattle.std.specs.declared.alloc.Global.{Global}
+use Rattle.sbl_sessions.specs.Block.{point}
+use Rattle.sbl_lines.specs.Held.{input_of, line_of, GivesLine}
+use Rattle.sbl_sessions.proofs.BlockFacts.{all_fit-push, no_point-push}
+use Rattle.sbl_lines.proofs.Bytes.{took-kept, took-none, took-trans}
+use Rattle.sbl_sessions.proofs.LoadFacts.{IsUnreadWord, all_text-push, word_unread, words-push, words_stopped}
+use Rattle.sbl_sessions.proofs.loading.read_words.Goals as goal
+
+pub loop-words-init : goal.loop-words-init
+loop-words-init g c =
+    ([], tt, tt, took-none _, ap (λ (ws : List (Vec ℕ Global)). map (λ w. w.items) ws) c.new-words.ensures.items, refl, omega arith, tt, refl, λ timely. timely)
+
+pub returns-in_err-word-clause-reads : goal.returns-in_err-word-clause-reads
+returns-in_err-word-clause-reads g c = λ _.
+    let left = g.R.Source.left in
+    let so = c.loop-words.invariant in
+    let line = line_of c.next_line.new.self in
+    let other : line ≢ point = search rules in
+    let same : c.line-in-loop-words.result.now ≡ line = c.line-in-loop-words.ensures in
+    let took = took-trans _ (input_of left c.loop-words.lines) _ so.0 (line ∷ []) so.3 (c.in_ok-next_line.ensures.more c.if-branch.true) in
+    let none = subst (λ (x : List ℕ). IsUnreadWord x c.in_err-word.field-0.0) same c.in_err-word.ensures.none in
+    let p = err_from_is_err_and c.from_residual-in_err-word.result c.from_residual-in_err-word.ensures.1 in
+    rw (p.1, p.2) (word_unread (input_of left c.args.lines.now) _ so.0 line c.in_err-word.field-0.0 so.1 so.7 so.2 other (c.in_ok-next_line.ensures.fits c.if-branch.true) took none)
+
+pub returns-in_err-push-clause-reads : goal.returns-in_err-push-clause-reads
+returns-in_err-push-clause-reads g c = λ _.
+    let left = g.R.Source.left in
+    let so = c.loop-words.invariant in
+    let line = line_of c.next_line.new.self in
+    let other : line ≢ point = search rules in
+    let took = took-trans _ (input_of left c.loop-words.lines) _ so.0 (line ∷ []) so.3 (c.in_ok-next_line.ensures.more c.if-branch.true) in
+    let p = err_from_is_err_and c.from_residual-in_err-push.result c.from_residual-in_err-push.ensures.1 in
+    rw (p.1, p.2) (words_stopped (input_of left c.args.lines.now) _ so.0 line so.1 so.7 other (c.in_ok-next_line.ensures.fits c.if-branch.true) took)
+
+pub returns-then-eq-clause-reads : goal.returns-then-eq-clause-reads
+returns-then-eq-clause-reads g c = λ _.
+    let left = g.R.Source.left in
+    let so = c.loop-words.invariant in
+    let line : line_of c.next_line.new.self ≡ point = search rules in
+    let gives : GivesLine (input_of left c.loop-words.lines) (input_of left c.next_line.new.self) point =
+    subst (λ (x : List ℕ). GivesLine (input_of left c.loop-words.lines) (input_of left c.next_line.new.self) x) line (c.in_ok-next_line.ensures.more c.if-branch.true) in
+    (so.0, (((so.1, so.7), so.2), inl (took-trans _ (input_of left c.loop-words.lines) _ so.0 (point ∷ []) so.3 gives)), so.4)
+
+pub loop-words-preserved : goal.loop-words-preserved
+loop-words-preserved g c =
+    let left = g.R.Source.left in
+    let so = c.loop-words.invariant in
+    let line = line_of c.next_line.new.self in
+    let other : line ≢ point = search rules in
+    let same : c.line-in-loop-words.result.now ≡ line = c.line-in-loop-words.ensures in
+    let text : is_utf8 line ≡ true = subst (λ (x : List ℕ). is_utf8 x ≡ true) same c.in_ok-word.ensures.text.0 in
+    let words : map (λ w. w.items) c.push.new.self.items ≡ map chars (so.0 ++ line ∷ []) =
+    ap (λ (ws : List (Vec ℕ Global)). map (λ w. w.items) ws) c.in_ok-push.ensures.items
+    ∙ words-push c.loop-words.words.items so.0 c.in_ok-word.word line so.4 (c.in_ok-word.ensures.text.1 ∙ ap chars same) in (
+      so.0 ++ line ∷ [],
+      no_point-push so.0 line so.1 other,
+      all_text-push so.0 line so.2 text,
+      took-trans _ (input_of left c.loop-words.lines) _ so.0 (line ∷ []) so.3 (c.in_ok-next_line.ensures.more c.if-branch.true),
+      words,
+      c.in_ok-next_line.ensures.ready.1 ∙ sym c.in_ok-next_line.ensures.ready.0 ∙ so.5,
+      omega (arith, so.6, c.next_line.ensures.later),
+      all_fit-push so.0 line so.7 (c.in_ok-next_line.ensures.fits c.if-branch.true),
+      c.next_line.ensures.bound ∙ so.8,
+      λ timely. c.next_line.ensures.in_time (so.9 timely),
+    )
+
+pub returns-clause-reads : goal.returns-clause-reads
+returns-clause-reads g c = λ _.
+    let so = c.loop-words.invariant in
+    let end = c.in_ok-next_line.ensures.end c.if-branch.false in
+    (so.0, (((so.1, so.7), so.2), inr (took-kept _ (input_of g.R.Source.left c.loop-words.lines) _ so.0 so.3 end.2, end.1)), so.4)

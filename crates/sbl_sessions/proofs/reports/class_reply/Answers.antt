@@ -1,0 +1,42 @@
+use Rattle.std.proofs.Common.{◌≡◌, ◌∙◌, List, ℕ, Option, Some, None, IfOk, length, refl, rules, subst, sym, take}
+use Rattle.std.specs.List.{find}
+use Rattle.std.specs.Str.{bytes_eq, chars}
+use Rattle.sbl_bench.specs.Kept.{contents_of}
+use Rattle.sbl_bench.specs.Rows.{Row, view_row}
+use Rattle.sbl_sessions.specs.Answers.{Enough, IsReportOrAbsent, Memory}
+use Rattle.sbl_sessions.specs.CommandViews.{IsReply}
+use Rattle.sbl_sessions.specs.Rows.{class_or_row_text, class_text, rows_now}
+use Rattle.sbl_sessions.proofs.EditFacts.{all_chars}
+use Rattle.sbl_sessions.proofs.ReportFacts.{class_text_is, report_answer}
+use Rattle.sbl_sessions.proofs.reports.class_reply.Goals as goal
+
+pub returns-in-Some : goal.returns-in-Some
+returns-in-Some c =
+    let s = contents_of c.args.bench.now in
+    let word = chars c.args.word.now in
+    let row : Row = view_row c.in-Some.row in
+    let room : length c.first_characters-count.new.room ≡ 65536 = search rules in
+    let first : take c.first_characters-count.result c.first_characters-count.new.room ≡ word =
+    subst (λ (n : ℕ). take c.first_characters-count.result c.first_characters-count.new.room ≡ take n word) room c.first_characters-count.ensures.first
+    ∙ all_chars 65536 c.args.word.now c.utf8.word c.requires in
+    let here : Some row ≡ find (λ (r : Row). bytes_eq word r.word) (rows_now s) =
+    subst (λ (w : List ℕ). Some row ≡ find (λ (r : Row). bytes_eq w r.word) (rows_now s)) first c.in-Some.ensures in
+    let text : class_text s word ≡ Some (class_or_row_text s word row) = class_text_is s word (Some row) (sym here) in
+    let made : IfOk c.class_or_row_text.result (λ t. t.items ≡ class_or_row_text s word row) =
+    subst (λ (w : List ℕ). IfOk c.class_or_row_text.result (λ t. t.items ≡ class_or_row_text s w row)) first c.class_or_row_text.ensures in
+    subst (λ (o : Option (List ℕ)). (memory : Memory) × (text : List ℕ) × IsReply c.report.result text × IsReportOrAbsent s o memory text s) (sym text)
+    (report_answer c.class_or_row_text.result c.report.result s (class_or_row_text s word row) made c.report.ensures.made c.report.ensures.refused)
+
+pub returns-in-None : goal.returns-in-None
+returns-in-None c =
+    let s = contents_of c.args.bench.now in
+    let word = chars c.args.word.now in
+    let room : length c.first_characters-count.new.room ≡ 65536 = search rules in
+    let first : take c.first_characters-count.result c.first_characters-count.new.room ≡ word =
+    subst (λ (n : ℕ). take c.first_characters-count.result c.first_characters-count.new.room ≡ take n word) room c.first_characters-count.ensures.first
+    ∙ all_chars 65536 c.args.word.now c.utf8.word c.requires in
+    let here : None ≡ find (λ (r : Row). bytes_eq word r.word) (rows_now s) =
+    subst (λ (w : List ℕ). None ≡ find (λ (r : Row). bytes_eq w r.word) (rows_now s)) first c.in-None.ensures in
+    let text : class_text s word ≡ None = class_text_is s word None (sym here) in
+    let told = c.edit_text.result.now in
+    subst (λ (o : Option (List ℕ)). (memory : Memory) × (text : List ℕ) × (told ≡ text) × IsReportOrAbsent s o memory text s) (sym text) (Enough, told, refl, (c.edit_text.ensures, refl))

@@ -1,0 +1,15 @@
+use Rattle.std.proofs.Common.{◌≡◌, List, ℕ, map, subst, sym, IfOk}
+use Rattle.sbl_bench.specs.Kept.{contents_of}
+use Rattle.sbl_bench.specs.Classes.{Class, classes_of, view_class}
+use Rattle.sbl_bench.specs.declared.class.Class as declared
+use Rattle.sbl_sessions.specs.Rows.{class_fields, classes_text, rows_now}
+use Rattle.sbl_sessions.proofs.ReportFacts.{text_of_views}
+use Rattle.sbl_sessions.proofs.reports.classes_text.Goals as goal
+
+pub returns : goal.returns
+unfolding classes_text
+returns c =
+    let all : List Class = classes_of (rows_now (contents_of c.args.bench.now)) in
+    let are : map view_class c.in_ok-classes.classes.items ≡ all = c.in_ok-classes.ensures in
+    let shown : map view_class c.deref.result.now ≡ all = subst (λ (xs : List declared.Class). map view_class xs ≡ all) (sym c.deref.ensures.value) are in
+    text_of_views c.records_text.result class_fields view_class c.deref.result.now all shown c.records_text.ensures

@@ -1,0 +1,94 @@
+use Rattle.sbl_lines.specs.declared.faults.ServeFault.TheVariants as fault
+use Rattle.std.proofs.Common.{rules, Err, ◌≡◌, ◌∙◌, ap, sym, subst, refl, Option, None, IsSome}
+use Rattle.sbl_lines.specs.declared.faults.LineFault.{LineFault}
+use Rattle.std.proofs.KnownBytes.{Keeps-refl}
+use Rattle.sbl_bench.specs.Kept.{contents_of}
+use Rattle.std.proofs.lemmas.Result.{err_from_is_err_and}
+use Rattle.sbl_bench.specs.Contents.{Contents}
+use Rattle.sbl_lines.specs.Held.{TookWhole, fault_of, input_of, line_of}
+use Rattle.sbl_sessions.specs.Session.{IsSession}
+use Rattle.sbl_lines.specs.declared.faults.LineFault.TheVariants as read
+use Rattle.sbl_lines.specs.declared.faults.ServeFault.{ServeFault}
+use Rattle.sbl_lines.proofs.Bytes.{whole_none, whole_trans}
+use Rattle.sbl_sessions.proofs.SessionFacts.{session_starts, session_goes_on, session_ends, session_at_line, session_at_write, session_open}
+use Rattle.sbl_sessions.proofs.serving.serve.Goals as goal
+
+no_fault : {f : Option LineFault} → f ≡ None → IsSome f → ⊥
+no_fault {f} e some = let none : IsSome {T = LineFault} None = subst IsSome e some in cc none
+
+pub loop-bench-init : goal.loop-bench-init
+loop-bench-init g c = record { session = session_starts _ _ _; fault = refl; feeds = λ _. whole_none _; read = refl; written = refl; bound = refl; untouched = λ _. (refl, Keeps-refl _, Keeps-refl _); reads = λ timely. timely; writes = λ fair rest. fair; rested = λ rest. rest }
+
+pub loop-bench-preserved-in_ok-write_reply : goal.loop-bench-preserved-in_ok-write_reply
+loop-bench-preserved-in_ok-write_reply g c = record {
+  session =
+      session_goes_on _ (input_of g.R.Source.left c.loop-bench.lines) (input_of g.R.Source.left c.next_line.new.self) _ _ (g.W.Sink.held c.loop-bench.writer) _ _ (contents_of c.loop-bench.bench) _ _ c.in_ok-reply.reply
+      c.loop-bench.invariant.session (c.in_ok-next_line.ensures.more c.if-branch.true) (c.in_ok-next_line.ensures.fits c.if-branch.true) c.in_ok-reply.ensures.answered c.in_ok-write_reply.ensures.all;
+  fault = c.in_ok-reply.ensures.remembered ∙ sym c.in_ok-next_line.ensures.ready.0 ∙ c.loop-bench.invariant.fault;
+  feeds = λ untold.
+      let before = c.answer.ensures.stays untold in
+      whole_trans _ (input_of g.R.Source.left c.loop-bench.lines) _ (c.loop-bench.invariant.feeds (c.next_line.ensures.stays before))
+      (whole_trans _ (input_of g.R.Source.left c.next_line.new.self) _ (c.in_ok-next_line.ensures.feeds c.if-branch.true before) (c.in_ok-reply.ensures.feeds untold));
+  read = c.in_ok-reply.ensures.steady ∙ c.in_ok-next_line.ensures.steady ∙ c.loop-bench.invariant.read;
+  written = c.in_ok-write_reply.ensures.steady ∙ c.loop-bench.invariant.written;
+  bound = c.answer.ensures.bound ∙ c.next_line.ensures.bound ∙ c.loop-bench.invariant.bound;
+  untouched = λ some. absurd (no_fault (sym c.loop-bench.invariant.fault ∙ c.in_ok-next_line.ensures.ready.0) some);
+  reads = λ timely. c.answer.ensures.in_time (c.next_line.ensures.in_time (c.loop-bench.invariant.reads timely));
+  writes = λ fair rest. c.write_reply.ensures.in_time (c.loop-bench.invariant.writes fair rest) (c.loop-bench.invariant.rested rest);
+  rested = λ rest. c.in_ok-write_reply.ensures.rested (c.loop-bench.invariant.rested rest);
+}
+
+pub loop-bench-preserved : goal.loop-bench-preserved
+loop-bench-preserved g c = record {
+  session =
+      session_goes_on _ (input_of g.R.Source.left c.loop-bench.lines) (input_of g.R.Source.left c.next_line.new.self) _ _ (g.W.Sink.held c.loop-bench.writer) _ _ (contents_of c.loop-bench.bench) _ _ c.in_ok-reply.reply
+      c.loop-bench.invariant.session (c.in_ok-next_line.ensures.more c.if-branch.true) (c.in_ok-next_line.ensures.fits c.if-branch.true) c.in_ok-reply.ensures.answered c.in_ok-write_reply.ensures.all;
+  fault = c.in_ok-reply.ensures.remembered ∙ sym c.in_ok-next_line.ensures.ready.0 ∙ c.loop-bench.invariant.fault;
+  feeds = λ untold.
+      let before = c.answer.ensures.stays untold in
+      whole_trans _ (input_of g.R.Source.left c.loop-bench.lines) _ (c.loop-bench.invariant.feeds (c.next_line.ensures.stays before))
+      (whole_trans _ (input_of g.R.Source.left c.next_line.new.self) _ (c.in_ok-next_line.ensures.feeds c.if-branch.true before) (c.in_ok-reply.ensures.feeds untold));
+  read = c.in_ok-reply.ensures.steady ∙ c.in_ok-next_line.ensures.steady ∙ c.loop-bench.invariant.read;
+  written = c.in_ok-write_reply.ensures.steady ∙ c.loop-bench.invariant.written;
+  bound = c.answer.ensures.bound ∙ c.next_line.ensures.bound ∙ c.loop-bench.invariant.bound;
+  untouched = λ some. absurd (no_fault (sym c.loop-bench.invariant.fault ∙ c.in_ok-next_line.ensures.ready.0) some);
+  reads = λ timely. c.answer.ensures.in_time (c.next_line.ensures.in_time (c.loop-bench.invariant.reads timely));
+  writes = λ fair rest. c.write_reply.ensures.in_time (c.loop-bench.invariant.writes fair rest) (c.loop-bench.invariant.rested rest);
+  rested = λ rest. c.in_ok-write_reply.ensures.rested (c.loop-bench.invariant.rested rest);
+}
+
+pub returns-clause-session : goal.returns-clause-session
+returns-clause-session g c = λ _.
+    let end = c.in_ok-next_line.ensures.end c.if-branch.false in
+    session_ends _ (input_of g.R.Source.left c.loop-bench.lines) _ _ _ _ _ c.loop-bench.invariant.session end.2 end.1
+
+pub returns-in_err-next_line-clause-session : goal.returns-in_err-next_line-clause-session
+returns-in_err-next_line-clause-session g c = λ none.
+    let left = g.R.Source.left in
+    let p = err_from_is_err_and c.from_residual.result c.from_residual.ensures.1 in
+    let whole : c.in_err-next_line.field-0.0 ≡ read.Read → TookWhole (input_of left c.args.lines.now) (input_of left c.loop-bench.lines) =
+    λ is. c.loop-bench.invariant.feeds (c.next_line.ensures.stays (c.in_err-next_line.ensures.drained is (c.loop-bench.invariant.fault ∙ none)).1) in
+    rw (p.1, p.2) (session_at_line _ (input_of left c.loop-bench.lines) _ _ _ _ _ (fault_of c.loop-bench.lines) (line_of c.next_line.new.self) c.in_err-next_line.field-0.0
+    c.loop-bench.invariant.session (c.loop-bench.invariant.fault ∙ none) whole c.in_err-next_line.ensures.long c.in_err-next_line.ensures.cut)
+
+pub returns-in_err-reply-clause-session : goal.returns-in_err-reply-clause-session
+returns-in_err-reply-clause-session g c = λ _.
+    let left = g.R.Source.left in
+    let held = g.W.Sink.held in
+    let f = c.in_err-reply.field-0.0 in
+    let p = err_from_is_err_and c.from_residual-in_err-reply.result c.from_residual-in_err-reply.ensures.1 in
+    let broken = c.in_err-reply.ensures.broken in
+    let whole : f ≡ fault.Read → TookWhole (input_of left c.args.lines.now) (input_of left c.loop-bench.lines) =
+    λ is. c.loop-bench.invariant.feeds (c.next_line.ensures.stays (c.answer.ensures.stays (c.in_err-reply.ensures.drained (ap (λ (x : ServeFault). Err x) is)).1)) in
+    rw (p.1, p.2)
+    (subst (λ (x : Contents). IsSession (input_of left c.args.lines.now) (input_of left c.answer.new.lines) (held c.args.writer.now) (held c.loop-bench.writer) (contents_of c.args.bench.now) x (Err f)) (sym broken.1)
+    (session_open _ (input_of left c.loop-bench.lines) (input_of left c.next_line.new.self) _ _ _ _ _ (line_of c.next_line.new.self) f c.loop-bench.invariant.session
+    (c.in_ok-next_line.ensures.more c.if-branch.true) (c.in_ok-next_line.ensures.fits c.if-branch.true) broken.0.0 whole broken.0.1))
+
+pub returns-in_err-write_reply-clause-session : goal.returns-in_err-write_reply-clause-session
+returns-in_err-write_reply-clause-session g c = λ _.
+    let left = g.R.Source.left in
+    let held = g.W.Sink.held in
+    let wrote : c.from_residual-in_err-write_reply.result ≡ Err fault.Write = search rules in
+    rw wrote (session_at_write _ (input_of left c.loop-bench.lines) (input_of left c.next_line.new.self) _ _ (held c.loop-bench.writer) _ _ (contents_of c.loop-bench.bench) _ (line_of c.next_line.new.self) c.in_ok-reply.reply
+    c.write_reply.ensures.front.0 c.loop-bench.invariant.session (c.in_ok-next_line.ensures.more c.if-branch.true) (c.in_ok-next_line.ensures.fits c.if-branch.true) c.in_ok-reply.ensures.answered c.write_reply.ensures.front.1)

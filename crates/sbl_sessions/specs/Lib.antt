@@ -1,0 +1,18 @@
+-- what the contracts of public calls rest on
+pub mod Faults
+pub mod Words
+pub mod Numbers
+pub mod Block
+pub mod Requests
+pub mod Commands
+pub mod Rows
+pub mod Traces
+pub mod Answers
+pub mod Session
+pub mod OneAnswer
+pub mod Loaded
+pub mod OneLoading
+-- what the functions inside the crate promise each other: nothing in these need be believed
+pub mod CommandViews
+pub mod Edits
+pub mod RowWriter

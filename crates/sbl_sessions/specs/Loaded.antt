@@ -1,0 +1,102 @@
+-- What loading makes of an input: a script block, up to a point, and then words, one a line, up to a point or the end.
+use Rattle.std.specs.Prelude.{◌≡◌, ◌≢◌, ◌⊎◌, ◌<◌, ◌≤◌, ℕ, false, List, [], ◌∷◌, ◌++◌, Option, Some, None, Result, Ok, Err, length, map}
+use Rattle.std.specs.Str.{chars, is_utf8}
+use Rattle.std.specs.Io.KnownBytes.{IsAtEnd}
+use Rattle.std.specs.declared.vec.Vec.{Vec}
+use Rattle.std.specs.declared.alloc.Global.{Global}
+use Rattle.sbl_bench.specs.Contents.{Contents, opened, opening_fault}
+use Rattle.sbl_bench.specs.declared.fault.EditFault.TheVariants as edit
+use Rattle.sbl_script.specs.Parsed.{Source}
+use Rattle.sbl_script.specs.Reading.{IsFaultOf, IsScriptOf}
+use Rattle.sbl_text.specs.declared.fault.ScriptFault.{ScriptFault}
+use Rattle.sbl_text.specs.declared.fault.ScriptFault.TheVariants as script
+use Rattle.sbl_sessions.specs.Block.{AllText, BlockLines, Breaks, TookBlock, made_text, max_script, point}
+use Rattle.sbl_lines.specs.Held.{HasCause, Took, fault_of}
+use Rattle.sbl_lines.specs.LinesOf.{max_line}
+use Rattle.sbl_lines.specs.declared.lines.Lines.{Lines}
+use Rattle.sbl_lines.specs.declared.faults.LineFault.TheVariants as line
+use Rattle.sbl_sessions.specs.declared.faults.LoadFault.{LoadFault}
+use Rattle.sbl_sessions.specs.declared.faults.LoadFault.TheVariants.{Input, Script, Open}
+use Rattle.sbl_lines.specs.declared.faults.ServeFault.TheVariants as fault
+
+-- ---- the words
+
+-- lines of words are lines of a block, and UTF-8 too
+abbrev pub WordLines : List (List ℕ) → Type 0
+WordLines lines = BlockLines lines × AllText lines
+
+-- Words stand at the front: lines of words, and then a point or the end of input.
+abbrev pub TookWords : Option (List ℕ) → Option (List ℕ) → List (List ℕ) → Type 0
+TookWords old new words = WordLines words × (Took old new (words ++ point ∷ []) ⊎ (Took old new words × IsAtEnd new))
+
+-- Lines of words were taken, and one more that is not UTF-8.
+abbrev pub TookNoText : Option (List ℕ) → Option (List ℕ) → Type 0
+TookNoText old new =
+    (done : List (List ℕ)) × (first : List ℕ) × WordLines done × (first ≢ point) × (length first ≤ max_line) × (is_utf8 first ≡ false)
+    × Took old new (done ++ first ∷ [])
+
+-- Some lines of words were taken.
+abbrev pub TookSome : Option (List ℕ) → Option (List ℕ) → Type 0
+TookSome old new = (lines : List (List ℕ)) × BlockLines lines × Took old new lines
+
+-- ---- reading
+
+-- the text of the script block; or it is too long, or its memory was refused, though it was read to its end; or it has no end
+abbrev pub ReadsScript : Option (List ℕ) → Option (List ℕ) → Result (Vec ℕ Global) LoadFault → Type 0
+ReadsScript old new (Ok text) = (lines : List (List ℕ)) × TookBlock old new lines × (text.items ≡ made_text lines) × (length (made_text lines) ≤ max_script)
+ReadsScript old new (Err (Script script.ScriptTooLong)) = (lines : List (List ℕ)) × TookBlock old new lines × (max_script < length (made_text lines))
+ReadsScript old new (Err (Script f)) = ⊥
+ReadsScript old new (Err (Open f)) = ⊥
+ReadsScript old new (Err (Input fault.OutOfMemory)) = (lines : List (List ℕ)) × TookBlock old new lines
+ReadsScript old new (Err (Input f)) = Breaks BlockLines old new f
+
+abbrev pub ReadsWords : Option (List ℕ) → Option (List ℕ) → Result (Vec (Vec ℕ Global) Global) LoadFault → Type 0
+ReadsWords old new (Ok words) = (lines : List (List ℕ)) × TookWords old new lines × (map (λ w. w.items) words.items ≡ map chars lines)
+ReadsWords old new (Err (Script f)) = ⊥
+ReadsWords old new (Err (Open f)) = ⊥
+ReadsWords old new (Err (Input fault.NotText)) = TookNoText old new
+ReadsWords old new (Err (Input fault.OutOfMemory)) = TookSome old new
+ReadsWords old new (Err (Input fault.Cut)) = ⊥
+ReadsWords old new (Err (Input f)) = Breaks WordLines old new f
+
+-- ---- loading
+
+-- A script block was taken, and is read as this script with this external.
+abbrev pub TookSource : Option (List ℕ) → Option (List ℕ) → List ℕ → Source → Type 0
+TookSource old new external s =
+    (lines : List (List ℕ)) × TookBlock old new lines × IsScriptOf (made_text lines) external s
+
+-- A script block was taken, and with this external its text has this fault; or memory was refused.
+abbrev pub TookFault : Option (List ℕ) → Option (List ℕ) → List ℕ → ScriptFault → Type 0
+TookFault old new external f =
+    (lines : List (List ℕ)) × TookBlock old new lines × ((f ≡ script.OutOfMemory) ⊎ IsFaultOf (made_text lines) external f)
+
+-- An input is a script block that is read as this script with this external, and then these words.
+abbrev pub IsInput : Option (List ℕ) → Option (List ℕ) → List ℕ → Source → List (List ℕ) → Type 0
+IsInput old new external s words =
+    (between : Option (List ℕ)) × TookSource old between external s × TookWords between new words
+
+-- An input is a script block that is read as a script with this external, and then something else.
+abbrev pub AfterSource : Option (List ℕ) → List ℕ → (Option (List ℕ) → Type 0) → Type 0
+AfterSource old external P = (s : Source) × (between : Option (List ℕ)) × TookSource old between external s × P between
+
+-- What loading answers: the bench of the script and the words, or why there is none, and what was taken. The script block is read
+-- to its end before it is judged, the script is judged before the words are read, and the words are all read before they are
+-- judged. A fault of the words stands after a script block that is read as a script.
+abbrev pub IsLoaded : {B : Type 0} → Option (List ℕ) → Option (List ℕ) → List ℕ → (B → Contents) → Result B LoadFault → Type 0
+IsLoaded old new external state (Ok bench) =
+    (s : Source) × (words : List (List ℕ)) × IsInput old new external s words
+    × (opening_fault [] (map chars words) ≡ None) × (state bench ≡ opened s (map chars words))
+IsLoaded old new external state (Err (Script f)) = TookFault old new external f
+IsLoaded old new external state (Err (Open edit.OutOfMemory)) = (s : Source) × (words : List (List ℕ)) × IsInput old new external s words
+IsLoaded old new external state (Err (Open f)) =
+    (s : Source) × (words : List (List ℕ)) × IsInput old new external s words × (opening_fault [] (map chars words) ≡ Some f)
+IsLoaded old new external state (Err (Input fault.Cut)) = Breaks BlockLines old new fault.Cut
+IsLoaded old new external state (Err (Input fault.NotText)) = AfterSource old external (λ between. TookNoText between new)
+IsLoaded old new external state (Err (Input fault.OutOfMemory)) =
+    ((lines : List (List ℕ)) × TookBlock old new lines) ⊎ AfterSource old external (λ between. TookSome between new)
+IsLoaded old new external state (Err (Input f)) = Breaks BlockLines old new f ⊎ AfterSource old external (λ between. Breaks WordLines between new f)
+
+-- a fault of reading has its cause in the reader or a bound, or is one that the lines answer again
+abbrev pub HasReason : {R : Type 0} → (R → ℕ) → (R → ℕ) → (R → ℕ) → Lines R → Lines R → LoadFault → Type 0
+HasReason failures row reads lines new_lines f = f ≡ Input fault.Read → HasCause failures row reads lines new_lines ⊎ (fault_of lines ≡ Some line.Read)

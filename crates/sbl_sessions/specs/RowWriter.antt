@@ -1,0 +1,14 @@
+-- A writer of rows in the midst of its work.
+use Rattle.std.specs.Prelude.{◌≡◌, ℕ, List, Some, false}
+use Rattle.csv.specs.Writing.{writer_setup, fields_written, has_written, text_written}
+use Rattle.csv.specs.declared.writer.Writer.{Writer}
+use Rattle.std.specs.declared.vec.Vec.{Vec}
+use Rattle.std.specs.declared.alloc.Global.{Global}
+use Rattle.sbl_sessions.specs.Rows.{flexible}
+
+-- it writes over a `Vec`, has no row begun, and has been given this text
+pub record HasWritten (writer : Writer (Vec ℕ Global)) (text : List ℕ) : Type 0 where
+  pub told : text_written (λ v. Some v.items) writer ≡ Some text
+  pub setup : writer_setup writer ≡ flexible
+  pub fields : fields_written writer ≡ 0
+  pub clean : has_written writer ≡ false

@@ -1,0 +1,104 @@
+//! The text of a block: lines up to a line that is a single point.
+ghost use Rattle.std.specs.Prelude.{◌≡◌, ◌<◌, ◌≤◌, ◌++◌, [], ◌∷◌, List, ℕ, OnOk, IfOk, IfErr, None, Some, length};
+ghost use Rattle.std.specs.Io.KnownBytes.{Keeps};
+ghost use Rattle.sbl_sessions.specs.Block.{HasText, HoldsText, ReadsBlock, made_text, max_script};
+ghost use Rattle.sbl_lines.specs.Faults.{left_by, serve_fault_of};
+ghost use Rattle.sbl_lines.specs.Held.{HasReason, IsDrained, KeepsTime, StaysEnded, TakesFeeds, fault_of, fuel_of, input_of, reads_bound};
+ghost use Rattle.sbl_lines.specs.declared.faults.LineFault.{LineFault};
+
+use sbl_lines::{Lines, ServeFault, Source};
+use sbl_script::MAX_SCRIPT;
+use std::alloc::{AllocError, Global};
+
+/// Why a block that was read to its end has no text.
+#[derive(Clone, Copy, Debug, PartialEq, Eq)]
+pub(crate) enum BlockFault {
+    /// It has more than 1,048,576 bytes.
+    TooLong,
+    /// A growth was refused.
+    OutOfMemory,
+}
+
+/// The text so far. At a fault it is let go, and only the fault is known.
+#[derive(Drop)]
+pub(crate) struct BlockText {
+    bytes: Vec<u8>,
+    fault: Option<BlockFault>,
+}
+
+impl BlockText {
+    /// The text of no line.
+    fn new(alloc: Global) -> BlockText
+        ensures { HoldsText result [] }
+    {
+        BlockText {
+            bytes: Vec::new(alloc),
+            fault: None,
+        }
+    }
+
+    /// Puts a line and a line feed at the end.
+    fn push_line(&mut self, line: &[u8])
+        ensures { (lines : List (List ℕ)) → HoldsText self.old lines → HoldsText self.new (lines ++ line.now ∷ []) }
+    {
+        if self.fault.is_some() {
+            return;
+        }
+        if line.len() >= MAX_SCRIPT || self.bytes.len() >= MAX_SCRIPT - line.len() {
+            self.fault = Some(BlockFault::TooLong);
+            self.bytes.clear();
+            return;
+        }
+        if push_ended(&mut self.bytes, line).is_err() {
+            self.fault = Some(BlockFault::OutOfMemory);
+            self.bytes.clear();
+        }
+    }
+
+    /// The text, or why there is none.
+    pub(crate) fn whole(self) -> Result<Vec<u8>, BlockFault>
+        ensures text { IfOk result (λ text. (lines : List (List ℕ)) → HoldsText self lines → HasText None text.items lines) }
+        ensures fault { IfErr result (λ fault. (lines : List (List ℕ)) → HoldsText self lines → HasText (Some fault) [] lines) }
+    {
+        match self.fault {
+            Some(fault) => Err(fault),
+            None => Ok(self.bytes),
+        }
+    }
+}
+
+/// Puts a line and a line feed at the end.
+fn push_ended(bytes: &mut Vec<u8>, line: &[u8]) -> Result<(), AllocError>
+    ensures { OnOk result (bytes.new.items ≡ bytes.old.items ++ (line.now ++ 10 ∷ [])) }
+{
+    bytes.extend_from_slice(line)?;
+    bytes.push(b'\n')?;
+    Ok(())
+}
+
+/// The text of a block. It is read to its point, also where it has no text. It answers `Cut` where the input ended before the
+/// point, `Read` and `LineTooLong` as the lines do.
+pub(crate) fn read_block<R: Source + Drop>(lines: &mut Lines<R>) -> Result<BlockText, ServeFault>
+    ensures reads { fault_of lines.old ≡ None → ReadsBlock (input_of R.left lines.old) (input_of R.left lines.new) result }
+    ensures ready { OnOk result (fault_of lines.old ≡ None) }
+    ensures remembered { fault_of lines.new ≡ left_by result }
+    ensures again { (fault : LineFault) → fault_of lines.old ≡ Some fault → (result ≡ Err (serve_fault_of fault)) × Keeps (input_of R.left lines.old) (input_of R.left lines.new) }
+    ensures drained { result ≡ Err ServeFault.Read → fault_of lines.old ≡ None → IsDrained lines.new }
+    ensures fuel { OnOk result (fuel_of lines.new ≤ fuel_of lines.old) }
+    ensures later { R.failures lines.old.reader ≤ R.failures lines.new.reader }
+    ensures stays { StaysEnded lines.old lines.new }
+    ensures feeds { OnOk result (TakesFeeds R.left lines.old lines.new) }
+    ensures steady { OnOk result (R.failures lines.new.reader ≡ R.failures lines.old.reader) }
+    ensures bound { reads_bound R.reads lines.new ≡ reads_bound R.reads lines.old }
+    ensures why { IfErr result (λ fault. HasReason R.failures R.interruptions R.reads lines.old lines.new fault) }
+    ensures in_time { KeepsTime R.ended R.late R.interruptions R.reads lines.old lines.new }
+{
+    let mut text = BlockText::new(lines.alloc());
+    while lines.next_line()? {
+        if lines.line() == b".".as_slice() {
+            return Ok(text);
+        }
+        text.push_line(lines.line());
+    }
+    Err(ServeFault::Cut)
+}

@@ -1,0 +1,66 @@
+//! Why there is no bench.
+ghost use Rattle.sbl_lines.specs.Faults.{serve_fault_of};
+ghost use Rattle.std.specs.Prelude.{◌≡◌};
+
+use sbl_bench::EditFault;
+use sbl_lines::{LineFault, ServeFault};
+use sbl_script::ScriptFault;
+use std::alloc::{AllocError, AllocFailed};
+use thiserror::Error;
+
+/// Why there is no bench. Each is shown as its number and its name, and where it has one its place or item.
+#[derive(Clone, Copy, Debug, PartialEq, Eq, Drop, Error)]
+pub enum LoadFault {
+    /// The input could not be read, ended inside the script block, or has a line that is too long or no text; or a growth
+    /// was refused.
+    #[error(transparent)]
+    Input(ServeFault),
+    /// The script is refused: its first fault.
+    #[error(transparent)]
+    Script(ScriptFault),
+    /// The vocabulary is refused.
+    #[error(transparent)]
+    Open(EditFault),
+}
+
+impl From<LineFault> for LoadFault {
+    ghost use Rattle.sbl_sessions.specs.declared.faults.LoadFault.TheVariants as load;
+
+    ghost from_gives = { λ fault e. e ≡ load.Input (serve_fault_of fault) };
+
+    fn from(fault: LineFault) -> LoadFault {
+        LoadFault::Input(fault.into())
+    }
+}
+
+impl From<ServeFault> for LoadFault {
+    ghost use Rattle.sbl_sessions.specs.declared.faults.LoadFault.TheVariants as load;
+
+    ghost from_gives = { λ fault e. e ≡ load.Input fault };
+
+    fn from(fault: ServeFault) -> LoadFault {
+        LoadFault::Input(fault)
+    }
+}
+
+impl From<AllocError> for LoadFault {
+    ghost use Rattle.sbl_sessions.specs.declared.faults.LoadFault.TheVariants as load;
+    ghost use Rattle.sbl_lines.specs.declared.faults.ServeFault.TheVariants as serve;
+
+    ghost from_gives = { λ _ e. e ≡ load.Input serve.OutOfMemory };
+
+    fn from(_: AllocError) -> LoadFault {
+        LoadFault::Input(ServeFault::OutOfMemory)
+    }
+}
+
+impl<T: Drop> From<AllocFailed<T>> for LoadFault {
+    ghost use Rattle.sbl_sessions.specs.declared.faults.LoadFault.TheVariants as load;
+    ghost use Rattle.sbl_lines.specs.declared.faults.ServeFault.TheVariants as serve;
+
+    ghost from_gives = { λ _ e. e ≡ load.Input serve.OutOfMemory };
+
+    fn from(_: AllocFailed<T>) -> LoadFault {
+        LoadFault::Input(ServeFault::OutOfMemory)
+    }
+}

@@ -1,0 +1,21 @@
+//! Sessions over a Snowball script and a vocabulary: a script block and words come from a reader, then commands; their
+//! answers go to a writer.
+#![tactic(auto)]
+
+mod block_text;
+mod commands;
+mod edits;
+mod faults;
+mod laws;
+mod loading;
+mod records;
+mod replies;
+mod reports;
+mod serving;
+
+pub use faults::LoadFault;
+pub use laws::{answers_are_one, loading_is_one};
+pub use loading::{load, read_script};
+pub use records::text_of;
+pub use reports::stems_text;
+pub use serving::serve;

@@ -1,0 +1,101 @@
+//! A bench from an input: a script block, and then words.
+ghost use Rattle.std.specs.Prelude.{◌≡◌, ◌⊎◌, ◌≤◌, None, Some, Err, IfOk, IfErr, OnOk, true, false};
+ghost use Rattle.std.specs.Str.{chars, is_utf8};
+ghost use Rattle.sbl_bench.specs.Kept.{contents_of};
+ghost use Rattle.std.specs.Io.KnownBytes.{Keeps};
+ghost use Rattle.sbl_lines.specs.Faults.{serve_fault_of};
+ghost use Rattle.sbl_sessions.specs.Faults.{left_by_load};
+ghost use Rattle.sbl_lines.specs.declared.faults.LineFault.{LineFault};
+ghost use Rattle.sbl_lines.specs.Held.{KeepsTime, fault_of, input_of, reads_bound};
+ghost use Rattle.sbl_sessions.specs.Loaded.{HasReason, IsLoaded, ReadsScript, ReadsWords};
+
+use crate::block_text::{BlockFault, read_block};
+use crate::faults::LoadFault;
+use sbl_bench::Bench;
+use sbl_lines::{Lines, ServeFault, Source};
+use sbl_script::{Script, ScriptFault};
+use std::alloc::Global;
+
+/// The text of the script block, read to its end.
+pub fn read_script<R: Source + Drop>(lines: &mut Lines<R>) -> Result<Vec<u8>, LoadFault>
+    ensures reads { fault_of lines.old ≡ None → ReadsScript (input_of R.left lines.old) (input_of R.left lines.new) result }
+    ensures ready { OnOk result (fault_of lines.old ≡ None) }
+    ensures remembered { fault_of lines.new ≡ left_by_load result }
+    ensures again { (fault : LineFault) → fault_of lines.old ≡ Some fault → (result ≡ Err (LoadFault.Input (serve_fault_of fault))) × Keeps (input_of R.left lines.old) (input_of R.left lines.new) }
+    ensures later { R.failures lines.old.reader ≤ R.failures lines.new.reader }
+    ensures bound { reads_bound R.reads lines.new ≡ reads_bound R.reads lines.old }
+    ensures why { IfErr result (λ fault. HasReason R.failures R.interruptions R.reads lines.old lines.new fault) }
+    ensures in_time { KeepsTime R.ended R.late R.interruptions R.reads lines.old lines.new }
+{
+    let text = match read_block(lines) {
+        Ok(text) => text,
+        Err(fault) => return Err(LoadFault::Input(fault)),
+    };
+    match text.whole() {
+        Ok(text) => Ok(text),
+        Err(BlockFault::TooLong) => Err(LoadFault::Script(ScriptFault::ScriptTooLong)),
+        Err(BlockFault::OutOfMemory) => Err(LoadFault::Input(ServeFault::OutOfMemory)),
+    }
+}
+
+/// The characters of a line, or `NotText`.
+fn characters_of(alloc: Global, line: &[u8]) -> Result<Vec<char>, LoadFault>
+    ensures text { IfOk result (λ word. (is_utf8 line.now ≡ true) × (word.items ≡ chars line.now)) }
+    ensures none { IfErr result (λ fault. ((fault ≡ LoadFault.Input ServeFault.NotText) × (is_utf8 line.now ≡ false)) ⊎ (fault ≡ LoadFault.Input ServeFault.OutOfMemory)) }
+{
+    let Ok(text) = str::from_utf8(line) else {
+        return Err(LoadFault::Input(ServeFault::NotText));
+    };
+    Ok(text.chars().collect(alloc)?)
+}
+
+/// The words, up to a point or the end of input.
+fn read_words<R: Source + Drop>(lines: &mut Lines<R>) -> Result<Vec<Vec<char>>, LoadFault>
+    ensures reads { fault_of lines.old ≡ None → ReadsWords (input_of R.left lines.old) (input_of R.left lines.new) result }
+    ensures remembered { fault_of lines.new ≡ left_by_load result }
+    ensures later { R.failures lines.old.reader ≤ R.failures lines.new.reader }
+    ensures bound { reads_bound R.reads lines.new ≡ reads_bound R.reads lines.old }
+    ensures why { IfErr result (λ fault. HasReason R.failures R.interruptions R.reads lines.old lines.new fault) }
+    ensures in_time { KeepsTime R.ended R.late R.interruptions R.reads lines.old lines.new }
+{
+    let mut words = Vec::new(lines.alloc());
+    while lines.next_line()? {
+        if lines.line() == b".".as_slice() {
+            return Ok(words);
+        }
+        let word = characters_of(lines.alloc(), lines.line())?;
+        words.push(word)?;
+    }
+    Ok(words)
+}
+
+/// The bench of an input: a script block, which is the lines up to a line `.`, each followed by a line feed, read with this
+/// external; and then words, one a line, up to a line `.` or the end of input. The lines then stand after that.
+///
+/// # Errors
+///
+/// The script block is read to its end before it is judged: `Read`, `LineTooLong`, and `Cut` where the input ended before
+/// the point. Then the first fault of the script, with its place or item; no word is read then. All words are read before they
+/// are judged: `Read`, `LineTooLong`, and `NotText` at a line that is not UTF-8. Then the vocabulary's faults, `WordTooLong`
+/// and `Full`. A refused growth is `OutOfMemory`, in the script block once that is read to its end. After `Cut` the lines stand at the end of input, after a fault of the script
+/// behind the point of its block, and after `NotText` behind the line that is no text. `Read` and `LineTooLong` are
+/// remembered: the lines answer them again, and so does every later `load`, which then takes nothing.
+pub fn load<R: Source + Drop>(lines: &mut Lines<R>, external: &str) -> Result<Bench, LoadFault>
+    ensures loaded { fault_of lines.old ≡ None → IsLoaded (input_of R.left lines.old) (input_of R.left lines.new) external.now (λ b. contents_of b) result }
+    ensures why { IfErr result (λ fault. HasReason R.failures R.interruptions R.reads lines.old lines.new fault) }
+    ensures in_time { KeepsTime R.ended R.late R.interruptions R.reads lines.old lines.new }
+    ensures remembered { fault_of lines.new ≡ left_by_load result }
+    ensures again { (fault : LineFault) → fault_of lines.old ≡ Some fault → (result ≡ Err (LoadFault.Input (serve_fault_of fault))) × Keeps (input_of R.left lines.old) (input_of R.left lines.new) }
+    ensures bound { reads_bound R.reads lines.new ≡ reads_bound R.reads lines.old }
+{
+    let text = read_script(lines)?;
+    let script = match Script::parse(lines.alloc(), &text, external) {
+        Ok(script) => script,
+        Err(fault) => return Err(LoadFault::Script(fault)),
+    };
+    let words = read_words(lines)?;
+    match Bench::open(lines.alloc(), script, words) {
+        Ok(bench) => Ok(bench),
+        Err(fault) => Err(LoadFault::Open(fault)),
+    }
+}

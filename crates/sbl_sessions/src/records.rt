@@ -1,0 +1,132 @@
+//! The text of records, through `csv`.
+ghost use Rattle.std.specs.Prelude.{◌≡◌, ◌++◌, ◌∷◌, [], ℕ, List, IfOk, OnOk, map, string_bytes};
+ghost use Rattle.std.specs.Str.{encode_utf8_all};
+ghost use Rattle.csv.specs.Records.{fields_of, partial_of};
+ghost use Rattle.sbl_bench.specs.Classes.{view_class, words_of};
+ghost use Rattle.sbl_bench.specs.Rows.{view_row};
+ghost use Rattle.sbl_machine.specs.Touched.{item_of};
+ghost use Rattle.sbl_sessions.specs.Rows as spec;
+ghost use Rattle.sbl_sessions.specs.Traces.{item_fields};
+
+use csv::{ByteRecord, WriterBuilder};
+use sbl_bench::{Class, Row};
+use sbl_machine::{Item, Outcome};
+use std::alloc::{AllocError, Global};
+
+/// Some characters as UTF-8.
+pub fn text_of(alloc: Global, characters: &[char]) -> Result<String, AllocError>
+    ensures { IfOk result (λ text. string_bytes text ≡ encode_utf8_all characters.now) }
+{
+    let mut text = String::new(alloc);
+    for c in characters {
+        text.push(*c)?;
+    }
+    Ok(text)
+}
+
+/// What is written as one record.
+pub(crate) trait Record {
+    /// Its fields, as bytes.
+    ghost fields: { Self → List (List ℕ) };
+
+    /// The record. A refused growth is the one error.
+    fn record(&self, alloc: Global) -> Result<ByteRecord, AllocError>
+        ensures { IfOk result (λ row. fields_of row ≡ fields self.now) };
+}
+
+impl Record for Row<'_> {
+    ghost fields = { λ row. spec.row_fields (view_row row) };
+
+    #[tactic(auto, unfolding(crate::specs::Rows::row_fields))]
+    fn record(&self, alloc: Global) -> Result<ByteRecord, AllocError> {
+        let word = text_of(alloc, self.word)?;
+        match self.outcome {
+            Outcome::Stem(stem) => {
+                let stem = text_of(alloc, stem)?;
+                ByteRecord::from_fields(
+                    alloc,
+                    &[word.as_bytes(), b"stem".as_slice(), stem.as_bytes()],
+                )
+            }
+            Outcome::Refused(fault) => {
+                let name = fault.name();
+                ByteRecord::from_fields(
+                    alloc,
+                    &[word.as_bytes(), b"refused".as_slice(), name.as_bytes()],
+                )
+            }
+        }
+    }
+}
+
+impl Record for Class {
+    ghost fields = { λ class. spec.class_fields (view_class class) };
+
+    #[tactic(auto, unfolding(crate::specs::Rows::class_fields))]
+    fn record(&self, alloc: Global) -> Result<ByteRecord, AllocError> {
+        let mut record = ByteRecord::new(alloc);
+        push_text(alloc, &mut record, &self.stem)?;
+        push_words(alloc, &mut record, &self.words)?;
+        Ok(record)
+    }
+}
+
+impl Record for Item {
+    ghost fields = { λ item. item_fields (item_of item) };
+
+    fn record(&self, alloc: Global) -> Result<ByteRecord, AllocError> {
+        match self {
+            Item::Routine(name) => {
+                ByteRecord::from_fields(alloc, &[b"routine".as_slice(), name.as_bytes()])
+            }
+            Item::Among(name, number) => {
+                let number = format!(in alloc; "{number}")?;
+                ByteRecord::from_fields(
+                    alloc,
+                    &[b"among".as_slice(), name.as_bytes(), number.as_bytes()],
+                )
+            }
+        }
+    }
+}
+
+/// Puts a text at the end of a record, as a field. A refused growth is the one error.
+fn push_text(alloc: Global, record: &mut ByteRecord, text: &[char]) -> Result<(), AllocError>
+    requires { partial_of record.old ≡ [] }
+    ensures fields { OnOk result (fields_of record.new ≡ fields_of record.old ++ encode_utf8_all text.now ∷ []) }
+    ensures partial { OnOk result (partial_of record.new ≡ []) }
+{
+    let field = text_of(alloc, text)?;
+    record.push_field(field.as_bytes())
+}
+
+/// Puts words at the end of a record, each as a field. A refused growth is the one error.
+fn push_words(alloc: Global, record: &mut ByteRecord, words: &[Vec<char>]) -> Result<(), AllocError>
+    requires { partial_of record.old ≡ [] }
+    ensures { OnOk result (fields_of record.new ≡ fields_of record.old ++ map encode_utf8_all (words_of words.now)) }
+{
+    for word in words {
+        push_text(alloc, record, word)?;
+    }
+    Ok(())
+}
+
+/// The text of these records, whole: a line of the fields of each, quoted where `csv` quotes. A refused growth is the one
+/// error.
+pub(crate) fn records_text<T: Record>(alloc: Global, records: &[T]) -> Result<Vec<u8>, AllocError>
+    ensures { IfOk result (λ text. text.items ≡ spec.records_text (map T.fields records.now)) }
+{
+    let mut writer = WriterBuilder::new()
+        .flexible(true)
+        .from_writer(Vec::new(alloc));
+    for item in records {
+        let record = item.record(alloc)?;
+        if writer.write_byte_record(&record).is_err() {
+            return Err(AllocError);
+        }
+    }
+    match writer.into_inner() {
+        Ok(text) => Ok(text),
+        Err(_) => Err(AllocError),
+    }
+}

@@ -1,0 +1,104 @@
+//! The answers to commands.
+ghost use Rattle.std.specs.Prelude.{◌≡◌, ◌≤◌, ℕ, List, Some, IfErr, IfOk, OnErr, OnOk, take};
+ghost use Rattle.std.specs.Io.KnownBytes.{Appends};
+ghost use Rattle.sbl_sessions.specs.Answers as spec;
+ghost use Rattle.sbl_sessions.specs.CommandViews.{IsReply};
+ghost use Rattle.sbl_lines.specs.Devices.{HasStopped, WritesInTime};
+ghost use Rattle.sbl_sessions.specs.Edits.{fault_in};
+
+use sbl_bench::EditFault;
+use sbl_lines::{ServeFault, Sink, write_all};
+use sbl_script::ScriptFault;
+use std::alloc::AllocError;
+
+/// An answer: a report that was made, or a text of the program.
+#[derive(Debug, Drop)]
+pub(crate) enum Reply {
+    /// A report.
+    Report(Vec<u8>),
+    /// A text of the program.
+    Fixed(&'static str),
+}
+
+/// The answer to a line that is no command.
+pub(crate) const BAD_COMMAND: &str = "no 52 BadCommand\n";
+
+/// The answer that is a report: its text, or that its memory was refused.
+pub(crate) fn report(text: Result<Vec<u8>, AllocError>) -> Reply
+    ensures made { IfOk text (λ made. IsReply result made.items) }
+    ensures refused { OnErr text (IsReply result (spec.edit_text (Some EditFault.OutOfMemory))) }
+{
+    match text {
+        Ok(text) => Reply::Report(text),
+        Err(_) => Reply::Fixed(edit_text(Err(EditFault::OutOfMemory))),
+    }
+}
+
+/// The answer to an edit: `ok`, or the refusal's number and name.
+pub(crate) fn edit_text(answer: Result<(), EditFault>) -> &'static str
+    ensures { result.now ≡ spec.edit_text (fault_in answer) }
+{
+    match answer {
+        Ok(()) => "ok\n",
+        Err(EditFault::Present) => "no 40 Present\n",
+        Err(EditFault::Absent) => "no 41 Absent\n",
+        Err(EditFault::EmptyWord) => "no 42 EmptyWord\n",
+        Err(EditFault::WordTooLong) => "no 43 WordTooLong\n",
+        Err(EditFault::Full) => "no 44 Full\n",
+        Err(EditFault::NoRoutine) => "no 45 NoRoutine\n",
+        Err(EditFault::NoAmong) => "no 46 NoAmong\n",
+        Err(EditFault::AmongCount) => "no 47 AmongCount\n",
+        Err(EditFault::Script(fault)) => script_fault_text(fault),
+        Err(EditFault::OutOfMemory) => "no 49 OutOfMemory\n",
+        Err(EditFault::MeterFull) => "no 50 MeterFull\n",
+    }
+}
+
+/// The answer to an edit whose text has this fault: the fault's name, without its place or item.
+fn script_fault_text(fault: ScriptFault) -> &'static str
+    ensures { result.now ≡ spec.edit_text (Some (EditFault.Script fault)) }
+{
+    match fault {
+        ScriptFault::BadCharacter { place: _ } => "no 48 BadCharacter\n",
+        ScriptFault::UnclosedString { place: _ } => "no 48 UnclosedString\n",
+        ScriptFault::UnclosedComment { place: _ } => "no 48 UnclosedComment\n",
+        ScriptFault::UnknownEscape { place: _ } => "no 48 UnknownEscape\n",
+        ScriptFault::BadCode { place: _ } => "no 48 BadCode\n",
+        ScriptFault::NumberTooLarge { place: _ } => "no 48 NumberTooLarge\n",
+        ScriptFault::Syntax { place: _ } => "no 48 Syntax\n",
+        ScriptFault::TooDeep { place: _ } => "no 48 TooDeep\n",
+        ScriptFault::DeclaredTwice { item: _ } => "no 48 DeclaredTwice\n",
+        ScriptFault::Undeclared { item: _ } => "no 48 Undeclared\n",
+        ScriptFault::WrongKind { item: _ } => "no 48 WrongKind\n",
+        ScriptFault::DefinedTwice { item: _ } => "no 48 DefinedTwice\n",
+        ScriptFault::Undefined { item: _ } => "no 48 Undefined\n",
+        ScriptFault::WrongMode { item: _ } => "no 48 WrongMode\n",
+        ScriptFault::Substring { item: _ } => "no 48 Substring\n",
+        ScriptFault::Starter { item: _ } => "no 48 Starter\n",
+        ScriptFault::RepeatedString { item: _ } => "no 48 RepeatedString\n",
+        ScriptFault::EmptyAmong { item: _ } => "no 48 EmptyAmong\n",
+        ScriptFault::NestedBackwards { item: _ } => "no 48 NestedBackwards\n",
+        ScriptFault::OutOfProfile { place: _ } => "no 48 OutOfProfile\n",
+        ScriptFault::NoExternal => "no 48 NoExternal\n",
+        ScriptFault::NotUtf8 => "no 48 NotUtf8\n",
+        ScriptFault::ScriptTooLong => "no 48 ScriptTooLong\n",
+        ScriptFault::OutOfMemory => "no 48 OutOfMemory\n",
+    }
+}
+
+/// Writes an answer, or a front of it and answers `Write`: the writer failed, or it was interrupted more than 1,000 times
+/// in a row.
+pub(crate) fn write_reply<W: Sink>(writer: &mut W, reply: &Reply) -> Result<(), ServeFault>
+    ensures all { OnOk result ((text : List ℕ) → IsReply reply.now text → Appends (W.held writer.old) (W.held writer.new) text) }
+    ensures front { (n : ℕ) × ((text : List ℕ) → IsReply reply.now text → Appends (W.held writer.old) (W.held writer.new) (take n text)) }
+    ensures later { W.failures writer.old ≤ W.failures writer.new }
+    ensures steady { OnOk result (W.failures writer.new ≡ W.failures writer.old) }
+    ensures why { IfErr result (λ fault. (fault ≡ ServeFault.Write) × HasStopped W.failures W.interruptions writer.old writer.new) }
+    ensures in_time { WritesInTime W.late W.interruptions writer.old writer.new }
+    ensures rested { OnOk result (W.interruptions writer.old ≡ 0 → W.interruptions writer.new ≡ 0) }
+{
+    match reply {
+        Reply::Report(text) => write_all(writer, text),
+        Reply::Fixed(text) => write_all(writer, text.as_bytes()),
+    }
+}

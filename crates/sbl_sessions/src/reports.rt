@@ -1,0 +1,121 @@
+//! Reports of a bench, as a session asks for them.
+ghost use Rattle.std.specs.Prelude.{◌≡◌, ◌≤◌, IfOk, decimal, length};
+ghost use Rattle.std.specs.List.{find};
+ghost use Rattle.std.specs.Option.{option_map};
+ghost use Rattle.std.specs.Str.{bytes_eq, chars};
+ghost use Rattle.sbl_bench.specs.Kept.{contents_of};
+ghost use Rattle.sbl_bench.specs.Rows.{view_row};
+ghost use Rattle.sbl_machine.specs.Touched.{items_in};
+ghost use Rattle.sbl_print.specs.Canonical.{canonical};
+ghost use Rattle.sbl_sessions.specs.Answers.{ended};
+ghost use Rattle.sbl_sessions.specs.CommandViews.{IsAnswer};
+ghost use Rattle.sbl_sessions.specs.Commands.{Class, Trace};
+ghost use Rattle.sbl_lines.specs.LinesOf.{max_line};
+ghost use Rattle.sbl_sessions.specs.Rows as spec;
+ghost use Rattle.sbl_sessions.specs.Traces as traces;
+
+use crate::edits::first_characters;
+use crate::records::records_text;
+use crate::replies::{Reply, edit_text, report};
+use sbl_bench::{Bench, EditFault, Row};
+use sbl_lines::MAX_LINE;
+use sbl_machine::Item;
+use std::alloc::{AllocError, Global};
+use std::collections::BTreeSet;
+
+/// The report of all rows. A refused growth is the one error.
+pub fn stems_text(alloc: Global, bench: &Bench) -> Result<Vec<u8>, AllocError>
+    ensures { IfOk result (λ text. text.items ≡ spec.stems_text (contents_of bench.now)) }
+{
+    let rows = bench.rows()?;
+    records_text(alloc, &rows)
+}
+
+/// The report of all classes. A refused growth is the one error.
+pub(crate) fn classes_text(alloc: Global, bench: &Bench) -> Result<Vec<u8>, AllocError>
+    ensures { IfOk result (λ text. text.items ≡ spec.classes_text (contents_of bench.now)) }
+{
+    let classes = bench.classes()?;
+    records_text(alloc, &classes)
+}
+
+/// The report of the script: its canonical text. A refused growth is the one error.
+pub(crate) fn script_text(alloc: Global, bench: &Bench) -> Result<Vec<u8>, AllocError>
+    ensures { IfOk result (λ text. text.items ≡ canonical (contents_of bench.now).script.items) }
+{
+    let text = bench.script().print(alloc)?;
+    Ok(text.into_bytes())
+}
+
+/// The report of the count of runs: the number in decimal, and a line feed. A refused growth is the one error.
+pub(crate) fn runs_text(alloc: Global, bench: &Bench) -> Result<Vec<u8>, AllocError>
+    ensures { IfOk result (λ text. text.items ≡ ended (decimal (contents_of bench.now).count)) }
+{
+    let count = bench.runs();
+    let line = format!(in alloc; "{count}\n")?;
+    Ok(line.into_bytes())
+}
+
+/// The row of a word, if the word is there. Takes no memory.
+fn row_with<'b>(bench: &'b Bench, word: &[char]) -> Option<Row<'b>>
+    ensures { option_map view_row result ≡ find (λ row. bytes_eq word.now row.word) (spec.rows_now (contents_of bench.now)) }
+{
+    for i in 0..bench.len() {
+        let row = bench.row(i)?;
+        if word == row.word {
+            return Some(row);
+        }
+    }
+    None
+}
+
+/// The report of a word's class, or of its row where its run is refused. A refused growth is the one error.
+fn class_or_row_text(
+    alloc: Global,
+    bench: &Bench,
+    word: &[char],
+    row: Row<'_>,
+) -> Result<Vec<u8>, AllocError>
+    ensures { IfOk result (λ text. text.items ≡ spec.class_or_row_text (contents_of bench.now) word.now (view_row row.entry)) }
+{
+    match bench.class_of(word)? {
+        Some(class) => records_text(alloc, &[class]),
+        None => records_text(alloc, &[row]),
+    }
+}
+
+/// The answer that tells of a word's class; of a word that is not there it says so, and takes no memory.
+pub(crate) fn class_reply(alloc: Global, bench: &Bench, word: &str) -> Reply
+    requires { length word.now ≤ max_line }
+    ensures { IsAnswer (contents_of bench.now) (Class (chars word.now)) result (contents_of bench.now) }
+{
+    let mut room = ['\0'; MAX_LINE];
+    let count = first_characters(word, &mut room);
+    let word = &room[..count];
+    match row_with(bench, word) {
+        Some(row) => report(class_or_row_text(alloc, bench, word, row)),
+        None => Reply::Fixed(edit_text(Err(EditFault::Absent))),
+    }
+}
+
+/// The text of some items: a row for each, in their order. A refused growth is the one error.
+fn items_text(alloc: Global, items: BTreeSet<Item>) -> Result<Vec<u8>, AllocError>
+    ensures { IfOk result (λ text. text.items ≡ traces.items_text (items_in items)) }
+{
+    let items: Vec<Item> = items.into_iter().collect(alloc)?;
+    records_text(alloc, &items)
+}
+
+/// The answer that tells what the run of a word touches; of a word that is not there it says so, and takes no memory.
+pub(crate) fn trace_reply(alloc: Global, bench: &Bench, word: &str) -> Reply
+    requires { length word.now ≤ max_line }
+    ensures { IsAnswer (contents_of bench.now) (Trace (chars word.now)) result (contents_of bench.now) }
+{
+    let mut room = ['\0'; MAX_LINE];
+    let count = first_characters(word, &mut room);
+    match bench.touched(&room[..count]) {
+        Ok(Some(items)) => report(items_text(alloc, items)),
+        Ok(None) => Reply::Fixed(edit_text(Err(EditFault::Absent))),
+        Err(refused) => report(Err(refused)),
+    }
+}

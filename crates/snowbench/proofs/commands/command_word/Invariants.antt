@@ -1,5 +1,0 @@
-use Rattle.snowbench.proofs.CommandFacts.{NoSpace}
-use Rattle.snowbench.proofs.commands.command_word.Given as goal
-
-abbrev pub invariant-loop-i : goal.invariant-loop-i
-invariant-loop-i l = NoSpace l.line l.i

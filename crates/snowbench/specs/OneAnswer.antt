@@ -1,9 +1,0 @@
--- The answers to some requests are one text, and leave one bench, for the memory that each of them was given.
-use Rattle.std.specs.Prelude.{◌≡◌, ℕ, List}
-use Rattle.sbl_bench.specs.Contents.{Contents}
-use Rattle.snowbench.specs.Answers.{Answers, Memory}
-use Rattle.snowbench.specs.Requests.{Request}
-
-abbrev pub AnswersAreOne : Type 0
-AnswersAreOne =
-    (s : Contents) (requests : List Request) (m : List Memory) (a b : List ℕ) (t u : Contents) → Answers s requests m a t → Answers s requests m b u → (a ≡ b) × (t ≡ u)
