@@ -1,6 +1,7 @@
 //! The program, over a reader and two writers.
 ghost use Rattle.std.specs.Prelude.{◌≡◌, ◌≤◌, None, IfOk};
-ghost use Rattle.sbl_lines.specs.Held.{fault_of, input_of};
+ghost use Rattle.sbl_lines.specs.Devices.{WritesInTime};
+ghost use Rattle.sbl_lines.specs.Held.{KeepsTime, fault_of, input_of};
 ghost use Rattle.snowbench.specs.Stemmed.{IsStemmed};
 
 use crate::checking::check;
@@ -9,8 +10,10 @@ use sbl_lines::{Lines, ServeFault, Sink, Source, write_all};
 use sbl_script::Script;
 use sbl_sessions::{LoadFault, load, read_script, serve, stems_text};
 use std::alloc::{AllocError, Global};
-use std::fmt;
-use std::fmt::Write;
+use std::fmt::InlineText;
+
+/// How many bytes the line of a fault has at most: the longest has fewer.
+const MAX_FAULT_LINE: usize = 96;
 
 /// The whole program: does what the command line asks for, reads from `reader`, writes to `writer`, and answers the exit
 /// status: 0, or 1 for a fault or a difference. A fault is one line in `errors`: `snowbench: ` and what the fault shows. What
@@ -26,14 +29,17 @@ pub fn run<R: Source + Drop, W: Sink, E: Sink>(
     writer: &mut W,
     errors: &mut E,
 ) -> u8
-    ensures { result ≤ 1 }
+    ensures status { result ≤ 1 }
+    ensures writes_in_time { WritesInTime W.late W.interruptions writer.old writer.new }
+    ensures errors_in_time { WritesInTime E.late E.interruptions errors.old errors.new }
 {
     match answer(alloc, wanted, reader, writer) {
         Ok(0) => 0,
         Ok(_) => 1,
         Err(fault) => {
+            let line = InlineText::<MAX_FAULT_LINE>::of(format_args!("snowbench: {fault}\n"));
             // The status tells of the fault even where its line can't be written.
-            let _ = writeln!(Shown { sink: errors }, "snowbench: {fault}");
+            let _ = write_all(errors, line.as_str().as_bytes());
             1
         }
     }
@@ -45,7 +51,9 @@ fn answer<R: Source + Drop, W: Sink>(
     wanted: &Wanted,
     reader: R,
     writer: &mut W,
-) -> Result<u64, LoadFault> {
+) -> Result<u64, LoadFault>
+    ensures writes_in_time { WritesInTime W.late W.interruptions writer.old writer.new }
+{
     let external = wanted.external.as_str();
     let mut lines = Lines::new(alloc, reader)?;
     match wanted.verb {
@@ -68,7 +76,9 @@ fn stem<R: Source + Drop, W: Sink>(
     external: &str,
     writer: &mut W,
 ) -> Result<(), LoadFault>
-    ensures { fault_of lines.old ≡ None → IsStemmed (input_of R.left lines.old) (input_of R.left lines.new) external.now (W.held writer.old) (W.held writer.new) result }
+    ensures stemmed { fault_of lines.old ≡ None → IsStemmed (input_of R.left lines.old) (input_of R.left lines.new) external.now (W.held writer.old) (W.held writer.new) result }
+    ensures reads_in_time { KeepsTime R.ended R.late R.interruptions R.reads lines.old lines.new }
+    ensures writes_in_time { WritesInTime W.late W.interruptions writer.old writer.new }
 {
     let bench = load(lines, external)?;
     let text = stems_text(lines.alloc(), &bench)?;
@@ -82,7 +92,9 @@ fn check_input<R: Source + Drop, W: Sink>(
     lines: &mut Lines<R>,
     external: &str,
     writer: &mut W,
-) -> Result<u64, LoadFault> {
+) -> Result<u64, LoadFault>
+    ensures writes_in_time { WritesInTime W.late W.interruptions writer.old writer.new }
+{
     let text = read_script(lines)?;
     let script = match Script::parse(lines.alloc(), &text, external) {
         Ok(script) => script,
@@ -120,19 +132,4 @@ fn push_line(text: &mut Vec<u8>, line: &[u8]) -> Result<(), AllocError> {
     text.extend_from_slice(line)?;
     text.extend_from_slice(b"\r\n")?;
     Ok(())
-}
-
-/// Writes what is shown to a sink. It takes no memory.
-#[derive(Drop)]
-struct Shown<'a, W> {
-    sink: &'a mut W,
-}
-
-impl<W: Sink> fmt::Write for Shown<'_, W> {
-    fn write_str(&mut self, text: &str) -> fmt::Result {
-        match write_all(self.sink, text.as_bytes()) {
-            Ok(()) => Ok(()),
-            Err(_) => Err(fmt::Error),
-        }
-    }
 }
