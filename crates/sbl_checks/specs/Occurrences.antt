@@ -42,7 +42,7 @@ amongs_after (defines_routine n) k = 0
 amongs_after (among has_starter is_empty) k = k + 1
 amongs_after _ k = k
 
--- how many amongs the routine that was defined last has so far
+-- how many amongs the routine that was defined last has so far; where none is defined, k more
 abbrev pub amongs_in : List Occurrence → ℕ → ℕ
 amongs_in [] k = k
 amongs_in (m ∷ ms) k = amongs_in ms (amongs_after m.notice k)

@@ -43,6 +43,7 @@ impl<'a> SoFar<'a> {
     pub fn next_among(&self) -> usize
         ensures { result ≡ spec.amongs_in (view_occurrences self.now) 0 + 1 }
     {
+        // There are not more amongs than occurrences.
         let _most = self.occurrences.as_slice().len() + 1;
         self.amongs + 1
     }
