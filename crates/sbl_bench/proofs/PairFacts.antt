@@ -1,5 +1,7 @@
--- How an insertion and a removal keep the set of pairs to the runs.
-use Rattle.std.proofs.Common.{◌≡◌, ◌∙◌, ◌&&◌, ◌||◌, not, ℕ, Bool, true, false, cond, List, Some, None, refl, sym, ap, ap₂}
+-- How the set of pairs is made, one entry after another.
+use Rattle.std.proofs.Common.{◌≡◌, ◌∙◌, ◌&&◌, ◌||◌, ℕ, Bool, true, false, cond, List, [], ◌∷◌, None, refl, sym, ap, ap₂, subst}
+use Rattle.std.specs.List.{AllByRecursion, IsDistinct, list_any}
+use Rattle.std.specs.Map.{keys_of}
 use Rattle.std.specs.Str.{bytes_eq}
 use Rattle.std.specs.Ordering.{is_eq, ordering_then}
 use Rattle.std.specs.declared.cmp.Ordering.{Ordering}
@@ -9,7 +11,6 @@ use Rattle.std.proofs.lemmas.Map.Text.{is_eq-slice_cmp}
 use Rattle.std.proofs.lemmas.Slice.Eq.{bytes_eq-Decides}
 use Rattle.sbl_machine.specs.Outcome as rows
 use Rattle.sbl_machine.specs.Outcome.{outcome_of}
-use Rattle.sbl_machine.specs.declared.outcome.Traced.{Traced}
 use Rattle.sbl_bench.specs.Kept.{KeptWord}
 use Rattle.sbl_bench.specs.Classes.{is_stem}
 use Rattle.sbl_bench.specs.Pairs.{Key, Text, ArePaired, find, has, has_stem, is_pair_of, key_cmp}
@@ -27,55 +28,62 @@ cond_or : (b x : Bool) → cond b true x ≡ (b || x)
 cond_or true x = refl
 cond_or false x = refl
 
-cond_not : (b x : Bool) → cond b false x ≡ (not b && x)
-cond_not true x = refl
-cond_not false x = refl
-
 pub pair_inserted : (t w : Text) (s n : BTreeSet Key) → Updates key_cmp s n (t, w) true → (q : Key) → has n q ≡ (is_pair_of w.items (rows.Stem t.items) q || has s q)
 pair_inserted t w s n h q = h.0 q ∙ cond_or (is_eq (key_cmp (t, w) q)) (has s q) ∙ ap (λ (b : Bool). b || has s q) (key_tied (t, w) q)
 
-pub pair_removed : (t w : Text) (s n : BTreeSet Key) → Updates key_cmp s n (t, w) false → (q : Key) → has n q ≡ (not (is_pair_of w.items (rows.Stem t.items) q) && has s q)
-pair_removed t w s n h q = h.0 q ∙ cond_not (is_eq (key_cmp (t, w) q)) (has s q) ∙ ap (λ (b : Bool). not b && has s q) (key_tied (t, w) q)
+-- the pairs of the entries that are still to come, and those that the set has, are the pairs of all
+abbrev pub ArePairedSoFar : List KeptWord → List KeptWord → BTreeSet Key → Type 0
+ArePairedSoFar all rest set = (q : Key) → (has_stem q.0.items (find q.1.items rest) || has set q) ≡ has_stem q.0.items (find q.1.items all)
 
-pub and_false : (a : Bool) → (a && false) ≡ false
-and_false true = refl
-and_false false = refl
+or_false : (a : Bool) → (a || false) ≡ a
+or_false true = refl
+or_false false = refl
 
-added_here : (a x : Bool) → x ≡ false → ((a && true) || x) ≡ a
-added_here true x h = refl
-added_here false x h = h
+now_here : (a x : Bool) → (false || ((a && true) || x)) ≡ (a || x)
+now_here true x = refl
+now_here false x = refl
 
-added_away : (a x : Bool) → ((a && false) || x) ≡ x
-added_away true x = refl
-added_away false x = refl
+now_away : (a h x : Bool) → (h || ((a && false) || x)) ≡ (h || x)
+now_away true h x = refl
+now_away false h x = refl
 
-removed_here : (a x : Bool) → x ≡ a → (not (a && true) && x) ≡ false
-removed_here true x h = refl
-removed_here false x h = h
+-- a word is not found behind its own place
+not_behind : (e : KeptWord) (fs : List KeptWord) → AllByRecursion (λ (y : Text). bytes_eq e.0.items y.items ≡ false) (keys_of fs) → find e.0.items fs ≡ None
+not_behind e [] a = refl
+not_behind e (f ∷ fs) a = rw a.0 (not_behind e fs a.1)
 
-removed_away : (a x : Bool) → (not (a && false) && x) ≡ x
-removed_away true x = refl
-removed_away false x = refl
+-- one more entry gives its pair
+pub paired_more : (all es rest : List KeptWord) (s n : BTreeSet Key) (e : KeptWord) → es ≡ e ∷ rest → IsDistinct (λ (x y : Text). bytes_eq x.items y.items) (keys_of es)
+    → ArePairedSoFar all es s → ((q : Key) → has n q ≡ (is_pair_of e.0.items (outcome_of e.1.outcome) q || has s q)) → ArePairedSoFar all rest n
+unfolding IsDistinct
+paired_more all es rest s n e split unique so_far put q =
+    ap (λ (b : Bool). has_stem q.0.items (find q.1.items rest) || b) (put q) ∙ at (bytes_eq q.1.items e.0.items) refl
+    ∙ ap (λ (l : List KeptWord). has_stem q.0.items (find q.1.items l) || has s q) (sym split) ∙ so_far q
+  where
+    distinct : IsDistinct (λ (x y : Text). bytes_eq x.items y.items) (keys_of (e ∷ rest))
+    distinct = subst (λ (l : List KeptWord). IsDistinct (λ (x y : Text). bytes_eq x.items y.items) (keys_of l)) split unique
 
-module _ (es fs : List KeptWord) (s n : BTreeSet Key) (word : List ℕ) (t : Traced) (paired : ArePaired es s) where
-  -- a new word comes with its run and its pair
-  pub paired_add : find word es ≡ None
-      → ((w : Text) → find w.items fs ≡ cond (bytes_eq word w.items) (Some t) (find w.items es))
-      → ((q : Key) → has n q ≡ (is_pair_of word (outcome_of t.outcome) q || has s q)) → ArePaired fs n
-  paired_add none finds pairs q = pairs q ∙ pair_at (bytes_eq word q.1.items) refl ∙ ap (has_stem q.0.items) (sym (finds q.1))
-    where
-      pair_at : (b : Bool) → bytes_eq word q.1.items ≡ b → (is_pair_of word (outcome_of t.outcome) q || has s q) ≡ has_stem q.0.items (cond (bytes_eq word q.1.items) (Some t) (find q.1.items es))
-      pair_at true h =
-          rw h (added_here (is_stem q.0.items (outcome_of t.outcome)) (has s q) (paired q ∙ ap (λ (w : List ℕ). has_stem q.0.items (find w es)) (sym ((bytes_eq-Decides word q.1.items).0 h)) ∙ ap (has_stem q.0.items) none))
-      pair_at false h = rw h (added_away (is_stem q.0.items (outcome_of t.outcome)) (has s q) ∙ paired q)
+    at : (b : Bool) → bytes_eq q.1.items e.0.items ≡ b
+        → (has_stem q.0.items (find q.1.items rest) || (is_pair_of e.0.items (outcome_of e.1.outcome) q || has s q)) ≡ (has_stem q.0.items (find q.1.items (e ∷ rest)) || has s q)
+    at true h =
+        let same : q.1.items ≡ e.0.items = (bytes_eq-Decides q.1.items e.0.items).0 h in
+        let gone : has_stem q.0.items (find q.1.items rest) ≡ false = ap (λ (w : List ℕ). has_stem q.0.items (find w rest)) same ∙ ap (has_stem q.0.items) (not_behind e rest distinct.0) in
+        rw (gone, h, (bytes_eq-Decides e.0.items q.1.items).1 (sym same)) (now_here (is_stem q.0.items (outcome_of e.1.outcome)) (has s q))
+    at false h =
+        rw (h, other (bytes_eq e.0.items q.1.items) refl) (now_away (is_stem q.0.items (outcome_of e.1.outcome)) (has_stem q.0.items (find q.1.items rest)) (has s q))
+      where
+        other : (b : Bool) → bytes_eq e.0.items q.1.items ≡ b → bytes_eq e.0.items q.1.items ≡ false
+        other false k = k
+        other true k = cc (sym h ∙ (bytes_eq-Decides q.1.items e.0.items).1 (sym ((bytes_eq-Decides e.0.items q.1.items).0 k)))
 
-  -- a word leaves with its run and its pair
-  pub paired_remove : find word es ≡ Some t
-      → ((w : Text) → find w.items fs ≡ cond (bytes_eq word w.items) None (find w.items es))
-      → ((q : Key) → has n q ≡ (not (is_pair_of word (outcome_of t.outcome) q) && has s q)) → ArePaired fs n
-  paired_remove there finds pairs q = pairs q ∙ pair_at (bytes_eq word q.1.items) refl ∙ ap (has_stem q.0.items) (sym (finds q.1))
-    where
-      pair_at : (b : Bool) → bytes_eq word q.1.items ≡ b → (not (is_pair_of word (outcome_of t.outcome) q) && has s q) ≡ has_stem q.0.items (cond (bytes_eq word q.1.items) None (find q.1.items es))
-      pair_at true h =
-          rw h (removed_here (is_stem q.0.items (outcome_of t.outcome)) (has s q) (paired q ∙ ap (λ (w : List ℕ). has_stem q.0.items (find w es)) (sym ((bytes_eq-Decides word q.1.items).0 h)) ∙ ap (has_stem q.0.items) there))
-      pair_at false h = rw h (removed_away (is_stem q.0.items (outcome_of t.outcome)) (has s q) ∙ paired q)
+-- the entries behind it differ too
+pub distinct_behind : (es rest : List KeptWord) (e : KeptWord) → es ≡ e ∷ rest → IsDistinct (λ (x y : Text). bytes_eq x.items y.items) (keys_of es) → IsDistinct (λ (x y : Text). bytes_eq x.items y.items) (keys_of rest)
+unfolding IsDistinct
+distinct_behind es rest e split unique = (subst (λ (l : List KeptWord). IsDistinct (λ (x y : Text). bytes_eq x.items y.items) (keys_of l)) split unique).1
+
+-- at first the set has no pair, and at last all
+pub paired_none : (es : List KeptWord) (s : BTreeSet Key) → s.keys ≡ [] → ArePairedSoFar es es s
+paired_none es s none q = ap (λ (b : Bool). has_stem q.0.items (find q.1.items es) || b) (ap (λ (ks : List Key). list_any (λ k. is_eq (key_cmp q k)) ks) none) ∙ or_false (has_stem q.0.items (find q.1.items es))
+
+pub paired_all : (all rest : List KeptWord) (s : BTreeSet Key) → rest ≡ [] → ArePairedSoFar all rest s → ArePaired all s
+paired_all all rest s none so_far q = ap (λ (l : List KeptWord). has_stem q.0.items (find q.1.items l) || has s q) (sym none) ∙ so_far q

@@ -1,17 +1,14 @@
 -- What an edit of the script is about to change.
-use Rattle.std.specs.Prelude.{◌≡◌, ◌⊎◌, ◌||◌, ℕ, Bool, true, false, List, [], ◌∷◌, map, ⊤, Option, Some, None, IfSome, IsSome, if◌then◌else◌}
+use Rattle.std.specs.Prelude.{◌≡◌, ◌⊎◌, ℕ, Bool, true, false, List, [], ◌∷◌, map, ⊤, IfSome, IsSome, if◌then◌else◌}
 use Rattle.std.specs.List.{All, list_any}
 use Rattle.std.specs.Str.{bytes_eq}
-use Rattle.std.specs.BTreeSet.{BTreeSet}
 use Rattle.sbl_script.specs.Parsed.{Source}
-use Rattle.sbl_run.specs.declared.fault.RunFault.{RunFault}
 use Rattle.sbl_machine.specs.declared.outcome.Traced.{Traced}
 use Rattle.sbl_run.specs.declared.touch.Touch.{Touch}
-use Rattle.sbl_run.specs.Names.{name_of}
-use Rattle.sbl_machine.specs.Outcome.{Outcome', Stem, Refused, outcome_of, run_of, touches_of}
+use Rattle.sbl_machine.specs.Outcome.{Outcome', outcome_of, run_of, touches_of}
 use Rattle.sbl_machine.specs.Touched.{Item', named, routine_names, same_item}
 use Rattle.sbl_bench.specs.Kept.{KeptWord, IsFresh}
-use Rattle.sbl_bench.specs.Pairs.{Key, Text, find, has, has_stem, is_pair_of}
+use Rattle.sbl_bench.specs.Pairs.{Text, find}
 use Rattle.sbl_bench.specs.Rows.{max_steps}
 use Rattle.sbl_bench.specs.declared.change.Change.{Change}
 
@@ -49,25 +46,6 @@ abbrev pub AreStill : (KeptWord → Bool) → Source → List KeptWord → Type 
 AreStill met script [] = ⊤
 AreStill met script (e ∷ es) = (met e ≡ false → IsFresh script e.0.items e.1) × AreStill met script es
 
-abbrev pub same_fault : RunFault → RunFault → Bool
-same_fault f g = bytes_eq (name_of f) (name_of g)
-
--- whether two outcomes are one
-abbrev pub same_outcome : Outcome' → Outcome' → Bool
-same_outcome (Stem s) (Stem t) = bytes_eq s t
-same_outcome (Stem s) (Refused g) = false
-same_outcome (Refused f) (Stem t) = false
-same_outcome (Refused f) (Refused g) = same_fault f g
-
--- whether what is found gave this outcome
-abbrev pub is_outcome : Outcome' → Option Traced → Bool
-is_outcome o None = false
-is_outcome o (Some t) = same_outcome (outcome_of t.outcome) o
-
--- whether q is the pair of a change
-abbrev pub any_pair : List Change → Key → Bool
-any_pair changes q = list_any (λ c. is_pair_of c.word.items (outcome_of c.traced.outcome) q) changes
-
 -- whether the word is to change
 abbrev pub is_changed : List Change → List ℕ → Bool
 is_changed changes word = list_any (λ c. bytes_eq c.word.items word) changes
@@ -80,11 +58,6 @@ AreRun script entries changes = All (λ c. IsFresh script c.word.items c.traced 
 pub record AreAnew (script : Source) (entries : List KeptWord) (changes : List Change) : Type 0 where
   pub run : AreRun script entries changes
   pub fresh : (w : Text) → IfSome (find w.items entries) (λ t. IsFresh script w.items t ⊎ (is_changed changes w.items ≡ true))
-
--- and the set has the pairs of the changes besides those of the entries
-pub record IsReady (script : Source) (entries : List KeptWord) (set : BTreeSet Key) (changes : List Change) : Type 0 where
-  pub anew : AreAnew script entries changes
-  pub pairs : (q : Key) → has set q ≡ (any_pair changes q || has_stem q.0.items (find q.1.items entries))
 
 -- each run is fresh
 abbrev pub AreAllFresh : Source → List KeptWord → Type 0

@@ -24,8 +24,6 @@ pub struct Bench {
     pub(crate) machine: Machine<Table>,
     // each word's last run, which a fresh run would not differ from
     pub(crate) traces: IndexMap<Vec<char>, Traced>,
-    // each word that has a stem, behind it
-    pub(crate) pairs: BTreeSet<(Vec<char>, Vec<char>)>,
     pub(crate) meter: Meter,
 }
 
@@ -35,7 +33,6 @@ impl Model for Bench {
     ghost use Rattle.sbl_script.specs.Parsed.{source_of};
     ghost use Rattle.sbl_machine.specs.MachineOf.{IsLinkedMachineOf};
     ghost use Rattle.sbl_bench.specs.Kept.{Kept, words_in, IsKept};
-    ghost use Rattle.sbl_bench.specs.Pairs.{ArePaired};
 
     ghost Value = { Kept };
 
@@ -43,7 +40,7 @@ impl Model for Bench {
 
     ghost view = { λ b. record { script = b.script; words = words_in b.traces.entries; count = b.meter } };
 
-    ghost invariant = { λ b. IsLinkedMachineOf b.machine (source_of b.script) × IsKept (source_of b.script) b.traces.entries × ArePaired b.traces.entries b.pairs };
+    ghost invariant = { λ b. IsLinkedMachineOf b.machine (source_of b.script) × IsKept (source_of b.script) b.traces.entries };
 }
 
 impl Bench {

@@ -8,6 +8,7 @@ ghost use Rattle.sbl_bench.specs.Grouping as spec;
 ghost use Rattle.sbl_bench.specs.Pairs.{has, key_cmp, plain};
 
 use crate::bench::Bench;
+use crate::pairs::pairs_of;
 use sbl_machine::Outcome;
 use std::alloc::{AllocError, Global};
 use std::collections::BTreeSet;
@@ -33,8 +34,9 @@ impl Bench {
     {
         // The count says besides that no word stands twice.
         let _count = self.traces.len();
+        let pairs = pairs_of(self.alloc, &self.traces)?;
         let mut classes = Vec::new(self.alloc);
-        for pair in self.pairs.iter() {
+        for pair in pairs.iter() {
             put_last(
                 self.alloc,
                 &mut classes,
@@ -57,7 +59,8 @@ impl Bench {
         };
         match &traced.outcome {
             Outcome::Stem(stem) => {
-                let words = words_with(self.alloc, stem.as_slice(), &self.pairs)?;
+                let pairs = pairs_of(self.alloc, &self.traces)?;
+                let words = words_with(self.alloc, stem.as_slice(), &pairs)?;
                 let stem = Vec::from_slice(self.alloc, stem.as_slice())?;
                 Ok(Some(Class { stem, words }))
             }

@@ -5,7 +5,6 @@ ghost use Rattle.std.specs.Prelude.{◌≡◌, ◌≤◌, ◌<◌, ◌+◌, ◌^
 use crate::bench::{Bench, MAX_WORD_LENGTH, MAX_WORDS};
 use crate::change::{changes_of, count_met, make_changes};
 use crate::fault::EditFault;
-use crate::pairs::remove_pair;
 use crate::traces::{has_word, put_last};
 use sbl_machine::laws::untouched_stay;
 use sbl_machine::{Item, Machine};
@@ -49,7 +48,6 @@ impl Bench {
             &self.machine,
             &mut self.meter,
             &mut self.traces,
-            &mut self.pairs,
             word,
         )
     }
@@ -59,10 +57,9 @@ impl Bench {
     pub fn remove(&mut self, word: &[char]) -> Result<(), EditFault>
         ensures { Edits result (contents_of self.old) (Remove word.now) (contents_of self.new) }
     {
-        let Some((key, traced)) = self.traces.shift_remove_entry(word) else {
+        let Some(_) = self.traces.shift_remove_entry(word) else {
             return Err(EditFault::Absent);
         };
-        remove_pair(&mut self.pairs, key, traced.outcome);
         Ok(())
     }
 
@@ -126,7 +123,7 @@ impl Bench {
             &self.traces,
         )?;
         untouched_stay();
-        make_changes(self.alloc, &mut self.traces, &mut self.pairs, changes)?;
+        make_changes(&mut self.traces, changes);
         self.machine = after;
         self.script = script;
         Ok(())

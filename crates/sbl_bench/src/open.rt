@@ -7,7 +7,6 @@ ghost use Rattle.sbl_bench.specs.Vocabulary as vocabulary;
 ghost use Rattle.sbl_bench.specs.Vocabulary.{with_word};
 ghost use Rattle.sbl_bench.specs.Contents.{word_fault, IsFaultOrMemory};
 ghost use Rattle.sbl_bench.specs.Kept.{words_in, IsKept};
-ghost use Rattle.sbl_bench.specs.Pairs.{ArePaired};
 
 use crate::bench::{Bench, MAX_WORD_LENGTH, MAX_WORDS};
 use crate::fault::EditFault;
@@ -16,7 +15,6 @@ use indexmap::IndexMap;
 use sbl_machine::{Machine, Meter, Table, Traced};
 use sbl_script::Script;
 use std::alloc::Global;
-use std::collections::BTreeSet;
 
 impl Bench {
     ghost use Rattle.sbl_bench.specs.Kept.{contents_of};
@@ -34,16 +32,14 @@ impl Bench {
         let machine = Machine::new(alloc, &script)?;
         let mut meter = Meter::new();
         let mut traces = IndexMap::new(alloc);
-        let mut pairs = BTreeSet::new(alloc);
         for word in words {
-            take_word(alloc, &machine, &mut meter, &mut traces, &mut pairs, word)?;
+            take_word(alloc, &machine, &mut meter, &mut traces, word)?;
         }
         Ok(Bench {
             alloc,
             script,
             machine,
             traces,
-            pairs,
             meter,
         })
     }
@@ -63,14 +59,12 @@ fn take_word(
     machine: &Machine<Table>,
     meter: &mut Meter,
     traces: &mut IndexMap<Vec<char>, Traced>,
-    pairs: &mut BTreeSet<(Vec<char>, Vec<char>)>,
     word: Vec<char>,
 ) -> Result<(), EditFault>
     requires counted { meter.old ≡ length traces.old.entries }
     requires room { length traces.old.entries ≤ 100000 }
     ensures words { OnOk result (words_in traces.new.entries ≡ with_word (words_in traces.old.entries) word.items) }
     ensures kept { OnOk result ((s : Source) → IsLinkedMachineOf machine.now s → IsKept s traces.old.entries → IsKept s traces.new.entries) }
-    ensures paired { ArePaired traces.old.entries pairs.old → ArePaired traces.new.entries pairs.new }
     ensures counted { OnOk result (meter.new ≡ length traces.new.entries) }
     ensures ok { OnOk result (word_fault (words_in traces.old.entries) word.items ≡ None) }
     ensures fault { IfErr result (λ f. IsFaultOrMemory (word_fault (words_in traces.old.entries) word.items) f) }
@@ -84,5 +78,5 @@ fn take_word(
     if traces.len() >= MAX_WORDS {
         return Err(EditFault::Full);
     }
-    put_last(alloc, machine, meter, traces, pairs, word)
+    put_last(alloc, machine, meter, traces, word)
 }

@@ -1,16 +1,33 @@
-//! The set of pairs of a stem and a word that has it: the classes of the vocabulary, kept in order.
+//! The set of pairs of a stem and a word that has it: the classes of the vocabulary, in order.
 
-ghost use Rattle.std.specs.Prelude.{◌≡◌, ◌&&◌, ◌||◌, not, OnOk, OnErr};
+ghost use Rattle.std.specs.Prelude.{◌≡◌, ◌||◌, IfOk, OnOk, OnErr};
 ghost use Rattle.sbl_machine.specs.Outcome.{outcome_of};
-ghost use Rattle.sbl_bench.specs.Pairs.{Key, has, is_pair_of};
+ghost use Rattle.sbl_bench.specs.Pairs.{ArePaired, Key, has, is_pair_of};
 
-use sbl_machine::Outcome;
+use indexmap::IndexMap;
+use sbl_machine::{Outcome, Traced};
 use std::alloc::{AllocError, Global};
 use std::collections::BTreeSet;
 
+/// The pairs of the words that have a stem. It answers AllocError where a growth is refused.
+pub(crate) fn pairs_of(
+    alloc: Global,
+    traces: &IndexMap<Vec<char>, Traced>,
+) -> Result<BTreeSet<(Vec<char>, Vec<char>)>, AllocError>
+    ensures { IfOk result (λ pairs. ArePaired traces.now.entries pairs) }
+{
+    // The count says besides that no word stands twice.
+    let _count = traces.len();
+    let mut pairs = BTreeSet::new(alloc);
+    for (word, traced) in traces.iter() {
+        insert_pair(alloc, &mut pairs, word.as_slice(), &traced.outcome)?;
+    }
+    Ok(pairs)
+}
+
 /// The set gains the pair of this word, if it has a stem. It answers AllocError where a growth is refused; then it has what it
 /// had.
-pub(crate) fn insert_pair(
+fn insert_pair(
     alloc: Global,
     pairs: &mut BTreeSet<(Vec<char>, Vec<char>)>,
     word: &[char],
@@ -27,18 +44,5 @@ pub(crate) fn insert_pair(
     match pairs.insert((stem, word)) {
         Ok(_) => Ok(()),
         Err(_) => Err(AllocError),
-    }
-}
-
-/// The set loses the pair of this word, if it has a stem. Takes no memory.
-pub(crate) fn remove_pair(
-    pairs: &mut BTreeSet<(Vec<char>, Vec<char>)>,
-    word: Vec<char>,
-    outcome: Outcome,
-)
-    ensures { (q : Key) → has pairs.new q ≡ (not (is_pair_of word.items (outcome_of outcome) q) && has pairs.old q) }
-{
-    if let Outcome::Stem(stem) = outcome {
-        pairs.remove(&(stem, word));
     }
 }

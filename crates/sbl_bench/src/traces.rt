@@ -5,15 +5,12 @@ ghost use Rattle.sbl_script.specs.Parsed.{Source};
 ghost use Rattle.sbl_machine.specs.MachineOf.{IsLinkedMachineOf};
 ghost use Rattle.sbl_bench.specs.Vocabulary.{is_word};
 ghost use Rattle.sbl_bench.specs.Kept.{words_in, IsWord, IsKept};
-ghost use Rattle.sbl_bench.specs.Pairs.{ArePaired};
 ghost use Rattle.sbl_bench.specs.Stops.{IsStop};
 
 use crate::fault::EditFault;
-use crate::pairs::insert_pair;
 use indexmap::IndexMap;
 use sbl_machine::{Machine, Meter, Table, Traced};
 use std::alloc::Global;
-use std::collections::BTreeSet;
 
 /// The most steps of a run (our own choice).
 pub const MAX_STEPS: u32 = 100_000;
@@ -25,15 +22,13 @@ pub(crate) fn has_word(traces: &IndexMap<Vec<char>, Traced>, word: &[char]) -> b
     traces.contains_key(word)
 }
 
-/// Runs a new word once and puts it last, with its run and its pair. It answers OutOfMemory where a growth is refused and
-/// MeterFull where no run can be counted any more; then the words, their runs and the pairs are left as they were, and at
-/// MeterFull the count.
+/// Runs a new word once and puts it last, with its run. It answers OutOfMemory where a growth is refused and MeterFull where
+/// no run can be counted any more; then the words and their runs are left as they were, and at MeterFull the count.
 pub(crate) fn put_last(
     alloc: Global,
     machine: &Machine<Table>,
     meter: &mut Meter,
     traces: &mut IndexMap<Vec<char>, Traced>,
-    pairs: &mut BTreeSet<(Vec<char>, Vec<char>)>,
     word: Vec<char>,
 ) -> Result<(), EditFault>
     requires sound { IsWord word.items }
@@ -43,12 +38,10 @@ pub(crate) fn put_last(
     ensures kept { OnOk result ((s : Source) → IsLinkedMachineOf machine.now s → IsKept s traces.old.entries → IsKept s traces.new.entries) }
     ensures counted { OnOk result (meter.new ≡ meter.old + 1) }
     ensures err { OnErr result (traces.new.entries ≡ traces.old.entries) }
-    ensures paired { ArePaired traces.old.entries pairs.old → ArePaired traces.new.entries pairs.new }
     ensures stop { IfErr result (λ f. IsStop 1 f meter.old meter.new) }
 {
     traces.reserve(1)?;
     let traced = machine.trace(alloc, meter, word.as_slice(), MAX_STEPS)?;
-    insert_pair(alloc, pairs, word.as_slice(), &traced.outcome)?;
     traces.insert(word, traced).unwrap();
     Ok(())
 }

@@ -17,7 +17,7 @@ use std::alloc::{AllocError, Global};
 pub fn text_of(alloc: Global, characters: &[char]) -> Result<String, AllocError>
     ensures { IfOk result (λ text. string_bytes text ≡ encode_utf8_all characters.now) }
 {
-    let mut text = String::new(alloc);
+    let mut text = String::with_capacity(alloc, characters.len())?;
     for c in characters {
         text.push(*c)?;
     }
@@ -29,31 +29,27 @@ pub(crate) trait Record {
     /// Its fields, as bytes.
     ghost fields: { Self → List (List ℕ) };
 
-    /// The record. A refused growth is the one error.
-    fn record(&self, alloc: Global) -> Result<ByteRecord, AllocError>
-        ensures { IfOk result (λ row. fields_of row ≡ fields self.now) };
+    /// Puts its fields into an empty record. A refused growth is the one error.
+    fn fill(&self, alloc: Global, record: &mut ByteRecord) -> Result<(), AllocError>
+        requires empty { fields_of record.old ≡ [] }
+        requires whole { partial_of record.old ≡ [] }
+        ensures { OnOk result (fields_of record.new ≡ fields self.now) };
 }
 
 impl Record for Row<'_> {
     ghost fields = { λ row. spec.row_fields (view_row row) };
 
     #[tactic(auto, unfolding(crate::specs::Rows::row_fields))]
-    fn record(&self, alloc: Global) -> Result<ByteRecord, AllocError> {
-        let word = text_of(alloc, self.word)?;
+    fn fill(&self, alloc: Global, record: &mut ByteRecord) -> Result<(), AllocError> {
+        push_text(alloc, record, self.word)?;
         match self.outcome {
             Outcome::Stem(stem) => {
-                let stem = text_of(alloc, stem)?;
-                ByteRecord::from_fields(
-                    alloc,
-                    &[word.as_bytes(), b"stem".as_slice(), stem.as_bytes()],
-                )
+                record.push_field(b"stem")?;
+                push_text(alloc, record, stem)
             }
             Outcome::Refused(fault) => {
-                let name = fault.name();
-                ByteRecord::from_fields(
-                    alloc,
-                    &[word.as_bytes(), b"refused".as_slice(), name.as_bytes()],
-                )
+                record.push_field(b"refused")?;
+                record.push_field(fault.name().as_bytes())
             }
         }
     }
@@ -63,28 +59,26 @@ impl Record for Class {
     ghost fields = { λ class. spec.class_fields (view_class class) };
 
     #[tactic(auto, unfolding(crate::specs::Rows::class_fields))]
-    fn record(&self, alloc: Global) -> Result<ByteRecord, AllocError> {
-        let mut record = ByteRecord::new(alloc);
-        push_text(alloc, &mut record, &self.stem)?;
-        push_words(alloc, &mut record, &self.words)?;
-        Ok(record)
+    fn fill(&self, alloc: Global, record: &mut ByteRecord) -> Result<(), AllocError> {
+        push_text(alloc, record, &self.stem)?;
+        push_words(alloc, record, &self.words)
     }
 }
 
 impl Record for Item {
     ghost fields = { λ item. item_fields (item_of item) };
 
-    fn record(&self, alloc: Global) -> Result<ByteRecord, AllocError> {
+    fn fill(&self, alloc: Global, record: &mut ByteRecord) -> Result<(), AllocError> {
         match self {
             Item::Routine(name) => {
-                ByteRecord::from_fields(alloc, &[b"routine".as_slice(), name.as_bytes()])
+                record.push_field(b"routine")?;
+                record.push_field(name.as_bytes())
             }
             Item::Among(name, number) => {
                 let number = format!(in alloc; "{number}")?;
-                ByteRecord::from_fields(
-                    alloc,
-                    &[b"among".as_slice(), name.as_bytes(), number.as_bytes()],
-                )
+                record.push_field(b"among")?;
+                record.push_field(name.as_bytes())?;
+                record.push_field(number.as_bytes())
             }
         }
     }
@@ -119,8 +113,10 @@ pub(crate) fn records_text<T: Record>(alloc: Global, records: &[T]) -> Result<Ve
     let mut writer = WriterBuilder::new()
         .flexible(true)
         .from_writer(Vec::new(alloc));
+    let mut record = ByteRecord::new(alloc);
     for item in records {
-        let record = item.record(alloc)?;
+        record.clear();
+        item.fill(alloc, &mut record)?;
         if writer.write_byte_record(&record).is_err() {
             return Err(AllocError);
         }

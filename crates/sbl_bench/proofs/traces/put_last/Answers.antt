@@ -1,15 +1,13 @@
-use Rattle.std.proofs.Common.{◌≡◌, ◌∙◌, ◌++◌, ◌||◌, [], ◌∷◌, List, ℕ, None, Some, cond, ap, sym, subst}
+use Rattle.std.proofs.Common.{◌≡◌, ◌∙◌, ◌++◌, [], ◌∷◌, List, ℕ, None, ap, sym, subst}
 use Rattle.std.specs.Map.{lookup}
 use Rattle.std.specs.Str.{bytes_eq}
 use Rattle.std.specs.declared.vec.Vec.{Vec}
 use Rattle.std.specs.declared.alloc.Global.{Global}
-use Rattle.sbl_machine.specs.Outcome.{outcome_of, run_of, touches_of}
+use Rattle.sbl_machine.specs.Outcome.{run_of, touches_of}
 use Rattle.sbl_bench.specs.Kept.{KeptWord, words_in, IsKept}
 use Rattle.sbl_bench.specs.Rows.{max_steps}
-use Rattle.sbl_bench.specs.Pairs.{find, has, is_pair_of}
 use Rattle.indexmap.proofs.CallerLemmas.{insert_entry-new}
 use Rattle.sbl_bench.proofs.Words.{is_key, not_found, words-push, kept-push}
-use Rattle.sbl_bench.proofs.PairFacts.{paired_add}
 use Rattle.sbl_bench.proofs.traces.put_last.Goals as goal
 
 -- the new word goes last
@@ -33,14 +31,3 @@ returns-clause-kept c s made kept =
       outcome = c.in_ok-traced.ensures.outcome s made ∙ ap (λ (w : List ℕ). run_of s w max_steps) c.as_slice.ensures.value;
       touches = c.in_ok-traced.ensures.touches s made ∙ ap (λ (w : List ℕ). touches_of s w max_steps) c.as_slice.ensures.value;
     }))
-
-pub returns-clause-paired : goal.returns-clause-paired
-returns-clause-paired c paired =
-    let es = c.args.traces.now.entries in
-    let word = c.args.word in
-    let t = c.in_ok-traced.traced in
-    let updates = rw c.unwrap.ensures at c.insert.ensures.updates in
-    paired_add es c.insert.new.self.entries c.args.pairs.now c.insert_pair.new.pairs word.items t paired
-    (not_found word.items es c.requires.new)
-    (λ w. updates.0 w ∙ ap (λ (l : List KeptWord). cond (bytes_eq word.items w.items) (Some t) (find w.items l)) c.reserve.ensures.entries)
-    (λ q. c.in_ok-insert_pair.ensures.ok q ∙ ap (λ (w : List ℕ). is_pair_of w (outcome_of t.outcome) q || has c.args.pairs.now q) c.as_slice-2.ensures.value)

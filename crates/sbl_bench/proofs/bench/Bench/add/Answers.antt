@@ -32,7 +32,6 @@ invariant_of-self c = (
   kept_either (source_of c.self.inside.script) _ _ c.put_last.result c.self.invariant.1
       (on_ok_weaker c.put_last.result (λ keeps. keeps (source_of c.self.inside.script) c.self.invariant.0 c.self.invariant.1) c.put_last.ensures.kept)
       c.put_last.ensures.err,
-  c.put_last.ensures.paired c.self.invariant.2,
 )
 
 pub returns : goal.returns

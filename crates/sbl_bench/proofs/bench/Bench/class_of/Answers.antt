@@ -18,8 +18,8 @@ returns-in_ok-stem-in-Stem c =
     (λ i. Some (record {
       stem = (c.in_ok-stem-in-Stem.ensures.items ∙ c.as_slice-in-Stem.ensures.value) i;
       words =
-          (c.in_ok-words-in-Stem.ensures.words ∙ ap (λ (s : List ℕ). words_paired s (map plain b.pairs.keys)) c.as_slice.ensures.value
-          ∙ words_kept (source_of b.script) b.traces.entries b.pairs stem c.self.invariant.1.fresh c.len-count.ensures.unique c.self.invariant.2 c.words_with.ensures.ordered c.words_with.ensures.found) i;
+          (c.in_ok-words-in-Stem.ensures.words ∙ ap (λ (s : List ℕ). words_paired s (map plain c.in_ok-pairs-in-Stem.pairs.keys)) c.as_slice.ensures.value
+          ∙ words_kept (source_of b.script) b.traces.entries c.in_ok-pairs-in-Stem.pairs stem c.self.invariant.1.fresh c.len-count.ensures.unique c.in_ok-pairs-in-Stem.ensures c.words_with.ensures.ordered c.words_with.ensures.found) i;
     }))
     ∙ ap (λ (o : Outcome). option_map (class_with rows) (stem_of (outcome_of o))) (sym c.in-Stem.is)
     ∙ class_found (source_of b.script) b.traces.entries c.args.word.now c.self.invariant.1.fresh (Some c.in-Some.traced.now) c.in-Some.ensures.value

@@ -1,15 +1,9 @@
-use Rattle.std.proofs.Common.{◌≡◌, ◌∙◌, ◌&&◌, ap, sym, subst, not, is_some, List, ℕ, Ok, Err}
-use Rattle.std.specs.Str.{bytes_eq}
-use Rattle.std.proofs.lemmas.Map.Made.{lookup_key_passes}
-use Rattle.std.proofs.lemmas.Slice.Eq.{bytes_eq-Decides}
+use Rattle.std.proofs.Common.{◌≡◌, ◌∙◌, ap, sym, subst, is_some, List, ℕ, Ok, Err}
 use Rattle.sbl_script.specs.Parsed.{source_of}
-use Rattle.sbl_machine.specs.Outcome.{outcome_of}
 use Rattle.sbl_bench.specs.declared.fault.EditFault.TheVariants.{Absent}
 use Rattle.sbl_bench.specs.Edits.{Edits, Remove}
 use Rattle.sbl_bench.specs.Kept.{IsKept, Kept, contents_of, words_in}
-use Rattle.sbl_bench.specs.Pairs.{Text, has, is_pair_of}
 use Rattle.sbl_bench.specs.Contents.{Contents}
-use Rattle.sbl_bench.proofs.PairFacts.{paired_remove}
 use Rattle.sbl_bench.proofs.Refusals.{no_word, removes}
 use Rattle.sbl_bench.proofs.Words.{found_word, kept-remove, words-remove}
 use Rattle.sbl_bench.proofs.bench.Bench.remove.Goals as goal
@@ -27,14 +21,9 @@ returns-in_default c =
 pub invariant_of-self-2 : goal.invariant_of-self-2
 invariant_of-self-2 c =
     let word = c.args.word.now in
-    let es = c.self.inside.traces.entries in
-    let same : c.in-Some.key.items ≡ word = sym ((bytes_eq-Decides word c.in-Some.key.items).0 (lookup_key_passes (λ (k : Text). bytes_eq word k.items) es c.in-Some.key (sym c.in-Some.ensures.key))) in (
+    let es = c.self.inside.traces.entries in (
       c.self.invariant.0,
       subst (IsKept (source_of c.self.inside.script)) (sym c.in-Some.ensures.entries) (kept-remove (source_of c.self.inside.script) word es c.self.invariant.1),
-      paired_remove es c.shift_remove_entry.new.self.entries c.self.inside.pairs c.remove_pair.new.pairs word c.in-Some.traced c.self.invariant.2
-          (sym c.in-Some.ensures.value)
-          (λ w. c.in-Some.ensures.updates.0 w)
-          (λ q. c.remove_pair.ensures q ∙ ap (λ (t : List ℕ). not (is_pair_of t (outcome_of c.in-Some.traced.outcome) q) && has c.self.inside.pairs q) same),
     )
 
 pub returns : goal.returns

@@ -71,20 +71,6 @@ make_changes-requires-clause-changes c =
           (still c.untouched_stay.ensures p q c.requires.0 c.requires.1 edited x c.requires.2 es c.self.invariant.1.fresh),
     )
 
-pub returns-in_err-make_changes : goal.returns-in_err-make_changes
-returns-in_err-make_changes c what text same edited =
-    let p = source_of c.self.inside.script in
-    let es = c.self.inside.traces.entries in
-    let x = item_of c.args.item.now in
-    let s : Contents = record { script = p; words = words_in es; count = c.self.inside.meter } in
-    let needed = needed_is p c.self.inside.meter c.count_met-met.result what text x es same c.self.invariant.1.fresh (c.count_met-met.ensures p c.self.invariant.0) in
-    let all : length (filter (is_met p x) es) ≡ runs_needed s (Replace what text) = needed_is p c.self.inside.meter (length (filter (is_met p x) es)) what text x es same c.self.invariant.1.fresh refl in
-    let f = err_from_is_err_and c.from_residual-in_err-make_changes.result c.from_residual-in_err-make_changes.ensures.1 in
-    rw (f.1, f.2) (subst (λ (k : Kept). Edits (Err OutOfMemory) (contents_of k) (Replace what text) (record { script = p; words = words_in c.make_changes.new.traces.entries; count = c.changes_of.new.meter })) c.self.view_is
-    (replaces_nothing s (Replace what text) (source_of c.args.script) (words_in c.make_changes.new.traces.entries) c.count.result c.count_met-met.result c.changes_of.new.meter refl (subst (λ (k : Kept). IsEdited (source_of k.script) what text (source_of c.args.script)) (sym c.self.view_is) edited)
-    c.count.ensures needed c.if-count-met.false c.make_changes.ensures.words
-    (length (filter (is_met p x) es), subst (λ (n : ℕ). length (filter (is_met p x) es) ≤ n) all (omega arith), c.in_ok-changes.ensures.counted p c.self.invariant.0)))
-
 pub invariant_of-self-2 : goal.invariant_of-self-2
 invariant_of-self-2 c =
     let p = source_of c.self.inside.script in
@@ -96,13 +82,12 @@ invariant_of-self-2 c =
     let edited = subst (λ (k : Kept). IsEdited (source_of k.script) c.requires.0 c.requires.1 q) (sym c.self.view_is) c.requires.3 in (
       c.in_ok-after.ensures,
       record {
-        fresh = c.in_ok-make_changes.ensures.fresh q
+        fresh = c.make_changes.ensures.fresh q
             (anew (is_met p x) q es c.in_ok-changes.changes.items (c.in_ok-changes.ensures.changes p q c.self.invariant.0 c.in_ok-after.ensures)
             (still c.untouched_stay.ensures p q c.requires.0 c.requires.1 edited x c.requires.2 es c.self.invariant.1.fresh));
         sound = subst (All IsWord) (sym words) c.self.invariant.1.sound;
         room = let a = words_length fs in let b = words_length es in let e = ap length words in let r = c.self.invariant.1.room in omega arith;
       },
-      c.make_changes.ensures.paired,
     )
 
 pub returns : goal.returns
