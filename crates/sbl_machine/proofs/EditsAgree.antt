@@ -9,7 +9,7 @@ use Rattle.sbl_tree.specs.Tree.{Command, Others, Starter, Groups, Plain, Item, b
 use Rattle.sbl_tree.specs.View.{RowView}
 use Rattle.sbl_tree.specs.Counts.{count_in_among}
 use Rattle.sbl_amongs.specs.Amongs.{Held, amongs_of_body, nth_held, put_in_body}
-use Rattle.sbl_program.specs.Regions.{behind}
+use Rattle.sbl_numbering.specs.Regions.{behind}
 use Rattle.sbl_script.specs.Edits.{ScriptEdit, body, among, routine_name, is_routine, routine_in, routine_of, plains_with, items_with, Home, home_in, home_of_body, home_of_among, home_of_held, IsSubstituted}
 use Rattle.sbl_script.specs.Parsed.{Source}
 use Rattle.sbl_machine.specs.Frame.{AgreeOutside, EditsAgree, NamesStay, UntouchedStay}

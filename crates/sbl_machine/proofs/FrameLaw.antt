@@ -7,8 +7,8 @@ use Rattle.sbl_tree.specs.declared.tree.DeclarationKind.TheVariants as kinds
 use Rattle.sbl_tree.specs.Tree.{bracket, no_rows, no_others}
 use Rattle.sbl_tree.specs.declared.mode.Mode.{Mode}
 use Rattle.sbl_tree.specs.declared.mode.Mode.TheVariants.{Forward}
-use Rattle.sbl_program.specs.Items.{ItemInMode, Known, in_order, known_in, class_of, classes_behind, place_of, Body, body_named}
-use Rattle.sbl_program.specs.Regions.{behind, behind_others}
+use Rattle.sbl_numbering.specs.Items.{ItemInMode, Known, in_order, known_in, class_of, classes_behind, place_of, Body, body_named}
+use Rattle.sbl_numbering.specs.Regions.{behind, behind_others}
 use Rattle.sbl_run.specs.declared.fault.RunFault.TheVariants.{Depth}
 use Rattle.sbl_run.specs.declared.touch.Touch.{Touch}
 use Rattle.sbl_run.specs.declared.touch.Touch.TheVariants.{Entered}

@@ -5,8 +5,8 @@ use Rattle.sbl_tree.specs.declared.tree.DeclarationKind.TheVariants as kinds
 use Rattle.sbl_tree.specs.Tree as trees
 use Rattle.sbl_tree.specs.Tree.{bracket, simple_, literal_, name_, non_, prefixed, counted, move_, named, splice_, setlimit_, assign_, compare_, compare_values_, among_, no_rows, row, no_others, joined, no_starter, starter, bare, group, entry}
 use Rattle.sbl_tree.specs.declared.mode.Mode.{Mode}
-use Rattle.sbl_program.specs.Items.{Known, place_of, is_among}
-use Rattle.sbl_program.specs.Regions.{Among, among_at, behind, behind_rows, behind_others, behind_starter, first, first_rows, first_others, mode_behind, waits, waits_others}
+use Rattle.sbl_numbering.specs.Items.{Known, place_of, is_among}
+use Rattle.sbl_numbering.specs.Regions.{Among, among_at, behind, behind_rows, behind_others, behind_starter, first, first_rows, first_others, mode_behind, waits, waits_others}
 use Rattle.sbl_run.specs.declared.touch.Touch.{Touch}
 use Rattle.sbl_run.specs.declared.touch.Touch.TheVariants.{Searched}
 use Rattle.sbl_machine.specs.Holes.{blank, blanks, blanks_rows, blanks_others, blanks_starter, blanks_groups, nothing, hole, with_holes, rows_with_holes, others_with_holes, starter_with_holes, groups_with_holes}

@@ -9,9 +9,9 @@ use Rattle.sbl_tree.specs.declared.tree.DeclarationKind.TheVariants as kinds
 use Rattle.sbl_tree.specs.Tree.{Command, Others, Plain, Item, bracket, no_rows, no_others, declaration, escapes, macro, routine, grouping, plain, backward}
 use Rattle.sbl_tree.specs.declared.mode.Mode.{Mode}
 use Rattle.sbl_tree.specs.declared.mode.Mode.TheVariants.{Forward, Backward}
-use Rattle.sbl_program.specs.Items.{ItemInMode, in_order, place_of, names_by, known_in, Grouping, and_grouping, classes_behind, Body, body_or, body_named}
-use Rattle.sbl_program.proofs.SoundItems.{in_mode}
-use Rattle.sbl_program.specs.Regions.{behind}
+use Rattle.sbl_numbering.specs.Items.{ItemInMode, in_order, place_of, names_by, known_in, Grouping, and_grouping, classes_behind, Body, body_or, body_named}
+use Rattle.sbl_numbering.proofs.SoundItems.{in_mode}
+use Rattle.sbl_numbering.specs.Regions.{behind}
 use Rattle.sbl_machine.specs.Holes.{with_holes, others_with_holes, holed_plain, holed_item, holed_script}
 use Rattle.sbl_machine.specs.Touched.{Item', Routine, Among, routine_names}
 use Rattle.sbl_script.specs.Parsed.{Source}

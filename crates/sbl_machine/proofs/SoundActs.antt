@@ -21,25 +21,25 @@ use Rattle.sbl_tree.specs.declared.tree.Splice.TheVariants as edits
 use Rattle.sbl_tree.specs.declared.tree.DeclarationKind.TheVariants as kinds
 use Rattle.sbl_tree.specs.Tree as trees
 use Rattle.sbl_tree.specs.Tree.{bracket, simple_, literal_, name_, non_, prefixed, counted, move_, named, splice_, setlimit_, assign_, compare_, compare_values_, among_, no_rows, row, no_others, joined, no_starter, starter, bare, group}
-use Rattle.sbl_program.specs.Ahead.{search_next, search_of, found_as, search_then, simple_by, made, made_rows, made_others, made_starter, made_groups}
-use Rattle.sbl_program.specs.Items.{Known, place_of, is_among}
+use Rattle.sbl_numbering.specs.Ahead.{search_next, search_of, found_as, search_then, simple_by, made, made_rows, made_others, made_starter, made_groups}
+use Rattle.sbl_numbering.specs.Items.{Known, place_of, is_among}
 use Rattle.sbl_machine.specs.Meaning.{prefixed_does, counted_does, joined_does, limited_does, simple_does, moved_does, named_does, edited_does, assigned_does, compared_does, class_does, next_has, begins, worth}
 use Rattle.sbl_machine.specs.Meaning as meaning
 use Rattle.sbl_run.specs.Moves.{characters, one_of, next_is, match, set_mark, set_boolean, test_boolean}
-use Rattle.sbl_program.specs.Numbered.{name_alone, behind_prefix, behind_count, move, change_named, edit, change_of, relation_of}
+use Rattle.sbl_numbering.specs.Numbered.{name_alone, behind_prefix, behind_count, move, change_named, edit, change_of, relation_of}
 use Rattle.sbl_program.specs.Grouped.{join}
-use Rattle.sbl_program.specs.NumberedNames.{Names, is_one_of, number_of}
-use Rattle.sbl_program.specs.NumberedNumbers.{expression, text}
-use Rattle.sbl_program.specs.NumberedSets.{has}
+use Rattle.sbl_numbering.specs.NumberedNames.{Names, is_one_of, number_of}
+use Rattle.sbl_numbering.specs.NumberedNumbers.{expression, text}
+use Rattle.sbl_program.specs.Characters.{has}
 use Rattle.sbl_run.specs.Numbers.{Value, value, given, changed, holds, integer_at, with_value}
 use Rattle.sbl_program.specs.Program as programs
-use Rattle.sbl_program.specs.Regions.{Among, among_at, behind, behind_rows, behind_others, behind_starter, first, first_rows, first_others, mode_behind, waits, waits_others}
+use Rattle.sbl_numbering.specs.Regions.{Among, among_at, behind, behind_rows, behind_others, behind_starter, first, first_rows, first_others, mode_behind, waits, waits_others}
 use Rattle.sbl_run.specs.Run as run
 use Rattle.sbl_run.specs.Run.{paid, in_turn, nth_does}
 use Rattle.sbl_run.specs.Search.{choice}
 use Rattle.sbl_run.specs.Slices.{keep}
 use Rattle.sbl_run.specs.State.{State, Ending, Signals, Stops, Doing, after, ahead, moved as further}
-use Rattle.sbl_program.proofs.SoundItems.{among_is, placed_by}
+use Rattle.sbl_numbering.proofs.SoundItems.{among_is, placed_by}
 use Rattle.sbl_machine.proofs.SoundParts.{Agree, text_same, worth_same, search_same, changed_same, holds_same}
 use Rattle.sbl_tree.specs.declared.mode.Mode.{Mode}
 

@@ -24,23 +24,23 @@ use Rattle.sbl_tree.specs.declared.tree.DeclarationKind.TheVariants as kinds
 use Rattle.sbl_tree.specs.Tree as trees
 use Rattle.sbl_tree.specs.Tree.{bare, group}
 use Rattle.sbl_program.specs.declared.node.Candidate as code
-use Rattle.sbl_program.specs.Ahead.{found_as}
+use Rattle.sbl_numbering.specs.Ahead.{found_as}
 use Rattle.sbl_tables.specs.Fitting.{below, fitting, onto, read_as, read_all, ahead_at}
-use Rattle.sbl_program.specs.Items.{Known}
+use Rattle.sbl_numbering.specs.Items.{Known}
 use Rattle.sbl_machine.specs.Meaning as meaning
 use Rattle.sbl_machine.specs.Meaning.{Offer, offer, offers}
 use Rattle.sbl_run.specs.Moves.{characters}
-use Rattle.sbl_program.specs.Numbered.{change_of, relation_of}
-use Rattle.sbl_program.specs.NumberedAmongs.{strings_in, strings_behind, condition_of, entries_in, entries_behind}
+use Rattle.sbl_numbering.specs.Numbered.{change_of, relation_of}
+use Rattle.sbl_numbering.specs.NumberedAmongs.{strings_in, strings_behind, condition_of, entries_in, entries_behind}
 use Rattle.sbl_program.specs.Grouped.{added, added_all, scaled, scaled_all}
-use Rattle.sbl_program.specs.NumberedNames.{Names, number_of}
-use Rattle.sbl_program.specs.NumberedNumbers.{text, constant, expression, sums_in, product, scales_in, factor}
+use Rattle.sbl_numbering.specs.NumberedNames.{Names, number_of}
+use Rattle.sbl_numbering.specs.NumberedNumbers.{text, constant, expression, sums_in, product, scales_in, factor}
 use Rattle.sbl_run.specs.Numbers.{Value, value, fitted, with_value, changed, holds, integer_at}
 use Rattle.sbl_program.specs.Program as programs
-use Rattle.sbl_program.specs.Regions.{Among}
+use Rattle.sbl_numbering.specs.Regions.{Among}
 use Rattle.sbl_run.specs.Search.{bound_in, choose, condition_does, try_one, tries, searched, search_all, touch_among}
 use Rattle.sbl_run.specs.State.{State, bound_of, Ending, Signals, Doing, after, saved_cursor, place_after, then_on, pay}
-use Rattle.sbl_program.proofs.SoundItems.{less_suc, placed_by}
+use Rattle.sbl_numbering.proofs.SoundItems.{less_suc, placed_by}
 use Rattle.sbl_tree.specs.declared.mode.Mode.{Mode}
 use Rattle.sbl_tree.specs.declared.mode.Mode.TheVariants.{Forward, Backward}
 

@@ -14,7 +14,7 @@ use Rattle.sbl_tree.specs.declared.tree.Splice.TheVariants as edits
 use Rattle.sbl_tree.specs.declared.tree.DeclarationKind.TheVariants as kinds
 use Rattle.sbl_tree.specs.declared.mode.Mode.{Mode}
 use Rattle.sbl_tree.specs.declared.mode.Mode.TheVariants.{Forward, Backward}
-use Rattle.sbl_program.specs.Items.{Known, place_of}
+use Rattle.sbl_numbering.specs.Items.{Known, place_of}
 use Rattle.sbl_run.specs.declared.state.SavedCursor.{SavedCursor}
 use Rattle.sbl_run.specs.declared.state.Limits.{Limits}
 use Rattle.sbl_run.specs.declared.touch.Touch.{Touch}

@@ -22,8 +22,8 @@ use Rattle.sbl_tree.specs.declared.tree.Splice.{Splice}
 use Rattle.sbl_tree.specs.declared.tree.Splice.TheVariants as edits
 use Rattle.sbl_tree.specs.Tree as trees
 use Rattle.sbl_tables.specs.Fitting.{read_as, ahead_at}
-use Rattle.sbl_program.specs.Items.{Known, place_of}
-use Rattle.sbl_program.specs.Regions.{Among}
+use Rattle.sbl_numbering.specs.Items.{Known, place_of}
+use Rattle.sbl_numbering.specs.Regions.{Among}
 use Rattle.sbl_run.specs.declared.fault.RunFault.TheVariants as faults
 use Rattle.sbl_run.specs.declared.state.Limits.{Limits}
 use Rattle.sbl_machine.specs.Meaning as meaning

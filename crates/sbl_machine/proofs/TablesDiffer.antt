@@ -8,12 +8,12 @@ use Rattle.std.proofs.lemmas.List.{map-id, reverse-reverse}
 use Rattle.std.proofs.lemmas.Option.{same_Some}
 use Rattle.std.proofs.lemmas.Slice.Eq.{bytes_eq-Decides}
 use Rattle.sbl_machine.specs.Searches.{strings_read, amongs_of, TablesDiffer, SearchesAreExact}
-use Rattle.sbl_program.specs.Items.{ItemInMode, in_order}
-use Rattle.sbl_program.proofs.SoundItems.{in_mode}
-use Rattle.sbl_program.specs.Laws.{names_in}
-use Rattle.sbl_program.specs.NumberedAmongs.{Found, strings_in, strings_behind, found_of, found, found_rows, found_others, found_starter, found_groups, found_plain, found_behind}
-use Rattle.sbl_program.specs.NumberedNames.{Names}
-use Rattle.sbl_program.specs.Regions.{mode_behind}
+use Rattle.sbl_numbering.specs.Items.{ItemInMode, in_order}
+use Rattle.sbl_numbering.proofs.SoundItems.{in_mode}
+use Rattle.sbl_numbering.specs.Laws.{names_in}
+use Rattle.sbl_numbering.specs.NumberedAmongs.{Found, strings_in, strings_behind, found_of, found, found_rows, found_others, found_starter, found_groups, found_plain, found_behind}
+use Rattle.sbl_numbering.specs.NumberedNames.{Names}
+use Rattle.sbl_numbering.specs.Regions.{mode_behind}
 use Rattle.sbl_checks.specs.Amongs.{text_of, texts_of, IsSound, EachAmong, EachAmongOfRows, EachAmongOfOthers, EachAmongOfStarter, EachAmongOfGroups, EachAmongOfPlain, EachAmongOfPlains, EachAmongOfItems, AmongsAreSound}
 use Rattle.sbl_tables.specs.Fitting.{fitting, read_all}
 use Rattle.sbl_tables.specs.Laws.{AllDiffer, FittingAreMatches, Matches, StandsIn}

@@ -4,7 +4,7 @@ use Rattle.std.specs.List.{AllByRecursion, Contains}
 use Rattle.sbl_tree.specs.declared.mode.Mode.{Mode}
 use Rattle.sbl_tree.specs.declared.tree.Additive.TheVariants.{Plus, Minus}
 use Rattle.sbl_tree.specs.Tree.{Argument, written_out, by_name, Term, term, grouping}
-use Rattle.sbl_program.specs.Items.{Grouping, ItemInMode, class_of, classes_behind, in_order, term_has, terms_have}
+use Rattle.sbl_numbering.specs.Items.{Grouping, ItemInMode, class_of, classes_behind, in_order, term_has, terms_have}
 use Rattle.sbl_checks.specs.Checks.{WellDeclared}
 use Rattle.sbl_script.specs.Parsed.{Source}
 

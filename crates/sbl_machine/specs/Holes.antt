@@ -1,7 +1,7 @@
 -- A script with holes in the place of some of its items: of an among only the number of those in it is left, of a routine nothing.
 use Rattle.std.specs.Prelude.{ℕ, suc, Bool, [], map, None, if◌then◌else◌}
 use Rattle.sbl_machine.specs.Touched.{Item', Routine, Among}
-use Rattle.sbl_program.specs.Regions.{behind, behind_others, behind_rows, behind_starter}
+use Rattle.sbl_numbering.specs.Regions.{behind, behind_others, behind_rows, behind_starter}
 use Rattle.sbl_script.specs.Parsed.{Source}
 use Rattle.sbl_tree.specs.Terminal.{Quoted}
 use Rattle.sbl_tree.specs.Tree as trees

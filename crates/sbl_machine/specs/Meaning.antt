@@ -30,10 +30,10 @@ use Rattle.sbl_tree.specs.Tree.{bracket, simple_, literal_, name_, non_, prefixe
 use Rattle.std.specs.Cmp.Lexicographic.{pointwise}
 use Rattle.sbl_tree.specs.declared.tree.DeclarationKind.TheVariants as kinds
 use Rattle.sbl_tables.specs.Fitting.{read_as, ahead_at}
-use Rattle.sbl_program.specs.Items.{Known, Body, is_among, place_of, body_named, class_of, classes_behind, in_order, known_in}
+use Rattle.sbl_numbering.specs.Items.{Known, Body, is_among, place_of, body_named, class_of, classes_behind, in_order, known_in}
 use Rattle.sbl_run.specs.Moves.{match, next, hop, at_limit, set_mark, at_mark, to_mark, set_boolean, test_boolean}
 use Rattle.sbl_run.specs.Numbers.{Value, natural, given, fitted, divided, with_value, with_both, limit_value, integer_at}
-use Rattle.sbl_program.specs.Regions.{Among, among_at, behind, behind_rows, behind_others, behind_starter, first, first_rows, first_others, mode_behind, waits, waits_others}
+use Rattle.sbl_numbering.specs.Regions.{Among, among_at, behind, behind_rows, behind_others, behind_starter, first, first_rows, first_others, mode_behind, waits, waits_others}
 use Rattle.sbl_run.specs.Run.{turns, times, count_of, seeks, limits, limit_here, limit_back, backwards_from, backwards_end, chosen as go_on, enter, back_in, paid}
 use Rattle.sbl_run.specs.Search.{choose, choice, touch_among}
 use Rattle.sbl_run.specs.Slices.{left_bracket, right_bracket, replace, keep, insert, attach}

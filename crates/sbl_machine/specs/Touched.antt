@@ -13,7 +13,7 @@ use Rattle.sbl_machine.specs.declared.item.Item.TheVariants as code
 use Rattle.sbl_run.specs.declared.touch.Touch.{Touch}
 use Rattle.sbl_run.specs.declared.touch.Touch.TheVariants.{Entered, Searched}
 use Rattle.sbl_machine.specs.Outcome.{touches_of}
-use Rattle.sbl_program.specs.Items.{in_order, known_in}
+use Rattle.sbl_numbering.specs.Items.{in_order, known_in}
 use Rattle.sbl_script.specs.Edits.{ScriptEdit, body, among}
 use Rattle.sbl_script.specs.Parsed.{Source}
 

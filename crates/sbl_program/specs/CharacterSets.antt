@@ -2,7 +2,7 @@
 use Rattle.std.specs.Prelude.{◌≡◌, ℕ, Bool, false, List, nat_eq, if◌then◌else◌, slice_index_or, ◌/◌, ◌%◌}
 use Rattle.std.specs.BTreeSet.{BTreeSet, contains}
 use Rattle.std.specs.Ordering.{nat_cmp}
-use Rattle.sbl_program.specs.NumberedSets.{has}
+use Rattle.sbl_program.specs.Characters.{has}
 
 -- whether a flag is set; past the end none is
 abbrev pub is_flagged : List Bool → ℕ → Bool

@@ -1,17 +1,9 @@
 -- what the contracts of public calls rest on
-pub mod Items
-pub mod Regions
 pub mod Listed
+pub mod Characters
 pub mod Program
 pub mod Grouped
 pub mod ProgramOf
-pub mod NumberedNames
-pub mod NumberedSets
-pub mod NumberedAmongs
-pub mod NumberedNumbers
-pub mod Numbered
-pub mod Ahead
-pub mod Laws
+pub mod FoundView
 -- what the functions inside the crate promise each other: nothing in these need be believed
-pub mod NumberedView
 pub mod CharacterSets

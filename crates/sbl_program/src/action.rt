@@ -1,9 +1,6 @@
 //! The commands that hold no command, and what they are made of. Names are numbers.
 
-ghost use Rattle.std.specs.Prelude.{◌≡◌};
-ghost use Rattle.sbl_program.specs.Numbered as spec;
-
-use sbl_tree::{Additive, Assignment, Comparison, Multiplicative};
+use sbl_tree::{Additive, Multiplicative};
 
 /// A string: a literal, or what a string variable holds.
 #[derive(Drop)]
@@ -155,31 +152,4 @@ pub enum Action {
     True,
     /// `false`
     False,
-}
-
-// What becomes of an integer variable.
-pub(crate) fn change_of(assignment: Assignment) -> Change
-    ensures { result ≡ spec.change_of assignment }
-{
-    match assignment {
-        Assignment::Equals => Change::Becomes,
-        Assignment::Plus => Change::Plus,
-        Assignment::Minus => Change::Minus,
-        Assignment::Times => Change::Times,
-        Assignment::Over => Change::Over,
-    }
-}
-
-// What a comparison asks of two numbers.
-pub(crate) fn relation_of(comparison: Comparison) -> Relation
-    ensures { result ≡ spec.relation_of comparison }
-{
-    match comparison {
-        Comparison::Same => Relation::Equal,
-        Comparison::Differs => Relation::Unequal,
-        Comparison::Less => Relation::Less,
-        Comparison::AtMost => Relation::LessOrEqual,
-        Comparison::Greater => Relation::Greater,
-        Comparison::AtLeast => Relation::GreaterOrEqual,
-    }
 }

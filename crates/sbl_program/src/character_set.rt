@@ -2,7 +2,7 @@
 
 ghost use Rattle.std.specs.Prelude.{◌≡◌, ◌<◌, ◌++◌, ◌∷◌, ℕ, [], length, nat_eq, ◌||◌, IfOk, OnOk, OnErr, MatchResult};
 ghost use Rattle.sbl_program.specs.CharacterSets.{is_flagged, is_told};
-ghost use Rattle.sbl_program.specs.NumberedSets.{has};
+ghost use Rattle.sbl_program.specs.Characters.{has};
 
 use std::alloc::{AllocError, Global};
 use std::collections::BTreeSet;

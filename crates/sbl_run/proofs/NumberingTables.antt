@@ -6,10 +6,10 @@ use Rattle.std.proofs.lemmas.List.{take_more, take_all, get_or-map, length-map}
 use Rattle.std.proofs.lemmas.Option.{slice_get-map}
 use Rattle.sbl_tree.specs.declared.mode.Mode.{Mode}
 use Rattle.sbl_tree.specs.declared.mode.Mode.TheVariants.{Forward}
-use Rattle.sbl_program.specs.declared.amongs.Found.{Found}
+use Rattle.sbl_program.specs.declared.found.Found.{Found}
 use Rattle.sbl_program.specs.Listed.{Listed, listing}
 use Rattle.sbl_run.specs.Listing.{listed_by, listed_of}
-use Rattle.sbl_program.specs.NumberedView.{listing_found, strings_at, strings_or}
+use Rattle.sbl_program.specs.FoundView.{listing_found, strings_at, strings_or}
 
 pub same_listing : (m n : Mode) (es fs : List (List ℕ)) → m ≡ n → es ≡ fs → listing m es ≡ listing n fs
 same_listing m n es fs p q = ap (λ k. listing k es) p ∙ ap (listing n) q

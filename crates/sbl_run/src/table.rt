@@ -3,7 +3,7 @@
 ghost use Rattle.std.specs.Prelude.{◌≡◌, ◌≤◌, ◌++◌, ◌∷◌, List, ℕ, length, map, slice_get, IfOk};
 ghost use Rattle.sbl_tables.specs.Fitting.{first};
 ghost use Rattle.sbl_program.specs.Listed.{Listed};
-ghost use Rattle.sbl_program.specs.NumberedView.{listing_found};
+ghost use Rattle.sbl_program.specs.FoundView.{listing_found};
 ghost use Rattle.sbl_run.specs.Listing.{fits_at, listed_by, listed_of};
 
 use sbl_program::Found;

@@ -3,7 +3,7 @@
 ghost use Rattle.std.specs.Prelude.{◌≡◌, ◌≤◌, ◌<◌, ◌^◌, [], length, nat_eq, IsTrue, IfOk, slice_get};
 ghost use Rattle.std.specs.List.{starts_with};
 ghost use Rattle.std.specs.Option.{option_copied, unwrap_or};
-ghost use Rattle.sbl_program.specs.NumberedSets.{has};
+ghost use Rattle.sbl_program.specs.Characters.{has};
 ghost use Rattle.sbl_tables.specs.Fitting.{read_as};
 ghost use Rattle.sbl_run.specs.State.{Signals, ahead, room, moved};
 ghost use Rattle.sbl_program.specs.ProgramOf.{view_text};

@@ -1,6 +1,6 @@
 use Rattle.std.proofs.Common.{◌≡◌, map, take}
 use Rattle.sbl_run.specs.Listing.{listed_of}
-use Rattle.sbl_program.specs.NumberedView.{listing_found}
+use Rattle.sbl_program.specs.FoundView.{listing_found}
 use Rattle.sbl_run.proofs.table.tables_of.Given as goal
 
 abbrev pub invariant-loop-among : goal.invariant-loop-among

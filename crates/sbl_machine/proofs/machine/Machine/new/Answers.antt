@@ -1,10 +1,10 @@
 use Rattle.std.proofs.Common.{map, ap, ◌∙◌, ℕ}
 use Rattle.sbl_tree.specs.declared.tree.DeclarationKind.TheVariants as kinds
-use Rattle.sbl_program.specs.Items.{in_order, known_in}
+use Rattle.sbl_numbering.specs.Items.{in_order, known_in}
 use Rattle.sbl_program.specs.Listed.{Listed}
-use Rattle.sbl_program.specs.Numbered.{numbered_items}
+use Rattle.sbl_numbering.specs.Numbered.{numbered_items}
 use Rattle.sbl_machine.specs.MachineOf.{IsMachineOf}
-use Rattle.sbl_program.specs.NumberedView.{listing_found}
+use Rattle.sbl_program.specs.FoundView.{listing_found}
 use Rattle.sbl_program.specs.ProgramOf.{program_of}
 use Rattle.sbl_run.proofs.NumberingTables.{same_tables}
 use Rattle.sbl_tree.specs.View.{view_items}

@@ -1,0 +1,20 @@
+use Rattle.std.proofs.Common.{◌≡◌, rules, map, ap, ◌∙◌}
+use Rattle.sbl_tree.specs.View.{view_items}
+use Rattle.sbl_numbering.specs.Items.{in_order}
+use Rattle.sbl_numbering.specs.Numbered.{numbered_items}
+use Rattle.sbl_numbering.specs.NumberedNames.{Names, names_behind, no_names}
+use Rattle.sbl_numbering.specs.NumberedView.{view_placed}
+use Rattle.sbl_numbering.proofs.SoundItems.{placed_is, routines_are}
+use Rattle.sbl_numbering.proofs.program.numbered.Goals as goal
+
+pub returns-clause-program : goal.returns-clause-program
+unfolding numbered_items
+returns-clause-program c = search rules
+
+pub returns-clause-routines : goal.returns-clause-routines
+returns-clause-routines c =
+    let items = view_items c.args.items.now in
+    let placed : map view_placed c.deref.result.now ≡ in_order items = search (placed_is, rules) in
+    ap (λ (ns : Names). ns.routines) c.in_ok-names.ensures
+    ∙ ap (λ xs. (names_behind xs no_names).routines) placed
+    ∙ routines_are (in_order items) no_names

@@ -1,0 +1,34 @@
+-- What is shown of the program of a script.
+use Rattle.std.specs.Prelude.{◌≡◌, ℕ, false, List, [], Option, slice_get, slice_index_or}
+use Rattle.sbl_numbering.specs.Ahead.{routines_in}
+use Rattle.sbl_numbering.specs.Items.{ItemInMode, body_named, class_of, classes_behind, in_order}
+use Rattle.sbl_numbering.specs.Numbered.{numbered_items, routines_behind}
+use Rattle.sbl_numbering.specs.NumberedAmongs.{found_behind}
+use Rattle.sbl_numbering.specs.NumberedNames.{Names, names_behind, no_names, number_of}
+use Rattle.sbl_program.specs.Characters.{has}
+use Rattle.sbl_program.specs.Program.{Routine}
+use Rattle.sbl_tree.specs.Tree.{Item}
+
+-- each routine is numbered by itself
+abbrev pub OwnIsMade : Type 0
+OwnIsMade = (ns : Names) (items : List ItemInMode) → routines_behind ns items (record { coming = found_behind ns items []; behind = 0; waits = false }) [] ≡ routines_in ns items
+
+abbrev pub names_in : List Item → Names
+names_in items = names_behind (in_order items) no_names
+
+-- the program of the routine of a name, in the program of some items and an external
+abbrev pub routine_at : List Item → List ℕ → List ℕ → Option Routine
+routine_at items external n = slice_get (numbered_items items external).routines (number_of (names_in items).routines n)
+
+-- Two scripts with the same names, in which a routine has the same body, have one program for it, whatever else they say:
+-- an edit of a routine leaves the programs of all others.
+abbrev pub RoutineIsItsOwn : Type 0
+RoutineIsItsOwn =
+    (items items' : List Item) (external external' n : List ℕ) → names_in items ≡ names_in items' →
+    body_named (in_order items) n ≡ body_named (in_order items') n → routine_at items external n ≡ routine_at items' external' n
+
+-- a character is in a grouping's set exactly where its terms, added and taken away from the left, have it
+abbrev pub SetsAreClasses : Type 0
+SetsAreClasses =
+    (items : List Item) (external n : List ℕ) (c : ℕ) →
+    has (slice_index_or (numbered_items items external).groupings (number_of (names_in items).groupings n) []) c ≡ class_of (classes_behind (in_order items) []) n c

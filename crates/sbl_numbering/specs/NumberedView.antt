@@ -1,0 +1,29 @@
+-- The parts of the numbering without where they lie in memory.
+use Rattle.std.specs.Prelude.{List, map, drop, string_bytes}
+use Rattle.sbl_tree.specs.View.{view_plain}
+use Rattle.sbl_program.specs.declared.found.Found.{Found}
+use Rattle.sbl_numbering.specs.declared.names.Names.{Names}
+use Rattle.sbl_numbering.specs.declared.names.ItemInMode.{ItemInMode}
+use Rattle.sbl_program.specs.FoundView.{listing_found}
+use Rattle.sbl_numbering.specs.NumberedAmongs as amongs
+use Rattle.sbl_numbering.specs.NumberedNames as names
+use Rattle.sbl_numbering.specs.Numbered as numbered
+use Rattle.sbl_numbering.specs.declared.place.Position.{Position}
+
+abbrev pub view_placed : ItemInMode → names.ItemInMode
+view_placed p = record { mode = p.mode; plain = view_plain p.plain.now }
+
+abbrev pub view_names : Names → names.Names
+view_names n = record {
+  strings = map string_bytes n.strings.items;
+  integers = map string_bytes n.integers.items;
+  booleans = map string_bytes n.booleans.items;
+  groupings = map string_bytes n.groupings.items;
+  routines = map string_bytes n.routines.items;
+}
+
+abbrev pub view_found : Found → amongs.Found
+view_found f = record { number = f.number; strings = listing_found f; entries = f.entries.items }
+
+abbrev pub view_place : List Found → Position → numbered.Position
+view_place fs p = record { coming = map view_found (drop p.next fs); behind = p.behind; waits = p.waits }

@@ -1,0 +1,14 @@
+//! Makes the program of a script.
+#![tactic(auto)]
+
+mod amongs;
+mod commands;
+pub mod laws;
+mod names;
+mod numbers;
+mod operators;
+mod place;
+mod program;
+mod sets;
+
+pub use program::{Made, numbered};

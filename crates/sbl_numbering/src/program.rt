@@ -1,0 +1,126 @@
+//! The program of a script.
+
+ghost use Rattle.std.specs.Prelude.{◌≡◌, [], false, map, length, OnOk, IfOk, string_bytes};
+ghost use Rattle.sbl_tree.specs.View.{view_items, view_plain, view_row};
+ghost use Rattle.sbl_numbering.specs.Items.{in_order, known_in};
+ghost use Rattle.sbl_tree.specs.declared.tree.DeclarationKind.TheVariants as kinds;
+ghost use Rattle.sbl_numbering.specs.Numbered as spec;
+ghost use Rattle.sbl_program.specs.FoundView.{strings_at};
+ghost use Rattle.sbl_numbering.specs.NumberedView.{view_found, view_names, view_place, view_placed};
+ghost use Rattle.sbl_program.specs.ProgramOf.{program_of, view_routine};
+
+use crate::amongs::amongs_of;
+use crate::commands::row_of;
+use crate::names::{ItemInMode, Names, names_of, number_of, place_all};
+use crate::place::{Position, begun, closed, left_of, past_row};
+use crate::sets::sets_of;
+use sbl_program::{Found, Program, Routine};
+use sbl_tree::{Item, Plain, Row};
+use std::alloc::{AllocError, Global};
+
+fn routine_of(
+    alloc: Global,
+    names: &Names,
+    amongs: &Vec<Found>,
+    body: &Row,
+    place: &mut Position,
+) -> Result<Routine, AllocError>
+    ensures made { IfOk result (λ r. view_routine (strings_at amongs.now.items) r ≡ spec.routine_of (view_names names.now) (view_row body.now).0 (view_row body.now).1 (view_place amongs.now.items place.old)) }
+    ensures behind { OnOk result (view_place amongs.now.items place.new ≡ spec.past_body (view_row body.now).0 (view_row body.now).1 (view_place amongs.now.items place.old)) }
+{
+    let behind = past_row(amongs, body, closed(amongs, *place));
+    let count = left_of(amongs, *place).saturating_sub(left_of(amongs, behind));
+    let mut inner = begun(amongs, *place, behind);
+    *place = behind;
+    Ok(Routine {
+        body: row_of(alloc, names, amongs, body, &mut inner)?,
+        amongs: count,
+    })
+}
+
+fn add_routine(
+    alloc: Global,
+    names: &Names,
+    amongs: &Vec<Found>,
+    plain: &Plain,
+    place: &mut Position,
+    routines: &mut Vec<Routine>,
+) -> Result<(), AllocError>
+    ensures made { OnOk result (map (view_routine (strings_at amongs.now.items)) routines.new.items ≡ spec.with_routine (view_names names.now) (view_plain plain.now) (view_place amongs.now.items place.old) (map (view_routine (strings_at amongs.now.items)) routines.old.items)) }
+    ensures behind { OnOk result (view_place amongs.now.items place.new ≡ spec.past_plain (view_plain plain.now) (view_place amongs.now.items place.old)) }
+{
+    if let Plain::Routine { name: _, body } = plain {
+        let routine = routine_of(alloc, names, amongs, body, place)?;
+        routines.push(routine)?;
+    }
+    Ok(())
+}
+
+fn routines_of(
+    alloc: Global,
+    names: &Names,
+    items: &[ItemInMode],
+    amongs: &Vec<Found>,
+) -> Result<Vec<Routine>, AllocError>
+    ensures { IfOk result (λ v. map (view_routine (strings_at amongs.now.items)) v.items ≡ spec.routines_behind (view_names names.now) (map view_placed items.now) (view_place amongs.now.items (record { next = 0; behind = 0; waits = false })) []) }
+{
+    let mut place = Position {
+        next: 0,
+        behind: 0,
+        waits: false,
+    };
+    let mut routines = Vec::new(alloc);
+    for item in items {
+        add_routine(alloc, names, amongs, item.plain, &mut place, &mut routines)?;
+    }
+    Ok(routines)
+}
+
+fn program_by(
+    alloc: Global,
+    names: &Names,
+    items: &[ItemInMode],
+    amongs: &Vec<Found>,
+    external: &str,
+) -> Result<Program, AllocError>
+    ensures { IfOk result (λ p. program_of (strings_at amongs.now.items) p ≡ spec.program_by (view_names names.now) (map view_placed items.now) (map view_found amongs.now.items) external.now) }
+{
+    let groupings = sets_of(alloc, names, items)?;
+    let routines = routines_of(alloc, names, items, amongs)?;
+    Ok(Program {
+        integers: names.integers.len(),
+        booleans: names.booleans.len(),
+        strings: names.strings.len(),
+        groupings,
+        routines,
+        external: number_of(&names.routines, external),
+    })
+}
+
+/// A program, and the amongs whose strings its tables are to list.
+#[derive(Drop)]
+pub struct Made {
+    /// The program.
+    pub program: Program,
+    /// The amongs, in the order of the tables.
+    pub amongs: Vec<Found>,
+    /// The names of the routines, in the order of their definitions.
+    pub routines: Vec<String>,
+}
+
+/// The program of a script's items, whose external is run. AllocError where a growth was refused.
+pub fn numbered(alloc: Global, items: &[Item], external: &str) -> Result<Made, AllocError>
+    ensures program { IfOk result (λ n. program_of (strings_at n.amongs.items) n.program ≡ spec.numbered_items (view_items items.now) external.now) }
+    ensures routines { IfOk result (λ n. map string_bytes n.routines.items ≡ known_in (in_order (view_items items.now)) kinds.Routines) }
+{
+    let placed = place_all(alloc, items)?;
+    let names = names_of(alloc, &placed)?;
+    let amongs = amongs_of(alloc, &names, &placed)?;
+    let program = program_by(alloc, &names, &placed, &amongs, external)?;
+    let Names { routines, .. } = names;
+    Ok(Made {
+        program,
+        amongs,
+        routines,
+    })
+}

@@ -1,8 +1,0 @@
-use Rattle.std.proofs.Common.{◌≡◌, drop, map}
-use Rattle.sbl_tree.specs.View.{view_term}
-use Rattle.sbl_program.specs.NumberedSets.{with_terms}
-use Rattle.sbl_program.specs.NumberedView.{view_names}
-use Rattle.sbl_program.proofs.sets.set_of.Given as goal
-
-abbrev pub invariant-loop-term : goal.invariant-loop-term
-invariant-loop-term l = with_terms (view_names l.names) l.sets.items (map view_term (drop l.term-index l.others.items)) l.set ≡ with_terms (view_names l.names) l.sets.items (map view_term l.others.items) l.initial.set

@@ -1,7 +1,0 @@
-use Rattle.std.proofs.Common.{◌≡◌, drop, map, []}
-use Rattle.sbl_program.specs.NumberedSets.{sets_behind}
-use Rattle.sbl_program.specs.NumberedView.{view_names, view_placed}
-use Rattle.sbl_program.proofs.sets.sets_of.Given as goal
-
-abbrev pub invariant-loop-item : goal.invariant-loop-item
-invariant-loop-item l = sets_behind (view_names l.names) (map view_placed (drop l.item-index l.items)) l.sets.items ≡ sets_behind (view_names l.names) (map view_placed l.items) []
