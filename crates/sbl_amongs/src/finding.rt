@@ -130,7 +130,7 @@ fn in_others(others: &Vec<Joined>, depth: u8, number: u64) -> Found<'_>
 }
 
 /// The among of a routine's body with this number, counted from 1 in the order of the words `among`, and the depth at
-/// which it stands; `None` exactly where there is none, as for 0.
+/// which it stands; `None` exactly where there is none, as for 0. The body stands nowhere deeper than 64.
 pub fn nth_among(row: &Row, number: u64) -> Option<(u8, &Among)>
     requires { AreShallow (places_in body (view_row row.now)) }
     ensures held { MatchOption result (nth_held number (amongs_of_body (view_row row.now)) ≡ None) (λ x. nth_held number (amongs_of_body (view_row row.now)) ≡ Some (x.0, (view_among x.1.now).0, (view_among x.1.now).1)) }

@@ -184,7 +184,8 @@ fn put_in_others(
 }
 
 /// A copy of a routine's body with `among` in the place of the `at`-th, counted from 1 in the order of the word `among`.
-/// Where there is none, as for 0, it is a plain copy. It is nowhere too deep where the body is not and `among` fits.
+/// Where there is none, as for 0, it is a plain copy. It is nowhere too deep where the body is not and `among` fits. A refused growth
+/// is the one error.
 pub fn put_in_place(alloc: Global, row: &Row, at: u64, among: &Among) -> Result<Row, AllocError>
     ensures put { IfOk result (λ r. view_row r ≡ put_in_body (view_row row.now) at (view_among among.now)) }
     ensures shallow { IfOk result (λ r. AreShallow (places_in body (view_row row.now)) → FitsAt at (amongs_of_body (view_row row.now)) (view_among among.now) → AreShallow (places_in body (view_row r))) }

@@ -119,7 +119,7 @@ pub struct Program {
 }
 
 impl Program {
-    /// The routine of a number.
+    /// The routine of a number; `None` where no routine has it.
     pub fn routine(&self, number: usize) -> Option<&Routine>
         ensures { (tables : ℕ → Listed) → slice_get (program_of tables self.now).routines number ≡ option_map (λ r. view_routine tables r.now) result }
     {

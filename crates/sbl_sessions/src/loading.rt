@@ -16,7 +16,13 @@ use sbl_lines::{Lines, ServeFault, Source};
 use sbl_script::{Script, ScriptFault};
 use std::alloc::Global;
 
-/// The text of the script block, read to its end.
+/// The text of the script block: its lines up to a line `.`, each followed by a line feed. The block is read to its end before it is
+/// judged.
+///
+/// # Errors
+///
+/// `Cut` where the input ended before the point; `Read` and `LineTooLong`, which the lines remember and answer again, and then nothing
+/// is taken; `ScriptTooLong` and `OutOfMemory`, after which the lines stand behind the block.
 pub fn read_script<R: Source + Drop>(lines: &mut Lines<R>) -> Result<Vec<u8>, LoadFault>
     ensures reads { fault_of lines.old ≡ None → ReadsScript (input_of R.left lines.old) (input_of R.left lines.new) result }
     ensures ready { OnOk result (fault_of lines.old ≡ None) }
@@ -24,6 +30,7 @@ pub fn read_script<R: Source + Drop>(lines: &mut Lines<R>) -> Result<Vec<u8>, Lo
     ensures again { (fault : LineFault) → fault_of lines.old ≡ Some fault → (result ≡ Err (LoadFault.Input (serve_fault_of fault))) × Keeps (input_of R.left lines.old) (input_of R.left lines.new) }
     ensures later { R.failures lines.old.reader ≤ R.failures lines.new.reader }
     ensures bound { reads_bound R.reads lines.new ≡ reads_bound R.reads lines.old }
+    ensures steady { OnOk result (R.failures lines.new.reader ≡ R.failures lines.old.reader) }
     ensures why { IfErr result (λ fault. HasReason R.failures R.interruptions R.reads lines.old lines.new fault) }
     ensures in_time { KeepsTime R.ended R.late R.interruptions R.reads lines.old lines.new }
 {
@@ -55,6 +62,7 @@ fn read_words<R: Source + Drop>(lines: &mut Lines<R>) -> Result<Vec<Vec<char>>, 
     ensures remembered { fault_of lines.new ≡ left_by_load result }
     ensures later { R.failures lines.old.reader ≤ R.failures lines.new.reader }
     ensures bound { reads_bound R.reads lines.new ≡ reads_bound R.reads lines.old }
+    ensures steady { OnOk result (R.failures lines.new.reader ≡ R.failures lines.old.reader) }
     ensures why { IfErr result (λ fault. HasReason R.failures R.interruptions R.reads lines.old lines.new fault) }
     ensures in_time { KeepsTime R.ended R.late R.interruptions R.reads lines.old lines.new }
 {
@@ -77,11 +85,14 @@ fn read_words<R: Source + Drop>(lines: &mut Lines<R>) -> Result<Vec<Vec<char>>, 
 /// The script block is read to its end before it is judged: `Read`, `LineTooLong`, and `Cut` where the input ended before
 /// the point. Then the first fault of the script, with its place or item; no word is read then. All words are read before they
 /// are judged: `Read`, `LineTooLong`, and `NotText` at a line that is not UTF-8. Then the vocabulary's faults, `WordTooLong`
-/// and `Full`. A refused growth is `OutOfMemory`, in the script block once that is read to its end. After `Cut` the lines stand at the end of input, after a fault of the script
-/// behind the point of its block, and after `NotText` behind the line that is no text. `Read` and `LineTooLong` are
-/// remembered: the lines answer them again, and so does every later `load`, which then takes nothing.
+/// and `Full`. A refused growth is `OutOfMemory`, in the script block once that is read to its end. After `Cut` the lines stand at
+/// the end of input, after a fault of the script behind the point of its block, and after `NotText` behind the line that is no
+/// text. `Read` and `LineTooLong` are remembered: the lines answer them again, and so does every later `load`, which then takes
+/// nothing.
 pub fn load<R: Source + Drop>(lines: &mut Lines<R>, external: &str) -> Result<Bench, LoadFault>
     ensures loaded { fault_of lines.old ≡ None → IsLoaded (input_of R.left lines.old) (input_of R.left lines.new) external.now (λ b. contents_of b) result }
+    ensures later { R.failures lines.old.reader ≤ R.failures lines.new.reader }
+    ensures steady { OnOk result (R.failures lines.new.reader ≡ R.failures lines.old.reader) }
     ensures why { IfErr result (λ fault. HasReason R.failures R.interruptions R.reads lines.old lines.new fault) }
     ensures in_time { KeepsTime R.ended R.late R.interruptions R.reads lines.old lines.new }
     ensures remembered { fault_of lines.new ≡ left_by_load result }

@@ -13,7 +13,7 @@ use sbl_bench::{Class, Row};
 use sbl_machine::{Item, Outcome};
 use std::alloc::{AllocError, Global};
 
-/// Some characters as UTF-8.
+/// Some characters as UTF-8. A refused growth is the one error.
 pub fn text_of(alloc: Global, characters: &[char]) -> Result<String, AllocError>
     ensures { IfOk result (λ text. string_bytes text ≡ encode_utf8_all characters.now) }
 {

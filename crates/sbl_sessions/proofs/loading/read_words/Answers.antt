@@ -12,7 +12,7 @@ use Rattle.sbl_sessions.proofs.loading.read_words.Goals as goal
 
 pub loop-words-init : goal.loop-words-init
 loop-words-init g c =
-    ([], tt, tt, took-none _, ap (λ (ws : List (Vec ℕ Global)). map (λ w. w.items) ws) c.new-words.ensures.items, refl, omega arith, tt, refl, λ timely. timely)
+    ([], tt, tt, took-none _, ap (λ (ws : List (Vec ℕ Global)). map (λ w. w.items) ws) c.new-words.ensures.items, refl, omega arith, tt, refl, (λ timely. timely), refl)
 
 pub returns-in_err-word-clause-reads : goal.returns-in_err-word-clause-reads
 returns-in_err-word-clause-reads g c = λ _.
@@ -65,7 +65,8 @@ loop-words-preserved g c =
       omega (arith, so.6, c.next_line.ensures.later),
       all_fit-push so.0 line so.7 (c.in_ok-next_line.ensures.fits c.if-branch.true),
       c.next_line.ensures.bound ∙ so.8,
-      λ timely. c.next_line.ensures.in_time (so.9 timely),
+      (λ timely. c.next_line.ensures.in_time (so.9 timely)),
+      c.in_ok-next_line.ensures.steady ∙ so.10,
     )
 
 pub returns-clause-reads : goal.returns-clause-reads
@@ -73,3 +74,9 @@ returns-clause-reads g c = λ _.
     let so = c.loop-words.invariant in
     let end = c.in_ok-next_line.ensures.end c.if-branch.false in
     (so.0, (((so.1, so.7), so.2), inr (took-kept _ (input_of g.R.Source.left c.loop-words.lines) _ so.0 so.3 end.2, end.1)), so.4)
+
+pub returns-then-eq-clause-steady : goal.returns-then-eq-clause-steady
+returns-then-eq-clause-steady g c = c.in_ok-next_line.ensures.steady ∙ c.loop-words.invariant.10
+
+pub returns-clause-steady : goal.returns-clause-steady
+returns-clause-steady g c = c.in_ok-next_line.ensures.steady ∙ c.loop-words.invariant.10

@@ -10,6 +10,7 @@ invariant-loop-words g l = (taken : List (List ℕ)) × NoPoint taken × AllText
     × (g.R.Source.failures l.fn.lines.reader ≤ g.R.Source.failures l.lines.reader)
     × AllFit taken × (reads_bound g.R.Source.reads l.lines ≡ reads_bound g.R.Source.reads l.fn.lines)
     × KeepsTime g.R.Source.ended g.R.Source.late g.R.Source.interruptions g.R.Source.reads l.fn.lines l.lines
+    × (g.R.Source.failures l.lines.reader ≡ g.R.Source.failures l.fn.lines.reader)
 
 abbrev pub decreases-loop-words : goal.decreases-loop-words
 decreases-loop-words g l = fuel_of l.lines
