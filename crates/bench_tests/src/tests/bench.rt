@@ -1,5 +1,6 @@
 //! The words of a bench: each call, with its count of runs. Sessions over them stand in tests/cases.
 
+use crate::tests::characters::{text_of, word_of};
 use sbl_bench::{Bench, EditFault, Row};
 use sbl_machine::Outcome;
 use sbl_script::{Script, ScriptFault};
@@ -12,17 +13,17 @@ pub(crate) fn bench_of(alloc: Global, script: &str, words: &[&str]) -> Result<Be
     let script = Script::parse(alloc, script.as_bytes(), "stem")?;
     let mut list = Vec::new(alloc);
     for &word in words {
-        list.push(word.chars().collect(alloc)?)?;
+        list.push(word_of(alloc, word)?)?;
     }
     Ok(Bench::open(alloc, script, list)?)
 }
 
 /// A row as `WORD STEM`, or `WORD` and the fault.
 pub(crate) fn shown(alloc: Global, row: &Row<'_>) -> Result<String, Fail> {
-    let word: String = row.word.iter().collect(alloc)?;
+    let word = text_of(alloc, row.word)?;
     match row.outcome {
         Outcome::Stem(stem) => {
-            let stem: String = stem.iter().collect(alloc)?;
+            let stem = text_of(alloc, stem.as_slice())?;
             Ok(format!(in alloc; "{word} {stem}")?)
         }
         Outcome::Refused(fault) => Ok(format!(in alloc; "{word} {fault}")?),
@@ -45,10 +46,10 @@ pub(crate) fn classes_shown(alloc: Global, bench: &Bench) -> Result<String, Fail
     let mut text = String::new(alloc);
     let classes = bench.classes()?;
     for class in &classes {
-        text.extend(class.stem.iter())?;
+        text.push_str(text_of(alloc, class.stem.as_slice())?.as_str())?;
         text.push(':')?;
         for word in &class.words {
-            text.extend(word.iter())?;
+            text.push_str(text_of(alloc, word.as_slice())?.as_str())?;
             text.push(',')?;
         }
         text.push(';')?;
@@ -135,8 +136,7 @@ fn classes_go_by_stem_and_word(rt: HostRuntime) -> Result<(), Fail> {
     );
     match bench.class_of(&['d', 'o'])? {
         Some(class) => {
-            let stem: String = class.stem.iter().collect(rt.alloc())?;
-            assert_eq!(rt; stem.as_str(), "do");
+            assert_eq!(rt; text_of(rt.alloc(), class.stem.as_slice())?.as_str(), "do");
             assert_eq!(rt; class.words.len(), 3);
         }
         None => assert!(rt; false),
