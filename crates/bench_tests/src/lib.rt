@@ -1,4 +1,4 @@
-//! Tests of a vocabulary's rows, classes and edits. Nothing but tests stands here.
+//! Tests of a vocabulary's refusals and edits. Nothing but tests stands here.
 #![tactic(auto)]
 
 #[cfg(test)]

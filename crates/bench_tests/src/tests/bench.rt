@@ -1,4 +1,4 @@
-//! The words of a bench: each call, with its count of runs. Sessions over them stand in tests/cases.
+//! The words of a bench: refusals, and refused growths. What else is answered stands in tests/cases.
 
 use crate::tests::characters::{text_of, word_of};
 use sbl_bench::{Bench, EditFault, Row};
@@ -41,52 +41,6 @@ pub(crate) fn rows_shown(alloc: Global, bench: &Bench) -> Result<String, Fail> {
     Ok(text)
 }
 
-/// The classes as `STEM:WORD,WORD,;`.
-pub(crate) fn classes_shown(alloc: Global, bench: &Bench) -> Result<String, Fail> {
-    let mut text = String::new(alloc);
-    let classes = bench.classes()?;
-    for class in &classes {
-        text.push_str(text_of(alloc, class.stem.as_slice())?.as_str())?;
-        text.push(':')?;
-        for word in &class.words {
-            text.push_str(text_of(alloc, word.as_slice())?.as_str())?;
-            text.push(',')?;
-        }
-        text.push(';')?;
-    }
-    Ok(text)
-}
-
-#[test]
-fn added_words_stand_last_with_their_stems(rt: HostRuntime) -> Result<(), Fail> {
-    let mut bench = bench_of(rt.alloc(), PREFIXES, &[])?;
-    assert!(rt; bench.is_empty());
-    bench.add(&['u', 'n', 'd', 'o'])?;
-    bench.add(&['r', 'e', 'd', 'o'])?;
-    assert_eq!(rt; bench.len(), 2);
-    assert_eq!(rt; bench.runs(), 2);
-    assert_eq!(rt;
-        rows_shown(rt.alloc(), &bench)?.as_str(),
-        "undo do;redo do;"
-    );
-    Ok(())
-}
-
-#[test]
-fn opening_skips_empty_words_and_repeats(rt: HostRuntime) -> Result<(), Fail> {
-    let bench = bench_of(rt.alloc(), PREFIXES, &["redo", "", "undo", "redo"])?;
-    assert_eq!(rt; bench.len(), 2);
-    assert_eq!(rt; bench.runs(), 2);
-    for (i, text) in [(0, "redo do"), (1, "undo do")] {
-        match bench.row(i) {
-            Some(row) => assert_eq!(rt; shown(rt.alloc(), &row)?.as_str(), text),
-            None => assert!(rt; false),
-        }
-    }
-    assert!(rt; bench.row(2).is_none());
-    Ok(())
-}
-
 #[test]
 fn words_that_are_refused_change_nothing(rt: HostRuntime) -> Result<(), Fail> {
     let mut bench = bench_of(rt.alloc(), PREFIXES, &["undo"])?;
@@ -120,48 +74,6 @@ fn a_refused_growth_changes_nothing(rt: HostRuntime) -> Result<(), Fail> {
     }
     assert_eq!(rt; bench.len(), 1);
     assert!(rt; bench.runs() <= 2);
-    Ok(())
-}
-
-#[test]
-fn classes_go_by_stem_and_word(rt: HostRuntime) -> Result<(), Fail> {
-    let bench = bench_of(
-        rt.alloc(),
-        PREFIXES,
-        &["undo", "redo", "do", "sky", "resky", "d"],
-    )?;
-    assert_eq!(rt;
-        classes_shown(rt.alloc(), &bench)?.as_str(),
-        "d:d,;do:do,redo,undo,;sky:resky,sky,;"
-    );
-    match bench.class_of(&['d', 'o'])? {
-        Some(class) => {
-            assert_eq!(rt; text_of(rt.alloc(), class.stem.as_slice())?.as_str(), "do");
-            assert_eq!(rt; class.words.len(), 3);
-        }
-        None => assert!(rt; false),
-    }
-    assert!(rt; bench.class_of(&['o'])?.is_none());
-    Ok(())
-}
-
-#[test]
-fn a_removal_closes_the_gap(rt: HostRuntime) -> Result<(), Fail> {
-    let mut bench = bench_of(rt.alloc(), PREFIXES, &["undo", "redo", "sky"])?;
-    assert_eq!(rt; bench.remove(&['d', 'o']), Err(EditFault::Absent));
-    assert_eq!(rt; bench.remove(&['u', 'n', 'd', 'o']), Ok(()));
-    assert_eq!(rt; bench.len(), 2);
-    assert_eq!(rt; bench.runs(), 3);
-    match bench.row(0) {
-        Some(row) => assert_eq!(rt; shown(rt.alloc(), &row)?.as_str(), "redo do"),
-        None => assert!(rt; false),
-    }
-    assert_eq!(rt;
-        classes_shown(rt.alloc(), &bench)?.as_str(),
-        "do:redo,;sky:sky,;"
-    );
-    assert_eq!(rt; bench.remove(&['r', 'e', 'd', 'o']), Ok(()));
-    assert_eq!(rt; classes_shown(rt.alloc(), &bench)?.as_str(), "sky:sky,;");
     Ok(())
 }
 
