@@ -34,7 +34,7 @@ use Rattle.sbl_numbering.specs.Items.{Known, Body, is_among, place_of, body_name
 use Rattle.sbl_run.specs.Moves.{match, next, hop, at_limit, set_mark, at_mark, to_mark, set_boolean, test_boolean}
 use Rattle.sbl_run.specs.Numbers.{Value, natural, given, fitted, divided, with_value, with_both, limit_value, integer_at}
 use Rattle.sbl_numbering.specs.Regions.{Among, among_at, behind, behind_rows, behind_others, behind_starter, first, first_rows, first_others, mode_behind, waits, waits_others}
-use Rattle.sbl_run.specs.Run.{turns, times, count_of, seeks, limits, limit_here, limit_back, backwards_from, backwards_end, chosen as go_on, enter, back_in, paid}
+use Rattle.sbl_run.specs.Run.{at_end, turns, times, count_of, seeks, limits, limit_here, limit_back, backwards_from, backwards_end, chosen as go_on, enter, back_in, paid}
 use Rattle.sbl_run.specs.Search.{choose, choice, touch_among}
 use Rattle.sbl_run.specs.Slices.{left_bracket, right_bracket, replace, keep, insert, attach}
 use Rattle.sbl_run.specs.State.{State, Ending, Signals, Stops, Doing, ahead, bound_of, after, moved as further, then_on, saved_cursor, place_after, put_back, to_limit}
@@ -67,10 +67,6 @@ counted_does counts.AtLeast v c m s =
 abbrev pub joined_does : Joiner → Doing → Doing → Doing
 joined_does Or a b m s = after (a m s) (Signals true) (λ f. then_on (put_back m (saved_cursor s) f) (b m))
 joined_does And a b m s = after (a m s) (λ t. then_on (put_back m (saved_cursor s) t) (b m)) (Signals false)
-
--- a change at the end, whatever is signalled
-abbrev pub at_end : (State → State) → Ending → Ending
-at_end change e = after e (λ t. Signals true (change t)) (λ f. Signals false (change f))
 
 -- `setlimit C1 for C2`: the old limit is back at the end
 abbrev pub limited_does : Doing → Doing → Doing

@@ -57,9 +57,13 @@ abbrev pub limit_back : Mode → Limits → State → State
 limit_back Forward from s = record s { beyond = from.beyond }
 limit_back Backward from s = record s { left = from.left }
 
--- what was done within a limit, with the old one back whatever it signals
+-- a change at the end, whatever is signalled
+abbrev pub at_end : (State → State) → Ending → Ending
+at_end change e = after e (λ t. Signals true (change t)) (λ f. Signals false (change f))
+
+-- what was done within a limit, with the old one back at the end
 abbrev pub limited : Mode → Limits → Ending → Ending
-limited m from e = after e (λ t. Signals true (limit_back m from t)) (λ f. Signals false (limit_back m from f))
+limited m from = at_end (limit_back m from)
 
 -- where `backwards` begins: the left limit is the cursor, and the cursor goes to the limit
 abbrev pub backwards_from : State → Ending
@@ -142,7 +146,7 @@ back_in i choices s = record s { choices = choices; routine = i }
 
 -- at its return these are back
 abbrev pub leave : ℕ → List (Option ℕ) → Ending → Ending
-leave i choices e = after e (λ t. Signals true (back_in i choices t)) (λ f. Signals false (back_in i choices f))
+leave i choices = at_end (back_in i choices)
 
 -- what the i-th routine does, by what its commands do
 abbrev pub body_does : (programs.Node → Doing) → ℕ → Option programs.Routine → Doing

@@ -1,10 +1,11 @@
 //! Runs commands over a state.
 
-ghost use Rattle.std.specs.Prelude.{◌≡◌, ◌+◌, ◌<◌, ◌≤◌, Bool, false, suc, map, IfOk, slice_get};
+ghost use Rattle.std.specs.Prelude.{◌≡◌, ◌+◌, ◌<◌, ◌≤◌, Bool, true, false, suc, map, IfOk, slice_get};
 ghost use Rattle.sbl_run.specs.Kept.{Follows, Tried};
 ghost use Rattle.sbl_run.specs.Numbers.{value, given};
 ghost use Rattle.sbl_program.specs.ProgramOf.{program_of, view_joined, view_node, view_nodes, view_number};
-ghost use Rattle.sbl_run.specs.Run.{runs, all_run, group_runs, calls, turns, times, count_of, seeks};
+ghost use Rattle.sbl_run.specs.Run.{runs, all_run, backwards_end, backwards_from, group_runs, calls, limit_here, limited, limits, turns, times, count_of, seeks};
+ghost use Rattle.sbl_tree.specs.declared.mode.Mode.TheVariants.{Backward};
 ghost use Rattle.sbl_run.specs.Rows.{is_settled, joined_runs, row_runs};
 ghost use Rattle.sbl_run.specs.Search.{choice, searched, try_one};
 ghost use Rattle.sbl_run.specs.State.{State as RunState, Ending, Signals, after, then_on, saved_cursor, put_back};
@@ -41,35 +42,10 @@ impl<'a, T: Tables> Runner<'a, T> {
             Node::Act(action) => state.act(&self.program.groupings, self.mode, action),
             Node::Sequence(commands) => self.run_in_turn(commands, state),
             Node::Row { first, others } => { self.run_row(first, others, state) }
-            Node::Not(inner) => {
-                let from = state.saved_cursor();
-                if self.run_command(inner, state)? {
-                    return Ok(false);
-                }
-                state.put_back(self.mode, from)?;
-                Ok(true)
-            }
-            Node::Test(inner) => {
-                let from = state.saved_cursor();
-                if !self.run_command(inner, state)? {
-                    return Ok(false);
-                }
-                state.put_back(self.mode, from)?;
-                Ok(true)
-            }
-            Node::Try(inner) => {
-                let from = state.saved_cursor();
-                if !self.run_command(inner, state)? {
-                    state.put_back(self.mode, from)?;
-                }
-                Ok(true)
-            }
-            Node::Do(inner) => {
-                let from = state.saved_cursor();
-                self.run_command(inner, state)?;
-                state.put_back(self.mode, from)?;
-                Ok(true)
-            }
+            Node::Not(inner) => self.run_not(inner, state),
+            Node::Test(inner) => self.run_test(inner, state),
+            Node::Try(inner) => self.run_try(inner, state),
+            Node::Do(inner) => self.run_do(inner, state),
             Node::Fail(inner) => {
                 self.run_command(inner, state)?;
                 Ok(false)
@@ -84,30 +60,8 @@ impl<'a, T: Tables> Runner<'a, T> {
             }
             Node::Goto(inner) => self.run_seek(false, inner, state),
             Node::GoPast(inner) => self.run_seek(true, inner, state),
-            Node::Backwards(inner) => {
-                state.begin_backwards()?;
-                let backwards = Runner {
-                    mode: Mode::Backward,
-                    ..*self
-                };
-                if !backwards.run_command(inner, state)? {
-                    return Ok(false);
-                }
-                state.end_backwards()?;
-                Ok(true)
-            }
-            Node::SetLimit(first, second) => {
-                let from = state.saved_cursor();
-                let limits = state.limits();
-                if !self.run_command(first, state)? {
-                    return Ok(false);
-                }
-                state.limit_here(self.mode);
-                state.put_back(self.mode, from)?;
-                let signal = self.run_command(second, state)?;
-                state.limit_back(self.mode, limits);
-                Ok(signal)
-            }
+            Node::Backwards(inner) => self.run_backwards(inner, state),
+            Node::SetLimit(first, second) => self.run_limited(first, second, state),
             Node::Call(number) => self.run_call(*number, state),
             Node::Search {
                 among,
@@ -123,6 +77,95 @@ impl<'a, T: Tables> Runner<'a, T> {
                 bodies,
             } => self.run_among(*among, before, bodies, state),
         }
+    }
+
+    /// Runs a command: f where it signals t, and t with the cursor put back where it signals f.
+    #[cycle(run)]
+    fn run_not(&self, inner: &Node, state: &mut State) -> Result<bool, Halt>
+        ensures follows { Follows result state.new (after (runs (program_of (T.listed self.now.tables.now) self.now.program.now) self.now.levels (view_node (T.listed self.now.tables.now) inner.now) self.now.mode state.old) (Signals false) (put_back self.now.mode (saved_cursor state.old))) }
+        ensures no_more { IfOk result (λ _. state.new.steps ≤ state.old.steps) }
+    {
+        let from = state.saved_cursor();
+        if self.run_command(inner, state)? {
+            return Ok(false);
+        }
+        state.put_back(self.mode, from)?;
+        Ok(true)
+    }
+
+    /// Runs a command: where it signals t, the cursor is put back.
+    #[cycle(run)]
+    fn run_test(&self, inner: &Node, state: &mut State) -> Result<bool, Halt>
+        ensures follows { Follows result state.new (after (runs (program_of (T.listed self.now.tables.now) self.now.program.now) self.now.levels (view_node (T.listed self.now.tables.now) inner.now) self.now.mode state.old) (put_back self.now.mode (saved_cursor state.old)) (Signals false)) }
+        ensures no_more { IfOk result (λ _. state.new.steps ≤ state.old.steps) }
+    {
+        let from = state.saved_cursor();
+        if !self.run_command(inner, state)? {
+            return Ok(false);
+        }
+        state.put_back(self.mode, from)?;
+        Ok(true)
+    }
+
+    /// Runs a command: t, with the cursor put back where the command signals f.
+    #[cycle(run)]
+    fn run_try(&self, inner: &Node, state: &mut State) -> Result<bool, Halt>
+        ensures follows { Follows result state.new (after (runs (program_of (T.listed self.now.tables.now) self.now.program.now) self.now.levels (view_node (T.listed self.now.tables.now) inner.now) self.now.mode state.old) (Signals true) (put_back self.now.mode (saved_cursor state.old))) }
+        ensures no_more { IfOk result (λ _. state.new.steps ≤ state.old.steps) }
+    {
+        let from = state.saved_cursor();
+        if !self.run_command(inner, state)? {
+            state.put_back(self.mode, from)?;
+        }
+        Ok(true)
+    }
+
+    /// Runs a command, and puts the cursor back whatever it signals: t.
+    #[cycle(run)]
+    fn run_do(&self, inner: &Node, state: &mut State) -> Result<bool, Halt>
+        ensures follows { Follows result state.new (after (runs (program_of (T.listed self.now.tables.now) self.now.program.now) self.now.levels (view_node (T.listed self.now.tables.now) inner.now) self.now.mode state.old) (put_back self.now.mode (saved_cursor state.old)) (put_back self.now.mode (saved_cursor state.old))) }
+        ensures no_more { IfOk result (λ _. state.new.steps ≤ state.old.steps) }
+    {
+        let from = state.saved_cursor();
+        self.run_command(inner, state)?;
+        state.put_back(self.mode, from)?;
+        Ok(true)
+    }
+
+    /// Runs a command backwards, over what is between the cursor and the limit.
+    #[cycle(run)]
+    fn run_backwards(&self, inner: &Node, state: &mut State) -> Result<bool, Halt>
+        ensures follows { Follows result state.new (then_on (backwards_from state.old) (λ b. after (runs (program_of (T.listed self.now.tables.now) self.now.program.now) self.now.levels (view_node (T.listed self.now.tables.now) inner.now) Backward b) backwards_end (Signals false))) }
+        ensures no_more { IfOk result (λ _. state.new.steps ≤ state.old.steps) }
+    {
+        state.begin_backwards()?;
+        let backwards = Runner {
+            mode: Mode::Backward,
+            ..*self
+        };
+        if !backwards.run_command(inner, state)? {
+            return Ok(false);
+        }
+        state.end_backwards()?;
+        Ok(true)
+    }
+
+    /// Runs a command that sets the limit, and then, from where the cursor was before it, another within that limit.
+    #[cycle(run)]
+    fn run_limited(&self, first: &Node, second: &Node, state: &mut State) -> Result<bool, Halt>
+        ensures follows { Follows result state.new (after (runs (program_of (T.listed self.now.tables.now) self.now.program.now) self.now.levels (view_node (T.listed self.now.tables.now) first.now) self.now.mode state.old) (λ t. then_on (put_back self.now.mode (saved_cursor state.old) (limit_here self.now.mode t)) (λ u. limited self.now.mode (limits state.old) (runs (program_of (T.listed self.now.tables.now) self.now.program.now) self.now.levels (view_node (T.listed self.now.tables.now) second.now) self.now.mode u))) (Signals false)) }
+        ensures no_more { IfOk result (λ _. state.new.steps ≤ state.old.steps) }
+    {
+        let from = state.saved_cursor();
+        let limits = state.limits();
+        if !self.run_command(first, state)? {
+            return Ok(false);
+        }
+        state.limit_here(self.mode);
+        state.put_back(self.mode, from)?;
+        let signal = self.run_command(second, state)?;
+        state.limit_back(self.mode, limits);
+        Ok(signal)
     }
 
     /// Runs a row, grouped from the left, whose first step is paid.
@@ -294,7 +337,7 @@ impl<'a, T: Tables> Runner<'a, T> {
             .tables
             .longest(table, state.text(), state.place(), state.bound(self.mode));
         while let Some(i) = place {
-            match self.run_try(among, from, entries, i, state) {
+            match self.try_string(among, from, entries, i, state) {
                 Err(halt) => return Err(halt),
                 Ok(true) => return Ok(true),
                 Ok(false) => {}
@@ -307,7 +350,7 @@ impl<'a, T: Tables> Runner<'a, T> {
 
     /// Tries one string, and answers whether it is taken: not where its condition signals f.
     #[cycle(run)]
-    fn run_try(
+    fn try_string(
         &self,
         among: usize,
         from: SavedCursor,

@@ -19,11 +19,11 @@ run_command-returns-in_ok-touch_among-in-Search-clause-follows = commands.run_co
 pub run_command-returns-in_err-run_times-in-AtLeast-clause-follows : goal.run_command-returns-in_err-run_times-in-AtLeast-clause-follows
 run_command-returns-in_err-run_times-in-AtLeast-clause-follows = commands.run_command-returns-in_err-run_times-in-AtLeast-clause-follows
 
-pub run_command-returns-then-not-branch-3-clause-follows : goal.run_command-returns-then-not-branch-3-clause-follows
-run_command-returns-then-not-branch-3-clause-follows = commands.run_command-returns-then-not-branch-3-clause-follows
+pub run_command-returns-then-not-branch-clause-follows : goal.run_command-returns-then-not-branch-clause-follows
+run_command-returns-then-not-branch-clause-follows = commands.run_command-returns-then-not-branch-clause-follows
 
-pub run_command-returns-else-not-branch-3-clause-follows : goal.run_command-returns-else-not-branch-3-clause-follows
-run_command-returns-else-not-branch-3-clause-follows = commands.run_command-returns-else-not-branch-3-clause-follows
+pub run_command-returns-else-not-branch-clause-follows : goal.run_command-returns-else-not-branch-clause-follows
+run_command-returns-else-not-branch-clause-follows = commands.run_command-returns-else-not-branch-clause-follows
 
 pub run_command-returns-in-Goto-clause-follows : goal.run_command-returns-in-Goto-clause-follows
 run_command-returns-in-Goto-clause-follows = commands.run_command-returns-in-Goto-clause-follows
@@ -31,80 +31,95 @@ run_command-returns-in-Goto-clause-follows = commands.run_command-returns-in-Got
 pub run_command-returns-in-GoPast-clause-follows : goal.run_command-returns-in-GoPast-clause-follows
 run_command-returns-in-GoPast-clause-follows = commands.run_command-returns-in-GoPast-clause-follows
 
-pub run_command-returns-in_ok-signal-in-SetLimit-clause-follows : goal.run_command-returns-in_ok-signal-in-SetLimit-clause-follows
-run_command-returns-in_ok-signal-in-SetLimit-clause-follows = commands.run_command-returns-in_ok-signal-in-SetLimit-clause-follows
-
-pub run_command-returns-in_err-signal-in-SetLimit-clause-follows : goal.run_command-returns-in_err-signal-in-SetLimit-clause-follows
-run_command-returns-in_err-signal-in-SetLimit-clause-follows = commands.run_command-returns-in_err-signal-in-SetLimit-clause-follows
-
 pub run_command-returns-in-Among-clause-follows : goal.run_command-returns-in-Among-clause-follows
 run_command-returns-in-Among-clause-follows = commands.run_command-returns-in-Among-clause-follows
-
-pub run_command-returns-in_err-run_command-in-SetLimit-clause-follows : goal.run_command-returns-in_err-run_command-in-SetLimit-clause-follows
-run_command-returns-in_err-run_command-in-SetLimit-clause-follows = commands.run_command-returns-in_err-run_command-in-SetLimit-clause-follows
-
-pub run_command-returns-in_err-put_back-in-SetLimit-clause-follows : goal.run_command-returns-in_err-put_back-in-SetLimit-clause-follows
-run_command-returns-in_err-put_back-in-SetLimit-clause-follows = commands.run_command-returns-in_err-put_back-in-SetLimit-clause-follows
 
 pub run_command-returns-in-Sequence-clause-follows : goal.run_command-returns-in-Sequence-clause-follows
 run_command-returns-in-Sequence-clause-follows = commands.run_command-returns-in-Sequence-clause-follows
 
-pub run_command-returns-then-branch-clause-follows : goal.run_command-returns-then-branch-clause-follows
-run_command-returns-then-branch-clause-follows = commands.run_command-returns-then-branch-clause-follows
-
 pub run_command-returns-in-Row-clause-follows : goal.run_command-returns-in-Row-clause-follows
 run_command-returns-in-Row-clause-follows = commands.run_command-returns-in-Row-clause-follows
 
-pub run_command-returns-in_err-run_command-in-Not-clause-follows : goal.run_command-returns-in_err-run_command-in-Not-clause-follows
-run_command-returns-in_err-run_command-in-Not-clause-follows = prefixes.run_command-returns-in_err-run_command-in-Not-clause-follows
+pub run_command-returns-in-Not-clause-follows : goal.run_command-returns-in-Not-clause-follows
+run_command-returns-in-Not-clause-follows = commands.run_command-returns-in-Not-clause-follows
 
-pub run_command-returns-in_err-put_back-in-Not-clause-follows : goal.run_command-returns-in_err-put_back-in-Not-clause-follows
-run_command-returns-in_err-put_back-in-Not-clause-follows = prefixes.run_command-returns-in_err-put_back-in-Not-clause-follows
+pub run_command-returns-in-Test-clause-follows : goal.run_command-returns-in-Test-clause-follows
+run_command-returns-in-Test-clause-follows = commands.run_command-returns-in-Test-clause-follows
 
-pub run_command-returns-in_err-run_command-in-Test-clause-follows : goal.run_command-returns-in_err-run_command-in-Test-clause-follows
-run_command-returns-in_err-run_command-in-Test-clause-follows = prefixes.run_command-returns-in_err-run_command-in-Test-clause-follows
+pub run_command-returns-in-Try-clause-follows : goal.run_command-returns-in-Try-clause-follows
+run_command-returns-in-Try-clause-follows = commands.run_command-returns-in-Try-clause-follows
 
-pub run_command-returns-in_err-put_back-in-Test-clause-follows : goal.run_command-returns-in_err-put_back-in-Test-clause-follows
-run_command-returns-in_err-put_back-in-Test-clause-follows = prefixes.run_command-returns-in_err-put_back-in-Test-clause-follows
+pub run_command-returns-in-Do-clause-follows : goal.run_command-returns-in-Do-clause-follows
+run_command-returns-in-Do-clause-follows = commands.run_command-returns-in-Do-clause-follows
 
-pub run_command-returns-in_err-run_command-in-Try-clause-follows : goal.run_command-returns-in_err-run_command-in-Try-clause-follows
-run_command-returns-in_err-run_command-in-Try-clause-follows = prefixes.run_command-returns-in_err-run_command-in-Try-clause-follows
+pub run_command-returns-in-Backwards-clause-follows : goal.run_command-returns-in-Backwards-clause-follows
+run_command-returns-in-Backwards-clause-follows = commands.run_command-returns-in-Backwards-clause-follows
 
-pub run_command-returns-in_err-put_back-in-Try-clause-follows : goal.run_command-returns-in_err-put_back-in-Try-clause-follows
-run_command-returns-in_err-put_back-in-Try-clause-follows = prefixes.run_command-returns-in_err-put_back-in-Try-clause-follows
-
-pub run_command-returns-in_err-run_command-in-Do-clause-follows : goal.run_command-returns-in_err-run_command-in-Do-clause-follows
-run_command-returns-in_err-run_command-in-Do-clause-follows = prefixes.run_command-returns-in_err-run_command-in-Do-clause-follows
-
-pub run_command-returns-in_err-put_back-in-Do-clause-follows : goal.run_command-returns-in_err-put_back-in-Do-clause-follows
-run_command-returns-in_err-put_back-in-Do-clause-follows = prefixes.run_command-returns-in_err-put_back-in-Do-clause-follows
+pub run_command-returns-in-SetLimit-clause-follows : goal.run_command-returns-in-SetLimit-clause-follows
+run_command-returns-in-SetLimit-clause-follows = commands.run_command-returns-in-SetLimit-clause-follows
 
 pub run_command-returns-in_err-run_command-in-Fail-clause-follows : goal.run_command-returns-in_err-run_command-in-Fail-clause-follows
-run_command-returns-in_err-run_command-in-Fail-clause-follows = prefixes.run_command-returns-in_err-run_command-in-Fail-clause-follows
-
-pub run_command-returns-in_err-run_command-in-Backwards-clause-follows : goal.run_command-returns-in_err-run_command-in-Backwards-clause-follows
-run_command-returns-in_err-run_command-in-Backwards-clause-follows = prefixes.run_command-returns-in_err-run_command-in-Backwards-clause-follows
-
-pub run_command-returns-in_ok-put_back-in-Not-clause-follows : goal.run_command-returns-in_ok-put_back-in-Not-clause-follows
-run_command-returns-in_ok-put_back-in-Not-clause-follows = prefixes.run_command-returns-in_ok-put_back-in-Not-clause-follows
-
-pub run_command-returns-in_ok-put_back-in-Test-clause-follows : goal.run_command-returns-in_ok-put_back-in-Test-clause-follows
-run_command-returns-in_ok-put_back-in-Test-clause-follows = prefixes.run_command-returns-in_ok-put_back-in-Test-clause-follows
-
-pub run_command-returns-in_ok-put_back-in-Try-clause-follows : goal.run_command-returns-in_ok-put_back-in-Try-clause-follows
-run_command-returns-in_ok-put_back-in-Try-clause-follows = prefixes.run_command-returns-in_ok-put_back-in-Try-clause-follows
-
-pub run_command-returns-in_ok-put_back-in-Do-clause-follows : goal.run_command-returns-in_ok-put_back-in-Do-clause-follows
-run_command-returns-in_ok-put_back-in-Do-clause-follows = prefixes.run_command-returns-in_ok-put_back-in-Do-clause-follows
+run_command-returns-in_err-run_command-in-Fail-clause-follows = commands.run_command-returns-in_err-run_command-in-Fail-clause-follows
 
 pub run_command-returns-in_ok-run_command-in-Fail-clause-follows : goal.run_command-returns-in_ok-run_command-in-Fail-clause-follows
-run_command-returns-in_ok-run_command-in-Fail-clause-follows = prefixes.run_command-returns-in_ok-run_command-in-Fail-clause-follows
+run_command-returns-in_ok-run_command-in-Fail-clause-follows = commands.run_command-returns-in_ok-run_command-in-Fail-clause-follows
 
-pub run_command-returns-in_ok-end_backwards-in-Backwards-clause-follows : goal.run_command-returns-in_ok-end_backwards-in-Backwards-clause-follows
-run_command-returns-in_ok-end_backwards-in-Backwards-clause-follows = prefixes.run_command-returns-in_ok-end_backwards-in-Backwards-clause-follows
+pub run_not-returns-in_err-run_command-clause-follows : goal.run_not-returns-in_err-run_command-clause-follows
+run_not-returns-in_err-run_command-clause-follows = prefixes.run_not-returns-in_err-run_command-clause-follows
 
-pub run_command-returns-in_err-end_backwards-in-Backwards-clause-follows : goal.run_command-returns-in_err-end_backwards-in-Backwards-clause-follows
-run_command-returns-in_err-end_backwards-in-Backwards-clause-follows = prefixes.run_command-returns-in_err-end_backwards-in-Backwards-clause-follows
+pub run_not-returns-in_err-put_back-clause-follows : goal.run_not-returns-in_err-put_back-clause-follows
+run_not-returns-in_err-put_back-clause-follows = prefixes.run_not-returns-in_err-put_back-clause-follows
+
+pub run_not-returns-clause-follows : goal.run_not-returns-clause-follows
+run_not-returns-clause-follows = prefixes.run_not-returns-clause-follows
+
+pub run_test-returns-in_err-run_command-clause-follows : goal.run_test-returns-in_err-run_command-clause-follows
+run_test-returns-in_err-run_command-clause-follows = prefixes.run_test-returns-in_err-run_command-clause-follows
+
+pub run_test-returns-in_err-put_back-clause-follows : goal.run_test-returns-in_err-put_back-clause-follows
+run_test-returns-in_err-put_back-clause-follows = prefixes.run_test-returns-in_err-put_back-clause-follows
+
+pub run_test-returns-clause-follows : goal.run_test-returns-clause-follows
+run_test-returns-clause-follows = prefixes.run_test-returns-clause-follows
+
+pub run_try-returns-in_err-run_command-clause-follows : goal.run_try-returns-in_err-run_command-clause-follows
+run_try-returns-in_err-run_command-clause-follows = prefixes.run_try-returns-in_err-run_command-clause-follows
+
+pub run_try-returns-in_err-put_back-clause-follows : goal.run_try-returns-in_err-put_back-clause-follows
+run_try-returns-in_err-put_back-clause-follows = prefixes.run_try-returns-in_err-put_back-clause-follows
+
+pub run_try-returns-in_ok-put_back-clause-follows : goal.run_try-returns-in_ok-put_back-clause-follows
+run_try-returns-in_ok-put_back-clause-follows = prefixes.run_try-returns-in_ok-put_back-clause-follows
+
+pub run_do-returns-in_err-run_command-clause-follows : goal.run_do-returns-in_err-run_command-clause-follows
+run_do-returns-in_err-run_command-clause-follows = prefixes.run_do-returns-in_err-run_command-clause-follows
+
+pub run_do-returns-in_err-put_back-clause-follows : goal.run_do-returns-in_err-put_back-clause-follows
+run_do-returns-in_err-put_back-clause-follows = prefixes.run_do-returns-in_err-put_back-clause-follows
+
+pub run_do-returns-clause-follows : goal.run_do-returns-clause-follows
+run_do-returns-clause-follows = prefixes.run_do-returns-clause-follows
+
+pub run_backwards-returns-in_err-run_command-clause-follows : goal.run_backwards-returns-in_err-run_command-clause-follows
+run_backwards-returns-in_err-run_command-clause-follows = prefixes.run_backwards-returns-in_err-run_command-clause-follows
+
+pub run_backwards-returns-clause-follows : goal.run_backwards-returns-clause-follows
+run_backwards-returns-clause-follows = prefixes.run_backwards-returns-clause-follows
+
+pub run_backwards-returns-in_err-end_backwards-clause-follows : goal.run_backwards-returns-in_err-end_backwards-clause-follows
+run_backwards-returns-in_err-end_backwards-clause-follows = prefixes.run_backwards-returns-in_err-end_backwards-clause-follows
+
+pub run_limited-returns-in_err-run_command-clause-follows : goal.run_limited-returns-in_err-run_command-clause-follows
+run_limited-returns-in_err-run_command-clause-follows = prefixes.run_limited-returns-in_err-run_command-clause-follows
+
+pub run_limited-returns-in_err-put_back-clause-follows : goal.run_limited-returns-in_err-put_back-clause-follows
+run_limited-returns-in_err-put_back-clause-follows = prefixes.run_limited-returns-in_err-put_back-clause-follows
+
+pub run_limited-returns-clause-follows : goal.run_limited-returns-clause-follows
+run_limited-returns-clause-follows = prefixes.run_limited-returns-clause-follows
+
+pub run_limited-returns-in_err-signal-clause-follows : goal.run_limited-returns-in_err-signal-clause-follows
+run_limited-returns-in_err-signal-clause-follows = prefixes.run_limited-returns-in_err-signal-clause-follows
 
 pub run_among-returns-in-Some-get-clause-follows : goal.run_among-returns-in-Some-get-clause-follows
 run_among-returns-in-Some-get-clause-follows = loops.run_among-returns-in-Some-get-clause-follows

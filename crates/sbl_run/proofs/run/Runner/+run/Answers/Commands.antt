@@ -1,13 +1,14 @@
 -- Commands that hold others, but prefixes: each does what the definition of a run says.
 use Rattle.std.proofs.Common.{◌≡◌, map, suc, true, false, Err, sym, ap, ◌∙◌, rules}
 use Rattle.sbl_run.specs.Kept.{Follows}
-use Rattle.sbl_run.proofs.Arms.{by_fault, stops_at, sequence_does, not_does, follows_at, repeat_does, loop_does, atleast_does, goto_does, gopast_does, setlimit_does, limited_signals, limited_halts, search_does, among_does, after_halts}
+use Rattle.sbl_run.proofs.Arms.{by_fault, stops_at, sequence_does, not_does, test_does, try_does, do_does, fail_does, either_way, backwards_does, follows_at, repeat_does, loop_does, atleast_does, goto_does, gopast_does, setlimit_does, search_does, among_does, after_halts}
 use Rattle.sbl_run.proofs.Rows.{row_does}
 use Rattle.sbl_run.specs.Rows.{row_runs}
 use Rattle.sbl_run.specs.State.{State, Ending, Signals, after, then_on, saved_cursor, put_back}
 use Rattle.sbl_program.specs.declared.node.Node.{Node}
 use Rattle.sbl_program.specs.ProgramOf.{program_of, view_joined, view_node, view_nodes, view_number}
-use Rattle.sbl_run.specs.Run.{runs, all_run, group_runs, calls, turns, times, seeks, count_of, limits, limited, limit_here, limit_back}
+use Rattle.sbl_run.specs.Run.{runs, all_run, backwards_end, backwards_from, group_runs, calls, turns, times, seeks, count_of, limits, limited, limit_here}
+use Rattle.sbl_tree.specs.declared.mode.Mode.TheVariants.{Backward}
 use Rattle.sbl_run.specs.Numbers.{value, given}
 use Rattle.sbl_run.specs.Search.{searched, search_all, touch_among, choice}
 use Rattle.sbl_run.proofs.run.Runner.+run.Goals as goal
@@ -73,8 +74,8 @@ run_command-returns-in_err-run_times-in-AtLeast-clause-follows g t c =
     let h : Follows (Err halt) new (given (value (view_number a.count) m q) q (λ z. times (count_of z) (D c.deref-in-AtLeast.result.now) m q)) = search rules in
     rw r (follows_at (Err halt) new _ _ (p ∙ d) (after_halts halt new _ on_t on_f h))
 
-pub run_command-returns-then-not-branch-3-clause-follows : goal.run_command-returns-then-not-branch-3-clause-follows
-run_command-returns-then-not-branch-3-clause-follows g t c =
+pub run_command-returns-then-not-branch-clause-follows : goal.run_command-returns-then-not-branch-clause-follows
+run_command-returns-then-not-branch-clause-follows g t c =
     let T = g.T.Tables.listed c.args.self.now.tables.now in
     let P = program_of T c.args.self.now.program.now in
     let levels = c.args.self.now.levels in
@@ -89,8 +90,8 @@ run_command-returns-then-not-branch-3-clause-follows g t c =
     let b : c.in_ok-run_times-in-AtLeast.field-0 ≡ false = search rules in
     p ∙ d ∙ ap rest (c.in_ok-run_times-in-AtLeast.ensures.follows ∙ ap (λ v. Signals v c.run_times-in-AtLeast.new.state) b)
 
-pub run_command-returns-else-not-branch-3-clause-follows : goal.run_command-returns-else-not-branch-3-clause-follows
-run_command-returns-else-not-branch-3-clause-follows g t c =
+pub run_command-returns-else-not-branch-clause-follows : goal.run_command-returns-else-not-branch-clause-follows
+run_command-returns-else-not-branch-clause-follows g t c =
     let T = g.T.Tables.listed c.args.self.now.tables.now in
     let P = program_of T c.args.self.now.program.now in
     let levels = c.args.self.now.levels in
@@ -133,55 +134,6 @@ run_command-returns-in-GoPast-clause-follows g t c =
     let p = ap (λ n. D n m s) a.is ∙ gopast_does T P levels a.inner m s ∙ ap (λ r. then_on r (λ q. seeks (suc q.steps) true (D a.inner.value) m q)) c.in_ok-pay.ensures in
     follows_at c.run_seek-in-GoPast.result c.run_seek-in-GoPast.new.state _ _ (p ∙ ap (λ n. seeks (suc q.steps) true (D n) m q) (sym c.deref-in-GoPast.ensures)) c.run_seek-in-GoPast.ensures.follows
 
-pub run_command-returns-in_ok-signal-in-SetLimit-clause-follows : goal.run_command-returns-in_ok-signal-in-SetLimit-clause-follows
-run_command-returns-in_ok-signal-in-SetLimit-clause-follows g t c =
-    let T = g.T.Tables.listed c.args.self.now.tables.now in
-    let P = program_of T c.args.self.now.program.now in
-    let levels = c.args.self.now.levels in
-    let D = λ (n : Node). runs P levels (view_node T n) in
-    let m = c.args.self.now.mode in
-    let s = c.args.state.now in
-    let q = c.pay.new.self in
-    let a = c.in-SetLimit in
-    let u = c.run_command-in-SetLimit.new.state in
-    let w = c.put_back-in-SetLimit.new.self in
-    let new = c.run_command-in-SetLimit-2.new.state in
-    let go = λ (q : State) (t : State). then_on (put_back m (saved_cursor q) (limit_here m t)) (λ u. limited m (limits q) (D a.second.value m u)) in
-    let p = ap (λ n. D n m s) a.is ∙ setlimit_does T P levels a.first a.second m s ∙ ap (λ r. then_on r (λ q. after (D a.first.value m q) (go q) (Signals false))) c.in_ok-pay.ensures in
-    let b : c.in_ok-run_command-in-SetLimit.field-0 ≡ true = search rules in
-    let e : D a.first.value m q ≡ Signals true u = ap (λ n. D n m q) (sym c.deref-in-SetLimit.ensures) ∙ c.in_ok-run_command-in-SetLimit.ensures.follows ∙ ap (λ v. Signals v u) b in
-    let k : put_back m (saved_cursor q) (limit_here m u) ≡ Signals true w = ap (λ r. put_back m r (limit_here m u)) (sym c.saved_cursor-from-in-SetLimit.ensures.value) ∙ ap (put_back m c.saved_cursor-from-in-SetLimit.result) (sym c.limit_here.ensures) ∙ c.in_ok-put_back-in-SetLimit.ensures.leads in
-    let x = p ∙ ap (λ r. after r (go q) (Signals false)) e ∙ ap (λ r. then_on r (λ u. limited m (limits q) (D a.second.value m u))) k ∙ ap (λ n. limited m (limits q) (D n m w)) (sym c.deref-in-SetLimit-2.ensures) in
-    let second = D c.deref-in-SetLimit-2.result.now m w in
-    let v = c.in_ok-signal-in-SetLimit.signal in
-    let h : second ≡ Signals v new = search rules in
-    x ∙ limited_signals m (limits q) second v new h ∙ ap (λ l. Signals v (limit_back m l new)) (sym c.limits-limits.ensures.value) ∙ ap (Signals v) (sym c.limit_back.ensures)
-
-pub run_command-returns-in_err-signal-in-SetLimit-clause-follows : goal.run_command-returns-in_err-signal-in-SetLimit-clause-follows
-run_command-returns-in_err-signal-in-SetLimit-clause-follows g t c =
-    let T = g.T.Tables.listed c.args.self.now.tables.now in
-    let P = program_of T c.args.self.now.program.now in
-    let levels = c.args.self.now.levels in
-    let D = λ (n : Node). runs P levels (view_node T n) in
-    let m = c.args.self.now.mode in
-    let s = c.args.state.now in
-    let q = c.pay.new.self in
-    let a = c.in-SetLimit in
-    let u = c.run_command-in-SetLimit.new.state in
-    let w = c.put_back-in-SetLimit.new.self in
-    let new = c.run_command-in-SetLimit-2.new.state in
-    let go = λ (q : State) (t : State). then_on (put_back m (saved_cursor q) (limit_here m t)) (λ u. limited m (limits q) (D a.second.value m u)) in
-    let p = ap (λ n. D n m s) a.is ∙ setlimit_does T P levels a.first a.second m s ∙ ap (λ r. then_on r (λ q. after (D a.first.value m q) (go q) (Signals false))) c.in_ok-pay.ensures in
-    let b : c.in_ok-run_command-in-SetLimit.field-0 ≡ true = search rules in
-    let e : D a.first.value m q ≡ Signals true u = ap (λ n. D n m q) (sym c.deref-in-SetLimit.ensures) ∙ c.in_ok-run_command-in-SetLimit.ensures.follows ∙ ap (λ v. Signals v u) b in
-    let k : put_back m (saved_cursor q) (limit_here m u) ≡ Signals true w = ap (λ r. put_back m r (limit_here m u)) (sym c.saved_cursor-from-in-SetLimit.ensures.value) ∙ ap (put_back m c.saved_cursor-from-in-SetLimit.result) (sym c.limit_here.ensures) ∙ c.in_ok-put_back-in-SetLimit.ensures.leads in
-    let x = p ∙ ap (λ r. after r (go q) (Signals false)) e ∙ ap (λ r. then_on r (λ u. limited m (limits q) (D a.second.value m u))) k ∙ ap (λ n. limited m (limits q) (D n m w)) (sym c.deref-in-SetLimit-2.ensures) in
-    let second = D c.deref-in-SetLimit-2.result.now m w in
-    let halt = c.in_err-signal-in-SetLimit.field-0.0 in
-    let r : c.from_residual-in_err-signal-in-SetLimit.result ≡ Err halt = search rules in
-    let h : Follows (Err halt) new second = search rules in
-    rw r (follows_at (Err halt) new _ _ x (limited_halts m (limits q) halt new second h))
-
 pub run_command-returns-in-Among-clause-follows : goal.run_command-returns-in-Among-clause-follows
 run_command-returns-in-Among-clause-follows g t c =
     let T = g.T.Tables.listed c.args.self.now.tables.now in
@@ -195,45 +147,6 @@ run_command-returns-in-Among-clause-follows g t c =
     let p = ap (λ n. D n m s) a.is ∙ among_does T P levels a.among a.before a.bodies m s ∙ ap (λ r. then_on r (λ q. after (all_run P levels (view_nodes T a.before.items) m q) (λ t. group_runs P levels (view_nodes T a.bodies.items) (choice a.among t) m t) (Signals false))) c.in_ok-pay.ensures in
     follows_at c.run_among.result c.run_among.new.state _ _ p c.run_among.ensures.follows
 
-pub run_command-returns-in_err-run_command-in-SetLimit-clause-follows : goal.run_command-returns-in_err-run_command-in-SetLimit-clause-follows
-run_command-returns-in_err-run_command-in-SetLimit-clause-follows g t c =
-    let T = g.T.Tables.listed c.args.self.now.tables.now in
-    let P = program_of T c.args.self.now.program.now in
-    let levels = c.args.self.now.levels in
-    let D = λ (n : Node). runs P levels (view_node T n) in
-    let m = c.args.self.now.mode in
-    let s = c.args.state.now in
-    let q = c.pay.new.self in
-    let a = c.in-SetLimit in
-    let u = c.run_command-in-SetLimit.new.state in
-    let on_t : State → State → Ending = λ (q : State). λ (t : State). then_on (put_back m (saved_cursor q) (limit_here m t)) (λ u. limited m (limits q) (D a.second.value m u)) in
-    let on_f : State → State → Ending = λ (q : State). Signals false in
-    let p = ap (λ n. D n m s) a.is ∙ setlimit_does T P levels a.first a.second m s ∙ ap (λ r. then_on r (λ q. after (D a.first.value m q) (on_t q) (on_f q))) c.in_ok-pay.ensures in
-    let halt = c.in_err-run_command-in-SetLimit.field-0.0 in
-    let r : c.from_residual-in_err-run_command-in-SetLimit.result ≡ Err halt = search rules in
-    rw r (by_fault halt u _ (λ fault is. p ∙ ap (λ r. after r (on_t q) (on_f q)) (ap (λ n. D n m q) (sym c.deref-in-SetLimit.ensures) ∙ stops_at halt u _ fault is c.in_err-run_command-in-SetLimit.ensures.follows)))
-
-pub run_command-returns-in_err-put_back-in-SetLimit-clause-follows : goal.run_command-returns-in_err-put_back-in-SetLimit-clause-follows
-run_command-returns-in_err-put_back-in-SetLimit-clause-follows g t c =
-    let T = g.T.Tables.listed c.args.self.now.tables.now in
-    let P = program_of T c.args.self.now.program.now in
-    let levels = c.args.self.now.levels in
-    let D = λ (n : Node). runs P levels (view_node T n) in
-    let m = c.args.self.now.mode in
-    let s = c.args.state.now in
-    let q = c.pay.new.self in
-    let a = c.in-SetLimit in
-    let u = c.run_command-in-SetLimit.new.state in
-    let on_t : State → State → Ending = λ (q : State). λ (t : State). then_on (put_back m (saved_cursor q) (limit_here m t)) (λ u. limited m (limits q) (D a.second.value m u)) in
-    let on_f : State → State → Ending = λ (q : State). Signals false in
-    let p = ap (λ n. D n m s) a.is ∙ setlimit_does T P levels a.first a.second m s ∙ ap (λ r. then_on r (λ q. after (D a.first.value m q) (on_t q) (on_f q))) c.in_ok-pay.ensures in
-    let w = c.put_back-in-SetLimit.new.self in
-    let b : c.in_ok-run_command-in-SetLimit.field-0 ≡ true = search rules in
-    let e : D a.first.value m q ≡ Signals true u = ap (λ n. D n m q) (sym c.deref-in-SetLimit.ensures) ∙ c.in_ok-run_command-in-SetLimit.ensures.follows ∙ ap (λ v. Signals v u) b in
-    let halt = c.in_err-put_back-in-SetLimit.field-0.0 in
-    let r : c.from_residual-in_err-put_back-in-SetLimit.result ≡ Err halt = search rules in
-    rw r (by_fault halt w _ (λ fault is. p ∙ ap (λ r. after r (on_t q) (on_f q)) e ∙ ap (λ r. then_on r (λ u. limited m (limits q) (D a.second.value m u))) (ap (λ r. put_back m r (limit_here m u)) (sym c.saved_cursor-from-in-SetLimit.ensures.value) ∙ ap (put_back m c.saved_cursor-from-in-SetLimit.result) (sym c.limit_here.ensures) ∙ stops_at halt w _ fault is c.in_err-put_back-in-SetLimit.ensures.leads)))
-
 pub run_command-returns-in-Sequence-clause-follows : goal.run_command-returns-in-Sequence-clause-follows
 run_command-returns-in-Sequence-clause-follows g t c =
     let T = g.T.Tables.listed c.args.self.now.tables.now in
@@ -246,24 +159,6 @@ run_command-returns-in-Sequence-clause-follows g t c =
     let a = c.in-Sequence in
     let p = ap (λ n. D n m s) a.is ∙ sequence_does T P levels a.commands m s ∙ ap (λ r. then_on r (all_run P levels (view_nodes T a.commands.items) m)) c.in_ok-pay.ensures in
     follows_at c.run_in_turn.result c.run_in_turn.new.state _ _ (p ∙ ap (λ ns. all_run P levels (view_nodes T ns) m q) (sym c.deref-in-Sequence.ensures.value)) c.run_in_turn.ensures.follows
-
-pub run_command-returns-then-branch-clause-follows : goal.run_command-returns-then-branch-clause-follows
-run_command-returns-then-branch-clause-follows g t c =
-    let T = g.T.Tables.listed c.args.self.now.tables.now in
-    let P = program_of T c.args.self.now.program.now in
-    let levels = c.args.self.now.levels in
-    let D = λ (n : Node). runs P levels (view_node T n) in
-    let m = c.args.self.now.mode in
-    let s = c.args.state.now in
-    let q = c.pay.new.self in
-    let a = c.in-Not in
-    let u = c.run_command.new.state in
-    let on_t : State → State → Ending = λ (q : State). Signals false in
-    let on_f : State → State → Ending = λ (q : State). put_back m (saved_cursor q) in
-    let p = ap (λ n. D n m s) a.is ∙ not_does T P levels a.inner m s ∙ ap (λ r. then_on r (λ q. after (D a.inner.value m q) (on_t q) (on_f q))) c.in_ok-pay.ensures in
-    let b : c.in_ok-run_command-in-Not.field-0 ≡ true = search rules in
-    let e : D a.inner.value m q ≡ Signals true u = ap (λ n. D n m q) (sym c.deref-in-Not.ensures) ∙ c.in_ok-run_command-in-Not.ensures.follows ∙ ap (λ v. Signals v u) b in
-    p ∙ ap (λ r. after r (on_t q) (on_f q)) e
 
 pub run_command-returns-in-Row-clause-follows : goal.run_command-returns-in-Row-clause-follows
 run_command-returns-in-Row-clause-follows g t c =
@@ -280,3 +175,120 @@ run_command-returns-in-Row-clause-follows g t c =
     let p = ap (λ n. D n m s) a.is ∙ row_does T P levels a.first a.others m s ∙ ap (λ r. then_on r (row_runs P levels (view_node T a.first.value) os m)) c.in_ok-pay.ensures in
     let d = ap (λ n. row_runs P levels (view_node T n) os m q) (sym c.deref-in-Row.ensures) ∙ ap (λ xs. row_runs P levels (view_node T first) (map (view_joined T) xs) m q) (sym c.deref-in-Row-2.ensures.value) in
     follows_at c.run_row.result c.run_row.new.state _ _ (p ∙ d) c.run_row.ensures.follows
+
+pub run_command-returns-in-Not-clause-follows : goal.run_command-returns-in-Not-clause-follows
+run_command-returns-in-Not-clause-follows g t c =
+    let T = g.T.Tables.listed c.args.self.now.tables.now in
+    let P = program_of T c.args.self.now.program.now in
+    let levels = c.args.self.now.levels in
+    let D = λ (n : Node). runs P levels (view_node T n) in
+    let m = c.args.self.now.mode in
+    let s = c.args.state.now in
+    let q = c.pay.new.self in
+    let a = c.in-Not in
+    let p = ap (λ n. D n m s) a.is ∙ not_does T P levels a.inner m s ∙ ap (λ r. then_on r (λ q. after (D a.inner.value m q) (Signals false) (put_back m (saved_cursor q)))) c.in_ok-pay.ensures in
+    follows_at c.run_not.result c.run_not.new.state _ _ (p ∙ ap (λ n. after (D n m q) (Signals false) (put_back m (saved_cursor q))) (sym c.deref-in-Not.ensures)) c.run_not.ensures.follows
+
+pub run_command-returns-in-Test-clause-follows : goal.run_command-returns-in-Test-clause-follows
+run_command-returns-in-Test-clause-follows g t c =
+    let T = g.T.Tables.listed c.args.self.now.tables.now in
+    let P = program_of T c.args.self.now.program.now in
+    let levels = c.args.self.now.levels in
+    let D = λ (n : Node). runs P levels (view_node T n) in
+    let m = c.args.self.now.mode in
+    let s = c.args.state.now in
+    let q = c.pay.new.self in
+    let a = c.in-Test in
+    let p = ap (λ n. D n m s) a.is ∙ test_does T P levels a.inner m s ∙ ap (λ r. then_on r (λ q. after (D a.inner.value m q) (put_back m (saved_cursor q)) (Signals false))) c.in_ok-pay.ensures in
+    follows_at c.run_test.result c.run_test.new.state _ _ (p ∙ ap (λ n. after (D n m q) (put_back m (saved_cursor q)) (Signals false)) (sym c.deref-in-Test.ensures)) c.run_test.ensures.follows
+
+pub run_command-returns-in-Try-clause-follows : goal.run_command-returns-in-Try-clause-follows
+run_command-returns-in-Try-clause-follows g t c =
+    let T = g.T.Tables.listed c.args.self.now.tables.now in
+    let P = program_of T c.args.self.now.program.now in
+    let levels = c.args.self.now.levels in
+    let D = λ (n : Node). runs P levels (view_node T n) in
+    let m = c.args.self.now.mode in
+    let s = c.args.state.now in
+    let q = c.pay.new.self in
+    let a = c.in-Try in
+    let p = ap (λ n. D n m s) a.is ∙ try_does T P levels a.inner m s ∙ ap (λ r. then_on r (λ q. after (D a.inner.value m q) (Signals true) (put_back m (saved_cursor q)))) c.in_ok-pay.ensures in
+    follows_at c.run_try.result c.run_try.new.state _ _ (p ∙ ap (λ n. after (D n m q) (Signals true) (put_back m (saved_cursor q))) (sym c.deref-in-Try.ensures)) c.run_try.ensures.follows
+
+pub run_command-returns-in-Do-clause-follows : goal.run_command-returns-in-Do-clause-follows
+run_command-returns-in-Do-clause-follows g t c =
+    let T = g.T.Tables.listed c.args.self.now.tables.now in
+    let P = program_of T c.args.self.now.program.now in
+    let levels = c.args.self.now.levels in
+    let D = λ (n : Node). runs P levels (view_node T n) in
+    let m = c.args.self.now.mode in
+    let s = c.args.state.now in
+    let q = c.pay.new.self in
+    let a = c.in-Do in
+    let p = ap (λ n. D n m s) a.is ∙ do_does T P levels a.inner m s ∙ ap (λ r. then_on r (λ q. after (D a.inner.value m q) (put_back m (saved_cursor q)) (put_back m (saved_cursor q)))) c.in_ok-pay.ensures in
+    follows_at c.run_do.result c.run_do.new.state _ _ (p ∙ ap (λ n. after (D n m q) (put_back m (saved_cursor q)) (put_back m (saved_cursor q))) (sym c.deref-in-Do.ensures)) c.run_do.ensures.follows
+
+pub run_command-returns-in-Backwards-clause-follows : goal.run_command-returns-in-Backwards-clause-follows
+run_command-returns-in-Backwards-clause-follows g t c =
+    let T = g.T.Tables.listed c.args.self.now.tables.now in
+    let P = program_of T c.args.self.now.program.now in
+    let levels = c.args.self.now.levels in
+    let D = λ (n : Node). runs P levels (view_node T n) in
+    let m = c.args.self.now.mode in
+    let s = c.args.state.now in
+    let q = c.pay.new.self in
+    let a = c.in-Backwards in
+    let rest = λ (n : Node) (q : State). then_on (backwards_from q) (λ b. after (D n Backward b) backwards_end (Signals false)) in
+    let p = ap (λ n. D n m s) a.is ∙ backwards_does T P levels a.inner m s ∙ ap (λ r. then_on r (rest a.inner.value)) c.in_ok-pay.ensures in
+    follows_at c.run_backwards.result c.run_backwards.new.state _ _ (p ∙ ap (λ n. rest n q) (sym c.deref-in-Backwards.ensures)) c.run_backwards.ensures.follows
+
+pub run_command-returns-in-SetLimit-clause-follows : goal.run_command-returns-in-SetLimit-clause-follows
+run_command-returns-in-SetLimit-clause-follows g t c =
+    let T = g.T.Tables.listed c.args.self.now.tables.now in
+    let P = program_of T c.args.self.now.program.now in
+    let levels = c.args.self.now.levels in
+    let D = λ (n : Node). runs P levels (view_node T n) in
+    let m = c.args.self.now.mode in
+    let s = c.args.state.now in
+    let q = c.pay.new.self in
+    let a = c.in-SetLimit in
+    let rest = λ (x y : Node) (q : State). after (D x m q) (λ t. then_on (put_back m (saved_cursor q) (limit_here m t)) (λ u. limited m (limits q) (D y m u))) (Signals false) in
+    let p = ap (λ n. D n m s) a.is ∙ setlimit_does T P levels a.first a.second m s ∙ ap (λ r. then_on r (rest a.first.value a.second.value)) c.in_ok-pay.ensures in
+    let d = ap (λ n. rest n a.second.value q) (sym c.deref-in-SetLimit.ensures) ∙ ap (λ n. rest c.deref-in-SetLimit.result.now n q) (sym c.deref-in-SetLimit-2.ensures) in
+    follows_at c.run_limited.result c.run_limited.new.state _ _ (p ∙ d) c.run_limited.ensures.follows
+
+pub run_command-returns-in_err-run_command-in-Fail-clause-follows : goal.run_command-returns-in_err-run_command-in-Fail-clause-follows
+run_command-returns-in_err-run_command-in-Fail-clause-follows g t c =
+    let T = g.T.Tables.listed c.args.self.now.tables.now in
+    let P = program_of T c.args.self.now.program.now in
+    let levels = c.args.self.now.levels in
+    let D = λ (n : Node). runs P levels (view_node T n) in
+    let m = c.args.self.now.mode in
+    let s = c.args.state.now in
+    let q = c.pay.new.self in
+    let a = c.in-Fail in
+    let u = c.run_command.new.state in
+    let on_t : State → State → Ending = λ (q : State). Signals false in
+    let on_f : State → State → Ending = λ (q : State). Signals false in
+    let p = ap (λ n. D n m s) a.is ∙ fail_does T P levels a.inner m s ∙ ap (λ r. then_on r (λ q. after (D a.inner.value m q) (on_t q) (on_f q))) c.in_ok-pay.ensures in
+    let halt = c.in_err-run_command-in-Fail.field-0.0 in
+    let r : c.from_residual-in_err-run_command-in-Fail.result ≡ Err halt = search rules in
+    rw r (by_fault halt u _ (λ fault is. p ∙ ap (λ r. after r (on_t q) (on_f q)) (ap (λ n. D n m q) (sym c.deref-in-Fail.ensures) ∙ stops_at halt u _ fault is c.in_err-run_command-in-Fail.ensures.follows)))
+
+pub run_command-returns-in_ok-run_command-in-Fail-clause-follows : goal.run_command-returns-in_ok-run_command-in-Fail-clause-follows
+run_command-returns-in_ok-run_command-in-Fail-clause-follows g t c =
+    let T = g.T.Tables.listed c.args.self.now.tables.now in
+    let P = program_of T c.args.self.now.program.now in
+    let levels = c.args.self.now.levels in
+    let D = λ (n : Node). runs P levels (view_node T n) in
+    let m = c.args.self.now.mode in
+    let s = c.args.state.now in
+    let q = c.pay.new.self in
+    let a = c.in-Fail in
+    let u = c.run_command.new.state in
+    let on_t : State → State → Ending = λ (q : State). Signals false in
+    let on_f : State → State → Ending = λ (q : State). Signals false in
+    let p = ap (λ n. D n m s) a.is ∙ fail_does T P levels a.inner m s ∙ ap (λ r. then_on r (λ q. after (D a.inner.value m q) (on_t q) (on_f q))) c.in_ok-pay.ensures in
+    let b = c.in_ok-run_command-in-Fail.field-0 in
+    let e : D a.inner.value m q ≡ Signals b u = ap (λ n. D n m q) (sym c.deref-in-Fail.ensures) ∙ c.in_ok-run_command-in-Fail.ensures.follows in
+    p ∙ ap (λ r. after r (on_t q) (on_f q)) e ∙ either_way b u (Signals false)

@@ -57,7 +57,7 @@ run_search-loop-place-preserved g t c =
     let i = c.in-Some.i in
     let b : c.in-Ok-false.field-0 ≡ false = search rules in
     let cut = inv.2 ∙ ap (λ r. inv.0 ++ r) o.1 in
-    let steps : c.run_try.new.state.steps ≤ s0.steps = omega (arith, c.in-Ok-false.ensures.no_more, inv.5) in
+    let steps : c.try_string.new.state.steps ≤ s0.steps = omega (arith, c.in-Ok-false.ensures.no_more, inv.5) in
     (inv.0 ++ (i ∷ []), o.0, cut ∙ sym (append_assoc inv.0 (i ∷ []) o.0), c.next_shorter-place.ensures s0.text s0.cursor (bound_in c.args.self.now.mode s0) inv.0 o.0 cut, sym (rw b at (c.in-Ok-false.ensures.tried s0 follow c.saved_cursor-from.ensures.value)) ∙ sym o.2 ∙ inv.4, steps)
 
 pub run_search-returns-in-Err-clause-follows : goal.run_search-returns-in-Err-clause-follows
@@ -68,7 +68,7 @@ run_search-returns-in-Err-clause-follows g t c =
     let call = calls (program_of (g.T.Tables.listed c.args.self.now.tables.now) c.args.self.now.program.now) c.args.self.now.levels in
     let o = one_more call c.args.among es c.args.self.now.mode s0 inv.1 c.in-Some.i c.loop-place.state c.loop-place.place inv.3 c.in-Some.is in
     let follow = tries call c.args.among es c.args.self.now.mode s0 o.0 in
-    halted c.in-Err.halt c.run_try.new.state (try_one call c.args.among (slice_get es c.in-Some.i) c.args.self.now.mode s0 c.loop-place.state follow) (follow c.run_try.new.state) _ (c.in-Err.ensures.tried s0 follow c.saved_cursor-from.ensures.value) (sym o.2 ∙ inv.4)
+    halted c.in-Err.halt c.try_string.new.state (try_one call c.args.among (slice_get es c.in-Some.i) c.args.self.now.mode s0 c.loop-place.state follow) (follow c.try_string.new.state) _ (c.in-Err.ensures.tried s0 follow c.saved_cursor-from.ensures.value) (sym o.2 ∙ inv.4)
 
 pub run_search-returns-in-Ok-true-clause-follows : goal.run_search-returns-in-Ok-true-clause-follows
 run_search-returns-in-Ok-true-clause-follows g t c =
