@@ -380,6 +380,7 @@ impl<'a, T: Tables> Runner<'a, T> {
 }
 
 // Whether a signal is that of the row so far, whatever its next command would do.
+#[inline(always)]
 fn is_settled(joiner: Joiner, signal: bool) -> bool
     ensures { result ≡ is_settled joiner signal }
 {

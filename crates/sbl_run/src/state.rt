@@ -163,6 +163,7 @@ impl State {
     }
 
     /// Pays a step. `Steps` where none is left.
+    #[inline(always)]
     pub fn pay(&mut self) -> Result<(), Halt>
         ensures { Leads result self.new (pay self.old.steps self.old) }
     {
@@ -187,6 +188,7 @@ impl State {
     }
 
     // The cursor at a place.
+    #[inline(always)]
     fn go_to(&mut self, place: usize) -> Result<(), Halt>
         ensures { Leads result self.new (at_place place self.old) }
     {
@@ -198,6 +200,7 @@ impl State {
     }
 
     // The cursor at the place `b` left of `a`.
+    #[inline(always)]
     fn go_to_difference(&mut self, a: usize, b: usize) -> Result<(), Halt>
         ensures { Leads result self.new (at_difference a b self.old) }
     {
@@ -208,6 +211,7 @@ impl State {
     }
 
     /// What has to be kept to put the cursor back here.
+    #[inline(always)]
     pub fn saved_cursor(&self) -> SavedCursor
         ensures value { result ≡ saved_cursor self.now }
         ensures small { result.cursor + result.beyond + result.length ≤ 4096 }
@@ -220,6 +224,7 @@ impl State {
     }
 
     /// Puts the cursor back to a saved cursor. `Cursor` where that place is outside the text.
+    #[inline(always)]
     pub fn put_back(&mut self, mode: Mode, from: SavedCursor) -> Result<(), Halt>
         requires { from.cursor + from.beyond + from.length ≤ 4096 }
         ensures leads { Leads result self.new (put_back mode from self.old) }
@@ -236,6 +241,7 @@ impl State {
     }
 
     // The cursor over so many characters, which need not be ahead.
+    #[inline(always)]
     fn step_over(&mut self, mode: Mode, n: usize) -> Result<(), Halt>
         ensures leads { Leads result self.new (step_over mode n self.old) }
         ensures same_steps { IfOk result (λ _. self.new.steps ≡ self.old.steps) }
@@ -257,6 +263,7 @@ impl State {
 
     /// Sets the cursor just after a string of so many characters that begins at a saved cursor. `Cursor` where one of the two
     /// places is outside the text.
+    #[inline(always)]
     pub fn place_after(&mut self, mode: Mode, from: SavedCursor, n: usize) -> Result<(), Halt>
         requires { from.cursor + from.beyond + from.length ≤ 4096 }
         ensures leads { Leads result self.new (place_after mode from n self.old) }
@@ -285,6 +292,7 @@ impl State {
     }
 
     /// The characters of a literal, or of a string variable.
+    #[inline(always)]
     pub fn characters<'a>(&'a self, term: &'a StringTerm) -> &'a [char]
         ensures { result.now ≡ characters (view_text term.now) self.now }
     {
@@ -298,6 +306,7 @@ impl State {
     }
 
     // The limit, as far as it is in the text.
+    #[inline(always)]
     fn limit(&self) -> usize
         ensures value { result ≡ length self.now.text - self.now.beyond }
         ensures within { result ≤ length self.now.text }
@@ -306,6 +315,7 @@ impl State {
     }
 
     /// What is ahead, as it lies in the text.
+    #[inline(always)]
     pub fn part_ahead(&self, mode: Mode) -> &[char]
         ensures value { read_as mode result.now ≡ ahead mode self.now }
         ensures len { length result.now ≡ room mode self.now }

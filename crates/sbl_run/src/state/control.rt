@@ -15,6 +15,7 @@ use std::mem;
 
 impl State {
     /// The limits, to be kept over `setlimit`.
+    #[inline(always)]
     pub fn limits(&self) -> Limits
         ensures value { result ≡ limits self.now }
         ensures small { (result.left ≤ 1024) × (result.beyond ≤ 1024) }
@@ -26,6 +27,7 @@ impl State {
     }
 
     /// Makes the cursor the limit of the direction.
+    #[inline(always)]
     pub fn limit_here(&mut self, mode: Mode)
         ensures { self.new ≡ limit_here mode self.old }
     {
@@ -36,6 +38,7 @@ impl State {
     }
 
     /// Puts an old limit back.
+    #[inline(always)]
     pub fn limit_back(&mut self, mode: Mode, from: Limits)
         requires { (from.left ≤ 1024) × (from.beyond ≤ 1024) }
         ensures { self.new ≡ limit_back mode from self.old }

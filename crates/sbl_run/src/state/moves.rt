@@ -15,6 +15,7 @@ use sbl_tree::Mode;
 
 impl State {
     // How many characters are ahead.
+    #[inline(always)]
     fn room(&self, mode: Mode) -> usize
         ensures { result ≡ room mode self.now }
     {
@@ -25,6 +26,7 @@ impl State {
     }
 
     // The cursor further by n characters, which are ahead.
+    #[inline(always)]
     fn advance(&mut self, mode: Mode, n: usize)
         requires { n ≤ room mode self.old }
         ensures { self.new ≡ moved mode n self.old }
@@ -50,6 +52,7 @@ impl State {
     }
 
     // The character that is read next.
+    #[inline(always)]
     fn next_character(&self, mode: Mode) -> Option<char>
         ensures value { result ≡ slice_get (ahead mode self.now) 0 }
     {
@@ -180,6 +183,7 @@ fn is_front(mode: Mode, part: &[char], string: &[char]) -> bool
 }
 
 // Whether there is a character that is in the set, or is not, as is wanted.
+#[inline(always)]
 fn is_wanted(character: Option<char>, set: Option<&CharacterSet>, wanted: bool) -> bool
     ensures { result ≡ next_is wanted (unwrap_or (option_copied set.entry) []) character }
 {
@@ -196,6 +200,7 @@ fn is_wanted(character: Option<char>, set: Option<&CharacterSet>, wanted: bool) 
 }
 
 // Whether a character is in the set.
+#[inline(always)]
 fn is_in(set: Option<&CharacterSet>, c: char) -> bool
     ensures { result ≡ has (unwrap_or (option_copied set.entry) []) c }
 {
