@@ -19,9 +19,9 @@ use Rattle.sbl_run.specs.Moves.{next}
 use Rattle.sbl_run.specs.Numbers.{value, given}
 use Rattle.sbl_program.specs.ProgramOf.{view_node, view_nodes, view_number}
 use Rattle.sbl_program.specs.Program as programs
-use Rattle.sbl_run.specs.Run.{turns, times, count_of, seeks, found, backwards_from, backwards_end, calls, runs, all_run, group_runs, nth_runs, leave, back_in, enter, body_does, limits, limited, limit_here, limit_back}
+use Rattle.sbl_run.specs.Run.{runs_paid, turns, times, count_of, seeks, found, backwards_from, backwards_end, calls, runs, all_run, group_runs, nth_runs, leave, back_in, enter, body_does, limits, limited, limit_here, limit_back}
 use Rattle.sbl_run.specs.Search.{choice, search_all, tries, try_one}
-use Rattle.sbl_run.specs.State.{State, Ending, Doing, Signals, Stops, after, then_on, pay, saved_cursor, put_back}
+use Rattle.sbl_run.specs.State.{State, Ending, Doing, Signals, Stops, after, then_on, saved_cursor, put_back}
 use Rattle.sbl_tree.specs.declared.mode.Mode.{Mode}
 use Rattle.sbl_tree.specs.declared.mode.Mode.TheVariants.{Backward}
 
@@ -75,14 +75,14 @@ view_gopast T inner = first_of (search (rules, the_lemmas), search (rules, the_l
 view_setlimit : (T : ℕ → Listed) (a b : Box Node Global) → view_node T (SetLimit a b) ≡ programs.setlimit (view_node T a.value) (view_node T b.value)
 view_setlimit T a b = first_of (search (rules, the_lemmas), search (rules, the_lemmas, fold_out-Node))
 
-pub goto_does : (T : ℕ → Listed) (p : programs.Program) (levels : ℕ) (inner : Box Node Global) (m : Mode) (s : State) → runs p levels (view_node T (Goto inner)) m s ≡ then_on (pay s.steps s) (λ q. seeks (suc q.steps) false (runs p levels (view_node T inner.value)) m q)
-goto_does T p levels inner m s = ap (λ c. runs p levels c m s) (view_goto T inner)
+pub goto_does : (T : ℕ → Listed) (p : programs.Program) (levels : ℕ) (inner : Box Node Global) (m : Mode) (s : State) → runs_paid p levels (view_node T (Goto inner)) m s ≡ seeks (suc s.steps) false (runs p levels (view_node T inner.value)) m s
+goto_does T p levels inner m s = ap (λ c. runs_paid p levels c m s) (view_goto T inner)
 
-pub gopast_does : (T : ℕ → Listed) (p : programs.Program) (levels : ℕ) (inner : Box Node Global) (m : Mode) (s : State) → runs p levels (view_node T (GoPast inner)) m s ≡ then_on (pay s.steps s) (λ q. seeks (suc q.steps) true (runs p levels (view_node T inner.value)) m q)
-gopast_does T p levels inner m s = ap (λ c. runs p levels c m s) (view_gopast T inner)
+pub gopast_does : (T : ℕ → Listed) (p : programs.Program) (levels : ℕ) (inner : Box Node Global) (m : Mode) (s : State) → runs_paid p levels (view_node T (GoPast inner)) m s ≡ seeks (suc s.steps) true (runs p levels (view_node T inner.value)) m s
+gopast_does T p levels inner m s = ap (λ c. runs_paid p levels c m s) (view_gopast T inner)
 
-pub setlimit_does : (T : ℕ → Listed) (p : programs.Program) (levels : ℕ) (a b : Box Node Global) (m : Mode) (s : State) → runs p levels (view_node T (SetLimit a b)) m s ≡ then_on (pay s.steps s) (λ q. after (runs p levels (view_node T a.value) m q) (λ t. then_on (put_back m (saved_cursor q) (limit_here m t)) (λ u. limited m (limits q) (runs p levels (view_node T b.value) m u))) (Signals false))
-setlimit_does T p levels a b m s = ap (λ c. runs p levels c m s) (view_setlimit T a b)
+pub setlimit_does : (T : ℕ → Listed) (p : programs.Program) (levels : ℕ) (a b : Box Node Global) (m : Mode) (s : State) → runs_paid p levels (view_node T (SetLimit a b)) m s ≡ after (runs p levels (view_node T a.value) m s) (λ t. then_on (put_back m (saved_cursor s) (limit_here m t)) (λ u. limited m (limits s) (runs p levels (view_node T b.value) m u))) (Signals false)
+setlimit_does T p levels a b m s = ap (λ c. runs_paid p levels c m s) (view_setlimit T a b)
 
 pub limited_signals : (m : Mode) (from : Limits) (e : Ending) (b : Bool) (t : State) → e ≡ Signals b t → limited m from e ≡ Signals b (limit_back m from t)
 limited_signals m from e true t p = ap (limited m from) p
@@ -97,23 +97,23 @@ one_time (suc k) c m s new w l e h =
     let j : suc k - 1 ≡ k = omega arith in
     ap (λ n. times n c m new) j ∙ sym (ap (λ r. after r (times k c m) (Signals false)) e) ∙ h
 
-pub repeat_does : (T : ℕ → Listed) (p : programs.Program) (levels : ℕ) (inner : Box Node Global) (m : Mode) (s : State) → runs p levels (view_node T (Repeat inner)) m s ≡ then_on (pay s.steps s) (λ q. turns (suc q.steps) (runs p levels (view_node T inner.value)) m q)
-repeat_does T p levels inner m s = ap (λ c. runs p levels c m s) (view_repeat T inner)
+pub repeat_does : (T : ℕ → Listed) (p : programs.Program) (levels : ℕ) (inner : Box Node Global) (m : Mode) (s : State) → runs_paid p levels (view_node T (Repeat inner)) m s ≡ turns (suc s.steps) (runs p levels (view_node T inner.value)) m s
+repeat_does T p levels inner m s = ap (λ c. runs_paid p levels c m s) (view_repeat T inner)
 
-pub loop_does : (T : ℕ → Listed) (p : programs.Program) (levels : ℕ) (n : Arithmetic) (inner : Box Node Global) (m : Mode) (s : State) → runs p levels (view_node T (Loop n inner)) m s ≡ then_on (pay s.steps s) (λ q. given (value (view_number n) m q) q (λ z. times (count_of z) (runs p levels (view_node T inner.value)) m q))
-loop_does T p levels n inner m s = ap (λ c. runs p levels c m s) (view_loop T n inner)
+pub loop_does : (T : ℕ → Listed) (p : programs.Program) (levels : ℕ) (n : Arithmetic) (inner : Box Node Global) (m : Mode) (s : State) → runs_paid p levels (view_node T (Loop n inner)) m s ≡ given (value (view_number n) m s) s (λ z. times (count_of z) (runs p levels (view_node T inner.value)) m s)
+loop_does T p levels n inner m s = ap (λ c. runs_paid p levels c m s) (view_loop T n inner)
 
-pub atleast_does : (T : ℕ → Listed) (p : programs.Program) (levels : ℕ) (n : Arithmetic) (inner : Box Node Global) (m : Mode) (s : State) → runs p levels (view_node T (AtLeast n inner)) m s ≡ then_on (pay s.steps s) (λ q. after (given (value (view_number n) m q) q (λ z. times (count_of z) (runs p levels (view_node T inner.value)) m q)) (λ t. turns (suc t.steps) (runs p levels (view_node T inner.value)) m t) (Signals false))
-atleast_does T p levels n inner m s = ap (λ c. runs p levels c m s) (view_atleast T n inner)
+pub atleast_does : (T : ℕ → Listed) (p : programs.Program) (levels : ℕ) (n : Arithmetic) (inner : Box Node Global) (m : Mode) (s : State) → runs_paid p levels (view_node T (AtLeast n inner)) m s ≡ after (given (value (view_number n) m s) s (λ z. times (count_of z) (runs p levels (view_node T inner.value)) m s)) (λ t. turns (suc t.steps) (runs p levels (view_node T inner.value)) m t) (Signals false)
+atleast_does T p levels n inner m s = ap (λ c. runs_paid p levels c m s) (view_atleast T n inner)
 
-pub search_does : (T : ℕ → Listed) (p : programs.Program) (levels k table : ℕ) (entries : Vec Candidate Global) (m : Mode) (s : State) → runs p levels (view_node T (Search k table entries)) m s ≡ then_on (pay s.steps s) (search_all (calls p levels) k entries.items (T table) m)
-search_does T p levels k table entries m s = ap (λ c. runs p levels c m s) (view_search T k table entries)
+pub search_does : (T : ℕ → Listed) (p : programs.Program) (levels k table : ℕ) (entries : Vec Candidate Global) (m : Mode) (s : State) → runs_paid p levels (view_node T (Search k table entries)) m s ≡ search_all (calls p levels) k entries.items (T table) m s
+search_does T p levels k table entries m s = ap (λ c. runs_paid p levels c m s) (view_search T k table entries)
 
-pub among_does : (T : ℕ → Listed) (p : programs.Program) (levels k : ℕ) (before bodies : Vec Node Global) (m : Mode) (s : State) → runs p levels (view_node T (Among k before bodies)) m s ≡ then_on (pay s.steps s) (λ q. after (all_run p levels (view_nodes T before.items) m q) (λ t. group_runs p levels (view_nodes T bodies.items) (choice k t) m t) (Signals false))
-among_does T p levels k before bodies m s = ap (λ c. runs p levels c m s) (view_among T k before bodies)
+pub among_does : (T : ℕ → Listed) (p : programs.Program) (levels k : ℕ) (before bodies : Vec Node Global) (m : Mode) (s : State) → runs_paid p levels (view_node T (Among k before bodies)) m s ≡ after (all_run p levels (view_nodes T before.items) m s) (λ t. group_runs p levels (view_nodes T bodies.items) (choice k t) m t) (Signals false)
+among_does T p levels k before bodies m s = ap (λ c. runs_paid p levels c m s) (view_among T k before bodies)
 
-pub sequence_does : (T : ℕ → Listed) (p : programs.Program) (levels : ℕ) (cs : Vec Node Global) (m : Mode) (s : State) → runs p levels (view_node T (Sequence cs)) m s ≡ then_on (pay s.steps s) (all_run p levels (view_nodes T cs.items) m)
-sequence_does T p levels cs m s = ap (λ c. runs p levels c m s) (view_sequence T cs)
+pub sequence_does : (T : ℕ → Listed) (p : programs.Program) (levels : ℕ) (cs : Vec Node Global) (m : Mode) (s : State) → runs_paid p levels (view_node T (Sequence cs)) m s ≡ all_run p levels (view_nodes T cs.items) m s
+sequence_does T p levels cs m s = ap (λ c. runs_paid p levels c m s) (view_sequence T cs)
 
 -- the g-th of some commands
 pub nth_is : (T : ℕ → Listed) (p : programs.Program) (levels : ℕ) (ns : List Node) (g : ℕ) (n : Node) (m : Mode) (s : State) → g < length ns → n ≡ get_or ns g n → nth_runs p levels (view_nodes T ns) g m s ≡ runs p levels (view_node T n) m s
@@ -180,35 +180,35 @@ time_stops (suc k) c m s new fault l e = ap (λ r. after r (times k c m) (Signal
 view_not : (T : ℕ → Listed) (inner : Box Node Global) → view_node T (Not inner) ≡ programs.not (view_node T inner.value)
 view_not T inner = first_of (search (rules, the_lemmas), search (rules, the_lemmas, fold_out-Node))
 
-pub not_does : (T : ℕ → Listed) (p : programs.Program) (levels : ℕ) (inner : Box Node Global) (m : Mode) (s : State) → runs p levels (view_node T (Not inner)) m s ≡ then_on (pay s.steps s) (λ q. after (runs p levels (view_node T inner.value) m q) (Signals false) (put_back m (saved_cursor q)))
-not_does T p levels inner m s = ap (λ c. runs p levels c m s) (view_not T inner)
+pub not_does : (T : ℕ → Listed) (p : programs.Program) (levels : ℕ) (inner : Box Node Global) (m : Mode) (s : State) → runs_paid p levels (view_node T (Not inner)) m s ≡ after (runs p levels (view_node T inner.value) m s) (Signals false) (put_back m (saved_cursor s))
+not_does T p levels inner m s = ap (λ c. runs_paid p levels c m s) (view_not T inner)
 
 view_test : (T : ℕ → Listed) (inner : Box Node Global) → view_node T (Test inner) ≡ programs.test (view_node T inner.value)
 view_test T inner = first_of (search (rules, the_lemmas), search (rules, the_lemmas, fold_out-Node))
 
-pub test_does : (T : ℕ → Listed) (p : programs.Program) (levels : ℕ) (inner : Box Node Global) (m : Mode) (s : State) → runs p levels (view_node T (Test inner)) m s ≡ then_on (pay s.steps s) (λ q. after (runs p levels (view_node T inner.value) m q) (put_back m (saved_cursor q)) (Signals false))
-test_does T p levels inner m s = ap (λ c. runs p levels c m s) (view_test T inner)
+pub test_does : (T : ℕ → Listed) (p : programs.Program) (levels : ℕ) (inner : Box Node Global) (m : Mode) (s : State) → runs_paid p levels (view_node T (Test inner)) m s ≡ after (runs p levels (view_node T inner.value) m s) (put_back m (saved_cursor s)) (Signals false)
+test_does T p levels inner m s = ap (λ c. runs_paid p levels c m s) (view_test T inner)
 
 view_try : (T : ℕ → Listed) (inner : Box Node Global) → view_node T (Try inner) ≡ programs.try (view_node T inner.value)
 view_try T inner = first_of (search (rules, the_lemmas), search (rules, the_lemmas, fold_out-Node))
 
-pub try_does : (T : ℕ → Listed) (p : programs.Program) (levels : ℕ) (inner : Box Node Global) (m : Mode) (s : State) → runs p levels (view_node T (Try inner)) m s ≡ then_on (pay s.steps s) (λ q. after (runs p levels (view_node T inner.value) m q) (Signals true) (put_back m (saved_cursor q)))
-try_does T p levels inner m s = ap (λ c. runs p levels c m s) (view_try T inner)
+pub try_does : (T : ℕ → Listed) (p : programs.Program) (levels : ℕ) (inner : Box Node Global) (m : Mode) (s : State) → runs_paid p levels (view_node T (Try inner)) m s ≡ after (runs p levels (view_node T inner.value) m s) (Signals true) (put_back m (saved_cursor s))
+try_does T p levels inner m s = ap (λ c. runs_paid p levels c m s) (view_try T inner)
 
 view_do : (T : ℕ → Listed) (inner : Box Node Global) → view_node T (Do inner) ≡ programs.do_ (view_node T inner.value)
 view_do T inner = first_of (search (rules, the_lemmas), search (rules, the_lemmas, fold_out-Node))
 
-pub do_does : (T : ℕ → Listed) (p : programs.Program) (levels : ℕ) (inner : Box Node Global) (m : Mode) (s : State) → runs p levels (view_node T (Do inner)) m s ≡ then_on (pay s.steps s) (λ q. after (runs p levels (view_node T inner.value) m q) (put_back m (saved_cursor q)) (put_back m (saved_cursor q)))
-do_does T p levels inner m s = ap (λ c. runs p levels c m s) (view_do T inner)
+pub do_does : (T : ℕ → Listed) (p : programs.Program) (levels : ℕ) (inner : Box Node Global) (m : Mode) (s : State) → runs_paid p levels (view_node T (Do inner)) m s ≡ after (runs p levels (view_node T inner.value) m s) (put_back m (saved_cursor s)) (put_back m (saved_cursor s))
+do_does T p levels inner m s = ap (λ c. runs_paid p levels c m s) (view_do T inner)
 
 view_fail : (T : ℕ → Listed) (inner : Box Node Global) → view_node T (Fail inner) ≡ programs.fail (view_node T inner.value)
 view_fail T inner = first_of (search (rules, the_lemmas), search (rules, the_lemmas, fold_out-Node))
 
-pub fail_does : (T : ℕ → Listed) (p : programs.Program) (levels : ℕ) (inner : Box Node Global) (m : Mode) (s : State) → runs p levels (view_node T (Fail inner)) m s ≡ then_on (pay s.steps s) (λ q. after (runs p levels (view_node T inner.value) m q) (Signals false) (Signals false))
-fail_does T p levels inner m s = ap (λ c. runs p levels c m s) (view_fail T inner)
+pub fail_does : (T : ℕ → Listed) (p : programs.Program) (levels : ℕ) (inner : Box Node Global) (m : Mode) (s : State) → runs_paid p levels (view_node T (Fail inner)) m s ≡ after (runs p levels (view_node T inner.value) m s) (Signals false) (Signals false)
+fail_does T p levels inner m s = ap (λ c. runs_paid p levels c m s) (view_fail T inner)
 
 view_backwards : (T : ℕ → Listed) (inner : Box Node Global) → view_node T (Backwards inner) ≡ programs.backwards (view_node T inner.value)
 view_backwards T inner = first_of (search (rules, the_lemmas), search (rules, the_lemmas, fold_out-Node))
 
-pub backwards_does : (T : ℕ → Listed) (p : programs.Program) (levels : ℕ) (inner : Box Node Global) (m : Mode) (s : State) → runs p levels (view_node T (Backwards inner)) m s ≡ then_on (pay s.steps s) (λ q. then_on (backwards_from q) (λ b. after (runs p levels (view_node T inner.value) Backward b) backwards_end (Signals false)))
-backwards_does T p levels inner m s = ap (λ c. runs p levels c m s) (view_backwards T inner)
+pub backwards_does : (T : ℕ → Listed) (p : programs.Program) (levels : ℕ) (inner : Box Node Global) (m : Mode) (s : State) → runs_paid p levels (view_node T (Backwards inner)) m s ≡ then_on (backwards_from s) (λ b. after (runs p levels (view_node T inner.value) Backward b) backwards_end (Signals false))
+backwards_does T p levels inner m s = ap (λ c. runs_paid p levels c m s) (view_backwards T inner)

@@ -28,7 +28,7 @@ use Rattle.sbl_run.specs.declared.fault.RunFault.TheVariants.{Steps}
 use Rattle.sbl_run.specs.declared.state.SavedCursor.{SavedCursor}
 use Rattle.sbl_run.specs.Numbers.{value, with_both}
 use Rattle.sbl_run.specs.Rows.{joined_after, joined_runs, others_run, pays, product_of, row_runs, scales_to, sum_of, sums_to}
-use Rattle.sbl_run.specs.Run.{act, calls, runs}
+use Rattle.sbl_run.specs.Run.{runs_paid, act, calls, runs}
 use Rattle.sbl_run.specs.State.{State, Ending, Signals, Stops, after, then_on, pay, saved_cursor}
 use Rattle.sbl_tree.specs.declared.mode.Mode.{Mode}
 
@@ -142,7 +142,7 @@ module _ (p : programs.Program) (levels : ℕ) (m : Mode) where
 view_row : (T : ℕ → Listed) (first : Box Node Global) (others : Vec Joined Global) → view_node T (Row first others) ≡ grouped (view_node T first.value) (map (view_joined T) others.items)
 view_row T first others = first_of (search (rules, the_lemmas), search (rules, the_lemmas, fold_out-Node))
 
-pub row_does : (T : ℕ → Listed) (p : programs.Program) (levels : ℕ) (first : Box Node Global) (others : Vec Joined Global) (m : Mode) (s : State) → runs p levels (view_node T (Row first others)) m s ≡ then_on (pay s.steps s) (row_runs p levels (view_node T first.value) (map (view_joined T) others.items) m)
+pub row_does : (T : ℕ → Listed) (p : programs.Program) (levels : ℕ) (first : Box Node Global) (others : Vec Joined Global) (m : Mode) (s : State) → runs_paid p levels (view_node T (Row first others)) m s ≡ row_runs p levels (view_node T first.value) (map (view_joined T) others.items) m s
 row_does T p levels first others m s =
-    ap (λ c. runs p levels c m s) (view_row T first others)
-    ∙ ap (then_on (pay s.steps s)) (fun_ext (λ q. grouped_acts p levels m (view_node T first.value) (map (view_joined T) others.items) q))
+    ap (λ c. runs_paid p levels c m s) (view_row T first others)
+    ∙ grouped_acts p levels m (view_node T first.value) (map (view_joined T) others.items) s

@@ -162,6 +162,10 @@ calls p (suc n) i m s = body_does (does p.groupings (calls p n)) i (slice_get p.
 abbrev pub runs : programs.Program → ℕ → programs.Node → Doing
 runs p levels = does p.groupings (calls p levels)
 
+-- the same of a command whose step is paid
+abbrev pub runs_paid : programs.Program → ℕ → programs.Node → Doing
+runs_paid p levels = act p.groupings (calls p levels)
+
 -- the same of commands in turn, and of the g-th of them
 abbrev pub all_run : programs.Program → ℕ → programs.Nodes → Doing
 all_run p levels = in_turn p.groupings (calls p levels)

@@ -4,7 +4,7 @@ ghost use Rattle.std.specs.Prelude.{◌≡◌, ◌+◌, ◌<◌, ◌≤◌, Bool
 ghost use Rattle.sbl_run.specs.Kept.{Follows, Tried};
 ghost use Rattle.sbl_run.specs.Numbers.{value, given};
 ghost use Rattle.sbl_program.specs.ProgramOf.{program_of, view_joined, view_node, view_nodes, view_number};
-ghost use Rattle.sbl_run.specs.Run.{runs, all_run, backwards_end, backwards_from, group_runs, calls, limit_here, limited, limits, turns, times, count_of, seeks};
+ghost use Rattle.sbl_run.specs.Run.{runs, runs_paid, all_run, backwards_end, backwards_from, group_runs, calls, limit_here, limited, limits, turns, times, count_of, seeks};
 ghost use Rattle.sbl_tree.specs.declared.mode.Mode.TheVariants.{Backward};
 ghost use Rattle.sbl_run.specs.Rows.{is_settled, joined_runs, row_runs};
 ghost use Rattle.sbl_run.specs.Search.{choice, searched, try_one};
@@ -31,13 +31,27 @@ pub struct Runner<'a, T> {
 }
 
 impl<'a, T: Tables> Runner<'a, T> {
-    /// Runs a command: its signal, or why it has none.
+    /// Runs a command: its signal, or why it has none. One that holds no other is done here, without a further call.
     #[cycle(run)]
+    #[inline(always)]
     fn run_command(&self, command: &Node, state: &mut State) -> Result<bool, Halt>
         ensures follows { Follows result state.new (runs (program_of (T.listed self.now.tables.now) self.now.program.now) self.now.levels (view_node (T.listed self.now.tables.now) command.now) self.now.mode state.old) }
         ensures fewer { IfOk result (λ _. state.new.steps < state.old.steps) }
     {
         state.pay()?;
+        if let Node::Act(action) = command {
+            return state.act(&self.program.groupings, self.mode, action);
+        }
+        self.run_paid(command, state)
+    }
+
+    /// Runs a command whose step is paid.
+    #[cycle(run)]
+    #[inline(never)]
+    fn run_paid(&self, command: &Node, state: &mut State) -> Result<bool, Halt>
+        ensures follows { Follows result state.new (runs_paid (program_of (T.listed self.now.tables.now) self.now.program.now) self.now.levels (view_node (T.listed self.now.tables.now) command.now) self.now.mode state.old) }
+        ensures no_more { IfOk result (λ _. state.new.steps ≤ state.old.steps) }
+    {
         match command {
             Node::Act(action) => state.act(&self.program.groupings, self.mode, action),
             Node::Sequence(commands) => self.run_in_turn(commands, state),

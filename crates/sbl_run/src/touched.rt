@@ -64,6 +64,7 @@ impl Touched {
     }
 
     /// The body of a routine is entered. AllocError where a growth was refused; nothing is touched then.
+    #[inline(always)]
     pub fn enter(&mut self, routine: usize) -> Result<(), AllocError>
         ensures { MatchResult result (λ _. self.new ≡ with_touch (Entered routine) self.old) (λ _. self.new ≡ self.old) }
     {
@@ -77,6 +78,7 @@ impl Touched {
     }
 
     /// The search of an among is paid. AllocError where a growth was refused; nothing is touched then.
+    #[inline(always)]
     pub fn search(&mut self, routine: usize, among: usize) -> Result<(), AllocError>
         ensures { MatchResult result (λ _. self.new ≡ with_touch (Searched routine among) self.old) (λ _. self.new ≡ self.old) }
     {
@@ -91,6 +93,7 @@ impl Touched {
 }
 
 // A bit; past the end none is set.
+#[inline(always)]
 fn bit(bits: &[bool], i: usize) -> bool
     ensures { result ≡ is_set bits.now i }
 {
@@ -101,6 +104,7 @@ fn bit(bits: &[bool], i: usize) -> bool
 }
 
 // A bit of a row.
+#[inline(always)]
 fn bit_in(rows: &[Vec<bool>], i: usize, k: usize) -> bool
     ensures { result ≡ is_set_in (map (λ row. row.items) rows.now) i k }
 {

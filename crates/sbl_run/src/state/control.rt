@@ -100,6 +100,7 @@ impl State {
     }
 
     /// Keeps the group of the string that an among's search took, or that it took none.
+    #[inline(always)]
     pub fn choose(&mut self, among: usize, group: Option<usize>)
         ensures { self.new ≡ choose among group self.old }
     {
@@ -109,6 +110,7 @@ impl State {
     }
 
     /// The group that was chosen for an among.
+    #[inline(always)]
     pub fn choice(&self, among: usize) -> Option<usize>
         ensures { result ≡ choice among self.now }
     {
@@ -119,6 +121,7 @@ impl State {
     }
 
     /// Touches an among of the routine that runs, whose search is paid. AllocError where a growth was refused.
+    #[inline(always)]
     pub fn touch_among(&mut self, among: usize) -> Result<(), AllocError>
         ensures { IfOk result (λ _. self.new ≡ touch_among among self.old) }
     {
@@ -141,6 +144,7 @@ impl State {
 
     /// Begins a call of the routine with this number and so many amongs, which is touched, and answers the caller's choices.
     /// AllocError where a growth was refused.
+    #[inline(always)]
     pub fn enter(&mut self, routine: usize, amongs: usize) -> Result<Vec<Option<usize>>, AllocError>
         ensures kept { IfOk result (λ v. v.items ≡ self.old.choices) }
         ensures entered { IfOk result (λ _. self.new ≡ enter routine amongs self.old) }
@@ -158,6 +162,7 @@ impl State {
     }
 
     /// Ends a call: the caller's number and its choices are back.
+    #[inline(always)]
     pub fn leave(&mut self, caller: usize, kept: Vec<Option<usize>>)
         ensures { self.new ≡ back_in caller kept.items self.old }
     {

@@ -25,6 +25,27 @@ pub fn best_of(
     requires rise { Rise (texts_of rows.now) }
     ensures { (strings : List (List ℕ)) → IsLinked strings rows.now links.now → IsBest strings (read_as direction part.now) below result }
 {
+    // The mode is known in each arm, so that each has a search compiled for it.
+    match direction {
+        Mode::Forward => best_in(rows, links, Mode::Forward, part, below),
+        Mode::Backward => best_in(rows, links, Mode::Backward, part, below),
+    }
+}
+
+// The same, for a mode that is known where it is called.
+#[inline(always)]
+fn best_in(
+    rows: &[(Vec<char>, Reverse<usize>)],
+    links: &[Option<usize>],
+    direction: Mode,
+    part: &[char],
+    below: usize,
+) -> Option<usize>
+    requires down { GoDown links.now }
+    requires long { length links.now ≡ length rows.now }
+    requires rise { Rise (texts_of rows.now) }
+    ensures { (strings : List (List ℕ)) → IsLinked strings rows.now links.now → IsBest strings (read_as direction part.now) below result }
+{
     let count = count_upto(rows, direction, part);
     match follow(rows, links, direction, part, below, count) {
         None => None,
@@ -51,6 +72,7 @@ pub fn links_of(
 }
 
 // The first row that matches, from the last of the first rows on, along the links.
+#[inline(always)]
 fn follow(
     rows: &[(Vec<char>, Reverse<usize>)],
     links: &[Option<usize>],
@@ -83,6 +105,7 @@ fn row_before(count: usize) -> Option<usize>
 }
 
 // How many rows do not stand after what the mode reads.
+#[inline(always)]
 fn count_upto(rows: &[(Vec<char>, Reverse<usize>)], direction: Mode, part: &[char]) -> usize
     requires { Rise (texts_of rows.now) }
     ensures { IsCount (texts_of rows.now) (read_as direction part.now) result }
@@ -101,6 +124,7 @@ fn count_upto(rows: &[(Vec<char>, Reverse<usize>)], direction: Mode, part: &[cha
 }
 
 // Whether a string has fewer characters than this, and is the front of what the mode reads.
+#[inline(always)]
 fn is_shorter_front(direction: Mode, part: &[char], text: &[char], below: usize) -> bool
     ensures { MatchBool result ((starts_with nat_eq (read_as direction part.now) text.now ≡ true) × (length text.now < below)) (starts_with nat_eq (read_as direction part.now) text.now ≡ true → below ≤ length text.now) }
 {
@@ -108,6 +132,7 @@ fn is_shorter_front(direction: Mode, part: &[char], text: &[char], below: usize)
 }
 
 // Whether a string stands after what the mode reads.
+#[inline(always)]
 fn is_after(direction: Mode, part: &[char], text: &[char]) -> bool
     ensures { result ≡ is_gt (slice_cmp nat_cmp text.now (read_as direction part.now)) }
 {
@@ -122,6 +147,7 @@ fn is_after(direction: Mode, part: &[char], text: &[char]) -> bool
 }
 
 // How many characters what the mode reads and a string have in common at their front.
+#[inline(always)]
 fn common(direction: Mode, part: &[char], text: &[char]) -> usize
     ensures { IsCommon (read_as direction part.now) text.now result }
 {
@@ -137,6 +163,7 @@ fn common(direction: Mode, part: &[char], text: &[char]) -> usize
 }
 
 // The character that the mode reads at a place.
+#[inline(always)]
 fn read_at(direction: Mode, part: &[char], i: usize) -> char
     requires { i < length part.now }
     ensures { result ≡ slice_index_or (read_as direction part.now) i 0 }

@@ -7,62 +7,62 @@ use Rattle.sbl_run.proofs.run.Runner.+run.Answers.Commands as commands
 use Rattle.sbl_run.proofs.run.Runner.+run.Answers.Prefixes as prefixes
 use Rattle.sbl_run.proofs.run.Runner.+run.Answers.Loops as loops
 
-pub run_command-returns-in-Repeat-clause-follows : goal.run_command-returns-in-Repeat-clause-follows
-run_command-returns-in-Repeat-clause-follows = commands.run_command-returns-in-Repeat-clause-follows
+pub run_paid-returns-in-Repeat-clause-follows : goal.run_paid-returns-in-Repeat-clause-follows
+run_paid-returns-in-Repeat-clause-follows = commands.run_paid-returns-in-Repeat-clause-follows
 
-pub run_command-returns-in-Loop-clause-follows : goal.run_command-returns-in-Loop-clause-follows
-run_command-returns-in-Loop-clause-follows = commands.run_command-returns-in-Loop-clause-follows
+pub run_paid-returns-in-Loop-clause-follows : goal.run_paid-returns-in-Loop-clause-follows
+run_paid-returns-in-Loop-clause-follows = commands.run_paid-returns-in-Loop-clause-follows
 
-pub run_command-returns-in_ok-touch_among-in-Search-clause-follows : goal.run_command-returns-in_ok-touch_among-in-Search-clause-follows
-run_command-returns-in_ok-touch_among-in-Search-clause-follows = commands.run_command-returns-in_ok-touch_among-in-Search-clause-follows
+pub run_paid-returns-in_ok-touch_among-in-Search-clause-follows : goal.run_paid-returns-in_ok-touch_among-in-Search-clause-follows
+run_paid-returns-in_ok-touch_among-in-Search-clause-follows = commands.run_paid-returns-in_ok-touch_among-in-Search-clause-follows
 
-pub run_command-returns-in_err-run_times-in-AtLeast-clause-follows : goal.run_command-returns-in_err-run_times-in-AtLeast-clause-follows
-run_command-returns-in_err-run_times-in-AtLeast-clause-follows = commands.run_command-returns-in_err-run_times-in-AtLeast-clause-follows
+pub run_paid-returns-in_err-run_times-in-AtLeast-clause-follows : goal.run_paid-returns-in_err-run_times-in-AtLeast-clause-follows
+run_paid-returns-in_err-run_times-in-AtLeast-clause-follows = commands.run_paid-returns-in_err-run_times-in-AtLeast-clause-follows
 
-pub run_command-returns-then-not-branch-clause-follows : goal.run_command-returns-then-not-branch-clause-follows
-run_command-returns-then-not-branch-clause-follows = commands.run_command-returns-then-not-branch-clause-follows
+pub run_paid-returns-then-not-branch-clause-follows : goal.run_paid-returns-then-not-branch-clause-follows
+run_paid-returns-then-not-branch-clause-follows = commands.run_paid-returns-then-not-branch-clause-follows
 
-pub run_command-returns-else-not-branch-clause-follows : goal.run_command-returns-else-not-branch-clause-follows
-run_command-returns-else-not-branch-clause-follows = commands.run_command-returns-else-not-branch-clause-follows
+pub run_paid-returns-else-not-branch-clause-follows : goal.run_paid-returns-else-not-branch-clause-follows
+run_paid-returns-else-not-branch-clause-follows = commands.run_paid-returns-else-not-branch-clause-follows
 
-pub run_command-returns-in-Goto-clause-follows : goal.run_command-returns-in-Goto-clause-follows
-run_command-returns-in-Goto-clause-follows = commands.run_command-returns-in-Goto-clause-follows
+pub run_paid-returns-in-Goto-clause-follows : goal.run_paid-returns-in-Goto-clause-follows
+run_paid-returns-in-Goto-clause-follows = commands.run_paid-returns-in-Goto-clause-follows
 
-pub run_command-returns-in-GoPast-clause-follows : goal.run_command-returns-in-GoPast-clause-follows
-run_command-returns-in-GoPast-clause-follows = commands.run_command-returns-in-GoPast-clause-follows
+pub run_paid-returns-in-GoPast-clause-follows : goal.run_paid-returns-in-GoPast-clause-follows
+run_paid-returns-in-GoPast-clause-follows = commands.run_paid-returns-in-GoPast-clause-follows
 
-pub run_command-returns-in-Among-clause-follows : goal.run_command-returns-in-Among-clause-follows
-run_command-returns-in-Among-clause-follows = commands.run_command-returns-in-Among-clause-follows
+pub run_paid-returns-in-Among-clause-follows : goal.run_paid-returns-in-Among-clause-follows
+run_paid-returns-in-Among-clause-follows = commands.run_paid-returns-in-Among-clause-follows
 
-pub run_command-returns-in-Sequence-clause-follows : goal.run_command-returns-in-Sequence-clause-follows
-run_command-returns-in-Sequence-clause-follows = commands.run_command-returns-in-Sequence-clause-follows
+pub run_paid-returns-in-Sequence-clause-follows : goal.run_paid-returns-in-Sequence-clause-follows
+run_paid-returns-in-Sequence-clause-follows = commands.run_paid-returns-in-Sequence-clause-follows
 
-pub run_command-returns-in-Row-clause-follows : goal.run_command-returns-in-Row-clause-follows
-run_command-returns-in-Row-clause-follows = commands.run_command-returns-in-Row-clause-follows
+pub run_paid-returns-in-Row-clause-follows : goal.run_paid-returns-in-Row-clause-follows
+run_paid-returns-in-Row-clause-follows = commands.run_paid-returns-in-Row-clause-follows
 
-pub run_command-returns-in-Not-clause-follows : goal.run_command-returns-in-Not-clause-follows
-run_command-returns-in-Not-clause-follows = commands.run_command-returns-in-Not-clause-follows
+pub run_paid-returns-in-Not-clause-follows : goal.run_paid-returns-in-Not-clause-follows
+run_paid-returns-in-Not-clause-follows = commands.run_paid-returns-in-Not-clause-follows
 
-pub run_command-returns-in-Test-clause-follows : goal.run_command-returns-in-Test-clause-follows
-run_command-returns-in-Test-clause-follows = commands.run_command-returns-in-Test-clause-follows
+pub run_paid-returns-in-Test-clause-follows : goal.run_paid-returns-in-Test-clause-follows
+run_paid-returns-in-Test-clause-follows = commands.run_paid-returns-in-Test-clause-follows
 
-pub run_command-returns-in-Try-clause-follows : goal.run_command-returns-in-Try-clause-follows
-run_command-returns-in-Try-clause-follows = commands.run_command-returns-in-Try-clause-follows
+pub run_paid-returns-in-Try-clause-follows : goal.run_paid-returns-in-Try-clause-follows
+run_paid-returns-in-Try-clause-follows = commands.run_paid-returns-in-Try-clause-follows
 
-pub run_command-returns-in-Do-clause-follows : goal.run_command-returns-in-Do-clause-follows
-run_command-returns-in-Do-clause-follows = commands.run_command-returns-in-Do-clause-follows
+pub run_paid-returns-in-Do-clause-follows : goal.run_paid-returns-in-Do-clause-follows
+run_paid-returns-in-Do-clause-follows = commands.run_paid-returns-in-Do-clause-follows
 
-pub run_command-returns-in-Backwards-clause-follows : goal.run_command-returns-in-Backwards-clause-follows
-run_command-returns-in-Backwards-clause-follows = commands.run_command-returns-in-Backwards-clause-follows
+pub run_paid-returns-in-Backwards-clause-follows : goal.run_paid-returns-in-Backwards-clause-follows
+run_paid-returns-in-Backwards-clause-follows = commands.run_paid-returns-in-Backwards-clause-follows
 
-pub run_command-returns-in-SetLimit-clause-follows : goal.run_command-returns-in-SetLimit-clause-follows
-run_command-returns-in-SetLimit-clause-follows = commands.run_command-returns-in-SetLimit-clause-follows
+pub run_paid-returns-in-SetLimit-clause-follows : goal.run_paid-returns-in-SetLimit-clause-follows
+run_paid-returns-in-SetLimit-clause-follows = commands.run_paid-returns-in-SetLimit-clause-follows
 
-pub run_command-returns-in_err-run_command-in-Fail-clause-follows : goal.run_command-returns-in_err-run_command-in-Fail-clause-follows
-run_command-returns-in_err-run_command-in-Fail-clause-follows = commands.run_command-returns-in_err-run_command-in-Fail-clause-follows
+pub run_paid-returns-in_err-run_command-in-Fail-clause-follows : goal.run_paid-returns-in_err-run_command-in-Fail-clause-follows
+run_paid-returns-in_err-run_command-in-Fail-clause-follows = commands.run_paid-returns-in_err-run_command-in-Fail-clause-follows
 
-pub run_command-returns-in_ok-run_command-in-Fail-clause-follows : goal.run_command-returns-in_ok-run_command-in-Fail-clause-follows
-run_command-returns-in_ok-run_command-in-Fail-clause-follows = commands.run_command-returns-in_ok-run_command-in-Fail-clause-follows
+pub run_paid-returns-in_ok-run_command-in-Fail-clause-follows : goal.run_paid-returns-in_ok-run_command-in-Fail-clause-follows
+run_paid-returns-in_ok-run_command-in-Fail-clause-follows = commands.run_paid-returns-in_ok-run_command-in-Fail-clause-follows
 
 pub run_not-returns-in_err-run_command-clause-follows : goal.run_not-returns-in_err-run_command-clause-follows
 run_not-returns-in_err-run_command-clause-follows = prefixes.run_not-returns-in_err-run_command-clause-follows

@@ -10,55 +10,58 @@ use Rattle.sbl_run.specs.Search.{tries, searched, bound_in}
 use Rattle.sbl_run.proofs.run.Runner.+run.Given as goal
 
 abbrev pub decreases-run_command : goal.decreases-run_command
-decreases-run_command g l = 4 * l.state.now.steps
+decreases-run_command g l = 5 * l.state.now.steps
+
+abbrev pub decreases-run_paid : goal.decreases-run_paid
+decreases-run_paid g l = 5 * l.state.now.steps + 4
 
 abbrev pub decreases-run_not : goal.decreases-run_not
-decreases-run_not g l = 4 * l.state.now.steps + 1
+decreases-run_not g l = 5 * l.state.now.steps + 1
 
 abbrev pub decreases-run_test : goal.decreases-run_test
-decreases-run_test g l = 4 * l.state.now.steps + 1
+decreases-run_test g l = 5 * l.state.now.steps + 1
 
 abbrev pub decreases-run_try : goal.decreases-run_try
-decreases-run_try g l = 4 * l.state.now.steps + 1
+decreases-run_try g l = 5 * l.state.now.steps + 1
 
 abbrev pub decreases-run_do : goal.decreases-run_do
-decreases-run_do g l = 4 * l.state.now.steps + 1
+decreases-run_do g l = 5 * l.state.now.steps + 1
 
 abbrev pub decreases-run_backwards : goal.decreases-run_backwards
-decreases-run_backwards g l = 4 * l.state.now.steps + 1
+decreases-run_backwards g l = 5 * l.state.now.steps + 1
 
 abbrev pub decreases-run_limited : goal.decreases-run_limited
-decreases-run_limited g l = 4 * l.state.now.steps + 1
+decreases-run_limited g l = 5 * l.state.now.steps + 1
 
 abbrev pub decreases-run_row : goal.decreases-run_row
-decreases-run_row g l = 4 * l.state.now.steps + 3
+decreases-run_row g l = 5 * l.state.now.steps + 3
 
 abbrev pub decreases-run_joined : goal.decreases-run_joined
-decreases-run_joined g l = 4 * l.state.now.steps + 1
+decreases-run_joined g l = 5 * l.state.now.steps + 1
 
 abbrev pub decreases-run_in_turn : goal.decreases-run_in_turn
-decreases-run_in_turn g l = 4 * l.state.now.steps + 1
+decreases-run_in_turn g l = 5 * l.state.now.steps + 1
 
 abbrev pub decreases-run_turns : goal.decreases-run_turns
-decreases-run_turns g l = 4 * l.state.now.steps + 1
+decreases-run_turns g l = 5 * l.state.now.steps + 1
 
 abbrev pub decreases-run_times : goal.decreases-run_times
-decreases-run_times g l = 4 * l.state.now.steps + 1
+decreases-run_times g l = 5 * l.state.now.steps + 1
 
 abbrev pub decreases-run_seek : goal.decreases-run_seek
-decreases-run_seek g l = 4 * l.state.now.steps + 1
+decreases-run_seek g l = 5 * l.state.now.steps + 1
 
 abbrev pub decreases-run_call : goal.decreases-run_call
-decreases-run_call g l = 4 * l.state.now.steps + 1
+decreases-run_call g l = 5 * l.state.now.steps + 1
 
 abbrev pub decreases-run_among : goal.decreases-run_among
-decreases-run_among g l = 4 * l.state.now.steps + 2
+decreases-run_among g l = 5 * l.state.now.steps + 2
 
 abbrev pub decreases-run_search : goal.decreases-run_search
-decreases-run_search g l = 4 * l.state.now.steps + 3
+decreases-run_search g l = 5 * l.state.now.steps + 3
 
 abbrev pub decreases-try_string : goal.decreases-try_string
-decreases-try_string g l = 4 * l.state.now.steps + 2
+decreases-try_string g l = 5 * l.state.now.steps + 2
 
 -- the commands that are left do from here what all of them do from the start
 abbrev pub invariant-run_in_turn-loop-one : goal.invariant-run_in_turn-loop-one
