@@ -2,14 +2,15 @@
 
 ghost use Rattle.std.specs.Prelude.{◌≡◌, List, ℕ, [], slice_index_or, IfOk};
 ghost use Rattle.sbl_run.specs.Actions.{acts};
-ghost use Rattle.sbl_run.specs.Numbers.{value, natural};
-ghost use Rattle.sbl_program.specs.ProgramOf.{view_action};
+ghost use Rattle.sbl_run.specs.Numbers.{given, value, natural};
+ghost use Rattle.sbl_run.specs.Moves.{hop, at_mark, to_mark};
+ghost use Rattle.sbl_program.specs.ProgramOf.{view_action, view_number};
 ghost use Rattle.sbl_run.specs.Kept.{Follows};
 
 use crate::halt::Halt;
 use crate::state::State;
 use crate::state::numbers::natural;
-use sbl_program::{Action, CharacterSet};
+use sbl_program::{Action, Arithmetic, CharacterSet};
 use sbl_tree::Mode;
 
 impl State {
@@ -30,10 +31,7 @@ impl State {
             Action::Grouping(number) => Ok(self.take_one(mode, groupings.get(*number), true)),
             Action::NonGrouping(number) => Ok(self.take_one(mode, groupings.get(*number), false)),
             Action::Next => Ok(self.take_next(mode)),
-            Action::Hop(expression) => {
-                let number = self.value(mode, expression)?;
-                Ok(self.hop(mode, natural(number)))
-            }
+            Action::Hop(expression) => self.hop_by(mode, expression),
             Action::ToLimit => {
                 self.to_limit(mode)?;
                 Ok(true)
@@ -43,14 +41,8 @@ impl State {
                 self.set_mark(*number);
                 Ok(true)
             }
-            Action::AtMark(expression) => {
-                let place = self.value(mode, expression)?;
-                Ok(self.is_at_mark(natural(place)))
-            }
-            Action::ToMark(expression) => {
-                let place = self.value(mode, expression)?;
-                Ok(self.to_mark(mode, natural(place)))
-            }
+            Action::AtMark(expression) => self.is_at_value(mode, expression),
+            Action::ToMark(expression) => self.to_value(mode, expression),
             Action::Set(number) => {
                 self.set_boolean(*number, true);
                 Ok(true)
@@ -96,5 +88,35 @@ impl State {
             Action::True => Ok(true),
             Action::False => Ok(false),
         }
+    }
+
+    // `hop`: moves over as many characters as an expression says. Refused where its value is out of range.
+    #[inline(never)]
+    fn hop_by(&mut self, mode: Mode, expression: &Arithmetic) -> Result<bool, Halt>
+        ensures follows { Follows result self.new (given (value (view_number expression.now) mode self.old) self.old (λ z. hop (natural z) mode self.old)) }
+        ensures same_steps { IfOk result (λ _. self.new.steps ≡ self.old.steps) }
+    {
+        let number = self.value(mode, expression)?;
+        Ok(self.hop(mode, natural(number)))
+    }
+
+    // `atmark`: whether the cursor is where an expression says. Refused where its value is out of range.
+    #[inline(never)]
+    fn is_at_value(&mut self, mode: Mode, expression: &Arithmetic) -> Result<bool, Halt>
+        ensures follows { Follows result self.new (given (value (view_number expression.now) mode self.old) self.old (λ z. at_mark (natural z) self.old)) }
+        ensures same_steps { IfOk result (λ _. self.new.steps ≡ self.old.steps) }
+    {
+        let place = self.value(mode, expression)?;
+        Ok(self.is_at_mark(natural(place)))
+    }
+
+    // `tomark`: sends the cursor to where an expression says. Refused where its value is out of range.
+    #[inline(never)]
+    fn to_value(&mut self, mode: Mode, expression: &Arithmetic) -> Result<bool, Halt>
+        ensures follows { Follows result self.new (given (value (view_number expression.now) mode self.old) self.old (λ z. to_mark (natural z) mode self.old)) }
+        ensures same_steps { IfOk result (λ _. self.new.steps ≡ self.old.steps) }
+    {
+        let place = self.value(mode, expression)?;
+        Ok(self.to_mark(mode, natural(place)))
     }
 }

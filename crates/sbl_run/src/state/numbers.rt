@@ -111,6 +111,7 @@ impl State {
     }
 
     /// `$x = AE` and its like. Refused where the expression is, and where the new number is out of range.
+    #[inline(never)]
     pub fn assign(
         &mut self,
         mode: Mode,
@@ -130,6 +131,7 @@ impl State {
     }
 
     /// Compares two expressions. Refused where one of them is.
+    #[inline(never)]
     pub fn compare(
         &self,
         mode: Mode,

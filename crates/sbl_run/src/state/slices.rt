@@ -60,6 +60,7 @@ impl State {
     }
 
     /// `delete`: replaces the slice by nothing. `Slice` where there is none.
+    #[inline(never)]
     pub fn delete(&mut self) -> Result<(), Halt>
         ensures leads { Leads result self.new (replace [] self.old) }
         ensures same_steps { IfOk result (λ _. self.new.steps ≡ self.old.steps) }
@@ -77,6 +78,7 @@ impl State {
     }
 
     /// `<- S`: replaces the slice. `Slice` where there is none, `TooLong` where the text would grow too long.
+    #[inline(never)]
     pub fn replace(&mut self, term: &StringTerm) -> Result<(), Halt>
         ensures leads { Leads result self.new (replace (characters (view_text term.now) self.old) self.old) }
         ensures same_steps { IfOk result (λ _. self.new.steps ≡ self.old.steps) }
@@ -97,6 +99,7 @@ impl State {
     }
 
     /// `-> s`: copies the slice to a string variable. `Slice` where there is none.
+    #[inline(never)]
     pub fn keep(&mut self, number: usize) -> Result<(), Halt>
         ensures leads { Leads result self.new (keep number self.old) }
         ensures same_steps { IfOk result (λ _. self.new.steps ≡ self.old.steps) }
@@ -133,6 +136,7 @@ impl State {
     }
 
     /// `insert S` and `<+ S`. `Cursor` where the cursor is beyond the limit, `TooLong` where the text would grow too long.
+    #[inline(never)]
     pub fn insert(&mut self, mode: Mode, term: &StringTerm) -> Result<(), Halt>
         ensures leads { Leads result self.new (insert (characters (view_text term.now) self.old) mode self.old) }
         ensures same_steps { IfOk result (λ _. self.new.steps ≡ self.old.steps) }
@@ -144,6 +148,7 @@ impl State {
     }
 
     /// `attach S`; refused as `insert` is.
+    #[inline(never)]
     pub fn attach(&mut self, mode: Mode, term: &StringTerm) -> Result<(), Halt>
         ensures leads { Leads result self.new (attach (characters (view_text term.now) self.old) mode self.old) }
         ensures same_steps { IfOk result (λ _. self.new.steps ≡ self.old.steps) }
