@@ -18,10 +18,19 @@ pub fn text_of(alloc: Global, characters: &[char]) -> Result<String, AllocError>
     ensures { IfOk result (λ text. string_bytes text ≡ encode_utf8_all characters.now) }
 {
     let mut text = String::with_capacity(alloc, characters.len())?;
+    set_text(&mut text, characters)?;
+    Ok(text)
+}
+
+/// Makes a text that of some characters, in place of what it was. A refused growth is the one error.
+fn set_text(text: &mut String, characters: &[char]) -> Result<(), AllocError>
+    ensures { OnOk result (string_bytes text.new ≡ encode_utf8_all characters.now) }
+{
+    text.clear();
     for c in characters {
         text.push(*c)?;
     }
-    Ok(text)
+    Ok(())
 }
 
 /// What is written as one record.
@@ -29,8 +38,8 @@ pub(crate) trait Record {
     /// Its fields, as bytes.
     ghost fields: { Self → List (List ℕ) };
 
-    /// Puts its fields into an empty record. A refused growth is the one error.
-    fn fill(&self, alloc: Global, record: &mut ByteRecord) -> Result<(), AllocError>
+    /// Puts its fields into an empty record, each by way of a text that is used again. A refused growth is the one error.
+    fn fill(&self, text: &mut String, record: &mut ByteRecord) -> Result<(), AllocError>
         requires empty { fields_of record.old ≡ [] }
         requires whole { partial_of record.old ≡ [] }
         ensures { OnOk result (fields_of record.new ≡ fields self.now) };
@@ -40,12 +49,12 @@ impl Record for Row<'_> {
     ghost fields = { λ row. spec.row_fields (view_row row) };
 
     #[tactic(auto, unfolding(crate::specs::Rows::row_fields))]
-    fn fill(&self, alloc: Global, record: &mut ByteRecord) -> Result<(), AllocError> {
-        push_text(alloc, record, self.word)?;
+    fn fill(&self, text: &mut String, record: &mut ByteRecord) -> Result<(), AllocError> {
+        push_text(text, record, self.word)?;
         match self.outcome {
             Outcome::Stem(stem) => {
                 record.push_field(b"stem")?;
-                push_text(alloc, record, stem)
+                push_text(text, record, stem)
             }
             Outcome::Refused(fault) => {
                 record.push_field(b"refused")?;
@@ -59,23 +68,23 @@ impl Record for Class {
     ghost fields = { λ class. spec.class_fields (view_class class) };
 
     #[tactic(auto, unfolding(crate::specs::Rows::class_fields))]
-    fn fill(&self, alloc: Global, record: &mut ByteRecord) -> Result<(), AllocError> {
-        push_text(alloc, record, &self.stem)?;
-        push_words(alloc, record, &self.words)
+    fn fill(&self, text: &mut String, record: &mut ByteRecord) -> Result<(), AllocError> {
+        push_text(text, record, &self.stem)?;
+        push_words(text, record, &self.words)
     }
 }
 
 impl Record for Item {
     ghost fields = { λ item. item_fields (item_of item) };
 
-    fn fill(&self, alloc: Global, record: &mut ByteRecord) -> Result<(), AllocError> {
+    fn fill(&self, text: &mut String, record: &mut ByteRecord) -> Result<(), AllocError> {
         match self {
             Item::Routine(name) => {
                 record.push_field(b"routine")?;
                 record.push_field(name.as_bytes())
             }
             Item::Among(name, number) => {
-                let number = format!(in alloc; "{number}")?;
+                let number = format!(in *text.allocator(); "{number}")?;
                 record.push_field(b"among")?;
                 record.push_field(name.as_bytes())?;
                 record.push_field(number.as_bytes())
@@ -84,23 +93,31 @@ impl Record for Item {
     }
 }
 
-/// Puts a text at the end of a record, as a field. A refused growth is the one error.
-fn push_text(alloc: Global, record: &mut ByteRecord, text: &[char]) -> Result<(), AllocError>
+/// Puts some characters at the end of a record, as a field. A refused growth is the one error.
+fn push_text(
+    text: &mut String,
+    record: &mut ByteRecord,
+    characters: &[char],
+) -> Result<(), AllocError>
     requires { partial_of record.old ≡ [] }
-    ensures fields { OnOk result (fields_of record.new ≡ fields_of record.old ++ encode_utf8_all text.now ∷ []) }
+    ensures fields { OnOk result (fields_of record.new ≡ fields_of record.old ++ encode_utf8_all characters.now ∷ []) }
     ensures partial { OnOk result (partial_of record.new ≡ []) }
 {
-    let field = text_of(alloc, text)?;
-    record.push_field(field.as_bytes())
+    set_text(text, characters)?;
+    record.push_field(text.as_bytes())
 }
 
 /// Puts words at the end of a record, each as a field. A refused growth is the one error.
-fn push_words(alloc: Global, record: &mut ByteRecord, words: &[Vec<char>]) -> Result<(), AllocError>
+fn push_words(
+    text: &mut String,
+    record: &mut ByteRecord,
+    words: &[Vec<char>],
+) -> Result<(), AllocError>
     requires { partial_of record.old ≡ [] }
     ensures { OnOk result (fields_of record.new ≡ fields_of record.old ++ map encode_utf8_all (words_of words.now)) }
 {
     for word in words {
-        push_text(alloc, record, word)?;
+        push_text(text, record, word)?;
     }
     Ok(())
 }
@@ -113,10 +130,11 @@ pub(crate) fn records_text<T: Record>(alloc: Global, records: &[T]) -> Result<Ve
     let mut writer = WriterBuilder::new()
         .flexible(true)
         .from_writer(Vec::new(alloc));
+    let mut text = String::new(alloc);
     let mut record = ByteRecord::new(alloc);
     for item in records {
         record.clear();
-        item.fill(alloc, &mut record)?;
+        item.fill(&mut text, &mut record)?;
         if writer.write_byte_record(&record).is_err() {
             return Err(AllocError);
         }
