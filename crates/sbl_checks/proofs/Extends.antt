@@ -8,7 +8,8 @@ use Rattle.sbl_tree.specs.declared.tree.Prefix.TheVariants as prefixes
 use Rattle.sbl_tree.specs.Tree.{Argument, written_out, by_name, Expression, expression, Sums, no_sums, sum, Product, product, Scales, no_scales, scale, Factor, negated, bracketed, numeral, variable, fixed, length_of, Entry, entry, Command, bracket, simple_, literal_, name_, non_, prefixed, counted, move_, named, splice_, setlimit_, assign_, compare_, compare_values_, among_, Rows, no_rows, row, Others, no_others, joined, Starter, no_starter, starter, Groups, bare, group, Term, term, Plain, declaration, escapes, macro, routine, grouping}
 use Rattle.sbl_checks.specs.declared.occurrences.Use.TheVariants as use_as
 use Rattle.sbl_checks.specs.declared.occurrences.Site.{Site}
-use Rattle.sbl_checks.specs.Occurrences.{Occurrence, Notice, put, uses, substring, among, string, backwards, region_end, declares, defines_routine, defines_grouping, amongs_in, noted_string, noted_expression, noted_sums, noted_product, noted_scales, noted_factor, noted_simple, noted_prefix, site_behind, use_of, noted_condition, noted_entry, noted_entries, has_starter, is_empty, noted, noted_rows, noted_others, noted_starter, noted_groups, noted_names, noted_term, noted_terms, noted_plain, ItemInMode, noted_items}
+use Rattle.sbl_checks.specs.Occurrences.{Occurrence, Notice, put, uses, substring, among, string, backwards, region_end, declares, defines_routine, defines_grouping, amongs_in, noted_string, noted_expression, noted_sums, noted_product, noted_scales, noted_factor, noted_simple, noted_prefix, site_behind, use_of, noted_condition, noted_entry, noted_entries, has_starter, is_empty, noted, noted_rows, noted_others, noted_starter, noted_groups, noted_names, noted_term, noted_terms, noted_plain, noted_items}
+use Rattle.sbl_tree.specs.Order.{ItemInMode}
 
 -- the second list is the first, and then more
 pub record Extends (a b : List Occurrence) : Type 0 where

@@ -9,10 +9,11 @@ use Rattle.std.proofs.lemmas.Map.Keys.{IsDistinct-push}
 use Rattle.sbl_text.specs.declared.fault.ScriptFault.{ScriptFault}
 use Rattle.sbl_text.specs.declared.fault.ScriptFault.TheVariants as fault
 use Rattle.sbl_tree.specs.Tree.{Entry, entry, Command, bracket, simple_, literal_, name_, non_, prefixed, counted, move_, named, splice_, setlimit_, assign_, compare_, compare_values_, among_, Rows, no_rows, row, Others, no_others, joined, Starter, no_starter, starter, Groups, bare, group, Plain, declaration, escapes, macro, routine, grouping, Item, plain, backward}
+use Rattle.sbl_tree.specs.Order.{ItemInMode, in_mode, in_order}
 use Rattle.sbl_tree.specs.declared.mode.Mode.{Mode}
-use Rattle.sbl_tree.specs.declared.mode.Mode.TheVariants.{Forward, Backward}
+use Rattle.sbl_tree.specs.declared.mode.Mode.TheVariants.{Backward}
 use Rattle.sbl_checks.specs.declared.occurrences.Site.{Site}
-use Rattle.sbl_checks.specs.Occurrences.{Occurrence, put, among, string, region_end, defines_routine, amongs_in, noted_expression, noted_prefix, site_behind, noted_condition, noted_entry, noted_entries, has_starter, is_empty, noted, noted_rows, noted_others, noted_starter, noted_groups, noted_plain, ItemInMode, in_mode, in_order, noted_items, occurrences_of}
+use Rattle.sbl_checks.specs.Occurrences.{Occurrence, put, among, string, region_end, defines_routine, amongs_in, noted_expression, noted_prefix, site_behind, noted_condition, noted_entry, noted_entries, has_starter, is_empty, noted, noted_rows, noted_others, noted_starter, noted_groups, noted_plain, noted_items, occurrences_of}
 use Rattle.sbl_checks.specs.Checks.{fault_at, has_text, is_text_of, is_awaited}
 use Rattle.sbl_checks.specs.Laws.{EachPasses}
 use Rattle.sbl_checks.specs.Amongs.{text_of, texts_of, IsSound, EachAmong, EachAmongOfRows, EachAmongOfOthers, EachAmongOfStarter, EachAmongOfGroups, EachAmongOfPlain, EachAmongOfPlains, EachAmongOfItems, AmongsAreSound}
@@ -217,33 +218,20 @@ each_in_mode all (x ∷ xs) n s passing e =
     let p : Site = record { item = n; mode = x.mode } in
     (each_plain all x.plain p s passing (then_ (items_more xs (n + 1) (noted_plain x.plain p s)) e), each_in_mode all xs (n + 1) (noted_plain x.plain p s) passing e)
 
-front_of : (a b : List ItemInMode) → EachInMode (a ++ b) → EachInMode a
-front_of [] b h = tt
-front_of (x ∷ a) b h = (h.0, front_of a b h.1)
+plains_of : (m : Mode) (xs : List Plain) (rest : List ItemInMode) → EachInMode (in_mode m xs ++ rest) → EachAmongOfPlains IsSound xs × EachInMode rest
+plains_of m [] rest h = (tt, h)
+plains_of m (x ∷ xs) rest h =
+    let r = plains_of m xs rest h.1 in
+    ((h.0, r.0), r.1)
 
-back_of : (a b : List ItemInMode) → EachInMode (a ++ b) → EachInMode b
-back_of [] b h = h
-back_of (x ∷ a) b h = back_of a b h.1
-
-plains_of : (m : Mode) (xs : List Plain) (done : List ItemInMode) → EachInMode (in_mode m xs done) → EachAmongOfPlains IsSound xs × EachInMode done
-plains_of m [] done h = (tt, h)
-plains_of m (x ∷ xs) done h =
-    let one : List ItemInMode = (record { mode = m; plain = x }) ∷ [] in
-    let r = plains_of m xs (done ++ one) h in
-    (((back_of done one r.1).0, r.0), front_of done one r.1)
-
-items_of : (is : List Item) (done : List ItemInMode) → EachInMode (in_order is done) → EachAmongOfItems IsSound is × EachInMode done
-items_of [] done h = (tt, h)
-items_of (plain x ∷ is) done h =
-    let one : List ItemInMode = (record { mode = Forward; plain = x }) ∷ [] in
-    let r = items_of is (done ++ one) h in
-    (((back_of done one r.1).0, r.0), front_of done one r.1)
-items_of (backward xs ∷ is) done h =
-    let r = items_of is (in_mode Backward xs done) h in
-    let k = plains_of Backward xs done r.1 in
-    ((k.0, r.0), k.1)
+items_of : (is : List Item) → EachInMode (in_order is) → EachAmongOfItems IsSound is
+items_of [] h = tt
+items_of (plain x ∷ is) h = (h.0, items_of is h.1)
+items_of (backward xs ∷ is) h =
+    let r = plains_of Backward xs (in_order is) h in
+    (r.0, items_of is r.1)
 
 pub amongs_are_sound : AmongsAreSound
 amongs_are_sound items external e =
     let passing : Passing (occurrences_of items) = record { each = (first.well_declared_passes items external e).0 } in
-    (items_of items [] (each_in_mode (occurrences_of items) (in_order items []) 1 [] passing (same (occurrences_of items)))).0
+    items_of items (each_in_mode (occurrences_of items) (in_order items) 1 [] passing (same (occurrences_of items)))

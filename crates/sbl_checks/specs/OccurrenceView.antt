@@ -1,10 +1,8 @@
 -- An occurrence without where its names lie in memory.
 use Rattle.std.specs.Prelude.{List, map}
-use Rattle.sbl_tree.specs.View.{view_plain}
 use Rattle.sbl_checks.specs.declared.occurrences.Notice.{Notice}
 use Rattle.sbl_checks.specs.declared.occurrences.Notice.TheVariants as notices
 use Rattle.sbl_checks.specs.declared.occurrences.Occurrence.{Occurrence}
-use Rattle.sbl_checks.specs.declared.occurrences.ItemInMode.{ItemInMode}
 use Rattle.sbl_checks.specs.Occurrences as spec
 
 abbrev pub view_notice : Notice → spec.Notice
@@ -23,6 +21,3 @@ view_occurrence m = record { site = m.site; notice = view_notice m.notice }
 
 abbrev pub view_occurrences : List Occurrence → List spec.Occurrence
 view_occurrences ms = map view_occurrence ms
-
-abbrev pub view_in_mode : ItemInMode → spec.ItemInMode
-view_in_mode s = record { mode = s.mode; plain = view_plain s.plain.now }

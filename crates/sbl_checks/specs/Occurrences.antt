@@ -7,9 +7,9 @@ use Rattle.sbl_tree.specs.declared.tree.Prefix.{Prefix}
 use Rattle.sbl_tree.specs.declared.tree.Prefix.TheVariants as prefixes
 use Rattle.sbl_tree.specs.declared.tree.Naming.{Naming}
 use Rattle.sbl_tree.specs.declared.tree.Naming.TheVariants as namings
-use Rattle.sbl_tree.specs.Tree.{Argument, written_out, by_name, Expression, expression, Sums, no_sums, sum, Product, product, Scales, no_scales, scale, Factor, negated, bracketed, numeral, variable, fixed, length_of, Entry, entry, Command, bracket, simple_, literal_, name_, non_, prefixed, counted, move_, named, splice_, setlimit_, assign_, compare_, compare_values_, among_, Rows, no_rows, row, Others, no_others, joined, Starter, no_starter, starter, Groups, bare, group, Term, term, Plain, declaration, escapes, macro, routine, grouping, Item, plain, backward}
-use Rattle.sbl_tree.specs.declared.mode.Mode.{Mode}
-use Rattle.sbl_tree.specs.declared.mode.Mode.TheVariants.{Forward, Backward}
+use Rattle.sbl_tree.specs.Tree.{Argument, written_out, by_name, Expression, expression, Sums, no_sums, sum, Product, product, Scales, no_scales, scale, Factor, negated, bracketed, numeral, variable, fixed, length_of, Entry, entry, Command, bracket, simple_, literal_, name_, non_, prefixed, counted, move_, named, splice_, setlimit_, assign_, compare_, compare_values_, among_, Rows, no_rows, row, Others, no_others, joined, Starter, no_starter, starter, Groups, bare, group, Term, term, Plain, declaration, escapes, macro, routine, grouping, Item}
+use Rattle.sbl_tree.specs.Order.{ItemInMode, in_order}
+use Rattle.sbl_tree.specs.declared.mode.Mode.TheVariants.{Backward}
 use Rattle.sbl_checks.specs.declared.occurrences.Use.{Use}
 use Rattle.sbl_checks.specs.declared.occurrences.Use.TheVariants as use_as
 use Rattle.sbl_checks.specs.declared.occurrences.Site.{Site}
@@ -173,22 +173,6 @@ noted_plain (macro n b q) p sofar = sofar
 noted_plain (routine n c os) p sofar = put region_end p (noted_others os p (noted c p (put (defines_routine n) p sofar)))
 noted_plain (grouping n a ts) p sofar = noted_terms ts p (noted_term a p (put (defines_grouping n) p sofar))
 
--- an item with the mode in which it stands
-pub record ItemInMode : Type 0 where
-  pub mode : Mode
-  pub plain : Plain
-
--- items of this mode, behind those so far
-abbrev pub in_mode : Mode → List Plain → List ItemInMode → List ItemInMode
-in_mode m [] sofar = sofar
-in_mode m (x ∷ xs) sofar = in_mode m xs (sofar ++ (record { mode = m; plain = x }) ∷ [])
-
--- the items in text order, those of a backwardmode in its site, behind those so far
-abbrev pub in_order : List Item → List ItemInMode → List ItemInMode
-in_order [] sofar = sofar
-in_order (plain x ∷ is) sofar = in_order is (sofar ++ (record { mode = Forward; plain = x }) ∷ [])
-in_order (backward xs ∷ is) sofar = in_order is (in_mode Backward xs sofar)
-
 -- the occurrences of some items, of which the first has this number
 abbrev pub noted_items : List ItemInMode → ℕ → List Occurrence → List Occurrence
 noted_items [] n sofar = sofar
@@ -196,4 +180,4 @@ noted_items (x ∷ xs) n sofar = noted_items xs (n + 1) (noted_plain x.plain (re
 
 -- the occurrences of a script, its items counted from 1
 abbrev pub occurrences_of : List Item → List Occurrence
-occurrences_of items = noted_items (in_order items []) 1 []
+occurrences_of items = noted_items (in_order items) 1 []

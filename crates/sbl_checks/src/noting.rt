@@ -1,16 +1,18 @@
 //! The occurrences of a script, in text order.
 
-ghost use Rattle.std.specs.Prelude.{◌≡◌, [], ◌∷◌, List, map, OnOk, IfOk, string_bytes};
+ghost use Rattle.std.specs.Prelude.{◌≡◌, List, map, OnOk, IfOk, string_bytes};
 ghost use Rattle.sbl_tree.specs.View.{view_argument, view_expression, view_factor, view_product, view_sums, view_scales, view_entry, view_command, view_rows, view_others, view_starter, view_among, view_groups, view_row, view_term, view_plain, view_items};
+ghost use Rattle.sbl_tree.specs.Order.{view_in_mode};
 ghost use Rattle.sbl_tree.specs.Tree as trees;
 ghost use Rattle.sbl_checks.specs.Occurrences as spec;
-ghost use Rattle.sbl_checks.specs.OccurrenceView.{view_notice, view_occurrences, view_in_mode};
+ghost use Rattle.sbl_checks.specs.OccurrenceView.{view_notice, view_occurrences};
 
-use crate::occurrences::{ItemInMode, Notice, Occurrence, Site, Use};
+use crate::occurrences::{Notice, Occurrence, Site, Use};
 use crate::sofar::SoFar;
 use sbl_tree::{
     Added, Among, Argument, Command, DeclarationKind, Entry, Expression, Factor, Group, Item,
-    Joined, Mode, Naming, Plain, Prefix, Product, Row, Scaled, Simple, Term,
+    ItemInMode, Joined, Mode, Naming, Plain, Prefix, Product, Row, Scaled, Simple, Term,
+    items_in_order,
 };
 use std::alloc::{AllocError, Global};
 
@@ -384,43 +386,6 @@ fn note_plain<'a>(
     }
 }
 
-fn put_in_mode<'a>(
-    mode: Mode,
-    plains: &'a Vec<Plain>,
-    in_order: &mut Vec<ItemInMode<'a>>,
-) -> Result<(), AllocError>
-    ensures { OnOk result (map view_in_mode in_order.new.items ≡ spec.in_mode mode (map view_plain plains.now.items) (map view_in_mode in_order.old.items)) }
-{
-    for plain in plains {
-        in_order.push(ItemInMode { mode, plain })?;
-    }
-    Ok(())
-}
-
-/// The items in text order, those of a `backwardmode` in its site.
-fn in_order_of<'a>(alloc: Global, items: &'a [Item]) -> Result<Vec<ItemInMode<'a>>, AllocError>
-    ensures { IfOk result (λ all. map view_in_mode all.items ≡ spec.in_order (view_items items.now) []) }
-{
-    let mut all = Vec::new(alloc);
-    for item in items {
-        match item {
-            Item::Plain(plain) => put_forward(plain, &mut all)?,
-            Item::BackwardMode(plains) => put_in_mode(Mode::Backward, plains, &mut all)?,
-        }
-    }
-    Ok(all)
-}
-
-fn put_forward<'a>(plain: &'a Plain, in_order: &mut Vec<ItemInMode<'a>>) -> Result<(), AllocError>
-    ensures { OnOk result (map view_in_mode in_order.new.items ≡ spec.in_mode Mode.Forward (view_plain plain.now ∷ []) (map view_in_mode in_order.old.items)) }
-{
-    in_order.push(ItemInMode {
-        mode: Mode::Forward,
-        plain,
-    })?;
-    Ok(())
-}
-
 fn note_in_order<'a>(
     in_order: &[ItemInMode<'a>],
     occurrences: &mut SoFar<'a>,
@@ -449,7 +414,7 @@ pub fn occurrences_of<'a>(
 ) -> Result<Vec<Occurrence<'a>>, AllocError>
     ensures { IfOk result (λ occurrences. view_occurrences occurrences.items ≡ spec.occurrences_of (view_items items.now)) }
 {
-    let in_order = in_order_of(alloc, items)?;
+    let in_order = items_in_order(alloc, items)?;
     let mut occurrences = SoFar::new(alloc);
     note_in_order(&in_order, &mut occurrences)?;
     Ok(occurrences.into_vec())

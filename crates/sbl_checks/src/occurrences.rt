@@ -1,6 +1,6 @@
 //! What the checks look at in a script.
 
-use sbl_tree::{DeclarationKind, Mode, Plain};
+use sbl_tree::{DeclarationKind, Mode};
 
 /// What a name is used as.
 #[derive(Clone, Copy, Debug, PartialEq, Eq)]
@@ -65,13 +65,4 @@ pub struct Occurrence<'a> {
     pub site: Site,
     /// What it is.
     pub notice: Notice<'a>,
-}
-
-/// An item with the mode in which it stands.
-#[derive(Clone, Copy)]
-pub struct ItemInMode<'a> {
-    /// The mode in which it stands.
-    pub mode: Mode,
-    /// The item.
-    pub plain: &'a Plain,
 }

@@ -3,11 +3,12 @@ use Rattle.std.proofs.Common.{◌≡◌, ◌∙◌, ℕ, zero, suc, Bool, true, 
 use Rattle.std.specs.Prelude.{slice_index_or}
 use Rattle.std.specs.List.{list_any}
 use Rattle.std.proofs.lemmas.Bool.{true≢false}
+use Rattle.sbl_tree.specs.Order.{ItemInMode, in_order}
 use Rattle.sbl_tree.specs.declared.tree.DeclarationKind.TheVariants as kinds
 use Rattle.sbl_tree.specs.Tree.{bracket, no_rows, no_others}
 use Rattle.sbl_tree.specs.declared.mode.Mode.{Mode}
 use Rattle.sbl_tree.specs.declared.mode.Mode.TheVariants.{Forward}
-use Rattle.sbl_numbering.specs.Items.{ItemInMode, Known, in_order, known_in, class_of, classes_behind, place_of, Body, body_named}
+use Rattle.sbl_numbering.specs.Items.{Known, known_in, class_of, classes_behind, place_of, Body, body_named}
 use Rattle.sbl_numbering.specs.Regions.{behind, behind_others}
 use Rattle.sbl_run.specs.declared.fault.RunFault.TheVariants.{Depth}
 use Rattle.sbl_run.specs.declared.touch.Touch.{Touch}

@@ -1,52 +1,36 @@
 -- In a script that is well declared each grouping is defined once, and a name in its terms is that of a grouping before it.
-use Rattle.std.proofs.Common.{◌≡◌, ◌⊎◌, inl, inr, ℕ, ◌+◌, ◌<◌, ◌≤◌, Bool, true, false, not, cond, List, [], ◌∷◌, ◌++◌, length, map, Option, Some, None, is_some, refl, sym, ap, subst, ◌∙◌, arith}
+use Rattle.std.proofs.Common.{◌≡◌, ◌⊎◌, inl, inr, ℕ, ◌+◌, ◌<◌, ◌≤◌, Bool, true, false, not, cond, List, [], ◌∷◌, ◌++◌, length, Option, Some, None, is_some, refl, sym, ap, subst, ◌∙◌, arith}
 use Rattle.std.specs.Prelude.{⊤, nat_lt}
 use Rattle.std.specs.Str.{bytes_eq}
 use Rattle.std.proofs.lemmas.Bool.{lt-ltb, ltb-true}
 use Rattle.std.proofs.lemmas.Slice.Eq.{bytes_eq-Decides}
 use Rattle.sbl_text.specs.declared.fault.ScriptFault.TheVariants as fault
+use Rattle.sbl_tree.specs.Order.{ItemInMode, in_order}
 use Rattle.sbl_tree.specs.declared.mode.Mode.{Mode}
 use Rattle.sbl_tree.specs.declared.tree.DeclarationKind.{DeclarationKind}
 use Rattle.sbl_tree.specs.declared.tree.DeclarationKind.TheVariants as kinds
 use Rattle.sbl_tree.specs.Tree.{Argument, written_out, by_name, Term, term, Plain, declaration, escapes, macro, routine, grouping, Item}
 use Rattle.sbl_checks.specs.declared.occurrences.Site.{Site}
 use Rattle.sbl_checks.specs.declared.occurrences.Use.TheVariants as use_as
-use Rattle.sbl_checks.specs.Occurrences as marks
 use Rattle.sbl_checks.specs.Occurrences.{Occurrence, put, uses, defines_routine, defines_grouping, noted_term, noted_terms, noted_plain, noted_items, occurrences_of}
 use Rattle.sbl_checks.specs.Checks.{kind_of, defined_at, definition_of, is_kind, is_routine, is_grouping, is_earlier}
 use Rattle.sbl_checks.proofs.Extends.{Extends, then_, items_more, put_more}
-use Rattle.sbl_numbering.specs.Items.{ItemInMode, known_in, names_by, in_order, is_among}
+use Rattle.sbl_numbering.specs.Items.{known_in, names_by, is_among}
 use Rattle.sbl_machine.proofs.Noticed.{look, look_kept, kinds_at, site_is, sites_quiet, routine_still, grouping_still}
-use Rattle.sbl_machine.proofs.NamesStand.{names_site, site_put, Passing, at_mark, kind_kept, routine_kind, test_fails, rest_fails, not_false, terms_extend, plain_after, grouping_after, item_of, in_order_same, flip, or_true}
+use Rattle.sbl_machine.proofs.NamesStand.{names_site, site_put, Passing, at_mark, kind_kept, routine_kind, test_fails, rest_fails, not_false, terms_extend, plain_after, grouping_after, flip, or_true}
 
--- ---- the occurrences of items as the definition of a run has them
-
-abbrev mark_of : ItemInMode → marks.ItemInMode
-mark_of x = record { mode = x.mode; plain = x.plain }
+-- ---- the occurrences of items
 
 abbrev place_of : ℕ → ItemInMode → Site
 place_of i x = record { item = i; mode = x.mode }
-
-abbrev pub noted_all : List ItemInMode → ℕ → List Occurrence → List Occurrence
-noted_all xs i s = noted_items (map mark_of xs) i s
-
-marks_back : (xs : List marks.ItemInMode) → map mark_of (map item_of xs) ≡ xs
-marks_back [] = refl
-marks_back (x ∷ xs) = ap (λ l. x ∷ l) (marks_back xs)
-
-pub occurrences_are : (items : List Item) → occurrences_of items ≡ noted_all (in_order items) 1 []
-occurrences_are items = ap (λ l. noted_items l 1 []) (sym (ap (map mark_of) (sym (in_order_same items [])) ∙ marks_back (marks.in_order items [])))
 
 -- the occurrences behind an item
 abbrev behind : ItemInMode → ℕ → List Occurrence → List Occurrence
 behind x i s = noted_plain x.plain (place_of i x) s
 
-noted_split : (xs ys : List ItemInMode) (i : ℕ) (s : List Occurrence) → noted_all (xs ++ ys) i s ≡ noted_all ys (i + length xs) (noted_all xs i s)
-noted_split [] ys i s = ap (λ k. noted_all ys k s) (omega arith)
-noted_split (x ∷ xs) ys i s = noted_split xs ys (i + 1) (behind x i s) ∙ ap (λ k. noted_all ys k (noted_all xs (i + 1) (behind x i s))) (omega arith)
-
-all_more : (xs : List ItemInMode) (i : ℕ) (s : List Occurrence) → Extends s (noted_all xs i s)
-all_more xs i s = items_more (map mark_of xs) i s
+noted_split : (xs ys : List ItemInMode) (i : ℕ) (s : List Occurrence) → noted_items (xs ++ ys) i s ≡ noted_items ys (i + length xs) (noted_items xs i s)
+noted_split [] ys i s = ap (λ k. noted_items ys k s) (omega arith)
+noted_split (x ∷ xs) ys i s = noted_split xs ys (i + 1) (behind x i s) ∙ ap (λ k. noted_items ys k (noted_items xs (i + 1) (behind x i s))) (omega arith)
 
 -- ---- where a name is defined
 
@@ -82,14 +66,14 @@ same_item : (p d : Site) (o : Option Site) → o ≡ Some p → o ≡ Some d →
 same_item p d o h k = let same : p ≡ d = cc in ap (λ (z : Site). z.item) same
 
 -- the place of what some items define is not before the first of them
-not_before : (xs : List ItemInMode) (i : ℕ) (s : List Occurrence) (n : List ℕ) (d : Site) → site_in n s ≡ None → site_in n (noted_all xs i s) ≡ Some d → i ≤ d.item
+not_before : (xs : List ItemInMode) (i : ℕ) (s : List Occurrence) (n : List ℕ) (d : Site) → site_in n s ≡ None → site_in n (noted_items xs i s) ≡ Some d → i ≤ d.item
 not_before [] i s n d e h = let none : ⊥ = cc in absurd none
 not_before (x ∷ xs) i s n d e h = at (place_behind x.plain (place_of i x) s n e) (λ none. not_before xs (i + 1) (behind x i s) n d none h)
   where
     at : IsPlaced n (place_of i x) (behind x i s) → (site_in n (behind x i s) ≡ None → i + 1 ≤ d.item) → i ≤ d.item
     at (inl none) rest = let later = rest none in omega arith
     at (inr there) rest =
-        let is : i ≡ d.item = same_item (place_of i x) d (site_in n (noted_all (x ∷ xs) i s)) (look_kept (defined_at n) (behind x i s) (noted_all xs (i + 1) (behind x i s)) (place_of i x) (all_more xs (i + 1) (behind x i s)) there) h in
+        let is : i ≡ d.item = same_item (place_of i x) d (site_in n (noted_items (x ∷ xs) i s)) (look_kept (defined_at n) (behind x i s) (noted_items xs (i + 1) (behind x i s)) (place_of i x) (items_more xs (i + 1) (behind x i s)) there) h in
         omega arith
 
 -- a grouping that is not that of an item is one of the others
@@ -112,14 +96,14 @@ others_have (grouping r a ts) p s n rest h e none = at (bytes_eq r n) refl h
     at false k g = g
 
 -- a grouping that some items define is defined in one of them
-defined_in : (xs : List ItemInMode) (i : ℕ) (s : List Occurrence) (n : List ℕ) → is_among (known_in xs kinds.Groupings) n ≡ true → site_in n s ≡ None → (d : Site) × (site_in n (noted_all xs i s) ≡ Some d) × (d.item < i + length xs)
+defined_in : (xs : List ItemInMode) (i : ℕ) (s : List Occurrence) (n : List ℕ) → is_among (known_in xs kinds.Groupings) n ≡ true → site_in n s ≡ None → (d : Site) × (site_in n (noted_items xs i s) ≡ Some d) × (d.item < i + length xs)
 defined_in [] i s n h e = let none : ⊥ = cc in absurd none
 defined_in (x ∷ xs) i s n h e = at (place_behind x.plain (place_of i x) s n e) (λ none. defined_in xs (i + 1) (behind x i s) n (others_have x.plain (place_of i x) s n (known_in xs kinds.Groupings) h e none) none)
   where
-    at : IsPlaced n (place_of i x) (behind x i s) → (site_in n (behind x i s) ≡ None → (d : Site) × (site_in n (noted_all xs (i + 1) (behind x i s)) ≡ Some d) × (d.item < i + 1 + length xs))
-        → (d : Site) × (site_in n (noted_all (x ∷ xs) i s) ≡ Some d) × (d.item < i + length (x ∷ xs))
+    at : IsPlaced n (place_of i x) (behind x i s) → (site_in n (behind x i s) ≡ None → (d : Site) × (site_in n (noted_items xs (i + 1) (behind x i s)) ≡ Some d) × (d.item < i + 1 + length xs))
+        → (d : Site) × (site_in n (noted_items (x ∷ xs) i s) ≡ Some d) × (d.item < i + length (x ∷ xs))
     at (inl none) rest = let r = rest none in let low = r.2 in (r.0, r.1, omega arith)
-    at (inr there) rest = (place_of i x, look_kept (defined_at n) (behind x i s) (noted_all xs (i + 1) (behind x i s)) (place_of i x) (all_more xs (i + 1) (behind x i s)) there, omega arith)
+    at (inr there) rest = (place_of i x, look_kept (defined_at n) (behind x i s) (noted_items xs (i + 1) (behind x i s)) (place_of i x) (items_more xs (i + 1) (behind x i s)) there, omega arith)
 
 -- ---- names in a script that passes
 
@@ -146,9 +130,9 @@ module _ (all : List Occurrence) (passing : Passing all) where
   is_grouping_name n = is_kind is_grouping (look (kinds_at n) all) ≡ true
 
   -- what some items define is a grouping of theirs, if its name is a grouping's
-  grouping_in : (xs : List ItemInMode) (i : ℕ) (s : List Occurrence) (n : List ℕ) (d : Site) → is_grouping_name n → Extends (noted_all xs i s) all → site_in n s ≡ None → site_in n (noted_all xs i s) ≡ Some d → is_among (known_in xs kinds.Groupings) n ≡ true
+  grouping_in : (xs : List ItemInMode) (i : ℕ) (s : List Occurrence) (n : List ℕ) (d : Site) → is_grouping_name n → Extends (noted_items xs i s) all → site_in n s ≡ None → site_in n (noted_items xs i s) ≡ Some d → is_among (known_in xs kinds.Groupings) n ≡ true
   grouping_in [] i s n d g more e h = let none : ⊥ = cc in absurd none
-  grouping_in (x ∷ xs) i s n d g more e h = at x.plain (then_ (all_more xs (i + 1) (behind x i s)) more) (λ none. grouping_in xs (i + 1) (behind x i s) n d g more none h)
+  grouping_in (x ∷ xs) i s n d g more e h = at x.plain (then_ (items_more xs (i + 1) (behind x i s)) more) (λ none. grouping_in xs (i + 1) (behind x i s) n d g more none h)
     where
       at : (y : Plain) → Extends (noted_plain y (place_of i x) s) all → (site_in n (noted_plain y (place_of i x) s) ≡ None → is_among (known_in xs kinds.Groupings) n ≡ true) → is_among (names_by kinds.Groupings y ++ known_in xs kinds.Groupings) n ≡ true
       at (declaration k ns) ext rest = rest (names_site k ns (place_of i x) s n e)
@@ -172,12 +156,12 @@ module _ (all : List Occurrence) (passing : Passing all) where
 
   -- ---- the items before one
 
-  module _ (bs rest : List ItemInMode) (parts : all ≡ noted_all rest (1 + length bs) (noted_all bs 1 [])) where
+  module _ (bs rest : List ItemInMode) (parts : all ≡ noted_items rest (1 + length bs) (noted_items bs 1 [])) where
     abbrev s0 : List Occurrence
-    s0 = noted_all bs 1 []
+    s0 = noted_items bs 1 []
 
     first_more : Extends s0 all
-    first_more = subst (Extends s0) (sym parts) (all_more rest (1 + length bs) s0)
+    first_more = subst (Extends s0) (sym parts) (items_more rest (1 + length bs) s0)
 
     -- a grouping that is defined earlier is one of theirs
     earlier_in : (n : List ℕ) → is_grouping_name n → is_earlier (1 + length bs) (definition_of n all) ≡ true → is_among (known_in bs kinds.Groupings) n ≡ true
@@ -242,10 +226,10 @@ names_are items passing bs after m n a ts parts =
     let all = occurrences_of items in
     let x : ItemInMode = record { mode = m; plain = grouping n a ts } in
     let p : Site = record { item = 1 + length bs; mode = m } in
-    let s = noted_all bs 1 [] in
+    let s = noted_items bs 1 [] in
     let t = put (defines_grouping n) p s in
-    let split : all ≡ noted_all (x ∷ after) (1 + length bs) s = occurrences_are items ∙ ap (λ l. noted_all l 1 []) parts ∙ noted_split bs (x ∷ after) 1 [] in
-    let more : Extends (noted_plain (grouping n a ts) p s) all = subst (Extends (noted_plain (grouping n a ts) p s)) (sym split) (all_more after (1 + length bs + 1) (noted_plain (grouping n a ts) p s)) in
+    let split : all ≡ noted_items (x ∷ after) (1 + length bs) s = ap (λ l. noted_items l 1 []) parts ∙ noted_split bs (x ∷ after) 1 [] in
+    let more : Extends (noted_plain (grouping n a ts) p s) all = subst (Extends (noted_plain (grouping n a ts) p s)) (sym split) (items_more after (1 + length bs + 1) (noted_plain (grouping n a ts) p s)) in
     let mark : Occurrence = record { site = p; notice = defines_grouping n } in
     let h = (at_mark all s mark passing (then_ (grouping_after n a ts p s) more)).1 in
     let declared = rest_fails (not (is_some (kind_of n s))) (fault.Undeclared p.item) _ h in

@@ -4,13 +4,13 @@ use Rattle.std.specs.Prelude.{if◌then◌else◌, slice_index_or}
 use Rattle.std.specs.Str.{bytes_eq}
 use Rattle.std.proofs.lemmas.Slice.Eq.{bytes_eq-Decides}
 use Rattle.std.proofs.Math.Path.{fun_ext}
+use Rattle.sbl_tree.specs.Order.{ItemInMode, in_mode, in_order}
 use Rattle.sbl_tree.specs.declared.tree.DeclarationKind.{DeclarationKind}
 use Rattle.sbl_tree.specs.declared.tree.DeclarationKind.TheVariants as kinds
 use Rattle.sbl_tree.specs.Tree.{Command, Others, Plain, Item, bracket, no_rows, no_others, declaration, escapes, macro, routine, grouping, plain, backward}
 use Rattle.sbl_tree.specs.declared.mode.Mode.{Mode}
 use Rattle.sbl_tree.specs.declared.mode.Mode.TheVariants.{Forward, Backward}
-use Rattle.sbl_numbering.specs.Items.{ItemInMode, in_order, place_of, names_by, known_in, Grouping, and_grouping, classes_behind, Body, body_or, body_named}
-use Rattle.sbl_numbering.proofs.SoundItems.{in_mode}
+use Rattle.sbl_numbering.specs.Items.{place_of, names_by, known_in, Grouping, and_grouping, classes_behind, Body, body_or, body_named}
 use Rattle.sbl_numbering.specs.Regions.{behind}
 use Rattle.sbl_machine.specs.Holes.{with_holes, others_with_holes, holed_plain, holed_item, holed_script}
 use Rattle.sbl_machine.specs.Touched.{Item', Routine, Among, routine_names}
@@ -23,14 +23,14 @@ module _ (picked : Item' → Bool) where
   abbrev pub holed_items : List ItemInMode → List ItemInMode
   holed_items xs = map holed_in_mode xs
 
-  mode_holed : (m : Mode) (xs : List Plain) (rest : List ItemInMode) → in_mode m (map (holed_plain picked) xs) (holed_items rest) ≡ holed_items (in_mode m xs rest)
+  mode_holed : (m : Mode) (xs : List Plain) (rest : List ItemInMode) → in_mode m (map (holed_plain picked) xs) ++ holed_items rest ≡ holed_items (in_mode m xs ++ rest)
   mode_holed m [] rest = refl
   mode_holed m (x ∷ xs) rest = ap (λ (l : List ItemInMode). (record { mode = m; plain = holed_plain picked x }) ∷ l) (mode_holed m xs rest)
 
   pub order_holed : (is : List Item) → in_order (map (holed_item picked) is) ≡ holed_items (in_order is)
   order_holed [] = refl
   order_holed (plain x ∷ is) = ap (λ (l : List ItemInMode). holed_in_mode (record { mode = Forward; plain = x }) ∷ l) (order_holed is)
-  order_holed (backward xs ∷ is) = ap (in_mode Backward (map (holed_plain picked) xs)) (order_holed is) ∙ mode_holed Backward xs (in_order is)
+  order_holed (backward xs ∷ is) = ap (λ (l : List ItemInMode). in_mode Backward (map (holed_plain picked) xs) ++ l) (order_holed is) ∙ mode_holed Backward xs (in_order is)
 
   -- ---- what does not look at a routine's body
 

@@ -1,26 +1,24 @@
 -- The names of a script that is well declared stand for what there is.
-use Rattle.std.proofs.Common.{◌≡◌, ◌⊎◌, inl, inr, ℕ, ◌+◌, Bool, true, false, not, cond, List, [], ◌∷◌, ◌++◌, map, Option, Some, None, is_some, refl, sym, ap, subst, ◌∙◌, ◌||◌, append_assoc, append-nil}
+use Rattle.std.proofs.Common.{◌≡◌, ◌⊎◌, inl, inr, ℕ, ◌+◌, Bool, true, false, not, cond, List, [], ◌∷◌, ◌++◌, Option, Some, None, is_some, refl, sym, ap, subst, ◌∙◌, ◌||◌, append_assoc}
 use Rattle.std.specs.Option.{option_or}
 use Rattle.std.specs.Str.{bytes_eq}
-use Rattle.std.proofs.lemmas.List.{map-append}
 use Rattle.std.proofs.lemmas.Slice.Eq.{bytes_eq-Decides}
 use Rattle.sbl_text.specs.declared.fault.ScriptFault.{ScriptFault}
 use Rattle.sbl_text.specs.declared.fault.ScriptFault.TheVariants as fault
+use Rattle.sbl_tree.specs.Order.{ItemInMode, in_order}
 use Rattle.sbl_tree.specs.declared.tree.DeclarationKind.{DeclarationKind}
 use Rattle.sbl_tree.specs.declared.tree.DeclarationKind.TheVariants as kinds
 use Rattle.sbl_tree.specs.declared.mode.Mode.{Mode}
 use Rattle.sbl_tree.specs.declared.mode.Mode.TheVariants.{Forward, Backward}
-use Rattle.sbl_tree.specs.Tree.{Argument, written_out, by_name, Command, Others, Term, term, Plain, declaration, escapes, macro, routine, grouping, Item, plain, backward}
+use Rattle.sbl_tree.specs.Tree.{Argument, written_out, by_name, Command, Others, Term, term, Plain, declaration, escapes, macro, routine, grouping, Item}
 use Rattle.sbl_checks.specs.declared.occurrences.Site.{Site}
 use Rattle.sbl_checks.specs.declared.occurrences.Use.{Use}
 use Rattle.sbl_checks.specs.declared.occurrences.Use.TheVariants as use_as
-use Rattle.sbl_checks.specs.Occurrences as marks
 use Rattle.sbl_checks.specs.Occurrences.{Occurrence, Notice, put, uses, region_end, declares, defines_routine, defines_grouping, noted, noted_others, noted_names, noted_term, noted_terms, noted_plain, noted_items, occurrences_of}
 use Rattle.sbl_checks.specs.Checks.{kind_of, defined_at, definition_of, may_be, is_kind, is_routine, is_grouping, is_boolean, is_integer, is_string, is_mode, needs_definition, fault_at}
 use Rattle.sbl_checks.specs.Laws.{EachPasses, NamesResolve, Resolves, WellDeclaredPasses}
 use Rattle.sbl_checks.proofs.Extends.{Extends, same, then_, items_more, put_more, command_more, others_more}
-use Rattle.sbl_numbering.specs.Items.{ItemInMode, Body, body_named, in_order, is_among, known_in, names_by}
-use Rattle.sbl_numbering.proofs.SoundItems.{in_mode}
+use Rattle.sbl_numbering.specs.Items.{Body, body_named, is_among, known_in, names_by}
 use Rattle.sbl_machine.specs.NamesStand.{HasBody, StandsFor, NamesStand}
 use Rattle.sbl_machine.proofs.Noticed.{look, or_none, look_put, look_kept, kinds_at, kind_is, site_is, routine_still, grouping_still, kinds_quiet, sites_quiet}
 
@@ -92,27 +90,23 @@ kind_behind (macro m b q) p s n e = inl e
 kind_behind (routine r c os) p s n e = inl (routine_still (kinds_at n) (kinds_quiet n) r c os p s ∙ look_put (kinds_at n) (defines_routine r) p s ∙ or_none (look (kinds_at n) s) ∙ e)
 kind_behind (grouping g a ts) p s n e = inl (grouping_still (kinds_at n) (kinds_quiet n) g a ts p s ∙ look_put (kinds_at n) (defines_grouping g) p s ∙ or_none (look (kinds_at n) s) ∙ e)
 
--- an item with its mode, as the definition of a run has it
-abbrev pub item_of : marks.ItemInMode → ItemInMode
-item_of x = record { mode = x.mode; plain = x.plain }
-
-abbrev site_of : ℕ → marks.ItemInMode → Site
+abbrev site_of : ℕ → ItemInMode → Site
 site_of i x = record { item = i; mode = x.mode }
 
 -- the names of one kind of variables, by the items
 module _ (kind : DeclarationKind) (here : (ns : List (List ℕ)) → names_by kind (declaration kind ns) ≡ ns) where
-  declared : (n : List ℕ) (xs : List marks.ItemInMode) (i : ℕ) (s : List Occurrence) → look (kinds_at n) s ≡ None → look (kinds_at n) (noted_items xs i s) ≡ Some kind → is_among (known_in (map item_of xs) kind) n ≡ true
+  declared : (n : List ℕ) (xs : List ItemInMode) (i : ℕ) (s : List Occurrence) → look (kinds_at n) s ≡ None → look (kinds_at n) (noted_items xs i s) ≡ Some kind → is_among (known_in xs kind) n ≡ true
   declared n [] i s e h = let no : ⊥ = cc in absurd no
   declared n (x ∷ xs) i s e h = at (kind_behind x.plain (site_of i x) s n e) (λ none. declared n xs (i + 1) (noted_plain x.plain (site_of i x) s) none h)
     where
-      at : (look (kinds_at n) (noted_plain x.plain (site_of i x) s) ≡ None) ⊎ Declares x.plain (site_of i x) s n → (look (kinds_at n) (noted_plain x.plain (site_of i x) s) ≡ None → is_among (known_in (map item_of xs) kind) n ≡ true) → is_among (names_by kind x.plain ++ known_in (map item_of xs) kind) n ≡ true
-      at (inl none) rest = among_right (names_by kind x.plain) (known_in (map item_of xs) kind) n (rest none)
+      at : (look (kinds_at n) (noted_plain x.plain (site_of i x) s) ≡ None) ⊎ Declares x.plain (site_of i x) s n → (look (kinds_at n) (noted_plain x.plain (site_of i x) s) ≡ None → is_among (known_in xs kind) n ≡ true) → is_among (names_by kind x.plain ++ known_in xs kind) n ≡ true
+      at (inl none) rest = among_right (names_by kind x.plain) (known_in xs kind) n (rest none)
       at (inr d) rest =
           let kept : look (kinds_at n) (noted_items xs (i + 1) (noted_plain x.plain (site_of i x) s)) ≡ Some d.kind = look_kept (kinds_at n) (noted_plain x.plain (site_of i x) s) (noted_items xs (i + 1) (noted_plain x.plain (site_of i x) s)) d.kind (items_more xs (i + 1) (noted_plain x.plain (site_of i x) s)) d.is in
           let same : d.kind ≡ kind = cc in
-          ap (λ y. is_among (names_by kind y ++ known_in (map item_of xs) kind) n) (d.item ∙ ap (λ k. declaration k d.names) same)
-          ∙ ap (λ l. is_among (l ++ known_in (map item_of xs) kind) n) (here d.names)
-          ∙ among_left d.names (known_in (map item_of xs) kind) n d.there
+          ap (λ y. is_among (names_by kind y ++ known_in xs kind) n) (d.item ∙ ap (λ k. declaration k d.names) same)
+          ∙ ap (λ l. is_among (l ++ known_in xs kind) n) (here d.names)
+          ∙ among_left d.names (known_in xs kind) n d.there
 
 -- ---- definitions
 
@@ -255,27 +249,13 @@ module _ (all : List Occurrence) (passing : Passing all) (n : List ℕ) (d : Sit
   in_item (routine r c os) p s xs more e later = in_routine r c os p s xs more e later
   in_item (grouping r a ts) p s xs more e later = in_grouping r a ts p s xs more e later
 
-  defined : (xs : List marks.ItemInMode) (i : ℕ) (s : List Occurrence) → all ≡ noted_items xs i s → look (defined_at n) s ≡ None → Defined all (map item_of xs) n d.mode
+  defined : (xs : List ItemInMode) (i : ℕ) (s : List Occurrence) → all ≡ noted_items xs i s → look (defined_at n) s ≡ None → Defined all xs n d.mode
   defined [] i s parts e = let no : ⊥ = cc in absurd no
   defined (x ∷ xs) i s parts e =
-      in_item x.plain (site_of i x) s (map item_of xs) (subst (Extends (noted_plain x.plain (site_of i x) s)) (sym parts) (items_more xs (i + 1) (noted_plain x.plain (site_of i x) s))) e
+      in_item x.plain (site_of i x) s xs (subst (Extends (noted_plain x.plain (site_of i x) s)) (sym parts) (items_more xs (i + 1) (noted_plain x.plain (site_of i x) s))) e
       (defined xs (i + 1) (noted_plain x.plain (site_of i x) s) parts)
 
 -- ---- a script
-
--- the items in both orders
-in_mode_same : (m : Mode) (xs : List Plain) (sofar : List marks.ItemInMode) (rest : List ItemInMode) → map item_of (marks.in_mode m xs sofar) ++ rest ≡ map item_of sofar ++ in_mode m xs rest
-in_mode_same m [] sofar rest = refl
-in_mode_same m (x ∷ xs) sofar rest =
-    let y : marks.ItemInMode = record { mode = m; plain = x } in
-    in_mode_same m xs (sofar ++ (y ∷ [])) rest ∙ ap (λ l. l ++ in_mode m xs rest) (map-append item_of sofar (y ∷ [])) ∙ append_assoc (map item_of sofar) (item_of y ∷ []) (in_mode m xs rest)
-
-pub in_order_same : (is : List Item) (sofar : List marks.ItemInMode) → map item_of (marks.in_order is sofar) ≡ map item_of sofar ++ in_order is
-in_order_same [] sofar = sym (append-nil (map item_of sofar))
-in_order_same (plain x ∷ is) sofar =
-    let y : marks.ItemInMode = record { mode = Forward; plain = x } in
-    in_order_same is (sofar ++ (y ∷ [])) ∙ ap (λ l. l ++ in_order is) (map-append item_of sofar (y ∷ [])) ∙ append_assoc (map item_of sofar) (item_of y ∷ []) (in_order is)
-in_order_same (backward xs ∷ is) sofar = in_order_same is (marks.in_mode Backward xs sofar) ∙ in_mode_same Backward xs sofar (in_order is)
 
 same_mode : (m k : Mode) → is_mode m k ≡ true → k ≡ m
 same_mode Forward Forward h = refl
@@ -290,31 +270,24 @@ module _ (items : List Item) (passing : Passing (occurrences_of items)) (u : Use
   abbrev ours : List ItemInMode
   ours = in_order items
 
-  ordered : map item_of (marks.in_order items []) ≡ ours
-  ordered = in_order_same items []
-
   kind_there : look (kinds_at n) all ≡ Some r.kind
   kind_there = sym (kind_is n all) ∙ r.declared
 
   string_there : r.kind ≡ kinds.Strings → is_among (known_in ours kinds.Strings) n ≡ true
   string_there k =
-      subst (λ l. is_among (known_in l kinds.Strings) n ≡ true) ordered
-      (declared kinds.Strings (λ ns. refl) n (marks.in_order items []) 1 [] refl (kind_there ∙ ap Some k))
+      declared kinds.Strings (λ ns. refl) n ours 1 [] refl (kind_there ∙ ap Some k)
 
   integer_there : r.kind ≡ kinds.Integers → is_among (known_in ours kinds.Integers) n ≡ true
   integer_there k =
-      subst (λ l. is_among (known_in l kinds.Integers) n ≡ true) ordered
-      (declared kinds.Integers (λ ns. refl) n (marks.in_order items []) 1 [] refl (kind_there ∙ ap Some k))
+      declared kinds.Integers (λ ns. refl) n ours 1 [] refl (kind_there ∙ ap Some k)
 
   boolean_there : r.kind ≡ kinds.Booleans → is_among (known_in ours kinds.Booleans) n ≡ true
   boolean_there k =
-      subst (λ l. is_among (known_in l kinds.Booleans) n ≡ true) ordered
-      (declared kinds.Booleans (λ ns. refl) n (marks.in_order items []) 1 [] refl (kind_there ∙ ap Some k))
+      declared kinds.Booleans (λ ns. refl) n ours 1 [] refl (kind_there ∙ ap Some k)
 
   definition_there : (d : Site) → definition_of n all ≡ Some d → Defined all ours n d.mode
   definition_there d h =
-      subst (λ l. Defined all l n d.mode) ordered
-      (defined all passing n d (sym (site_is n all) ∙ h) (marks.in_order items []) 1 [] refl refl)
+      defined all passing n d (sym (site_is n all) ∙ h) ours 1 [] refl refl
 
   either : (b c : Bool) → c ≡ true → (b || c) ≡ true
   either true c h = refl

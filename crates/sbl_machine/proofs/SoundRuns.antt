@@ -1,11 +1,12 @@
 -- A run of the numbered script is a run of the script.
 use Rattle.std.proofs.Common.{◌≡◌, ℕ, zero, suc, Bool, List, [], Option, Some, None, option_map, refl, ap, ◌∙◌}
 use Rattle.std.proofs.Math.Path.{fun_ext}
+use Rattle.sbl_tree.specs.Order.{ItemInMode, in_order}
 use Rattle.sbl_tree.specs.declared.tree.DeclarationKind.TheVariants as kinds
-use Rattle.sbl_numbering.specs.Items.{Known, ItemInMode, Body, in_order, known_in, class_of, classes_behind, body_named}
+use Rattle.sbl_numbering.specs.Items.{Known, Body, known_in, class_of, classes_behind, body_named}
 use Rattle.sbl_machine.specs.Meaning as meaning
 use Rattle.sbl_machine.specs.Numbered.{numbered_script}
-use Rattle.sbl_numbering.specs.Numbered.{numbered_items, plan_in, plan_with}
+use Rattle.sbl_numbering.specs.Numbered.{numbered_items, plan_with}
 use Rattle.sbl_numbering.specs.NumberedNames.{Names, names_behind, no_names, number_of}
 use Rattle.sbl_run.specs.Start.{ending_of, start}
 use Rattle.sbl_program.specs.Program as programs
@@ -14,7 +15,7 @@ use Rattle.sbl_run.specs.Run as run
 use Rattle.sbl_run.specs.Run.{enter, leave, paid, does}
 use Rattle.sbl_run.specs.State.{State, Doing}
 use Rattle.sbl_machine.proofs.SoundActs.{row_sound}
-use Rattle.sbl_numbering.proofs.SoundItems.{placed_is, strings_are, integers_are, booleans_are, groupings_are, routines_are, placed_by, as_made}
+use Rattle.sbl_numbering.proofs.SoundItems.{strings_are, integers_are, booleans_are, groupings_are, routines_are, placed_by, as_made}
 use Rattle.sbl_machine.proofs.SoundParts.{Agree}
 use Rattle.sbl_numbering.proofs.Own.{class_same, routine_same}
 use Rattle.sbl_script.specs.Parsed.{Source}
@@ -78,6 +79,4 @@ module _ (items : List ItemInMode) (external : List ℕ) where
 
 pub ending_same : (script : Source) (word : List ℕ) (limit : ℕ) → ending_of (numbered_script script) word limit ≡ meaning.ending script word limit
 unfolding numbered_items meaning.ending
-ending_same script word limit =
-    ap (λ items. ending_of (plan_in items script.external) word limit) (placed_is script.items)
-    ∙ by_items (in_order script.items) script.external word limit
+ending_same script word limit = by_items (in_order script.items) script.external word limit

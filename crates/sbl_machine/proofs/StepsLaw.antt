@@ -7,8 +7,9 @@ use Rattle.sbl_machine.specs.Outcome.{Refused, outcome_at, used_at, run_of, used
 use Rattle.sbl_run.specs.State.{State, Ending, Signals, Stops}
 use Rattle.sbl_machine.proofs.Steps.{Within, Goes}
 use Rattle.sbl_machine.proofs.StepsRuns.{calls_go}
-use Rattle.sbl_numbering.specs.Items.{in_order, known_in, class_of, classes_behind, body_named}
+use Rattle.sbl_numbering.specs.Items.{known_in, class_of, classes_behind, body_named}
 use Rattle.sbl_script.specs.Parsed.{Source}
+use Rattle.sbl_tree.specs.Order.{in_order}
 use Rattle.sbl_tree.specs.declared.mode.Mode.TheVariants.{Forward}
 
 -- two endings, of runs with these limits, give the same for as many steps

@@ -8,8 +8,6 @@ use Rattle.std.proofs.lemmas.List.{map-id, reverse-reverse}
 use Rattle.std.proofs.lemmas.Option.{same_Some}
 use Rattle.std.proofs.lemmas.Slice.Eq.{bytes_eq-Decides}
 use Rattle.sbl_machine.specs.Searches.{strings_read, amongs_of, TablesDiffer, SearchesAreExact}
-use Rattle.sbl_numbering.specs.Items.{ItemInMode, in_order}
-use Rattle.sbl_numbering.proofs.SoundItems.{in_mode}
 use Rattle.sbl_numbering.specs.Laws.{names_in}
 use Rattle.sbl_numbering.specs.NumberedAmongs.{Found, strings_in, strings_behind, found_of, found, found_rows, found_others, found_starter, found_groups, found_plain, found_behind}
 use Rattle.sbl_numbering.specs.NumberedNames.{Names}
@@ -17,6 +15,7 @@ use Rattle.sbl_numbering.specs.Regions.{mode_behind}
 use Rattle.sbl_checks.specs.Amongs.{text_of, texts_of, IsSound, EachAmong, EachAmongOfRows, EachAmongOfOthers, EachAmongOfStarter, EachAmongOfGroups, EachAmongOfPlain, EachAmongOfPlains, EachAmongOfItems, AmongsAreSound}
 use Rattle.sbl_tables.specs.Fitting.{fitting, read_all}
 use Rattle.sbl_tables.specs.Laws.{AllDiffer, FittingAreMatches, Matches, StandsIn}
+use Rattle.sbl_tree.specs.Order.{ItemInMode, in_mode, in_order}
 use Rattle.sbl_tree.specs.Tree as trees
 use Rattle.sbl_tree.specs.Tree.{bracket, simple_, literal_, name_, non_, prefixed, counted, move_, named, splice_, setlimit_, assign_, compare_, compare_values_, among_, no_rows, row, no_others, joined, no_starter, starter, bare, group, declaration, escapes, macro, routine, grouping, plain, backward}
 use Rattle.sbl_tree.specs.declared.mode.Mode.{Mode}
@@ -124,7 +123,7 @@ all_behind : (ns : Names) (xs : List ItemInMode) (fs : List Found) → AllByRecu
 all_behind ns [] fs s a = a
 all_behind ns (x ∷ xs) fs s a = all_behind ns xs (found_plain ns x.mode x.plain fs) s.1 (all_in_plain ns x.plain x.mode fs s.0 a)
 
-in_mode_sound : (m : Mode) (xs : List trees.Plain) (rest : List ItemInMode) → EachAmongOfPlains IsSound xs → AllByRecursion (λ x. EachAmongOfPlain IsSound x.plain) rest → AllByRecursion (λ x. EachAmongOfPlain IsSound x.plain) (in_mode m xs rest)
+in_mode_sound : (m : Mode) (xs : List trees.Plain) (rest : List ItemInMode) → EachAmongOfPlains IsSound xs → AllByRecursion (λ x. EachAmongOfPlain IsSound x.plain) rest → AllByRecursion (λ x. EachAmongOfPlain IsSound x.plain) (in_mode m xs ++ rest)
 in_mode_sound m [] rest s r = r
 in_mode_sound m (x ∷ xs) rest s r = (s.0, in_mode_sound m xs rest s.1 r)
 

@@ -1,6 +1,7 @@
 -- What a run of a script does: each command of its trees by what its parts do.
 use Rattle.std.specs.Prelude.{ℕ, ℤ, pos, negsuc, zero, suc, ◌+◌, ◌+ℤ◌, ◌-ℤ◌, ◌*ℤ◌, neg_ℤ, Bool, true, false, not, List, [], ◌∷◌, ◌++◌, length, map, take, replicate, nat_eq, int_lt, if◌then◌else◌, Option, Some, None, Ok, slice_get, slice_index_or, slice_set}
 use Rattle.std.specs.Ordering.{int_eq}
+use Rattle.sbl_tree.specs.Order.{in_order}
 use Rattle.sbl_tree.specs.declared.tree.Joiner.{Joiner}
 use Rattle.sbl_tree.specs.declared.tree.Joiner.TheVariants.{Or, And}
 use Rattle.sbl_tree.specs.declared.tree.Simple.{Simple}
@@ -30,7 +31,7 @@ use Rattle.sbl_tree.specs.Tree.{bracket, simple_, literal_, name_, non_, prefixe
 use Rattle.std.specs.Cmp.Lexicographic.{pointwise}
 use Rattle.sbl_tree.specs.declared.tree.DeclarationKind.TheVariants as kinds
 use Rattle.sbl_tables.specs.Fitting.{read_as, ahead_at}
-use Rattle.sbl_numbering.specs.Items.{Known, Body, is_among, place_of, body_named, class_of, classes_behind, in_order, known_in}
+use Rattle.sbl_numbering.specs.Items.{Known, Body, is_among, place_of, body_named, class_of, classes_behind, known_in}
 use Rattle.sbl_run.specs.Moves.{match, next, hop, at_limit, set_mark, at_mark, to_mark, set_boolean, test_boolean}
 use Rattle.sbl_run.specs.Numbers.{Value, natural, given, fitted, divided, with_value, with_both, limit_value, integer_at}
 use Rattle.sbl_numbering.specs.Regions.{Among, among_at, behind, behind_rows, behind_others, behind_starter, first, first_rows, first_others, mode_behind, waits, waits_others}

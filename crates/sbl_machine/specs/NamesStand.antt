@@ -1,8 +1,9 @@
 -- What the names of a script that is well declared stand for.
 use Rattle.std.specs.Prelude.{◌≡◌, ◌⊎◌, ℕ, true, List, ◌∷◌, ◌++◌, Some}
+use Rattle.sbl_tree.specs.Order.{ItemInMode, in_order}
 use Rattle.sbl_tree.specs.declared.tree.DeclarationKind.TheVariants as kinds
 use Rattle.sbl_tree.specs.declared.mode.Mode.{Mode}
-use Rattle.sbl_numbering.specs.Items.{ItemInMode, Body, body_named, known_in, in_order, is_among}
+use Rattle.sbl_numbering.specs.Items.{Body, body_named, known_in, is_among}
 use Rattle.sbl_checks.specs.Checks.{WellDeclared}
 use Rattle.sbl_checks.specs.Occurrences.{Occurrence, uses, occurrences_of}
 use Rattle.sbl_script.specs.Parsed.{Source}

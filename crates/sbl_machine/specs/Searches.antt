@@ -3,7 +3,7 @@ use Rattle.std.specs.Prelude.{◌↔◌, ℕ, List, []}
 use Rattle.std.specs.List.{AllByRecursion}
 use Rattle.sbl_tables.specs.Fitting.{fitting, read_all}
 use Rattle.sbl_tables.specs.Laws.{AllDiffer, Matches, StandsIn}
-use Rattle.sbl_numbering.specs.Items.{in_order}
+use Rattle.sbl_tree.specs.Order.{in_order}
 use Rattle.sbl_numbering.specs.Laws.{names_in}
 use Rattle.sbl_numbering.specs.NumberedAmongs.{Found, found_behind}
 use Rattle.sbl_checks.specs.Checks.{WellDeclared}

@@ -1,8 +1,8 @@
 -- The program of a routine, and the set of a grouping, by what the items say.
-use Rattle.std.proofs.Common.{◌≡◌, ℕ, List, [], option_map, sym, ap, ◌∙◌}
+use Rattle.std.proofs.Common.{◌≡◌, ℕ, List, [], option_map, refl, sym, ap, ◌∙◌}
 use Rattle.std.specs.Prelude.{slice_get, slice_index_or}
 use Rattle.sbl_numbering.specs.Ahead.{routines_in}
-use Rattle.sbl_numbering.specs.Items.{ItemInMode, in_order, known_in, class_of, classes_behind, body_named}
+use Rattle.sbl_numbering.specs.Items.{known_in, class_of, classes_behind, body_named}
 use Rattle.sbl_numbering.specs.Numbered.{numbered_items, plan_in, plan_with}
 use Rattle.sbl_numbering.specs.NumberedNames.{Names, names_behind, no_names, number_of}
 use Rattle.sbl_program.specs.Characters.{has}
@@ -10,7 +10,8 @@ use Rattle.sbl_numbering.specs.NumberedSets.{sets_behind}
 use Rattle.sbl_program.specs.Program as programs
 use Rattle.sbl_numbering.specs.Laws.{RoutineIsItsOwn, SetsAreClasses, names_in}
 use Rattle.sbl_numbering.proofs.OwnMade.{own_is_made}
-use Rattle.sbl_numbering.proofs.SoundItems.{placed_by, placed_is, groupings_are, routines_are, sets_are, as_made, body_at}
+use Rattle.sbl_numbering.proofs.SoundItems.{placed_by, groupings_are, routines_are, sets_are, as_made, body_at}
+use Rattle.sbl_tree.specs.Order.{ItemInMode, in_order}
 use Rattle.sbl_tree.specs.declared.tree.DeclarationKind.TheVariants as kinds
 use Rattle.sbl_tree.specs.Tree.{Item}
 
@@ -32,7 +33,7 @@ module _ (items : List ItemInMode) (external : List ℕ) where
 
 program_is : (items : List Item) (external : List ℕ) → numbered_items items external ≡ plan_in (in_order items) external
 unfolding numbered_items
-program_is items external = ap (λ placed. plan_in placed external) (placed_is items)
+program_is items external = refl
 
 pub routine_is_its_own : RoutineIsItsOwn
 routine_is_its_own s s' external external' n e h =

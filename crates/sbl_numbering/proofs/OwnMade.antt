@@ -1,11 +1,12 @@
 -- The program of each routine is that of its own tree: the list of the amongs of a script, and its routines.
 use Rattle.sbl_numbering.specs.Laws.{OwnIsMade}
 use Rattle.std.proofs.Common.{◌≡◌, ℕ, suc, false, List, [], ◌∷◌, ◌++◌, refl, sym, ap, ◌∙◌, length, ◌+◌, append_assoc, append-nil, arith}
+use Rattle.sbl_tree.specs.Order.{ItemInMode}
 use Rattle.sbl_tree.specs.declared.mode.Mode.{Mode}
 use Rattle.std.specs.Prelude.{◌-◌, None}
 use Rattle.sbl_numbering.specs.Ahead.{found_as, routine_made, routine_in, routines_in}
 use Rattle.sbl_numbering.specs.NumberedAmongs.{Found, found_of, found, found_rows, found_others, found_starter, found_groups, found_plain, found_behind}
-use Rattle.sbl_numbering.specs.NumberedNames.{Names, ItemInMode}
+use Rattle.sbl_numbering.specs.NumberedNames.{Names}
 use Rattle.sbl_numbering.specs.Regions.{among_at, mode_behind, behind, behind_rows, behind_others, behind_starter, behind_groups, waits}
 use Rattle.sbl_numbering.specs.Numbered.{Position, closed, past, past_body, past_plain, body_begun, routine_of, with_routine, routines_behind}
 use Rattle.sbl_program.specs.Program as programs

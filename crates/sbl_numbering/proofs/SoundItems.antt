@@ -4,39 +4,17 @@ use Rattle.std.specs.Prelude.{⊤, not, ◌&&◌, ◌||◌, nat_eq, nat_lt, if�
 use Rattle.std.specs.Str.{bytes_eq}
 use Rattle.std.proofs.lemmas.Bool.{eqb-true, lt-ltb, ltb-true, true≢false}
 use Rattle.std.proofs.lemmas.List.Folds.{list_any-append}
+use Rattle.sbl_tree.specs.Order.{ItemInMode}
 use Rattle.sbl_tree.specs.declared.tree.Additive.TheVariants.{Plus, Minus}
 use Rattle.sbl_tree.specs.declared.tree.DeclarationKind.TheVariants as kinds
-use Rattle.sbl_tree.specs.Tree.{Argument, written_out, by_name, Term, term, Item, Plain, declaration, escapes, macro, routine, grouping, plain, backward}
+use Rattle.sbl_tree.specs.Tree.{Argument, written_out, by_name, Term, term, Plain, declaration, escapes, macro, routine, grouping}
 use Rattle.sbl_numbering.specs.Ahead.{routine_made, routine_in, routines_in}
-use Rattle.sbl_numbering.specs.Items.{ItemInMode, in_order, is_among, place_of, names_by, known_in, Grouping, class_of, term_has, terms_have, and_grouping, classes_behind, Body, body_or, body_named}
-use Rattle.sbl_numbering.specs.NumberedNames.{Names, placed_in, placed, naming, names_behind, number_from, number_of, is_one_of}
+use Rattle.sbl_numbering.specs.Items.{is_among, place_of, names_by, known_in, Grouping, class_of, term_has, terms_have, and_grouping, classes_behind, Body, body_or, body_named}
+use Rattle.sbl_numbering.specs.NumberedNames.{Names, naming, names_behind, number_from, number_of, is_one_of}
 use Rattle.sbl_program.specs.Characters.{has}
 use Rattle.sbl_numbering.specs.NumberedSets.{united, lessened, characters_of, with_terms, with_set, sets_behind}
 use Rattle.sbl_program.specs.Program as programs
 use Rattle.sbl_tree.specs.declared.mode.Mode.{Mode}
-use Rattle.sbl_tree.specs.declared.mode.Mode.TheVariants.{Forward, Backward}
-
--- ---- items in order
-
--- items of this mode, before others
-abbrev pub in_mode : Mode → List Plain → List ItemInMode → List ItemInMode
-in_mode m xs rest = map (λ (x : Plain). record { mode = m; plain = x }) xs ++ rest
-
-in_mode_is : (m : Mode) (xs : List Plain) (sofar rest : List ItemInMode) → placed_in m xs sofar ++ rest ≡ sofar ++ in_mode m xs rest
-in_mode_is m [] sofar rest = refl
-in_mode_is m (x ∷ xs) sofar rest =
-    let p : ItemInMode = record { mode = m; plain = x } in
-    in_mode_is m xs (sofar ++ (p ∷ [])) rest ∙ append_assoc sofar (p ∷ []) (in_mode m xs rest)
-
-order_is : (is : List Item) (sofar : List ItemInMode) → placed is sofar ≡ sofar ++ in_order is
-order_is [] sofar = sym (append-nil sofar)
-order_is (plain x ∷ is) sofar =
-    let p : ItemInMode = record { mode = Forward; plain = x } in
-    order_is is (sofar ++ (p ∷ [])) ∙ append_assoc sofar (p ∷ []) (in_order is)
-order_is (backward xs ∷ is) sofar = order_is is (placed_in Backward xs sofar) ∙ in_mode_is Backward xs sofar (in_order is)
-
-pub placed_is : (is : List Item) → placed is [] ≡ in_order is
-placed_is is = order_is is []
 
 -- ---- names
 

@@ -1,5 +1,6 @@
 -- The program of a routine by its names, its mode and its own tree: a `substring` looks ahead for the next among of its region.
 use Rattle.std.specs.Prelude.{ℕ, suc, Bool, true, false, List, [], ◌∷◌, Option, Some, None}
+use Rattle.sbl_tree.specs.Order.{ItemInMode}
 use Rattle.sbl_tree.specs.declared.tree.Simple.{Simple}
 use Rattle.sbl_tree.specs.declared.tree.Simple.TheVariants as simples
 use Rattle.sbl_tree.specs.Tree as trees
@@ -8,7 +9,7 @@ use Rattle.sbl_program.specs.Listed.{listing}
 use Rattle.sbl_program.specs.Grouped.{join}
 use Rattle.sbl_numbering.specs.Numbered.{name_alone, behind_prefix, behind_count, move, change_named, edit, change_of, relation_of}
 use Rattle.sbl_numbering.specs.NumberedAmongs.{Found, strings_behind, entries_behind}
-use Rattle.sbl_numbering.specs.NumberedNames.{Names, ItemInMode, number_of}
+use Rattle.sbl_numbering.specs.NumberedNames.{Names, number_of}
 use Rattle.sbl_numbering.specs.NumberedNumbers.{expression, text}
 use Rattle.sbl_program.specs.Program as programs
 use Rattle.sbl_numbering.specs.Regions.{Among, among_at, behind, behind_rows, behind_others, behind_starter, first, first_rows, first_others, mode_behind, waits, waits_others}

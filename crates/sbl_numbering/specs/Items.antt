@@ -1,24 +1,13 @@
 -- What the items of a script say, by name.
-use Rattle.std.specs.Prelude.{ℕ, suc, Bool, true, false, not, ◌&&◌, ◌||◌, List, [], ◌∷◌, ◌++◌, map, nat_eq, if◌then◌else◌, Option, Some, None}
+use Rattle.std.specs.Prelude.{ℕ, suc, Bool, true, false, not, ◌&&◌, ◌||◌, List, [], ◌∷◌, ◌++◌, nat_eq, if◌then◌else◌, Option, Some, None}
 use Rattle.std.specs.List.{list_any, flat_map}
 use Rattle.std.specs.Str.{bytes_eq}
 use Rattle.sbl_tree.specs.declared.tree.Additive.TheVariants.{Plus, Minus}
 use Rattle.sbl_tree.specs.declared.tree.DeclarationKind.{DeclarationKind}
 use Rattle.sbl_tree.specs.declared.tree.DeclarationKind.TheVariants as kinds
-use Rattle.sbl_tree.specs.Tree.{Command, Others, Argument, written_out, by_name, Term, term, Item, Plain, declaration, routine, grouping, plain, backward}
+use Rattle.sbl_tree.specs.Order.{ItemInMode}
+use Rattle.sbl_tree.specs.Tree.{Command, Others, Argument, written_out, by_name, Term, term, Plain, declaration, routine, grouping}
 use Rattle.sbl_tree.specs.declared.mode.Mode.{Mode}
-use Rattle.sbl_tree.specs.declared.mode.Mode.TheVariants.{Forward, Backward}
-
--- an item with the mode in which it stands
-pub record ItemInMode : Type 0 where
-  pub mode : Mode
-  pub plain : Plain
-
--- the items in text order, those of a `backwardmode` in its place
-abbrev pub in_order : List Item → List ItemInMode
-in_order [] = []
-in_order (plain x ∷ is) = (record { mode = Forward; plain = x }) ∷ in_order is
-in_order (backward xs ∷ is) = map (λ (x : Plain). record { mode = Backward; plain = x }) xs ++ in_order is
 
 -- ---- names
 

@@ -1,12 +1,13 @@
 -- What is shown of the program of a script.
 use Rattle.std.specs.Prelude.{◌≡◌, ℕ, false, List, [], Option, slice_get, slice_index_or}
 use Rattle.sbl_numbering.specs.Ahead.{routines_in}
-use Rattle.sbl_numbering.specs.Items.{ItemInMode, body_named, class_of, classes_behind, in_order}
+use Rattle.sbl_numbering.specs.Items.{body_named, class_of, classes_behind}
 use Rattle.sbl_numbering.specs.Numbered.{numbered_items, routines_behind}
 use Rattle.sbl_numbering.specs.NumberedAmongs.{found_behind}
 use Rattle.sbl_numbering.specs.NumberedNames.{Names, names_behind, no_names, number_of}
 use Rattle.sbl_program.specs.Characters.{has}
 use Rattle.sbl_program.specs.Program.{Routine}
+use Rattle.sbl_tree.specs.Order.{ItemInMode, in_order}
 use Rattle.sbl_tree.specs.Tree.{Item}
 
 -- each routine is numbered by itself

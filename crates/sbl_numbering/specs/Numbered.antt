@@ -1,5 +1,6 @@
 -- The program of a script: numbers for names, each `substring` tied to its among, groupings as sets.
 use Rattle.std.specs.Prelude.{ℕ, ◌-◌, nat_lt, Bool, true, false, List, [], ◌∷◌, ◌++◌, length, drop, if◌then◌else◌}
+use Rattle.sbl_tree.specs.Order.{ItemInMode, in_order}
 use Rattle.sbl_tree.specs.declared.tree.Simple.{Simple}
 use Rattle.sbl_tree.specs.declared.tree.Simple.TheVariants as simples
 use Rattle.sbl_tree.specs.declared.tree.Prefix.{Prefix}
@@ -26,7 +27,7 @@ use Rattle.sbl_program.specs.declared.action.Relation.TheVariants as relations
 use Rattle.sbl_program.specs.Grouped.{JoinedView, joined_all}
 use Rattle.sbl_program.specs.Listed.{listing}
 use Rattle.sbl_numbering.specs.NumberedAmongs.{Found, found_behind}
-use Rattle.sbl_numbering.specs.NumberedNames.{Names, ItemInMode, is_one_of, names_behind, no_names, number_of, placed}
+use Rattle.sbl_numbering.specs.NumberedNames.{Names, is_one_of, names_behind, no_names, number_of}
 use Rattle.sbl_numbering.specs.NumberedNumbers.{expression, text}
 use Rattle.sbl_numbering.specs.NumberedSets.{sets_behind}
 use Rattle.sbl_program.specs.Program as programs
@@ -286,4 +287,4 @@ abbrev pub plan_in : List ItemInMode → List ℕ → programs.Program
 plan_in items external = plan_with (names_behind items no_names) items external
 
 unfoldable pub numbered_items : List trees.Item → List ℕ → programs.Program
-numbered_items items external = plan_in (placed items []) external
+numbered_items items external = plan_in (in_order items) external

@@ -1,11 +1,12 @@
 -- The amongs of a script in the order of their words `among`: the number of each in its routine, its strings and the mode of the place, and what stands beside each string.
 use Rattle.std.specs.Prelude.{ℕ, ◌+◌, ◌-◌, List, [], ◌∷◌, ◌++◌, length, Option, Some, None}
+use Rattle.sbl_tree.specs.Order.{ItemInMode}
 use Rattle.sbl_tree.specs.Tree as trees
 use Rattle.sbl_tree.specs.Tree.{bracket, simple_, literal_, name_, non_, prefixed, counted, move_, named, splice_, setlimit_, assign_, compare_, compare_values_, among_, no_rows, row, no_others, joined, no_starter, starter, bare, group, declaration, escapes, macro, routine, grouping}
 use Rattle.sbl_tree.specs.declared.mode.Mode.{Mode}
 use Rattle.sbl_program.specs.declared.node.Candidate.{Candidate}
 use Rattle.sbl_program.specs.Listed.{Listed, listing}
-use Rattle.sbl_numbering.specs.NumberedNames.{Names, ItemInMode, number_of}
+use Rattle.sbl_numbering.specs.NumberedNames.{Names, number_of}
 use Rattle.sbl_numbering.specs.Regions.{mode_behind}
 
 pub record Found : Type 0 where

@@ -1,23 +1,10 @@
 -- The names of a script by kind, and the number of each: its place among those of its kind.
 use Rattle.std.specs.Prelude.{ℕ, ◌+◌, Bool, List, [], ◌∷◌, ◌++◌, length, nat_lt, if◌then◌else◌}
 use Rattle.std.specs.Str.{bytes_eq}
+use Rattle.sbl_tree.specs.Order.{ItemInMode}
 use Rattle.sbl_tree.specs.declared.tree.DeclarationKind.{DeclarationKind}
 use Rattle.sbl_tree.specs.declared.tree.DeclarationKind.TheVariants as kinds
-use Rattle.sbl_tree.specs.Tree.{Item, Plain, declaration, escapes, macro, routine, grouping, plain, backward}
-pub use Rattle.sbl_numbering.specs.Items.{ItemInMode}
-use Rattle.sbl_tree.specs.declared.mode.Mode.{Mode}
-use Rattle.sbl_tree.specs.declared.mode.Mode.TheVariants.{Forward, Backward}
-
--- items of this mode, behind those so far
-abbrev pub placed_in : Mode → List Plain → List ItemInMode → List ItemInMode
-placed_in m [] sofar = sofar
-placed_in m (x ∷ xs) sofar = placed_in m xs (sofar ++ (record { mode = m; plain = x }) ∷ [])
-
--- the items in text order, those of a `backwardmode` in its place, behind those so far
-abbrev pub placed : List Item → List ItemInMode → List ItemInMode
-placed [] sofar = sofar
-placed (plain x ∷ is) sofar = placed is (sofar ++ (record { mode = Forward; plain = x }) ∷ [])
-placed (backward xs ∷ is) sofar = placed is (placed_in Backward xs sofar)
+use Rattle.sbl_tree.specs.Tree.{Plain, declaration, escapes, macro, routine, grouping}
 
 -- the variables in the order of their declarations, groupings and routines in that of their definitions; UTF-8 bytes
 pub record Names : Type 0 where

@@ -1,10 +1,11 @@
 -- The sets of the groupings: the terms from the left, each added or taken away.
 use Rattle.std.specs.Prelude.{ℕ, List, [], ◌∷◌, ◌++◌, if◌then◌else◌, slice_index_or}
+use Rattle.sbl_tree.specs.Order.{ItemInMode}
 use Rattle.sbl_tree.specs.declared.tree.Additive.{Additive}
 use Rattle.sbl_tree.specs.declared.tree.Additive.TheVariants.{Plus, Minus}
 use Rattle.sbl_tree.specs.Tree.{Argument, written_out, by_name, Term, term, Plain, declaration, escapes, macro, routine, grouping}
 use Rattle.sbl_program.specs.Characters.{has}
-use Rattle.sbl_numbering.specs.NumberedNames.{Names, ItemInMode, number_of}
+use Rattle.sbl_numbering.specs.NumberedNames.{Names, number_of}
 
 -- a set with more characters
 abbrev pub united : List ℕ → List ℕ → List ℕ

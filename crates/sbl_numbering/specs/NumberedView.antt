@@ -1,17 +1,12 @@
 -- The parts of the numbering without where they lie in memory.
 use Rattle.std.specs.Prelude.{List, map, drop, string_bytes}
-use Rattle.sbl_tree.specs.View.{view_plain}
 use Rattle.sbl_program.specs.declared.found.Found.{Found}
 use Rattle.sbl_numbering.specs.declared.names.Names.{Names}
-use Rattle.sbl_numbering.specs.declared.names.ItemInMode.{ItemInMode}
 use Rattle.sbl_program.specs.FoundView.{listing_found}
 use Rattle.sbl_numbering.specs.NumberedAmongs as amongs
 use Rattle.sbl_numbering.specs.NumberedNames as names
 use Rattle.sbl_numbering.specs.Numbered as numbered
 use Rattle.sbl_numbering.specs.declared.place.Position.{Position}
-
-abbrev pub view_placed : ItemInMode → names.ItemInMode
-view_placed p = record { mode = p.mode; plain = view_plain p.plain.now }
 
 abbrev pub view_names : Names → names.Names
 view_names n = record {

@@ -1,16 +1,17 @@
 //! The amongs of a script in the order of their words `among`.
 
 ghost use Rattle.std.specs.Prelude.{◌≡◌, ◌∷◌, ◌++◌, [], ◌-◌, List, ℕ, map, length, OnOk, IfOk, string_bytes};
+ghost use Rattle.sbl_tree.specs.Order.{view_in_mode};
 ghost use Rattle.sbl_tree.specs.View.{view_command, view_rows, view_row, view_others, view_among, view_starter, view_groups, view_entry, view_name, view_plain};
 ghost use Rattle.sbl_tree.specs.Tree as trees;
 ghost use Rattle.sbl_numbering.specs.NumberedAmongs as spec;
 ghost use Rattle.sbl_program.specs.FoundView.{texts};
-ghost use Rattle.sbl_numbering.specs.NumberedView.{view_names, view_placed, view_found};
+ghost use Rattle.sbl_numbering.specs.NumberedView.{view_names, view_found};
 ghost use Rattle.sbl_numbering.specs.Regions.{mode_behind as spec_mode_behind};
 
-use crate::names::{ItemInMode, Names, number_of};
+use crate::names::{Names, number_of};
 use sbl_program::{Candidate, Found};
-use sbl_tree::{Among, Command, Entry, Group, Joined, Mode, Plain, Prefix, Row};
+use sbl_tree::{Among, Command, Entry, Group, ItemInMode, Joined, Mode, Plain, Prefix, Row};
 use std::alloc::{AllocError, Global};
 
 // A copy of a string.
@@ -319,7 +320,7 @@ pub fn amongs_of(
     names: &Names,
     items: &[ItemInMode],
 ) -> Result<Vec<Found>, AllocError>
-    ensures { IfOk result (λ v. map view_found v.items ≡ spec.found_behind (view_names names.now) (map view_placed items.now) []) }
+    ensures { IfOk result (λ v. map view_found v.items ≡ spec.found_behind (view_names names.now) (map view_in_mode items.now) []) }
 {
     let mut all = Vec::new(alloc);
     for item in items {

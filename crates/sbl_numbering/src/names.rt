@@ -1,21 +1,13 @@
 //! The names of a script by kind, and the number of each.
 
 ghost use Rattle.std.specs.Prelude.{◌≡◌, ◌∷◌, ◌++◌, [], List, map, length, nat_lt, OnOk, IfOk, string_bytes};
-ghost use Rattle.sbl_tree.specs.View.{view_items, view_plain};
+ghost use Rattle.sbl_tree.specs.Order.{view_in_mode};
+ghost use Rattle.sbl_tree.specs.View.{view_plain};
 ghost use Rattle.sbl_numbering.specs.NumberedNames as spec;
-ghost use Rattle.sbl_numbering.specs.NumberedView.{view_names, view_placed};
+ghost use Rattle.sbl_numbering.specs.NumberedView.{view_names};
 
-use sbl_tree::{DeclarationKind, Item, Mode, Plain};
+use sbl_tree::{DeclarationKind, ItemInMode, Plain};
 use std::alloc::{AllocError, Global};
-
-/// An item with the mode in which it stands.
-#[derive(Clone, Copy)]
-pub struct ItemInMode<'a> {
-    /// The mode.
-    pub mode: Mode,
-    /// The item.
-    pub plain: &'a Plain,
-}
 
 /// The names of a script: variables in the order of their declarations, groupings and routines in that of their
 /// definitions.
@@ -31,44 +23,6 @@ pub struct Names {
     pub groupings: Vec<String>,
     /// The routines.
     pub routines: Vec<String>,
-}
-
-// Items of this mode, behind those so far.
-fn place_in<'a>(
-    mode: Mode,
-    plains: &'a Vec<Plain>,
-    all: &mut Vec<ItemInMode<'a>>,
-) -> Result<(), AllocError>
-    ensures { OnOk result (map view_placed all.new.items ≡ spec.placed_in mode (map view_plain plains.now.items) (map view_placed all.old.items)) }
-{
-    for plain in plains {
-        all.push(ItemInMode { mode, plain })?;
-    }
-    Ok(())
-}
-
-fn place_forward<'a>(plain: &'a Plain, all: &mut Vec<ItemInMode<'a>>) -> Result<(), AllocError>
-    ensures { OnOk result (map view_placed all.new.items ≡ spec.placed_in Mode.Forward (view_plain plain.now ∷ []) (map view_placed all.old.items)) }
-{
-    all.push(ItemInMode {
-        mode: Mode::Forward,
-        plain,
-    })?;
-    Ok(())
-}
-
-/// The items in text order, those of a `backwardmode` in its place.
-pub fn place_all<'a>(alloc: Global, items: &'a [Item]) -> Result<Vec<ItemInMode<'a>>, AllocError>
-    ensures { IfOk result (λ all. map view_placed all.items ≡ spec.placed (view_items items.now) []) }
-{
-    let mut all = Vec::new(alloc);
-    for item in items {
-        match item {
-            Item::Plain(plain) => place_forward(plain, &mut all)?,
-            Item::BackwardMode(plains) => place_in(Mode::Backward, plains, &mut all)?,
-        }
-    }
-    Ok(all)
 }
 
 // A name behind others.
@@ -128,7 +82,7 @@ fn name_item(alloc: Global, plain: &Plain, names: &mut Names) -> Result<(), Allo
 
 /// The names of a script.
 pub fn names_of(alloc: Global, items: &[ItemInMode]) -> Result<Names, AllocError>
-    ensures { IfOk result (λ names. view_names names ≡ spec.names_behind (map view_placed items.now) spec.no_names) }
+    ensures { IfOk result (λ names. view_names names ≡ spec.names_behind (map view_in_mode items.now) spec.no_names) }
 {
     let mut names = Names {
         strings: Vec::new(alloc),

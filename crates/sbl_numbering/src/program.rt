@@ -1,21 +1,22 @@
 //! The program of a script.
 
 ghost use Rattle.std.specs.Prelude.{◌≡◌, [], false, map, length, OnOk, IfOk, string_bytes};
+ghost use Rattle.sbl_tree.specs.Order.{in_order, view_in_mode};
 ghost use Rattle.sbl_tree.specs.View.{view_items, view_plain, view_row};
-ghost use Rattle.sbl_numbering.specs.Items.{in_order, known_in};
+ghost use Rattle.sbl_numbering.specs.Items.{known_in};
 ghost use Rattle.sbl_tree.specs.declared.tree.DeclarationKind.TheVariants as kinds;
 ghost use Rattle.sbl_numbering.specs.Numbered as spec;
 ghost use Rattle.sbl_program.specs.FoundView.{strings_at};
-ghost use Rattle.sbl_numbering.specs.NumberedView.{view_found, view_names, view_place, view_placed};
+ghost use Rattle.sbl_numbering.specs.NumberedView.{view_found, view_names, view_place};
 ghost use Rattle.sbl_program.specs.ProgramOf.{program_of, view_routine};
 
 use crate::amongs::amongs_of;
 use crate::commands::row_of;
-use crate::names::{ItemInMode, Names, names_of, number_of, place_all};
+use crate::names::{Names, names_of, number_of};
 use crate::place::{Position, begun, closed, left_of, past_row};
 use crate::sets::sets_of;
 use sbl_program::{Found, Program, Routine};
-use sbl_tree::{Item, Plain, Row};
+use sbl_tree::{Item, ItemInMode, Plain, Row, items_in_order};
 use std::alloc::{AllocError, Global};
 
 fn routine_of(
@@ -62,7 +63,7 @@ fn routines_of(
     items: &[ItemInMode],
     amongs: &Vec<Found>,
 ) -> Result<Vec<Routine>, AllocError>
-    ensures { IfOk result (λ v. map (view_routine (strings_at amongs.now.items)) v.items ≡ spec.routines_behind (view_names names.now) (map view_placed items.now) (view_place amongs.now.items (record { next = 0; behind = 0; waits = false })) []) }
+    ensures { IfOk result (λ v. map (view_routine (strings_at amongs.now.items)) v.items ≡ spec.routines_behind (view_names names.now) (map view_in_mode items.now) (view_place amongs.now.items (record { next = 0; behind = 0; waits = false })) []) }
 {
     let mut place = Position {
         next: 0,
@@ -83,7 +84,7 @@ fn program_by(
     amongs: &Vec<Found>,
     external: &str,
 ) -> Result<Program, AllocError>
-    ensures { IfOk result (λ p. program_of (strings_at amongs.now.items) p ≡ spec.program_by (view_names names.now) (map view_placed items.now) (map view_found amongs.now.items) external.now) }
+    ensures { IfOk result (λ p. program_of (strings_at amongs.now.items) p ≡ spec.program_by (view_names names.now) (map view_in_mode items.now) (map view_found amongs.now.items) external.now) }
 {
     let groupings = sets_of(alloc, names, items)?;
     let routines = routines_of(alloc, names, items, amongs)?;
@@ -113,10 +114,10 @@ pub fn numbered(alloc: Global, items: &[Item], external: &str) -> Result<Made, A
     ensures program { IfOk result (λ n. program_of (strings_at n.amongs.items) n.program ≡ spec.numbered_items (view_items items.now) external.now) }
     ensures routines { IfOk result (λ n. map string_bytes n.routines.items ≡ known_in (in_order (view_items items.now)) kinds.Routines) }
 {
-    let placed = place_all(alloc, items)?;
-    let names = names_of(alloc, &placed)?;
-    let amongs = amongs_of(alloc, &names, &placed)?;
-    let program = program_by(alloc, &names, &placed, &amongs, external)?;
+    let in_order = items_in_order(alloc, items)?;
+    let names = names_of(alloc, &in_order)?;
+    let amongs = amongs_of(alloc, &names, &in_order)?;
+    let program = program_by(alloc, &names, &in_order, &amongs, external)?;
     let Names { routines, .. } = names;
     Ok(Made {
         program,

@@ -1,13 +1,14 @@
 //! The sets of the groupings.
 
 ghost use Rattle.std.specs.Prelude.{◌≡◌, ◌∷◌, ◌++◌, [], List, map, length, OnOk, IfOk};
+ghost use Rattle.sbl_tree.specs.Order.{view_in_mode};
 ghost use Rattle.sbl_tree.specs.View.{view_argument, view_plain, view_term};
 ghost use Rattle.sbl_numbering.specs.NumberedSets as spec;
-ghost use Rattle.sbl_numbering.specs.NumberedView.{view_names, view_placed};
+ghost use Rattle.sbl_numbering.specs.NumberedView.{view_names};
 
-use crate::names::{ItemInMode, Names, number_of};
+use crate::names::{Names, number_of};
 use sbl_program::CharacterSet;
-use sbl_tree::{Additive, Argument, Plain, Term};
+use sbl_tree::{Additive, Argument, ItemInMode, Plain, Term};
 use std::alloc::{AllocError, Global};
 
 // Adds characters to a set.
@@ -137,7 +138,7 @@ pub fn sets_of(
     names: &Names,
     items: &[ItemInMode],
 ) -> Result<Vec<CharacterSet>, AllocError>
-    ensures { IfOk result (λ sets. sets.items ≡ spec.sets_behind (view_names names.now) (map view_placed items.now) []) }
+    ensures { IfOk result (λ sets. sets.items ≡ spec.sets_behind (view_names names.now) (map view_in_mode items.now) []) }
 {
     let mut sets = Vec::new(alloc);
     for item in items {

@@ -1,5 +1,5 @@
 -- The items before a routine and behind it, where it has another body.
-use Rattle.std.proofs.Common.{◌≡◌, ℕ, ◌+◌, Bool, true, false, cond, ◌||◌, List, [], ◌∷◌, ◌++◌, length, Option, Some, None, is_some, refl, sym, ap, ◌∙◌, append_assoc, append-nil, arith}
+use Rattle.std.proofs.Common.{◌≡◌, ℕ, ◌+◌, Bool, true, false, cond, ◌||◌, List, [], ◌∷◌, ◌++◌, length, Option, Some, None, is_some, refl, sym, ap, ◌∙◌, arith}
 use Rattle.std.specs.List.{list_any}
 use Rattle.std.specs.Option.{option_or}
 use Rattle.std.specs.Str.{bytes_eq}
@@ -7,34 +7,11 @@ use Rattle.std.proofs.lemmas.Slice.Eq.{bytes_eq-Decides}
 use Rattle.sbl_tree.specs.declared.mode.Mode.{Mode}
 use Rattle.sbl_tree.specs.declared.mode.Mode.TheVariants.{Forward, Backward}
 use Rattle.sbl_tree.specs.Tree.{Command, Others, Plain, declaration, escapes, macro, routine, grouping, Item, plain, backward}
+use Rattle.sbl_tree.specs.Order.{ItemInMode, in_mode, in_order}
 use Rattle.sbl_tree.specs.View.{RowView}
-use Rattle.sbl_checks.specs.Occurrences.{ItemInMode, in_mode, in_order}
 use Rattle.sbl_checks.specs.Bodies.{body_in}
 use Rattle.sbl_script.specs.Edits.{is_routine, body_if, routine_in, routine_of, plains_with, items_with}
 use Rattle.sbl_script.specs.OnlyTheItem.{number_from}
-
--- ---- text order, with what stands behind
-
-abbrev in_front : Mode → List Plain → List ItemInMode → List ItemInMode
-in_front m [] rest = rest
-in_front m (x ∷ xs) rest = (record { mode = m; plain = x }) ∷ in_front m xs rest
-
-abbrev pub ordered : List Item → List ItemInMode
-ordered [] = []
-ordered (plain x ∷ is) = (record { mode = Forward; plain = x }) ∷ ordered is
-ordered (backward xs ∷ is) = in_front Backward xs (ordered is)
-
-mode_front : (m : Mode) (xs : List Plain) (sofar rest : List ItemInMode) → in_mode m xs sofar ++ rest ≡ sofar ++ in_front m xs rest
-mode_front m [] sofar rest = refl
-mode_front m (x ∷ xs) sofar rest = mode_front m xs (sofar ++ (record { mode = m; plain = x }) ∷ []) rest ∙ append_assoc sofar ((record { mode = m; plain = x }) ∷ []) (in_front m xs rest)
-
-order_front : (is : List Item) (sofar : List ItemInMode) → in_order is sofar ≡ sofar ++ ordered is
-order_front [] sofar = sym (append-nil sofar)
-order_front (plain x ∷ is) sofar = order_front is (sofar ++ (record { mode = Forward; plain = x }) ∷ []) ∙ append_assoc sofar ((record { mode = Forward; plain = x }) ∷ []) (ordered is)
-order_front (backward xs ∷ is) sofar = order_front is (in_mode Backward xs sofar) ∙ mode_front Backward xs sofar (ordered is)
-
-pub in_text_order : (is : List Item) → in_order is [] ≡ ordered is
-in_text_order is = order_front is []
 
 -- ---- the routine, and what stands round it
 
@@ -97,41 +74,41 @@ module _ (n : List ℕ) (b : RowView) where
     number = λ i. ap (λ k. cond k (Some i) (number_from n xs (i + 1))) e ∙ p.number (i + 1) ∙ ap Some (omega arith);
   }
 
-  in_plains : (xs : List Plain) (rest : List ItemInMode) → list_any (is_routine n) xs ≡ true → Parts n b (in_front Backward xs rest) (in_front Backward (plains_with n b xs) rest)
+  in_plains : (xs : List Plain) (rest : List ItemInMode) → list_any (is_routine n) xs ≡ true → Parts n b (in_mode Backward xs ++ rest) (in_mode Backward (plains_with n b xs) ++ rest)
   in_plains [] rest e = absurd cc
   in_plains (x ∷ xs) rest e = at (is_routine n x) refl e (λ g. in_plains xs rest g) where
     at : (k : Bool) → is_routine n x ≡ k → (k || list_any (is_routine n) xs) ≡ true
-        → (list_any (is_routine n) xs ≡ true → Parts n b (in_front Backward xs rest) (in_front Backward (plains_with n b xs) rest))
-        → Parts n b (in_front Backward (x ∷ xs) rest) (in_front Backward (cond k (routine n b.0 b.1 ∷ xs) (x ∷ plains_with n b xs)) rest)
-    at true h g more = here Backward x (in_front Backward xs rest) h
-    at false h g more = later (record { mode = Backward; plain = x }) (in_front Backward xs rest) (in_front Backward (plains_with n b xs) rest) h (more g)
+        → (list_any (is_routine n) xs ≡ true → Parts n b (in_mode Backward xs ++ rest) (in_mode Backward (plains_with n b xs) ++ rest))
+        → Parts n b (in_mode Backward (x ∷ xs) ++ rest) (in_mode Backward (cond k (routine n b.0 b.1 ∷ xs) (x ∷ plains_with n b xs)) ++ rest)
+    at true h g more = here Backward x (in_mode Backward xs ++ rest) h
+    at false h g more = later (record { mode = Backward; plain = x }) (in_mode Backward xs ++ rest) (in_mode Backward (plains_with n b xs) ++ rest) h (more g)
 
-  behind_plains : (xs : List Plain) (rest other : List ItemInMode) → list_any (is_routine n) xs ≡ false → Parts n b rest other → Parts n b (in_front Backward xs rest) (in_front Backward xs other)
+  behind_plains : (xs : List Plain) (rest other : List ItemInMode) → list_any (is_routine n) xs ≡ false → Parts n b rest other → Parts n b (in_mode Backward xs ++ rest) (in_mode Backward xs ++ other)
   behind_plains [] rest other e p = p
   behind_plains (x ∷ xs) rest other e p = at (is_routine n x) refl e (λ g. behind_plains xs rest other g p) where
     at : (k : Bool) → is_routine n x ≡ k → (k || list_any (is_routine n) xs) ≡ false
-        → (list_any (is_routine n) xs ≡ false → Parts n b (in_front Backward xs rest) (in_front Backward xs other)) → Parts n b (in_front Backward (x ∷ xs) rest) (in_front Backward (x ∷ xs) other)
+        → (list_any (is_routine n) xs ≡ false → Parts n b (in_mode Backward xs ++ rest) (in_mode Backward xs ++ other)) → Parts n b (in_mode Backward (x ∷ xs) ++ rest) (in_mode Backward (x ∷ xs) ++ other)
     at true h g more = absurd cc
-    at false h g more = later (record { mode = Backward; plain = x }) (in_front Backward xs rest) (in_front Backward xs other) h (more g)
+    at false h g more = later (record { mode = Backward; plain = x }) (in_mode Backward xs ++ rest) (in_mode Backward xs ++ other) h (more g)
 
-  pub parts_of : (is : List Item) → is_some (routine_of n is) ≡ true → Parts n b (ordered is) (ordered (items_with n b is))
+  pub parts_of : (is : List Item) → is_some (routine_of n is) ≡ true → Parts n b (in_order is) (in_order (items_with n b is))
   parts_of [] e = absurd cc
   parts_of (plain x ∷ is) e = at (is_routine n x) refl (λ g. parts_of is g) where
     rest : is_routine n x ≡ false → is_some (routine_of n is) ≡ true
     rest h = sym (ap (λ o. is_some (option_or o (routine_of n is))) (body_none n x h)) ∙ e
 
-    at : (k : Bool) → is_routine n x ≡ k → (is_some (routine_of n is) ≡ true → Parts n b (ordered is) (ordered (items_with n b is)))
-        → Parts n b (ordered (plain x ∷ is)) (ordered (cond k (plain (routine n b.0 b.1) ∷ is) (plain x ∷ items_with n b is)))
-    at true h more = here Forward x (ordered is) h
-    at false h more = later (record { mode = Forward; plain = x }) (ordered is) (ordered (items_with n b is)) h (more (rest h))
+    at : (k : Bool) → is_routine n x ≡ k → (is_some (routine_of n is) ≡ true → Parts n b (in_order is) (in_order (items_with n b is)))
+        → Parts n b (in_order (plain x ∷ is)) (in_order (cond k (plain (routine n b.0 b.1) ∷ is) (plain x ∷ items_with n b is)))
+    at true h more = here Forward x (in_order is) h
+    at false h more = later (record { mode = Forward; plain = x }) (in_order is) (in_order (items_with n b is)) h (more (rest h))
   parts_of (backward xs ∷ is) e = at (list_any (is_routine n) xs) refl (λ g. parts_of is g) where
     rest : list_any (is_routine n) xs ≡ false → is_some (routine_of n is) ≡ true
     rest h = sym (ap (λ o. is_some (option_or o (routine_of n is))) (none_in n xs h)) ∙ e
 
-    at : (k : Bool) → list_any (is_routine n) xs ≡ k → (is_some (routine_of n is) ≡ true → Parts n b (ordered is) (ordered (items_with n b is)))
-        → Parts n b (ordered (backward xs ∷ is)) (ordered (cond k (backward (plains_with n b xs) ∷ is) (backward xs ∷ items_with n b is)))
-    at true h more = in_plains xs (ordered is) h
-    at false h more = behind_plains xs (ordered is) (ordered (items_with n b is)) h (more (rest h))
+    at : (k : Bool) → list_any (is_routine n) xs ≡ k → (is_some (routine_of n is) ≡ true → Parts n b (in_order is) (in_order (items_with n b is)))
+        → Parts n b (in_order (backward xs ∷ is)) (in_order (cond k (backward (plains_with n b xs) ∷ is) (backward xs ∷ items_with n b is)))
+    at true h more = in_plains xs (in_order is) h
+    at false h more = behind_plains xs (in_order is) (in_order (items_with n b is)) h (more (rest h))
 
   -- a routine that is defined in forward mode is so still
   pub still_defined : (is : List Item) (x : List ℕ) → is_some (body_in x (items_with n b is)) ≡ is_some (body_in x is)

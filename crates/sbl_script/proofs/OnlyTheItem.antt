@@ -6,6 +6,7 @@ use Rattle.std.proofs.lemmas.List.Folds.{list_any-append}
 use Rattle.sbl_text.specs.declared.fault.ScriptFault.{ScriptFault}
 use Rattle.sbl_text.specs.declared.fault.ScriptFault.TheVariants as fault
 use Rattle.sbl_text.specs.Tokens.{Placed}
+use Rattle.sbl_tree.specs.Order.{in_order}
 use Rattle.sbl_tree.specs.Tree.{routine, Item}
 use Rattle.sbl_tree.specs.View.{RowView}
 use Rattle.sbl_checks.specs.declared.occurrences.Site.{Site}
@@ -15,13 +16,13 @@ use Rattle.sbl_checks.specs.Bodies.{body_in}
 use Rattle.sbl_checks.specs.Checks.{declared_as, kind_of, defined_at, definition_of, waits_after, is_awaited, is_text, is_text_of, has_text, is_external, has_external, fault_at, fault_of, WellDeclared}
 use Rattle.sbl_checks.specs.Laws.{EachPasses, IsFirst}
 use Rattle.sbl_script.specs.Edits.{ScriptEdit, Home, home, home_in, routine_name, routine_of, items_with, state_before, IsFaultAt, IsCheckFaultWith}
-use Rattle.sbl_script.specs.OnlyTheItem.{item_of, number_from, number_of, OnlyTheItem, ExternalStays}
+use Rattle.sbl_script.specs.OnlyTheItem.{item_of, number_of, OnlyTheItem, ExternalStays}
 use Rattle.sbl_checks.proofs.FirstFault as first
 use Rattle.sbl_script.proofs.Own.{Each, is_quiet, IsOfCommand, RoutineParts, routine_parts}
 use Rattle.sbl_script.proofs.RoundItem.{Closed, followed_same, decided_at, own, InItem, NotBefore, routine_sites, items_closed, items_sites, round_item}
 use Rattle.sbl_script.proofs.TextFaults.{is_checked, text_fault, unread}
 use Rattle.sbl_script.proofs.SameFaults.{Same, same_fault, item_told}
-use Rattle.sbl_script.proofs.ItemParts.{ordered, in_text_order, Parts, the_routine, parts_of, still_defined}
+use Rattle.sbl_script.proofs.ItemParts.{Parts, the_routine, parts_of, still_defined}
 
 -- ---- some occurrences behind others
 
@@ -226,11 +227,11 @@ module _ (items : List Item) (external : List ℕ) (n : List ℕ) (b : RowView) 
   abbrev edited : List Item
   edited = items_with n b items
 
-  parts : Parts n b (ordered items) (ordered edited)
+  parts : Parts n b (in_order items) (in_order edited)
   parts = parts_of n b items there
 
-  told : (q : Parts n b (ordered items) (ordered edited)) (f : ScriptFault) → fault_of edited external ≡ Some f → (i : ℕ) × (item_of f ≡ Some i) × (number_of n items ≡ Some i)
-  told q f bad = (i, at (first.fault_is_first edited external f bad), ap (λ l. number_from n l 1) (in_text_order items) ∙ q.number 1)
+  told : (q : Parts n b (in_order items) (in_order edited)) (f : ScriptFault) → fault_of edited external ≡ Some f → (i : ℕ) × (item_of f ≡ Some i) × (number_of n items ≡ Some i)
+  told q f bad = (i, at (first.fault_is_first edited external f bad), q.number 1)
     where
       i : ℕ
       i = 1 + length q.before
@@ -251,10 +252,10 @@ module _ (items : List Item) (external : List ℕ) (n : List ℕ) (b : RowView) 
       rest = noted_items q.after (1 + length q.before + 1) []
 
       old_is : occurrences_of items ≡ front ++ (mine ++ rest)
-      old_is = ap (λ l. noted_items l 1 []) (in_text_order items ∙ q.old) ∙ round_item q.before (the_routine q.mode n q.first q.others) q.after
+      old_is = ap (λ l. noted_items l 1 []) q.old ∙ round_item q.before (the_routine q.mode n q.first q.others) q.after
 
       new_is : occurrences_of edited ≡ front ++ (other ++ rest)
-      new_is = ap (λ l. noted_items l 1 []) (in_text_order edited ∙ q.new) ∙ round_item q.before (the_routine q.mode n b.0 b.1) q.after
+      new_is = ap (λ l. noted_items l 1 []) q.new ∙ round_item q.before (the_routine q.mode n b.0 b.1) q.after
 
       two : Alike (1 + length q.before) mine other
       two = alike n p mine other (routine_parts n q.first q.others p) (routine_parts n b.0 b.1 p)

@@ -2,9 +2,9 @@
 use Rattle.std.specs.Prelude.{◌≡◌, ℕ, ◌+◌, List, [], ◌∷◌, Option, Some, None, if◌then◌else◌}
 use Rattle.sbl_text.specs.declared.fault.ScriptFault.{ScriptFault}
 use Rattle.sbl_text.specs.declared.fault.ScriptFault.TheVariants as fault
+use Rattle.sbl_tree.specs.Order.{ItemInMode, in_order}
 use Rattle.sbl_tree.specs.Tree.{Item}
 use Rattle.sbl_script.specs.declared.edit_fault.EditFault.TheVariants as edits
-use Rattle.sbl_checks.specs.Occurrences.{ItemInMode, in_order}
 use Rattle.sbl_script.specs.Parsed.{Source}
 use Rattle.sbl_checks.specs.Checks.{WellDeclared}
 use Rattle.sbl_script.specs.Edits.{ScriptEdit, is_routine, routine_name, IsEditFault}
@@ -31,7 +31,7 @@ number_from n (x ∷ xs) i = if is_routine n x.plain then Some i else number_fro
 
 -- the number of the item that holds the routine of this name: items are counted from 1 in text order, a backwardmode is not, but its items are
 abbrev pub number_of : List ℕ → List Item → Option ℕ
-number_of n items = number_from n (in_order items []) 1
+number_of n items = number_from n (in_order items) 1
 
 -- in a script that is well declared a fault of an edit that tells an item tells the one that holds the routine that is changed
 abbrev pub OnlyTheItem : Type 0

@@ -2,6 +2,7 @@
 pub mod Terminal
 pub mod Tree
 pub mod View
+pub mod Order
 pub mod Places
 pub mod Texts
 pub mod Counts

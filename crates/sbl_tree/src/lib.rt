@@ -1,8 +1,10 @@
-//! The trees of Snowball scripts, the tokens that each is written with, copies of trees, and the two modes.
+//! The trees of Snowball scripts, the tokens that each is written with, copies of trees, the two modes, and the items of a
+//! script in order.
 #![tactic(auto)]
 
 mod copies;
 mod mode;
+mod order;
 mod tree;
 
 pub use copies::{
@@ -10,6 +12,7 @@ pub use copies::{
     copy_literal, copy_name, copy_names, copy_plain, copy_row, copy_terms,
 };
 pub use mode::Mode;
+pub use order::{ItemInMode, items_in_order};
 pub use tree::{
     Added, Additive, Among, Argument, Assignment, Base, Command, Comparison, Constant, Count,
     DeclarationKind, Entry, Expression, Factor, Group, Item, Joined, Joiner, Literal, Move,

@@ -1,6 +1,7 @@
 use Rattle.std.proofs.Common.{◌≡◌, drop, map, ◌+◌}
 use Rattle.sbl_checks.specs.Occurrences.{noted_items}
-use Rattle.sbl_checks.specs.OccurrenceView.{view_occurrences, view_in_mode}
+use Rattle.sbl_checks.specs.OccurrenceView.{view_occurrences}
+use Rattle.sbl_tree.specs.Order.{view_in_mode}
 use Rattle.sbl_checks.proofs.noting.note_in_order.Given as goal
 
 abbrev pub invariant-loop-one : goal.invariant-loop-one

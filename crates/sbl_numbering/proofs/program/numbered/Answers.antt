@@ -1,10 +1,9 @@
 use Rattle.std.proofs.Common.{◌≡◌, rules, map, ap, ◌∙◌}
+use Rattle.sbl_tree.specs.Order.{in_order, view_in_mode}
 use Rattle.sbl_tree.specs.View.{view_items}
-use Rattle.sbl_numbering.specs.Items.{in_order}
 use Rattle.sbl_numbering.specs.Numbered.{numbered_items}
 use Rattle.sbl_numbering.specs.NumberedNames.{Names, names_behind, no_names}
-use Rattle.sbl_numbering.specs.NumberedView.{view_placed}
-use Rattle.sbl_numbering.proofs.SoundItems.{placed_is, routines_are}
+use Rattle.sbl_numbering.proofs.SoundItems.{routines_are}
 use Rattle.sbl_numbering.proofs.program.numbered.Goals as goal
 
 pub returns-clause-program : goal.returns-clause-program
@@ -14,7 +13,7 @@ returns-clause-program c = search rules
 pub returns-clause-routines : goal.returns-clause-routines
 returns-clause-routines c =
     let items = view_items c.args.items.now in
-    let placed : map view_placed c.deref.result.now ≡ in_order items = search (placed_is, rules) in
+    let ordered : map view_in_mode c.deref.result.now ≡ in_order items = search rules in
     ap (λ (ns : Names). ns.routines) c.in_ok-names.ensures
-    ∙ ap (λ xs. (names_behind xs no_names).routines) placed
+    ∙ ap (λ xs. (names_behind xs no_names).routines) ordered
     ∙ routines_are (in_order items) no_names

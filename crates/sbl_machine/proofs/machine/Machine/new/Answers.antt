@@ -1,6 +1,7 @@
 use Rattle.std.proofs.Common.{map, ap, ◌∙◌, ℕ}
+use Rattle.sbl_tree.specs.Order.{in_order}
 use Rattle.sbl_tree.specs.declared.tree.DeclarationKind.TheVariants as kinds
-use Rattle.sbl_numbering.specs.Items.{in_order, known_in}
+use Rattle.sbl_numbering.specs.Items.{known_in}
 use Rattle.sbl_program.specs.Listed.{Listed}
 use Rattle.sbl_numbering.specs.Numbered.{numbered_items}
 use Rattle.sbl_machine.specs.MachineOf.{IsMachineOf}
