@@ -88,10 +88,10 @@ ties_fall rows up j k a b u l text_j text_k at_j at_k =
     omega (arith, down, na, nb)
 
 -- a row in its place among the numbered ones
-abbrev ItemInMode : List (List ℕ) → Row → Type 0
-ItemInMode strings r = slice_get strings r.1.0 ≡ Some r.0.items
+abbrev IsItsString : List (List ℕ) → Row → Type 0
+IsItsString strings r = slice_get strings r.1.0 ≡ Some r.0.items
 
-placed : (strings : List (List ℕ)) (rows : List Row) → texts_of rows ≡ strings → AreOwn (numbers_of rows) → All (ItemInMode strings) rows
+placed : (strings : List (List ℕ)) (rows : List Row) → texts_of rows ≡ strings → AreOwn (numbers_of rows) → All (IsItsString strings) rows
 placed strings rows texts own k d l =
     let r = get_or rows k d in
     let at : slice_get rows k ≡ Some r = slice_get-get_or rows k d l in
@@ -110,7 +110,7 @@ rows_are strings rows sorted texts own moved up = record {
       let same : s.0 ≡ r.0 = cc in
       let number : r.0.1.0 ≡ i = ap (λ (y : Row). y.1.0) (sym same) ∙ s.2 in
       let here : get_or sorted k r.0 ≡ r.0 = get_or_from_slice_get sorted k r.0 r.0 r.1 in
-      let p : ItemInMode strings (get_or sorted k r.0) = All-permutation (ItemInMode strings) rows sorted moved (placed strings rows texts own) k r.0 (slice_get_within sorted k r.0 r.1) in
+      let p : IsItsString strings (get_or sorted k r.0) = All-permutation (IsItsString strings) rows sorted moved (placed strings rows texts own) k r.0 (slice_get_within sorted k r.0 r.1) in
       let p2 : slice_get strings r.0.1.0 ≡ Some r.0.0.items = ap (λ (y : Row). slice_get strings y.1.0) (sym here) ∙ p ∙ ap (λ (y : Row). Some y.0.items) here in
       ap (slice_get strings) (sym number) ∙ p2 ∙ ap Some r.2;
   all = λ i u at.
