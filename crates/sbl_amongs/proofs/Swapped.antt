@@ -1,5 +1,5 @@
 -- Part by part: with another among in the place of one, its tokens are others, and the tokens before it and behind it stay.
-use Rattle.std.proofs.Common.{◌≡◌, ℕ, ◌+◌, ◌-◌, Bool, true, false, nat_eq, List, [], ◌∷◌, ◌++◌, Option, Some, None, if◌then◌else◌, refl, sym, ap, subst, ◌∙◌, arith}
+use Rattle.std.proofs.Common.{◌≡◌, ℕ, ◌+◌, ◌-◌, Bool, true, false, nat_eq, List, [], ◌∷◌, Option, Some, None, if◌then◌else◌, refl, sym, ap, subst, ◌∙◌, arith}
 use Rattle.sbl_tree.specs.Tree.{Command, bracket, simple_, literal_, name_, non_, prefixed, counted, move_, named, splice_, setlimit_, assign_, compare_, compare_values_, among_, Rows, no_rows, row, Others, no_others, joined, Starter, no_starter, starter, Groups, bare, group}
 use Rattle.sbl_tree.specs.Terminal as t
 use Rattle.sbl_tree.specs.Counts.{count_amongs, count_in_rows, count_in_others, count_in_starter, count_in_groups}
@@ -7,8 +7,9 @@ use Rattle.sbl_tree.specs.Places.{AtDepth, placed, placed_rows, placed_others, p
 use Rattle.sbl_tree.specs.Texts.{body, places_in}
 use Rattle.sbl_tree.proofs.Behind.{IsBefore, entry_before, entries_before, expression_before, tree_before}
 use Rattle.sbl_amongs.specs.Amongs.{Held, amongs, amongs_of_body, amongs_of_rows, amongs_of_others, amongs_of_starter, amongs_of_groups, nth_held, put_among, put_in_body, put_in_rows, put_in_others, put_in_starter, put_in_groups}
-use Rattle.sbl_amongs.specs.Replaced.{IsBetween}
+use Rattle.sbl_amongs.specs.Replaced.{IsBetween, is_among, count_words}
 use Rattle.sbl_amongs.proofs.Held.{none_is_first}
+use Rattle.sbl_amongs.proofs.Words.{IsWithout, argument_without, expression_without, entry_without, entries_without}
 use Rattle.sbl_amongs.proofs.Putting.{less_none, less_two, less_three}
 
 abbrev Ps : Type 0
@@ -17,37 +18,57 @@ Ps = List AtDepth
 abbrev Hs : Type 0
 Hs = List Held
 
--- where the among is there, its tokens are others; where it is not, all stay
-pub record Swaps (o : Option Held) (a : Starter × Groups) (old new : Ps) : Type 0 where
-  pub there : (h : Held) → o ≡ Some h → IsBetween h a old new
+-- where the among with this number is there, its tokens are others; where it is not, all stay
+pub record Swaps (k : ℕ) (o : Option Held) (a : Starter × Groups) (old new : Ps) : Type 0 where
+  pub there : (h : Held) → o ≡ Some h → IsBetween k h a old new
   pub gone : o ≡ None → old ≡ new
 
--- a token before both, and tokens before both
-step : (x : AtDepth) (o : Option Held) (a : Starter × Groups) (r q : Ps) → Swaps o a r q → Swaps o a (x ∷ r) (x ∷ q)
-step x o a r q s =
+-- a part without the word `among` before both
+between : (part : Ps → Ps) → IsBefore part → IsWithout part → (k : ℕ) (h : Held) (a : Starter × Groups) (r q : Ps) → IsBetween k h a r q → IsBetween k h a (part r) (part q)
+between part before without k h a r q b =
     record {
-      there = λ h e. record { front = x ∷ (s.there h e).front; behind = (s.there h e).behind; was = ap (λ (z : Ps). x ∷ z) (s.there h e).was; is = ap (λ (z : Ps). x ∷ z) (s.there h e).is };
-      gone = λ e. ap (λ (z : Ps). x ∷ z) (s.gone e);
+      front = part b.front;
+      behind = b.behind;
+      number = b.number ∙ ap (λ (n : ℕ). n + 1) (sym (without b.front));
+      was = ap part b.was ∙ before b.front (placed (among_ h.1 h.2) h.0 b.behind);
+      is = ap part b.is ∙ before b.front (placed (among_ a.0 a.1) h.0 b.behind);
     }
 
-steps : (ps : Ps) (o : Option Held) (a : Starter × Groups) (r q : Ps) → Swaps o a r q → Swaps o a (ps ++ r) (ps ++ q)
-steps [] o a r q s = s
-steps (p ∷ ps) o a r q s = step p o a (ps ++ r) (ps ++ q) (steps ps o a r q s)
+along : (part : Ps → Ps) → IsBefore part → IsWithout part → (k : ℕ) (o : Option Held) (a : Starter × Groups) (r q : Ps) → Swaps k o a r q → Swaps k o a (part r) (part q)
+along part before without k o a r q s = record { there = λ h e. between part before without k h a r q (s.there h e); gone = λ e. ap part (s.gone e) }
 
--- a part before both
-along : (part : Ps → Ps) → IsBefore part → (o : Option Held) (a : Starter × Groups) (r q : Ps) → Swaps o a r q → Swaps o a (part r) (part q)
-along part before o a r q s =
-    let both = steps (part []) o a r q s in
-    let one = subst (λ (z : Ps). Swaps o a (part [] ++ r) z) (sym (before [] q)) both in
-    subst (λ (z : Ps). Swaps o a z (part q)) (sym (before [] r)) one
+-- another token before both
+step : (x : AtDepth) → is_among x.0 ≡ false → (k : ℕ) (o : Option Held) (a : Starter × Groups) (r q : Ps) → Swaps k o a r q → Swaps k o a (x ∷ r) (x ∷ q)
+step x e k o a r q s = along (λ (z : Ps). x ∷ z) (λ y z. refl) (λ z. ap (λ (b : Bool). if b then count_words z + 1 else count_words z) e) k o a r q s
+
+-- the word before both: the among has the next number
+next_number : (k n : ℕ) → k - 1 ≡ n + 1 → k ≡ n + 1 + 1
+next_number k n e = omega (arith, e)
+
+between_words : (d k : ℕ) (h : Held) (a : Starter × Groups) (r q : Ps) → IsBetween (k - 1) h a r q → IsBetween k h a ((t.among, d) ∷ r) ((t.among, d) ∷ q)
+between_words d k h a r q b =
+    record {
+      front = (t.among, d) ∷ b.front;
+      behind = b.behind;
+      number = next_number k (count_words b.front) b.number;
+      was = ap (λ (z : Ps). (t.among, d) ∷ z) b.was;
+      is = ap (λ (z : Ps). (t.among, d) ∷ z) b.is;
+    }
+
+word : (d k : ℕ) (o : Option Held) (a : Starter × Groups) (r q : Ps) → Swaps (k - 1) o a r q → Swaps k o a ((t.among, d) ∷ r) ((t.among, d) ∷ q)
+word d k o a r q s = record { there = λ h e. between_words d k h a r q (s.there h e); gone = λ e. ap (λ (z : Ps). (t.among, d) ∷ z) (s.gone e) }
+
+-- with the among of this number in a list
+abbrev At : ℕ → Hs → Starter × Groups → Ps → Ps → Type 0
+At k hs a r q = Swaps k (nth_held k hs) a r q
 
 -- the same number in other words
-number : (k m : ℕ) (hs : Hs) (a : Starter × Groups) (r q : Ps) → k ≡ m → Swaps (nth_held k hs) a r q → Swaps (nth_held m hs) a r q
-number k m hs a r q e s = subst (λ (x : ℕ). Swaps (nth_held x hs) a r q) e s
+number : (k m : ℕ) (hs : Hs) (a : Starter × Groups) (r q : Ps) → k ≡ m → At k hs a r q → At m hs a r q
+number k m hs a r q e s = subst (λ (x : ℕ). At x hs a r q) e s
 
 -- a part without amongs
-plain : (part : Ps → Ps) → IsBefore part → (k : ℕ) (hs : Hs) (a : Starter × Groups) (r q : Ps) → Swaps (nth_held (k - 0) hs) a r q → Swaps (nth_held k hs) a (part r) (part q)
-plain part before k hs a r q s = along part before (nth_held k hs) a r q (number (k - 0) k hs a r q (sym (less_none k)) s)
+plain : (part : Ps → Ps) → IsBefore part → IsWithout part → (k : ℕ) (hs : Hs) (a : Starter × Groups) (r q : Ps) → At (k - 0) hs a r q → At k hs a (part r) (part q)
+plain part before without k hs a r q s = along part before without k (nth_held k hs) a r q (number (k - 0) k hs a r q (sym (less_none k)) s)
 
 -- ---- the among itself
 
@@ -57,13 +78,14 @@ is_first k e = go k e where
   go m h = grind (arith, h)
 
 -- the among with this number: what stands behind it stays
-itself : (s : Starter) (gs : Groups) (d : ℕ) (a : Starter × Groups) (r q : Ps) → r ≡ q → Swaps (Some (d, s, gs)) a (placed (among_ s gs) d r) (placed (among_ a.0 a.1) d q)
-itself s gs d a r q same =
+itself : (s : Starter) (gs : Groups) (d k : ℕ) (a : Starter × Groups) (r q : Ps) → k ≡ 1 → r ≡ q → Swaps k (Some (d, s, gs)) a (placed (among_ s gs) d r) (placed (among_ a.0 a.1) d q)
+itself s gs d k a r q first same =
     record {
       there = λ h e. let is : (d, s, gs) ≡ h = cc in
           record {
             front = [];
             behind = r;
+            number = first;
             was = ap (λ (g : Held). placed (among_ g.1 g.2) g.0 r) is;
             is = ap (λ (z : Ps). placed (among_ a.0 a.1) d z) (sym same) ∙ ap (λ (g : Held). placed (among_ a.0 a.1) g.0 r) is;
           };
@@ -71,45 +93,46 @@ itself s gs d a r q same =
     }
 
 -- an among is the one, or what is in it is looked at
-chosen : (s : Starter) (gs : Groups) (d k : ℕ) (rest : Hs) (a : Starter × Groups) (r q : Ps) → Swaps (nth_held (k - (1 + (count_in_starter s + count_in_groups gs))) rest) a r q
-    → (let s1 : Starter = put_in_starter s (k - 1) a in let g1 : Groups = put_in_groups gs (k - 1 - count_in_starter s) a in Swaps (nth_held (k - 1) (amongs_of_starter s d (amongs_of_groups gs d rest))) a (placed (among_ s gs) d r) (placed (among_ s1 g1) d q))
-    → Swaps (nth_held k (amongs (among_ s gs) d rest)) a (placed (among_ s gs) d r) (placed (put_among (among_ s gs) k a) d q)
+chosen : (s : Starter) (gs : Groups) (d k : ℕ) (rest : Hs) (a : Starter × Groups) (r q : Ps) → At (k - (1 + (count_in_starter s + count_in_groups gs))) rest a r q
+    → (let s1 : Starter = put_in_starter s (k - 1) a in let g1 : Groups = put_in_groups gs (k - 1 - count_in_starter s) a in Swaps k (nth_held (k - 1) (amongs_of_starter s d (amongs_of_groups gs d rest))) a (placed (among_ s gs) d r) (placed (among_ s1 g1) d q))
+    → At k (amongs (among_ s gs) d rest) a (placed (among_ s gs) d r) (placed (put_among (among_ s gs) k a) d q)
 chosen s gs d k rest a r q hyp inside = go (nat_eq k 1) refl where
-  go : (b : Bool) → nat_eq k 1 ≡ b → Swaps (if b then Some (d, s, gs) else nth_held (k - 1) (amongs_of_starter s d (amongs_of_groups gs d rest))) a (placed (among_ s gs) d r) (placed (if b then among_ a.0 a.1 else among_ (put_in_starter s (k - 1) a) (put_in_groups gs (k - 1 - count_in_starter s) a)) d q)
-  go true e = itself s gs d a r q (hyp.gone (ap (λ (x : ℕ). nth_held x rest) (omega (arith, is_first k e)) ∙ none_is_first rest))
+  go : (b : Bool) → nat_eq k 1 ≡ b → Swaps k (if b then Some (d, s, gs) else nth_held (k - 1) (amongs_of_starter s d (amongs_of_groups gs d rest))) a (placed (among_ s gs) d r) (placed (if b then among_ a.0 a.1 else among_ (put_in_starter s (k - 1) a) (put_in_groups gs (k - 1 - count_in_starter s) a)) d q)
+  go true e = itself s gs d k a r q (is_first k e) (hyp.gone (ap (λ (x : ℕ). nth_held x rest) (omega (arith, is_first k e)) ∙ none_is_first rest))
   go false e = inside
 
 mutual
-  tree_swaps : (a : Starter × Groups) (c : Command) (d k : ℕ) (rest : Hs) (r q : Ps) → Swaps (nth_held (k - count_amongs c) rest) a r q → Swaps (nth_held k (amongs c d rest)) a (placed c d r) (placed (put_among c k a) d q)
+  tree_swaps : (a : Starter × Groups) (c : Command) (d k : ℕ) (rest : Hs) (r q : Ps) → At (k - count_amongs c) rest a r q → At k (amongs c d rest) a (placed c d r) (placed (put_among c k a) d q)
   tree_swaps a (bracket rs) d k rest r q s =
       let o = nth_held k (amongs_of_rows rs (d + 1) rest) in
-      let close = step (t.close_, d) (nth_held (k - count_in_rows rs) rest) a r q s in
-      step (t.open_, d) o a (placed_rows rs (d + 1) ((t.close_, d) ∷ r)) (placed_rows (put_in_rows rs k a) (d + 1) ((t.close_, d) ∷ q)) (rows_swaps a rs (d + 1) k rest ((t.close_, d) ∷ r) ((t.close_, d) ∷ q) close)
-  tree_swaps a (simple_ x) d k rest r q s = plain (placed (simple_ x) d) (tree_before (simple_ x) d) k rest a r q s
-  tree_swaps a (literal_ x) d k rest r q s = plain (placed (literal_ x) d) (tree_before (literal_ x) d) k rest a r q s
-  tree_swaps a (name_ x) d k rest r q s = plain (placed (name_ x) d) (tree_before (name_ x) d) k rest a r q s
-  tree_swaps a (non_ x y) d k rest r q s = plain (placed (non_ x y) d) (tree_before (non_ x y) d) k rest a r q s
+      let close = step (t.close_, d) refl (k - count_in_rows rs) (nth_held (k - count_in_rows rs) rest) a r q s in
+      step (t.open_, d) refl k o a (placed_rows rs (d + 1) ((t.close_, d) ∷ r)) (placed_rows (put_in_rows rs k a) (d + 1) ((t.close_, d) ∷ q)) (rows_swaps a rs (d + 1) k rest ((t.close_, d) ∷ r) ((t.close_, d) ∷ q) close)
+  tree_swaps a (simple_ x) d k rest r q s = plain (placed (simple_ x) d) (tree_before (simple_ x) d) (λ z. refl) k rest a r q s
+  tree_swaps a (literal_ x) d k rest r q s = plain (placed (literal_ x) d) (tree_before (literal_ x) d) (λ z. refl) k rest a r q s
+  tree_swaps a (name_ x) d k rest r q s = plain (placed (name_ x) d) (tree_before (name_ x) d) (λ z. refl) k rest a r q s
+  tree_swaps a (non_ true y) d k rest r q s = plain (placed (non_ true y) d) (tree_before (non_ true y) d) (λ z. refl) k rest a r q s
+  tree_swaps a (non_ false y) d k rest r q s = plain (placed (non_ false y) d) (tree_before (non_ false y) d) (λ z. refl) k rest a r q s
   tree_swaps a (prefixed p c) d k rest r q s =
-      step (t.prefix p, d) (nth_held k (amongs c (d + 1) rest)) a (placed c (d + 1) r) (placed (put_among c k a) (d + 1) q) (tree_swaps a c (d + 1) k rest r q s)
+      step (t.prefix p, d) refl k (nth_held k (amongs c (d + 1) rest)) a (placed c (d + 1) r) (placed (put_among c k a) (d + 1) q) (tree_swaps a c (d + 1) k rest r q s)
   tree_swaps a (counted n e c) d k rest r q s =
       let o = nth_held k (amongs c (d + 1) rest) in
       let old = placed c (d + 1) r in
       let new = placed (put_among c k a) (d + 1) q in
-      step (t.count n, d) o a (placed_expression e d old) (placed_expression e d new) (along (placed_expression e d) (expression_before e d) o a old new (tree_swaps a c (d + 1) k rest r q s))
-  tree_swaps a (move_ x y) d k rest r q s = plain (placed (move_ x y) d) (tree_before (move_ x y) d) k rest a r q s
-  tree_swaps a (named x y) d k rest r q s = plain (placed (named x y) d) (tree_before (named x y) d) k rest a r q s
-  tree_swaps a (splice_ x y) d k rest r q s = plain (placed (splice_ x y) d) (tree_before (splice_ x y) d) k rest a r q s
+      step (t.count n, d) refl k o a (placed_expression e d old) (placed_expression e d new) (along (placed_expression e d) (expression_before e d) (expression_without e d) k o a old new (tree_swaps a c (d + 1) k rest r q s))
+  tree_swaps a (move_ x y) d k rest r q s = plain (placed (move_ x y) d) (tree_before (move_ x y) d) (expression_without y d) k rest a r q s
+  tree_swaps a (named x y) d k rest r q s = plain (placed (named x y) d) (tree_before (named x y) d) (λ z. refl) k rest a r q s
+  tree_swaps a (splice_ x y) d k rest r q s = plain (placed (splice_ x y) d) (tree_before (splice_ x y) d) (argument_without y d) k rest a r q s
   tree_swaps a (setlimit_ b c) d k rest r q s =
       let m = k - count_amongs b in
       let old = (t.for_, d) ∷ placed c (d + 1) r in
       let new = (t.for_, d) ∷ placed (put_among c m a) (d + 1) q in
       let behind = amongs c (d + 1) rest in
       let second = tree_swaps a c (d + 1) m rest r q (number (k - (count_amongs b + count_amongs c)) (m - count_amongs c) rest a r q (less_two k (count_amongs b) (count_amongs c)) s) in
-      let first = tree_swaps a b (d + 1) k behind old new (step (t.for_, d) (nth_held m behind) a (placed c (d + 1) r) (placed (put_among c m a) (d + 1) q) second) in
-      step (t.set_limit, d) (nth_held k (amongs b (d + 1) behind)) a (placed b (d + 1) old) (placed (put_among b k a) (d + 1) new) first
-  tree_swaps a (assign_ x y z) d k rest r q s = plain (placed (assign_ x y z) d) (tree_before (assign_ x y z) d) k rest a r q s
-  tree_swaps a (compare_ x y z) d k rest r q s = plain (placed (compare_ x y z) d) (tree_before (compare_ x y z) d) k rest a r q s
-  tree_swaps a (compare_values_ x y z) d k rest r q s = plain (placed (compare_values_ x y z) d) (tree_before (compare_values_ x y z) d) k rest a r q s
+      let first = tree_swaps a b (d + 1) k behind old new (step (t.for_, d) refl m (nth_held m behind) a (placed c (d + 1) r) (placed (put_among c m a) (d + 1) q) second) in
+      step (t.set_limit, d) refl k (nth_held k (amongs b (d + 1) behind)) a (placed b (d + 1) old) (placed (put_among b k a) (d + 1) new) first
+  tree_swaps a (assign_ x y z) d k rest r q s = plain (placed (assign_ x y z) d) (tree_before (assign_ x y z) d) (expression_without z d) k rest a r q s
+  tree_swaps a (compare_ x y z) d k rest r q s = plain (placed (compare_ x y z) d) (tree_before (compare_ x y z) d) (expression_without z d) k rest a r q s
+  tree_swaps a (compare_values_ x y z) d k rest r q s = plain (placed (compare_values_ x y z) d) (tree_before (compare_values_ x y z) d) (λ v. expression_without x d ((t.compares y, d) ∷ placed_expression z d ((t.close_, d) ∷ v)) ∙ expression_without z d ((t.close_, d) ∷ v)) k rest a r q s
   tree_swaps a (among_ s0 gs) d k rest r q s =
       let n = count_in_starter s0 in
       let m = k - 1 - n in
@@ -120,12 +143,12 @@ mutual
       let behind = amongs_of_groups gs d rest in
       let o = nth_held (k - 1) (amongs_of_starter s0 d behind) in
       let last = number (k - (1 + (n + count_in_groups gs))) (m - count_in_groups gs) rest a r q (less_three k 1 n (count_in_groups gs)) s in
-      let groups = groups_swaps a gs d m rest old new (step (t.close_, d) (nth_held (m - count_in_groups gs) rest) a r q last) in
+      let groups = groups_swaps a gs d m rest old new (step (t.close_, d) refl (m - count_in_groups gs) (nth_held (m - count_in_groups gs) rest) a r q last) in
       let starts = starter_swaps a s0 d (k - 1) behind g0 g1 groups in
-      let opened = step (t.open_, d) o a (placed_starter s0 d g0) (placed_starter (put_in_starter s0 (k - 1) a) d g1) starts in
-      chosen s0 gs d k rest a r q s (step (t.among, d) o a ((t.open_, d) ∷ placed_starter s0 d g0) ((t.open_, d) ∷ placed_starter (put_in_starter s0 (k - 1) a) d g1) opened)
+      let opened = step (t.open_, d) refl (k - 1) o a (placed_starter s0 d g0) (placed_starter (put_in_starter s0 (k - 1) a) d g1) starts in
+      chosen s0 gs d k rest a r q s (word d k o a ((t.open_, d) ∷ placed_starter s0 d g0) ((t.open_, d) ∷ placed_starter (put_in_starter s0 (k - 1) a) d g1) opened)
 
-  rows_swaps : (a : Starter × Groups) (rs : Rows) (d k : ℕ) (rest : Hs) (r q : Ps) → Swaps (nth_held (k - count_in_rows rs) rest) a r q → Swaps (nth_held k (amongs_of_rows rs d rest)) a (placed_rows rs d r) (placed_rows (put_in_rows rs k a) d q)
+  rows_swaps : (a : Starter × Groups) (rs : Rows) (d k : ℕ) (rest : Hs) (r q : Ps) → At (k - count_in_rows rs) rest a r q → At k (amongs_of_rows rs d rest) a (placed_rows rs d r) (placed_rows (put_in_rows rs k a) d q)
   rows_swaps a no_rows d k rest r q s = number (k - 0) k rest a r q (sym (less_none k)) s
   rows_swaps a (row c os rs) d k rest r q s =
       let m = k - count_amongs c in
@@ -137,7 +160,7 @@ mutual
       let second = others_swaps a os d m inner old new third in
       tree_swaps a c d k (amongs_of_others os d inner) (placed_others os d old) (placed_others (put_in_others os m a) d new) second
 
-  others_swaps : (a : Starter × Groups) (os : Others) (d k : ℕ) (rest : Hs) (r q : Ps) → Swaps (nth_held (k - count_in_others os) rest) a r q → Swaps (nth_held k (amongs_of_others os d rest)) a (placed_others os d r) (placed_others (put_in_others os k a) d q)
+  others_swaps : (a : Starter × Groups) (os : Others) (d k : ℕ) (rest : Hs) (r q : Ps) → At (k - count_in_others os) rest a r q → At k (amongs_of_others os d rest) a (placed_others os d r) (placed_others (put_in_others os k a) d q)
   others_swaps a no_others d k rest r q s = number (k - 0) k rest a r q (sym (less_none k)) s
   others_swaps a (joined j c os) d k rest r q s =
       let m = k - count_amongs c in
@@ -145,19 +168,19 @@ mutual
       let old = placed_others os d r in
       let new = placed_others (put_in_others os m a) d q in
       let second = others_swaps a os d m rest r q (number (k - (count_amongs c + count_in_others os)) (m - count_in_others os) rest a r q (less_two k (count_amongs c) (count_in_others os)) s) in
-      step (t.joiner j, d) (nth_held k (amongs c d inner)) a (placed c d old) (placed (put_among c k a) d new) (tree_swaps a c d k inner old new second)
+      step (t.joiner j, d) refl k (nth_held k (amongs c d inner)) a (placed c d old) (placed (put_among c k a) d new) (tree_swaps a c d k inner old new second)
 
-  starter_swaps : (a : Starter × Groups) (s0 : Starter) (d k : ℕ) (rest : Hs) (r q : Ps) → Swaps (nth_held (k - count_in_starter s0) rest) a r q → Swaps (nth_held k (amongs_of_starter s0 d rest)) a (placed_starter s0 d r) (placed_starter (put_in_starter s0 k a) d q)
+  starter_swaps : (a : Starter × Groups) (s0 : Starter) (d k : ℕ) (rest : Hs) (r q : Ps) → At (k - count_in_starter s0) rest a r q → At k (amongs_of_starter s0 d rest) a (placed_starter s0 d r) (placed_starter (put_in_starter s0 k a) d q)
   starter_swaps a no_starter d k rest r q s = number (k - 0) k rest a r q (sym (less_none k)) s
   starter_swaps a (starter rs) d k rest r q s =
       let e = d + 1 + 1 in
       let old = (t.close_, d + 1) ∷ r in
       let new = (t.close_, d + 1) ∷ q in
-      step (t.open_, d + 1) (nth_held k (amongs_of_rows rs e rest)) a (placed_rows rs e old) (placed_rows (put_in_rows rs k a) e new)
-      (rows_swaps a rs e k rest old new (step (t.close_, d + 1) (nth_held (k - count_in_rows rs) rest) a r q s))
+      step (t.open_, d + 1) refl k (nth_held k (amongs_of_rows rs e rest)) a (placed_rows rs e old) (placed_rows (put_in_rows rs k a) e new)
+      (rows_swaps a rs e k rest old new (step (t.close_, d + 1) refl (k - count_in_rows rs) (nth_held (k - count_in_rows rs) rest) a r q s))
 
-  groups_swaps : (a : Starter × Groups) (gs : Groups) (d k : ℕ) (rest : Hs) (r q : Ps) → Swaps (nth_held (k - count_in_groups gs) rest) a r q → Swaps (nth_held k (amongs_of_groups gs d rest)) a (placed_groups gs d r) (placed_groups (put_in_groups gs k a) d q)
-  groups_swaps a (bare es) d k rest r q s = plain (placed_entries es d) (entries_before es d) k rest a r q s
+  groups_swaps : (a : Starter × Groups) (gs : Groups) (d k : ℕ) (rest : Hs) (r q : Ps) → At (k - count_in_groups gs) rest a r q → At k (amongs_of_groups gs d rest) a (placed_groups gs d r) (placed_groups (put_in_groups gs k a) d q)
+  groups_swaps a (bare es) d k rest r q s = plain (placed_entries es d) (entries_before es d) (entries_without es d) k rest a r q s
   groups_swaps a (group x es rs gs) d k rest r q s =
       let e = d + 1 + 1 in
       let m = k - count_in_rows rs in
@@ -170,20 +193,20 @@ mutual
       let r0 = placed_rows rs e old in
       let r1 = placed_rows (put_in_rows rs k a) e new in
       let last = groups_swaps a gs d m rest r q (number (k - (count_in_rows rs + count_in_groups gs)) (m - count_in_groups gs) rest a r q (less_two k (count_in_rows rs) (count_in_groups gs)) s) in
-      let rows = rows_swaps a rs e k inner old new (step (t.close_, d + 1) (nth_held m inner) a g0 g1 last) in
-      let opened = step (t.open_, d + 1) o a r0 r1 rows in
-      let strings = along (placed_entries es d) (entries_before es d) o a ((t.open_, d + 1) ∷ r0) ((t.open_, d + 1) ∷ r1) opened in
-      along (placed_entry x d) (entry_before x d) o a (placed_entries es d ((t.open_, d + 1) ∷ r0)) (placed_entries es d ((t.open_, d + 1) ∷ r1)) strings
+      let rows = rows_swaps a rs e k inner old new (step (t.close_, d + 1) refl m (nth_held m inner) a g0 g1 last) in
+      let opened = step (t.open_, d + 1) refl k o a r0 r1 rows in
+      let strings = along (placed_entries es d) (entries_before es d) (entries_without es d) k o a ((t.open_, d + 1) ∷ r0) ((t.open_, d + 1) ∷ r1) opened in
+      along (placed_entry x d) (entry_before x d) (entry_without x d) k o a (placed_entries es d ((t.open_, d + 1) ∷ r0)) (placed_entries es d ((t.open_, d + 1) ∷ r1)) strings
 
 -- ---- a routine's body
 
-body_swaps : (b : Command × Others) (k : ℕ) (a : Starter × Groups) → Swaps (nth_held k (amongs_of_body b)) a (places_in body b) (places_in body (put_in_body b k a))
+body_swaps : (b : Command × Others) (k : ℕ) (a : Starter × Groups) → At k (amongs_of_body b) a (places_in body b) (places_in body (put_in_body b k a))
 body_swaps b k a =
     let m = k - count_amongs b.0 in
-    let none : Swaps (nth_held (m - count_in_others b.1) []) a [] [] = record { there = λ h e. absurd cc; gone = λ e. refl } in
+    let none : At (m - count_in_others b.1) [] a [] [] = record { there = λ h e. absurd cc; gone = λ e. refl } in
     tree_swaps a b.0 1 k (amongs_of_others b.1 1 []) (placed_others b.1 1 []) (placed_others (put_in_others b.1 m a) 1 []) (others_swaps a b.1 1 m [] [] [] none)
 
-pub body_one : (b : Command × Others) (k : ℕ) (a : Starter × Groups) (h : Held) → nth_held k (amongs_of_body b) ≡ Some h → IsBetween h a (places_in body b) (places_in body (put_in_body b k a))
+pub body_one : (b : Command × Others) (k : ℕ) (a : Starter × Groups) (h : Held) → nth_held k (amongs_of_body b) ≡ Some h → IsBetween k h a (places_in body b) (places_in body (put_in_body b k a))
 body_one b k a h e = (body_swaps b k a).there h e
 
 pub body_none : (b : Command × Others) (k : ℕ) (a : Starter × Groups) → nth_held k (amongs_of_body b) ≡ None → places_in body (put_in_body b k a) ≡ places_in body b

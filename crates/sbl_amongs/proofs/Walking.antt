@@ -6,12 +6,12 @@ use Rattle.sbl_tree.specs.declared.tree.Among.{Among}
 use Rattle.sbl_tree.specs.declared.tree.Command.TheViews.{out-Among, out-Row}
 use Rattle.sbl_tree.specs.declared.tree.Command.TheFolds.{fold_out-Among, fold_out-Row}
 use Rattle.sbl_tree.specs.declared.tree.Row.{Row}
-use Rattle.sbl_amongs.specs.declared.finding.Found.{Found}
-use Rattle.sbl_amongs.specs.declared.finding.Found.TheVariants as found
+use Rattle.sbl_amongs.specs.declared.finding.WalkEnd.{WalkEnd}
+use Rattle.sbl_amongs.specs.declared.finding.WalkEnd.TheVariants as ends
 use Rattle.sbl_tree.specs.Terminal as t
 use Rattle.sbl_tree.specs.Tree.{Command, bracket, counted, setlimit_, among_, Rows, Others, Starter, starter, Groups, Entry, Expression}
 use Rattle.sbl_amongs.specs.Amongs.{Held, amongs, amongs_of_rows, amongs_of_others, amongs_of_starter, amongs_of_groups, nth_held}
-use Rattle.sbl_amongs.specs.Found.{Finds}
+use Rattle.sbl_amongs.specs.WalkEnds.{Finds}
 use Rattle.sbl_tree.specs.Places.{AtDepth, placed_expression, placed_entry, placed_entries, placed, placed_rows, placed_others, placed_starter, placed_groups, AreShallow}
 use Rattle.sbl_tree.specs.View.{AmongView, RowView, JoinedView, GroupView, among_step, command_step, group_step, joined_step, row_step, rows_of, others_of, groups_of, view_among, view_command, view_entry, view_groups, view_others, view_row}
 use Rattle.sbl_tree.proofs.Behind.{IsBefore, by_itself, behind_it, with_behind, entry_before, entries_before, expression_before, tree_before, rows_before, others_before, starter_before, groups_before}
@@ -112,13 +112,13 @@ others_in b c os d is h = behind_it (placed c d) (tree_before c d) (placed_other
 -- ---- what is found
 
 -- behind one part, in the next
-pub find_both : (r : Found) (n m : ℕ) (part next : Hs → Hs) → ((rest : Hs) → nth_held n (part rest) ≡ nth_held m rest) → Finds r m next → Finds r n (λ rest. part (next rest))
-find_both (found.There d a) n m part next f g = (g.0, λ rest. f (next rest) ∙ g.1 rest)
-find_both (found.Behind k) n m part next f g = λ rest. f (next rest) ∙ g rest
+pub find_both : (r : WalkEnd) (n m : ℕ) (part next : Hs → Hs) → ((rest : Hs) → nth_held n (part rest) ≡ nth_held m rest) → Finds r m next → Finds r n (λ rest. part (next rest))
+find_both (ends.There d a) n m part next f g = (g.0, λ rest. f (next rest) ∙ g.1 rest)
+find_both (ends.Behind k) n m part next f g = λ rest. f (next rest) ∙ g rest
 
-pub finds_there : (r : Found) (n : ℕ) (part next : Hs → Hs) → ((rest : Hs) → part rest ≡ next rest) → Finds r n part → Finds r n next
-finds_there (found.There d a) n part next same g = (g.0, λ rest. ap (nth_held n) (sym (same rest)) ∙ g.1 rest)
-finds_there (found.Behind k) n part next same g = λ rest. ap (nth_held n) (sym (same rest)) ∙ g rest
+pub finds_there : (r : WalkEnd) (n : ℕ) (part next : Hs → Hs) → ((rest : Hs) → part rest ≡ next rest) → Finds r n part → Finds r n next
+finds_there (ends.There d a) n part next same g = (g.0, λ rest. ap (nth_held n) (sym (same rest)) ∙ g.1 rest)
+finds_there (ends.Behind k) n part next same g = λ rest. ap (nth_held n) (sym (same rest)) ∙ g rest
 
 -- ---- one step of the walk
 
@@ -126,7 +126,7 @@ finds_there (found.Behind k) n part next same g = λ rest. ap (nth_held n) (sym 
 abbrev Place : Type 0
 Place = Bor Among
 
-pub there_before : (d : ℕ) (a : Place) (n : ℕ) (part next : Hs → Hs) → Finds (found.There d a) n part → Finds (found.There d a) n (λ rest. part (next rest))
+pub there_before : (d : ℕ) (a : Place) (n : ℕ) (part next : Hs → Hs) → Finds (ends.There d a) n part → Finds (ends.There d a) n (λ rest. part (next rest))
 there_before d a n part next g = (g.0, λ rest. g.1 (next rest))
 
 one_deeper : (d e : ℕ) → e ≡ min (d + 1) (2 ^ 8 - 1) → d ≤ 64 → e ≡ d + 1
@@ -138,39 +138,39 @@ two_deeper d e is le = omega (arith, is, le)
 first_shallow : (c x : Command) (d : ℕ) → c ≡ x → AreShallow (placed c d []) → AreShallow (placed x d [])
 first_shallow c x d is h = subst (λ (y : Command). AreShallow (placed y d [])) is h
 
-abbrev RowsFind : Found → ℕ → Rows → ℕ → Type 0
+abbrev RowsFind : WalkEnd → ℕ → Rows → ℕ → Type 0
 RowsFind r n rs e = AreShallow (placed_rows rs e []) → Finds r n (λ rest. amongs_of_rows rs e rest)
 
-abbrev TreeFinds : Found → ℕ → Command → ℕ → Type 0
+abbrev TreeFinds : WalkEnd → ℕ → Command → ℕ → Type 0
 TreeFinds r n c e = AreShallow (placed c e []) → Finds r n (λ rest. amongs c e rest)
 
-as_seen : (r : Found) (n d : ℕ) (c x : Command) → c ≡ x → Finds r n (λ rest. amongs x d rest) → Finds r n (λ rest. amongs c d rest)
+as_seen : (r : WalkEnd) (n d : ℕ) (c x : Command) → c ≡ x → Finds r n (λ rest. amongs x d rest) → Finds r n (λ rest. amongs c d rest)
 as_seen r n d c x is f = finds_there r n (λ rest. amongs x d rest) (λ rest. amongs c d rest) (λ rest. ap (λ (y : Command). amongs y d rest) (sym is)) f
 
-pub bracket_finds : (r : Found) (n d e : ℕ) (c : Command) (rs : Rows) → c ≡ bracket rs → e ≡ min (d + 1) (2 ^ 8 - 1) → RowsFind r n rs e → TreeFinds r n c d
+pub bracket_finds : (r : WalkEnd) (n d e : ℕ) (c : Command) (rs : Rows) → c ≡ bracket rs → e ≡ min (d + 1) (2 ^ 8 - 1) → RowsFind r n rs e → TreeFinds r n c d
 bracket_finds r n d e c rs is deep f h =
     let same = one_deeper d e deep (first_shallow c (bracket rs) d is h).0 in
     as_seen r n d c (bracket rs) is (subst (RowsFind r n rs) same f (bracket_in c rs d is h))
 
-pub counted_finds : (r : Found) (n d e : ℕ) (c b : Command) (k : Count) (x : Expression) → c ≡ counted k x b → e ≡ min (d + 1) (2 ^ 8 - 1) → TreeFinds r n b e → TreeFinds r n c d
+pub counted_finds : (r : WalkEnd) (n d e : ℕ) (c b : Command) (k : Count) (x : Expression) → c ≡ counted k x b → e ≡ min (d + 1) (2 ^ 8 - 1) → TreeFinds r n b e → TreeFinds r n c d
 counted_finds r n d e c b k x is deep f h =
     let same = one_deeper d e deep (first_shallow c (counted k x b) d is h).0 in
     as_seen r n d c (counted k x b) is (subst (TreeFinds r n b) same f (counted_in c b k x d is h))
 
-pub limit_finds : (dd : ℕ) (p : Place) (n d e : ℕ) (c a b : Command) → c ≡ setlimit_ a b → e ≡ min (d + 1) (2 ^ 8 - 1) → TreeFinds (found.There dd p) n a e → TreeFinds (found.There dd p) n c d
+pub limit_finds : (dd : ℕ) (p : Place) (n d e : ℕ) (c a b : Command) → c ≡ setlimit_ a b → e ≡ min (d + 1) (2 ^ 8 - 1) → TreeFinds (ends.There dd p) n a e → TreeFinds (ends.There dd p) n c d
 limit_finds dd p n d e c a b is deep f h =
     let same = one_deeper d e deep (first_shallow c (setlimit_ a b) d is h).0 in
-    as_seen (found.There dd p) n d c (setlimit_ a b) is (there_before dd p n (λ rest. amongs a (d + 1) rest) (λ rest. amongs b (d + 1) rest) (subst (TreeFinds (found.There dd p) n a) same f (limit_in c a b d is h)))
+    as_seen (ends.There dd p) n d c (setlimit_ a b) is (there_before dd p n (λ rest. amongs a (d + 1) rest) (λ rest. amongs b (d + 1) rest) (subst (TreeFinds (ends.There dd p) n a) same f (limit_in c a b d is h)))
 
-pub limited_finds : (r : Found) (n m d e : ℕ) (c a b : Command) → c ≡ setlimit_ a b → e ≡ min (d + 1) (2 ^ 8 - 1) → TreeFinds (found.Behind m) n a e → TreeFinds r m b e → TreeFinds r n c d
+pub limited_finds : (r : WalkEnd) (n m d e : ℕ) (c a b : Command) → c ≡ setlimit_ a b → e ≡ min (d + 1) (2 ^ 8 - 1) → TreeFinds (ends.Behind m) n a e → TreeFinds r m b e → TreeFinds r n c d
 limited_finds r n m d e c a b is deep f g h =
     let same = one_deeper d e deep (first_shallow c (setlimit_ a b) d is h).0 in
-    as_seen r n d c (setlimit_ a b) is (find_both r n m (λ rest. amongs a (d + 1) rest) (λ rest. amongs b (d + 1) rest) (subst (TreeFinds (found.Behind m) n a) same f (limit_in c a b d is h)) (subst (TreeFinds r m b) same g (limited_in c a b d is h)))
+    as_seen r n d c (setlimit_ a b) is (find_both r n m (λ rest. amongs a (d + 1) rest) (λ rest. amongs b (d + 1) rest) (subst (TreeFinds (ends.Behind m) n a) same f (limit_in c a b d is h)) (subst (TreeFinds r m b) same g (limited_in c a b d is h)))
 
-abbrev StarterFinds : Found → ℕ → Starter → ℕ → Type 0
+abbrev StarterFinds : WalkEnd → ℕ → Starter → ℕ → Type 0
 StarterFinds r n s d = AreShallow (placed_starter s d []) → Finds r n (λ rest. amongs_of_starter s d rest)
 
-pub starter_finds : (r : Found) (n d e : ℕ) (s : Starter) (rs : Rows) → s ≡ starter rs → e ≡ min (d + 2) (2 ^ 8 - 1) → RowsFind r n rs e → StarterFinds r n s d
+pub starter_finds : (r : WalkEnd) (n d e : ℕ) (s : Starter) (rs : Rows) → s ≡ starter rs → e ≡ min (d + 2) (2 ^ 8 - 1) → RowsFind r n rs e → StarterFinds r n s d
 starter_finds r n d e s rs is deep f h =
     let same = two_deeper d e deep (subst (λ (x : Starter). AreShallow (placed_starter x d [])) is h).0 in
     finds_there r n (λ rest. amongs_of_rows rs (d + 1 + 1) rest) (λ rest. amongs_of_starter s d rest) (λ rest. ap (λ (x : Starter). amongs_of_starter x d rest) (sym is)) (subst (RowsFind r n rs) same f (rows_in s rs d is h))
@@ -179,15 +179,15 @@ past_first : (n inside d m : ℕ) (s : Starter) (gs : Groups) (rest : Hs) (v : O
 past_first n inside d m s gs rest v ne is f =
     ap (λ (b : Bool). if b then Some (d, s, gs) else nth_held (n - 1) rest) ne ∙ ap (λ (k : ℕ). nth_held k rest) (sym is) ∙ f
 
-pub found_in_starter : (dd : ℕ) (p : Place) (n inside d : ℕ) (s : Starter) (gs : Groups) → nat_eq n 1 ≡ false → inside ≡ n - 1 → StarterFinds (found.There dd p) inside s d → TreeFinds (found.There dd p) n (among_ s gs) d
+pub found_in_starter : (dd : ℕ) (p : Place) (n inside d : ℕ) (s : Starter) (gs : Groups) → nat_eq n 1 ≡ false → inside ≡ n - 1 → StarterFinds (ends.There dd p) inside s d → TreeFinds (ends.There dd p) n (among_ s gs) d
 found_in_starter dd p n inside d s gs ne is f h =
     let g = f (starter_in s gs d h) in
     (g.0, λ rest. past_first n inside d 0 s gs (amongs_of_starter s d (amongs_of_groups gs d rest)) _ ne is (g.1 (amongs_of_groups gs d rest)))
 
-abbrev GroupsFind : Found → ℕ → List GroupView → ℕ → Type 0
+abbrev GroupsFind : WalkEnd → ℕ → List GroupView → ℕ → Type 0
 GroupsFind r n gs d = AreShallow (placed_groups (groups_of gs []) d []) → (bare : List Entry) → Finds r n (λ rest. amongs_of_groups (groups_of gs bare) d rest)
 
-pub found_in_groups : (r : Found) (n inside m d : ℕ) (s : Starter) (all : Groups) (gs : List GroupView) (bare : List Entry) → nat_eq n 1 ≡ false → inside ≡ n - 1 → all ≡ groups_of gs bare → StarterFinds (found.Behind m) inside s d → GroupsFind r m gs d → TreeFinds r n (among_ s all) d
+pub found_in_groups : (r : WalkEnd) (n inside m d : ℕ) (s : Starter) (all : Groups) (gs : List GroupView) (bare : List Entry) → nat_eq n 1 ≡ false → inside ≡ n - 1 → all ≡ groups_of gs bare → StarterFinds (ends.Behind m) inside s d → GroupsFind r m gs d → TreeFinds r n (among_ s all) d
 found_in_groups r n inside m d s all gs bare ne is same f g h =
     let found_ = g (groups_in s all gs bare d same h) bare in
     let first : (rest : Hs) → nth_held n ((d, s, all) ∷ amongs_of_starter s d rest) ≡ nth_held m rest = λ rest. past_first n inside d m s all (amongs_of_starter s d rest) _ ne is (f (starter_in s all d h) rest) in
@@ -213,55 +213,55 @@ group_deep g whole left d e is deep h =
     let strings = behind_it (placed_entry g.first d) (entry_before g.first d) (placed_entries g.others d inner) start in
     two_deeper d e deep (behind_it (placed_entries g.others d) (entries_before g.others d) inner strings).0
 
-pub groups_there : (dd : ℕ) (p : Place) (b n d e : ℕ) (g : GroupView) (whole left all : List GroupView) → whole ≡ g ∷ left → e ≡ min (d + 2) (2 ^ 8 - 1) → GroupsSofar b n whole all d → RowsFind (found.There dd p) b g.rows e → GroupsFind (found.There dd p) n all d
+pub groups_there : (dd : ℕ) (p : Place) (b n d e : ℕ) (g : GroupView) (whole left all : List GroupView) → whole ≡ g ∷ left → e ≡ min (d + 2) (2 ^ 8 - 1) → GroupsSofar b n whole all d → RowsFind (ends.There dd p) b g.rows e → GroupsFind (ends.There dd p) n all d
 groups_there dd p b n d e g whole left all is deep inv f h bare =
     let now = inv h in
-    let found_ = subst (RowsFind (found.There dd p) b g.rows) (group_deep g whole left d e is deep now.0) f (group_in g whole left d is now.0) in
+    let found_ = subst (RowsFind (ends.There dd p) b g.rows) (group_deep g whole left d e is deep now.0) f (group_in g whole left d is now.0) in
     (found_.0, λ rest. sym (now.1 bare rest) ∙ ap (λ (x : List GroupView). nth_held b (amongs_of_groups (groups_of x bare) d rest)) is ∙ found_.1 (amongs_of_groups (groups_of left bare) d rest))
 
-pub groups_next : (b n m d e : ℕ) (g : GroupView) (whole left all : List GroupView) → whole ≡ g ∷ left → e ≡ min (d + 2) (2 ^ 8 - 1) → GroupsSofar b n whole all d → RowsFind (found.Behind m) b g.rows e → GroupsSofar m n left all d
+pub groups_next : (b n m d e : ℕ) (g : GroupView) (whole left all : List GroupView) → whole ≡ g ∷ left → e ≡ min (d + 2) (2 ^ 8 - 1) → GroupsSofar b n whole all d → RowsFind (ends.Behind m) b g.rows e → GroupsSofar m n left all d
 groups_next b n m d e g whole left all is deep inv f h =
     let now = inv h in
-    let found_ = subst (RowsFind (found.Behind m) b g.rows) (group_deep g whole left d e is deep now.0) f (group_in g whole left d is now.0) in
+    let found_ = subst (RowsFind (ends.Behind m) b g.rows) (group_deep g whole left d e is deep now.0) f (group_in g whole left d is now.0) in
     (groups_on g whole left d is now.0, λ bare rest. sym (found_ (amongs_of_groups (groups_of left bare) d rest)) ∙ ap (λ (x : List GroupView). nth_held b (amongs_of_groups (groups_of x bare) d rest)) (sym is) ∙ now.1 bare rest)
 
-abbrev pub RowFinds : Found → ℕ → RowView → ℕ → Type 0
+abbrev pub RowFinds : WalkEnd → ℕ → RowView → ℕ → Type 0
 RowFinds r n x d = AreShallow (placed x.0 d (placed_others x.1 d [])) → Finds r n (λ rest. amongs x.0 d (amongs_of_others x.1 d rest))
 
-pub rows_there : (dd : ℕ) (p : Place) (b n d : ℕ) (x : RowView) (whole left all : List RowView) → whole ≡ x ∷ left → RowsSofar b n whole all d → RowFinds (found.There dd p) b x d → RowsFind (found.There dd p) n (rows_of all) d
+pub rows_there : (dd : ℕ) (p : Place) (b n d : ℕ) (x : RowView) (whole left all : List RowView) → whole ≡ x ∷ left → RowsSofar b n whole all d → RowFinds (ends.There dd p) b x d → RowsFind (ends.There dd p) n (rows_of all) d
 rows_there dd p b n d x whole left all is inv f h =
     let now = inv h in
     let found_ = f (row_in x whole left d is now.0) in
     (found_.0, λ rest. sym (now.1 rest) ∙ ap (λ (z : List RowView). nth_held b (amongs_of_rows (rows_of z) d rest)) is ∙ found_.1 (amongs_of_rows (rows_of left) d rest))
 
-pub rows_next : (b n m d : ℕ) (x : RowView) (whole left all : List RowView) → whole ≡ x ∷ left → RowsSofar b n whole all d → RowFinds (found.Behind m) b x d → RowsSofar m n left all d
+pub rows_next : (b n m d : ℕ) (x : RowView) (whole left all : List RowView) → whole ≡ x ∷ left → RowsSofar b n whole all d → RowFinds (ends.Behind m) b x d → RowsSofar m n left all d
 rows_next b n m d x whole left all is inv f h =
     let now = inv h in
     let found_ = f (row_in x whole left d is now.0) in
     (rows_on x whole left d is now.0, λ rest. sym (found_ (amongs_of_rows (rows_of left) d rest)) ∙ ap (λ (z : List RowView). nth_held b (amongs_of_rows (rows_of z) d rest)) (sym is) ∙ now.1 rest)
 
-abbrev pub OthersFind : Found → ℕ → Others → ℕ → Type 0
+abbrev pub OthersFind : WalkEnd → ℕ → Others → ℕ → Type 0
 OthersFind r n os d = AreShallow (placed_others os d []) → Finds r n (λ rest. amongs_of_others os d rest)
 
-pub others_there : (dd : ℕ) (p : Place) (b n d : ℕ) (x : JoinedView) (whole left all : List JoinedView) → whole ≡ x ∷ left → OthersSofar b n whole all d → TreeFinds (found.There dd p) b x.1 d → OthersFind (found.There dd p) n (others_of all) d
+pub others_there : (dd : ℕ) (p : Place) (b n d : ℕ) (x : JoinedView) (whole left all : List JoinedView) → whole ≡ x ∷ left → OthersSofar b n whole all d → TreeFinds (ends.There dd p) b x.1 d → OthersFind (ends.There dd p) n (others_of all) d
 others_there dd p b n d x whole left all is inv f h =
     let now = inv h in
     let found_ = f (joined_in x whole left d is now.0) in
     (found_.0, λ rest. sym (now.1 rest) ∙ ap (λ (z : List JoinedView). nth_held b (amongs_of_others (others_of z) d rest)) is ∙ found_.1 (amongs_of_others (others_of left) d rest))
 
-pub others_next : (b n m d : ℕ) (x : JoinedView) (whole left all : List JoinedView) → whole ≡ x ∷ left → OthersSofar b n whole all d → TreeFinds (found.Behind m) b x.1 d → OthersSofar m n left all d
+pub others_next : (b n m d : ℕ) (x : JoinedView) (whole left all : List JoinedView) → whole ≡ x ∷ left → OthersSofar b n whole all d → TreeFinds (ends.Behind m) b x.1 d → OthersSofar m n left all d
 others_next b n m d x whole left all is inv f h =
     let now = inv h in
     let found_ = f (joined_in x whole left d is now.0) in
     (others_on x whole left d is now.0, λ rest. sym (found_ (amongs_of_others (others_of left) d rest)) ∙ ap (λ (z : List JoinedView). nth_held b (amongs_of_others (others_of z) d rest)) (sym is) ∙ now.1 rest)
 
-row_as_seen : (r : Found) (n d : ℕ) (b : RowView) (c : Command) (os : Others) → b ≡ (c, os) → Finds r n (λ rest. amongs c d (amongs_of_others os d rest)) → Finds r n (λ rest. amongs b.0 d (amongs_of_others b.1 d rest))
+row_as_seen : (r : WalkEnd) (n d : ℕ) (b : RowView) (c : Command) (os : Others) → b ≡ (c, os) → Finds r n (λ rest. amongs c d (amongs_of_others os d rest)) → Finds r n (λ rest. amongs b.0 d (amongs_of_others b.1 d rest))
 row_as_seen r n d b c os is f = finds_there r n (λ rest. amongs c d (amongs_of_others os d rest)) (λ rest. amongs b.0 d (amongs_of_others b.1 d rest)) (λ rest. ap (λ (z : RowView). amongs z.0 d (amongs_of_others z.1 d rest)) (sym is)) f
 
-pub row_there : (dd : ℕ) (p : Place) (n d : ℕ) (b : RowView) (c : Command) (os : Others) → b ≡ (c, os) → TreeFinds (found.There dd p) n c d → RowFinds (found.There dd p) n b d
+pub row_there : (dd : ℕ) (p : Place) (n d : ℕ) (b : RowView) (c : Command) (os : Others) → b ≡ (c, os) → TreeFinds (ends.There dd p) n c d → RowFinds (ends.There dd p) n b d
 row_there dd p n d b c os is f h =
-    row_as_seen (found.There dd p) n d b c os is (there_before dd p n (λ rest. amongs c d rest) (λ rest. amongs_of_others os d rest) (f (first_in b c os d is h)))
+    row_as_seen (ends.There dd p) n d b c os is (there_before dd p n (λ rest. amongs c d rest) (λ rest. amongs_of_others os d rest) (f (first_in b c os d is h)))
 
-pub row_finds : (r : Found) (n m d : ℕ) (b : RowView) (c : Command) (os : Others) → b ≡ (c, os) → TreeFinds (found.Behind m) n c d → OthersFind r m os d → RowFinds r n b d
+pub row_finds : (r : WalkEnd) (n m d : ℕ) (b : RowView) (c : Command) (os : Others) → b ≡ (c, os) → TreeFinds (ends.Behind m) n c d → OthersFind r m os d → RowFinds r n b d
 row_finds r n m d b c os is f g h =
     row_as_seen r n d b c os is (find_both r n m (λ rest. amongs c d rest) (λ rest. amongs_of_others os d rest) (f (first_in b c os d is h)) (g (others_in b c os d is h)))

@@ -2,4 +2,4 @@
 pub mod Amongs
 pub mod Replaced
 -- what the functions inside the crate promise each other: nothing in these need be believed
-pub mod Found
+pub mod WalkEnds

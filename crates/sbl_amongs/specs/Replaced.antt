@@ -1,21 +1,33 @@
 -- What a replaced among does to the tokens of a routine's body.
-use Rattle.std.specs.Prelude.{◌≡◌, ℕ, List, ◌++◌, Some, None}
+use Rattle.std.specs.Prelude.{◌≡◌, ℕ, ◌+◌, Bool, true, false, List, [], ◌∷◌, ◌++◌, Some, None, if◌then◌else◌}
+use Rattle.sbl_tree.specs.Terminal.{Terminal, among}
 use Rattle.sbl_tree.specs.Tree.{Command, Others, Starter, Groups, among_}
 use Rattle.sbl_tree.specs.Places.{AtDepth, placed}
 use Rattle.sbl_tree.specs.Texts.{body, places_in}
 use Rattle.sbl_amongs.specs.Amongs.{Held, amongs_of_body, nth_held, put_in_body}
 
--- the tokens before the among, its own at its depth and those behind become those before it, the other's at this depth and those behind
-pub record IsBetween (h : Held) (a : Starter × Groups) (old new : List AtDepth) : Type 0 where
+abbrev pub is_among : Terminal → Bool
+is_among among = true
+is_among _ = false
+
+-- how many words `among` there are
+abbrev pub count_words : List AtDepth → ℕ
+count_words [] = 0
+count_words (p ∷ ps) = if is_among p.0 then count_words ps + 1 else count_words ps
+
+-- the tokens before the among with number k, its own at its depth and those behind become those before it, the other's at this depth and
+-- those behind; before it stand as many words `among` as come before the k-th
+pub record IsBetween (k : ℕ) (h : Held) (a : Starter × Groups) (old new : List AtDepth) : Type 0 where
   pub front : List AtDepth
   pub behind : List AtDepth
+  pub number : k ≡ count_words front + 1
   pub was : old ≡ front ++ placed (among_ h.1 h.2) h.0 behind
   pub is : new ≡ front ++ placed (among_ a.0 a.1) h.0 behind
 
 -- so it is with the among of a number, where there is one
 abbrev pub OneIsReplaced : Type 0
 OneIsReplaced =
-    (b : Command × Others) (k : ℕ) (a : Starter × Groups) (h : Held) → nth_held k (amongs_of_body b) ≡ Some h → IsBetween h a (places_in body b) (places_in body (put_in_body b k a))
+    (b : Command × Others) (k : ℕ) (a : Starter × Groups) (h : Held) → nth_held k (amongs_of_body b) ≡ Some h → IsBetween k h a (places_in body b) (places_in body (put_in_body b k a))
 
 -- and where there is none, all tokens stay
 abbrev pub NoneIsReplaced : Type 0

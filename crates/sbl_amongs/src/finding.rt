@@ -4,7 +4,7 @@ ghost use Rattle.std.specs.Prelude.{◌≡◌, ◌≤◌, ◌<◌, ◌-◌, List
 ghost use Rattle.sbl_amongs.specs.Amongs as spec;
 ghost use Rattle.sbl_tree.specs.Counts.{count_amongs, count_in_among, count_in_groups, count_in_others, count_in_rows};
 ghost use Rattle.sbl_amongs.specs.Amongs.{Held, amongs_of_body, nth_held};
-ghost use Rattle.sbl_amongs.specs.Found.{Finds};
+ghost use Rattle.sbl_amongs.specs.WalkEnds.{Finds};
 ghost use Rattle.sbl_tree.specs.Places.{placed, placed_groups, placed_others, placed_rows, placed_starter, max_depth, AreShallow};
 ghost use Rattle.sbl_tree.specs.Texts.{body, places_in};
 ghost use Rattle.sbl_tree.specs.Tree as trees;
@@ -12,8 +12,8 @@ ghost use Rattle.sbl_tree.specs.View.{view_among, view_command, view_groups, vie
 
 use sbl_tree::{Among, Command, Group, Joined, Row};
 
-/// What is found in a part of a tree.
-pub(crate) enum Found<'a> {
+/// How a walk through a part of a tree ends.
+pub(crate) enum WalkEnd<'a> {
     /// The among, with the depth at which it stands.
     There(u8, &'a Among),
     /// The number that the among has behind the part.
@@ -22,7 +22,7 @@ pub(crate) enum Found<'a> {
 
 /// The among with this number in a command that stands at `depth`.
 #[cycle(find)]
-fn in_command(command: &Command, depth: u8, number: u64) -> Found<'_>
+fn in_command(command: &Command, depth: u8, number: u64) -> WalkEnd<'_>
     ensures { AreShallow (placed (view_command command.now) depth []) → Finds result number (λ rest. spec.amongs (view_command command.now) depth rest) }
 {
     let inside = depth.saturating_add(1);
@@ -31,8 +31,8 @@ fn in_command(command: &Command, depth: u8, number: u64) -> Found<'_>
         Command::Prefixed(_, inner) => in_command(inner, inside, number),
         Command::Counted(_, _, inner) => in_command(inner, inside, number),
         Command::SetLimit(limit, inner) => match in_command(limit, inside, number) {
-            Found::Behind(number) => in_command(inner, inside, number),
-            Found::There(depth, among) => Found::There(depth, among),
+            WalkEnd::Behind(number) => in_command(inner, inside, number),
+            WalkEnd::There(depth, among) => WalkEnd::There(depth, among),
         },
         Command::Among(among) => in_among(among, depth, number),
         Command::Simple(_)
@@ -47,86 +47,86 @@ fn in_command(command: &Command, depth: u8, number: u64) -> Found<'_>
         | Command::Splice(_, _)
         | Command::Assign(_, _, _)
         | Command::Compare(_, _, _)
-        | Command::CompareValues(_, _, _) => Found::Behind(number),
+        | Command::CompareValues(_, _, _) => WalkEnd::Behind(number),
     }
 }
 
 /// An among comes before those in its starter, and these before those in its groups.
 #[cycle(find)]
-fn in_among(among: &Among, depth: u8, number: u64) -> Found<'_>
+fn in_among(among: &Among, depth: u8, number: u64) -> WalkEnd<'_>
     ensures { AreShallow (placed (trees.among_ (view_among among.now).0 (view_among among.now).1) depth []) → Finds result number (λ rest. spec.amongs (trees.among_ (view_among among.now).0 (view_among among.now).1) depth rest) }
 {
     if number == 1 {
-        return Found::There(depth, among);
+        return WalkEnd::There(depth, among);
     }
     let inside = number.saturating_sub(1);
     match in_starter(among, depth, inside) {
-        Found::Behind(number) => in_groups(&among.groups, depth, number),
-        Found::There(depth, among) => Found::There(depth, among),
+        WalkEnd::Behind(number) => in_groups(&among.groups, depth, number),
+        WalkEnd::There(depth, among) => WalkEnd::There(depth, among),
     }
 }
 
 #[cycle(find)]
-fn in_starter(among: &Among, depth: u8, number: u64) -> Found<'_>
+fn in_starter(among: &Among, depth: u8, number: u64) -> WalkEnd<'_>
     ensures { AreShallow (placed_starter (view_among among.now).0 depth []) → Finds result number (λ rest. spec.amongs_of_starter (view_among among.now).0 depth rest) }
 {
     match &among.starter {
-        None => Found::Behind(number),
+        None => WalkEnd::Behind(number),
         Some(rows) => in_rows(rows, depth.saturating_add(2), number),
     }
 }
 
 #[cycle(find)]
-fn in_groups(groups: &Vec<Group>, depth: u8, number: u64) -> Found<'_>
+fn in_groups(groups: &Vec<Group>, depth: u8, number: u64) -> WalkEnd<'_>
     ensures { AreShallow (placed_groups (view_groups groups.now.items []) depth []) → (bare : List trees.Entry) → Finds result number (λ rest. spec.amongs_of_groups (view_groups groups.now.items bare) depth rest) }
 {
     let inside = depth.saturating_add(2);
     let mut behind = number;
     for group in groups {
         match in_rows(&group.rows, inside, behind) {
-            Found::Behind(next) => behind = next,
-            Found::There(depth, among) => return Found::There(depth, among),
+            WalkEnd::Behind(next) => behind = next,
+            WalkEnd::There(depth, among) => return WalkEnd::There(depth, among),
         }
     }
-    Found::Behind(behind)
+    WalkEnd::Behind(behind)
 }
 
 #[cycle(find)]
-fn in_rows(rows: &Vec<Row>, depth: u8, number: u64) -> Found<'_>
+fn in_rows(rows: &Vec<Row>, depth: u8, number: u64) -> WalkEnd<'_>
     ensures { AreShallow (placed_rows (view_rows rows.now.items) depth []) → Finds result number (λ rest. spec.amongs_of_rows (view_rows rows.now.items) depth rest) }
 {
     let mut behind = number;
     for row in rows {
         match in_row(row, depth, behind) {
-            Found::Behind(next) => behind = next,
-            Found::There(depth, among) => return Found::There(depth, among),
+            WalkEnd::Behind(next) => behind = next,
+            WalkEnd::There(depth, among) => return WalkEnd::There(depth, among),
         }
     }
-    Found::Behind(behind)
+    WalkEnd::Behind(behind)
 }
 
 #[cycle(find)]
-fn in_row(row: &Row, depth: u8, number: u64) -> Found<'_>
+fn in_row(row: &Row, depth: u8, number: u64) -> WalkEnd<'_>
     ensures { AreShallow (placed (view_row row.now).0 depth (placed_others (view_row row.now).1 depth [])) → Finds result number (λ rest. spec.amongs (view_row row.now).0 depth (spec.amongs_of_others (view_row row.now).1 depth rest)) }
 {
     match in_command(&row.first, depth, number) {
-        Found::Behind(number) => in_others(&row.others, depth, number),
-        Found::There(depth, among) => Found::There(depth, among),
+        WalkEnd::Behind(number) => in_others(&row.others, depth, number),
+        WalkEnd::There(depth, among) => WalkEnd::There(depth, among),
     }
 }
 
 #[cycle(find)]
-fn in_others(others: &Vec<Joined>, depth: u8, number: u64) -> Found<'_>
+fn in_others(others: &Vec<Joined>, depth: u8, number: u64) -> WalkEnd<'_>
     ensures { AreShallow (placed_others (view_others others.now.items) depth []) → Finds result number (λ rest. spec.amongs_of_others (view_others others.now.items) depth rest) }
 {
     let mut behind = number;
     for joined in others {
         match in_command(&joined.command, depth, behind) {
-            Found::Behind(next) => behind = next,
-            Found::There(depth, among) => return Found::There(depth, among),
+            WalkEnd::Behind(next) => behind = next,
+            WalkEnd::There(depth, among) => return WalkEnd::There(depth, among),
         }
     }
-    Found::Behind(behind)
+    WalkEnd::Behind(behind)
 }
 
 /// The among of a routine's body with this number, counted from 1 in the order of the words `among`, and the depth at
@@ -137,7 +137,7 @@ pub fn nth_among(row: &Row, number: u64) -> Option<(u8, &Among)>
     ensures depth { MatchOption result (Unit {0}) (λ x. x.0 ≤ max_depth) }
 {
     match in_row(row, 1, number) {
-        Found::There(depth, among) => Some((depth, among)),
-        Found::Behind(_) => None,
+        WalkEnd::There(depth, among) => Some((depth, among)),
+        WalkEnd::Behind(_) => None,
     }
 }

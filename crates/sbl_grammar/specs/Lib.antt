@@ -1,4 +1,5 @@
 -- what the contracts of public calls rest on
+pub mod Profile
 pub mod Reading
 pub mod Told
 pub mod Laws

@@ -2,6 +2,8 @@
 
 ghost use Rattle.std.specs.Prelude.{◌≡◌, ◌<◌, length, drop, IfOk, string_bytes};
 ghost use Rattle.sbl_tree.specs.Terminal.{terminals_of, left, word_terminal, sign_terminal};
+ghost use Rattle.sbl_text.specs.Lexemes.{lexeme_of};
+ghost use Rattle.sbl_grammar.specs.Profile as profile;
 ghost use Rattle.sbl_grammar.specs.Roles.{role_of, role_as};
 ghost use Rattle.sbl_grammar.specs.First.{kind_role, first_text, first_number, first_inserts, first_literal, quoted_in};
 ghost use Rattle.sbl_tree.specs.View.{view_literal};
@@ -120,6 +122,13 @@ fn role_of_kind(kind: Kind) -> Role
         Kind::Inserts => Role::Inserts,
         Kind::MacroName => Role::MacroName,
     }
+}
+
+/// Whether the token is of the language, and not of what is offered here: it stands in no tree.
+pub fn is_left_out(token: &Token<'_>) -> bool
+    ensures { result ≡ profile.is_left_out (lexeme_of token.now) }
+{
+    role_of_kind(token.kind) == Role::Other
 }
 
 /// The tokens from a place on.

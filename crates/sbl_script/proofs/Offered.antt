@@ -32,7 +32,7 @@ use Rattle.sbl_tree.specs.declared.tree.Constant.TheVariants as constants
 use Rattle.sbl_tree.specs.Terminal.{Terminal, lexeme_as}
 use Rattle.sbl_tree.specs.Terminal as t
 use Rattle.sbl_tree.specs.Tree.{Expression, expression, Sums, no_sums, sum, Product, product, Scales, no_scales, scale, Factor, negated, bracketed, numeral, variable, fixed, length_of, Argument, written_out, by_name, Entry, entry, Command, bracket, simple_, literal_, name_, non_, prefixed, counted, move_, named, splice_, setlimit_, assign_, compare_, compare_values_, among_, Rows, no_rows, row, Others, no_others, joined, Starter, no_starter, starter, Groups, bare, group, Term, term, Plain, declaration, escapes, macro, routine, grouping, Item, plain, backward, argument_terminal, spelled_expression, spelled_sums, spelled_product, spelled_scales, spelled_factor, spelled_entry, spelled_entries, spelled, spelled_rows, spelled_others, spelled_starter, spelled_groups, spelled_names, spelled_base, spelled_terms, spelled_plain, spelled_plains, spelled_items, written}
-use Rattle.sbl_script.specs.Reading.{is_left_out}
+use Rattle.sbl_grammar.specs.Profile.{is_left_out}
 
 abbrev Ts : Type 0
 Ts = List Terminal

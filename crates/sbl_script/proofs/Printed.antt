@@ -17,7 +17,8 @@ use Rattle.sbl_print.specs.Spaced.{CanonicalIsSpaced}
 use Rattle.sbl_script.specs.Parsed.{Source}
 use Rattle.sbl_checks.specs.Checks.{WellDeclared}
 use Rattle.sbl_script.specs.Printed.{CanonicalIsRead}
-use Rattle.sbl_script.specs.Reading.{first_left_out, is_left_out, terminals}
+use Rattle.sbl_grammar.specs.Profile.{is_left_out}
+use Rattle.sbl_script.specs.Reading.{first_left_out, terminals}
 use Rattle.sbl_script.specs.Spelled.{AreSpelled}
 use Rattle.sbl_script.proofs.Offered.{none_left_out}
 use Rattle.sbl_script.proofs.OneReading.{said_so}

@@ -1,18 +1,14 @@
 -- What reading a script is, and why bytes are no script.
-use Rattle.std.specs.Prelude.{◌≡◌, ◌⊎◌, ℕ, ◌<◌, ◌≤◌, Bool, true, false, List, [], ◌∷◌, ◌++◌, length, map, Option, Some, None, if◌then◌else◌}
+use Rattle.std.specs.Prelude.{◌≡◌, ◌⊎◌, ℕ, ◌<◌, ◌≤◌, List, [], ◌∷◌, ◌++◌, length, map, Option, Some, None, if◌then◌else◌}
 use Rattle.std.specs.Str.{IsUtf8, chars}
 use Rattle.sbl_text.specs.declared.fault.ScriptFault.{ScriptFault}
 use Rattle.sbl_text.specs.declared.fault.ScriptFault.TheVariants as fault
-use Rattle.sbl_text.specs.declared.signs.Sign.{Sign}
-use Rattle.sbl_text.specs.declared.signs.Sign.TheVariants as signs
-use Rattle.sbl_text.specs.declared.words.Word.{Word}
-use Rattle.sbl_text.specs.declared.words.Word.TheVariants as words
-use Rattle.sbl_text.specs.Lexemes.{Lexeme, word, sign}
 use Rattle.sbl_text.specs.Directives.{Directives, start}
 use Rattle.sbl_text.specs.Tokens.{Placed, ArePlacedFrom, IsFirstFaultFrom}
 use Rattle.sbl_tree.specs.Terminal.{Terminal, terminal_of}
 use Rattle.sbl_tree.specs.Tree.{Item}
 use Rattle.sbl_tree.specs.Texts.{Text, script}
+use Rattle.sbl_grammar.specs.Profile.{is_left_out}
 use Rattle.sbl_grammar.specs.Reading.{IsReadAs, IsSyntaxAt, IsTooDeepAt, IsOutOfProfileAt}
 use Rattle.sbl_script.specs.Parsed.{Source}
 use Rattle.sbl_checks.specs.Checks.{WellDeclared, fault_of}
@@ -30,26 +26,7 @@ pub record HasTokens (s : Directives) (bytes : List ℕ) (ts : List Placed) : Ty
 abbrev pub terminals : List Placed → List Terminal
 terminals ts = map (λ (t : Placed). terminal_of t.lexeme) ts
 
--- ---- tokens of the language that are not offered here
-
-abbrev pub is_left_out_word : Word → Bool
-is_left_out_word words.Get = true
-is_left_out_word words.Reverse = true
-is_left_out_word words.Size = true
-is_left_out_word words.SizeOf = true
-is_left_out_word _ = false
-
-abbrev pub is_left_out_sign : Sign → Bool
-is_left_out_sign signs.EqualsGreater = true
-is_left_out_sign signs.Question = true
-is_left_out_sign _ = false
-
-abbrev pub is_left_out : Lexeme → Bool
-is_left_out (word w) = is_left_out_word w
-is_left_out (sign s) = is_left_out_sign s
-is_left_out _ = false
-
--- the place of the first of them
+-- the place of the first token that is not offered here
 abbrev pub first_left_out : List Placed → Option ℕ
 first_left_out [] = None
 first_left_out (t ∷ ts) = if is_left_out t.lexeme then Some t.start else first_left_out ts

@@ -9,7 +9,6 @@ ghost use Rattle.sbl_tree.specs.View.{view_among, view_items, view_row};
 ghost use Rattle.sbl_tree.specs.Counts.{count_in_among};
 ghost use Rattle.sbl_checks.specs.Checks.{WellDeclared, fault_of};
 ghost use Rattle.sbl_script.specs.Spelled.{AreSpelled, IsRowSpelled};
-ghost use Rattle.sbl_text.specs.Lexemes.{lexeme_of};
 ghost use Rattle.sbl_text.specs.Directives.{start, Directives};
 ghost use Rattle.sbl_text.specs.Tokens.{placed_of};
 ghost use Rattle.sbl_script.specs.Reading as spec;
@@ -19,9 +18,9 @@ use crate::edits;
 use crate::edits::{escapes_before, items_with};
 use sbl_amongs::{has_as_many_amongs, nth_among, put_in_place};
 use sbl_checks::{body_in, check};
-use sbl_grammar::{parse, parse_among, parse_body};
+use sbl_grammar::{is_left_out, parse, parse_among, parse_body};
 use sbl_print::canonical_text;
-use sbl_text::{Kind, ScriptFault, Sign, Token, Word, tokens, tokens_under};
+use sbl_text::{ScriptFault, Token, tokens, tokens_under};
 use sbl_tree::{Among, Item, Row};
 use std::alloc::{AllocError, Global};
 use std::marker::Model;
@@ -29,30 +28,7 @@ use std::marker::Model;
 /// The most bytes of a script (our own choice).
 pub const MAX_SCRIPT: usize = 1_048_576;
 
-fn is_left_out_word(word: Word) -> bool
-    ensures { result ≡ spec.is_left_out_word word }
-{
-    matches!(word, Word::Get | Word::Reverse | Word::Size | Word::SizeOf)
-}
-
-fn is_left_out_sign(sign: Sign) -> bool
-    ensures { result ≡ spec.is_left_out_sign sign }
-{
-    matches!(sign, Sign::EqualsGreater | Sign::Question)
-}
-
-/// Whether the token is of the language, and not of what is offered here.
-fn is_left_out(token: &Token) -> bool
-    ensures { result ≡ spec.is_left_out (lexeme_of token.now) }
-{
-    match token.kind {
-        Kind::Word(word) => is_left_out_word(word),
-        Kind::Sign(sign) => is_left_out_sign(sign),
-        _ => false,
-    }
-}
-
-/// The place of the first token that is left out.
+/// The place of the first token that is not offered here.
 fn first_left_out(tokens: &[Token]) -> Option<usize>
     ensures { result ≡ spec.first_left_out (map placed_of tokens.now) }
 {

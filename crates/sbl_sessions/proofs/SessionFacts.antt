@@ -12,7 +12,7 @@ use Rattle.sbl_sessions.specs.CommandViews.{IsAnswer, IsAnswered, IsReply, IsTex
 use Rattle.sbl_sessions.specs.Commands.{block_command, command_of, line_command}
 use Rattle.sbl_lines.specs.Held.{AllFit, BeginsLong, BreaksOff, GivesLine, Took, TookWhole}
 use Rattle.sbl_sessions.specs.Requests.{HasBlock, IsBegun, IsOpen, IsRequest, Request, TookRequests, asks_block, block_lines, lines_in, lines_in_all}
-use Rattle.sbl_sessions.specs.Session.{Answered, HalfAnswered, IsSession, SoFar}
+use Rattle.sbl_sessions.specs.Session.{Answered, HalfAnswered, IsSession, Served}
 use Rattle.sbl_sessions.specs.declared.block_text.BlockText.{BlockText}
 use Rattle.sbl_lines.specs.Faults.{serve_fault_of}
 use Rattle.sbl_lines.specs.declared.faults.LineFault.{LineFault}
@@ -81,31 +81,31 @@ one_more a b c d done line block so gives fits formed fit took =
 
 -- ---- the session
 
-pub session_starts : (a h : Option (List ℕ)) (s : Contents) → SoFar a a h h s s
+pub session_starts : (a h : Option (List ℕ)) (s : Contents) → Served a a h h s s
 session_starts a h s = ([], none_taken a, nothing_yet s h)
 
 pub session_goes_on : (a b c d h i j : Option (List ℕ)) (s t u : Contents) (line : List ℕ) (reply : Reply)
-    → SoFar a b h i s t → GivesLine b c line → length line ≤ 65536 → IsAnswered c d line t reply u
-    → ((text : List ℕ) → IsReply reply text → Appends i j text) → SoFar a d h j s u
+    → Served a b h i s t → GivesLine b c line → length line ≤ 65536 → IsAnswered c d line t reply u
+    → ((text : List ℕ) → IsReply reply text → Appends i j text) → Served a d h j s u
 session_goes_on a b c d h i j s t u line reply so gives fits is writes = (
   so.0 ++ record { line = line; block = is.block } ∷ [],
   one_more a b c d so.0 line is.block so.1 gives fits is.formed is.fit is.took,
   answered-more s t u so.0 (record { line = line; block = is.block }) h i j is.answer.0 is.answer.1 so.2 (writes is.answer.1 is.answer.2) is.answer.3,
 )
 
-pub session_ends : (a b c h i : Option (List ℕ)) (s t : Contents) → SoFar a b h i s t → Keeps b c → IsAtEnd c → IsSession a c h i s t (Ok tt)
+pub session_ends : (a b c h i : Option (List ℕ)) (s t : Contents) → Served a b h i s t → Keeps b c → IsAtEnd c → IsSession a c h i s t (Ok tt)
 session_ends a b c h i s t so keeps end =
     ((so.0, record { each = so.1.each; fit = so.1.fit; lines = took-kept a b c (lines_in_all so.0) so.1.lines keeps }, so.2), end)
 
 -- where the lines have no further one
-pub session_at_line : (a b c h i : Option (List ℕ)) (s t : Contents) (k : Option LineFault) (part : List ℕ) (f : LineFault) → SoFar a b h i s t → k ≡ None
+pub session_at_line : (a b c h i : Option (List ℕ)) (s t : Contents) (k : Option LineFault) (part : List ℕ) (f : LineFault) → Served a b h i s t → k ≡ None
     → (f ≡ read.Read → TookWhole a b) → (f ≡ read.TooLong → BeginsLong b ⊎ (k ≡ Some f)) → (f ≡ read.Read → k ≡ None → BreaksOff b c part)
     → IsSession a c h i s t (Err (serve_fault_of f))
 session_at_line a b c h i s t k part read.Read so none whole long cut = (b, whole refl, so, broken IsBegun b b c k [] part read.Read tt (took-none b) none long cut)
 session_at_line a b c h i s t k part read.TooLong so none whole long cut = (b, so, broken IsBegun b b c k [] part read.TooLong tt (took-none b) none long cut)
 
 -- where a block has no end
-pub session_open : (a b c d h i : Option (List ℕ)) (s t : Contents) (line : List ℕ) (f : ServeFault) → SoFar a b h i s t → GivesLine b c line → length line ≤ 65536
+pub session_open : (a b c d h i : Option (List ℕ)) (s t : Contents) (line : List ℕ) (f : ServeFault) → Served a b h i s t → GivesLine b c line → length line ≤ 65536
     → asks_block line ≡ true → (f ≡ fault.Read → TookWhole a b) → Breaks BlockLines c d f → IsSession a d h i s t (Err f)
 session_open a b c d h i s t line fault.Read so gives fits asks whole breaks =
     (b, whole refl, so, (line ∷ breaks.0, breaks.1, breaks.2, (asks, fits, breaks.3), took-trans b c breaks.1 (line ∷ []) breaks.0 gives breaks.4, breaks.5))
@@ -120,7 +120,7 @@ session_open a b c d h i s t line fault.LengthsDiffer so gives fits asks whole b
 
 -- where an answer was broken off by the writer
 pub session_at_write : (a b c d h i j : Option (List ℕ)) (s t u : Contents) (line : List ℕ) (reply : Reply) (n : ℕ)
-    → SoFar a b h i s t → GivesLine b c line → length line ≤ 65536 → IsAnswered c d line t reply u
+    → Served a b h i s t → GivesLine b c line → length line ≤ 65536 → IsAnswered c d line t reply u
     → ((text : List ℕ) → IsReply reply text → Appends i j (take n text)) → IsSession a d h j s u (Err fault.Write)
 session_at_write a b c d h i j s t u line reply n so gives fits is writes = (
   so.0,

@@ -33,9 +33,9 @@ pub record HalfAnswered (s : Contents) (requests : List Request) (request : Requ
   pub count : ℕ
   pub written : Appends held new_held (text ++ take count reply)
 
--- The session so far: requests were taken from the front of the input, and these, and no more, were answered.
-abbrev pub SoFar : Option (List ℕ) → Option (List ℕ) → Option (List ℕ) → Option (List ℕ) → Contents → Contents → Type 0
-SoFar input new_input held new_held s t = (requests : List Request) × TookRequests input new_input requests × Answered s requests held new_held t
+-- Requests were taken from the front of the input, and these, and no more, were answered.
+abbrev pub Served : Option (List ℕ) → Option (List ℕ) → Option (List ℕ) → Option (List ℕ) → Contents → Contents → Type 0
+Served input new_input held new_held s t = (requests : List Request) × TookRequests input new_input requests × Answered s requests held new_held t
 
 -- What a session of this input writes, and what the bench is after it, by how it ends, and what input it leaves then. At the end
 -- of input all requests are answered. Where the input ends inside a block, a line is too long, or the reader stops, all requests
@@ -43,15 +43,15 @@ SoFar input new_input held new_held s t = (requests : List Request) × TookReque
 -- request that was answered. Where the writer stops, the edit of the
 -- request in hand is made and its answer broken off.
 abbrev pub IsSession : Option (List ℕ) → Option (List ℕ) → Option (List ℕ) → Option (List ℕ) → Contents → Contents → Result (Unit {0}) ServeFault → Type 0
-IsSession input new_input held new_held s t (Ok u) = SoFar input new_input held new_held s t × IsAtEnd new_input
+IsSession input new_input held new_held s t (Ok u) = Served input new_input held new_held s t × IsAtEnd new_input
 IsSession input new_input held new_held s t (Err fault.Write) =
     (requests : List Request) × (request : Request) × TookRequests input new_input (requests ++ request ∷ []) × HalfAnswered s requests request held new_held t
 IsSession input new_input held new_held s t (Err fault.Cut) =
-    (between : Option (List ℕ)) × SoFar input between held new_held s t × Breaks IsOpen between new_input fault.Cut
+    (between : Option (List ℕ)) × Served input between held new_held s t × Breaks IsOpen between new_input fault.Cut
 IsSession input new_input held new_held s t (Err fault.Read) =
-    (between : Option (List ℕ)) × TookWhole input between × SoFar input between held new_held s t × Breaks IsBegun between new_input fault.Read
+    (between : Option (List ℕ)) × TookWhole input between × Served input between held new_held s t × Breaks IsBegun between new_input fault.Read
 IsSession input new_input held new_held s t (Err f) =
-    (between : Option (List ℕ)) × SoFar input between held new_held s t × Breaks IsBegun between new_input f
+    (between : Option (List ℕ)) × Served input between held new_held s t × Breaks IsBegun between new_input f
 
 -- Why a session may end: a fault of reading or writing has its cause in the device or a bound, or is one that the lines
 -- answer again; a line that is too long, or a block that the end of input cuts, stands in the input, which is told above.

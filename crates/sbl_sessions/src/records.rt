@@ -39,26 +39,26 @@ pub(crate) trait Record {
     ghost fields: { Self → List (List ℕ) };
 
     /// Puts its fields into an empty record, each by way of a text that is used again. A refused growth is the one error.
-    fn fill(&self, text: &mut String, record: &mut ByteRecord) -> Result<(), AllocError>
-        requires empty { fields_of record.old ≡ [] }
-        requires whole { partial_of record.old ≡ [] }
-        ensures { OnOk result (fields_of record.new ≡ fields self.now) };
+    fn fill(&self, text: &mut String, csv_record: &mut ByteRecord) -> Result<(), AllocError>
+        requires empty { fields_of csv_record.old ≡ [] }
+        requires whole { partial_of csv_record.old ≡ [] }
+        ensures { OnOk result (fields_of csv_record.new ≡ fields self.now) };
 }
 
 impl Record for Row<'_> {
     ghost fields = { λ row. spec.row_fields (view_row row) };
 
     #[tactic(auto, unfolding(crate::specs::Rows::row_fields))]
-    fn fill(&self, text: &mut String, record: &mut ByteRecord) -> Result<(), AllocError> {
-        push_text(text, record, self.word)?;
+    fn fill(&self, text: &mut String, csv_record: &mut ByteRecord) -> Result<(), AllocError> {
+        push_text(text, csv_record, self.word)?;
         match self.outcome {
             Outcome::Stem(stem) => {
-                record.push_field(b"stem")?;
-                push_text(text, record, stem)
+                csv_record.push_field(b"stem")?;
+                push_text(text, csv_record, stem)
             }
             Outcome::Refused(fault) => {
-                record.push_field(b"refused")?;
-                record.push_field(fault.name().as_bytes())
+                csv_record.push_field(b"refused")?;
+                csv_record.push_field(fault.name().as_bytes())
             }
         }
     }
@@ -68,26 +68,26 @@ impl Record for Class {
     ghost fields = { λ class. spec.class_fields (view_class class) };
 
     #[tactic(auto, unfolding(crate::specs::Rows::class_fields))]
-    fn fill(&self, text: &mut String, record: &mut ByteRecord) -> Result<(), AllocError> {
-        push_text(text, record, &self.stem)?;
-        push_words(text, record, &self.words)
+    fn fill(&self, text: &mut String, csv_record: &mut ByteRecord) -> Result<(), AllocError> {
+        push_text(text, csv_record, &self.stem)?;
+        push_words(text, csv_record, &self.words)
     }
 }
 
 impl Record for Item {
     ghost fields = { λ item. item_fields (item_of item) };
 
-    fn fill(&self, text: &mut String, record: &mut ByteRecord) -> Result<(), AllocError> {
+    fn fill(&self, text: &mut String, csv_record: &mut ByteRecord) -> Result<(), AllocError> {
         match self {
             Item::Routine(name) => {
-                record.push_field(b"routine")?;
-                record.push_field(name.as_bytes())
+                csv_record.push_field(b"routine")?;
+                csv_record.push_field(name.as_bytes())
             }
             Item::Among(name, number) => {
                 let number = format!(in *text.allocator(); "{number}")?;
-                record.push_field(b"among")?;
-                record.push_field(name.as_bytes())?;
-                record.push_field(number.as_bytes())
+                csv_record.push_field(b"among")?;
+                csv_record.push_field(name.as_bytes())?;
+                csv_record.push_field(number.as_bytes())
             }
         }
     }
@@ -96,28 +96,28 @@ impl Record for Item {
 /// Puts some characters at the end of a record, as a field. A refused growth is the one error.
 fn push_text(
     text: &mut String,
-    record: &mut ByteRecord,
+    csv_record: &mut ByteRecord,
     characters: &[char],
 ) -> Result<(), AllocError>
-    requires { partial_of record.old ≡ [] }
-    ensures fields { OnOk result (fields_of record.new ≡ fields_of record.old ++ encode_utf8_all characters.now ∷ []) }
-    ensures partial { OnOk result (partial_of record.new ≡ []) }
+    requires { partial_of csv_record.old ≡ [] }
+    ensures fields { OnOk result (fields_of csv_record.new ≡ fields_of csv_record.old ++ encode_utf8_all characters.now ∷ []) }
+    ensures partial { OnOk result (partial_of csv_record.new ≡ []) }
 {
     set_text(text, characters)?;
-    record.push_field(text.as_bytes())
+    csv_record.push_field(text.as_bytes())
 }
 
 /// Puts words at the end of a record, each as a field. A refused growth is the one error.
 fn push_words(
     text: &mut String,
-    record: &mut ByteRecord,
+    csv_record: &mut ByteRecord,
     words: &[Vec<char>],
 ) -> Result<(), AllocError>
-    requires { partial_of record.old ≡ [] }
-    ensures { OnOk result (fields_of record.new ≡ fields_of record.old ++ map encode_utf8_all (words_of words.now)) }
+    requires { partial_of csv_record.old ≡ [] }
+    ensures { OnOk result (fields_of csv_record.new ≡ fields_of csv_record.old ++ map encode_utf8_all (words_of words.now)) }
 {
     for word in words {
-        push_text(text, record, word)?;
+        push_text(text, csv_record, word)?;
     }
     Ok(())
 }
@@ -131,11 +131,11 @@ pub(crate) fn records_text<T: Record>(alloc: Global, records: &[T]) -> Result<Ve
         .flexible(true)
         .from_writer(Vec::new(alloc));
     let mut text = String::new(alloc);
-    let mut record = ByteRecord::new(alloc);
+    let mut csv_record = ByteRecord::new(alloc);
     for item in records {
-        record.clear();
-        item.fill(&mut text, &mut record)?;
-        if writer.write_byte_record(&record).is_err() {
+        csv_record.clear();
+        item.fill(&mut text, &mut csv_record)?;
+        if writer.write_byte_record(&csv_record).is_err() {
             return Err(AllocError);
         }
     }

@@ -1,6 +1,4 @@
-//! Lines, sessions and the program, each file by what it tries.
+//! Lines and sessions, each file by what it tries.
 
-mod devices;
 mod lines;
-mod program;
 mod sessions;

@@ -1,4 +1,4 @@
-//! The program, over a reader and two writers.
+//! The program, over the lines of a reader and two writers.
 ghost use Rattle.std.specs.Prelude.{◌≡◌, ◌≤◌, None, IfOk};
 ghost use Rattle.sbl_lines.specs.Devices.{WritesInTime};
 ghost use Rattle.sbl_lines.specs.Held.{KeepsTime, fault_of, input_of};
@@ -9,13 +9,13 @@ use crate::command_line::{Verb, Wanted};
 use sbl_lines::{Lines, ServeFault, Sink, Source, write_all};
 use sbl_script::Script;
 use sbl_sessions::{LoadFault, load, read_script, serve, stems_text};
-use std::alloc::{AllocError, Global};
+use std::alloc::AllocError;
 use std::fmt::InlineText;
 
 /// How many bytes the line of a fault has at most: the longest has fewer.
 const MAX_FAULT_LINE: usize = 96;
 
-/// The whole program: does what the command line asks for, reads from `reader`, writes to `writer`, and answers the exit
+/// The whole program: does what the command line asks for, reads these lines, writes to `writer`, and answers the exit
 /// status: 0, or 1 for a fault or a difference. A fault is one line in `errors`: `snowbench: ` and what the fault shows. What
 /// was answered before it stays with `writer`.
 ///
@@ -23,17 +23,17 @@ const MAX_FAULT_LINE: usize = 96;
 /// script block, a block of words and the expected stems to the end of input, all before it runs anything, and then writes a
 /// row for each difference.
 pub fn run<R: Source + Drop, W: Sink, E: Sink>(
-    alloc: Global,
     wanted: &Wanted,
-    reader: R,
+    lines: &mut Lines<R>,
     writer: &mut W,
     errors: &mut E,
 ) -> u8
     ensures status { result ≤ 1 }
+    ensures reads_in_time { KeepsTime R.ended R.late R.interruptions R.reads lines.old lines.new }
     ensures writes_in_time { WritesInTime W.late W.interruptions writer.old writer.new }
     ensures errors_in_time { WritesInTime E.late E.interruptions errors.old errors.new }
 {
-    match answer(alloc, wanted, reader, writer) {
+    match answer(wanted, lines, writer) {
         Ok(0) => 0,
         Ok(_) => 1,
         Err(fault) => {
@@ -47,26 +47,25 @@ pub fn run<R: Source + Drop, W: Sink, E: Sink>(
 
 /// Does what is wanted, and answers the number of differences.
 fn answer<R: Source + Drop, W: Sink>(
-    alloc: Global,
     wanted: &Wanted,
-    reader: R,
+    lines: &mut Lines<R>,
     writer: &mut W,
 ) -> Result<u64, LoadFault>
+    ensures reads_in_time { KeepsTime R.ended R.late R.interruptions R.reads lines.old lines.new }
     ensures writes_in_time { WritesInTime W.late W.interruptions writer.old writer.new }
 {
     let external = wanted.external.as_str();
-    let mut lines = Lines::new(alloc, reader)?;
     match wanted.verb {
         Verb::Session => {
-            let mut bench = load(&mut lines, external)?;
-            serve(&mut bench, &mut lines, writer)?;
+            let mut bench = load(lines, external)?;
+            serve(&mut bench, lines, writer)?;
             Ok(0)
         }
         Verb::Stem => {
-            stem(&mut lines, external, writer)?;
+            stem(lines, external, writer)?;
             Ok(0)
         }
-        Verb::Check => check_input(&mut lines, external, writer),
+        Verb::Check => check_input(lines, external, writer),
     }
 }
 
@@ -93,6 +92,7 @@ fn check_input<R: Source + Drop, W: Sink>(
     external: &str,
     writer: &mut W,
 ) -> Result<u64, LoadFault>
+    ensures reads_in_time { KeepsTime R.ended R.late R.interruptions R.reads lines.old lines.new }
     ensures writes_in_time { WritesInTime W.late W.interruptions writer.old writer.new }
 {
     let text = read_script(lines)?;
@@ -106,7 +106,9 @@ fn check_input<R: Source + Drop, W: Sink>(
 }
 
 /// The lines up to a line `.`, each as `push_line` puts it.
-fn read_block<R: Source + Drop>(lines: &mut Lines<R>) -> Result<Vec<u8>, LoadFault> {
+fn read_block<R: Source + Drop>(lines: &mut Lines<R>) -> Result<Vec<u8>, LoadFault>
+    ensures in_time { KeepsTime R.ended R.late R.interruptions R.reads lines.old lines.new }
+{
     let mut text = Vec::new(lines.alloc());
     while lines.next_line()? {
         if lines.line() == b".".as_slice() {
@@ -118,7 +120,9 @@ fn read_block<R: Source + Drop>(lines: &mut Lines<R>) -> Result<Vec<u8>, LoadFau
 }
 
 /// The lines up to the end of input, each as `push_line` puts it.
-fn read_rest<R: Source + Drop>(lines: &mut Lines<R>) -> Result<Vec<u8>, LoadFault> {
+fn read_rest<R: Source + Drop>(lines: &mut Lines<R>) -> Result<Vec<u8>, LoadFault>
+    ensures in_time { KeepsTime R.ended R.late R.interruptions R.reads lines.old lines.new }
+{
     let mut text = Vec::new(lines.alloc());
     while lines.next_line()? {
         push_line(&mut text, lines.line())?;

@@ -1,13 +1,16 @@
 //! Lines of a reader, and its faults.
 
-use crate::tests::devices::in_pieces;
-use snowbench::{Device, LineFault, Lines};
+use sbl_lines::{Device, LineFault, Lines};
 use std::test::Fail;
+use test_devices::in_pieces;
 
 #[test]
 fn lines_are_the_same_in_pieces_of_every_size(rt: HostRuntime) -> Result<(), Fail> {
     for piece in 1..8usize {
-        let mut lines = Lines::new(rt.alloc(), in_pieces(b"ab\r\n\ncd".as_slice(), piece, 0, 1))?;
+        let mut lines = Lines::new(
+            rt.alloc(),
+            Device::new(in_pieces(b"ab\r\n\ncd".as_slice(), piece, 0, 1)),
+        )?;
         assert!(rt; lines.next_line() == Ok(true));
         assert!(rt; lines.line() == b"ab".as_slice());
         assert!(rt; lines.next_line() == Ok(true));
@@ -22,14 +25,23 @@ fn lines_are_the_same_in_pieces_of_every_size(rt: HostRuntime) -> Result<(), Fai
 #[test]
 fn a_read_fault_is_answered_again(rt: HostRuntime) -> Result<(), Fail> {
     // Reads 1 to 3 give `a`, `b` and the line feed, read 5 fails.
-    let mut lines = Lines::new(rt.alloc(), in_pieces(b"ab\ncd\n".as_slice(), 1, 5, 0))?;
+    let mut lines = Lines::new(
+        rt.alloc(),
+        Device::new(in_pieces(b"ab\ncd\n".as_slice(), 1, 5, 0)),
+    )?;
     assert!(rt; lines.next_line() == Ok(true));
     assert!(rt; lines.next_line() == Err(LineFault::Read));
     assert!(rt; lines.next_line() == Err(LineFault::Read));
     // A thousand interruptions in a row are borne, and no more.
-    let mut patient = Lines::new(rt.alloc(), in_pieces(b"ab".as_slice(), 2, 0, 1000))?;
+    let mut patient = Lines::new(
+        rt.alloc(),
+        Device::new(in_pieces(b"ab".as_slice(), 2, 0, 1000)),
+    )?;
     assert!(rt; patient.next_line() == Ok(true));
-    let mut weary = Lines::new(rt.alloc(), in_pieces(b"ab".as_slice(), 2, 0, 1001))?;
+    let mut weary = Lines::new(
+        rt.alloc(),
+        Device::new(in_pieces(b"ab".as_slice(), 2, 0, 1001)),
+    )?;
     assert!(rt; weary.next_line() == Err(LineFault::Read));
     Ok(())
 }

@@ -1,11 +1,12 @@
 //! Whole sessions, by what they write and how they end, and devices that fail. More of them stand in tests/cases.
 
-use crate::tests::devices::in_pieces;
 use sbl_bench::EditFault;
+use sbl_lines::{Device, Lines, ServeFault};
 use sbl_script::ScriptFault;
-use snowbench::{Device, Lines, LoadFault, ServeFault, load, serve};
+use sbl_sessions::{LoadFault, load, serve};
 use std::alloc::Global;
 use std::test::Fail;
+use test_devices::in_pieces;
 
 /// What a session wrote, and how it ended.
 #[derive(Debug, Drop)]
@@ -16,8 +17,8 @@ struct Ended {
 
 // A session of this input, whose reader fails at a read and whose writer fails at a write, both counted from 1, 0 for never.
 fn session(alloc: Global, input: &[u8], read: u64, write: u64) -> Result<Ended, Fail> {
-    let mut writer = in_pieces(Vec::new(alloc), 4, write, 0);
-    let mut lines = Lines::new(alloc, in_pieces(input, 16, read, 0))?;
+    let mut writer = Device::new(in_pieces(Vec::new(alloc), 4, write, 0));
+    let mut lines = Lines::new(alloc, Device::new(in_pieces(input, 16, read, 0)))?;
     let ending = match load(&mut lines, "stem") {
         Ok(mut bench) => serve(&mut bench, &mut lines, &mut writer).map_err(LoadFault::Input),
         Err(fault) => Err(fault),
@@ -224,7 +225,7 @@ fn a_writer_may_be_interrupted_a_thousand_times_in_a_row(rt: HostRuntime) -> Res
             b"".as_slice(),
         ),
     ] {
-        let mut writer = in_pieces(Vec::new(rt.alloc()), 2, 0, interruptions);
+        let mut writer = Device::new(in_pieces(Vec::new(rt.alloc()), 2, 0, interruptions));
         let mut lines = Lines::new(rt.alloc(), Device::new(input.as_slice()))?;
         let mut bench = load(&mut lines, "stem")?;
         let ended = serve(&mut bench, &mut lines, &mut writer).map_err(LoadFault::Input);

@@ -5,4 +5,4 @@ use Rattle.sbl_bench.specs.Classes.{words_of}
 use Rattle.sbl_sessions.proofs.records.push_words.Given as goal
 
 abbrev pub invariant-loop-word : goal.invariant-loop-word
-invariant-loop-word l = (fields_of l.record ≡ fields_of l.fn.record ++ map encode_utf8_all (words_of (take l.word-index l.words))) × (partial_of l.record ≡ [])
+invariant-loop-word l = (fields_of l.csv_record ≡ fields_of l.fn.csv_record ++ map encode_utf8_all (words_of (take l.word-index l.words))) × (partial_of l.csv_record ≡ [])

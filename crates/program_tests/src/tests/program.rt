@@ -1,18 +1,18 @@
 //! Checks, command lines, and the whole program over a reader and writers in memory. More of what it answers stands in
 //! tests/cases.
 
-use crate::tests::devices::{Pieces, in_pieces};
 use sbl_script::Script;
-use snowbench::{Device, ServeFault, Verb, Wanted, check, read_words, run};
+use snowbench::{Device, Lines, ServeFault, Verb, Wanted, check, read_words, run};
 use std::alloc::Global;
 use std::test::Fail;
+use test_devices::{Pieces, in_pieces};
 
 const PREFIXES: &[u8] =
     b"externals ( stem )\ndefine stem as ( [ among ( 'un' () 're' () ) ] delete )\n";
 
 /// A writer in memory that takes four bytes a write and fails at one write, 0 for never.
 fn writer(alloc: Global, fails_at: u64) -> Device<Pieces<Vec<u8>>> {
-    in_pieces(Vec::new(alloc), 4, fails_at, 0)
+    Device::new(in_pieces(Vec::new(alloc), 4, fails_at, 0))
 }
 
 /// What a check wrote, and how it ended.
@@ -103,11 +103,11 @@ fn a_check_ends_where_its_writer_fails(rt: HostRuntime) -> Result<(), Fail> {
 #[test]
 fn a_check_bears_a_thousand_interruptions_in_a_row(rt: HostRuntime) -> Result<(), Fail> {
     let script = Script::parse(rt.alloc(), PREFIXES, "stem")?;
-    let mut patient = in_pieces(Vec::new(rt.alloc()), 2, 0, 1_000);
+    let mut patient = Device::new(in_pieces(Vec::new(rt.alloc()), 2, 0, 1_000));
     let ending = check(rt.alloc(), &script, b"undo\n", b"x\n", &mut patient);
     assert!(rt; ending == Ok(1));
     assert!(rt; patient.into_inner().inner.as_slice() == b"1,undo,x,do\n".as_slice());
-    let mut weary = in_pieces(Vec::new(rt.alloc()), 2, 0, 1_001);
+    let mut weary = Device::new(in_pieces(Vec::new(rt.alloc()), 2, 0, 1_001));
     let ending = check(rt.alloc(), &script, b"undo\n", b"x\n", &mut weary);
     assert!(rt; ending == Err(ServeFault::Write));
     assert!(rt; weary.into_inner().inner.is_empty());
@@ -133,13 +133,8 @@ fn run_of(
     let wanted = Wanted { verb, external };
     let mut text = writer(alloc, 0);
     let mut errors = writer(alloc, fails_at);
-    let status = run(
-        alloc,
-        &wanted,
-        in_pieces(input, 16, 0, 0),
-        &mut text,
-        &mut errors,
-    );
+    let mut lines = Lines::new(alloc, Device::new(in_pieces(input, 16, 0, 0)))?;
+    let status = run(&wanted, &mut lines, &mut text, &mut errors);
     Ok(Ran {
         status,
         text: text.into_inner().inner,

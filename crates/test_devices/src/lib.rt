@@ -1,7 +1,8 @@
 //! Readers and writers in pieces, which are interrupted and fail as a test wants.
-ghost use Rattle.std.specs.Prelude.{◌<◌};
+#![tactic(auto)]
 
-use snowbench::Device;
+ghost use Rattle.std.specs.Prelude.{◌≡◌, ◌<◌};
+
 use std::io;
 use std::io::{ErrorKind, Read, Write};
 
@@ -32,8 +33,9 @@ impl Plan {
 
 /// A reader or a writer that takes only so many bytes at a time.
 #[derive(Drop)]
-pub(crate) struct Pieces<D> {
-    pub(crate) inner: D,
+pub struct Pieces<D> {
+    /// What it reads from or writes to.
+    pub inner: D,
     piece: usize,
     plan: Plan,
     ghost some: { 0 < piece },
@@ -67,13 +69,13 @@ impl<D: Write> Write for Pieces<D> {
     }
 }
 
-pub(crate) fn in_pieces<D>(
-    inner: D,
-    piece: usize,
-    fails_at: u64,
-    interruptions: u64,
-) -> Device<Pieces<D>>
+/// A reader or a writer that takes at most `piece` bytes at a time, is interrupted so often before each call that it answers, and
+/// fails at one of these, counted from 1, 0 for never.
+pub fn in_pieces<D>(inner: D, piece: usize, fails_at: u64, interruptions: u64) -> Pieces<D>
     requires { 0 < piece }
+    ensures inner { result.inner ≡ inner }
+    ensures piece { result.piece ≡ piece }
+    ensures plan { result.plan ≡ record { interruptions = interruptions; waited = 0; calls = 0; fails_at = fails_at } }
 {
     let plan = Plan {
         interruptions,
@@ -81,5 +83,5 @@ pub(crate) fn in_pieces<D>(
         calls: 0,
         fails_at,
     };
-    Device::new(Pieces { inner, piece, plan })
+    Pieces { inner, piece, plan }
 }

@@ -1,0 +1,3 @@
+//! The program, over devices that stop as a test wants.
+
+mod program;

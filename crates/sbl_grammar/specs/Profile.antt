@@ -1,0 +1,12 @@
+-- The tokens of the language that are not offered here.
+use Rattle.std.specs.Prelude.{Bool, true, false}
+use Rattle.sbl_text.specs.Lexemes.{Lexeme}
+use Rattle.sbl_tree.specs.Terminal.{Terminal, other, terminal_of}
+
+abbrev pub is_other : Terminal → Bool
+is_other (other x) = true
+is_other _ = false
+
+-- it stands in no tree
+abbrev pub is_left_out : Lexeme → Bool
+is_left_out l = is_other (terminal_of l)
