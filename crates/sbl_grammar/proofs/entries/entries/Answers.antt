@@ -2,22 +2,21 @@ use Rattle.std.proofs.Common.{◌≡◌, ◌<◌, ◌∷◌, ◌++◌, List, [],
 use Rattle.std.proofs.lemmas.List.{map_push}
 use Rattle.sbl_tree.specs.declared.tree.Entry.{Entry}
 use Rattle.sbl_tree.specs.Terminal.{Terminal, left}
-use Rattle.sbl_grammar.specs.Roles.{role_of, role_as}
 use Rattle.sbl_tree.specs.Terminal as t
 use Rattle.sbl_grammar.specs.First.{first_literal}
 use Rattle.sbl_tree.specs.Tree as trees
-use Rattle.sbl_tree.specs.Places.{max_depth}
 use Rattle.sbl_grammar.specs.Steps.{Stack, fault}
 use Rattle.sbl_grammar.specs.Steps as s
 use Rattle.sbl_tree.specs.View as view
 use Rattle.sbl_grammar.proofs.Descent as d
+use Rattle.sbl_grammar.proofs.RoleTokens as of_role
 use Rattle.sbl_grammar.proofs.Lengths as lengths
 use Rattle.sbl_grammar.proofs.Turns as turns
 use Rattle.sbl_grammar.proofs.entries.entries.Goals as goal
 
 pub loop-entries-preserved : goal.loop-entries-preserved
 loop-entries-preserved c =
-    let first : (left c.args.tokens.now c.loop-entries.rest) ≡ (t.literal (first_literal (drop c.loop-entries.rest c.args.tokens.now))) ∷ drop 1 (left c.args.tokens.now c.loop-entries.rest) = d.as_literal (drop c.loop-entries.rest c.args.tokens.now) (sym c.role.ensures ∙ c.in-Literal.is) in
+    let first : (left c.args.tokens.now c.loop-entries.rest) ≡ (t.literal (first_literal (drop c.loop-entries.rest c.args.tokens.now))) ∷ drop 1 (left c.args.tokens.now c.loop-entries.rest) = of_role.as_literal (drop c.loop-entries.rest c.args.tokens.now) (sym c.role.ensures ∙ c.in-Literal.is) in
     let last : trees.Entry = view.view_entry c.in_ok-entry.entry in
     let more : map view.view_entry c.push.new.self.items ≡ map view.view_entry c.loop-entries.entries.items ++ last ∷ [] = ap (λ (xs : List Entry). map view.view_entry xs) c.in_ok-push.ensures.items ∙ map_push view.view_entry c.loop-entries.entries.items _ in
     record {

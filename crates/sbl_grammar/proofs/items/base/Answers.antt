@@ -1,24 +1,23 @@
 use Rattle.std.proofs.Common.{◌≡◌, ◌∷◌, drop, arith, sym, refl, ◌∙◌}
 use Rattle.sbl_tree.specs.Terminal.{Terminal, left}
-use Rattle.sbl_grammar.specs.Roles.{role_of, role_as}
 use Rattle.sbl_tree.specs.Terminal as t
-use Rattle.sbl_tree.specs.Places.{max_depth}
 use Rattle.sbl_grammar.specs.Steps.{Stack, fault}
 use Rattle.sbl_grammar.specs.Steps as s
 use Rattle.sbl_grammar.proofs.Descent as d
+use Rattle.sbl_grammar.proofs.RoleTokens as of_role
 use Rattle.sbl_grammar.proofs.items.base.Goals as goal
 
 pub behind-requires : goal.behind-requires
-behind-requires c = d.some_first (left c.args.tokens.now c.args.at) _ (sym c.role.ensures ∙ c.in-Base.is) (λ e. cc)
+behind-requires c = of_role.some_first (left c.args.tokens.now c.args.at) _ (sym c.role.ensures ∙ c.in-Base.is) (λ e. cc)
 
 pub returns-in-Base-clause-spelled : goal.returns-in-Base-clause-spelled
 returns-in-Base-clause-spelled c =
-    let first : (left c.args.tokens.now c.args.at) ≡ (t.base c.in-Base.base) ∷ drop 1 (left c.args.tokens.now c.args.at) = d.as_terminal (left c.args.tokens.now c.args.at) (t.base c.in-Base.base) refl (sym c.role.ensures ∙ c.in-Base.is) in
+    let first : (left c.args.tokens.now c.args.at) ≡ (t.base c.in-Base.base) ∷ drop 1 (left c.args.tokens.now c.args.at) = of_role.as_terminal (left c.args.tokens.now c.args.at) (t.base c.in-Base.base) refl (sym c.role.ensures ∙ c.in-Base.is) in
     d.headed (left c.args.tokens.now c.args.at) (left c.args.tokens.now c.behind.result) (t.base c.in-Base.base) first c.behind.ensures
 
 pub returns-in-Base-clause-faults : goal.returns-in-Base-clause-faults
 returns-in-Base-clause-faults c =
-    let first : (left c.args.tokens.now c.args.at) ≡ (t.base c.in-Base.base) ∷ drop 1 (left c.args.tokens.now c.args.at) = d.as_terminal (left c.args.tokens.now c.args.at) (t.base c.in-Base.base) refl (sym c.role.ensures ∙ c.in-Base.is) in
+    let first : (left c.args.tokens.now c.args.at) ≡ (t.base c.in-Base.base) ∷ drop 1 (left c.args.tokens.now c.args.at) = of_role.as_terminal (left c.args.tokens.now c.args.at) (t.base c.in-Base.base) refl (sym c.role.ensures ∙ c.in-Base.is) in
     λ k. d.took (left c.args.tokens.now c.args.at) (left c.args.tokens.now c.behind.result) (t.base c.in-Base.base) (s.base ∷ k) k 0 first c.behind.ensures refl (omega arith)
 
 pub returns-in_default : goal.returns-in_default

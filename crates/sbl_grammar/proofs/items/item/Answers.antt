@@ -1,7 +1,6 @@
 use Rattle.std.proofs.Common.{◌∷◌, ◌∙◌}
 use Rattle.std.proofs.lemmas.Result.{err_from_is_err_and}
 use Rattle.sbl_tree.specs.Terminal.{left}
-use Rattle.sbl_tree.specs.Places.{max_depth}
 use Rattle.sbl_grammar.specs.Steps.{Stack, fault}
 use Rattle.sbl_grammar.specs.Steps as s
 use Rattle.sbl_grammar.proofs.Descent as d

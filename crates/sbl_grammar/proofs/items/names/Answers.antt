@@ -1,22 +1,21 @@
 use Rattle.std.proofs.Common.{◌≡◌, ◌∷◌, ◌++◌, ℕ, List, [], map, string_bytes, drop, arith, ap, sym, refl, ◌∙◌}
 use Rattle.std.proofs.lemmas.List.{map_push}
 use Rattle.sbl_tree.specs.Terminal.{Terminal, left}
-use Rattle.sbl_grammar.specs.Roles.{role_of, role_as}
 use Rattle.sbl_tree.specs.Terminal as t
 use Rattle.sbl_tree.specs.Tree as trees
-use Rattle.sbl_tree.specs.Places.{max_depth}
 use Rattle.sbl_grammar.specs.Steps.{Stack, fault}
 use Rattle.sbl_grammar.specs.Steps as s
 use Rattle.sbl_grammar.proofs.Descent as d
+use Rattle.sbl_grammar.proofs.RoleTokens as of_role
 use Rattle.sbl_grammar.proofs.Turns as turns
 use Rattle.sbl_grammar.proofs.items.names.Goals as goal
 
 pub behind-rest-requires : goal.behind-rest-requires
-behind-rest-requires c = d.some_first (left c.args.tokens.now c.loop-names.rest) _ (sym c.role.ensures ∙ c.in-Name.is) (λ e. cc)
+behind-rest-requires c = of_role.some_first (left c.args.tokens.now c.loop-names.rest) _ (sym c.role.ensures ∙ c.in-Name.is) (λ e. cc)
 
 pub loop-names-preserved : goal.loop-names-preserved
 loop-names-preserved c =
-    let first : (left c.args.tokens.now c.loop-names.rest) ≡ (t.name (string_bytes c.in_ok-text.field-0)) ∷ drop 1 (left c.args.tokens.now c.loop-names.rest) = d.as_name (drop c.loop-names.rest c.args.tokens.now) (sym c.role.ensures ∙ c.in-Name.is) ∙ ap (λ (n : List ℕ). t.name n ∷ drop 1 (left c.args.tokens.now c.loop-names.rest)) (sym c.in_ok-text.ensures) in
+    let first : (left c.args.tokens.now c.loop-names.rest) ≡ (t.name (string_bytes c.in_ok-text.field-0)) ∷ drop 1 (left c.args.tokens.now c.loop-names.rest) = of_role.as_name (drop c.loop-names.rest c.args.tokens.now) (sym c.role.ensures ∙ c.in-Name.is) ∙ ap (λ (n : List ℕ). t.name n ∷ drop 1 (left c.args.tokens.now c.loop-names.rest)) (sym c.in_ok-text.ensures) in
     let last : List ℕ = string_bytes c.in_ok-text.field-0 in
     let more : map string_bytes c.push.new.self.items ≡ map string_bytes c.loop-names.names.items ++ last ∷ [] = rw c.in_ok-push.ensures.items (map_push _ c.loop-names.names.items c.in_ok-text.field-0) in
     record {
@@ -25,4 +24,4 @@ loop-names-preserved c =
     }
 
 pub loop-names-smaller : goal.loop-names-smaller
-loop-names-smaller c = turns.less (left c.args.tokens.now c.loop-names.rest) (left c.args.tokens.now c.behind-rest.result) (d.some_first (left c.args.tokens.now c.loop-names.rest) _ (sym c.role.ensures ∙ c.in-Name.is) (λ e. cc)) c.behind-rest.ensures
+loop-names-smaller c = turns.less (left c.args.tokens.now c.loop-names.rest) (left c.args.tokens.now c.behind-rest.result) (of_role.some_first (left c.args.tokens.now c.loop-names.rest) _ (sym c.role.ensures ∙ c.in-Name.is) (λ e. cc)) c.behind-rest.ensures

@@ -7,7 +7,6 @@ use Rattle.sbl_grammar.specs.Roles.{role_of}
 use Rattle.sbl_grammar.specs.declared.role.Role.{Role}
 use Rattle.sbl_grammar.specs.Starts.{begins_plain}
 use Rattle.sbl_tree.specs.Tree as trees
-use Rattle.sbl_tree.specs.Places.{max_depth}
 use Rattle.sbl_grammar.specs.Steps.{Stack, fault}
 use Rattle.sbl_grammar.specs.Steps as s
 use Rattle.sbl_tree.specs.View as view

@@ -3,29 +3,28 @@ use Rattle.std.proofs.lemmas.List.{map_push}
 use Rattle.std.proofs.lemmas.Result.{err_from_is_err_and}
 use Rattle.sbl_tree.specs.declared.tree.Term.{Term}
 use Rattle.sbl_tree.specs.Terminal.{Terminal, left}
-use Rattle.sbl_grammar.specs.Roles.{role_of, role_as}
 use Rattle.sbl_tree.specs.Terminal as t
 use Rattle.sbl_tree.specs.Tree as trees
-use Rattle.sbl_tree.specs.Places.{max_depth}
 use Rattle.sbl_grammar.specs.Steps.{Stack, fault}
 use Rattle.sbl_grammar.specs.Steps as s
 use Rattle.sbl_tree.specs.View as view
 use Rattle.sbl_grammar.proofs.Descent as d
+use Rattle.sbl_grammar.proofs.RoleTokens as of_role
 use Rattle.sbl_grammar.proofs.Turns as turns
 use Rattle.sbl_grammar.proofs.items.terms.Goals as goal
 
 pub behind-requires : goal.behind-requires
-behind-requires c = d.some_first (left c.args.tokens.now c.loop-operator.rest) _ (sym c.role.ensures ∙ c.in-Additive.is) (λ e. cc)
+behind-requires c = of_role.some_first (left c.args.tokens.now c.loop-operator.rest) _ (sym c.role.ensures ∙ c.in-Additive.is) (λ e. cc)
 
 pub returns-in_err-argument : goal.returns-in_err-argument
 returns-in_err-argument c =
-    let first : (left c.args.tokens.now c.loop-operator.rest) ≡ (t.additive c.in-Additive.operator) ∷ drop 1 (left c.args.tokens.now c.loop-operator.rest) = d.as_terminal (left c.args.tokens.now c.loop-operator.rest) (t.additive c.in-Additive.operator) refl (sym c.role.ensures ∙ c.in-Additive.is) in
+    let first : (left c.args.tokens.now c.loop-operator.rest) ≡ (t.additive c.in-Additive.operator) ∷ drop 1 (left c.args.tokens.now c.loop-operator.rest) = of_role.as_terminal (left c.args.tokens.now c.loop-operator.rest) (t.additive c.in-Additive.operator) refl (sym c.role.ensures ∙ c.in-Additive.is) in
     let p = err_from_is_err_and c.from_residual.result c.from_residual.ensures.1 in
     rw (p.1, p.2) (λ k. d.fails_along c.args.tokens.now c.in_err-argument.field-0.0 (fault (left c.args.tokens.now c.args.at) (s.terms ∷ k)) _ (c.loop-operator.invariant.faults k ∙ d.took (left c.args.tokens.now c.loop-operator.rest) (left c.args.tokens.now c.behind.result) (t.additive c.in-Additive.operator) (s.terms ∷ k) (s.argument 0 ∷ s.terms ∷ k) 0 first c.behind.ensures refl (omega arith)) (c.in_err-argument.ensures (s.terms ∷ k)))
 
 pub loop-operator-preserved : goal.loop-operator-preserved
 loop-operator-preserved c =
-    let first : (left c.args.tokens.now c.loop-operator.rest) ≡ (t.additive c.in-Additive.operator) ∷ drop 1 (left c.args.tokens.now c.loop-operator.rest) = d.as_terminal (left c.args.tokens.now c.loop-operator.rest) (t.additive c.in-Additive.operator) refl (sym c.role.ensures ∙ c.in-Additive.is) in
+    let first : (left c.args.tokens.now c.loop-operator.rest) ≡ (t.additive c.in-Additive.operator) ∷ drop 1 (left c.args.tokens.now c.loop-operator.rest) = of_role.as_terminal (left c.args.tokens.now c.loop-operator.rest) (t.additive c.in-Additive.operator) refl (sym c.role.ensures ∙ c.in-Additive.is) in
     let last : trees.Term = trees.term c.in-Additive.operator (view.view_argument c.in_ok-argument.argument) in
     let more : map view.view_term c.push.new.self.items ≡ map view.view_term c.loop-operator.terms.items ++ last ∷ [] = ap (λ (xs : List Term). map view.view_term xs) c.in_ok-push.ensures.items ∙ map_push view.view_term c.loop-operator.terms.items _ in
     record {
