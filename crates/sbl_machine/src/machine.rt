@@ -69,14 +69,13 @@ impl<S: AmongSearch> Machine<S> {
         ensures counted { MatchResult result (λ _. meter.new ≡ meter.old + 1) (λ _. meter.new ≡ meter.old) }
         ensures full { (result ≡ Err RunStop.MeterFull) ↔ (meter.old ≡ u64.MAX) }
     {
-        let (traced, state) = self.run_unless_full(alloc, meter, word, limit)?;
         let Traced {
             outcome,
             touches,
             used,
-        } = traced;
+        } = self.run_unless_full(alloc, meter, word, limit)?;
         let touched = self.items(alloc, touches.as_slice())?;
-        meter.count_run(state);
+        meter.count_run();
         Ok(Ran {
             outcome,
             touched,
@@ -99,8 +98,8 @@ impl<S: AmongSearch> Machine<S> {
         ensures counted { MatchResult result (λ _. meter.new ≡ meter.old + 1) (λ _. meter.new ≡ meter.old) }
         ensures full { (result ≡ Err RunStop.MeterFull) ↔ (meter.old ≡ u64.MAX) }
     {
-        let (traced, state) = self.run_unless_full(alloc, meter, word, limit)?;
-        meter.count_run(state);
+        let traced = self.run_unless_full(alloc, meter, word, limit)?;
+        meter.count_run();
         Ok(traced)
     }
 
@@ -120,19 +119,19 @@ impl<S: AmongSearch> Machine<S> {
         is_touched(self.names.as_slice(), touches, item)
     }
 
-    // A run that the meter does not count yet, and the state in which it ended. `MeterFull` where it counts no further,
-    // `OutOfMemory` where a growth was refused.
+    // A run that the meter does not count yet, in the state that it keeps. `MeterFull` where it counts no further, `OutOfMemory`
+    // where a growth was refused.
     fn run_unless_full(
         &self,
         alloc: Global,
         meter: &mut Meter,
         word: &[char],
         limit: u32,
-    ) -> Result<(Traced, State), RunStop>
+    ) -> Result<Traced, RunStop>
         requires { length word.now ≤ 255 }
-        ensures outcome { (script : Source) → IsMachineOf S S.entries S.mode self.now script → IfOk result (λ r. outcome_of r.0.outcome ≡ run_of script word.now limit) }
-        ensures touches { (script : Source) → IsMachineOf S S.entries S.mode self.now script → IfOk result (λ r. r.0.touches.items ≡ touches_of script word.now limit) }
-        ensures used { (script : Source) → IsMachineOf S S.entries S.mode self.now script → IfOk result (λ r. r.0.used ≡ used_of script word.now limit) }
+        ensures outcome { (script : Source) → IsMachineOf S S.entries S.mode self.now script → IfOk result (λ traced. outcome_of traced.outcome ≡ run_of script word.now limit) }
+        ensures touches { (script : Source) → IsMachineOf S S.entries S.mode self.now script → IfOk result (λ traced. traced.touches.items ≡ touches_of script word.now limit) }
+        ensures used { (script : Source) → IsMachineOf S S.entries S.mode self.now script → IfOk result (λ traced. traced.used ≡ used_of script word.now limit) }
         ensures uncounted { meter.new ≡ meter.old }
         ensures full { (result ≡ Err RunStop.MeterFull) ↔ (meter.old ≡ u64.MAX) }
         ensures room { IfOk result (λ _. meter.old < u64.MAX) }
@@ -140,32 +139,55 @@ impl<S: AmongSearch> Machine<S> {
         if meter.is_full() {
             return Err(RunStop::MeterFull);
         }
-        Ok(self.ran(alloc, meter.take_last(), word, limit)?)
+        Ok(self.run_in(alloc, &mut meter.state, word, limit)?)
     }
 
-    // The run itself, and the state in which it ended.
+    // A run in the state of an earlier one, or in one of its own, which is kept then.
+    fn run_in(
+        &self,
+        alloc: Global,
+        kept: &mut Option<State>,
+        word: &[char],
+        limit: u32,
+    ) -> Result<Traced, AllocError>
+        requires { length word.now ≤ 255 }
+        ensures outcome { (script : Source) → IsMachineOf S S.entries S.mode self.now script → IfOk result (λ traced. outcome_of traced.outcome ≡ run_of script word.now limit) }
+        ensures touches { (script : Source) → IsMachineOf S S.entries S.mode self.now script → IfOk result (λ traced. traced.touches.items ≡ touches_of script word.now limit) }
+        ensures used { (script : Source) → IsMachineOf S S.entries S.mode self.now script → IfOk result (λ traced. traced.used ≡ used_of script word.now limit) }
+    {
+        match kept {
+            Some(state) => self.ran(alloc, state, word, limit),
+            None => {
+                let mut state = State::new(alloc);
+                let traced = self.ran(alloc, &mut state, word, limit)?;
+                *kept = Some(state);
+                Ok(traced)
+            }
+        }
+    }
+
+    // The run itself.
     fn ran(
         &self,
         alloc: Global,
-        earlier: Option<State>,
+        state: &mut State,
         word: &[char],
         limit: u32,
-    ) -> Result<(Traced, State), AllocError>
+    ) -> Result<Traced, AllocError>
         requires { length word.now ≤ 255 }
-        ensures outcome { (script : Source) → IsMachineOf S S.entries S.mode self.now script → IfOk result (λ r. outcome_of r.0.outcome ≡ run_of script word.now limit) }
-        ensures touches { (script : Source) → IsMachineOf S S.entries S.mode self.now script → IfOk result (λ r. r.0.touches.items ≡ touches_of script word.now limit) }
-        ensures used { (script : Source) → IsMachineOf S S.entries S.mode self.now script → IfOk result (λ r. r.0.used ≡ used_of script word.now limit) }
+        ensures outcome { (script : Source) → IsMachineOf S S.entries S.mode self.now script → IfOk result (λ traced. outcome_of traced.outcome ≡ run_of script word.now limit) }
+        ensures touches { (script : Source) → IsMachineOf S S.entries S.mode self.now script → IfOk result (λ traced. traced.touches.items ≡ touches_of script word.now limit) }
+        ensures used { (script : Source) → IsMachineOf S S.entries S.mode self.now script → IfOk result (λ traced. traced.used ≡ used_of script word.now limit) }
     {
-        let mut state = State::start(alloc, earlier, &self.program, word, limit)?;
+        state.restart(&self.program, word, limit)?;
         let runner = Runner {
             tables: &self.tables,
             program: &self.program,
             levels: MAX_LEVELS,
             mode: Mode::Forward,
         };
-        let end = runner.run_call(self.program.external, &mut state);
-        let traced = ended(alloc, end, limit, &state)?;
-        Ok((traced, state))
+        let end = runner.run_call(self.program.external, state);
+        ended(alloc, end, limit, state)
     }
 }
 

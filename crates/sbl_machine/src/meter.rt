@@ -9,8 +9,8 @@ use std::marker::Model;
 #[derive(Drop)]
 pub struct Meter {
     runs: u64,
-    // The state in which the last run ended: the next one takes its buffers.
-    last: Option<State>,
+    // The state of the runs, one after another: each begins in the buffers that the one before it leaves.
+    pub(crate) state: Option<State>,
 }
 
 impl Model for Meter {
@@ -28,7 +28,7 @@ impl Meter {
     {
         Meter {
             runs: 0,
-            last: None,
+            state: None,
         }
     }
 
@@ -47,20 +47,12 @@ impl Meter {
         self.count() == u64::MAX
     }
 
-    /// Counts one more run, and keeps the state in which it ended for the next one.
-    pub(crate) fn count_run(&mut self, state: State)
+    /// Counts one more run.
+    pub(crate) fn count_run(&mut self)
         requires { self.old < u64.MAX }
         ensures { self.new ≡ self.old + 1 }
     {
-        let Meter { runs, last } = self;
+        let Meter { runs, .. } = self;
         *runs += 1;
-        *last = Some(state);
-    }
-
-    /// The state in which the last run ended, if one is kept. It is kept no more.
-    pub(crate) fn take_last(&mut self) -> Option<State>
-        ensures { self.new ≡ self.old }
-    {
-        self.last.take()
     }
 }

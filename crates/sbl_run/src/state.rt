@@ -80,8 +80,8 @@ pub struct SavedCursor {
 }
 
 impl State {
-    // A state that holds nothing, whose buffers are made as they are needed.
-    fn empty(alloc: Global) -> State {
+    /// A state that holds nothing, whose buffers are made as they are needed. Takes no memory.
+    pub fn new(alloc: Global) -> State {
         State {
             text: Vec::new(alloc),
             cursor: 0,
@@ -101,58 +101,34 @@ impl State {
         }
     }
 
-    /// Where a run of a word begins, with so many steps, in the buffers of an earlier run. AllocError where a growth was
-    /// refused.
-    pub fn start(
-        alloc: Global,
-        earlier: Option<State>,
+    /// Goes to where a run of a word begins, with so many steps, whatever ran before in these buffers. AllocError where a growth
+    /// was refused.
+    pub fn restart(
+        &mut self,
         program: &Program,
         word: &[char],
         steps: u32,
-    ) -> Result<State, AllocError>
+    ) -> Result<(), AllocError>
         requires { length word.now ≤ 255 }
-        ensures { (tables : ℕ → Listed) → IfOk result (λ s. s ≡ start (program_of tables program.now) word.now steps) }
+        ensures { (tables : ℕ → Listed) → IfOk result (λ _. self.new ≡ start (program_of tables program.now) word.now steps) }
     {
-        let earlier = match earlier {
-            None => State::empty(alloc),
-            Some(state) => state,
-        };
-        let State {
-            mut text,
-            mut integers,
-            mut booleans,
-            mut choices,
-            mut touched,
-            spare,
-            spares,
-            ..
-        } = earlier;
-        text.clear();
-        text.extend_from_slice(word)?;
-        integers.clear();
-        integers.resize(program.integers, 0)?;
-        booleans.clear();
-        booleans.resize(program.booleans, false)?;
-        choices.clear();
-        touched.clear();
-        let strings = empty_strings(alloc, program.strings)?;
-        Ok(State {
-            text,
-            cursor: 0,
-            left: 0,
-            beyond: 0,
-            bra: 0,
-            ket: 0,
-            integers,
-            booleans,
-            strings,
-            choices,
-            routine: 0,
-            touched,
-            steps,
-            spare,
-            spares,
-        })
+        self.cursor = 0;
+        self.left = 0;
+        self.beyond = 0;
+        self.bra = 0;
+        self.ket = 0;
+        self.text.clear();
+        self.text.extend_from_slice(word)?;
+        self.integers.clear();
+        self.integers.resize(program.integers, 0)?;
+        self.booleans.clear();
+        self.booleans.resize(program.booleans, false)?;
+        make_empty(&mut self.strings, program.strings)?;
+        self.choices.clear();
+        self.routine = 0;
+        self.touched.clear();
+        self.steps = steps;
+        Ok(())
     }
 
     /// The steps that are left.
@@ -340,13 +316,14 @@ impl State {
     }
 }
 
-// So many empty strings.
-fn empty_strings(alloc: Global, count: usize) -> Result<Vec<Vec<char>>, AllocError>
-    ensures { IfOk result (λ v. map (λ x. x.items) v.items ≡ replicate count []) }
+// Makes of some strings so many empty ones.
+fn make_empty(strings: &mut Vec<Vec<char>>, count: usize) -> Result<(), AllocError>
+    ensures { IfOk result (λ _. map (λ x. x.items) strings.new.items ≡ replicate count []) }
 {
-    let mut strings = Vec::new(alloc);
+    let alloc = *strings.allocator();
+    strings.clear();
     for _i in 0..count {
         strings.push(Vec::new(alloc))?;
     }
-    Ok(strings)
+    Ok(())
 }

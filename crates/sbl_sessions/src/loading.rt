@@ -53,7 +53,9 @@ fn characters_of(alloc: Global, line: &[u8]) -> Result<Vec<char>, LoadFault>
     let Ok(text) = str::from_utf8(line) else {
         return Err(LoadFault::Input(ServeFault::NotText));
     };
-    Ok(text.chars().collect(alloc)?)
+    let mut word = Vec::with_capacity(alloc, text.chars().count())?;
+    word.extend(text.chars())?;
+    Ok(word)
 }
 
 /// The words, up to a point or the end of input.
