@@ -7,3 +7,4 @@ pub mod Taken
 pub mod Order
 pub mod Sorted
 pub mod Chain
+pub mod Beginnings

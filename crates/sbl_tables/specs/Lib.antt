@@ -6,3 +6,4 @@ pub mod Strings
 pub mod LinkedStrings
 -- what the functions inside the crate promise each other: nothing in these need be believed
 pub mod Linked
+pub mod Beginnings

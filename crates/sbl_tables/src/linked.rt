@@ -2,11 +2,14 @@
 
 ghost use Rattle.std.specs.Prelude.{map};
 ghost use Rattle.sbl_tables.specs.Fitting.{read_all};
-ghost use Rattle.sbl_tables.specs.Linked.{IsLinked};
+ghost use Rattle.sbl_tables.specs.Beginnings.{AreBeginnings};
+ghost use Rattle.sbl_tables.specs.Linked.{IsLinked, texts_of};
 
+mod beginnings;
 mod links;
 mod rows;
 
+use crate::linked::beginnings::{Beginnings, beginnings_of};
 use crate::linked::links::{best_of, links_of};
 use crate::linked::rows::rows_of;
 use crate::plain::{ahead, copied_all};
@@ -24,7 +27,9 @@ pub struct LinkedTable {
     rows: Vec<(Vec<char>, Reverse<usize>)>,
     // For each row the last row of the longest shorter string that is a front of its own.
     links: Vec<Option<usize>>,
+    beginnings: Beginnings,
     ghost linked: { ∥ IsLinked (read_all direction (map (λ v. v.items) strings.items)) rows.items links.items ∥₁ },
+    ghost begun: { ∥ AreBeginnings beginnings.characters beginnings.empty (texts_of rows.items) ∥₁ },
 }
 
 impl LinkedTable {
@@ -54,17 +59,22 @@ impl AmongSearch for LinkedTable {
     ) -> Result<LinkedTable, AllocError> {
         let rows = rows_of(alloc, strings, direction)?;
         let links = links_of(alloc, &rows)?;
+        let beginnings = beginnings_of(alloc, &rows)?;
         let copies = copied_all(alloc, strings)?;
         Ok(LinkedTable {
             strings: copies,
             direction,
             rows,
             links,
+            beginnings,
         })
     }
 
     fn longest(&self, text: &[char], at: usize, bound: usize) -> Option<usize> {
         let part = ahead(self.direction, text, at, bound);
+        if !self.beginnings.may_begin(self.direction, part) {
+            return None;
+        }
         self.best(part, part.len() + 1)
     }
 
