@@ -1,4 +1,4 @@
-use Rattle.std.proofs.Common.{ap, ◌∙◌, Ok}
+use Rattle.std.proofs.Common.{ap, ◌∙◌}
 use Rattle.sbl_tree.specs.declared.mode.Mode.TheVariants.{Forward}
 use Rattle.sbl_machine.specs.MachineOf.{IsMachineOf, listed_in, machine_plan}
 use Rattle.sbl_machine.specs.Outcome.{run_of, touches_of, used_of}
@@ -15,7 +15,7 @@ returns-clause-outcome g c script h =
     let m = c.args.self.now in
     let T = listed_in _ g.S.AmongSearch.entries g.S.AmongSearch.mode m in
     let does = calls (machine_plan _ g.S.AmongSearch.entries g.S.AmongSearch.mode m) 32 m.program.external Forward in
-    same_outcome (Ok c.in_ok-traced.traced) (does c.in_ok-state.state) _ (c.in_ok-traced.ensures.outcome (does c.in_ok-state.state) c.run_call-end.ensures.follows) (ap does (c.in_ok-state.ensures T) ∙ ap (λ (p : Program). ending_of p c.args.word.now c.args.limit) h.0 ∙ ending_same script c.args.word.now c.args.limit)
+    same_outcome c.ended.result (does c.restart.new.self) _ (c.ended.ensures.outcome (does c.restart.new.self) c.run_call-end.ensures.follows) (ap does (c.in_ok-restart.ensures T) ∙ ap (λ (p : Program). ending_of p c.args.word.now c.args.limit) h.0 ∙ ending_same script c.args.word.now c.args.limit)
 
 pub returns-clause-touches : goal.returns-clause-touches
 unfolding IsMachineOf touches_of
@@ -23,7 +23,7 @@ returns-clause-touches g c script h =
     let m = c.args.self.now in
     let T = listed_in _ g.S.AmongSearch.entries g.S.AmongSearch.mode m in
     let does = calls (machine_plan _ g.S.AmongSearch.entries g.S.AmongSearch.mode m) 32 m.program.external Forward in
-    same_touches (Ok c.in_ok-traced.traced) (does c.in_ok-state.state) _ (c.in_ok-traced.ensures.touches (does c.in_ok-state.state) c.run_call-end.ensures.follows) (ap does (c.in_ok-state.ensures T) ∙ ap (λ (p : Program). ending_of p c.args.word.now c.args.limit) h.0 ∙ ending_same script c.args.word.now c.args.limit)
+    same_touches c.ended.result (does c.restart.new.self) _ (c.ended.ensures.touches (does c.restart.new.self) c.run_call-end.ensures.follows) (ap does (c.in_ok-restart.ensures T) ∙ ap (λ (p : Program). ending_of p c.args.word.now c.args.limit) h.0 ∙ ending_same script c.args.word.now c.args.limit)
 
 pub returns-clause-used : goal.returns-clause-used
 unfolding IsMachineOf used_of
@@ -31,4 +31,4 @@ returns-clause-used g c script h =
     let m = c.args.self.now in
     let T = listed_in _ g.S.AmongSearch.entries g.S.AmongSearch.mode m in
     let does = calls (machine_plan _ g.S.AmongSearch.entries g.S.AmongSearch.mode m) 32 m.program.external Forward in
-    same_used (Ok c.in_ok-traced.traced) c.args.limit (does c.in_ok-state.state) _ (c.in_ok-traced.ensures.used (does c.in_ok-state.state) c.run_call-end.ensures.follows) (ap does (c.in_ok-state.ensures T) ∙ ap (λ (p : Program). ending_of p c.args.word.now c.args.limit) h.0 ∙ ending_same script c.args.word.now c.args.limit)
+    same_used c.ended.result c.args.limit (does c.restart.new.self) _ (c.ended.ensures.used (does c.restart.new.self) c.run_call-end.ensures.follows) (ap does (c.in_ok-restart.ensures T) ∙ ap (λ (p : Program). ending_of p c.args.word.now c.args.limit) h.0 ∙ ending_same script c.args.word.now c.args.limit)

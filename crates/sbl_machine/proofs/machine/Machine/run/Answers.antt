@@ -6,4 +6,4 @@ pub returns-clause-touched : goal.returns-clause-touched
 unfolding touched_of
 returns-clause-touched g c script h =
     c.in_ok-touched.ensures script h
-    ∙ ap (items_of (routine_names script)) (c.as_slice.ensures.value ∙ c.in_ok-traced.ensures.touches script h)
+    ∙ ap (items_of (routine_names script)) (c.as_slice.ensures.value ∙ c.in_ok-outcome.ensures.touches script h)
