@@ -108,7 +108,7 @@ impl Bench {
         }
     }
 
-    /// How many runs the bench has made since it was opened. Takes no memory.
+    /// How many runs the bench has made, those of its opening too. Takes no memory.
     pub fn runs(&self) -> u64
         ensures { result ≡ self.now.count }
     {
