@@ -3,3 +3,4 @@ pub mod Coming
 pub mod OwnMade
 pub mod SoundItems
 pub mod Own
+pub mod NamesNumbered

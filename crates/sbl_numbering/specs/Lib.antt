@@ -10,3 +10,4 @@ pub mod Ahead
 pub mod Laws
 -- what the functions inside the crate promise each other: nothing in these need be believed
 pub mod NumberedView
+pub mod NameList

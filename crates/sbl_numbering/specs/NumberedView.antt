@@ -1,5 +1,5 @@
 -- The parts of the numbering without where they lie in memory.
-use Rattle.std.specs.Prelude.{List, map, drop, string_bytes}
+use Rattle.std.specs.Prelude.{List, map, drop}
 use Rattle.sbl_program.specs.declared.found.Found.{Found}
 use Rattle.sbl_numbering.specs.declared.names.Names.{Names}
 use Rattle.sbl_program.specs.FoundView.{listing_found}
@@ -10,11 +10,11 @@ use Rattle.sbl_numbering.specs.declared.place.Position.{Position}
 
 abbrev pub view_names : Names → names.Names
 view_names n = record {
-  strings = map string_bytes n.strings.items;
-  integers = map string_bytes n.integers.items;
-  booleans = map string_bytes n.booleans.items;
-  groupings = map string_bytes n.groupings.items;
-  routines = map string_bytes n.routines.items;
+  strings = n.strings;
+  integers = n.integers;
+  booleans = n.booleans;
+  groupings = n.groupings;
+  routines = n.routines;
 }
 
 abbrev pub view_found : Found → amongs.Found

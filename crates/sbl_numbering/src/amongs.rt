@@ -9,7 +9,7 @@ ghost use Rattle.sbl_program.specs.FoundView.{texts};
 ghost use Rattle.sbl_numbering.specs.NumberedView.{view_names, view_found};
 ghost use Rattle.sbl_numbering.specs.Regions.{mode_behind as spec_mode_behind};
 
-use crate::names::{Names, number_of};
+use crate::names::Names;
 use sbl_program::{Candidate, Found};
 use sbl_tree::{Among, Command, Entry, Group, ItemInMode, Joined, Mode, Plain, Prefix, Row};
 use std::alloc::{AllocError, Global};
@@ -73,7 +73,7 @@ fn condition_of(names: &Names, condition: &Option<String>) -> Option<usize>
 {
     match condition {
         None => None,
-        Some(name) => Some(number_of(&names.routines, name.as_str())),
+        Some(name) => Some(names.routines.number_of(name.as_str())),
     }
 }
 

@@ -12,7 +12,7 @@ ghost use Rattle.sbl_program.specs.Program as programs;
 ghost use Rattle.sbl_program.specs.Grouped.{joined_all};
 ghost use Rattle.sbl_program.specs.ProgramOf.{view_action, view_joined, view_node, view_number, view_text, commands_of};
 
-use crate::names::{Names, is_one_of, number_of};
+use crate::names::Names;
 use crate::numbers::{number_of_expression, text};
 use crate::operators::{change_of, relation_of};
 use crate::place::{Position, begun, closed, inside, left_of, past_rows};
@@ -108,14 +108,14 @@ fn simple(
 fn name_alone(names: &Names, _amongs: &Vec<Found>, name: &str) -> Node
     ensures { view_node (strings_at _amongs.now.items) result ≡ spec.name_alone (view_names names.now) name.now }
 {
-    if is_one_of(&names.strings, name) {
-        Node::Act(Action::Match(StringTerm::Variable(number_of(&names.strings, name))))
-    } else if is_one_of(&names.booleans, name) {
-        Node::Act(Action::Boolean(number_of(&names.booleans, name)))
-    } else if is_one_of(&names.groupings, name) {
-        Node::Act(Action::Grouping(number_of(&names.groupings, name)))
+    if names.strings.is_one_of(name) {
+        Node::Act(Action::Match(StringTerm::Variable(names.strings.number_of(name))))
+    } else if names.booleans.is_one_of(name) {
+        Node::Act(Action::Boolean(names.booleans.number_of(name)))
+    } else if names.groupings.is_one_of(name) {
+        Node::Act(Action::Grouping(names.groupings.number_of(name)))
     } else {
-        Node::Call(number_of(&names.routines, name))
+        Node::Call(names.routines.number_of(name))
     }
 }
 
@@ -171,10 +171,10 @@ fn change_named(names: &Names, naming: Naming, name: &str) -> Action
     ensures { view_action result ≡ spec.change_named (view_names names.now) naming name.now }
 {
     match naming {
-        Naming::SetMark => Action::SetMark(number_of(&names.integers, name)),
-        Naming::Set => Action::Set(number_of(&names.booleans, name)),
-        Naming::Unset => Action::Unset(number_of(&names.booleans, name)),
-        Naming::Arrow => Action::Keep(number_of(&names.strings, name)),
+        Naming::SetMark => Action::SetMark(names.integers.number_of(name)),
+        Naming::Set => Action::Set(names.booleans.number_of(name)),
+        Naming::Unset => Action::Unset(names.booleans.number_of(name)),
+        Naming::Arrow => Action::Keep(names.strings.number_of(name)),
     }
 }
 
@@ -264,7 +264,7 @@ fn assign(
     ensures { IfOk result (λ a. view_action a ≡ programs.assign (spec_number_of (view_names names.now).integers name.now) (spec.change_of assignment) (spec_expression (view_names names.now) (view_expression number.now))) }
 {
     Ok(Action::Assign(
-        number_of(&names.integers, name),
+        names.integers.number_of(name),
         change_of(assignment),
         number_of_expression(alloc, names, number)?,
     ))
@@ -280,7 +280,7 @@ fn compare(
     ensures { IfOk result (λ a. view_action a ≡ programs.compare (programs.integer (spec_number_of (view_names names.now).integers name.now)) (spec.relation_of comparison) (spec_expression (view_names names.now) (view_expression number.now))) }
 {
     Ok(Action::Compare(
-        Arithmetic::Integer(number_of(&names.integers, name)),
+        Arithmetic::Integer(names.integers.number_of(name)),
         relation_of(comparison),
         number_of_expression(alloc, names, number)?,
     ))
@@ -322,7 +322,7 @@ fn node_of(
         Command::Non {
             with_minus: _,
             name,
-        } => Ok(Node::Act(Action::NonGrouping(number_of(&names.groupings, name.as_str())))),
+        } => Ok(Node::Act(Action::NonGrouping(names.groupings.number_of(name.as_str())))),
         Command::Prefixed(prefix, inner) => {
             let inner = node_of(alloc, names, amongs, inner, place)?;
             behind_prefix(alloc, amongs, *prefix, inner)

@@ -4,6 +4,7 @@
 mod amongs;
 mod commands;
 pub mod laws;
+mod name_list;
 mod names;
 mod numbers;
 mod operators;

@@ -7,7 +7,7 @@ ghost use Rattle.sbl_numbering.specs.NumberedView.{view_names};
 ghost use Rattle.sbl_program.specs.Grouped.{added_all, scaled_all};
 ghost use Rattle.sbl_program.specs.ProgramOf.{view_added, view_number, view_scaled, view_text};
 
-use crate::names::{Names, number_of};
+use crate::names::Names;
 use sbl_program::{Arithmetic, StringTerm};
 use sbl_tree::{
     Added, Additive, Argument, Constant, Expression, Factor, Multiplicative, Product, Scaled,
@@ -20,7 +20,7 @@ pub fn text(alloc: Global, names: &Names, argument: &Argument) -> Result<StringT
 {
     match argument {
         Argument::Literal(literal) => Ok(StringTerm::Literal(literal.value.clone()?)),
-        Argument::Name(name) => Ok(StringTerm::Variable(number_of(&names.strings, name.as_str()))),
+        Argument::Name(name) => Ok(StringTerm::Variable(names.strings.number_of(name.as_str()))),
     }
 }
 
@@ -154,7 +154,7 @@ fn number_of_factor(alloc: Global, names: &Names, factor: &Factor) -> Result<Ari
         }
         Factor::Bracket(inner) => number_of_expression(alloc, names, inner),
         Factor::Number(number) => Ok(Arithmetic::Number(*number)),
-        Factor::Name(name) => Ok(Arithmetic::Integer(number_of(&names.integers, name.as_str()))),
+        Factor::Name(name) => Ok(Arithmetic::Integer(names.integers.number_of(name.as_str()))),
         Factor::Constant(word) => Ok(constant(*word)),
         Factor::LenOf(argument) => Ok(Arithmetic::LengthOf(text(alloc, names, argument)?)),
     }

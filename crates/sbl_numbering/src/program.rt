@@ -12,7 +12,7 @@ ghost use Rattle.sbl_program.specs.ProgramOf.{program_of, view_routine};
 
 use crate::amongs::amongs_of;
 use crate::commands::row_of;
-use crate::names::{Names, names_of, number_of};
+use crate::names::{Names, names_of};
 use crate::place::{Position, begun, closed, left_of, past_row};
 use crate::sets::sets_of;
 use sbl_program::{Found, Program, Routine};
@@ -94,7 +94,7 @@ fn program_by(
         strings: names.strings.len(),
         groupings,
         routines,
-        external: number_of(&names.routines, external),
+        external: names.routines.number_of(external),
     })
 }
 
@@ -122,6 +122,6 @@ pub fn numbered(alloc: Global, items: &[Item], external: &str) -> Result<Made, A
     Ok(Made {
         program,
         amongs,
-        routines,
+        routines: routines.into_names(),
     })
 }

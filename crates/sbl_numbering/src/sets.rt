@@ -6,7 +6,7 @@ ghost use Rattle.sbl_tree.specs.View.{view_argument, view_plain, view_term};
 ghost use Rattle.sbl_numbering.specs.NumberedSets as spec;
 ghost use Rattle.sbl_numbering.specs.NumberedView.{view_names};
 
-use crate::names::{Names, number_of};
+use crate::names::Names;
 use sbl_program::CharacterSet;
 use sbl_tree::{Additive, Argument, ItemInMode, Plain, Term};
 use std::alloc::{AllocError, Global};
@@ -82,7 +82,7 @@ fn characters_of<'a>(
 {
     match argument {
         Argument::Literal(literal) => literal.value.as_slice(),
-        Argument::Name(name) => match sets.get(number_of(&names.groupings, name.as_str())) {
+        Argument::Name(name) => match sets.get(names.groupings.number_of(name.as_str())) {
             None => &[],
             Some(set) => set.characters(),
         },

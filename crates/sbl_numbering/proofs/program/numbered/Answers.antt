@@ -14,6 +14,7 @@ pub returns-clause-routines : goal.returns-clause-routines
 returns-clause-routines c =
     let items = view_items c.args.items.now in
     let ordered : map view_in_mode c.deref.result.now ≡ in_order items = search rules in
-    ap (λ (ns : Names). ns.routines) c.in_ok-names.ensures
+    c.into_names.ensures
+    ∙ ap (λ (ns : Names). ns.routines) c.in_ok-names.ensures
     ∙ ap (λ xs. (names_behind xs no_names).routines) ordered
     ∙ routines_are (in_order items) no_names
