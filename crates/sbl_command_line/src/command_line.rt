@@ -2,7 +2,7 @@
 ghost use Rattle.std.specs.Prelude.{◌≡◌, IfOk, Some, map};
 ghost use Rattle.std.specs.String.{string_bytes};
 ghost use Rattle.clap.specs.Words.{app_of};
-ghost use Rattle.snowbench.specs.CommandLine.{program, verb_app, verb_name, wanted_of};
+ghost use Rattle.sbl_command_line.specs.CommandLine.{program, verb_app, verb_name, wanted_of};
 
 use clap::error::ErrorKind;
 use clap::{Arg, Command, Error};

@@ -1,8 +1,8 @@
 -- The command line as a definition of `clap`, and what a list of words asks for by it.
 use Rattle.std.specs.Prelude.{true, List, [], ◌∷◌, Option, Some, codes, option_map, option_and_then}
 use Rattle.clap.specs.Words.{App, Rule, Text, first_of, new_app, new_rule, subcommand_of, with_rule, with_subcommand}
-use Rattle.snowbench.specs.declared.command_line.Verb.{Verb}
-use Rattle.snowbench.specs.declared.command_line.Verb.TheVariants.{Session, Stem, Check}
+use Rattle.sbl_command_line.specs.declared.command_line.Verb.{Verb}
+use Rattle.sbl_command_line.specs.declared.command_line.Verb.TheVariants.{Session, Stem, Check}
 
 -- `--external NAME`, with one name for its one value, and `stem` where it is not given
 abbrev pub external : Rule

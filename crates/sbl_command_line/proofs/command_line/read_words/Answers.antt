@@ -3,9 +3,9 @@ use Rattle.std.specs.Prelude.{option_map, option_and_then}
 use Rattle.std.specs.String.{string_bytes}
 use Rattle.clap.specs.Words.{App, Row, Text, first_of, found_of, is_simple, rows_of, subcommand_of, subcommand_rows_of}
 use Rattle.clap.proofs.WalkLemmas.{first_value-rows}
-use Rattle.snowbench.specs.CommandLine.{program, verb_name}
-use Rattle.snowbench.proofs.command_line.read_words.Goals as goal
-use Rattle.snowbench.proofs.command_line.read_words.Goals.{in-session, in-stem, in-check}
+use Rattle.sbl_command_line.specs.CommandLine.{program, verb_name}
+use Rattle.sbl_command_line.proofs.command_line.read_words.Goals as goal
+use Rattle.sbl_command_line.proofs.command_line.read_words.Goals.{in-session, in-stem, in-check}
 
 some_same : {X : Type 0} (x y : X) → Some x ≡ Some y → x ≡ y
 some_same x y e = cc

@@ -1,8 +1,8 @@
 use Rattle.std.proofs.Common.{rules, ◌≡◌, ◌∙◌, ap, ap₂, Some, codes, [], ◌∷◌}
 use Rattle.clap.specs.Words.{Rule, with_rule}
 use Rattle.clap.specs.Walk.{rule_of}
-use Rattle.snowbench.specs.CommandLine.{external}
-use Rattle.snowbench.proofs.command_line.verb_command.Goals as goal
+use Rattle.sbl_command_line.specs.CommandLine.{external}
+use Rattle.sbl_command_line.proofs.command_line.verb_command.Goals as goal
 
 pub returns : goal.returns
 returns c =

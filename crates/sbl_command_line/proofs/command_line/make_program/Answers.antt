@@ -1,8 +1,8 @@
 use Rattle.std.proofs.Common.{◌≡◌, ◌∙◌, ◌&&◌, ap, ap₂, refl, Bool, true, false, not}
 use Rattle.std.proofs.lemmas.Result.{IfOk-weaker}
 use Rattle.clap.specs.Words.{App, app_of, with_subcommand}
-use Rattle.snowbench.specs.CommandLine.{asking}
-use Rattle.snowbench.proofs.command_line.make_program.Goals as goal
+use Rattle.sbl_command_line.specs.CommandLine.{asking}
+use Rattle.sbl_command_line.proofs.command_line.make_program.Goals as goal
 
 third : (a b c d : Bool) → (a && (b && (not c && d))) ≡ true → c ≡ false
 third false b c d h = cc
