@@ -1,10 +1,10 @@
 use Rattle.std.proofs.Common.{rules, arith, ◌≡◌, ◌∙◌, ◌+◌, ◌≤◌, ◌∷◌, ℕ, true, false}
 use Rattle.std.proofs.lemmas.Result.{err_from_is_err_and}
 use Rattle.sbl_script.specs.Parsed.{source_of}
-use Rattle.snowbench.specs.Checking.{count}
-use Rattle.snowbench.proofs.CheckFacts.{compared_all, compared_fails, compared_more, fewer_stems, fewer_words, none_counted, one_counted}
-use Rattle.snowbench.proofs.checking.check.Goals as goal
-use Rattle.snowbench.proofs.checking.check.Goals.{then-branch, else-branch}
+use Rattle.sbl_differences.specs.Checking.{count}
+use Rattle.sbl_differences.proofs.CheckFacts.{compared_all, compared_fails, compared_more, fewer_stems, fewer_words, none_counted, one_counted}
+use Rattle.sbl_differences.proofs.checking.check.Goals as goal
+use Rattle.sbl_differences.proofs.checking.check.Goals.{then-branch, else-branch}
 
 pub returns-in_default-first_line-clause-checked : goal.returns-in_default-first_line-clause-checked
 returns-in_default-first_line-clause-checked g c =

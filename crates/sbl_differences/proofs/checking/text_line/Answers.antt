@@ -1,8 +1,8 @@
 use Rattle.std.proofs.Common.{rules, arith, ◌≡◌, ◌≤◌, List, ℕ, Bool, true, false, length, refl}
 use Rattle.std.specs.Str.{is_utf8, IsUtf8}
 use Rattle.std.proofs.lemmas.Str.{IsUtf8-from_is_utf8, is_utf8-from_IsUtf8}
-use Rattle.snowbench.proofs.CheckFacts.{line_fits, line_no_text}
-use Rattle.snowbench.proofs.checking.text_line.Goals as goal
+use Rattle.sbl_differences.proofs.CheckFacts.{line_fits, line_no_text}
+use Rattle.sbl_differences.proofs.checking.text_line.Goals as goal
 
 of_bytes : (line : List ℕ) → ¬ (IsUtf8 line) → is_utf8 line ≡ false
 of_bytes line none = by (is_utf8 line) refl

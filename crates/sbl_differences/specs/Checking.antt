@@ -4,12 +4,12 @@ use Rattle.std.specs.Io.KnownBytes.{Appends, Keeps}
 use Rattle.std.specs.declared.vec.Vec.{Vec}
 use Rattle.std.specs.declared.alloc.Global.{Global}
 use Rattle.sbl_script.specs.Parsed.{Source}
-use Rattle.snowbench.specs.Differences as spec
-use Rattle.snowbench.specs.Differences.{difference, differences, ending, pair_fault}
+use Rattle.sbl_differences.specs.Differences as spec
+use Rattle.sbl_differences.specs.Differences.{difference, differences, ending, pair_fault}
 use Rattle.sbl_lines.specs.LinesOf.{lines_of}
-use Rattle.sbl_sessions.specs.Rows.{record_line, records_text}
-use Rattle.snowbench.specs.declared.checking.Got.{Got}
-use Rattle.snowbench.specs.declared.checking.Got.TheVariants as got
+use Rattle.sbl_records.specs.Records.{record_line, records_text}
+use Rattle.sbl_differences.specs.declared.checking.Got.{Got}
+use Rattle.sbl_differences.specs.declared.checking.Got.TheVariants as got
 use Rattle.sbl_lines.specs.declared.faults.ServeFault.{ServeFault}
 use Rattle.sbl_lines.specs.declared.faults.ServeFault.TheVariants as fault
 

@@ -1,21 +1,19 @@
 //! Stems held against those that are expected.
 ghost use Rattle.std.specs.Prelude.{◌≡◌, None, Some, IfOk, IfErr, OnOk, string_bytes};
 ghost use Rattle.std.specs.Str.{chars};
-ghost use Rattle.csv.specs.Records.{fields_of};
 ghost use Rattle.sbl_machine.specs.MachineOf.{IsLinkedMachineOf};
 ghost use Rattle.sbl_script.specs.Parsed.{Source, source_of};
-ghost use Rattle.snowbench.specs.Checking.{ComparesPair, IsRow, view_got};
+ghost use Rattle.sbl_differences.specs.Checking.{ComparesPair, IsRow, view_got};
 ghost use Rattle.sbl_lines.specs.Devices.{HasStopped, WritesInTime};
-ghost use Rattle.snowbench.specs.Differences as spec;
-ghost use Rattle.snowbench.specs.Differences.{IsChecked};
-ghost use Rattle.sbl_sessions.specs.Rows as rows;
+ghost use Rattle.sbl_differences.specs.Differences as spec;
+ghost use Rattle.sbl_differences.specs.Differences.{IsChecked};
 
-use csv::{ByteRecord, WriterBuilder};
+use csv::ByteRecord;
 use sbl_bench::{MAX_STEPS, MAX_WORD_LENGTH};
 use sbl_lines::{MAX_LINE, ServeFault, Sink, first_line, write_all};
 use sbl_machine::{Machine, Meter, Outcome, Table, Traced};
+use sbl_records::{record_line, text_of};
 use sbl_script::Script;
-use sbl_sessions::text_of;
 use std::alloc::{AllocError, Global};
 
 /// What a script makes of a word.
@@ -81,22 +79,6 @@ impl Got {
     }
 }
 
-/// The text of one row.
-fn line_of(alloc: Global, row: &ByteRecord) -> Result<Vec<u8>, AllocError>
-    ensures { IfOk result (λ text. text.items ≡ rows.record_line (fields_of row.now)) }
-{
-    let mut writer = WriterBuilder::new()
-        .flexible(true)
-        .from_writer(Vec::new(alloc));
-    if writer.write_byte_record(row).is_err() {
-        return Err(AllocError);
-    }
-    match writer.into_inner() {
-        Ok(text) => Ok(text),
-        Err(_) => Err(AllocError),
-    }
-}
-
 /// The row of a line, if what the script makes of its word is not the expected stem.
 fn row_of(
     alloc: Global,
@@ -121,7 +103,7 @@ fn row_of(
             shown.as_bytes(),
         ],
     )?;
-    Ok(Some(line_of(alloc, &record)?))
+    Ok(Some(record_line(alloc, &record)?))
 }
 
 /// A line as text: `LineTooLong` where it has more than 65,536 bytes, `NotText` where it is not UTF-8.

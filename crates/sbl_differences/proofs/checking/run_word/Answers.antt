@@ -4,9 +4,9 @@ use Rattle.std.proofs.lemmas.Str.{chars_from_encodes}
 use Rattle.sbl_machine.specs.Outcome.{outcome_of, run_of}
 use Rattle.sbl_machine.specs.declared.outcome.Outcome.TheVariants as code
 use Rattle.sbl_bench.specs.Rows.{max_steps}
-use Rattle.snowbench.specs.Differences.{Stem, Refused, of_outcome}
-use Rattle.snowbench.proofs.CheckFacts.{made_by_run, made_too_long}
-use Rattle.snowbench.proofs.checking.run_word.Goals as goal
+use Rattle.sbl_differences.specs.Differences.{Stem, Refused, of_outcome}
+use Rattle.sbl_differences.proofs.CheckFacts.{made_by_run, made_too_long}
+use Rattle.sbl_differences.proofs.checking.run_word.Goals as goal
 
 pub returns-then-len-gt-MAX_WORD_LENGTH : goal.returns-then-len-gt-MAX_WORD_LENGTH
 returns-then-len-gt-MAX_WORD_LENGTH c = λ script made.

@@ -1,9 +1,9 @@
 use Rattle.std.proofs.Common.{◌≡◌, ◌≤◌, ◌+◌, length}
 use Rattle.sbl_machine.specs.MachineOf.{IsLinkedMachineOf}
 use Rattle.sbl_script.specs.Parsed.{source_of}
-use Rattle.snowbench.specs.Checking.{Compared}
+use Rattle.sbl_differences.specs.Checking.{Compared}
 use Rattle.sbl_lines.specs.Devices.{WritesInTime}
-use Rattle.snowbench.proofs.checking.check.Given as goal
+use Rattle.sbl_differences.proofs.checking.check.Given as goal
 
 abbrev pub invariant-loop-word : goal.invariant-loop-word
 invariant-loop-word g l = record {

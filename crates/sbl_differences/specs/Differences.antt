@@ -10,7 +10,7 @@ use Rattle.sbl_machine.specs.Outcome.{Outcome', run_of}
 use Rattle.sbl_bench.specs.Rows.{max_steps}
 use Rattle.sbl_bench.specs.Contents.{max_word_length}
 use Rattle.sbl_lines.specs.LinesOf.{lines_of, max_line}
-use Rattle.sbl_sessions.specs.Rows.{records_text}
+use Rattle.sbl_records.specs.Records.{records_text}
 use Rattle.sbl_lines.specs.declared.faults.ServeFault.{ServeFault}
 use Rattle.sbl_lines.specs.declared.faults.ServeFault.TheVariants as fault
 

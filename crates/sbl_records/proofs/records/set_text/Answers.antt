@@ -3,7 +3,7 @@ use Rattle.std.specs.Char.{encode_utf8}
 use Rattle.std.specs.Str.{encode_utf8_all}
 use Rattle.std.proofs.lemmas.List.{append-nil, take_more}
 use Rattle.std.proofs.lemmas.Str.{encodes-append}
-use Rattle.sbl_sessions.proofs.records.set_text.Goals as goal
+use Rattle.sbl_records.proofs.records.set_text.Goals as goal
 
 one_more : (xs : List ℕ) (i c : ℕ) (old new : List ℕ) → i < length xs → c ≡ get_or xs i c → old ≡ encode_utf8_all (take i xs) → new ≡ old ++ encode_utf8 c
     → new ≡ encode_utf8_all (take (i + 1) xs)

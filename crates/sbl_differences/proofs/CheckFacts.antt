@@ -11,10 +11,10 @@ use Rattle.std.specs.declared.alloc.Global.{Global}
 use Rattle.sbl_script.specs.Parsed.{Source}
 use Rattle.sbl_machine.specs.Outcome.{Outcome', run_of}
 use Rattle.sbl_bench.specs.Rows.{max_steps}
-use Rattle.snowbench.specs.Checking.{Compared, ComparesPair, IsRow, count}
-use Rattle.snowbench.specs.Differences.{Got, Refused, IsChecked, all_differences, difference, differences, ending, line_fault, made_of, of_outcome, pair_fault, row_of}
+use Rattle.sbl_differences.specs.Checking.{Compared, ComparesPair, IsRow, count}
+use Rattle.sbl_differences.specs.Differences.{Got, Refused, IsChecked, all_differences, difference, differences, ending, line_fault, made_of, of_outcome, pair_fault, row_of}
 use Rattle.sbl_lines.specs.LinesOf.{lines_of}
-use Rattle.sbl_sessions.specs.Rows.{record_line, records_text}
+use Rattle.sbl_records.specs.Records.{record_line, records_text}
 use Rattle.sbl_lines.specs.declared.faults.ServeFault.{ServeFault}
 use Rattle.sbl_lines.specs.declared.faults.ServeFault.TheVariants as fault
 

@@ -3,12 +3,12 @@ use Rattle.std.specs.Io.KnownBytes.{Appends}
 use Rattle.std.proofs.KnownBytes.{Appends-nil}
 use Rattle.sbl_script.specs.Parsed.{Source}
 use Rattle.sbl_machine.specs.MachineOf.{IsLinkedMachineOf}
-use Rattle.snowbench.specs.Checking.{view_got}
-use Rattle.snowbench.specs.Differences.{difference, row_of}
-use Rattle.sbl_sessions.specs.Rows.{records_text}
+use Rattle.sbl_differences.specs.Checking.{view_got}
+use Rattle.sbl_differences.specs.Differences.{difference, row_of}
+use Rattle.sbl_records.specs.Records.{records_text}
 use Rattle.sbl_lines.specs.declared.faults.ServeFault.TheVariants as fault
-use Rattle.snowbench.proofs.CheckFacts.{difference_is, no_pair_fault, no_row, one_row, row_text_is}
-use Rattle.snowbench.proofs.checking.compare.Goals as goal
+use Rattle.sbl_differences.proofs.CheckFacts.{difference_is, no_pair_fault, no_row, one_row, row_text_is}
+use Rattle.sbl_differences.proofs.checking.compare.Goals as goal
 
 pub returns-in_err-write_all-in-Some-clause-compares : goal.returns-in_err-write_all-in-Some-clause-compares
 returns-in_err-write_all-in-Some-clause-compares g c = λ script made.
