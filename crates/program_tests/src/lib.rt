@@ -1,4 +1,4 @@
-//! Tests of the program: checks, command lines, and what it does as a whole. Nothing but tests stands here.
+//! Tests of the program: what it does as a whole. Nothing but tests stands here.
 #![tactic(auto)]
 
 #[cfg(test)]

@@ -1,15 +1,14 @@
--- The text of rows, as a flexible and otherwise default writer of `csv` writes it.
-use Rattle.std.specs.Prelude.{ℕ, true, List, [], ◌∷◌, map, codes, Option, Some, None}
-use Rattle.std.specs.List.{find, flat_map}
+-- The text of rows and of classes, each a record.
+use Rattle.std.specs.Prelude.{ℕ, List, [], ◌∷◌, map, codes, Option, Some, None}
+use Rattle.std.specs.List.{find}
 use Rattle.std.specs.Option.{option_map}
 use Rattle.std.specs.Str.{bytes_eq, encode_utf8_all}
-use Rattle.csv.specs.Writing.{default_writer, with_flexible, row_text}
-use Rattle.csv.specs.declared.writer.WriterBuilder.{WriterBuilder}
 use Rattle.sbl_run.specs.Names.{name_of}
 use Rattle.sbl_machine.specs.Outcome.{Outcome', Stem, Refused}
 use Rattle.sbl_bench.specs.Classes.{Class, class_of, classes_of}
 use Rattle.sbl_bench.specs.Rows.{Row, rows_of}
 use Rattle.sbl_bench.specs.Contents.{Contents}
+use Rattle.sbl_records.specs.Records.{records_text}
 
 -- the fields of a row: the word, and its stem or the name of its run's fault
 abbrev pub outcome_fields : Outcome' → List (List ℕ)
@@ -18,16 +17,6 @@ outcome_fields (Refused f) = codes "refused" ∷ name_of f ∷ []
 
 unfoldable pub row_fields : Row → List (List ℕ)
 row_fields row = encode_utf8_all row.word ∷ outcome_fields row.outcome
-
-abbrev pub flexible : WriterBuilder
-flexible = with_flexible default_writer true
-
--- one record: its fields, and a line feed
-abbrev pub record_line : List (List ℕ) → List ℕ
-record_line fields = row_text flexible fields
-
-abbrev pub records_text : List (List (List ℕ)) → List ℕ
-records_text records = flat_map record_line records
 
 -- the rows of the current script over the current vocabulary
 abbrev pub rows_now : Contents → List Row

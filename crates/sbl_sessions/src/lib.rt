@@ -16,6 +16,5 @@ mod serving;
 pub use faults::LoadFault;
 pub use laws::{answers_are_one, loading_is_one};
 pub use loading::{load, read_script};
-pub use records::text_of;
 pub use reports::stems_text;
 pub use serving::serve;

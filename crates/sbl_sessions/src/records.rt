@@ -1,37 +1,19 @@
-//! The text of records, through `csv`.
-ghost use Rattle.std.specs.Prelude.{◌≡◌, ◌++◌, ◌∷◌, [], ℕ, List, IfOk, OnOk, map, string_bytes};
+//! The text of rows, classes and items as records, through `csv`.
+ghost use Rattle.std.specs.Prelude.{◌≡◌, ◌++◌, ◌∷◌, [], ℕ, List, IfOk, OnOk, map};
 ghost use Rattle.std.specs.Str.{encode_utf8_all};
 ghost use Rattle.csv.specs.Records.{fields_of, partial_of};
 ghost use Rattle.sbl_bench.specs.Classes.{view_class, words_of};
 ghost use Rattle.sbl_bench.specs.Rows.{view_row};
 ghost use Rattle.sbl_machine.specs.Touched.{item_of};
+ghost use Rattle.sbl_records.specs.Records as texts;
 ghost use Rattle.sbl_sessions.specs.Rows as spec;
 ghost use Rattle.sbl_sessions.specs.Traces.{item_fields};
 
 use csv::{ByteRecord, WriterBuilder};
 use sbl_bench::{Class, Row};
 use sbl_machine::{Item, Outcome};
+use sbl_records::set_text;
 use std::alloc::{AllocError, Global};
-
-/// Some characters as UTF-8. A refused growth is the one error.
-pub fn text_of(alloc: Global, characters: &[char]) -> Result<String, AllocError>
-    ensures { IfOk result (λ text. string_bytes text ≡ encode_utf8_all characters.now) }
-{
-    let mut text = String::with_capacity(alloc, characters.len())?;
-    set_text(&mut text, characters)?;
-    Ok(text)
-}
-
-/// Makes a text that of some characters, in place of what it was. A refused growth is the one error.
-fn set_text(text: &mut String, characters: &[char]) -> Result<(), AllocError>
-    ensures { OnOk result (string_bytes text.new ≡ encode_utf8_all characters.now) }
-{
-    text.clear();
-    for c in characters {
-        text.push(*c)?;
-    }
-    Ok(())
-}
 
 /// What is written as one record.
 pub(crate) trait Record {
@@ -125,7 +107,7 @@ fn push_words(
 /// The text of these records, whole: a line of the fields of each, quoted where `csv` quotes. A refused growth is the one
 /// error.
 pub(crate) fn records_text<T: Record>(alloc: Global, records: &[T]) -> Result<Vec<u8>, AllocError>
-    ensures { IfOk result (λ text. text.items ≡ spec.records_text (map T.fields records.now)) }
+    ensures { IfOk result (λ text. text.items ≡ texts.records_text (map T.fields records.now)) }
 {
     let mut writer = WriterBuilder::new()
         .flexible(true)

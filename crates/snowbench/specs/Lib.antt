@@ -1,6 +1,2 @@
--- what the contracts of public calls rest on
-pub mod CommandLine
-pub mod Differences
 -- what the functions inside the crate promise each other: nothing in these need be believed
-pub mod Checking
 pub mod Stemmed

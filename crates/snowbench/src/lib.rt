@@ -2,12 +2,10 @@
 //! that are expected.
 #![tactic(auto)]
 
-mod checking;
-mod command_line;
 mod program;
 
-pub use checking::check;
-pub use command_line::{Verb, Wanted, read_words};
 pub use program::run;
+pub use sbl_command_line::{Verb, Wanted, read_words};
+pub use sbl_differences::check;
 pub use sbl_lines::{Device, LineFault, Lines, MAX_LINE, ServeFault, Sink, Source, Stop};
 pub use sbl_sessions::{LoadFault, answers_are_one, load, loading_is_one, serve};

@@ -4,8 +4,8 @@ ghost use Rattle.sbl_lines.specs.Devices.{WritesInTime};
 ghost use Rattle.sbl_lines.specs.Held.{KeepsTime, fault_of, input_of};
 ghost use Rattle.snowbench.specs.Stemmed.{IsStemmed};
 
-use crate::checking::check;
-use crate::command_line::{Verb, Wanted};
+use sbl_command_line::{Verb, Wanted};
+use sbl_differences::check;
 use sbl_lines::{Lines, ServeFault, Sink, Source, write_all};
 use sbl_script::Script;
 use sbl_sessions::{LoadFault, load, read_script, serve, stems_text};

@@ -2,7 +2,7 @@ use Rattle.std.proofs.Common.{◌≡◌, List, ℕ, map, subst, sym, IfOk}
 use Rattle.sbl_bench.specs.Kept.{contents_of}
 use Rattle.sbl_bench.specs.Rows.{Row, view_row}
 use Rattle.sbl_bench.specs.declared.row.Row as declared
-use Rattle.sbl_sessions.specs.Rows.{records_text, row_fields, rows_now, stems_text}
+use Rattle.sbl_sessions.specs.Rows.{row_fields, rows_now, stems_text}
 use Rattle.sbl_sessions.proofs.ReportFacts.{text_of_views}
 use Rattle.sbl_sessions.proofs.reports.stems_text.Goals as goal
 

@@ -1,0 +1,66 @@
+//! Command lines: what they ask for, and which are refused.
+
+use sbl_command_line::{Verb, read_words};
+use std::alloc::Global;
+use std::test::Fail;
+
+/// The words of a command line, the program's name the first of them.
+fn line_of(alloc: Global, words: &[&str]) -> Result<Vec<String>, Fail> {
+    let mut line = Vec::new(alloc);
+    line.push(String::from_str(alloc, "snowbench")?)?;
+    for word in words {
+        line.push(String::from_str(alloc, word)?)?;
+    }
+    Ok(line)
+}
+
+#[test]
+fn a_command_line_is_a_verb_and_an_external(rt: HostRuntime) -> Result<(), Fail> {
+    let alloc = rt.alloc();
+    let rows: [(&[&str], Verb, &str); 6] = [
+        (&["session"], Verb::Session, "stem"),
+        (&["check", "--external", "go"], Verb::Check, "go"),
+        (&["stem", "--external=go"], Verb::Stem, "go"),
+        (&["stem", "--external="], Verb::Stem, ""),
+        (&["stem", "--external", "-"], Verb::Stem, "-"),
+        (&["session", "--"], Verb::Session, "stem"),
+    ];
+    for (words, verb, external) in rows {
+        let line = line_of(alloc, words)?;
+        let Ok(wanted) = read_words(alloc, line.as_slice()) else {
+            assert!(rt; false, "{external}");
+            return Ok(());
+        };
+        assert!(rt; wanted.verb == verb);
+        assert!(rt; wanted.external.as_str() == external);
+    }
+    Ok(())
+}
+
+#[test]
+fn other_command_lines_are_refused(rt: HostRuntime) -> Result<(), Fail> {
+    let alloc = rt.alloc();
+    let rows: [&[&str]; 16] = [
+        &[],
+        &["session", "--external"],
+        &["session", "--external", "a", "--external", "b"],
+        &["session", "--external", "-a"],
+        &["--external", "go", "session"],
+        &["run"],
+        &["Session"],
+        &["session", "more"],
+        &["session", "stem"],
+        &["session", "--other"],
+        &["--help"],
+        &["help"],
+        &["session", "--help"],
+        &["stem", "--help"],
+        &["check", "--help"],
+        &["--version"],
+    ];
+    for words in rows {
+        let line = line_of(alloc, words)?;
+        assert!(rt; read_words(alloc, line.as_slice()).is_err());
+    }
+    Ok(())
+}

@@ -1,0 +1,31 @@
+use Rattle.std.proofs.Common.{rules, ◌≡◌, ◌∙◌, ap, ap₂, refl, sym, map, codes, List, Option, Some, None}
+use Rattle.std.specs.Prelude.{option_map, option_and_then}
+use Rattle.std.specs.String.{string_bytes}
+use Rattle.clap.specs.Words.{App, Row, Text, first_of, found_of, is_simple, rows_of, subcommand_of, subcommand_rows_of}
+use Rattle.clap.proofs.WalkLemmas.{first_value-rows}
+use Rattle.sbl_command_line.specs.CommandLine.{program, verb_name}
+use Rattle.sbl_command_line.proofs.command_line.read_words.Goals as goal
+use Rattle.sbl_command_line.proofs.command_line.read_words.Goals.{in-session, in-stem, in-check}
+
+some_same : {X : Type 0} (x y : X) → Some x ≡ Some y → x ≡ y
+some_same x y e = cc
+
+both : {X A B : Type 0} (f : X → A) (g : X → B) (o : Option X) (a : A) (b : B) → option_map f o ≡ Some a
+    → option_map {T = A × B} (λ p. p.1) (option_map {U = A × B} (λ x. (f x, g x)) o) ≡ Some b → option_map {U = A × B} (λ x. (f x, g x)) o ≡ Some (a, b)
+both f g None a b h k = cc
+both f g (Some x) a b h k = ap₂ (λ u v. Some (u, v)) (some_same _ _ h) (some_same _ _ k)
+
+abbrev pick : Text × List Row → Option (Text × Text)
+pick p = option_map (λ name. (p.0, name)) (first_of (codes "external") p.1)
+
+pub returns : goal.returns
+returns c =
+    let words = map string_bytes c.args.words.now in
+    let entered = (c.in_ok-matches.ensures.matches (ap is_simple c.in_ok-make_program.ensures ∙ refl)).1 in
+    let program_is : subcommand_of program words ≡ subcommand_rows_of c.in_ok-matches.matches = sym (entered ∙ ap (λ (a : App). subcommand_of a words) c.in_ok-make_program.ensures) in
+    let options = rows_of (found_of c.in-Some.options.now) in
+    let entered_is : subcommand_rows_of c.in_ok-matches.matches ≡ Some (c.in-Some.name.now, options) = both _ _ _ _ _ (sym c.in-Some.ensures.name) (sym c.in-Some.ensures.rows) in
+    let found : first_of (codes "external") options ≡ Some c.in-Some-get_str.external.now = sym (first_value-rows (found_of c.in-Some.options.now) (codes "external")) ∙ sym c.in-Some-get_str.ensures in
+    let verb_is : c.in-Some.name.now ≡ verb_name c.match-name.verb = elim c.match-name.branch [ in-session w ↦ search rules | in-stem w ↦ search rules | in-check w ↦ search rules ] in
+    let same : string_bytes c.in_ok-from_str.field-0 ≡ c.in-Some-get_str.external.now = c.in_ok-from_str.ensures.ok in
+    ap (option_and_then pick) (program_is ∙ entered_is) ∙ ap (option_map (λ (name : Text). (c.in-Some.name.now, name))) found ∙ ap₂ (λ (a b : Text). Some (a, b)) verb_is (sym same)

@@ -1,0 +1,168 @@
+//! The words of the command line, through `clap`.
+ghost use Rattle.std.specs.Prelude.{◌≡◌, IfOk, Some, map};
+ghost use Rattle.std.specs.String.{string_bytes};
+ghost use Rattle.clap.specs.Words.{app_of};
+ghost use Rattle.sbl_command_line.specs.CommandLine.{program, verb_app, verb_name, wanted_of};
+
+use clap::error::ErrorKind;
+use clap::{Arg, Command, Error};
+use std::alloc::{AllocError, Global};
+
+/// What the program is asked to do.
+#[derive(Clone, Copy, Debug, PartialEq, Eq)]
+pub enum Verb {
+    /// To answer the commands of a session.
+    Session,
+    /// To give the stem of each word of a vocabulary.
+    Stem,
+    /// To hold stems against those that are expected.
+    Check,
+}
+
+/// What a command line asks for: a verb, and the external that is run.
+#[derive(Debug, Drop)]
+pub struct Wanted {
+    /// What is to be done.
+    pub verb: Verb,
+    /// The external that is run.
+    pub external: String,
+}
+
+/// The first lines of the program's help.
+const ABOUT: &str =
+    "Runs Snowball stemmers over a vocabulary, and keeps the answers true while the script is edited";
+
+/// The last lines of the program's help.
+const READ_ON: &str = "\
+Everything is read from standard input. A script stands first, up to a line that is only a point.
+Answers go to standard output; a fault is one line on standard error, and ends with status 1.
+
+Example:
+  printf '%s\\n' 'externals ( stem )' \"define stem as ( [ 'un' ] delete )\" . undo redo . |
+    snowbench stem
+
+'snowbench COMMAND --help' says what each command reads and writes. To read on: README.md,
+docs/LANGUAGE.md (the language of scripts), docs/SESSION.md (input, commands, faults, limits).";
+
+/// The first lines of help on `session`.
+const ABOUT_SESSION: &str = "Answers commands that add words and edit the script";
+
+/// The last lines of help on `session`.
+const HELP_SESSION: &str = "\
+In:   the lines of a script, a line '.', words (one a line), a line '.', and then commands.
+Out:  the answer to each command, before the next line is read: 'ok' or 'no' and the reason
+      for an edit, rows for a report.
+
+Example:
+  printf '%s\\n' 'externals ( stem )' \"define stem as ( [ 'un' ] delete )\" . undo . \\
+    'add unless' stems | snowbench session
+writes
+  ok
+  undo,stem,do
+  unless,stem,less
+
+To read on: docs/SESSION.md has every command with its answers.";
+
+/// The first lines of help on `stem`.
+const ABOUT_STEM: &str = "Writes the stem of each word";
+
+/// The last lines of help on `stem`.
+const HELP_STEM: &str = "\
+In:   the lines of a script, a line '.', and words (one a line) up to a line '.' or the end.
+Out:  a row for each word, 'WORD,stem,STEM', or 'WORD,refused,NAME' where its run is refused.
+      Empty lines and repeats are skipped.
+
+Example:
+  printf '%s\\n' 'externals ( stem )' \"define stem as ( [ 'un' ] delete )\" . undo redo |
+    snowbench stem
+writes
+  undo,stem,do
+  redo,stem,redo
+
+To read on: docs/LANGUAGE.md for scripts, docs/SESSION.md for rows and refusals.";
+
+/// The first lines of help on `check`.
+const ABOUT_CHECK: &str = "Writes where stems differ from those that are expected";
+
+/// The last lines of help on `check`.
+const HELP_CHECK: &str = "\
+In:   the lines of a script, a line '.', words (one a line), a line '.', and the expected stems,
+      one for each word, to the end of input.
+Out:  a row 'LINE,WORD,EXPECTED,GOT' for each difference, lines counted from 1. GOT is the stem,
+      or 'refused NAME' where the run is refused, which is always a difference.
+Status: 0 where nothing differs, 1 for a difference or a fault.
+
+Example:
+  printf '%s\\n' 'externals ( stem )' \"define stem as ( [ 'un' ] delete )\" . undo redo . \\
+    do do | snowbench check
+writes
+  2,redo,do,redo
+
+To read on: docs/SESSION.md.";
+
+/// The definition of a subcommand: `--external NAME`, and `stem` where it is not given.
+fn verb_command<'a>(
+    alloc: Global,
+    name: &'a str,
+    about: &'a str,
+    help: &'a str,
+) -> Result<Command<'a>, AllocError>
+    ensures { IfOk result (λ c. app_of c ≡ verb_app name.entry.now) }
+{
+    let external = Arg::new(alloc, "external")
+        .long("external")
+        .value_name("NAME")
+        .help("The external of the script that is run")
+        .default_value("stem");
+    let command = Command::new(alloc, name).arg(external)?;
+    Ok(command.about(about).after_help(help))
+}
+
+/// The definition of the command line: one of three subcommands.
+fn make_program<'a>(alloc: Global) -> Result<Command<'a>, AllocError>
+    ensures { IfOk result (λ c. app_of c ≡ program) }
+{
+    Command::new(alloc, "snowbench")
+        .bin_name("snowbench")?
+        .about(ABOUT)
+        .after_help(READ_ON)
+        .subcommand_required(true)
+        .arg_required_else_help(true)
+        .subcommand(verb_command(alloc, "session", ABOUT_SESSION, HELP_SESSION)?)?
+        .subcommand(verb_command(alloc, "stem", ABOUT_STEM, HELP_STEM)?)?
+        .subcommand(verb_command(alloc, "check", ABOUT_CHECK, HELP_CHECK)?)
+}
+
+/// What the words of a command line ask for, the program's name the first of them: one of the subcommands `session`, `stem`
+/// and `check`, and the value of its option `--external`, `stem` where it is not given, all as `clap` reads them.
+///
+/// # Errors
+///
+/// Whatever `clap` refuses: no subcommand or an unknown word, an option without its value or given twice, and also each
+/// request for help, whose text is then the error's. A refused growth is an error of its own kind.
+pub fn read_words<'a>(alloc: Global, words: &'a [String]) -> Result<Wanted, Error>
+    ensures { IfOk result (λ wanted. wanted_of (map string_bytes words.now) ≡ Some (verb_name wanted.verb, string_bytes wanted.external)) }
+{
+    let matches = make_program(alloc)?.try_get_matches_from(words)?;
+    let Some((name, options)) = matches.subcommand() else {
+        return Err(make_program(alloc)?.error(ErrorKind::MissingSubcommand, "no subcommand")?);
+    };
+    let verb = match name {
+        "session" => Verb::Session,
+        "stem" => Verb::Stem,
+        "check" => Verb::Check,
+        _ => {
+            return Err(make_program(alloc)?.error(
+                ErrorKind::InvalidSubcommand,
+                "no such subcommand",
+            )?);
+        }
+    };
+    let Some(external) = options.get_str("external") else {
+        return Err(make_program(alloc)?.error(ErrorKind::MissingRequiredArgument, "no external")?);
+    };
+    Ok(Wanted {
+        verb,
+        external: String::from_str(alloc, external)?,
+    })
+}

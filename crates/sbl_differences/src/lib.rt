@@ -1,0 +1,6 @@
+//! Stems held against those that are expected: where they differ.
+#![tactic(auto)]
+
+mod checking;
+
+pub use checking::check;
