@@ -115,6 +115,10 @@ impl Bench {
         self.meter.count()
     }
 
+    /// Gives the bench up, and its memory back, as a drop does; as with `Script::discard`, no destructor is proved once more where
+    /// this is called. Takes no memory.
+    pub fn discard(self) {}
+
     /// The script. Takes no memory.
     pub fn script(&self) -> &Script
         ensures { result.now ≡ self.now.script }

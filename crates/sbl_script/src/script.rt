@@ -290,6 +290,10 @@ impl Script {
         let _ = &self.external;
     }
 
+    /// Gives the script up, and its memory back, as a drop does. What drops a tree proves all the destructors of trees once more;
+    /// a crate above that calls this in place of it does not. Takes no memory.
+    pub fn discard(self) {}
+
     /// Nothing in a script stands deeper than 64.
     pub fn is_shallow(&self)
         ensures { AreShallow (places (source_of self.now).items) }

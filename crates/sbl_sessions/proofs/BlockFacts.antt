@@ -1,6 +1,6 @@
 -- Lines of a block are taken, up to its point.
 use Rattle.std.proofs.Common.{◌≡◌, ◌⊎◌, inl, inr, ◌≢◌, ◌∙◌, ◌++◌, ◌≤◌, ℕ, List, [], ◌∷◌, Option, Some, None, refl, sym, length}
-use Rattle.sbl_sessions.specs.Block.{AllText, Breaks, NoPoint, point}
+use Rattle.sbl_sessions.specs.Block.{Breaks, NoPoint, point}
 use Rattle.sbl_lines.specs.Faults.{serve_fault_of}
 use Rattle.sbl_lines.specs.Held.{AllFit, BeginsLong, BreaksOff, Took}
 use Rattle.sbl_lines.specs.declared.faults.LineFault.{LineFault}

@@ -1,15 +1,12 @@
 -- What stands at the front of an input is one.
-use Rattle.std.proofs.Common.{◌≡◌, ◌≢◌, ◌⊎◌, inl, inr, ◌∙◌, ◌++◌, ◌<◌, ◌≤◌, ◌==◌, ℕ, zero, suc, Bool, true, false, List, [], ◌∷◌, Option, Some, None, refl, sym, ap, subst, map, length, nat_lt, if◌then◌else◌, arith}
-use Rattle.std.proofs.lemmas.Bool.{ne_eqb}
+use Rattle.std.proofs.Common.{◌≡◌, ◌≢◌, ◌⊎◌, inl, inr, ◌∙◌, ◌++◌, ◌<◌, ◌≤◌, ◌==◌, ℕ, zero, suc, Bool, true, false, List, [], ◌∷◌, refl, sym, ap, length, nat_lt, if◌then◌else◌, arith}
 use Rattle.std.proofs.lemmas.List.{append-nil, length-map}
 use Rattle.std.proofs.lemmas.Slice.Eq.{bytes_eq-Decides}
 use Rattle.std.specs.Str.{bytes_eq, is_utf8}
-use Rattle.std.specs.Io.KnownBytes.{IsAtEnd}
-use Rattle.sbl_sessions.specs.Block.{AllText, BlockLines, NoPoint, TookBlock, point}
-use Rattle.sbl_lines.specs.Held.{AllFit, IsTooLong, StandFirst, Took}
-use Rattle.sbl_lines.specs.LinesOf.{AreWhole, chomped, lines_of, max_line, onto_first, raw_lines}
-use Rattle.sbl_sessions.specs.Loaded.{TookWords, WordLines}
-use Rattle.sbl_lines.proofs.Bytes.{none_of, raw-feed, raw-other, raw-some, stand_lines}
+use Rattle.sbl_sessions.specs.Block.{AllText, BlockLines, point}
+use Rattle.sbl_lines.specs.Held.{IsTooLong, StandFirst}
+use Rattle.sbl_lines.specs.LinesOf.{AreWhole, chomped, max_line, onto_first, raw_lines}
+use Rattle.sbl_lines.proofs.Bytes.{raw-feed, raw-other, raw-some}
 
 -- ---- the bytes behind some lines
 

@@ -11,7 +11,7 @@ use Rattle.sbl_sessions.specs.Block.{BlockLines, Breaks, HoldsText, ReadsBlock, 
 use Rattle.sbl_sessions.specs.CommandViews.{IsAnswer, IsAnswered, IsReply, IsTextAnswer}
 use Rattle.sbl_sessions.specs.Commands.{block_command, command_of, line_command}
 use Rattle.sbl_lines.specs.Held.{AllFit, BeginsLong, BreaksOff, GivesLine, Took, TookWhole}
-use Rattle.sbl_sessions.specs.Requests.{HasBlock, IsBegun, IsOpen, IsRequest, Request, TookRequests, asks_block, block_lines, lines_in, lines_in_all}
+use Rattle.sbl_sessions.specs.Requests.{HasBlock, IsBegun, IsRequest, Request, TookRequests, asks_block, block_lines, lines_in, lines_in_all}
 use Rattle.sbl_sessions.specs.Session.{Answered, HalfAnswered, IsSession, Served}
 use Rattle.sbl_sessions.specs.declared.block_text.BlockText.{BlockText}
 use Rattle.sbl_lines.specs.Faults.{serve_fault_of}

@@ -1,6 +1,6 @@
 -- The requests of a session: a line, and the block behind it where its word asks for one.
 use Rattle.std.specs.Prelude.{◌≡◌, ◌≤◌, ◌||◌, ℕ, length, Bool, true, false, List, [], ◌∷◌, ◌++◌, Option, Some, None, ⊤, codes}
-use Rattle.std.specs.List.{All, before_first, flat_map}
+use Rattle.std.specs.List.{All, flat_map}
 use Rattle.std.specs.Str.{bytes_eq}
 use Rattle.sbl_sessions.specs.Block.{BlockLines, NoPoint, point}
 use Rattle.sbl_lines.specs.Held.{AllFit, Took}

@@ -106,7 +106,13 @@ pub fn load<R: Source + Drop>(lines: &mut Lines<R>, external: &str) -> Result<Be
         Ok(script) => script,
         Err(fault) => return Err(LoadFault::Script(fault)),
     };
-    let words = read_words(lines)?;
+    let words = match read_words(lines) {
+        Ok(words) => words,
+        Err(fault) => {
+            script.discard();
+            return Err(fault);
+        }
+    };
     match Bench::open(lines.alloc(), script, words) {
         Ok(bench) => Ok(bench),
         Err(fault) => Err(LoadFault::Open(fault)),

@@ -58,7 +58,9 @@ fn answer<R: Source + Drop, W: Sink>(
     match wanted.verb {
         Verb::Session => {
             let mut bench = load(lines, external)?;
-            serve(&mut bench, lines, writer)?;
+            let served = serve(&mut bench, lines, writer);
+            bench.discard();
+            served?;
             Ok(0)
         }
         Verb::Stem => {
@@ -80,8 +82,9 @@ fn stem<R: Source + Drop, W: Sink>(
     ensures writes_in_time { WritesInTime W.late W.interruptions writer.old writer.new }
 {
     let bench = load(lines, external)?;
-    let text = stems_text(lines.alloc(), &bench)?;
-    write_all(writer, &text)?;
+    let text = stems_text(lines.alloc(), &bench);
+    bench.discard();
+    write_all(writer, &text?)?;
     Ok(())
 }
 
@@ -100,9 +103,24 @@ fn check_input<R: Source + Drop, W: Sink>(
         Ok(script) => script,
         Err(fault) => return Err(LoadFault::Script(fault)),
     };
+    let differences = check_lists(lines, &script, writer);
+    script.discard();
+    differences
+}
+
+/// Reads a block of words and the expected stems, and compares what the script makes of the words with these. Answers how many
+/// differ.
+fn check_lists<R: Source + Drop, W: Sink>(
+    lines: &mut Lines<R>,
+    script: &Script,
+    writer: &mut W,
+) -> Result<u64, LoadFault>
+    ensures reads_in_time { KeepsTime R.ended R.late R.interruptions R.reads lines.old lines.new }
+    ensures writes_in_time { WritesInTime W.late W.interruptions writer.old writer.new }
+{
     let words = read_block(lines)?;
     let expected = read_rest(lines)?;
-    Ok(check(lines.alloc(), &script, &words, &expected, writer)?)
+    Ok(check(lines.alloc(), script, &words, &expected, writer)?)
 }
 
 /// The lines up to a line `.`, each as `push_line` puts it.

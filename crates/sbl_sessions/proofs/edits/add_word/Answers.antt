@@ -1,4 +1,4 @@
-use Rattle.std.proofs.Common.{◌≡◌, ◌∙◌, List, ℕ, subst, sym, take, length, rules}
+use Rattle.std.proofs.Common.{◌≡◌, List, ℕ, subst, sym, take, length, rules}
 use Rattle.std.specs.Str.{chars}
 use Rattle.sbl_bench.specs.Kept.{contents_of}
 use Rattle.sbl_bench.specs.Edits.{Edits, Add}

@@ -22,20 +22,18 @@ pub returns-in-Err-clause-loaded : goal.returns-in-Err-clause-loaded
 returns-in-Err-clause-loaded g c = λ none.
     script_refused _ _ c.in_ok-text.text c.deref.result.now c.args.external.now c.in-Err.fault (c.in_ok-text.ensures.reads none) c.deref.ensures.value c.in-Err.ensures.fault
 
-pub returns-in_err-words-clause-loaded : goal.returns-in_err-words-clause-loaded
-returns-in_err-words-clause-loaded g c = λ none.
+pub returns-in-Err-read_words-clause-loaded : goal.returns-in-Err-read_words-clause-loaded
+returns-in-Err-read_words-clause-loaded g c = λ none.
     let left = g.R.Source.left in
     let source = script_parsed _ _ c.in_ok-text.text c.deref.result.now c.args.external.now c.in-Ok.script (c.in_ok-text.ensures.reads none) c.deref.ensures.value c.in-Ok.ensures.script in
     let ready = c.read_script.ensures.remembered ∙ ap left_by_load c.in_ok-text.was in
-    let p = err_from_is_err_and c.from_residual-in_err-words.result c.from_residual-in_err-words.ensures.1 in
-    rw (p.1, p.2)
-    (words_refused (input_of left c.args.lines.now) _ (input_of left c.read_words.new.lines) c.args.external.now (source_of c.in-Ok.script) (λ b. contents_of b) c.in_err-words.field-0.0
-    source (c.in_err-words.ensures.reads ready))
+    words_refused (input_of left c.args.lines.now) _ (input_of left c.read_words.new.lines) c.args.external.now (source_of c.in-Ok.script) (λ b. contents_of b) c.in-Err-read_words.fault
+    source (c.in-Err-read_words.ensures.reads ready)
 
 pub returns-clause-loaded : goal.returns-clause-loaded
 returns-clause-loaded g c = λ none.
     let left = g.R.Source.left in
     let source = script_parsed _ _ c.in_ok-text.text c.deref.result.now c.args.external.now c.in-Ok.script (c.in_ok-text.ensures.reads none) c.deref.ensures.value c.in-Ok.ensures.script in
     let ready = c.read_script.ensures.remembered ∙ ap left_by_load c.in_ok-text.was in
-    bench_refused (input_of left c.args.lines.now) _ (input_of left c.read_words.new.lines) c.args.external.now (source_of c.in-Ok.script) c.in_ok-words.words (λ b. contents_of b) c.in-Err-open.fault
-    source (c.in_ok-words.ensures.reads ready) c.in-Err-open.ensures
+    bench_refused (input_of left c.args.lines.now) _ (input_of left c.read_words.new.lines) c.args.external.now (source_of c.in-Ok.script) c.in-Ok-read_words.words (λ b. contents_of b) c.in-Err-open.fault
+    source (c.in-Ok-read_words.ensures.reads ready) c.in-Err-open.ensures

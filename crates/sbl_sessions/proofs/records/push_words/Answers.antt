@@ -1,4 +1,4 @@
-use Rattle.std.proofs.Common.{◌≡◌, ◌∙◌, ◌++◌, ◌∷◌, [], List, ℕ, ap}
+use Rattle.std.proofs.Common.{◌∙◌, ◌++◌, ◌∷◌, [], List, ℕ, ap}
 use Rattle.csv.specs.Records.{fields_of}
 use Rattle.std.specs.Str.{encode_utf8_all}
 use Rattle.sbl_sessions.proofs.ReportFacts.{word_field}

@@ -1,4 +1,4 @@
-use Rattle.std.proofs.Common.{◌≡◌, List, ℕ, map, subst, sym, IfOk}
+use Rattle.std.proofs.Common.{◌≡◌, List, map, subst, sym}
 use Rattle.sbl_bench.specs.Kept.{contents_of}
 use Rattle.sbl_bench.specs.Classes.{Class, classes_of, view_class}
 use Rattle.sbl_bench.specs.declared.class.Class as declared

@@ -1,6 +1,6 @@
-use Rattle.std.proofs.Common.{◌≡◌, List, ℕ, map, subst, sym, IfOk}
+use Rattle.std.proofs.Common.{◌≡◌, List, map, subst, sym}
 use Rattle.sbl_bench.specs.Kept.{contents_of}
-use Rattle.sbl_bench.specs.Rows.{Row, view_row}
+use Rattle.sbl_bench.specs.Rows.{view_row}
 use Rattle.sbl_bench.specs.declared.row.Row as declared
 use Rattle.sbl_sessions.specs.Rows.{row_fields, rows_now, stems_text}
 use Rattle.sbl_sessions.proofs.ReportFacts.{text_of_views}
