@@ -2,7 +2,7 @@
 use Rattle.std.proofs.Common.{◌≡◌, ℕ, ◌+◌, ◌<◌, ◌≤◌, Bool, true, false, List, [], ◌∷◌, drop, Option, Some, refl, sym, ap, subst, ◌∙◌, cond}
 use Rattle.std.specs.Prelude.{nat_lt}
 use Rattle.std.proofs.lemmas.Bool.{lt-ltb, le-ltb}
-use Rattle.sbl_text.specs.declared.token.Token.{Token}
+use Rattle.sbl_lexemes.specs.declared.token.Token.{Token}
 use Rattle.sbl_grammar.specs.declared.role.Role.TheVariants as roles
 use Rattle.sbl_grammar.specs.declared.error.ReadError.{ReadError}
 use Rattle.sbl_tree.specs.declared.tree.Additive.TheVariants as additives

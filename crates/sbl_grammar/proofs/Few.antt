@@ -1,8 +1,8 @@
 -- A tree has at most as many amongs as tokens.
 use Rattle.std.proofs.Common.{◌≡◌, ℕ, ◌+◌, ◌≤◌, true, false, List, [], ◌∷◌, length, ap, arith, length-append}
 use Rattle.std.proofs.lemmas.List.{length-map}
-use Rattle.sbl_text.specs.declared.token.Token.{Token}
-use Rattle.sbl_text.specs.Lexemes.{lexeme_of}
+use Rattle.sbl_lexemes.specs.declared.token.Token.{Token}
+use Rattle.sbl_lexemes.specs.Lexemes.{lexeme_of}
 use Rattle.sbl_tree.specs.Terminal as t
 use Rattle.sbl_tree.specs.Terminal.{Terminal, terminal_of, terminals_of}
 use Rattle.sbl_tree.specs.Tree.{Command, bracket, simple_, literal_, name_, non_, prefixed, counted, move_, named, splice_, setlimit_, assign_, compare_, compare_values_, among_, Rows, no_rows, row, Others, no_others, joined, Starter, no_starter, starter, Groups, bare, group}

@@ -1,6 +1,6 @@
 -- The tokens from a place on.
 use Rattle.std.proofs.Common.{◌≡◌, ℕ, zero, suc, ◌+◌, List, [], ◌∷◌, drop, refl, ap, ◌∙◌, add-one}
-use Rattle.sbl_text.specs.declared.token.Token.{Token}
+use Rattle.sbl_lexemes.specs.declared.token.Token.{Token}
 use Rattle.sbl_tree.specs.Terminal.{left}
 
 next_suc : (at : ℕ) (ts : List Token) → left ts (suc at) ≡ drop 1 (left ts at)

@@ -1,9 +1,9 @@
 -- A token and the part that it plays in the grammar determine one another.
 use Rattle.std.proofs.Common.{◌≡◌, refl}
-use Rattle.sbl_text.specs.Lexemes.{Lexeme, word, sign}
-use Rattle.sbl_text.specs.Lexemes as lexemes
-use Rattle.sbl_text.specs.declared.words.Word.TheVariants as w
-use Rattle.sbl_text.specs.declared.signs.Sign.TheVariants as g
+use Rattle.sbl_lexemes.specs.Lexemes.{Lexeme, word, sign}
+use Rattle.sbl_lexemes.specs.Lexemes as lexemes
+use Rattle.sbl_lexemes.specs.declared.words.Word.TheVariants as w
+use Rattle.sbl_lexemes.specs.declared.signs.Sign.TheVariants as g
 use Rattle.sbl_tree.specs.declared.tree.DeclarationKind.TheVariants as declarations
 use Rattle.sbl_tree.specs.declared.tree.Base.TheVariants as bases
 use Rattle.sbl_tree.specs.declared.tree.Joiner.TheVariants as joiners

@@ -1,14 +1,14 @@
 -- The token of a role.
 use Rattle.std.proofs.Common.{◌≡◌, ℕ, ◌<◌, Bool, true, false, List, [], ◌∷◌, length, drop, Option, Some, None, refl, sym, ap, ◌∙◌, arith}
-use Rattle.sbl_text.specs.declared.words.Word.{Word}
-use Rattle.sbl_text.specs.declared.words.Word.TheVariants as w
-use Rattle.sbl_text.specs.declared.signs.Sign.{Sign}
-use Rattle.sbl_text.specs.declared.signs.Sign.TheVariants as g
-use Rattle.sbl_text.specs.declared.token.Kind.{Kind}
-use Rattle.sbl_text.specs.declared.token.Kind.TheVariants as kinds
-use Rattle.sbl_text.specs.declared.token.Value.{Value}
-use Rattle.sbl_text.specs.declared.token.Token.{Token}
-use Rattle.sbl_text.specs.Lexemes.{lexeme_by, number_in, inserts_in}
+use Rattle.sbl_lexemes.specs.declared.words.Word.{Word}
+use Rattle.sbl_lexemes.specs.declared.words.Word.TheVariants as w
+use Rattle.sbl_lexemes.specs.declared.signs.Sign.{Sign}
+use Rattle.sbl_lexemes.specs.declared.signs.Sign.TheVariants as g
+use Rattle.sbl_lexemes.specs.declared.token.Kind.{Kind}
+use Rattle.sbl_lexemes.specs.declared.token.Kind.TheVariants as kinds
+use Rattle.sbl_lexemes.specs.declared.token.Value.{Value}
+use Rattle.sbl_lexemes.specs.declared.token.Token.{Token}
+use Rattle.sbl_lexemes.specs.Lexemes.{lexeme_by, number_in, inserts_in}
 use Rattle.sbl_grammar.specs.declared.role.Role.{Role}
 use Rattle.sbl_grammar.specs.declared.role.Role.TheVariants as roles
 use Rattle.sbl_tree.specs.Terminal.{Terminal, terminal_of, terminals_of, word_terminal, sign_terminal}

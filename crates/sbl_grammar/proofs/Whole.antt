@@ -1,14 +1,14 @@
 -- The whole reading, from its first stack.
 use Rattle.std.proofs.Common.{◌≡◌, ◌<◌, ◌≤◌, ◌⊎◌, inl, inr, ℕ, zero, suc, ◌+◌, List, [], ◌∷◌, ◌++◌, length, drop, Some, refl, sym, ap, subst, ◌∙◌, arith, length-append, length-drop}
 use Rattle.std.proofs.lemmas.List.{length-map}
-use Rattle.sbl_text.specs.declared.token.Token.{Token}
+use Rattle.sbl_lexemes.specs.declared.token.Token.{Token}
 use Rattle.sbl_text.specs.declared.fault.ScriptFault.TheVariants as script
 use Rattle.sbl_grammar.specs.declared.error.Fault.TheVariants.{Syntax, TooDeep, OutOfProfile}
 use Rattle.sbl_grammar.specs.declared.error.ReadError.{ReadError}
 use Rattle.sbl_grammar.specs.declared.error.ReadError.TheVariants as errors
 use Rattle.sbl_tree.specs.Terminal.{Terminal, terminal_of, terminals_of, left}
 use Rattle.sbl_tree.specs.Terminal as t
-use Rattle.sbl_text.specs.Lexemes.{lexeme_of}
+use Rattle.sbl_lexemes.specs.Lexemes.{lexeme_of}
 use Rattle.sbl_tree.specs.Tree.{Item, Command, Others, Starter, Groups, among_, Argument, Term, argument_terminal, spelled, spelled_terms, spelled_others, spelled_items}
 use Rattle.sbl_tree.specs.Texts.{Text, TreeOf, tokens_of}
 use Rattle.sbl_grammar.specs.Fronts.{first_stack}

@@ -1,10 +1,10 @@
 -- What the first of some tokens says.
 use Rattle.std.specs.Prelude.{ℕ, List, [], ◌∷◌}
-use Rattle.sbl_text.specs.declared.token.Kind.{Kind}
-use Rattle.sbl_text.specs.declared.token.Kind.TheVariants as kinds
-use Rattle.sbl_text.specs.declared.token.Value.{Value}
-use Rattle.sbl_text.specs.declared.token.Token.{Token}
-use Rattle.sbl_text.specs.Lexemes.{number_in, spelling_in, characters_in, inserts_in}
+use Rattle.sbl_lexemes.specs.declared.token.Kind.{Kind}
+use Rattle.sbl_lexemes.specs.declared.token.Kind.TheVariants as kinds
+use Rattle.sbl_lexemes.specs.declared.token.Value.{Value}
+use Rattle.sbl_lexemes.specs.declared.token.Token.{Token}
+use Rattle.sbl_lexemes.specs.Lexemes.{number_in, spelling_in, characters_in, inserts_in}
 use Rattle.sbl_grammar.specs.declared.role.Role.{Role}
 use Rattle.sbl_grammar.specs.declared.role.Role.TheVariants as roles
 use Rattle.sbl_tree.specs.Terminal.{Quoted, word_terminal, sign_terminal}

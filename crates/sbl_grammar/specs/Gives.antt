@@ -1,6 +1,6 @@
 -- What a reader of the code answers.
 use Rattle.std.specs.Prelude.{◌≡◌, ℕ, List, ◌++◌, drop, Option, Some, Result, Ok, Err}
-use Rattle.sbl_text.specs.declared.token.Token.{Token}
+use Rattle.sbl_lexemes.specs.declared.token.Token.{Token}
 use Rattle.sbl_grammar.specs.declared.error.Fault.TheVariants.{Syntax, TooDeep, OutOfProfile}
 use Rattle.sbl_grammar.specs.declared.error.ReadError.{ReadError}
 use Rattle.sbl_grammar.specs.declared.error.ReadError.TheVariants as errors

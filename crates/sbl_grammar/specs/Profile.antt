@@ -1,6 +1,6 @@
 -- The tokens of the language that are not offered here.
 use Rattle.std.specs.Prelude.{Bool, true, false}
-use Rattle.sbl_text.specs.Lexemes.{Lexeme}
+use Rattle.sbl_lexemes.specs.Lexemes.{Lexeme}
 use Rattle.sbl_tree.specs.Terminal.{Terminal, other, terminal_of}
 
 abbrev pub is_other : Terminal → Bool

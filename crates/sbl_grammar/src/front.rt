@@ -2,7 +2,7 @@
 
 ghost use Rattle.std.specs.Prelude.{◌≡◌, ◌<◌, length, drop, IfOk, string_bytes};
 ghost use Rattle.sbl_tree.specs.Terminal.{terminals_of, left, word_terminal, sign_terminal};
-ghost use Rattle.sbl_text.specs.Lexemes.{lexeme_of};
+ghost use Rattle.sbl_lexemes.specs.Lexemes.{lexeme_of};
 ghost use Rattle.sbl_grammar.specs.Profile as profile;
 ghost use Rattle.sbl_grammar.specs.Roles.{role_of, role_as};
 ghost use Rattle.sbl_grammar.specs.First.{kind_role, first_text, first_number, first_inserts, first_literal, quoted_in};

@@ -1,7 +1,7 @@
 //! The tree of some tokens.
 
 ghost use Rattle.std.specs.Prelude.{◌≡◌, ◌⊎◌, ◌≤◌, ◌∷◌, [], List, IfOk, IfErr, length, map};
-ghost use Rattle.sbl_text.specs.Lexemes.{Lexeme};
+ghost use Rattle.sbl_lexemes.specs.Lexemes.{Lexeme};
 ghost use Rattle.sbl_tree.specs.Terminal.{Terminal, terminals_of, terminal_of, lexeme_as};
 ghost use Rattle.sbl_tree.specs.Tree as trees;
 ghost use Rattle.sbl_tree.specs.Tree.{written};

@@ -4,7 +4,7 @@ use Rattle.std.specs.Prelude.{◌&&◌, encode_utf8_all}
 use Rattle.std.specs.List.{flat_map, join_by}
 use Rattle.std.proofs.lemmas.Str.{encode_ascii}
 use Rattle.sbl_text.specs.Classes.{is_white}
-use Rattle.sbl_text.specs.Lexemes.{Lexeme}
+use Rattle.sbl_lexemes.specs.Lexemes.{Lexeme}
 use Rattle.sbl_text.specs.Spaced.{Spaced, are_white, lexeme_text, lexemes_of, spaced_text}
 use Rattle.sbl_tree.specs.Terminal.{Terminal, lexeme_as}
 use Rattle.sbl_tree.specs.Terminal as t

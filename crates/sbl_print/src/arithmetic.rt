@@ -7,7 +7,7 @@ ghost use Rattle.sbl_print.specs.Adding.{Adds};
 
 use crate::tokens::{put, put_argument, put_name, put_number, put_sign, put_word};
 use crate::words::{additive_text, constant_text, multiplicative_text};
-use sbl_text::{Sign, Word};
+use sbl_lexemes::{Sign, Word};
 use sbl_tree::{Added, Expression, Factor, Product, Scaled};
 use std::alloc::{AllocError, Global};
 

@@ -14,7 +14,7 @@ use crate::words::{
     assignment_text, comparison_text, count_text, joiner_text, move_text, naming_text, prefix_text,
     simple_text, splice_text,
 };
-use sbl_text::{Sign, Word};
+use sbl_lexemes::{Sign, Word};
 use sbl_tree::{
     Among, Argument, Assignment, Command, Comparison, Entry, Expression, Group, Joined, Move,
     Naming, Row, Splice,

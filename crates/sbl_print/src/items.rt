@@ -14,7 +14,7 @@ use crate::tokens::{
     put, put_argument, put_inserts, put_literal, put_macro_name, put_name, put_sign, put_word,
 };
 use crate::words::{additive_text, base_text, declaration_text};
-use sbl_text::{Sign, Word};
+use sbl_lexemes::{Sign, Word};
 use sbl_tree::{Argument, Base, DeclarationKind, Item, Literal, Plain, Row, Term};
 use std::alloc::{AllocError, Global};
 

@@ -3,13 +3,13 @@
 ghost use Rattle.std.specs.Prelude.{◌≡◌, ◌∷◌, OnOk, string_bytes};
 ghost use Rattle.sbl_tree.specs.Terminal as t;
 ghost use Rattle.sbl_tree.specs.Terminal.{Terminal, lexeme_as};
-ghost use Rattle.sbl_text.specs.Lexemes as lexemes;
+ghost use Rattle.sbl_lexemes.specs.Lexemes as lexemes;
 ghost use Rattle.sbl_tree.specs.Tree.{argument_terminal};
 ghost use Rattle.sbl_tree.specs.View.{view_argument, view_literal};
 ghost use Rattle.sbl_print.specs.Canonical.{token_text};
 ghost use Rattle.sbl_print.specs.Adding.{Adds};
 
-use sbl_text::{Sign, Word};
+use sbl_lexemes::{Sign, Word};
 use sbl_tree::{Argument, Literal};
 use std::alloc::{AllocError, Global};
 

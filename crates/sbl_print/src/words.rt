@@ -4,7 +4,7 @@ ghost use Rattle.std.specs.Prelude.{◌≡◌};
 ghost use Rattle.sbl_tree.specs.Terminal as t;
 ghost use Rattle.sbl_print.specs.Canonical.{token_text};
 
-use sbl_text::{Sign, Word};
+use sbl_lexemes::{Sign, Word};
 use sbl_tree::{
     Additive, Assignment, Base, Comparison, Constant, Count, DeclarationKind, Joiner, Move,
     Multiplicative, Naming, Prefix, Simple, Splice,

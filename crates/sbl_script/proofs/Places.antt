@@ -3,8 +3,8 @@ use Rattle.std.proofs.Common.{◌≡◌, ◌⊎◌, ℕ, List, [], ◌∷◌, �
 use Rattle.std.proofs.lemmas.List.{take-append-drop, map-append}
 use Rattle.sbl_text.specs.declared.fault.ScriptFault.{ScriptFault}
 use Rattle.sbl_text.specs.declared.fault.ScriptFault.TheVariants as fault
-use Rattle.sbl_text.specs.declared.token.Token.{Token}
-use Rattle.sbl_text.specs.Lexemes.{lexeme_of}
+use Rattle.sbl_lexemes.specs.declared.token.Token.{Token}
+use Rattle.sbl_lexemes.specs.Lexemes.{lexeme_of}
 use Rattle.sbl_text.specs.Tokens.{Placed, placed_of}
 use Rattle.sbl_tree.specs.Terminal.{Terminal, terminal_of, terminals_of, left}
 use Rattle.sbl_grammar.specs.Reading.{IsSyntaxAt, IsTooDeepAt, IsOutOfProfileAt}

@@ -3,7 +3,7 @@ use Rattle.std.proofs.Common.{◌≡◌, ℕ, Bool, true, false, List, [], ◌�
 use Rattle.std.specs.Prelude.{if◌then◌else◌}
 use Rattle.std.specs.List.{list_any}
 use Rattle.std.specs.Str.{chars, IsUtf8}
-use Rattle.sbl_text.specs.Lexemes.{Lexeme}
+use Rattle.sbl_lexemes.specs.Lexemes.{Lexeme}
 use Rattle.sbl_text.specs.Directives.{start}
 use Rattle.sbl_text.specs.Tokens.{Placed, AreTokensFrom, MayEnd, placed_from}
 use Rattle.sbl_text.specs.Spaced.{after_all, AreSaid, spaced_text}

@@ -6,7 +6,7 @@ use Rattle.std.specs.Option.{option_or}
 use Rattle.std.specs.Str.{bytes_eq}
 use Rattle.std.proofs.lemmas.Slice.Eq.{bytes_eq-Decides}
 use Rattle.sbl_text.specs.Escapes.{InForce, nothing_set}
-use Rattle.sbl_text.specs.Lexemes.{Lexeme}
+use Rattle.sbl_lexemes.specs.Lexemes.{Lexeme}
 use Rattle.sbl_text.specs.Directives.{Directives, after, settled, start}
 use Rattle.sbl_text.specs.Literals.{byte_length}
 use Rattle.sbl_text.specs.Tokens.{Placed, Piece, MayEnd, and_more, placed_from, put_placed, said}

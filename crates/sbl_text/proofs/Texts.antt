@@ -3,12 +3,8 @@ use Rattle.std.proofs.Common.{◌≡◌, ◌≤◌, ℕ, List, [], ◌∷◌, �
 use Rattle.std.specs.Prelude.{encode_utf8_all}
 use Rattle.std.specs.List.{slice_range}
 use Rattle.std.specs.Str.{chars, IsUtf8, IsCharBoundary}
-use Rattle.std.proofs.lemmas.Str.{chars-nil, encodes-chars, encodes-append, encodes_same, IsCharBoundary-at_seam}
+use Rattle.std.proofs.lemmas.Str.{encodes-chars, encodes-append, encodes_same, IsCharBoundary-at_seam}
 use Rattle.std.proofs.Math.Seq.{take-append_seam}
-
-pub chars_of_empty : (bs : List ℕ) → length bs ≡ 0 → chars bs ≡ []
-chars_of_empty [] e = chars-nil
-chars_of_empty (b ∷ bs) e = cc
 
 -- the bytes of a text that ends in another
 pub bytes_before : (text rest x : List ℕ) → IsUtf8 text → IsUtf8 rest → chars text ≡ x ++ chars rest → text ≡ encode_utf8_all x ++ rest

@@ -5,7 +5,7 @@ ghost use Rattle.std.specs.Str.{chars};
 ghost use Rattle.sbl_text.specs.Classes.{is_white};
 ghost use Rattle.sbl_text.specs.Skip as spec;
 
-use crate::front::split_first;
+use sbl_lexemes::split_first;
 
 /// What characters are skipped.
 #[derive(Clone, Copy, Debug)]

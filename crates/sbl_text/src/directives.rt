@@ -2,7 +2,7 @@
 
 ghost use Rattle.std.specs.Prelude.{◌≡◌, ◌⊎◌, List, ℕ, MatchResult, option_map, Some, None};
 ghost use Rattle.std.specs.Str.{chars};
-ghost use Rattle.sbl_text.specs.Lexemes.{characters_in, inserts_in};
+ghost use Rattle.sbl_lexemes.specs.Lexemes.{characters_in, inserts_in};
 ghost use Rattle.sbl_text.specs.Escapes.{with_inserts};
 ghost use Rattle.sbl_text.specs.Directives as spec;
 
@@ -10,8 +10,7 @@ use crate::codes::codes;
 use crate::escapes::Escapes;
 use crate::fault::ScriptFault;
 use crate::pieces::Wanted;
-use crate::token::{Kind, Token, Value};
-use crate::words::Word;
+use sbl_lexemes::{Kind, Token, Value, Word};
 use std::alloc::Global;
 use std::marker::Model;
 
@@ -98,7 +97,7 @@ fn inserts_of(value: &Value<'_>) -> (char, char)
 }
 
 impl<'a> Directives<'a> {
-    ghost use Rattle.sbl_text.specs.Lexemes.{lexeme_of};
+    ghost use Rattle.sbl_lexemes.specs.Lexemes.{lexeme_of};
     ghost use Rattle.sbl_text.specs.Tokens.{HasValue, LacksValue};
 
     /// At the front of a text.

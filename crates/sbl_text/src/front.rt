@@ -1,19 +1,9 @@
-//! The first character of a text, and the front of a text.
+//! The front of a text.
 
-ghost use Rattle.std.specs.Prelude.{◌+◌, ◌^◌, ◌≤◌, ◌≡◌, ◌<◌, ◌∷◌, ◌++◌, [], List, ℕ, length, encode_utf8_all, MatchOption};
+ghost use Rattle.std.specs.Prelude.{◌+◌, ◌^◌, ◌≤◌, ◌≡◌, ◌<◌, ◌∷◌, ◌++◌, [], List, ℕ, length, encode_utf8_all};
 ghost use Rattle.std.specs.Str.{chars};
 
-/// The first character, and the text after it.
-pub fn split_first(text: &str) -> Option<(char, &str)>
-    ensures parts { MatchOption result (chars text.now ≡ []) (λ p. chars text.now ≡ p.0 ∷ chars p.1.now) }
-    ensures shorter { MatchOption result (length text.now ≡ 0) (λ p. length p.1.now < length text.now) }
-{
-    let mut chars = text.chars();
-    match chars.next() {
-        Some(c) => Some((c, chars.as_str())),
-        None => None,
-    }
-}
+use sbl_lexemes::split_first;
 
 /// The front of a text, up to a text that ends it.
 pub fn front_before<'a>(text: &'a str, rest: &str) -> &'a str

@@ -13,15 +13,10 @@ mod literals;
 mod macros;
 mod meanings;
 mod pieces;
-mod signs;
-mod token;
-mod words;
 
 pub use codes::read_codes;
 pub use escapes::{Escapes, Inserts};
 pub use fault::ScriptFault;
 pub use lexer::{Lexer, tokens, tokens_under};
 pub use literals::read_literal;
-pub use signs::Sign;
-pub use token::{Kind, Token, Value};
-pub use words::Word;
+pub use sbl_lexemes::{Kind, Sign, Token, Value, Word};

@@ -4,17 +4,15 @@ ghost use Rattle.std.specs.Prelude.{◌+◌, ◌^◌, length, ◌≡◌, ◌≤�
 ghost use Rattle.std.specs.Str.{chars};
 ghost use Rattle.sbl_text.specs.Pieces as pieces;
 ghost use Rattle.sbl_text.specs.Tokens as spec;
-ghost use Rattle.sbl_text.specs.Lexemes.{fits, lexeme_by};
+ghost use Rattle.sbl_lexemes.specs.Lexemes.{fits, lexeme_by};
 ghost use Rattle.sbl_text.specs.Directives as states;
 
 use crate::directives::Directives;
 use crate::fault::ScriptFault;
-use crate::front::{between_quotes, place_of, split_first};
+use crate::front::{between_quotes, place_of};
 use crate::literals::literal_value;
 use crate::pieces::{Shape, Wanted};
-use crate::signs::sign_of;
-use crate::token::{Kind, Value};
-use crate::words::word_of;
+use sbl_lexemes::{Kind, Value, sign_of, split_first, word_of};
 use std::alloc::Global;
 
 /// The largest number of a script (our own choice: the largest that 32 bits with a sign hold).

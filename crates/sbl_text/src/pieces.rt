@@ -7,8 +7,7 @@ ghost use Rattle.sbl_text.specs.Scan as spec;
 
 use crate::classes::{Class, is_in, past};
 use crate::escapes::{Inserts, closes, opens};
-use crate::front::split_first;
-use crate::signs::sign_front;
+use sbl_lexemes::{sign_front, split_first};
 
 /// What is cut from a text.
 #[derive(Clone, Copy, Debug, PartialEq, Eq)]

@@ -1,12 +1,12 @@
 -- A token as the grammar sees it: the part that it plays.
 use Rattle.std.specs.Prelude.{ℕ, List, [], ◌∷◌, map, drop}
-use Rattle.sbl_text.specs.Lexemes.{Lexeme, word, sign, lexeme_of}
-use Rattle.sbl_text.specs.Lexemes as lexemes
-use Rattle.sbl_text.specs.declared.words.Word.{Word}
-use Rattle.sbl_text.specs.declared.words.Word.TheVariants as w
-use Rattle.sbl_text.specs.declared.signs.Sign.{Sign}
-use Rattle.sbl_text.specs.declared.signs.Sign.TheVariants as s
-use Rattle.sbl_text.specs.declared.token.Token.{Token}
+use Rattle.sbl_lexemes.specs.Lexemes.{Lexeme, word, sign, lexeme_of}
+use Rattle.sbl_lexemes.specs.Lexemes as lexemes
+use Rattle.sbl_lexemes.specs.declared.words.Word.{Word}
+use Rattle.sbl_lexemes.specs.declared.words.Word.TheVariants as w
+use Rattle.sbl_lexemes.specs.declared.signs.Sign.{Sign}
+use Rattle.sbl_lexemes.specs.declared.signs.Sign.TheVariants as s
+use Rattle.sbl_lexemes.specs.declared.token.Token.{Token}
 use Rattle.sbl_tree.specs.declared.tree.DeclarationKind.{DeclarationKind}
 use Rattle.sbl_tree.specs.declared.tree.DeclarationKind.TheVariants as declarations
 use Rattle.sbl_tree.specs.declared.tree.Base.{Base}

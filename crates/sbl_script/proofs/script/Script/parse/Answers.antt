@@ -1,7 +1,7 @@
 use Rattle.std.proofs.Common.{ℕ, List, map, inl, inr, subst}
 use Rattle.std.proofs.lemmas.Result.{err_from_is_err_and}
 use Rattle.std.specs.Str.{chars}
-use Rattle.sbl_text.specs.declared.token.Token.{Token}
+use Rattle.sbl_lexemes.specs.declared.token.Token.{Token}
 use Rattle.sbl_text.specs.Directives.{start}
 use Rattle.sbl_text.specs.Tokens.{ArePlacedFrom, placed_of}
 use Rattle.sbl_grammar.specs.Reading.{IsReadAs}

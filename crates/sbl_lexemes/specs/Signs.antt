@@ -1,7 +1,7 @@
 -- How the signs are written.
 use Rattle.std.specs.Prelude.{ℕ, List, codes}
-use Rattle.sbl_text.specs.declared.signs.Sign.{Sign}
-use Rattle.sbl_text.specs.declared.signs.Sign.TheVariants as sign
+use Rattle.sbl_lexemes.specs.declared.signs.Sign.{Sign}
+use Rattle.sbl_lexemes.specs.declared.signs.Sign.TheVariants as sign
 
 abbrev pub sign_text : Sign → List ℕ
 sign_text sign.Open = codes "("

@@ -1,7 +1,7 @@
 use Rattle.std.proofs.Common.{rules, arith}
 use Rattle.std.proofs.lemmas.Grind.{common_steps}
-use Rattle.sbl_text.specs.Words.{word_of}
-use Rattle.sbl_text.proofs.words.word_of.Goals as goal
+use Rattle.sbl_lexemes.specs.Words.{word_of}
+use Rattle.sbl_lexemes.proofs.words.word_of.Goals as goal
 
 pub returns : goal.returns
 unfolding word_of

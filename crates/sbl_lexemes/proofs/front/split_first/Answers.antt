@@ -1,8 +1,8 @@
 use Rattle.std.proofs.Common.{ℕ, List, ◌++◌, sym, ap, ◌∙◌}
 use Rattle.std.specs.Prelude.{encode_utf8}
 use Rattle.std.proofs.lemmas.Str.{chars_past_char}
-use Rattle.sbl_text.proofs.Texts.{chars_of_empty}
-use Rattle.sbl_text.proofs.front.split_first.Goals as goal
+use Rattle.sbl_lexemes.proofs.Texts.{chars_of_empty}
+use Rattle.sbl_lexemes.proofs.front.split_first.Goals as goal
 
 pub returns-in-Some-clause-parts : goal.returns-in-Some-clause-parts
 returns-in-Some-clause-parts c =

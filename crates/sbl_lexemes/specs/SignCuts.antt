@@ -1,8 +1,7 @@
--- How the sign at the front of a text is found. Nothing here need be believed: it is what functions inside the crate
--- promise each other.
+-- The sign at the front of a text, and the sign that a text is.
 use Rattle.std.specs.Prelude.{ℕ, ◌==◌, if◌then◌else◌, List, [], ◌∷◌, Option, Some, None, option_map}
-use Rattle.sbl_text.specs.declared.signs.Sign.{Sign}
-use Rattle.sbl_text.specs.declared.signs.Sign.TheVariants as sign
+use Rattle.sbl_lexemes.specs.declared.signs.Sign.{Sign}
+use Rattle.sbl_lexemes.specs.declared.signs.Sign.TheVariants as sign
 
 -- a sign of one character
 abbrev pub one : ℕ → Option Sign

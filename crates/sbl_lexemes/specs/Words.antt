@@ -1,8 +1,8 @@
 -- The reserved words, and the word that a text is.
 use Rattle.std.specs.Prelude.{ℕ, if◌then◌else◌, List, [], ◌∷◌, codes, Option, Some, None}
 use Rattle.std.specs.Str.{bytes_eq}
-use Rattle.sbl_text.specs.declared.words.Word.{Word}
-use Rattle.sbl_text.specs.declared.words.Word.TheVariants as word
+use Rattle.sbl_lexemes.specs.declared.words.Word.{Word}
+use Rattle.sbl_lexemes.specs.declared.words.Word.TheVariants as word
 
 -- how a word is written
 abbrev pub word_text : Word → List ℕ

@@ -2,8 +2,8 @@
 
 ghost use Rattle.std.specs.Prelude.{◌≡◌, ◌≤◌, ◌<◌, length, MatchOption, IfSome, Some, None};
 ghost use Rattle.std.specs.Str.{chars};
-ghost use Rattle.sbl_text.specs.SignCuts as spec;
-ghost use Rattle.sbl_text.specs.Signs.{sign_text};
+ghost use Rattle.sbl_lexemes.specs.SignCuts as spec;
+ghost use Rattle.sbl_lexemes.specs.Signs.{sign_text};
 
 use crate::front::split_first;
 
@@ -156,7 +156,7 @@ fn two(a: char, b: char) -> Option<Sign>
     }
 }
 
-/// The longest sign at the front, and what is left.
+/// The longest sign at the front, and what is left; `None` where no sign begins the text (Snowball manual, "The language").
 #[tactic(auto, unfolding(crate::specs::SignCuts::sign_front))]
 pub fn sign_front(text: &str) -> Option<(Sign, &str)>
     ensures value { MatchOption result (spec.sign_front (chars text.now) ≡ None) (λ p. spec.sign_front (chars text.now) ≡ Some (p.0, chars p.1.now)) }
@@ -174,7 +174,7 @@ pub fn sign_front(text: &str) -> Option<(Sign, &str)>
     }
 }
 
-/// The sign that a text is, if it is one.
+/// The sign that the whole text is; `None` where it is none (Snowball manual, "The language").
 pub fn sign_of(text: &str) -> Option<Sign>
     ensures { result ≡ spec.sign_of (chars text.now) }
 {

@@ -1,7 +1,7 @@
 //! The reserved words.
 
 ghost use Rattle.std.specs.Prelude.{◌≡◌};
-ghost use Rattle.sbl_text.specs.Words as spec;
+ghost use Rattle.sbl_lexemes.specs.Words as spec;
 
 /// A reserved word (Snowball manual, "The language"). A name is never one of them (our own choice).
 #[derive(Clone, Copy, Debug, PartialEq, Eq)]
@@ -254,7 +254,7 @@ fn lookup(mut words: &[Word], text: &str) -> Option<Word>
     None
 }
 
-/// The reserved word that a text is, if it is one. Case matters.
+/// The reserved word that the whole text is; `None` where it is none. Case matters (Snowball manual, "The language").
 pub fn word_of(text: &str) -> Option<Word>
     ensures { result ≡ spec.word_of text.now }
 {

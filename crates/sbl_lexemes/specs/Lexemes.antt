@@ -1,12 +1,12 @@
 -- A token without its place.
 use Rattle.std.specs.Prelude.{◌≡◌, ℕ, Bool, true, false, List, []}
-use Rattle.sbl_text.specs.declared.signs.Sign.{Sign}
-use Rattle.sbl_text.specs.declared.words.Word.{Word}
-use Rattle.sbl_text.specs.declared.token.Kind.{Kind}
-use Rattle.sbl_text.specs.declared.token.Kind.TheVariants as kind
-use Rattle.sbl_text.specs.declared.token.Value.{Value}
-use Rattle.sbl_text.specs.declared.token.Value.TheVariants as value
-use Rattle.sbl_text.specs.declared.token.Token.{Token}
+use Rattle.sbl_lexemes.specs.declared.signs.Sign.{Sign}
+use Rattle.sbl_lexemes.specs.declared.words.Word.{Word}
+use Rattle.sbl_lexemes.specs.declared.token.Kind.{Kind}
+use Rattle.sbl_lexemes.specs.declared.token.Kind.TheVariants as kind
+use Rattle.sbl_lexemes.specs.declared.token.Value.{Value}
+use Rattle.sbl_lexemes.specs.declared.token.Value.TheVariants as value
+use Rattle.sbl_lexemes.specs.declared.token.Token.{Token}
 
 -- a name by the bytes of its text, a number by its value, a literal by the bytes of its spelling and its characters,
 -- insert characters by the two, and the name of a macro by the bytes of its text

@@ -1,0 +1,12 @@
+//! Words, signs and tokens: what they are, and how a text is one of them.
+#![tactic(auto)]
+
+mod front;
+mod signs;
+mod token;
+mod words;
+
+pub use front::split_first;
+pub use signs::{Sign, sign_front, sign_of};
+pub use token::{Kind, Token, Value};
+pub use words::{Word, word_of};
