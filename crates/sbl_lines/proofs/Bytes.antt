@@ -1,5 +1,5 @@
 -- Facts on bytes that are told.
-use Rattle.std.proofs.Common.{subst, inl, inr, ◌⊎◌, Bool, true, length-append, length-take, lit<, ◌≡◌, ◌≢◌, ◌∙◌, ◌++◌, ◌<◌, ◌≤◌, ◌+◌, ◌-◌, ℕ, suc, List, [], ◌∷◌, length, drop, Option, Some, None, refl, sym, ap, map, ◌==◌, false, append_assoc, add-one, arith, slice_index_or}
+use Rattle.std.proofs.Common.{subst, inl, inr, ◌⊎◌, Bool, true, length-append, length-take, lit<, ◌≡◌, ◌≢◌, ◌∙◌, ◌++◌, ◌<◌, ◌≤◌, ◌+◌, ◌-◌, ℕ, suc, List, [], ◌∷◌, length, drop, take, zero, Option, Some, None, refl, sym, ap, map, ◌==◌, false, append_assoc, add-one, arith, slice_index_or}
 use Rattle.std.specs.Prelude.{slice_range}
 use Rattle.std.proofs.Math.Seq.{drop-cons}
 use Rattle.std.specs.Io.KnownBytes.{Consumes, Keeps, prepend_known}
@@ -8,7 +8,7 @@ use Rattle.sbl_lines.specs.declared.lines.LineEnd.{LineEnd}
 use Rattle.sbl_lines.specs.declared.lines.LineEnd.TheVariants.{Feed, Input, Beyond}
 use Rattle.sbl_lines.specs.LinesOf.{AreWhole, chomped, lines_of, onto_first, raw_lines}
 use Rattle.std.proofs.lemmas.Bool.{ne_eqb}
-use Rattle.std.proofs.lemmas.List.{append-nil, map-append}
+use Rattle.std.proofs.lemmas.List.{append-nil, drop-drop, drop-take, map-append, take-append-drop}
 use Rattle.std.proofs.KnownBytes.{prepend_known-nil}
 
 pub empty_range : (xs : List ℕ) (a b : ℕ) → a ≡ b → slice_range xs a b ≡ []
@@ -27,6 +27,18 @@ take_one xs a b byte (Some ys) lt le is =
     let count : b - a ≡ suc (b - suc a) = omega arith in
     rw (add-one, front, count) refl
 
+-- so many bytes of the range are taken
+pub take_many : (xs : List ℕ) (a b n : ℕ) (known : Option (List ℕ)) → a + n ≤ b
+    → Consumes (prepend_known (slice_range xs a b) known) (prepend_known (slice_range xs (a + n) b) known) (take n (slice_range xs a b))
+take_many xs a b n None le = tt
+take_many xs a b n (Some ys) le =
+    let held = slice_range xs a b in
+    let count : b - a ≡ n + (b - (a + n)) = omega arith in
+    let rest : drop n held ≡ slice_range xs (a + n) b =
+        ap (λ (k : ℕ). drop n (take k (drop a xs))) count ∙ drop-take n (b - (a + n)) (drop a xs) ∙ ap (take (b - (a + n))) (drop-drop n a xs) in
+    ap (λ (s : List ℕ). s ++ ys) (sym (take-append-drop n held)) ∙ append_assoc (take n held) (drop n held) ys
+    ∙ ap (λ (s : List ℕ). take n held ++ (s ++ ys)) rest
+
 -- bytes are taken after a step that keeps them
 pub kept_then : (a b c : Option (List ℕ)) (bs : List ℕ) → Keeps a b → Consumes b c bs → Consumes a c bs
 kept_then None b c bs k h = tt
@@ -37,6 +49,17 @@ kept_then (Some xs) (Some ys) (Some zs) bs k h = sym k ∙ h
 pub no_feed_push : (bytes : List ℕ) (b : ℕ) → NoFeed bytes → b ≢ 10 → NoFeed (bytes ++ b ∷ [])
 no_feed_push [] b h n = (n, tt)
 no_feed_push (x ∷ bytes) b h n = (h.0, no_feed_push bytes b h.1 n)
+
+pub no_feed_append : (bytes more : List ℕ) → NoFeed bytes → NoFeed more → NoFeed (bytes ++ more)
+no_feed_append [] more h m = m
+no_feed_append (x ∷ bytes) more h m = (h.0, no_feed_append bytes more h.1 m)
+
+-- a front of bytes without a line feed has none
+pub no_feed_front : (n m : ℕ) (bytes : List ℕ) → n ≤ m → NoFeed (take m bytes) → NoFeed (take n bytes)
+no_feed_front zero m bytes le h = tt
+no_feed_front (suc n) m [] le h = tt
+no_feed_front (suc n) zero (x ∷ bytes) le h = absurd (omega (arith, le))
+no_feed_front (suc n) (suc m) (x ∷ bytes) le h = (h.0, no_feed_front n m bytes (omega (arith, le)) h.1)
 
 -- the lines of an input whose first line a line feed ends
 pub lines-feed : (line rest : List ℕ) → NoFeed line → raw_lines (line ++ 10 ∷ rest) ≡ line ∷ raw_lines rest

@@ -1,10 +1,11 @@
 //! Lines of a reader, in buffers of their own that do not grow.
-ghost use Rattle.std.specs.Prelude.{◌≡◌, ◌≢◌, ◌+◌, ◌≤◌, ◌<◌, ◌⊎◌, [], ◌∷◌, vec_len, vec_capacity, OnOk, OnErr, IfOk, IfErr, MatchOption, Some, None, Ok, Err, true, false, length, IsSome};
+ghost use Rattle.std.specs.Prelude.{◌≡◌, ◌≢◌, ◌+◌, ◌≤◌, ◌<◌, ◌⊎◌, ℕ, List, Option, [], ◌∷◌, vec_len, vec_capacity, OnOk, OnErr, IfOk, IfErr, MatchOption, Some, None, Ok, Err, true, false, length, IsSome};
 ghost use Rattle.std.specs.Io.KnownBytes.{Consumes, IsAtEnd, Keeps};
 ghost use Rattle.sbl_lines.specs.LinesOf.{chomped, max_line};
 
 use crate::devices::{MAX_READS, MAX_TRIES, Source, Stop};
 use crate::faults::LineFault;
+use crate::text_lines::first_feed;
 use std::alloc::{AllocError, Global};
 
 /// The longest line in bytes, its end not counted (our own choice).
@@ -161,6 +162,23 @@ impl<R: Source + Drop> Lines<R> {
         Ok(Some(byte))
     }
 
+    /// Takes what the chunk holds of a line onto the line, up to a line feed, and at most until the line has one byte more than it may.
+    fn take_held(&mut self)
+        requires { length (line_of self.old) ≤ max_line + 1 }
+        ensures takes { (whole : Option (List ℕ)) → Consumes whole (input_of R.left self.old) (line_of self.old) → Consumes whole (input_of R.left self.new) (line_of self.new) }
+        ensures no_feed { NoFeed (line_of self.old) → NoFeed (line_of self.new) }
+        ensures room { length (line_of self.new) ≤ max_line + 1 }
+        ensures fuel { length (line_of self.new) + fuel_of self.new ≤ length (line_of self.old) + fuel_of self.old }
+        ensures falls { fuel_of self.new ≤ fuel_of self.old }
+        ensures same { (self.new.reader ≡ self.old.reader) × (self.new.ended ≡ self.old.ended) × (self.new.reads_left ≡ self.old.reads_left) × (self.new.fault ≡ self.old.fault) }
+    {
+        let held = &self.chunk[self.at..self.end];
+        let room = MAX_LINE + 1 - self.line.len();
+        let count = first_feed(held).min(room);
+        self.line.extend_from_slice(&held[..count]).unwrap();
+        self.at += count;
+    }
+
     /// Takes the bytes of a line, up to a line feed, the end of input or more than a line may hold.
     fn take_line(&mut self) -> Result<LineEnd, LineFault>
         ensures takes { IfOk result (λ end. TakesLine (input_of R.left self.old) (input_of R.left self.new) (line_of self.new) end) }
@@ -180,17 +198,18 @@ impl<R: Source + Drop> Lines<R> {
         ensures rested { OnOk result (R.interruptions self.old.reader ≡ 0 → R.interruptions self.new.reader ≡ 0) }
     {
         self.line.clear();
-        for _ in 0..MAX_LINE + 1 {
+        loop {
+            self.take_held();
             match self.next_byte()? {
                 None => return Ok(LineEnd::Input),
                 Some(b'\n') => return Ok(LineEnd::Feed),
-                Some(byte) => self.line.push(byte).unwrap(),
+                Some(byte) => {
+                    if self.line.len() > MAX_LINE {
+                        return Ok(LineEnd::Beyond);
+                    }
+                    self.line.push(byte).unwrap();
+                }
             }
-        }
-        match self.next_byte()? {
-            None => Ok(LineEnd::Input),
-            Some(b'\n') => Ok(LineEnd::Feed),
-            Some(_) => Ok(LineEnd::Beyond),
         }
     }
 

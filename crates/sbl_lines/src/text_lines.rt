@@ -4,7 +4,7 @@ ghost use Rattle.sbl_lines.specs.Held.{NoFeed};
 ghost use Rattle.sbl_lines.specs.LinesOf.{chomped, lines_of};
 
 /// Where the first line feed stands, or how many bytes there are.
-fn first_feed(bytes: &[u8]) -> usize
+pub(crate) fn first_feed(bytes: &[u8]) -> usize
     ensures inside { result ≤ length bytes.now }
     ensures free { NoFeed (take result bytes.now) }
     ensures feed { result < length bytes.now → slice_index bytes.now result ≡ 10 }
