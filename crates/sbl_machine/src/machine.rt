@@ -104,8 +104,7 @@ impl<S: AmongSearch> Machine<S> {
     }
 
     /// What was touched, by names, each once, in order: routines in code point order, then amongs by routine and number. A number
-    /// past the routines has an empty name. AllocError where a growth was refused, or for an among whose number, counted from 1,
-    /// is above `u64::MAX`.
+    /// past the routines has an empty name. AllocError where a growth was refused.
     pub fn items(&self, alloc: Global, touches: &[Touch]) -> Result<BTreeSet<Item>, AllocError>
         ensures { (script : Source) → IsMachineOf S S.entries S.mode self.now script → IfOk result (λ set. items_in set ≡ items_of (routine_names script) touches.now) }
     {

@@ -20,22 +20,18 @@ fn name_at(names: &[String], number: usize) -> &str
     }
 }
 
-// What is touched, by its routine's name. AllocError where a growth was refused, or where the number of an among, counted from 1,
-// would be above `u64::MAX`.
+// What is touched, by its routine's name. AllocError where a growth was refused.
 fn item_named(alloc: Global, names: &[String], touch: Touch) -> Result<Item, AllocError>
     ensures { IfOk result (λ item. item_of item ≡ named (map string_bytes names.now) touch) }
 {
     match touch {
         Touch::Entered(routine) => Ok(Item::Routine(String::from_str(
             alloc,
-            name_at(names, routine),
+            name_at(names, routine as usize),
         )?)),
         Touch::Searched(routine, among) => {
-            let name = String::from_str(alloc, name_at(names, routine))?;
-            match (among as u64).checked_add(1) {
-                Some(number) => Ok(Item::Among(name, number)),
-                None => Err(AllocError),
-            }
+            let name = String::from_str(alloc, name_at(names, routine as usize))?;
+            Ok(Item::Among(name, u64::from(among) + 1))
         }
     }
 }
@@ -71,9 +67,11 @@ fn is_touch_of(names: &[String], touch: Touch, item: &Item) -> bool
     ensures { result ≡ same_item (item_of item.now) (named (map string_bytes names.now) touch) }
 {
     match (item, touch) {
-        (Item::Routine(name), Touch::Entered(routine)) => name.as_str() == name_at(names, routine),
+        (Item::Routine(name), Touch::Entered(routine)) => {
+            name.as_str() == name_at(names, routine as usize)
+        }
         (Item::Among(name, number), Touch::Searched(routine, among)) => {
-            0 < *number && *number - 1 == among as u64 && name.as_str() == name_at(names, routine)
+            *number == u64::from(among) + 1 && name.as_str() == name_at(names, routine as usize)
         }
         (Item::Routine(_), Touch::Searched(_, _)) => false,
         (Item::Among(_, _), Touch::Entered(_)) => false,

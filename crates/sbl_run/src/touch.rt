@@ -4,7 +4,7 @@
 #[derive(Clone, Copy, Debug, Drop, PartialEq, Eq)]
 pub enum Touch {
     /// The body of the routine with this number is entered.
-    Entered(usize),
+    Entered(u32),
     /// The search of an among is paid: the number of its routine, and its own in it, both from 0.
-    Searched(usize, usize),
+    Searched(u32, u32),
 }

@@ -55,15 +55,16 @@ impl Touched {
     {
         while let Some(touch) = self.touches.pop() {
             match touch {
-                Touch::Entered(routine) => set(&mut self.entered, routine, false),
+                Touch::Entered(routine) => set(&mut self.entered, routine as usize, false),
                 Touch::Searched(routine, among) => {
-                    set_in(&mut self.searched, routine, among, false)
+                    set_in(&mut self.searched, routine as usize, among as usize, false)
                 }
             }
         }
     }
 
-    /// The body of a routine is entered. AllocError where a growth was refused; nothing is touched then.
+    /// The body of a routine is entered. AllocError where a growth was refused, or where the number is above `u32::MAX`; nothing is
+    /// touched then.
     #[inline(always)]
     pub fn enter(&mut self, routine: usize) -> Result<(), AllocError>
         ensures { MatchResult result (λ _. self.new ≡ with_touch (Entered routine) self.old) (λ _. self.new ≡ self.old) }
@@ -71,13 +72,15 @@ impl Touched {
         if bit(&self.entered, routine) {
             return Ok(());
         }
+        let number = small(routine)?;
         grow(&mut self.entered, routine)?;
-        self.touches.push(Touch::Entered(routine))?;
+        self.touches.push(Touch::Entered(number))?;
         set(&mut self.entered, routine, true);
         Ok(())
     }
 
-    /// The search of an among is paid. AllocError where a growth was refused; nothing is touched then.
+    /// The search of an among is paid. AllocError where a growth was refused, or where a number is above `u32::MAX`; nothing is
+    /// touched then.
     #[inline(always)]
     pub fn search(&mut self, routine: usize, among: usize) -> Result<(), AllocError>
         ensures { MatchResult result (λ _. self.new ≡ with_touch (Searched routine among) self.old) (λ _. self.new ≡ self.old) }
@@ -85,10 +88,21 @@ impl Touched {
         if bit_in(&self.searched, routine, among) {
             return Ok(());
         }
+        let touch = Touch::Searched(small(routine)?, small(among)?);
         grow_in(&mut self.searched, routine, among)?;
-        self.touches.push(Touch::Searched(routine, among))?;
+        self.touches.push(touch)?;
         set_in(&mut self.searched, routine, among, true);
         Ok(())
+    }
+}
+
+// A number as touches keep it. AllocError where it is above `u32::MAX`: no memory holds so many routines or amongs.
+fn small(number: usize) -> Result<u32, AllocError>
+    ensures { IfOk result (λ small. small ≡ number) }
+{
+    match u32::try_from(number) {
+        Ok(small) => Ok(small),
+        Err(_) => Err(AllocError),
     }
 }
 
