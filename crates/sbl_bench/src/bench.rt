@@ -9,6 +9,7 @@ use sbl_script::Script;
 use std::alloc::{AllocError, Global};
 use std::collections::BTreeSet;
 use std::marker::Model;
+use std::mem::forget;
 
 /// The most characters of a word (our own choice).
 pub const MAX_WORD_LENGTH: usize = 255;
@@ -115,9 +116,11 @@ impl Bench {
         self.meter.count()
     }
 
-    /// Gives the bench up, and its memory back, as a drop does; as with `Script::discard`, no destructor is proved once more where
-    /// this is called. Takes no memory.
-    pub fn discard(self) {}
+    /// Gives the bench up. Its memory is not given back piece by piece, but when the program ends: this is for a bench that is used
+    /// until then. No destructor is proved once more where this is called. Takes no memory.
+    pub fn discard(self) {
+        forget(self);
+    }
 
     /// The script. Takes no memory.
     pub fn script(&self) -> &Script

@@ -5,6 +5,24 @@ use Rattle.sbl_run.specs.Run.{calls}
 use Rattle.sbl_run.specs.State.{State, Ending}
 use Rattle.sbl_tree.specs.declared.mode.Mode.TheVariants.{Forward}
 
+-- a state in which nothing has run: no text, no variables, nothing touched, no steps
+abbrev pub unused : State
+unused = record {
+  text = [];
+  cursor = 0;
+  left = 0;
+  beyond = 0;
+  bra = 0;
+  ket = 0;
+  integers = [];
+  booleans = [];
+  strings = [];
+  choices = [];
+  routine = 0;
+  touched = [];
+  steps = 0;
+}
+
 -- where a run of a word begins: integers 0, booleans false, strings empty, nothing touched
 abbrev pub start : programs.Program → List ℕ → ℕ → State
 start p word steps = record {
