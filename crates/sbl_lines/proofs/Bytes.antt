@@ -35,7 +35,7 @@ take_many xs a b n (Some ys) le =
     let held = slice_range xs a b in
     let count : b - a ≡ n + (b - (a + n)) = omega arith in
     let rest : drop n held ≡ slice_range xs (a + n) b =
-        ap (λ (k : ℕ). drop n (take k (drop a xs))) count ∙ drop-take n (b - (a + n)) (drop a xs) ∙ ap (take (b - (a + n))) (drop-drop n a xs) in
+    ap (λ (k : ℕ). drop n (take k (drop a xs))) count ∙ drop-take n (b - (a + n)) (drop a xs) ∙ ap (take (b - (a + n))) (drop-drop n a xs) in
     ap (λ (s : List ℕ). s ++ ys) (sym (take-append-drop n held)) ∙ append_assoc (take n held) (drop n held) ys
     ∙ ap (λ (s : List ℕ). take n held ++ (s ++ ys)) rest
 

@@ -1,6 +1,6 @@
 //! What the commands that hold commands need of the state: limits, `backwards`, the choices of amongs, and calls.
 
-ghost use Rattle.std.specs.Prelude.{◌≡◌, ◌≤◌, ◌-◌, ℕ, Option, None, length, IfOk};
+ghost use Rattle.std.specs.Prelude.{◌≡◌, ◌≤◌, ◌-◌, ℕ, Option, None, length, replicate, IfOk};
 ghost use Rattle.sbl_tables.specs.Fitting.{ahead_at};
 ghost use Rattle.sbl_run.specs.Kept.{Leads};
 ghost use Rattle.sbl_run.specs.Run.{limits, limit_here, limit_back, backwards_from, backwards_end, back_in, enter};
@@ -150,15 +150,27 @@ impl State {
         ensures entered { IfOk result (λ _. self.new ≡ enter routine amongs self.old) }
     {
         self.touched.enter(routine)?;
-        let alloc = *self.text.allocator();
+        let fresh = if amongs == 0 {
+            Vec::new(*self.text.allocator())
+        } else {
+            self.fresh_choices(amongs)?
+        };
+        self.routine = routine;
+        Ok(mem::replace(&mut self.choices, fresh))
+    }
+
+    // No choice yet for so many amongs, in what an ended call kept its own in. AllocError where a growth was refused.
+    fn fresh_choices(&mut self, amongs: usize) -> Result<Vec<Option<usize>>, AllocError>
+        ensures fresh { IfOk result (λ v. v.items ≡ replicate amongs None) }
+        ensures same { self.new ≡ self.old }
+    {
         let mut fresh = match self.spares.pop() {
-            None => Vec::new(alloc),
+            None => Vec::new(*self.text.allocator()),
             Some(spare) => spare,
         };
         fresh.clear();
         fresh.resize(amongs, None)?;
-        self.routine = routine;
-        Ok(mem::replace(&mut self.choices, fresh))
+        Ok(fresh)
     }
 
     /// Ends a call: the caller's number and its choices are back.
@@ -168,7 +180,9 @@ impl State {
     {
         self.routine = caller;
         let used = mem::replace(&mut self.choices, kept);
-        // Where there is no room for it, it is given back.
-        let _ = self.spares.push(used);
+        if 0 < used.capacity() {
+            // Where there is no room for it, it is given back.
+            let _ = self.spares.push(used);
+        }
     }
 }

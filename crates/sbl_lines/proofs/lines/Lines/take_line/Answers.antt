@@ -16,8 +16,7 @@ loop-byte-preserved g c =
     let ok : is_ok c.push.result ≡ true = search rules in
     let line : c.push.new.self.items ≡ line_of held ++ c.in-Some.byte ∷ [] = (rw ok at c.push.ensures.items) ∙ ap (λ (l : List ℕ). l ++ c.in-Some.byte ∷ []) c.next_byte.ensures.line in
     let other : c.in-Some.byte ≢ 10 = search rules in
-    let falls = rw c.in-Some.is at c.in_ok-next_byte.ensures.falls in
-    (
+    let falls = rw c.in-Some.is at c.in_ok-next_byte.ensures.falls in (
       rw line (Consumes-trans _ _ _ _ _ (c.take_held.ensures.takes _ invariant.0) step),
       rw line (no_feed_push _ _ (c.take_held.ensures.no_feed invariant.1) other),
       search rules,
