@@ -5,16 +5,17 @@ use sbl_bench::{Bench, EditFault, Row};
 use sbl_machine::Outcome;
 use sbl_script::{Script, ScriptFault};
 use std::alloc::Global;
+use std::process::Abort;
 use std::test::Fail;
 use test_scripts::PREFIXES;
 
 /// A bench over this script and these words.
 pub(crate) fn bench_of(alloc: Global, script: &str, words: &[&str]) -> Result<Bench, Fail> {
-    let script = Script::parse(alloc, script.as_bytes(), "stem")?;
     let mut list = Vec::new(alloc);
     for &word in words {
         list.push(word_of(alloc, word)?)?;
     }
+    let script = Script::parse(alloc, script.as_bytes(), "stem")?;
     Ok(Bench::open(alloc, script, list)?)
 }
 
@@ -51,6 +52,21 @@ fn words_that_are_refused_change_nothing(rt: HostRuntime) -> Result<(), Fail> {
     assert_eq!(rt; bench.runs(), 1);
     assert_eq!(rt; bench.add(&['a'; 255]), Ok(()));
     assert_eq!(rt; bench.runs(), 2);
+    bench.discard();
+    Ok(())
+}
+
+/// Adds a word to an empty bench, and once more where a growth was refused.
+fn takes_a_word(rt: &(impl Abort + Print), bench: &mut Bench) -> Result<(), Fail> {
+    if let Err(fault) = bench.add(&['r', 'e', 'd', 'o']) {
+        println!(rt; "redo was refused")?;
+        assert_eq!(rt; fault, EditFault::OutOfMemory);
+        assert_eq!(rt; bench.len(), 0);
+        assert!(rt; bench.runs() <= 1);
+        assert_eq!(rt; bench.add(&['r', 'e', 'd', 'o']), Ok(()));
+    }
+    assert_eq!(rt; bench.len(), 1);
+    assert!(rt; bench.runs() <= 2);
     Ok(())
 }
 
@@ -65,16 +81,9 @@ fn a_refused_growth_changes_nothing(rt: HostRuntime) -> Result<(), Fail> {
         println!(rt; "the bench was refused")?;
         return Ok(());
     };
-    if let Err(fault) = bench.add(&['r', 'e', 'd', 'o']) {
-        println!(rt; "redo was refused")?;
-        assert_eq!(rt; fault, EditFault::OutOfMemory);
-        assert_eq!(rt; bench.len(), 0);
-        assert!(rt; bench.runs() <= 1);
-        assert_eq!(rt; bench.add(&['r', 'e', 'd', 'o']), Ok(()));
-    }
-    assert_eq!(rt; bench.len(), 1);
-    assert!(rt; bench.runs() <= 2);
-    Ok(())
+    let taken = takes_a_word(&rt, &mut bench);
+    bench.discard();
+    taken
 }
 
 #[test]

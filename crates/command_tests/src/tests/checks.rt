@@ -26,6 +26,7 @@ fn check_of(alloc: Global, script: &[u8], words: &[u8], expected: &[u8]) -> Resu
     let script = Script::parse(alloc, script, "stem")?;
     let mut writer = writer(alloc, 0);
     let ending = check(alloc, &script, words, expected, &mut writer);
+    script.discard();
     Ok(Checked {
         text: writer.into_inner().inner,
         ending,
@@ -95,6 +96,7 @@ fn a_check_ends_where_its_writer_fails(rt: HostRuntime) -> Result<(), Fail> {
     let script = Script::parse(rt.alloc(), PREFIXES, "stem")?;
     let mut failing = writer(rt.alloc(), 2);
     let ending = check(rt.alloc(), &script, b"undo\n", b"x\n", &mut failing);
+    script.discard();
     assert!(rt; ending == Err(ServeFault::Write));
     assert!(rt; failing.into_inner().inner.as_slice() == b"1,un".as_slice());
     Ok(())
@@ -109,6 +111,7 @@ fn a_check_bears_a_thousand_interruptions_in_a_row(rt: HostRuntime) -> Result<()
     assert!(rt; patient.into_inner().inner.as_slice() == b"1,undo,x,do\n".as_slice());
     let mut weary = Device::new(in_pieces(Vec::new(rt.alloc()), 2, 0, 1_001));
     let ending = check(rt.alloc(), &script, b"undo\n", b"x\n", &mut weary);
+    script.discard();
     assert!(rt; ending == Err(ServeFault::Write));
     assert!(rt; weary.into_inner().inner.is_empty());
     Ok(())

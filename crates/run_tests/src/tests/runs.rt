@@ -17,6 +17,14 @@ fn outcome_of(alloc: Global, want: Result<&str, RunFault>) -> Result<Outcome, Fa
     })
 }
 
+/// The machine of the script of this text, with a search.
+pub(crate) fn machine_of<S: AmongSearch>(alloc: Global, text: &str) -> Result<Machine<S>, Fail> {
+    let script = Script::parse(alloc, text.as_bytes(), "stem")?;
+    let machine = Machine::new(alloc, &script);
+    script.discard();
+    Ok(machine?)
+}
+
 /// Runs a machine over words, with so many steps each.
 fn run_all<S: AmongSearch>(
     rt: &impl Abort,
@@ -49,10 +57,9 @@ pub(crate) fn runs_with(
     script: &str,
     rows: &[Row],
 ) -> Result<(), Fail> {
-    let script = Script::parse(alloc, script.as_bytes(), "stem")?;
-    let plain: Machine<PlainTable> = Machine::new(alloc, &script)?;
+    let plain: Machine<PlainTable> = machine_of(alloc, script)?;
     run_all(rt, alloc, &plain, limit, rows)?;
-    let linked: Machine<LinkedTable> = Machine::new(alloc, &script)?;
+    let linked: Machine<LinkedTable> = machine_of(alloc, script)?;
     run_all(rt, alloc, &linked, limit, rows)
 }
 

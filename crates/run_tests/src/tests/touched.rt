@@ -1,7 +1,7 @@
 //! What runs touch, by names and by numbers.
 
+use crate::tests::runs::machine_of;
 use sbl_machine::{Item, Machine, Meter, Table};
-use sbl_script::Script;
 use std::alloc::{AllocError, Global};
 use std::collections::BTreeSet;
 use std::process::Abort;
@@ -57,8 +57,7 @@ fn touches_one(
 
 /// Runs a script over words.
 fn touches(rt: &impl Abort, alloc: Global, script: &str, rows: &[Row]) -> Result<(), Fail> {
-    let script = Script::parse(alloc, script.as_bytes(), "stem")?;
-    let machine: Machine<Table> = Machine::new(alloc, &script)?;
+    let machine: Machine<Table> = machine_of(alloc, script)?;
     for row in rows {
         touches_one(rt, alloc, &machine, *row)?;
     }

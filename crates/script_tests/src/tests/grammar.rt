@@ -5,7 +5,7 @@ use sbl_script::{Command, Item, Plain};
 use sbl_text::{ScriptFault, tokens};
 use std::alloc::{AllocError, Global};
 use std::test::Fail;
-use test_scripts::{FRONT, PLURALS, PORTER};
+use test_scripts::{FRONT, PLURALS, PORTER, discard};
 
 fn read(alloc: Global, text: &str) -> Result<Vec<Item>, ScriptFault> {
     let tokens = tokens(alloc, text)?;
@@ -15,7 +15,11 @@ fn read(alloc: Global, text: &str) -> Result<Vec<Item>, ScriptFault> {
 /// The number of items, or the fault.
 fn shown(alloc: Global, text: &str) -> Result<String, AllocError> {
     match read(alloc, text) {
-        Ok(items) => format!(in alloc; "{}", items.len()),
+        Ok(items) => {
+            let count = items.len();
+            discard(items);
+            format!(in alloc; "{count}")
+        }
         Err(fault) => format!(in alloc; "{fault}"),
     }
 }
@@ -97,26 +101,23 @@ fn the_first_fault_of_the_grammar_is_answered(rt: HostRuntime) -> Result<(), Fai
 }
 
 /// Whether the first item's body is a `non` with the minus.
-fn minus_of(items: &[Item]) -> Option<bool> {
-    match items.first() {
+fn minus_of(alloc: Global, text: &str) -> Result<Option<bool>, ScriptFault> {
+    let items = read(alloc, text)?;
+    let minus = match items.first() {
         Some(Item::Plain(Plain::Routine { body, .. })) => match &body.first {
             Command::Non { with_minus, .. } => Some(*with_minus),
             _ => None,
         },
         _ => None,
-    }
+    };
+    discard(items);
+    Ok(minus)
 }
 
 #[test]
 fn the_minus_behind_non_is_kept(rt: HostRuntime) -> Result<(), Fail> {
-    assert_eq!(rt;
-        minus_of(&read(rt.alloc(), "define r as non v")?),
-        Some(false)
-    );
-    assert_eq!(rt;
-        minus_of(&read(rt.alloc(), "define r as non - v")?),
-        Some(true)
-    );
+    assert_eq!(rt; minus_of(rt.alloc(), "define r as non v")?, Some(false));
+    assert_eq!(rt; minus_of(rt.alloc(), "define r as non - v")?, Some(true));
     Ok(())
 }
 

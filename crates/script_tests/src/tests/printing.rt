@@ -8,7 +8,9 @@ use test_scripts::{PLURALS, PORTER, PREFIXES};
 /// The canonical text of a script with the external `stem`.
 fn printed(alloc: Global, text: &str) -> Option<String> {
     let script = Script::parse(alloc, text.as_bytes(), "stem").ok()?;
-    script.print(alloc).ok()
+    let printed = script.print(alloc).ok();
+    script.discard();
+    printed
 }
 
 const CLOSE: &str = "integers(x) groupings(v)externals(stem)// a comment
@@ -59,11 +61,13 @@ fn a_canonical_text_is_its_own(rt: HostRuntime) {
 fn an_edit_is_printed_from_its_tokens(rt: HostRuntime) {
     let alloc = rt.alloc();
     let script = Script::parse(alloc, PREFIXES.as_bytes(), "stem").expect(&rt, "a script");
-    let script = script
+    let edited = script
         .with_among(alloc, "stem", 1, "among('dis'())")
         .expect(&rt, "an edit");
-    let text = script.print(alloc).expect(&rt, "memory");
-    canonical_is_read(&script, text.as_str());
+    script.discard();
+    let text = edited.print(alloc).expect(&rt, "memory");
+    canonical_is_read(&edited, text.as_str());
+    edited.discard();
     let want = "externals ( stem )\ndefine stem as ( [ among ( 'dis' ( ) ) ] delete )\n";
     assert_eq!(rt; text.as_str(), want);
     let again = printed(alloc, text.as_str()).expect(&rt, "a script");

@@ -10,9 +10,20 @@ use std::alloc::Global;
 use std::process::Abort;
 use test_scripts::PORTER;
 
+/// The fault of what gives a script; `None` where it gives one, which is given up.
+pub(crate) fn fault_in<E>(made: Result<Script, E>) -> Option<E> {
+    match made {
+        Ok(script) => {
+            script.discard();
+            None
+        }
+        Err(fault) => Some(fault),
+    }
+}
+
 /// The fault of a script; `None` where it is accepted.
 fn fault_of(alloc: Global, text: &str) -> Option<ScriptFault> {
-    Script::parse(alloc, text.as_bytes(), "stem").err()
+    fault_in(Script::parse(alloc, text.as_bytes(), "stem"))
 }
 
 fn repeated(rt: &impl Abort, alloc: Global, part: &str, count: usize) -> String {
@@ -65,7 +76,7 @@ fn texts_of_every_depth_and_length_have_an_answer(rt: HostRuntime) {
         assert_eq!(rt; fault_of(alloc, text.as_str()), want, "{count}");
     }
     assert_eq!(rt;
-        Script::parse(alloc, b"\xff", "stem").err(),
+        fault_in(Script::parse(alloc, b"\xff", "stem")),
         Some(ScriptFault::NotUtf8)
     );
 }
@@ -92,9 +103,10 @@ fn a_script_keeps_what_was_read(rt: HostRuntime) {
     assert_eq!(rt; script.items().len(), 2);
     script.is_well_declared();
     assert_eq!(rt; script.body().others.len(), 0);
+    script.discard();
     for external in ["", "2x", "next", "Stem"] {
         assert_eq!(rt;
-            Script::parse(alloc, b"externals ( stem ) define stem as next", external).err(),
+            fault_in(Script::parse(alloc, b"externals ( stem ) define stem as next", external)),
             Some(ScriptFault::NoExternal)
         );
     }

@@ -1,5 +1,6 @@
 //! Edits of scripts, and why they are refused, with places and items. What sessions can show of them stands in tests/cases.
 
+use crate::tests::script::fault_in;
 use sbl_script::{EditFault, Script, ScriptFault};
 use std::alloc::Global;
 use std::process::Abort;
@@ -10,11 +11,13 @@ use test_scripts::{FRONT, PLURALS, PORTER};
 fn refused(rt: &impl Abort, alloc: Global, body: &str, k: u64, text: &str) -> Option<EditFault> {
     let script = format!(in alloc; "{FRONT}{body}").expect(rt, "memory");
     let script = Script::parse(alloc, script.as_bytes(), "stem").expect(rt, "a script");
-    if k == 0 {
-        script.with_routine(alloc, "stem", text).err()
+    let taken = if k == 0 {
+        script.with_routine(alloc, "stem", text)
     } else {
-        script.with_among(alloc, "stem", k, text).err()
-    }
+        script.with_among(alloc, "stem", k, text)
+    };
+    script.discard();
+    fault_in(taken)
 }
 
 /// A body, the number of an among or 0, a text, and the fault of the script for which it is refused.
@@ -190,18 +193,19 @@ fn escapes_are_those_before_the_item(rt: HostRuntime) {
     let script = Script::parse(rt.alloc(), text.as_bytes(), "stem").expect(&rt, "a script");
     let taken = script.with_among(rt.alloc(), "stem", 1, "among ( '{a}' 'x' )");
     assert_eq!(rt;
-        taken.err(),
+        fault_in(taken),
         Some(EditFault::Script(ScriptFault::RepeatedString { item: 4 }))
     );
     let taken = script.with_among(rt.alloc(), "stem", 1, "among ( '{a}' '[a]' 'y' )");
-    assert_eq!(rt; taken.err(), None);
+    assert_eq!(rt; fault_in(taken), None);
     let taken = script.with_routine(rt.alloc(), "stem", "'{c}'");
     assert!(rt;
         matches!(
-            taken.err(),
+            fault_in(taken),
             Some(EditFault::Script(ScriptFault::UnknownEscape { place: _ }))
         )
     );
+    script.discard();
 }
 
 #[test]
@@ -230,8 +234,9 @@ fn a_routine_is_found_by_its_name(rt: HostRuntime) {
         ),
     ] {
         let taken = script.with_routine(alloc, name, text);
-        assert_eq!(rt; taken.err(), want, "{name} {text}");
+        assert_eq!(rt; fault_in(taken), want, "{name} {text}");
     }
+    script.discard();
 }
 
 /// Whether a script with this text in the place of the among, or of the routine's body where the number is 0, is the script
@@ -248,7 +253,9 @@ fn stays(
         script.with_among(alloc, routine, k, text)
     };
     let edited = edited.expect(rt, "an edit");
-    script.is_same(alloc, &edited).expect(rt, "memory")
+    let is_same = script.is_same(alloc, &edited).expect(rt, "memory");
+    edited.discard();
+    is_same
 }
 
 #[test]
@@ -270,6 +277,7 @@ fn a_routine_with_its_own_text_is_the_same(rt: HostRuntime) {
         routines = routines.saturating_add(1);
     }
     assert_eq!(rt; routines, 12);
+    script.discard();
 }
 
 #[test]
@@ -309,6 +317,7 @@ fn an_among_with_its_own_text_is_the_same(rt: HostRuntime) {
         let found = stays(&rt, alloc, &script, (routine, k, text));
         assert_eq!(rt; found, want, "{routine} {text}");
     }
+    script.discard();
 }
 
 #[test]
@@ -319,5 +328,7 @@ fn a_script_under_another_external_is_another(rt: HostRuntime) {
     for (external, want) in [("stem", true), ("other", false)] {
         let again = Script::parse(alloc, text.as_bytes(), external).expect(&rt, "a script");
         assert_eq!(rt; script.is_same(alloc, &again).expect(&rt, "memory"), want);
+        again.discard();
     }
+    script.discard();
 }

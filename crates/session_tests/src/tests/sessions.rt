@@ -20,7 +20,11 @@ fn session(alloc: Global, input: &[u8], read: u64, write: u64) -> Result<Ended, 
     let mut writer = Device::new(in_pieces(Vec::new(alloc), 4, write, 0));
     let mut lines = Lines::new(alloc, Device::new(in_pieces(input, 16, read, 0)))?;
     let ending = match load(&mut lines, "stem") {
-        Ok(mut bench) => serve(&mut bench, &mut lines, &mut writer).map_err(LoadFault::Input),
+        Ok(mut bench) => {
+            let served = serve(&mut bench, &mut lines, &mut writer);
+            bench.discard();
+            served.map_err(LoadFault::Input)
+        }
         Err(fault) => Err(fault),
     };
     Ok(Ended {
@@ -158,11 +162,15 @@ fn a_script_has_at_most_1048576_bytes(rt: HostRuntime) -> Result<(), Fail> {
     let mut block = vec![in rt.alloc(); b'\n'; 1_048_577]?;
     block.extend_from_slice(b".\n")?;
     let mut lines = Lines::new(rt.alloc(), Device::new(block.as_slice()))?;
-    let Err(fault) = load(&mut lines, "stem") else {
-        assert!(rt; false);
-        return Ok(());
-    };
-    assert!(rt; fault == LoadFault::Script(ScriptFault::ScriptTooLong));
+    match load(&mut lines, "stem") {
+        Ok(bench) => {
+            bench.discard();
+            assert!(rt; false);
+        }
+        Err(fault) => {
+            assert!(rt; fault == LoadFault::Script(ScriptFault::ScriptTooLong));
+        }
+    }
     Ok(())
 }
 
@@ -229,6 +237,7 @@ fn a_writer_may_be_interrupted_a_thousand_times_in_a_row(rt: HostRuntime) -> Res
         let mut lines = Lines::new(rt.alloc(), Device::new(input.as_slice()))?;
         let mut bench = load(&mut lines, "stem")?;
         let ended = serve(&mut bench, &mut lines, &mut writer).map_err(LoadFault::Input);
+        bench.discard();
         assert!(rt; ended == ending, "{interruptions}");
         assert!(rt;
             writer.into_inner().inner.as_slice() == text,
