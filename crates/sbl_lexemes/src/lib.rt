@@ -1,4 +1,4 @@
-//! Words, signs and tokens: what they are, and how a text is one of them.
+//! Words and signs, which of them a text is, and what a token is.
 #![tactic(auto)]
 
 mod front;

@@ -162,7 +162,8 @@ impl<R: Source + Drop> Lines<R> {
         Ok(Some(byte))
     }
 
-    /// Takes what the chunk holds of a line onto the line, up to a line feed, and at most until the line has one byte more than it may.
+    /// Takes what the chunk holds of a line onto the line, up to a line feed, and at most until the line has one byte more than a line
+    /// may have.
     fn take_held(&mut self)
         requires { length (line_of self.old) ≤ max_line + 1 }
         ensures takes { (whole : Option (List ℕ)) → Consumes whole (input_of R.left self.old) (line_of self.old) → Consumes whole (input_of R.left self.new) (line_of self.new) }

@@ -1,4 +1,4 @@
-//! The lines of a text that is there whole.
+//! The lines of a text that is there whole, and where the first of its lines ends.
 ghost use Rattle.std.specs.Prelude.{◌≡◌, ◌≤◌, ◌<◌, MatchOption, [], ◌∷◌, length, take, slice_index};
 ghost use Rattle.sbl_lines.specs.Held.{NoFeed};
 ghost use Rattle.sbl_lines.specs.LinesOf.{chomped, lines_of};

@@ -6,8 +6,8 @@ use Rattle.sbl_run.specs.State.{State, Ending}
 use Rattle.sbl_tree.specs.declared.mode.Mode.TheVariants.{Forward}
 
 -- a state in which nothing has run: no text, no variables, nothing touched, no steps
-abbrev pub unused : State
-unused = record {
+abbrev pub blank : State
+blank = record {
   text = [];
   cursor = 0;
   left = 0;

@@ -10,7 +10,7 @@ use std::alloc::AllocError;
 /// two bytes and comes back in registers.
 #[derive(Debug, Drop)]
 pub enum Halt {
-    /// A growth was refused.
+    /// A growth was refused, or a number to be touched is above `u32::MAX`.
     OutOfMemory,
     /// The run is refused as `RunFault::Steps`, and so on.
     Steps,

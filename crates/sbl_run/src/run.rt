@@ -285,7 +285,8 @@ impl<'a, T: Tables> Runner<'a, T> {
     }
 
     /// Calls the routine with this number: its signal, f where there is none. `Depth` where no level is left, `OutOfMemory` where
-    /// a growth was refused, else the fault of a command in it; at a fault the state is as that found it.
+    /// a growth was refused, or where a number to be touched is above `u32::MAX`, else the fault of a command in it; at a fault the
+    /// state is as that found it.
     #[cycle(run)]
     pub fn run_call(&self, number: usize, state: &mut State) -> Result<bool, Halt>
         ensures follows { Follows result state.new (calls (program_of (T.listed self.now.tables.now) self.now.program.now) self.now.levels number self.now.mode state.old) }

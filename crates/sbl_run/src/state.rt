@@ -8,7 +8,7 @@ ghost use Rattle.sbl_program.specs.ProgramOf.{program_of, view_text};
 ghost use Rattle.sbl_run.specs.Moves.{characters};
 ghost use Rattle.sbl_run.specs.Kept.{Leads};
 ghost use Rattle.sbl_run.specs.Rows.{pays};
-ghost use Rattle.sbl_run.specs.Start.{start, unused};
+ghost use Rattle.sbl_run.specs.Start.{blank, start};
 
 mod actions;
 mod control;
@@ -82,7 +82,7 @@ pub struct SavedCursor {
 impl State {
     /// A state that holds nothing, whose buffers are made as they are needed. Takes no memory.
     pub fn new(alloc: Global) -> State
-        ensures { result ≡ unused }
+        ensures { result ≡ blank }
     {
         State {
             text: Vec::new(alloc),

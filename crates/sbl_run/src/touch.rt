@@ -1,6 +1,6 @@
 //! What a run touches, by numbers.
 
-/// A touch of a run: the entry of a routine's body, or the search of an among.
+/// A touch of a run: the entry of a routine's body, or the search of an among. Its numbers have 32 bits.
 #[derive(Clone, Copy, Debug, Drop, PartialEq, Eq)]
 pub enum Touch {
     /// The body of the routine with this number is entered.

@@ -72,7 +72,7 @@ impl Touched {
         if bit(&self.entered, routine) {
             return Ok(());
         }
-        let number = small(routine)?;
+        let number = touch_number(routine)?;
         grow(&mut self.entered, routine)?;
         self.touches.push(Touch::Entered(number))?;
         set(&mut self.entered, routine, true);
@@ -88,7 +88,7 @@ impl Touched {
         if bit_in(&self.searched, routine, among) {
             return Ok(());
         }
-        let touch = Touch::Searched(small(routine)?, small(among)?);
+        let touch = Touch::Searched(touch_number(routine)?, touch_number(among)?);
         grow_in(&mut self.searched, routine, among)?;
         self.touches.push(touch)?;
         set_in(&mut self.searched, routine, among, true);
@@ -96,12 +96,12 @@ impl Touched {
     }
 }
 
-// A number as touches keep it. AllocError where it is above `u32::MAX`: no memory holds so many routines or amongs.
-fn small(number: usize) -> Result<u32, AllocError>
-    ensures { IfOk result (λ small. small ≡ number) }
+// The number of a routine or an among as touches keep it. AllocError where it is above `u32::MAX`: no script has so many.
+fn touch_number(number: usize) -> Result<u32, AllocError>
+    ensures { MatchResult result (λ kept. kept ≡ number) (λ _. u32.MAX < number) }
 {
     match u32::try_from(number) {
-        Ok(small) => Ok(small),
+        Ok(kept) => Ok(kept),
         Err(_) => Err(AllocError),
     }
 }

@@ -4,7 +4,7 @@
 use sbl_tree::Item;
 
 /// Gives a tree up, and its memory back, as a drop does. A crate of tests that calls this in place of it proves no destructor of
-/// trees: they are proved here, long before what such a crate tries is.
+/// trees: they are proved here, before the crates that it tries are.
 pub fn discard(_items: Vec<Item>) {}
 
 /// A body stands behind it at byte 34.

@@ -120,7 +120,8 @@ impl State {
         }
     }
 
-    /// Touches an among of the routine that runs, whose search is paid. AllocError where a growth was refused.
+    /// Touches an among of the routine that runs, whose search is paid. AllocError where a growth was refused, or where a
+    /// number is above `u32::MAX`.
     #[inline(always)]
     pub fn touch_among(&mut self, among: usize) -> Result<(), AllocError>
         ensures { IfOk result (λ _. self.new ≡ touch_among among self.old) }
@@ -143,7 +144,7 @@ impl State {
     }
 
     /// Begins a call of the routine with this number and so many amongs, which is touched, and answers the caller's choices.
-    /// AllocError where a growth was refused.
+    /// AllocError where a growth was refused, or where the number is above `u32::MAX`.
     #[inline(always)]
     pub fn enter(&mut self, routine: usize, amongs: usize) -> Result<Vec<Option<usize>>, AllocError>
         ensures kept { IfOk result (λ v. v.items ≡ self.old.choices) }
@@ -159,7 +160,7 @@ impl State {
         Ok(mem::replace(&mut self.choices, fresh))
     }
 
-    // No choice yet for so many amongs, in what an ended call kept its own in. AllocError where a growth was refused.
+    // As many empty choices, in a buffer that an ended call left, if there is one. AllocError where a growth was refused.
     fn fresh_choices(&mut self, amongs: usize) -> Result<Vec<Option<usize>>, AllocError>
         ensures fresh { IfOk result (λ v. v.items ≡ replicate amongs None) }
         ensures same { self.new ≡ self.old }
