@@ -3,6 +3,7 @@
 ghost use Rattle.std.specs.Prelude.{◌≡◌, ◌∷◌, ◌++◌, [], List, map, length, OnOk, IfOk};
 ghost use Rattle.sbl_tree.specs.Order.{view_in_mode};
 ghost use Rattle.sbl_tree.specs.View.{view_argument, view_plain, view_term};
+ghost use Rattle.sbl_numbering.specs.Apart.{are_apart};
 ghost use Rattle.sbl_numbering.specs.NumberedSets as spec;
 ghost use Rattle.sbl_numbering.specs.NumberedView.{view_names};
 
@@ -23,17 +24,6 @@ fn unite(set: &mut CharacterSet, more: &[char]) -> Result<(), AllocError>
     Ok(())
 }
 
-// The set of some characters.
-fn set_with(alloc: Global, characters: &[char]) -> Result<CharacterSet, AllocError>
-    ensures { IfOk result (λ set. set ≡ characters.now) }
-{
-    let mut set = CharacterSet::new(alloc);
-    for c in characters {
-        set.push(*c)?;
-    }
-    Ok(set)
-}
-
 // Those of some characters that are not in a set.
 fn lessen(
     alloc: Global,
@@ -51,24 +41,80 @@ fn lessen(
     Ok(left)
 }
 
+// A set on its way: characters, and those that are yet to be taken away from them, so that terms that take away, one behind the
+// other, go through the characters once.
+#[derive(Drop)]
+struct Pending {
+    characters: CharacterSet,
+    less: CharacterSet,
+}
+
+// What is left once those are taken away.
+fn settled(alloc: Global, pending: Pending) -> Result<CharacterSet, AllocError>
+    ensures { IfOk result (λ set. set ≡ spec.lessened pending.characters pending.less []) }
+{
+    let Pending { characters, less } = pending;
+    if less.characters().is_empty() {
+        return Ok(characters);
+    }
+    lessen(alloc, characters.characters(), &less)
+}
+
+// Whether none of some characters is in a set.
+fn is_apart(set: &CharacterSet, characters: &[char]) -> bool
+    ensures { result ≡ are_apart set.now characters.now }
+{
+    for c in characters {
+        if set.contains(*c) {
+            return false;
+        }
+    }
+    true
+}
+
+// Adds a term. What is yet to be taken away waits, unless the term adds some of it again.
+#[tactic(auto, using(crate::proofs::Lessening::lessened_none, crate::proofs::Lessening::added_before))]
+fn add(alloc: Global, pending: Pending, term: &[char]) -> Result<Pending, AllocError>
+    ensures { IfOk result (λ p. spec.lessened p.characters p.less [] ≡ spec.united (spec.lessened pending.characters pending.less []) term.now) }
+{
+    if is_apart(&pending.less, term) {
+        let Pending {
+            mut characters,
+            less,
+        } = pending;
+        unite(&mut characters, term)?;
+        return Ok(Pending { characters, less });
+    }
+    let mut characters = settled(alloc, pending)?;
+    unite(&mut characters, term)?;
+    let less = CharacterSet::new(alloc);
+    Ok(Pending { characters, less })
+}
+
+// Takes a term away.
+#[tactic(auto, using(crate::proofs::Lessening::lessened_twice))]
+fn take_away(pending: Pending, term: &[char]) -> Result<Pending, AllocError>
+    ensures { IfOk result (λ p. spec.lessened p.characters p.less [] ≡ spec.lessened (spec.lessened pending.characters pending.less []) term.now []) }
+{
+    let Pending {
+        characters,
+        mut less,
+    } = pending;
+    unite(&mut less, term)?;
+    Ok(Pending { characters, less })
+}
+
 fn combine(
     alloc: Global,
     operator: Additive,
-    set: CharacterSet,
+    pending: Pending,
     term: &[char],
-) -> Result<CharacterSet, AllocError>
-    ensures { IfOk result (λ combined. combined ≡ spec.combined operator set term.now) }
+) -> Result<Pending, AllocError>
+    ensures { IfOk result (λ p. spec.lessened p.characters p.less [] ≡ spec.combined operator (spec.lessened pending.characters pending.less []) term.now) }
 {
     match operator {
-        Additive::Plus => {
-            let mut whole = set;
-            unite(&mut whole, term)?;
-            Ok(whole)
-        }
-        Additive::Minus => {
-            let less = set_with(alloc, term)?;
-            lessen(alloc, set.characters(), &less)
-        }
+        Additive::Plus => add(alloc, pending, term),
+        Additive::Minus => take_away(pending, term),
     }
 }
 
@@ -99,17 +145,19 @@ fn set_of(
 ) -> Result<CharacterSet, AllocError>
     ensures { IfOk result (λ set. set ≡ spec.with_terms (view_names names.now) sets.now.items (map view_term others.now.items) (spec.united [] (spec.characters_of (view_names names.now) sets.now.items (view_argument first.now)))) }
 {
-    let mut set = CharacterSet::new(alloc);
-    unite(&mut set, characters_of(names, sets, first))?;
+    let mut characters = CharacterSet::new(alloc);
+    unite(&mut characters, characters_of(names, sets, first))?;
+    let less = CharacterSet::new(alloc);
+    let mut pending = Pending { characters, less };
     for term in others {
-        set = combine(
+        pending = combine(
             alloc,
             term.operator,
-            set,
+            pending,
             characters_of(names, sets, &term.argument),
         )?;
     }
-    Ok(set)
+    settled(alloc, pending)
 }
 
 fn add_set(
