@@ -1,12 +1,9 @@
 -- What is kept beside the characters of a set, so that it need not be looked through.
-use Rattle.std.specs.Prelude.{◌≡◌, ℕ, Bool, false, List, nat_eq, if◌then◌else◌, slice_index_or, ◌/◌, ◌%◌}
+use Rattle.std.specs.Prelude.{◌≡◌, ℕ, Bool, List, nat_eq, if◌then◌else◌, ◌/◌, ◌%◌}
 use Rattle.std.specs.BTreeSet.{BTreeSet, contains}
 use Rattle.std.specs.Ordering.{nat_cmp}
 use Rattle.sbl_program.specs.Characters.{has}
-
--- whether a flag is set; past the end none is
-abbrev pub is_flagged : List Bool → ℕ → Bool
-is_flagged flags place = slice_index_or flags place false
+use Rattle.sbl_program.specs.Flags.{is_flagged}
 
 -- whether a character is told to be there: by its flag in the block of 512 codes that has flags, or by the set of the others
 abbrev pub is_told : ℕ → List Bool → BTreeSet ℕ → ℕ → Bool

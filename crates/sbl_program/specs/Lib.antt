@@ -1,6 +1,9 @@
 -- what the contracts of public calls rest on
 pub mod Listed
 pub mod Characters
+pub mod Terms
+pub mod Flags
+pub mod CharacterClasses
 pub mod Program
 pub mod Grouped
 pub mod ProgramOf

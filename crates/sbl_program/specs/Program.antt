@@ -1,5 +1,5 @@
 -- The program of a script: names are numbers, each among knows its strings, and nothing says where it lies in memory.
-use Rattle.std.specs.Prelude.{ℕ, List}
+use Rattle.std.specs.Prelude.{ℕ, Bool, List}
 use Rattle.sbl_program.specs.declared.action.Change.{Change}
 use Rattle.sbl_program.specs.declared.action.Relation.{Relation}
 use Rattle.sbl_program.specs.declared.node.Candidate.{Candidate}
@@ -91,8 +91,8 @@ pub record Program : Type 0 where
   pub integers : ℕ
   pub booleans : ℕ
   pub strings : ℕ
-  -- the sets of the groupings
-  pub groupings : List (List ℕ)
+  -- the class of each grouping: whether a character is in it
+  pub groupings : List (ℕ → Bool)
   pub routines : List Routine
   -- the routine that is run
   pub external : ℕ

@@ -17,6 +17,7 @@ use Rattle.sbl_program.specs.declared.node.Node.TheFolds.{fold-Node, fold-Joined
 use Rattle.sbl_program.specs.declared.node.Joined.{Joined}
 use Rattle.sbl_program.specs.declared.node.Program.{Program}
 use Rattle.sbl_program.specs.declared.node.Routine.{Routine}
+use Rattle.sbl_program.specs.CharacterClasses.{members}
 use Rattle.sbl_program.specs.Grouped.{AddedView, JoinedView, ScaledView, added_all, grouped, scaled_all}
 use Rattle.sbl_program.specs.Listed.{Listed}
 use Rattle.sbl_program.specs.Program as programs
@@ -125,7 +126,7 @@ program_of tables p = record {
   integers = p.integers;
   booleans = p.booleans;
   strings = p.strings;
-  groupings = p.groupings.items;
+  groupings = map members p.groupings.items;
   routines = map (view_routine tables) p.routines.items;
   external = p.external;
 }

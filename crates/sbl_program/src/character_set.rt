@@ -1,9 +1,10 @@
 //! Sets of characters that keep the order in which the characters came.
 
 ghost use Rattle.std.specs.Prelude.{◌≡◌, ◌<◌, ◌++◌, ◌∷◌, ℕ, [], length, nat_eq, ◌||◌, IfOk, OnOk, OnErr, MatchResult};
-ghost use Rattle.sbl_program.specs.CharacterSets.{is_flagged, is_told};
+ghost use Rattle.sbl_program.specs.CharacterSets.{is_told};
 ghost use Rattle.sbl_program.specs.Characters.{has};
 
+use crate::flags::{flag_at, grow};
 use std::alloc::{AllocError, Global};
 use std::collections::BTreeSet;
 use std::marker::Model;
@@ -56,13 +57,6 @@ impl CharacterSet {
         }
     }
 
-    /// The characters, in the order in which they came.
-    pub fn characters(&self) -> &[char]
-        ensures { result.now ≡ self.now }
-    {
-        &self.characters
-    }
-
     /// Whether a character is one of these. It goes through no more than the logarithm of their number.
     pub fn contains(&self, c: char) -> bool
         ensures { result ≡ has self.now c }
@@ -94,10 +88,7 @@ fn is_told(block: usize, flags: &[bool], others: &BTreeSet<char>, c: char) -> bo
 {
     let code = c as usize;
     if code / BLOCK == block {
-        match flags.get(code % BLOCK) {
-            None => false,
-            Some(flag) => *flag,
-        }
+        flag_at(flags, code % BLOCK)
     } else {
         others.contains(&c)
     }
@@ -119,17 +110,6 @@ fn tell(
         flags[code % BLOCK] = true;
     } else {
         others.insert(c)?;
-    }
-    Ok(())
-}
-
-// Grows flags until the one of this place is there.
-fn grow(flags: &mut Vec<bool>, place: usize) -> Result<(), AllocError>
-    ensures same { (d : ℕ) → is_flagged flags.new.items d ≡ is_flagged flags.old.items d }
-    ensures there { IfOk result (λ _. place < length flags.new.items) }
-{
-    while flags.len() <= place {
-        flags.push(false)?;
     }
     Ok(())
 }

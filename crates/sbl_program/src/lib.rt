@@ -1,12 +1,16 @@
-//! The program of a script as a machine runs it: names are numbers, each `substring` is tied to its `among`, groupings are sets.
+//! The program of a script as a machine runs it: names are numbers, each `substring` is tied to its `among`, groupings are classes of characters.
 #![tactic(auto)]
 
 mod action;
+mod block;
+mod character_class;
 mod character_set;
+mod flags;
 mod found;
 mod node;
 
 pub use action::{Action, Added, Arithmetic, Change, Relation, Scaled, StringTerm};
+pub use character_class::{CharacterClass, is_in_class};
 pub use character_set::CharacterSet;
 pub use found::Found;
 pub use node::{Candidate, Joined, Node, Program, Routine};

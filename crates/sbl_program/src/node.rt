@@ -6,7 +6,7 @@ ghost use Rattle.sbl_program.specs.Listed.{Listed};
 ghost use Rattle.sbl_program.specs.ProgramOf.{program_of, view_routine};
 
 use crate::action::{Action, Arithmetic};
-use crate::character_set::CharacterSet;
+use crate::character_class::CharacterClass;
 use sbl_tree::Joiner;
 
 /// A command of a routine's body.
@@ -110,8 +110,8 @@ pub struct Program {
     pub booleans: usize,
     /// How many string variables there are.
     pub strings: usize,
-    /// The set of each grouping.
-    pub groupings: Vec<CharacterSet>,
+    /// The class of each grouping.
+    pub groupings: Vec<CharacterClass>,
     /// The routines.
     pub routines: Vec<Routine>,
     /// The routine that is run, by its number.

@@ -1,0 +1,20 @@
+-- What the terms of a grouping do to the class of its characters.
+use Rattle.std.specs.Prelude.{ℕ, Bool, true, false, List, if◌then◌else◌, slice_index_or}
+use Rattle.sbl_tree.specs.declared.tree.Additive.{Additive}
+use Rattle.sbl_tree.specs.declared.tree.Additive.TheVariants.{Plus, Minus}
+
+abbrev pub no_character : ℕ → Bool
+no_character c = false
+
+-- whether the characters of a term are there behind it
+abbrev pub is_added : Additive → Bool
+is_added Plus = true
+is_added Minus = false
+
+-- a class behind a term: the characters of the term are added or taken away, the others are as they were
+abbrev pub behind : Additive → (ℕ → Bool) → (ℕ → Bool) → ℕ → Bool
+behind operator term class c = if term c then is_added operator else class c
+
+-- the class of a number; no character is in one that is not there
+abbrev pub class_at : List (ℕ → Bool) → ℕ → ℕ → Bool
+class_at classes number = slice_index_or classes number no_character
