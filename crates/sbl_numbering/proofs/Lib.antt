@@ -4,4 +4,3 @@ pub mod OwnMade
 pub mod SoundItems
 pub mod Own
 pub mod NamesNumbered
-pub mod Lessening

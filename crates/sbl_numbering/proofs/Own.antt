@@ -1,16 +1,16 @@
--- The program of a routine, and the set of a grouping, by what the items say.
+-- The program of a routine, and the class of a grouping, by what the items say.
 use Rattle.std.proofs.Common.{◌≡◌, ℕ, List, [], option_map, refl, sym, ap, ◌∙◌}
-use Rattle.std.specs.Prelude.{slice_get, slice_index_or}
+use Rattle.std.specs.Prelude.{slice_get}
 use Rattle.sbl_numbering.specs.Ahead.{routines_in}
 use Rattle.sbl_numbering.specs.Items.{known_in, class_of, classes_behind, body_named}
 use Rattle.sbl_numbering.specs.Numbered.{numbered_items, plan_in, plan_with}
 use Rattle.sbl_numbering.specs.NumberedNames.{Names, names_behind, no_names, number_of}
-use Rattle.sbl_program.specs.Characters.{has}
-use Rattle.sbl_numbering.specs.NumberedSets.{sets_behind}
+use Rattle.sbl_numbering.specs.NumberedClasses.{numbered_classes}
 use Rattle.sbl_program.specs.Program as programs
-use Rattle.sbl_numbering.specs.Laws.{RoutineIsItsOwn, SetsAreClasses, names_in}
+use Rattle.sbl_program.specs.Terms.{class_at}
+use Rattle.sbl_numbering.specs.Laws.{RoutineIsItsOwn, ClassesAreTheirTerms, names_in}
 use Rattle.sbl_numbering.proofs.OwnMade.{own_is_made}
-use Rattle.sbl_numbering.proofs.SoundItems.{placed_by, groupings_are, routines_are, sets_are, as_made, body_at}
+use Rattle.sbl_numbering.proofs.SoundItems.{placed_by, groupings_are, routines_are, classes_are, as_made, body_at}
 use Rattle.sbl_tree.specs.Order.{ItemInMode, in_order}
 use Rattle.sbl_tree.specs.declared.tree.DeclarationKind.TheVariants as kinds
 use Rattle.sbl_tree.specs.Tree.{Item}
@@ -22,8 +22,8 @@ module _ (items : List ItemInMode) (external : List ℕ) where
   abbrev program : programs.Program
   program = plan_with ns items external
 
-  pub class_same : (n : List ℕ) (c : ℕ) → has (slice_index_or (sets_behind ns items []) (number_of ns.groupings n) []) c ≡ class_of (classes_behind items []) n c
-  class_same n c = sets_are ns items (groupings_are items no_names) n c
+  pub class_same : (n : List ℕ) (c : ℕ) → class_at (numbered_classes ns items []) (number_of ns.groupings n) c ≡ class_of (classes_behind items []) n c
+  class_same n c = classes_are ns items (groupings_are items no_names) n c
 
   pub routine_same : (n : List ℕ) → slice_get program.routines (number_of ns.routines n) ≡ option_map (as_made ns) (body_named items n)
   routine_same n =
@@ -45,7 +45,7 @@ routine_is_its_own s s' external external' n e h =
     ∙ ap (option_map (as_made (names_in s'))) h
     ∙ sym (ap (λ (p : programs.Program). slice_get p.routines i') (program_is s' external') ∙ routine_same (in_order s') external' n)
 
-pub sets_are_classes : SetsAreClasses
-sets_are_classes items external n c =
-    ap (λ (p : programs.Program). has (slice_index_or p.groupings (number_of (names_in items).groupings n) []) c) (program_is items external)
+pub classes_are_their_terms : ClassesAreTheirTerms
+classes_are_their_terms items external n c =
+    ap (λ (p : programs.Program). class_at p.groupings (number_of (names_in items).groupings n) c) (program_is items external)
     ∙ class_same (in_order items) external n c

@@ -1,9 +1,8 @@
 -- What the items say, with numbers and by name.
 use Rattle.std.proofs.Common.{◌≡◌, ℕ, zero, suc, ◌+◌, Bool, true, false, List, [], ◌∷◌, ◌++◌, length, map, Option, Some, option_map, refl, sym, ap, ◌∙◌, append_assoc, append-nil, arith}
-use Rattle.std.specs.Prelude.{⊤, not, ◌&&◌, ◌||◌, nat_eq, nat_lt, if◌then◌else◌, slice_get, slice_index_or}
+use Rattle.std.specs.Prelude.{⊤, not, ◌&&◌, ◌||◌, nat_eq, nat_lt, if◌then◌else◌, slice_get}
 use Rattle.std.specs.Str.{bytes_eq}
-use Rattle.std.proofs.lemmas.Bool.{eqb-true, lt-ltb, ltb-true, true≢false}
-use Rattle.std.proofs.lemmas.List.Folds.{list_any-append}
+use Rattle.std.proofs.lemmas.Bool.{lt-ltb, ltb-true, true≢false}
 use Rattle.sbl_tree.specs.Order.{ItemInMode}
 use Rattle.sbl_tree.specs.declared.tree.Additive.TheVariants.{Plus, Minus}
 use Rattle.sbl_tree.specs.declared.tree.DeclarationKind.TheVariants as kinds
@@ -11,9 +10,9 @@ use Rattle.sbl_tree.specs.Tree.{Argument, written_out, by_name, Term, term, Plai
 use Rattle.sbl_numbering.specs.Ahead.{routine_made, routine_in, routines_in}
 use Rattle.sbl_numbering.specs.Items.{is_among, place_of, names_by, known_in, Grouping, class_of, term_has, terms_have, and_grouping, classes_behind, Body, body_or, body_named}
 use Rattle.sbl_numbering.specs.NumberedNames.{Names, naming, names_behind, number_from, number_of, is_one_of}
-use Rattle.sbl_program.specs.Characters.{has}
-use Rattle.sbl_numbering.specs.NumberedSets.{united, lessened, characters_of, with_terms, with_set, sets_behind}
+use Rattle.sbl_numbering.specs.NumberedClasses.{numbered_classes, term_class, with_class, with_terms}
 use Rattle.sbl_program.specs.Program as programs
+use Rattle.sbl_program.specs.Terms.{behind, class_at, no_character}
 use Rattle.sbl_tree.specs.declared.mode.Mode.{Mode}
 
 -- ---- names
@@ -133,144 +132,111 @@ place_below (x ∷ xs) n = among_step (bytes_eq x n) _ (place_of xs n) (length x
 pub among_is : (xs : List (List ℕ)) (n : List ℕ) → is_one_of xs n ≡ is_among xs n
 among_is xs n = ap (λ k. nat_lt k (length xs)) (number_is xs n) ∙ place_below xs n
 
--- ---- sets
+-- ---- a term
 
-or_none : (b : Bool) → b ≡ (b || false)
-or_none true = refl
-or_none false = refl
+added_is : (t b : Bool) → (if t then true else b) ≡ (b || t)
+added_is true true = refl
+added_is true false = refl
+added_is false true = refl
+added_is false false = refl
 
--- a character that is in a set already
-in_already : (set : List ℕ) (d c : ℕ) (e : Bool) → nat_eq d c ≡ e → has set d ≡ true → has set c ≡ (has set c || e)
-in_already set d c false e h = or_none (has set c)
-in_already set d c true e h =
-    let k : has set c ≡ true = ap (has set) (sym (eqb-true d c e)) ∙ h in
-    k ∙ sym (ap (λ b. b || true) k)
+lessened_is : (t b : Bool) → (if t then false else b) ≡ (b && not t)
+lessened_is true true = refl
+lessened_is true false = refl
+lessened_is false true = refl
+lessened_is false false = refl
 
-or_chain : (a b c : Bool) → ((a || b) || c) ≡ (a || (b || c))
-or_chain true b c = refl
-or_chain false b c = refl
-
-one_more : (set : List ℕ) (d c : ℕ) (t : Bool) → has set d ≡ t → has (if t then set else set ++ d ∷ []) c ≡ (has set c || nat_eq d c)
-one_more set d c true h = in_already set d c (nat_eq d c) refl h
-one_more set d c false h = list_any-append (λ x. nat_eq x c) set (d ∷ []) ∙ ap (λ b. has set c || b) (sym (or_none (nat_eq d c)))
-
-pub united_has : (set cs : List ℕ) (c : ℕ) → has (united set cs) c ≡ (has set c || has cs c)
-united_has set [] c = or_none (has set c)
-united_has set (d ∷ cs) c =
-    united_has (if has set d then set else set ++ d ∷ []) cs c
-    ∙ ap (λ b. b || has cs c) (one_more set d c (has set d) refl)
-    ∙ or_chain (has set c) (nat_eq d c) (has cs c)
-
-left_out : (s e a l : Bool) → (e ≡ true → l ≡ true) → (s || (a && not l)) ≡ (s || ((e || a) && not l))
-left_out true e a l h = refl
-left_out false false a l h = refl
-left_out false true true l h = refl
-left_out false true false l h = sym (ap not (h refl))
-
-kept_in : (s e a l : Bool) → (e ≡ true → l ≡ false) → ((s || (e || false)) || (a && not l)) ≡ (s || ((e || a) && not l))
-kept_in true e a l h = refl
-kept_in false false a l h = refl
-kept_in false true a l h = sym (ap not (h refl))
-
-less_step : (sofar less cs : List ℕ) (d c : ℕ) (t : Bool) → has less d ≡ t → (has (if t then sofar else sofar ++ d ∷ []) c || (has cs c && not (has less c))) ≡ (has sofar c || ((nat_eq d c || has cs c) && not (has less c)))
-less_step sofar less cs d c true h =
-    left_out (has sofar c) (nat_eq d c) (has cs c) (has less c) (λ e. ap (has less) (sym (eqb-true d c e)) ∙ h)
-less_step sofar less cs d c false h =
-    ap (λ b. b || (has cs c && not (has less c))) (list_any-append (λ x. nat_eq x c) sofar (d ∷ []))
-    ∙ kept_in (has sofar c) (nat_eq d c) (has cs c) (has less c) (λ e. ap (has less) (sym (eqb-true d c e)) ∙ h)
-
-pub lessened_has : (cs less sofar : List ℕ) (c : ℕ) → has (lessened cs less sofar) c ≡ (has sofar c || (has cs c && not (has less c)))
-lessened_has [] less sofar c = or_none (has sofar c)
-lessened_has (d ∷ cs) less sofar c =
-    lessened_has cs less (if has less d then sofar else sofar ++ d ∷ []) c ∙ less_step sofar less cs d c (has less d) refl
+alone_is : (t : Bool) → (if t then true else false) ≡ t
+alone_is true = refl
+alone_is false = refl
 
 -- ---- groupings
 
--- the sets so far are those of the groupings so far
-abbrev Same : List (List ℕ) → List Grouping → Type 0
+-- the classes so far are those of the groupings so far
+abbrev Same : List (ℕ → Bool) → List Grouping → Type 0
 Same [] [] = ⊤
 Same [] (g ∷ gs) = ⊥
-Same (s ∷ ss) [] = ⊥
-Same (s ∷ ss) (g ∷ gs) = ((c : ℕ) → has s c ≡ g.has c) × Same ss gs
+Same (k ∷ ks) [] = ⊥
+Same (k ∷ ks) (g ∷ gs) = ((c : ℕ) → k c ≡ g.has c) × Same ks gs
 
 abbrev names_of : List Grouping → List (List ℕ)
 names_of gs = map (λ g. g.name) gs
 
-nothing_at : (k : ℕ) (c : ℕ) → has (slice_index_or [] k []) c ≡ false
+nothing_at : (i : ℕ) (c : ℕ) → class_at [] i c ≡ false
 nothing_at zero c = refl
-nothing_at (suc k) c = refl
+nothing_at (suc i) c = refl
 
-class_step : (b : Bool) (s : List ℕ) (ss : List (List ℕ)) (p c : ℕ) (x y : Bool) → has s c ≡ x → has (slice_index_or ss p []) c ≡ y → has (slice_index_or (s ∷ ss) (if b then 0 else suc p) []) c ≡ (if b then x else y)
-class_step true s ss p c x y h k = h
-class_step false s ss p c x y h k = k
+class_step : (b : Bool) (k : ℕ → Bool) (ks : List (ℕ → Bool)) (p c : ℕ) (x y : Bool) → k c ≡ x → class_at ks p c ≡ y → class_at (k ∷ ks) (if b then 0 else suc p) c ≡ (if b then x else y)
+class_step true k ks p c x y h i = h
+class_step false k ks p c x y h i = i
 
-class_at : (ss : List (List ℕ)) (gs : List Grouping) (rest : List (List ℕ)) → Same ss gs → (n : List ℕ) (c : ℕ) → has (slice_index_or ss (place_of (names_of gs ++ rest) n) []) c ≡ class_of gs n c
-class_at [] [] rest h n c = nothing_at (place_of rest n) c
-class_at [] (g ∷ gs) rest h n c = absurd h
-class_at (s ∷ ss) [] rest h n c = absurd h
-class_at (s ∷ ss) (g ∷ gs) rest h n c =
-    class_step (bytes_eq g.name n) s ss (place_of (names_of gs ++ rest) n) c (g.has c) _ (h.0 c) (class_at ss gs rest h.1 n c)
+named_at : (ks : List (ℕ → Bool)) (gs : List Grouping) (rest : List (List ℕ)) → Same ks gs → (n : List ℕ) (c : ℕ) → class_at ks (place_of (names_of gs ++ rest) n) c ≡ class_of gs n c
+named_at [] [] rest h n c = nothing_at (place_of rest n) c
+named_at [] (g ∷ gs) rest h n c = absurd h
+named_at (k ∷ ks) [] rest h n c = absurd h
+named_at (k ∷ ks) (g ∷ gs) rest h n c =
+    class_step (bytes_eq g.name n) k ks (place_of (names_of gs ++ rest) n) c (g.has c) _ (h.0 c) (named_at ks gs rest h.1 n c)
 
 module _ (ns : Names) where
-  pub class_is : (ss : List (List ℕ)) (gs : List Grouping) (rest : List (List ℕ)) → ns.groupings ≡ names_of gs ++ rest → Same ss gs → (n : List ℕ) (c : ℕ) → has (slice_index_or ss (number_of ns.groupings n) []) c ≡ class_of gs n c
-  class_is ss gs rest e h n c =
-      ap (λ k. has (slice_index_or ss k []) c) (number_is ns.groupings n ∙ ap (λ xs. place_of xs n) e) ∙ class_at ss gs rest h n c
+  pub class_is : (ks : List (ℕ → Bool)) (gs : List Grouping) (rest : List (List ℕ)) → ns.groupings ≡ names_of gs ++ rest → Same ks gs → (n : List ℕ) (c : ℕ) → class_at ks (number_of ns.groupings n) c ≡ class_of gs n c
+  class_is ks gs rest e h n c =
+      ap (λ i. class_at ks i c) (number_is ns.groupings n ∙ ap (λ xs. place_of xs n) e) ∙ named_at ks gs rest h n c
 
-  term_is : (ss : List (List ℕ)) (gs : List Grouping) (rest : List (List ℕ)) → ns.groupings ≡ names_of gs ++ rest → Same ss gs → (a : Argument) (c : ℕ) → has (characters_of ns ss a) c ≡ term_has gs a c
-  term_is ss gs rest e h (written_out q) c = refl
-  term_is ss gs rest e h (by_name n) c = class_is ss gs rest e h n c
+  term_is : (ks : List (ℕ → Bool)) (gs : List Grouping) (rest : List (List ℕ)) → ns.groupings ≡ names_of gs ++ rest → Same ks gs → (a : Argument) (c : ℕ) → term_class ns ks a c ≡ term_has gs a c
+  term_is ks gs rest e h (written_out q) c = refl
+  term_is ks gs rest e h (by_name n) c = class_is ks gs rest e h n c
 
-  terms_are : (ss : List (List ℕ)) (gs : List Grouping) (rest : List (List ℕ)) → ns.groupings ≡ names_of gs ++ rest → Same ss gs → (ts : List Term) (set : List ℕ) (before : Bool) (c : ℕ) → has set c ≡ before → has (with_terms ns ss ts set) c ≡ terms_have gs ts before c
-  terms_are ss gs rest e h [] set before c l = l
-  terms_are ss gs rest e h (term Plus a ∷ ts) set before c l =
-      let cs = characters_of ns ss a in
-      terms_are ss gs rest e h ts (united set cs) _ c
-      (united_has set cs c ∙ ap (λ b. b || has cs c) l ∙ ap (λ b. before || b) (term_is ss gs rest e h a c))
-  terms_are ss gs rest e h (term Minus a ∷ ts) set before c l =
-      let cs = characters_of ns ss a in
-      terms_are ss gs rest e h ts (lessened set cs []) _ c
-      (lessened_has set cs [] c ∙ ap (λ b. b && not (has cs c)) l ∙ ap (λ b. before && not b) (term_is ss gs rest e h a c))
+  terms_are : (ks : List (ℕ → Bool)) (gs : List Grouping) (rest : List (List ℕ)) → ns.groupings ≡ names_of gs ++ rest → Same ks gs → (ts : List Term) (class : ℕ → Bool) (before : Bool) (c : ℕ) → class c ≡ before → with_terms ns ks ts class c ≡ terms_have gs ts before c
+  terms_are ks gs rest e h [] class before c l = l
+  terms_are ks gs rest e h (term Plus a ∷ ts) class before c l =
+      let k = term_class ns ks a in
+      terms_are ks gs rest e h ts (behind Plus k class) _ c
+      (added_is (k c) (class c) ∙ ap (λ b. b || k c) l ∙ ap (λ b. before || b) (term_is ks gs rest e h a c))
+  terms_are ks gs rest e h (term Minus a ∷ ts) class before c l =
+      let k = term_class ns ks a in
+      terms_are ks gs rest e h ts (behind Minus k class) _ c
+      (lessened_is (k c) (class c) ∙ ap (λ b. b && not (k c)) l ∙ ap (λ b. before && not b) (term_is ks gs rest e h a c))
 
-  same_more : (ss : List (List ℕ)) (gs : List Grouping) (s : List ℕ) (g : Grouping) → Same ss gs → ((c : ℕ) → has s c ≡ g.has c) → Same (ss ++ (s ∷ [])) (gs ++ (g ∷ []))
-  same_more [] [] s g h k = (k, tt)
-  same_more [] (x ∷ gs) s g h k = absurd h
-  same_more (x ∷ ss) [] s g h k = absurd h
-  same_more (x ∷ ss) (y ∷ gs) s g h k = (h.0, same_more ss gs s g h.1 k)
+  same_more : (ks : List (ℕ → Bool)) (gs : List Grouping) (k : ℕ → Bool) (g : Grouping) → Same ks gs → ((c : ℕ) → k c ≡ g.has c) → Same (ks ++ (k ∷ [])) (gs ++ (g ∷ []))
+  same_more [] [] k g h i = (i, tt)
+  same_more [] (x ∷ gs) k g h i = absurd h
+  same_more (x ∷ ks) [] k g h i = absurd h
+  same_more (x ∷ ks) (y ∷ gs) k g h i = (h.0, same_more ks gs k g h.1 i)
 
   names_more : (gs : List Grouping) (g : Grouping) (rest : List (List ℕ)) → names_of (gs ++ (g ∷ [])) ++ rest ≡ names_of gs ++ (g.name ∷ rest)
   names_more [] g rest = refl
   names_more (x ∷ gs) g rest = ap (λ xs. x.name ∷ xs) (names_more gs g rest)
 
-  -- the sets and classes so far, and the names of those to come
-  pub record Far (ss : List (List ℕ)) (gs : List Grouping) (rest : List (List ℕ)) : Type 0 where
-    pub same : Same ss gs
+  -- the classes and groupings so far, and the names of those to come
+  pub record Far (ks : List (ℕ → Bool)) (gs : List Grouping) (rest : List (List ℕ)) : Type 0 where
+    pub same : Same ks gs
     pub names : ns.groupings ≡ names_of gs ++ rest
 
-  far_more : (x : Plain) (ss : List (List ℕ)) (gs : List Grouping) (rest : List (List ℕ)) → Far ss gs (names_by kinds.Groupings x ++ rest) → Far (with_set ns x ss) (and_grouping x gs) rest
-  far_more (grouping n a ts) ss gs rest f =
+  far_more : (x : Plain) (ks : List (ℕ → Bool)) (gs : List Grouping) (rest : List (List ℕ)) → Far ks gs (names_by kinds.Groupings x ++ rest) → Far (with_class ns x ks) (and_grouping x gs) rest
+  far_more (grouping n a ts) ks gs rest f =
       let e = f.names in
       let h = f.same in
-      let cs = characters_of ns ss a in
+      let first = behind Plus (term_class ns ks a) no_character in
       let g : Grouping = record { name = n; has = λ c. terms_have gs ts (term_has gs a c) c } in
       record {
-        same = same_more ss gs (with_terms ns ss ts (united [] cs)) g h
-            (λ c. terms_are ss gs (n ∷ rest) e h ts (united [] cs) _ c (united_has [] cs c ∙ term_is ss gs (n ∷ rest) e h a c));
+        same = same_more ks gs (with_terms ns ks ts first) g h
+            (λ c. terms_are ks gs (n ∷ rest) e h ts first _ c (alone_is (term_class ns ks a c) ∙ term_is ks gs (n ∷ rest) e h a c));
         names = e ∙ sym (names_more gs g rest);
       }
-  far_more (declaration k xs) ss gs rest f = f
-  far_more (escapes a b) ss gs rest f = f
-  far_more (macro n b q) ss gs rest f = f
-  far_more (routine n c os) ss gs rest f = f
+  far_more (declaration k xs) ks gs rest f = f
+  far_more (escapes a b) ks gs rest f = f
+  far_more (macro n b q) ks gs rest f = f
+  far_more (routine n c os) ks gs rest f = f
 
-  pub far_all : (xs : List ItemInMode) (ss : List (List ℕ)) (gs : List Grouping) → Far ss gs (known_in xs kinds.Groupings) → Far (sets_behind ns xs ss) (classes_behind xs gs) []
-  far_all [] ss gs f = f
-  far_all (x ∷ xs) ss gs f = far_all xs (with_set ns x.plain ss) (and_grouping x.plain gs) (far_more x.plain ss gs (known_in xs kinds.Groupings) f)
+  pub far_all : (xs : List ItemInMode) (ks : List (ℕ → Bool)) (gs : List Grouping) → Far ks gs (known_in xs kinds.Groupings) → Far (numbered_classes ns xs ks) (classes_behind xs gs) []
+  far_all [] ks gs f = f
+  far_all (x ∷ xs) ks gs f = far_all xs (with_class ns x.plain ks) (and_grouping x.plain gs) (far_more x.plain ks gs (known_in xs kinds.Groupings) f)
 
-  -- the set of a grouping has what its terms say
-  pub sets_are : (xs : List ItemInMode) → ns.groupings ≡ known_in xs kinds.Groupings → (n : List ℕ) (c : ℕ) → has (slice_index_or (sets_behind ns xs []) (number_of ns.groupings n) []) c ≡ class_of (classes_behind xs []) n c
-  sets_are xs e n c =
+  -- a grouping's class has what its terms say
+  pub classes_are : (xs : List ItemInMode) → ns.groupings ≡ known_in xs kinds.Groupings → (n : List ℕ) (c : ℕ) → class_at (numbered_classes ns xs []) (number_of ns.groupings n) c ≡ class_of (classes_behind xs []) n c
+  classes_are xs e n c =
       let f = far_all xs [] [] (record { same = tt; names = e }) in
-      class_is (sets_behind ns xs []) (classes_behind xs []) [] f.names f.same n c
+      class_is (numbered_classes ns xs []) (classes_behind xs []) [] f.names f.same n c
 
   -- ---- routines
 

@@ -1,12 +1,12 @@
 -- What is shown of the program of a script.
-use Rattle.std.specs.Prelude.{◌≡◌, ℕ, false, List, [], Option, slice_get, slice_index_or}
+use Rattle.std.specs.Prelude.{◌≡◌, ℕ, false, List, [], Option, slice_get}
 use Rattle.sbl_numbering.specs.Ahead.{routines_in}
 use Rattle.sbl_numbering.specs.Items.{body_named, class_of, classes_behind}
 use Rattle.sbl_numbering.specs.Numbered.{numbered_items, routines_behind}
 use Rattle.sbl_numbering.specs.NumberedAmongs.{found_behind}
 use Rattle.sbl_numbering.specs.NumberedNames.{Names, names_behind, no_names, number_of}
-use Rattle.sbl_program.specs.Characters.{has}
 use Rattle.sbl_program.specs.Program.{Routine}
+use Rattle.sbl_program.specs.Terms.{class_at}
 use Rattle.sbl_tree.specs.Order.{ItemInMode, in_order}
 use Rattle.sbl_tree.specs.Tree.{Item}
 
@@ -28,8 +28,8 @@ RoutineIsItsOwn =
     (items items' : List Item) (external external' n : List ℕ) → names_in items ≡ names_in items' →
     body_named (in_order items) n ≡ body_named (in_order items') n → routine_at items external n ≡ routine_at items' external' n
 
--- a character is in a grouping's set exactly where its terms, added and taken away from the left, have it
-abbrev pub SetsAreClasses : Type 0
-SetsAreClasses =
+-- a character is in a grouping's class exactly where its terms, added and taken away from the left, have it
+abbrev pub ClassesAreTheirTerms : Type 0
+ClassesAreTheirTerms =
     (items : List Item) (external n : List ℕ) (c : ℕ) →
-    has (slice_index_or (numbered_items items external).groupings (number_of (names_in items).groupings n) []) c ≡ class_of (classes_behind (in_order items) []) n c
+    class_at (numbered_items items external).groupings (number_of (names_in items).groupings n) c ≡ class_of (classes_behind (in_order items) []) n c

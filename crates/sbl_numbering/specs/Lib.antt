@@ -2,7 +2,7 @@
 pub mod Items
 pub mod Regions
 pub mod NumberedNames
-pub mod NumberedSets
+pub mod NumberedClasses
 pub mod NumberedAmongs
 pub mod NumberedNumbers
 pub mod Numbered
@@ -11,4 +11,3 @@ pub mod Laws
 -- what the functions inside the crate promise each other: nothing in these need be believed
 pub mod NumberedView
 pub mod NameList
-pub mod Apart

@@ -1,4 +1,4 @@
--- The program of a script: numbers for names, each `substring` tied to its among, groupings as sets.
+-- The program of a script: numbers for names, each `substring` tied to its among, groupings as classes of characters.
 use Rattle.std.specs.Prelude.{ℕ, ◌-◌, nat_lt, Bool, true, false, List, [], ◌∷◌, ◌++◌, length, drop, if◌then◌else◌}
 use Rattle.sbl_tree.specs.Order.{ItemInMode, in_order}
 use Rattle.sbl_tree.specs.declared.tree.Simple.{Simple}
@@ -29,7 +29,7 @@ use Rattle.sbl_program.specs.Listed.{listing}
 use Rattle.sbl_numbering.specs.NumberedAmongs.{Found, found_behind}
 use Rattle.sbl_numbering.specs.NumberedNames.{Names, is_one_of, names_behind, no_names, number_of}
 use Rattle.sbl_numbering.specs.NumberedNumbers.{expression, text}
-use Rattle.sbl_numbering.specs.NumberedSets.{sets_behind}
+use Rattle.sbl_numbering.specs.NumberedClasses.{numbered_classes}
 use Rattle.sbl_program.specs.Program as programs
 use Rattle.sbl_program.specs.ProgramOf.{commands_of}
 
@@ -275,7 +275,7 @@ program_by ns items amongs external = record {
   integers = length ns.integers;
   booleans = length ns.booleans;
   strings = length ns.strings;
-  groupings = sets_behind ns items [];
+  groupings = numbered_classes ns items [];
   routines = routines_behind ns items (record { coming = amongs; behind = 0; waits = false }) [];
   external = number_of ns.routines external;
 }

@@ -1,6 +1,6 @@
 //! What is shown of the program of a script.
 
-ghost use Rattle.sbl_numbering.specs.Laws.{OwnIsMade, RoutineIsItsOwn, SetsAreClasses};
+ghost use Rattle.sbl_numbering.specs.Laws.{OwnIsMade, RoutineIsItsOwn, ClassesAreTheirTerms};
 
 /// Each routine is numbered by the names, its mode and its own tree.
 pub fn own_is_made()
@@ -12,7 +12,7 @@ pub fn routine_is_its_own()
     ensures { RoutineIsItsOwn }
 {}
 
-/// The set of a grouping has what its terms say.
-pub fn sets_are_classes()
-    ensures { SetsAreClasses }
+/// A character is in a grouping's class exactly where its terms say so.
+pub fn classes_are_their_terms()
+    ensures { ClassesAreTheirTerms }
 {}

@@ -2,6 +2,7 @@
 #![tactic(auto)]
 
 mod amongs;
+mod classes;
 mod commands;
 pub mod laws;
 mod name_list;
@@ -10,6 +11,5 @@ mod numbers;
 mod operators;
 mod place;
 mod program;
-mod sets;
 
 pub use program::{Made, numbered};

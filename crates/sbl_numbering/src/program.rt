@@ -11,10 +11,10 @@ ghost use Rattle.sbl_numbering.specs.NumberedView.{view_found, view_names, view_
 ghost use Rattle.sbl_program.specs.ProgramOf.{program_of, view_routine};
 
 use crate::amongs::amongs_of;
+use crate::classes::numbered_classes;
 use crate::commands::row_of;
 use crate::names::{Names, names_of};
 use crate::place::{Position, begun, closed, left_of, past_row};
-use crate::sets::sets_of;
 use sbl_program::{Found, Program, Routine};
 use sbl_tree::{Item, ItemInMode, Plain, Row, items_in_order};
 use std::alloc::{AllocError, Global};
@@ -86,7 +86,7 @@ fn program_by(
 ) -> Result<Program, AllocError>
     ensures { IfOk result (λ p. program_of (strings_at amongs.now.items) p ≡ spec.program_by (view_names names.now) (map view_in_mode items.now) (map view_found amongs.now.items) external.now) }
 {
-    let groupings = sets_of(alloc, names, items)?;
+    let groupings = numbered_classes(alloc, names, items)?;
     let routines = routines_of(alloc, names, items, amongs)?;
     Ok(Program {
         integers: names.integers.len(),
