@@ -30,9 +30,9 @@ use Rattle.sbl_numbering.specs.Numbered.{name_alone, behind_prefix, behind_count
 use Rattle.sbl_program.specs.Grouped.{join}
 use Rattle.sbl_numbering.specs.NumberedNames.{Names, is_one_of, number_of}
 use Rattle.sbl_numbering.specs.NumberedNumbers.{expression, text}
-use Rattle.sbl_program.specs.Characters.{has}
 use Rattle.sbl_run.specs.Numbers.{Value, value, given, changed, holds, integer_at, with_value}
 use Rattle.sbl_program.specs.Program as programs
+use Rattle.sbl_program.specs.Terms.{class_at}
 use Rattle.sbl_numbering.specs.Regions.{Among, among_at, behind, behind_rows, behind_others, behind_starter, first, first_rows, first_others, mode_behind, waits, waits_others}
 use Rattle.sbl_run.specs.Run as run
 use Rattle.sbl_run.specs.Run.{paid, in_turn, nth_does}
@@ -51,20 +51,20 @@ after_same (Stops fault s) = refl
 if_same : (a b : Bool) (x x' y y' : Ending) → a ≡ b → x ≡ x' → y ≡ y' → (if a then x else y) ≡ (if b then x' else y')
 if_same a b x x' y y' h k l = ap (λ c. if c then x else y) h ∙ ap (λ z. if b then z else y) k ∙ ap (λ z. if b then x' else z) l
 
-next_same : (w : Bool) (set : List ℕ) (o : Option ℕ) → next_is w set o ≡ next_has w (has set) o
-next_same w set None = refl
-next_same true set (Some c) = refl
-next_same false set (Some c) = refl
+next_same : (w : Bool) (class : ℕ → Bool) (o : Option ℕ) → next_is w class o ≡ next_has w class o
+next_same w class None = refl
+next_same true class (Some c) = refl
+next_same false class (Some c) = refl
 
-module _ (ns : Names) (known : Known) (agree : Agree ns known) (sets : List (List ℕ)) (class : List ℕ → ℕ → Bool) (call : ℕ → Doing) (call' : List ℕ → Doing)
-    (same_class : (n : List ℕ) (c : ℕ) → has (slice_index_or sets (number_of ns.groupings n) []) c ≡ class n c) (same_call : (n : List ℕ) → call (number_of ns.routines n) ≡ call' n) where
+module _ (ns : Names) (known : Known) (agree : Agree ns known) (classes : List (ℕ → Bool)) (class : List ℕ → ℕ → Bool) (call : ℕ → Doing) (call' : List ℕ → Doing)
+    (same_class : (n : List ℕ) (c : ℕ) → class_at classes (number_of ns.groupings n) c ≡ class n c) (same_call : (n : List ℕ) → call (number_of ns.routines n) ≡ call' n) where
   abbrev does_as : programs.Node → Doing → Type 0
-  does_as x d = (m : Mode) (s : State) → run.act sets call x m s ≡ d m s
+  does_as x d = (m : Mode) (s : State) → run.act classes call x m s ≡ d m s
 
-  same : (x : programs.Node) (d : Doing) → does_as x d → run.act sets call x ≡ d
+  same : (x : programs.Node) (d : Doing) → does_as x d → run.act classes call x ≡ d
   same x d h = fun_ext (λ m. fun_ext (h m))
 
-  if_does : (b : Bool) (x y : programs.Node) (m : Mode) (s : State) → run.act sets call (if b then x else y) m s ≡ (if b then run.act sets call x m s else run.act sets call y m s)
+  if_does : (b : Bool) (x y : programs.Node) (m : Mode) (s : State) → run.act classes call (if b then x else y) m s ≡ (if b then run.act classes call x m s else run.act classes call y m s)
   if_does true x y m s = refl
   if_does false x y m s = refl
 
@@ -80,13 +80,13 @@ module _ (ns : Names) (known : Known) (agree : Agree ns known) (sets : List (Lis
   one_kind : (xs ys : List (List ℕ)) (n : List ℕ) → xs ≡ ys → is_one_of xs n ≡ is_among ys n
   one_kind xs ys n e = among_is xs n ∙ ap (λ zs. is_among zs n) e
 
-  grouping_same : (w : Bool) (n : List ℕ) (m : Mode) (s : State) → one_of w (slice_index_or sets (number_of ns.groupings n) []) m s ≡ class_does w (class n) m s
+  grouping_same : (w : Bool) (n : List ℕ) (m : Mode) (s : State) → one_of w (class_at classes (number_of ns.groupings n)) m s ≡ class_does w (class n) m s
   grouping_same w n m s =
-      let set = slice_index_or sets (number_of ns.groupings n) [] in
+      let k = class_at classes (number_of ns.groupings n) in
       let o = slice_get (ahead m s) 0 in
-      ap (λ b. if b then Signals true (further m 1 s) else Signals false s) (next_same w set o ∙ ap (λ h. next_has w h o) (fun_ext (same_class n)))
+      ap (λ b. if b then Signals true (further m 1 s) else Signals false s) (next_same w k o ∙ ap (λ h. next_has w h o) (fun_ext (same_class n)))
 
-  name_same : (n : List ℕ) (m : Mode) (s : State) → run.act sets call (name_alone ns n) m s ≡ meaning.name_does known class call' n m s
+  name_same : (n : List ℕ) (m : Mode) (s : State) → run.act classes call (name_alone ns n) m s ≡ meaning.name_does known class call' n m s
   name_same n m s =
       let r = programs.call (number_of ns.routines n) in
       let g = programs.act (programs.grouping (number_of ns.groupings n)) in
@@ -117,7 +117,7 @@ module _ (ns : Names) (known : Known) (agree : Agree ns known) (sets : List (Lis
   simple_same simples.True n m s = refl
   simple_same simples.False n m s = refl
 
-  prefix_same : (x : Prefix) (c : programs.Node) (d : Doing) → run.act sets call c ≡ d → does_as (behind_prefix x c) (prefixed_does x (paid d))
+  prefix_same : (x : Prefix) (c : programs.Node) (d : Doing) → run.act classes call c ≡ d → does_as (behind_prefix x c) (prefixed_does x (paid d))
   prefix_same prefixes.Not c d h m s = ap (λ d. prefixed_does prefixes.Not (paid d) m s) h
   prefix_same prefixes.Test c d h m s = ap (λ d. prefixed_does prefixes.Test (paid d) m s) h
   prefix_same prefixes.Try c d h m s = ap (λ d. prefixed_does prefixes.Try (paid d) m s) h
@@ -128,15 +128,15 @@ module _ (ns : Names) (known : Known) (agree : Agree ns known) (sets : List (Lis
   prefix_same prefixes.GoPast c d h m s = ap (λ d. prefixed_does prefixes.GoPast (paid d) m s) h
   prefix_same prefixes.Backwards c d h m s = ap (λ d. prefixed_does prefixes.Backwards (paid d) m s) h
 
-  count_same : (x : Count) (e : programs.Arithmetic) (v : Value) (c : programs.Node) (d : Doing) (m : Mode) (s : State) → value e m s ≡ v → run.act sets call c ≡ d → run.act sets call (behind_count x e c) m s ≡ counted_does x v (paid d) m s
-  count_same counts.Loop e v c d m s h k = ap (λ v. counted_does counts.Loop v (paid (run.act sets call c)) m s) h ∙ ap (λ d. counted_does counts.Loop v (paid d) m s) k
-  count_same counts.AtLeast e v c d m s h k = ap (λ v. counted_does counts.AtLeast v (paid (run.act sets call c)) m s) h ∙ ap (λ d. counted_does counts.AtLeast v (paid d) m s) k
+  count_same : (x : Count) (e : programs.Arithmetic) (v : Value) (c : programs.Node) (d : Doing) (m : Mode) (s : State) → value e m s ≡ v → run.act classes call c ≡ d → run.act classes call (behind_count x e c) m s ≡ counted_does x v (paid d) m s
+  count_same counts.Loop e v c d m s h k = ap (λ v. counted_does counts.Loop v (paid (run.act classes call c)) m s) h ∙ ap (λ d. counted_does counts.Loop v (paid d) m s) k
+  count_same counts.AtLeast e v c d m s h k = ap (λ v. counted_does counts.AtLeast v (paid (run.act classes call c)) m s) h ∙ ap (λ d. counted_does counts.AtLeast v (paid d) m s) k
 
-  join_same : (j : Joiner) (x y : programs.Node) (d e : Doing) → run.act sets call x ≡ d → run.act sets call y ≡ e → does_as (join j x y) (joined_does j (paid d) (paid e))
-  join_same Or x y d e h k m s = ap (λ d. joined_does Or (paid d) (paid (run.act sets call y)) m s) h ∙ ap (λ e. joined_does Or (paid d) (paid e) m s) k
-  join_same And x y d e h k m s = ap (λ d. joined_does And (paid d) (paid (run.act sets call y)) m s) h ∙ ap (λ e. joined_does And (paid d) (paid e) m s) k
+  join_same : (j : Joiner) (x y : programs.Node) (d e : Doing) → run.act classes call x ≡ d → run.act classes call y ≡ e → does_as (join j x y) (joined_does j (paid d) (paid e))
+  join_same Or x y d e h k m s = ap (λ d. joined_does Or (paid d) (paid (run.act classes call y)) m s) h ∙ ap (λ e. joined_does Or (paid d) (paid e) m s) k
+  join_same And x y d e h k m s = ap (λ d. joined_does And (paid d) (paid (run.act classes call y)) m s) h ∙ ap (λ e. joined_does And (paid d) (paid e) m s) k
 
-  move_same : (x : Move) (e : programs.Arithmetic) (v : Value) (m : Mode) (s : State) → value e m s ≡ v → run.act sets call (programs.act (move x e)) m s ≡ moved_does x v m s
+  move_same : (x : Move) (e : programs.Arithmetic) (v : Value) (m : Mode) (s : State) → value e m s ≡ v → run.act classes call (programs.act (move x e)) m s ≡ moved_does x v m s
   move_same moves.Hop e v m s h = ap (λ v. moved_does moves.Hop v m s) h
   move_same moves.AtMark e v m s h = ap (λ v. moved_does moves.AtMark v m s) h
   move_same moves.ToMark e v m s h = ap (λ v. moved_does moves.ToMark v m s) h
@@ -147,7 +147,7 @@ module _ (ns : Names) (known : Known) (agree : Agree ns known) (sets : List (Lis
   naming_same namings.Unset n m s = ap (λ i. Signals true (set_boolean i false s)) (boolean_of n)
   naming_same namings.Arrow n m s = ap (λ i. keep i s) (string_at n)
 
-  edit_same : (x : Splice) (t : programs.StringTerm) (cs : List ℕ) (m : Mode) (s : State) → characters t s ≡ cs → run.act sets call (programs.act (edit x t)) m s ≡ edited_does x cs m s
+  edit_same : (x : Splice) (t : programs.StringTerm) (cs : List ℕ) (m : Mode) (s : State) → characters t s ≡ cs → run.act classes call (programs.act (edit x t)) m s ≡ edited_does x cs m s
   edit_same edits.Replace t cs m s h = ap (λ cs. edited_does edits.Replace cs m s) h
   edit_same edits.InsertSign t cs m s h = ap (λ cs. edited_does edits.InsertSign cs m s) h
   edit_same edits.Insert t cs m s h = ap (λ cs. edited_does edits.Insert cs m s) h
@@ -165,16 +165,16 @@ module _ (ns : Names) (known : Known) (agree : Agree ns known) (sets : List (Lis
   abbrev comparing : Value → (ℤ → ℤ → Bool) → Value → State → Ending
   comparing v f w s = given v s (λ x. given w s (λ y. Signals (f x y) s))
 
-  compare_same : (a b : programs.Arithmetic) (o : Comparison) (v w : Value) (m : Mode) (s : State) → value a m s ≡ v → value b m s ≡ w → run.act sets call (programs.act (programs.compare a (relation_of o) b)) m s ≡ compared_does v o w s
+  compare_same : (a b : programs.Arithmetic) (o : Comparison) (v w : Value) (m : Mode) (s : State) → value a m s ≡ v → value b m s ≡ w → run.act classes call (programs.act (programs.compare a (relation_of o) b)) m s ≡ compared_does v o w s
   compare_same a b o v w m s h k =
       ap (λ v. comparing v (holds (relation_of o)) (value b m s) s) h
       ∙ ap (λ f. comparing v f (value b m s) s) (holds_same o)
       ∙ ap (λ w. comparing v (meaning.is_so o) w s) k
 
-  before_same : (w : Bool) (a : Among) (cs : programs.Nodes) (d : Doing) (m : Mode) (s : State) → in_turn sets call cs m ≡ d m → in_turn sets call (search_then ns w a cs) m s ≡ begins w (meaning.search call' a) d m s
+  before_same : (w : Bool) (a : Among) (cs : programs.Nodes) (d : Doing) (m : Mode) (s : State) → in_turn classes call cs m ≡ d m → in_turn classes call (search_then ns w a cs) m s ≡ begins w (meaning.search call' a) d m s
   before_same true a cs d m s h = refl
   before_same false a cs d m s h =
-      ap (λ e. after (paid e m s) (in_turn sets call cs m) (Signals false)) (same (search_of (found_as ns a)) (meaning.search call' a) (search_is a))
+      ap (λ e. after (paid e m s) (in_turn classes call cs m) (Signals false)) (same (search_of (found_as ns a)) (meaning.search call' a) (search_is a))
       ∙ ap (λ f. after (paid (meaning.search call' a) m s) f (Signals false)) h
 
   abbrev does : Mode → ℕ → Bool → Option Among → trees.Command → Doing
@@ -194,7 +194,7 @@ module _ (ns : Names) (known : Known) (agree : Agree ns known) (sets : List (Lis
     sound (splice_ x a) r k w n m s = edit_same x (text ns a) _ m s (text_same ns known agree a s)
     sound (setlimit_ b c) r k w n m s =
         let n' = first r c (behind b k) n in
-        ap (λ d. limited_does (paid d) (paid (run.act sets call (made ns r (behind b k) (waits b w) n c))) m s) (fun_ext (λ m. fun_ext (λ s. sound b r k w n' m s)))
+        ap (λ d. limited_does (paid d) (paid (run.act classes call (made ns r (behind b k) (waits b w) n c))) m s) (fun_ext (λ m. fun_ext (λ s. sound b r k w n' m s)))
         ∙ ap (λ d. limited_does (paid (does r k w n' b)) (paid d) m s) (fun_ext (λ m. fun_ext (λ s. sound c r (behind b k) (waits b w) n m s)))
     sound (assign_ x o e) r k w n m s = assign_same x o e m s
     sound (compare_ x o e) r k w n m s = compare_same (programs.integer (number_of ns.integers x)) (expression ns e) o _ _ m s (ap (λ i. Ok (integer_at i s)) (integer_of x)) (worth_same ns known agree e m s)
@@ -202,11 +202,11 @@ module _ (ns : Names) (known : Known) (agree : Agree ns known) (sets : List (Lis
     sound (among_ st gs) r k w n m s =
         let k' = behind_starter st (suc k) in
         let bodies = made_groups ns r k' gs in
-        let on_t = λ (t : State). run.chosen (choice k t) t (λ g. nth_does sets call bodies g m t) in
+        let on_t = λ (t : State). run.chosen (choice k t) t (λ g. nth_does classes call bodies g m t) in
         ap (λ e. after e on_t (Signals false)) (before_same w (among_at r k gs) (made_starter ns r (suc k) st) (meaning.starter_does known class call' r (suc k) st) m s (fun_ext (λ t. starter_sound st r (suc k) m t)))
         ∙ ap (λ f. after (begins w (meaning.search call' (among_at r k gs)) (meaning.starter_does known class call' r (suc k) st) m s) (λ t. run.chosen (choice k t) t (λ g. f g t)) (Signals false)) (fun_ext (λ g. fun_ext (λ t. groups_sound gs r k' g m t)))
 
-    rows_sound : (rs : trees.Rows) (r : Mode) (k : ℕ) (w : Bool) (n : Option Among) (m : Mode) (s : State) → in_turn sets call (made_rows ns r k w n rs) m s ≡ meaning.rows_do known class call' r k w n rs m s
+    rows_sound : (rs : trees.Rows) (r : Mode) (k : ℕ) (w : Bool) (n : Option Among) (m : Mode) (s : State) → in_turn classes call (made_rows ns r k w n rs) m s ≡ meaning.rows_do known class call' r k w n rs m s
     rows_sound no_rows r k w n m s = refl
     rows_sound (row c os rs) r k w n m s =
         let k1 = behind c k in
@@ -214,12 +214,12 @@ module _ (ns : Names) (known : Known) (agree : Agree ns known) (sets : List (Lis
         let n2 = first_rows r rs k2 n in
         let n1 = first_others r os k1 n2 in
         let rest = made_rows ns r k2 (waits_others os (waits c w)) n rs in
-        ap (λ d. after (paid d m s) (in_turn sets call rest m) (Signals false))
+        ap (λ d. after (paid d m s) (in_turn classes call rest m) (Signals false))
         (others_sound os r k1 (waits c w) n2 (made ns r k w n1 c) (does r k w n1 c) (fun_ext (λ m. fun_ext (λ s. sound c r k w n1 m s))))
         ∙ ap (λ f. after (paid (meaning.others_do known class call' r k1 (waits c w) n2 os (does r k w n1 c)) m s) f (Signals false))
         (fun_ext (λ t. rows_sound rs r k2 (waits_others os (waits c w)) n m t))
 
-    pub others_sound : (os : trees.Others) (r : Mode) (k : ℕ) (w : Bool) (n : Option Among) (x : programs.Node) (d : Doing) → run.act sets call x ≡ d → run.act sets call (made_others ns r k w n os x) ≡ meaning.others_do known class call' r k w n os d
+    pub others_sound : (os : trees.Others) (r : Mode) (k : ℕ) (w : Bool) (n : Option Among) (x : programs.Node) (d : Doing) → run.act classes call x ≡ d → run.act classes call (made_others ns r k w n os x) ≡ meaning.others_do known class call' r k w n os d
     others_sound no_others r k w n x d h = h
     others_sound (joined j c os) r k w n x d h =
         let n1 = first_others r os (behind c k) n in
@@ -227,18 +227,18 @@ module _ (ns : Names) (known : Known) (agree : Agree ns known) (sets : List (Lis
         let e = does r k w n1 c in
         others_sound os r (behind c k) (waits c w) n (join j x y) (joined_does j (paid d) (paid e)) (fun_ext (λ m. fun_ext (λ s. join_same j x y d e h (fun_ext (λ m. fun_ext (λ s. sound c r k w n1 m s))) m s)))
 
-    starter_sound : (st : trees.Starter) (r : Mode) (k : ℕ) (m : Mode) (s : State) → in_turn sets call (made_starter ns r k st) m s ≡ meaning.starter_does known class call' r k st m s
+    starter_sound : (st : trees.Starter) (r : Mode) (k : ℕ) (m : Mode) (s : State) → in_turn classes call (made_starter ns r k st) m s ≡ meaning.starter_does known class call' r k st m s
     starter_sound no_starter r k m s = refl
     starter_sound (starter rs) r k m s =
         after_same _ ∙ ap (λ d. paid d m s) (fun_ext (λ m. fun_ext (λ s. rows_sound rs r k false None m s)))
 
-    groups_sound : (gs : trees.Groups) (r : Mode) (k : ℕ) (g : ℕ) (m : Mode) (s : State) → nth_does sets call (made_groups ns r k gs) g m s ≡ meaning.group_does known class call' r k gs g m s
+    groups_sound : (gs : trees.Groups) (r : Mode) (k : ℕ) (g : ℕ) (m : Mode) (s : State) → nth_does classes call (made_groups ns r k gs) g m s ≡ meaning.group_does known class call' r k gs g m s
     groups_sound (bare es) r k g m s = refl
     groups_sound (group e es rs gs) r k zero m s = ap (λ d. paid d m s) (fun_ext (λ m. fun_ext (λ s. rows_sound rs r k false None m s)))
     groups_sound (group e es rs gs) r k (suc g) m s = groups_sound gs r (behind_rows rs k) g m s
 
   -- a routine's body
-  pub row_sound : (r : Mode) (c : trees.Command) (os : trees.Others) → run.act sets call (made_others ns r (behind c 0) (waits c false) None os (made ns r 0 false (first_others r os (behind c 0) None) c)) ≡ meaning.row_does known class call' r c os
+  pub row_sound : (r : Mode) (c : trees.Command) (os : trees.Others) → run.act classes call (made_others ns r (behind c 0) (waits c false) None os (made ns r 0 false (first_others r os (behind c 0) None) c)) ≡ meaning.row_does known class call' r c os
   row_sound r c os =
       let n1 = first_others r os (behind c 0) None in
       others_sound os r (behind c 0) (waits c false) None (made ns r 0 false n1 c) (does r 0 false n1 c) (fun_ext (λ m. fun_ext (λ s. sound c r 0 false n1 m s)))

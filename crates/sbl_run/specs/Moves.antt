@@ -1,6 +1,6 @@
 -- Moving and testing: what each of these commands does once its step is paid.
 use Rattle.std.specs.Prelude.{ℕ, pos, ◌+◌, Bool, true, false, not, ◌&&◌, List, [], length, nat_lt, nat_le, nat_eq, if◌then◌else◌, Option, Some, None, slice_get, slice_index_or, slice_set}
-use Rattle.std.specs.List.{starts_with, list_any}
+use Rattle.std.specs.List.{starts_with}
 use Rattle.sbl_tables.specs.Fitting.{read_as}
 use Rattle.sbl_program.specs.Program as programs
 use Rattle.sbl_run.specs.State.{State, Ending, Signals, ahead, moved, room}
@@ -17,16 +17,16 @@ abbrev pub match : List ℕ → Mode → State → Ending
 match string m s =
     if starts_with nat_eq (ahead m s) (read_as m string) then Signals true (moved m (length string) s) else Signals false s
 
--- whether a character is ahead, and is one of the set or none of it, as is wanted
-abbrev pub next_is : Bool → List ℕ → Option ℕ → Bool
-next_is wanted set None = false
-next_is true set (Some c) = list_any (λ x. nat_eq x c) set
-next_is false set (Some c) = not (list_any (λ x. nat_eq x c) set)
+-- whether a character is ahead, and is in the class or is not, as is wanted
+abbrev pub next_is : Bool → (ℕ → Bool) → Option ℕ → Bool
+next_is wanted class None = false
+next_is true class (Some c) = class c
+next_is false class (Some c) = not (class c)
 
--- a grouping moves over one character of its set, `non` over one that is not in it
-abbrev pub one_of : Bool → List ℕ → Mode → State → Ending
-one_of wanted set m s =
-    if next_is wanted set (slice_get (ahead m s) 0) then Signals true (moved m 1 s) else Signals false s
+-- a grouping moves over one character of its class, `non` over one that is not in it
+abbrev pub one_of : Bool → (ℕ → Bool) → Mode → State → Ending
+one_of wanted class m s =
+    if next_is wanted class (slice_get (ahead m s) 0) then Signals true (moved m 1 s) else Signals false s
 
 -- `next` moves over one character
 abbrev pub next : Mode → State → Ending

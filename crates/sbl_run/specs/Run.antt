@@ -83,58 +83,58 @@ abbrev pub paid : Doing → Doing
 paid d m s = then_on (pay s.steps s) (d m)
 
 abbrev mutual
-  -- What a command does once its step is paid, by the sets of the groupings and by what a call of each routine does.
-  pub act : List (List ℕ) → (ℕ → Doing) → programs.Node → Mode → State → Ending
-  act sets call (programs.act a) m s = acts sets a m s
+  -- What a command does once its step is paid, by the classes of the groupings and by what a call of each routine does.
+  pub act : List (ℕ → Bool) → (ℕ → Doing) → programs.Node → Mode → State → Ending
+  act classes call (programs.act a) m s = acts classes a m s
   -- `( C1 C2 .. )`
-  act sets call (programs.sequence cs) m s = in_turn sets call cs m s
+  act classes call (programs.sequence cs) m s = in_turn classes call cs m s
   -- `C1 or C2`, `C1 and C2`
-  act sets call (programs.either a b) m s =
-      after (paid (act sets call a) m s) (Signals true) (λ f. then_on (put_back m (saved_cursor s) f) (paid (act sets call b) m))
-  act sets call (programs.both a b) m s =
-      after (paid (act sets call a) m s) (λ t. then_on (put_back m (saved_cursor s) t) (paid (act sets call b) m)) (Signals false)
-  act sets call (programs.not a) m s = after (paid (act sets call a) m s) (Signals false) (put_back m (saved_cursor s))
-  act sets call (programs.test a) m s = after (paid (act sets call a) m s) (put_back m (saved_cursor s)) (Signals false)
-  act sets call (programs.try a) m s = after (paid (act sets call a) m s) (Signals true) (put_back m (saved_cursor s))
-  act sets call (programs.do_ a) m s = after (paid (act sets call a) m s) (put_back m (saved_cursor s)) (put_back m (saved_cursor s))
-  act sets call (programs.fail a) m s = after (paid (act sets call a) m s) (Signals false) (Signals false)
-  act sets call (programs.repeat a) m s = turns (suc s.steps) (paid (act sets call a)) m s
-  act sets call (programs.loop n a) m s = given (value n m s) s (λ z. times (count_of z) (paid (act sets call a)) m s)
+  act classes call (programs.either a b) m s =
+      after (paid (act classes call a) m s) (Signals true) (λ f. then_on (put_back m (saved_cursor s) f) (paid (act classes call b) m))
+  act classes call (programs.both a b) m s =
+      after (paid (act classes call a) m s) (λ t. then_on (put_back m (saved_cursor s) t) (paid (act classes call b) m)) (Signals false)
+  act classes call (programs.not a) m s = after (paid (act classes call a) m s) (Signals false) (put_back m (saved_cursor s))
+  act classes call (programs.test a) m s = after (paid (act classes call a) m s) (put_back m (saved_cursor s)) (Signals false)
+  act classes call (programs.try a) m s = after (paid (act classes call a) m s) (Signals true) (put_back m (saved_cursor s))
+  act classes call (programs.do_ a) m s = after (paid (act classes call a) m s) (put_back m (saved_cursor s)) (put_back m (saved_cursor s))
+  act classes call (programs.fail a) m s = after (paid (act classes call a) m s) (Signals false) (Signals false)
+  act classes call (programs.repeat a) m s = turns (suc s.steps) (paid (act classes call a)) m s
+  act classes call (programs.loop n a) m s = given (value n m s) s (λ z. times (count_of z) (paid (act classes call a)) m s)
   -- the loop, and then `repeat`, which pays no step of its own
-  act sets call (programs.atleast n a) m s =
-      after (given (value n m s) s (λ z. times (count_of z) (paid (act sets call a)) m s))
-      (λ t. turns (suc t.steps) (paid (act sets call a)) m t) (Signals false)
-  act sets call (programs.goto a) m s = seeks (suc s.steps) false (paid (act sets call a)) m s
-  act sets call (programs.gopast a) m s = seeks (suc s.steps) true (paid (act sets call a)) m s
-  act sets call (programs.backwards a) m s =
-      then_on (backwards_from s) (λ b. after (paid (act sets call a) Backward b) backwards_end (Signals false))
+  act classes call (programs.atleast n a) m s =
+      after (given (value n m s) s (λ z. times (count_of z) (paid (act classes call a)) m s))
+      (λ t. turns (suc t.steps) (paid (act classes call a)) m t) (Signals false)
+  act classes call (programs.goto a) m s = seeks (suc s.steps) false (paid (act classes call a)) m s
+  act classes call (programs.gopast a) m s = seeks (suc s.steps) true (paid (act classes call a)) m s
+  act classes call (programs.backwards a) m s =
+      then_on (backwards_from s) (λ b. after (paid (act classes call a) Backward b) backwards_end (Signals false))
   -- `setlimit C1 for C2`
-  act sets call (programs.setlimit a b) m s =
-      after (paid (act sets call a) m s)
-      (λ t. then_on (put_back m (saved_cursor s) (limit_here m t)) (λ u. limited m (limits s) (paid (act sets call b) m u)))
+  act classes call (programs.setlimit a b) m s =
+      after (paid (act classes call a) m s)
+      (λ t. then_on (put_back m (saved_cursor s) (limit_here m t)) (λ u. limited m (limits s) (paid (act classes call b) m u)))
       (Signals false)
   -- a routine's name
-  act sets call (programs.call i) m s = call i m s
+  act classes call (programs.call i) m s = call i m s
   -- `substring`, or the search that an among makes itself
-  act sets call (programs.search k strings entries) m s = search_all call k entries strings m s
+  act classes call (programs.search k strings entries) m s = search_all call k entries strings m s
   -- an among: its search and its starter, if they are its own, and then the command of the group that is chosen
-  act sets call (programs.among k before bodies) m s =
-      after (in_turn sets call before m s) (λ t. chosen (choice k t) t (λ g. nth_does sets call bodies g m t)) (Signals false)
+  act classes call (programs.among k before bodies) m s =
+      after (in_turn classes call before m s) (λ t. chosen (choice k t) t (λ g. nth_does classes call bodies g m t)) (Signals false)
 
   -- in turn, up to the first f
-  pub in_turn : List (List ℕ) → (ℕ → Doing) → programs.Nodes → Mode → State → Ending
-  in_turn sets call programs.no_commands m s = Signals true s
-  in_turn sets call (programs.command c cs) m s = after (paid (act sets call c) m s) (in_turn sets call cs m) (Signals false)
+  pub in_turn : List (ℕ → Bool) → (ℕ → Doing) → programs.Nodes → Mode → State → Ending
+  in_turn classes call programs.no_commands m s = Signals true s
+  in_turn classes call (programs.command c cs) m s = after (paid (act classes call c) m s) (in_turn classes call cs m) (Signals false)
 
   -- the g-th of some commands; t where there is none
-  pub nth_does : List (List ℕ) → (ℕ → Doing) → programs.Nodes → ℕ → Mode → State → Ending
-  nth_does sets call programs.no_commands g m s = Signals true s
-  nth_does sets call (programs.command c cs) zero m s = paid (act sets call c) m s
-  nth_does sets call (programs.command c cs) (suc g) m s = nth_does sets call cs g m s
+  pub nth_does : List (ℕ → Bool) → (ℕ → Doing) → programs.Nodes → ℕ → Mode → State → Ending
+  nth_does classes call programs.no_commands g m s = Signals true s
+  nth_does classes call (programs.command c cs) zero m s = paid (act classes call c) m s
+  nth_does classes call (programs.command c cs) (suc g) m s = nth_does classes call cs g m s
 
 -- what a command does
-abbrev pub does : List (List ℕ) → (ℕ → Doing) → programs.Node → Doing
-does sets call c = paid (act sets call c)
+abbrev pub does : List (ℕ → Bool) → (ℕ → Doing) → programs.Node → Doing
+does classes call c = paid (act classes call c)
 
 -- a call of a routine with n amongs touches it and begins with nothing chosen
 abbrev pub enter : ℕ → ℕ → State → State

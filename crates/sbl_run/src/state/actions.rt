@@ -1,6 +1,7 @@
 //! The commands that hold no command.
 
-ghost use Rattle.std.specs.Prelude.{◌≡◌, List, ℕ, [], slice_index_or, IfOk};
+ghost use Rattle.std.specs.Prelude.{◌≡◌, List, ℕ, [], map, slice_index_or, IfOk};
+ghost use Rattle.sbl_program.specs.CharacterClasses.{members};
 ghost use Rattle.sbl_run.specs.Actions.{acts};
 ghost use Rattle.sbl_run.specs.Numbers.{given, value, natural};
 ghost use Rattle.sbl_run.specs.Moves.{hop, at_mark, to_mark};
@@ -10,26 +11,26 @@ ghost use Rattle.sbl_run.specs.Kept.{Follows};
 use crate::halt::Halt;
 use crate::state::State;
 use crate::state::numbers::natural;
-use sbl_program::{Action, Arithmetic, CharacterSet};
+use sbl_program::{Action, Arithmetic, CharacterClass};
 use sbl_tree::Mode;
 
 impl State {
     /// Does what a command without a command inside it does once its step is paid, and answers its signal. Refused where
     /// a number of it is out of range, where there is no slice for it, where the cursor would leave the text, and where
-    /// the text would grow too long. `groupings` holds the set of each grouping.
+    /// the text would grow too long. `groupings` holds the class of each grouping.
     pub fn act(
         &mut self,
-        groupings: &[CharacterSet],
+        groupings: &[CharacterClass],
         mode: Mode,
         action: &Action,
     ) -> Result<bool, Halt>
-        ensures follows { Follows result self.new (acts groupings.now (view_action action.now) mode self.old) }
+        ensures follows { Follows result self.new (acts (map members groupings.now) (view_action action.now) mode self.old) }
         ensures same_steps { IfOk result (λ _. self.new.steps ≡ self.old.steps) }
     {
         match action {
             Action::Match(term) => Ok(self.take_term(mode, term)),
-            Action::Grouping(number) => Ok(self.take_one(mode, groupings.get(*number), true)),
-            Action::NonGrouping(number) => Ok(self.take_one(mode, groupings.get(*number), false)),
+            Action::Grouping(number) => Ok(self.take_one(mode, groupings, *number, true)),
+            Action::NonGrouping(number) => Ok(self.take_one(mode, groupings, *number, false)),
             Action::Next => Ok(self.take_next(mode)),
             Action::Hop(expression) => self.hop_by(mode, expression),
             Action::ToLimit => {

@@ -1,16 +1,16 @@
 //! Moving and testing.
 
-ghost use Rattle.std.specs.Prelude.{◌≡◌, ◌≤◌, ◌<◌, ◌^◌, [], length, nat_eq, IsTrue, IfOk, slice_get};
+ghost use Rattle.std.specs.Prelude.{◌≡◌, ◌≤◌, ◌<◌, ◌^◌, [], length, map, nat_eq, IsTrue, IfOk, slice_get};
 ghost use Rattle.std.specs.List.{starts_with};
-ghost use Rattle.std.specs.Option.{option_copied, unwrap_or};
-ghost use Rattle.sbl_program.specs.Characters.{has};
+ghost use Rattle.sbl_program.specs.CharacterClasses.{members};
+ghost use Rattle.sbl_program.specs.Terms.{class_at};
 ghost use Rattle.sbl_tables.specs.Fitting.{read_as};
 ghost use Rattle.sbl_run.specs.State.{Signals, ahead, room, moved};
 ghost use Rattle.sbl_program.specs.ProgramOf.{view_text};
 ghost use Rattle.sbl_run.specs.Moves.{characters, match, next_is, one_of, next, hop, at_limit, set_mark, at_mark, to_mark, set_boolean, test_boolean};
 
 use crate::state::State;
-use sbl_program::{CharacterSet, StringTerm};
+use sbl_program::{CharacterClass, StringTerm, is_in_class};
 use sbl_tree::Mode;
 
 impl State {
@@ -63,13 +63,19 @@ impl State {
         }
     }
 
-    /// Moves over one character that is in the set, or over one that is not, as is wanted, and answers whether there is one.
-    /// Where there is no set, no character is in it.
-    pub fn take_one(&mut self, mode: Mode, set: Option<&CharacterSet>, wanted: bool) -> bool
-        ensures leads { one_of wanted (unwrap_or (option_copied set.entry) []) mode self.old ≡ Signals result self.new }
+    /// Moves over one character that is in the class of a number, or over one that is not, as is wanted, and answers whether
+    /// there is one. Where no class has the number, no character is in it.
+    pub fn take_one(
+        &mut self,
+        mode: Mode,
+        classes: &[CharacterClass],
+        number: usize,
+        wanted: bool,
+    ) -> bool
+        ensures leads { one_of wanted (class_at (map members classes.now) number) mode self.old ≡ Signals result self.new }
         ensures same_steps { self.new.steps ≡ self.old.steps }
     {
-        let found = is_wanted(self.next_character(mode), set, wanted);
+        let found = is_wanted(self.next_character(mode), classes, number, wanted);
         if found {
             self.advance(mode, 1);
         }
@@ -182,30 +188,24 @@ fn is_front(mode: Mode, part: &[char], string: &[char]) -> bool
     }
 }
 
-// Whether there is a character that is in the set, or is not, as is wanted.
+// Whether there is a character that is in the class of a number, or is not, as is wanted.
 #[inline(always)]
-fn is_wanted(character: Option<char>, set: Option<&CharacterSet>, wanted: bool) -> bool
-    ensures { result ≡ next_is wanted (unwrap_or (option_copied set.entry) []) character }
+fn is_wanted(
+    character: Option<char>,
+    classes: &[CharacterClass],
+    number: usize,
+    wanted: bool,
+) -> bool
+    ensures { result ≡ next_is wanted (class_at (map members classes.now) number) character }
 {
     match character {
         None => false,
         Some(c) => {
             if wanted {
-                is_in(set, c)
+                is_in_class(classes, number, c)
             } else {
-                !is_in(set, c)
+                !is_in_class(classes, number, c)
             }
         }
-    }
-}
-
-// Whether a character is in the set.
-#[inline(always)]
-fn is_in(set: Option<&CharacterSet>, c: char) -> bool
-    ensures { result ≡ has (unwrap_or (option_copied set.entry) []) c }
-{
-    match set {
-        None => false,
-        Some(set) => set.contains(c),
     }
 }
