@@ -4,3 +4,4 @@ pub mod OwnMade
 pub mod SoundItems
 pub mod Own
 pub mod NamesNumbered
+pub mod ClassAt
