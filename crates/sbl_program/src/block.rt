@@ -60,8 +60,8 @@ impl Block {
         Ok(())
     }
 
-    /// Gives a value to the flags of all places at which those of another block are set. Where the other block, or none, is
-    /// what comes out, that is shared. AllocError where a growth was refused.
+    /// Gives a value to the flags of all places at which those of another block are set. Where nothing changes the flags stay
+    /// shared, and where the other block is what comes out, that is. AllocError where a growth was refused.
     pub fn put_block(&mut self, alloc: Global, other: &Block, value: bool) -> Result<(), AllocError>
         ensures { (p : ℕ) → OnOk result (is_flagged self.new p ≡ (if is_flagged other.now p then value else is_flagged self.old p)) }
     {
@@ -69,7 +69,11 @@ impl Block {
             return Ok(());
         }
         if are_put(&other.flags, &self.flags, true) {
-            *self = if value { other.share()? } else { Block::new(alloc)? };
+            *self = if value {
+                other.share()?
+            } else {
+                Block::new(alloc)?
+            };
             return Ok(());
         }
         put_flags(Rc::make_mut(&mut self.flags)?, &other.flags, value)

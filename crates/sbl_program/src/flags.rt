@@ -44,10 +44,12 @@ pub fn put_flags(flags: &mut Vec<bool>, others: &[bool], value: bool) -> Result<
 pub fn are_put(flags: &[bool], others: &[bool], value: bool) -> bool
     ensures { result ≡ true → (p : ℕ) → is_flagged others.now p ≡ true → is_flagged flags.now p ≡ value }
 {
-    for (place, other) in others.iter().enumerate() {
-        if *other && flag_at(flags, place) != value {
-            return false;
-        }
+    if value && flags.len() < others.len() {
+        return false;
     }
-    true
+    let mut all = true;
+    for place in 0..flags.len().min(others.len()) {
+        all &= !others[place] | (flags[place] == value);
+    }
+    all
 }
