@@ -1,6 +1,6 @@
 -- What the items say, with numbers and by name.
 use Rattle.std.proofs.Common.{◌≡◌, ℕ, zero, suc, ◌+◌, Bool, true, false, List, [], ◌∷◌, ◌++◌, length, map, Option, Some, option_map, refl, sym, ap, ◌∙◌, append_assoc, append-nil, arith}
-use Rattle.std.specs.Prelude.{⊤, not, ◌&&◌, ◌||◌, nat_eq, nat_lt, if◌then◌else◌, slice_get}
+use Rattle.std.specs.Prelude.{⊤, not, ◌&&◌, ◌||◌, nat_lt, if◌then◌else◌, slice_get}
 use Rattle.std.specs.Str.{bytes_eq}
 use Rattle.std.proofs.lemmas.Bool.{lt-ltb, ltb-true, true≢false}
 use Rattle.sbl_tree.specs.Order.{ItemInMode}
