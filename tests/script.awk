@@ -4,6 +4,10 @@
 #   conditions  one among of many strings with conditions
 #   amongs      many small amongs, each paired with a substring
 #   groupings   groupings, each made from the one before
+#   chain       groupings, each the one before and one more character
+#   pairs       groupings, each the two before and one more character
+#   copies      a grouping of many characters, and groupings that are the same
+#   again       a grouping of many characters, taken away and added again and again
 #   characters  one grouping of many characters
 #   variables   integers, each declared, and given the value of the one before
 #   arithmetic  integers in expressions
@@ -33,6 +37,10 @@ function item(n, before) {
   if (kind == "conditions") return "'a" n "' r 'b" n "' r ( next )\n"
   if (kind == "amongs") return "routines ( a" n " ) define a" n " as ( [substring] next among ( 's' 'es' (delete) ) )\n"
   if (kind == "groupings") return "groupings ( g" n " ) define g" n " 'a'" (n > 1 ? " + g" before : "") "\n"
+  if (kind == "chain") return "groupings ( g" n " ) define g" n " " (n > 1 ? "g" before " + " : "") "'" character(131072 + n) "'\n"
+  if (kind == "pairs") return "groupings ( g" n " ) define g" n " " (n > 2 ? "g" before " + g" (before - 1) " + " : "") "'" character(131072 + n) "'\n"
+  if (kind == "copies") return "groupings ( g" n " ) define g" n " large\n"
+  if (kind == "again") return "- large + large\n"
   if (kind == "characters") return (n > 1 ? "+ " : "") "'" hundred(n) "'\n"
   if (kind == "variables") return "integers ( x" n " ) routines ( a" n " ) define a" n " as $x" n " = x" before "\n"
   if (kind == "arithmetic") return "integers ( x" n " ) routines ( a" n " ) define a" n " as $x" n " = ( x" n " + 7 ) * - x" before "\n"
@@ -45,6 +53,11 @@ BEGIN {
     end = ")\n"
   }
   if (kind == "characters") put("groupings ( g ) define g ")
+  if (kind == "copies" || kind == "again") {
+    put("groupings ( large ) define large ")
+    for (i = 1; size < most / 4; i++) put((i > 1 ? "+ " : "") "'" hundred(i) "'\n")
+  }
+  if (kind == "again") put("groupings ( again ) define again large\n")
   if (external) end = end "externals ( stem ) define stem as next\n"
   while (put(item(n + 1, n ? n : 1))) n++
   printf "%s", end

@@ -5,3 +5,4 @@ pub mod SoundItems
 pub mod Own
 pub mod NamesNumbered
 pub mod ClassAt
+pub mod Again

@@ -11,3 +11,4 @@ pub mod Laws
 -- what the functions inside the crate promise each other: nothing in these need be believed
 pub mod NumberedView
 pub mod NameList
+pub mod NamedAgain

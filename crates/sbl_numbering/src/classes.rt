@@ -1,12 +1,13 @@
 //! The classes of the groupings.
 
-ghost use Rattle.std.specs.Prelude.{◌≡◌, ◌∷◌, [], map, OnOk, IfOk};
+ghost use Rattle.std.specs.Prelude.{◌≡◌, ◌∷◌, [], true, map, OnOk, IfOk};
 ghost use Rattle.sbl_tree.specs.Order.{view_in_mode};
 ghost use Rattle.sbl_tree.specs.Tree.{term};
 ghost use Rattle.sbl_tree.specs.View.{view_argument, view_plain, view_term};
 ghost use Rattle.sbl_tree.specs.declared.tree.Additive.TheVariants.{Plus};
 ghost use Rattle.sbl_program.specs.CharacterClasses.{members};
 ghost use Rattle.sbl_program.specs.Terms.{behind, no_character};
+ghost use Rattle.sbl_numbering.specs.NamedAgain.{is_name_of, is_named_again};
 ghost use Rattle.sbl_numbering.specs.NumberedClasses as spec;
 ghost use Rattle.sbl_numbering.specs.NumberedView.{view_names};
 
@@ -14,6 +15,7 @@ use crate::names::Names;
 use sbl_program::CharacterClass;
 use sbl_tree::{Additive, Argument, ItemInMode, Plain, Term};
 use std::alloc::{AllocError, Global};
+use std::collections::BTreeMap;
 
 // A class with the characters of a term added or taken away.
 fn with_term(
@@ -35,7 +37,60 @@ fn with_term(
     }
 }
 
-// The class of a grouping.
+// Where each grouping is named last among some terms.
+fn last_places(
+    alloc: Global,
+    names: &Names,
+    terms: &Vec<Term>,
+) -> Result<BTreeMap<usize, usize>, AllocError> {
+    let mut last = BTreeMap::new(alloc);
+    for (place, term) in terms.iter().enumerate() {
+        if let Argument::Name(name) = &term.argument {
+            last.insert(names.groupings.number_of(name.as_str()), place)?;
+        }
+    }
+    Ok(last)
+}
+
+// Where the grouping that a term names is named last, if it is one of these.
+fn last_place(names: &Names, last: &BTreeMap<usize, usize>, argument: &Argument) -> usize {
+    match argument {
+        Argument::Literal(_) => 0,
+        Argument::Name(name) => last
+            .get(&names.groupings.number_of(name.as_str()))
+            .copied()
+            .unwrap_or(0),
+    }
+}
+
+// Whether a term names the grouping of a number.
+fn is_name_of(names: &Names, argument: &Argument, number: usize) -> bool
+    ensures { result ≡ is_name_of (view_names names.now) (view_argument argument.now) number }
+{
+    match argument {
+        Argument::Literal(_) => false,
+        Argument::Name(name) => names.groupings.number_of(name.as_str()) == number,
+    }
+}
+
+// Whether the grouping that a term names is named again by the term behind it that stands so far away.
+fn is_named_again(names: &Names, argument: &Argument, behind: &[Term], distance: usize) -> bool
+    ensures { result ≡ true → is_named_again (view_names names.now) (view_argument argument.now) (map view_term behind.now) ≡ true }
+{
+    match (argument, behind.get(distance)) {
+        (Argument::Name(name), Some(term)) => {
+            is_name_of(
+                names,
+                &term.argument,
+                names.groupings.number_of(name.as_str()),
+            )
+        }
+        _ => false,
+    }
+}
+
+// The class of a grouping. Of the terms that name one grouping only the last says anything: what each of them adds or takes
+// away is the same, and so the others are passed over.
 fn class_of(
     alloc: Global,
     names: &Names,
@@ -45,10 +100,15 @@ fn class_of(
 ) -> Result<CharacterClass, AllocError>
     ensures { IfOk result (λ class. members class ≡ spec.with_terms (view_names names.now) (map members classes.now) (term Plus (view_argument first.now) ∷ map view_term others.now.items) no_character) }
 {
+    let last = last_places(alloc, names, others)?;
     let none = CharacterClass::new(alloc);
     let mut class = with_term(alloc, names, classes, none, Additive::Plus, first)?;
-    for term in others {
-        class = with_term(alloc, names, classes, class, term.operator, &term.argument)?;
+    for (place, term) in others.iter().enumerate() {
+        let behind = &others[place + 1..];
+        let distance = last_place(names, &last, &term.argument).saturating_sub(place + 1);
+        if !is_named_again(names, &term.argument, behind, distance) {
+            class = with_term(alloc, names, classes, class, term.operator, &term.argument)?;
+        }
     }
     Ok(class)
 }

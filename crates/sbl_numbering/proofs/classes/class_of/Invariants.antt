@@ -5,5 +5,5 @@ use Rattle.sbl_numbering.specs.NumberedClasses.{with_terms}
 use Rattle.sbl_numbering.specs.NumberedView.{view_names}
 use Rattle.sbl_numbering.proofs.classes.class_of.Given as goal
 
-abbrev pub invariant-loop-term : goal.invariant-loop-term
-invariant-loop-term l = with_terms (view_names l.names) (map members l.classes) (map view_term (drop l.term-index l.others.items)) (members l.class) ≡ with_terms (view_names l.names) (map members l.classes) (map view_term l.others.items) (members l.initial.class)
+abbrev pub invariant-loop-place : goal.invariant-loop-place
+invariant-loop-place l = with_terms (view_names l.names) (map members l.classes) (map view_term (drop l.place l.others.items)) (members l.class) ≡ with_terms (view_names l.names) (map members l.classes) (map view_term l.others.items) (members l.initial.class)
