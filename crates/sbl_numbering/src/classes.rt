@@ -89,8 +89,8 @@ fn is_named_again(names: &Names, argument: &Argument, behind: &[Term], distance:
     }
 }
 
-// The class of a grouping. Of the terms that name one grouping only the last says anything: what each of them adds or takes
-// away is the same, and so the others are passed over.
+// The class of a grouping. Of the terms behind the first that name one grouping only the last says anything: what each of them
+// adds or takes away is the same, and so the others are passed over.
 fn class_of(
     alloc: Global,
     names: &Names,
@@ -133,7 +133,7 @@ fn add_class(
     Ok(())
 }
 
-/// The class of each grouping.
+/// The class of each grouping, in the order of their definitions. AllocError where a growth was refused.
 pub fn numbered_classes(
     alloc: Global,
     names: &Names,

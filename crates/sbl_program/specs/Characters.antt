@@ -1,4 +1,4 @@
--- Characters of a grouping.
+-- Characters in a list.
 use Rattle.std.specs.Prelude.{ℕ, Bool, List, nat_eq}
 use Rattle.std.specs.List.{list_any}
 

@@ -31,7 +31,7 @@ impl Block {
         Ok(Block { flags })
     }
 
-    /// One more owner of the same flags.
+    /// One more owner of the same flags. AllocError where there are as many as can be counted.
     pub fn share(&self) -> Result<Block, AllocError>
         ensures { IfOk result (λ b. b ≡ self.now) }
     {

@@ -12,9 +12,9 @@ use std::marker::Model;
 // How many codes a block has: the letters of one alphabet mostly lie in one block. Our own choice.
 const BLOCK: usize = 512;
 
-/// The characters of a grouping, in the order in which its terms give them. Whether a character is one of them takes no
-/// search through them: the block of 512 codes in which the first of them lies has flags, one byte each, and what lies in
-/// other blocks stands in an ordered set.
+/// Characters, in the order in which they were put in. Whether a character is one of them takes no search through them: the
+/// block of 512 codes in which the first of them lies has flags, one byte each, and what lies in other blocks stands in an
+/// ordered set.
 #[derive(Drop)]
 pub struct CharacterSet {
     characters: Vec<char>,

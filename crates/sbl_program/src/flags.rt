@@ -40,7 +40,8 @@ pub fn put_flags(flags: &mut Vec<bool>, others: &[bool], value: bool) -> Result<
     Ok(())
 }
 
-/// Whether the flags of all places at which others are set have a value.
+/// True only where the flags of all places at which others are set have a value. False says nothing: so it is also where flags past
+/// the end would have to be set.
 pub fn are_put(flags: &[bool], others: &[bool], value: bool) -> bool
     ensures { result ≡ true → (p : ℕ) → is_flagged others.now p ≡ true → is_flagged flags.now p ≡ value }
 {
