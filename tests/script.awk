@@ -5,6 +5,7 @@
 #   amongs      many small amongs, each paired with a substring
 #   groupings   groupings, each made from the one before
 #   chain       groupings, each the one before and one more character
+#   apart       the same, with characters that lie far apart
 #   pairs       groupings, each the two before and one more character
 #   copies      a grouping of many characters, and groupings that are the same
 #   again       a grouping of many characters, taken away and added again and again
@@ -38,6 +39,7 @@ function item(n, before) {
   if (kind == "amongs") return "routines ( a" n " ) define a" n " as ( [substring] next among ( 's' 'es' (delete) ) )\n"
   if (kind == "groupings") return "groupings ( g" n " ) define g" n " 'a'" (n > 1 ? " + g" before : "") "\n"
   if (kind == "chain") return "groupings ( g" n " ) define g" n " " (n > 1 ? "g" before " + " : "") "'" character(131072 + n) "'\n"
+  if (kind == "apart") return "groupings ( g" n " ) define g" n " " (n > 1 ? "g" before " + " : "") "'" character(65536 + n * 2053 % 1048576) "'\n"
   if (kind == "pairs") return "groupings ( g" n " ) define g" n " " (n > 2 ? "g" before " + g" (before - 1) " + " : "") "'" character(131072 + n) "'\n"
   if (kind == "copies") return "groupings ( g" n " ) define g" n " large\n"
   if (kind == "again") return "- large + large\n"

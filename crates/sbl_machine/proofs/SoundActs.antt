@@ -1,6 +1,6 @@
 -- The program of a tree does what the tree does.
 use Rattle.std.proofs.Common.{◌≡◌, ℕ, zero, suc, Bool, true, false, List, [], Option, Some, None, refl, ap, ◌∙◌}
-use Rattle.std.specs.Prelude.{ℤ, Ok, if◌then◌else◌, slice_get, slice_index_or, slice_set}
+use Rattle.std.specs.Prelude.{ℤ, Ok, if◌then◌else◌, slice_index_or, slice_set}
 use Rattle.std.proofs.Math.Path.{fun_ext}
 use Rattle.sbl_tree.specs.declared.tree.Assignment.{Assignment}
 use Rattle.sbl_tree.specs.declared.tree.Comparison.{Comparison}
@@ -23,9 +23,9 @@ use Rattle.sbl_tree.specs.Tree as trees
 use Rattle.sbl_tree.specs.Tree.{bracket, simple_, literal_, name_, non_, prefixed, counted, move_, named, splice_, setlimit_, assign_, compare_, compare_values_, among_, no_rows, row, no_others, joined, no_starter, starter, bare, group}
 use Rattle.sbl_numbering.specs.Ahead.{search_next, search_of, found_as, search_then, simple_by, made, made_rows, made_others, made_starter, made_groups}
 use Rattle.sbl_numbering.specs.Items.{Known, place_of, is_among}
-use Rattle.sbl_machine.specs.Meaning.{prefixed_does, counted_does, joined_does, limited_does, simple_does, moved_does, named_does, edited_does, assigned_does, compared_does, class_does, next_has, begins, worth}
+use Rattle.sbl_machine.specs.Meaning.{prefixed_does, counted_does, joined_does, limited_does, simple_does, moved_does, named_does, edited_does, assigned_does, compared_does, begins, worth}
 use Rattle.sbl_machine.specs.Meaning as meaning
-use Rattle.sbl_run.specs.Moves.{characters, one_of, next_is, match, set_mark, set_boolean, test_boolean}
+use Rattle.sbl_run.specs.Moves.{characters, one_of, match, set_mark, set_boolean, test_boolean}
 use Rattle.sbl_numbering.specs.Numbered.{name_alone, behind_prefix, behind_count, move, change_named, edit, change_of, relation_of}
 use Rattle.sbl_program.specs.Grouped.{join}
 use Rattle.sbl_numbering.specs.NumberedNames.{Names, is_one_of, number_of}
@@ -38,7 +38,7 @@ use Rattle.sbl_run.specs.Run as run
 use Rattle.sbl_run.specs.Run.{paid, in_turn, nth_does}
 use Rattle.sbl_run.specs.Search.{choice}
 use Rattle.sbl_run.specs.Slices.{keep}
-use Rattle.sbl_run.specs.State.{State, Ending, Signals, Stops, Doing, after, ahead, moved as further}
+use Rattle.sbl_run.specs.State.{State, Ending, Signals, Stops, Doing, after}
 use Rattle.sbl_numbering.proofs.SoundItems.{among_is, placed_by}
 use Rattle.sbl_machine.proofs.SoundParts.{Agree, text_same, worth_same, search_same, changed_same, holds_same}
 use Rattle.sbl_tree.specs.declared.mode.Mode.{Mode}
@@ -50,11 +50,6 @@ after_same (Stops fault s) = refl
 
 if_same : (a b : Bool) (x x' y y' : Ending) → a ≡ b → x ≡ x' → y ≡ y' → (if a then x else y) ≡ (if b then x' else y')
 if_same a b x x' y y' h k l = ap (λ c. if c then x else y) h ∙ ap (λ z. if b then z else y) k ∙ ap (λ z. if b then x' else z) l
-
-next_same : (w : Bool) (class : ℕ → Bool) (o : Option ℕ) → next_is w class o ≡ next_has w class o
-next_same w class None = refl
-next_same true class (Some c) = refl
-next_same false class (Some c) = refl
 
 module _ (ns : Names) (known : Known) (agree : Agree ns known) (classes : List (ℕ → Bool)) (class : List ℕ → ℕ → Bool) (call : ℕ → Doing) (call' : List ℕ → Doing)
     (same_class : (n : List ℕ) (c : ℕ) → class_at classes (number_of ns.groupings n) c ≡ class n c) (same_call : (n : List ℕ) → call (number_of ns.routines n) ≡ call' n) where
@@ -80,11 +75,8 @@ module _ (ns : Names) (known : Known) (agree : Agree ns known) (classes : List (
   one_kind : (xs ys : List (List ℕ)) (n : List ℕ) → xs ≡ ys → is_one_of xs n ≡ is_among ys n
   one_kind xs ys n e = among_is xs n ∙ ap (λ zs. is_among zs n) e
 
-  grouping_same : (w : Bool) (n : List ℕ) (m : Mode) (s : State) → one_of w (class_at classes (number_of ns.groupings n)) m s ≡ class_does w (class n) m s
-  grouping_same w n m s =
-      let k = class_at classes (number_of ns.groupings n) in
-      let o = slice_get (ahead m s) 0 in
-      ap (λ b. if b then Signals true (further m 1 s) else Signals false s) (next_same w k o ∙ ap (λ h. next_has w h o) (fun_ext (same_class n)))
+  grouping_same : (w : Bool) (n : List ℕ) (m : Mode) (s : State) → one_of w (class_at classes (number_of ns.groupings n)) m s ≡ one_of w (class n) m s
+  grouping_same w n m s = ap (λ c. one_of w c m s) (fun_ext (same_class n))
 
   name_same : (n : List ℕ) (m : Mode) (s : State) → run.act classes call (name_alone ns n) m s ≡ meaning.name_does known class call' n m s
   name_same n m s =

@@ -18,8 +18,8 @@ use Rattle.sbl_numbering.specs.Items.{Known, place_of}
 use Rattle.sbl_run.specs.declared.state.SavedCursor.{SavedCursor}
 use Rattle.sbl_run.specs.declared.state.Limits.{Limits}
 use Rattle.sbl_run.specs.declared.touch.Touch.{Touch}
-use Rattle.sbl_machine.specs.Meaning.{moved_does, assigned_does, altered, compared_does, next_has, class_does, named_does, edited_does}
-use Rattle.sbl_run.specs.Moves.{match, next, hop, at_mark, to_mark}
+use Rattle.sbl_machine.specs.Meaning.{moved_does, assigned_does, altered, compared_does, named_does, edited_does}
+use Rattle.sbl_run.specs.Moves.{match, next_is, one_of, next, hop, at_mark, to_mark}
 use Rattle.sbl_run.specs.Numbers.{Value, with_value, integer_at, natural, given}
 use Rattle.sbl_run.specs.Run.{found, limit_here, limit_back}
 use Rattle.sbl_run.specs.Slices.{is_slice, left_bracket, right_bracket, replace, keep, put_in, insert, attach}
@@ -76,8 +76,8 @@ moved_same Backward n s = refl
 pub match_same : (string : List ℕ) (m : Mode) (s : State) → Same s (match string m s)
 match_same string m s = either_same (starts_with nat_eq (ahead m s) (read_as m string)) s _ _ (moved_same m (length string) s) refl
 
-pub class_same : (wanted : Bool) (has : ℕ → Bool) (m : Mode) (s : State) → Same s (class_does wanted has m s)
-class_same wanted has m s = either_same (next_has wanted has (slice_get (ahead m s) 0)) s _ _ (moved_same m 1 s) refl
+pub class_same : (wanted : Bool) (has : ℕ → Bool) (m : Mode) (s : State) → Same s (one_of wanted has m s)
+class_same wanted has m s = either_same (next_is wanted has (slice_get (ahead m s) 0)) s _ _ (moved_same m 1 s) refl
 
 pub next_same : (m : Mode) (s : State) → Same s (next m s)
 next_same m s = either_same (nat_lt 0 (room m s)) s _ _ (moved_same m 1 s) refl

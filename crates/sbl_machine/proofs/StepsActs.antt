@@ -27,8 +27,8 @@ use Rattle.sbl_numbering.specs.Regions.{Among}
 use Rattle.sbl_run.specs.declared.fault.RunFault.TheVariants as faults
 use Rattle.sbl_run.specs.declared.state.Limits.{Limits}
 use Rattle.sbl_machine.specs.Meaning as meaning
-use Rattle.sbl_machine.specs.Meaning.{Offer, prefixed_does, counted_does, joined_does, limited_does, simple_does, moved_does, assigned_does, compared_does, next_has, class_does, named_does, edited_does, begins, takes, tried, search}
-use Rattle.sbl_run.specs.Moves.{match, hop, at_mark, to_mark}
+use Rattle.sbl_machine.specs.Meaning.{Offer, prefixed_does, counted_does, joined_does, limited_does, simple_does, moved_does, assigned_does, compared_does, named_does, edited_does, begins, takes, tried, search}
+use Rattle.sbl_run.specs.Moves.{match, next_is, one_of, hop, at_mark, to_mark}
 use Rattle.sbl_run.specs.Numbers.{Value, fitted, natural, with_value, integer_at}
 use Rattle.sbl_run.specs.Run.{turns, times, count_of, limits, limited, limit_here, limit_back, backwards_from, backwards_end, chosen, paid}
 use Rattle.sbl_run.specs.Search.{choose, touch_among}
@@ -72,9 +72,9 @@ pub match_go : (cs : List ℕ) (m : Mode) → Steady (match cs m)
 match_go cs Forward k n s l = if_goes k n (starts_with nat_eq (ahead Forward s) (read_as Forward cs)) _ _ _ _ (l, refl) (l, refl)
 match_go cs Backward k n s l = if_goes k n (starts_with nat_eq (ahead Backward s) (read_as Backward cs)) _ _ _ _ (l, refl) (l, refl)
 
-pub class_go : (wanted : Bool) (has : ℕ → Bool) (m : Mode) → Steady (class_does wanted has m)
-class_go wanted has Forward k n s l = if_goes k n (next_has wanted has (slice_get (ahead Forward s) 0)) _ _ _ _ (l, refl) (l, refl)
-class_go wanted has Backward k n s l = if_goes k n (next_has wanted has (slice_get (ahead Backward s) 0)) _ _ _ _ (l, refl) (l, refl)
+pub class_go : (wanted : Bool) (has : ℕ → Bool) (m : Mode) → Steady (one_of wanted has m)
+class_go wanted has Forward k n s l = if_goes k n (next_is wanted has (slice_get (ahead Forward s) 0)) _ _ _ _ (l, refl) (l, refl)
+class_go wanted has Backward k n s l = if_goes k n (next_is wanted has (slice_get (ahead Backward s) 0)) _ _ _ _ (l, refl) (l, refl)
 
 hop_go : (o : Option ℕ) (m : Mode) → Steady (hop o m)
 hop_go None m k n s l = (l, refl)

@@ -1,5 +1,5 @@
 -- What a run of a script does: each command of its trees by what its parts do.
-use Rattle.std.specs.Prelude.{ℕ, ℤ, pos, negsuc, zero, suc, ◌+◌, ◌+ℤ◌, ◌-ℤ◌, ◌*ℤ◌, neg_ℤ, Bool, true, false, not, List, [], ◌∷◌, ◌++◌, length, map, take, replicate, nat_eq, int_lt, if◌then◌else◌, Option, Some, None, Ok, slice_get, slice_index_or, slice_set}
+use Rattle.std.specs.Prelude.{ℕ, ℤ, pos, negsuc, zero, suc, ◌+◌, ◌+ℤ◌, ◌-ℤ◌, ◌*ℤ◌, neg_ℤ, Bool, true, false, not, List, [], ◌∷◌, ◌++◌, length, map, take, replicate, nat_eq, int_lt, if◌then◌else◌, Option, Some, None, Ok, slice_index_or, slice_set}
 use Rattle.std.specs.Ordering.{int_eq}
 use Rattle.sbl_tree.specs.Order.{in_order}
 use Rattle.sbl_tree.specs.declared.tree.Joiner.{Joiner}
@@ -32,13 +32,13 @@ use Rattle.std.specs.Cmp.Lexicographic.{pointwise}
 use Rattle.sbl_tree.specs.declared.tree.DeclarationKind.TheVariants as kinds
 use Rattle.sbl_tables.specs.Fitting.{read_as, ahead_at}
 use Rattle.sbl_numbering.specs.Items.{Known, Body, is_among, place_of, body_named, class_of, classes_behind, known_in}
-use Rattle.sbl_run.specs.Moves.{match, next, hop, at_limit, set_mark, at_mark, to_mark, set_boolean, test_boolean}
+use Rattle.sbl_run.specs.Moves.{match, one_of, next, hop, at_limit, set_mark, at_mark, to_mark, set_boolean, test_boolean}
 use Rattle.sbl_run.specs.Numbers.{Value, natural, given, fitted, divided, with_value, with_both, limit_value, integer_at}
 use Rattle.sbl_numbering.specs.Regions.{Among, among_at, behind, behind_rows, behind_others, behind_starter, first, first_rows, first_others, mode_behind, waits, waits_others}
 use Rattle.sbl_run.specs.Run.{at_end, turns, times, count_of, seeks, limits, limit_here, limit_back, backwards_from, backwards_end, chosen as go_on, enter, back_in, paid}
 use Rattle.sbl_run.specs.Search.{choose, choice, touch_among}
 use Rattle.sbl_run.specs.Slices.{left_bracket, right_bracket, replace, keep, insert, attach}
-use Rattle.sbl_run.specs.State.{State, Ending, Signals, Stops, Doing, ahead, bound_of, after, moved as further, then_on, saved_cursor, place_after, put_back, to_limit}
+use Rattle.sbl_run.specs.State.{State, Ending, Signals, Stops, Doing, bound_of, after, then_on, saved_cursor, place_after, put_back, to_limit}
 use Rattle.sbl_run.specs.declared.fault.RunFault.TheVariants.{Depth}
 use Rattle.sbl_script.specs.Parsed.{Source}
 use Rattle.sbl_tree.specs.declared.mode.Mode.{Mode}
@@ -114,15 +114,6 @@ is_so comparisons.AtLeast x y = not (int_lt x y)
 
 abbrev pub compared_does : Value → Comparison → Value → State → Ending
 compared_does v o w s = given v s (λ x. given w s (λ y. Signals (is_so o x y) s))
-
--- `non` is `false`: whether a character is ahead that is of a class or, as is wanted, not of it
-abbrev pub next_has : Bool → (ℕ → Bool) → Option ℕ → Bool
-next_has wanted has None = false
-next_has true has (Some c) = has c
-next_has false has (Some c) = not (has c)
-
-abbrev pub class_does : Bool → (ℕ → Bool) → Doing
-class_does wanted has m s = if next_has wanted has (slice_get (ahead m s) 0) then Signals true (further m 1 s) else Signals false s
 
 abbrev pub named_does : Known → Naming → List ℕ → Doing
 named_does ns namings.SetMark n m s = Signals true (set_mark (place_of (ns kinds.Integers) n) s)
@@ -256,7 +247,7 @@ module _ (ns : Known) (class : List ℕ → ℕ → Bool) (call : List ℕ → D
   name_does n m s =
       if is_among (ns kinds.Strings) n then match (slice_index_or s.strings (place_of (ns kinds.Strings) n) []) m s else
       if is_among (ns kinds.Booleans) n then test_boolean (place_of (ns kinds.Booleans) n) s else
-      if is_among (ns kinds.Groupings) n then class_does true (class n) m s else
+      if is_among (ns kinds.Groupings) n then one_of true (class n) m s else
       call n m s
 
   abbrev mutual
@@ -267,7 +258,7 @@ module _ (ns : Known) (class : List ℕ → ℕ → Bool) (call : List ℕ → D
     act r k w n (simple_ x) m s = simple_does (search_ahead n) x m s
     act r k w n (literal_ q) m s = match q.value m s
     act r k w n (name_ x) m s = name_does x m s
-    act r k w n (non_ b x) m s = class_does false (class x) m s
+    act r k w n (non_ b x) m s = one_of false (class x) m s
     act r k w n (prefixed x c) m s = prefixed_does x (paid (act (mode_behind x r) k w n c)) m s
     act r k w n (counted x e c) m s = counted_does x (worth ns e m s) (paid (act r k w n c)) m s
     act r k w n (move_ x e) m s = moved_does x (worth ns e m s) m s

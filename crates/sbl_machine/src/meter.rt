@@ -1,6 +1,6 @@
 //! A count of runs.
 
-ghost use Rattle.std.specs.Prelude.{◌≡◌, ◌+◌, ◌<◌, ◌^◌, IsTrue, false, ◌↔◌};
+ghost use Rattle.std.specs.Prelude.{◌≡◌, ◌+◌, ◌<◌, IsTrue, false, ◌↔◌};
 
 use sbl_run::State;
 use std::marker::Model;

@@ -1,8 +1,8 @@
 //! The amongs of a script in the order of their words `among`.
 
-ghost use Rattle.std.specs.Prelude.{◌≡◌, ◌∷◌, ◌++◌, [], ◌-◌, List, ℕ, map, length, OnOk, IfOk, string_bytes};
+ghost use Rattle.std.specs.Prelude.{◌≡◌, ◌∷◌, ◌++◌, [], ◌-◌, List, map, length, OnOk, IfOk};
 ghost use Rattle.sbl_tree.specs.Order.{view_in_mode};
-ghost use Rattle.sbl_tree.specs.View.{view_command, view_rows, view_row, view_others, view_among, view_starter, view_groups, view_entry, view_name, view_plain};
+ghost use Rattle.sbl_tree.specs.View.{view_command, view_rows, view_row, view_others, view_among, view_groups, view_entry, view_name, view_plain};
 ghost use Rattle.sbl_tree.specs.Tree as trees;
 ghost use Rattle.sbl_numbering.specs.NumberedAmongs as spec;
 ghost use Rattle.sbl_program.specs.FoundView.{texts};

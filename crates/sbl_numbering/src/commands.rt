@@ -1,7 +1,7 @@
 //! Commands, with numbers for names.
 
-ghost use Rattle.std.specs.Prelude.{◌≡◌, ◌∷◌, ◌++◌, [], List, map, length, OnOk, IfOk, string_bytes};
-ghost use Rattle.sbl_tree.specs.View.{view_argument, view_command, view_rows, view_row, view_others, view_among, view_starter, view_groups, view_expression, view_literal};
+ghost use Rattle.std.specs.Prelude.{◌≡◌, List, map, OnOk, IfOk};
+ghost use Rattle.sbl_tree.specs.View.{view_argument, view_command, view_rows, view_row, view_others, view_among, view_groups, view_expression, view_literal};
 ghost use Rattle.sbl_tree.specs.Tree as trees;
 ghost use Rattle.sbl_numbering.specs.Numbered as spec;
 ghost use Rattle.sbl_program.specs.FoundView.{strings_at};
@@ -10,7 +10,7 @@ ghost use Rattle.sbl_numbering.specs.NumberedNames.{number_of as spec_number_of}
 ghost use Rattle.sbl_numbering.specs.NumberedNumbers.{expression as spec_expression, text as spec_text};
 ghost use Rattle.sbl_program.specs.Program as programs;
 ghost use Rattle.sbl_program.specs.Grouped.{joined_all};
-ghost use Rattle.sbl_program.specs.ProgramOf.{view_action, view_joined, view_node, view_number, view_text, commands_of};
+ghost use Rattle.sbl_program.specs.ProgramOf.{view_action, view_joined, view_node, view_number, view_text};
 
 use crate::names::Names;
 use crate::numbers::{number_of_expression, text};

@@ -1,6 +1,6 @@
 //! Strings and arithmetic expressions, with numbers for names.
 
-ghost use Rattle.std.specs.Prelude.{◌≡◌, List, map, IfOk, string_bytes};
+ghost use Rattle.std.specs.Prelude.{◌≡◌, map, IfOk};
 ghost use Rattle.sbl_tree.specs.View.{view_argument, view_expression, view_product, view_factor, view_sums, view_scales};
 ghost use Rattle.sbl_numbering.specs.NumberedNumbers as spec;
 ghost use Rattle.sbl_numbering.specs.NumberedView.{view_names};

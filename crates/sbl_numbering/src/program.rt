@@ -1,6 +1,6 @@
 //! The program of a script.
 
-ghost use Rattle.std.specs.Prelude.{◌≡◌, [], false, map, length, OnOk, IfOk, string_bytes};
+ghost use Rattle.std.specs.Prelude.{◌≡◌, [], false, map, OnOk, IfOk, string_bytes};
 ghost use Rattle.sbl_tree.specs.Order.{in_order, view_in_mode};
 ghost use Rattle.sbl_tree.specs.View.{view_items, view_plain, view_row};
 ghost use Rattle.sbl_numbering.specs.Items.{known_in};

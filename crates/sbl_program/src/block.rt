@@ -1,74 +1,72 @@
-//! Blocks of flags that are shared.
+//! Blocks of bits that are shared.
 
-ghost use Rattle.std.specs.Prelude.{◌≡◌, [], ℕ, nat_eq, if◌then◌else◌, IfOk, OnOk};
-ghost use Rattle.sbl_program.specs.Flags.{is_flagged};
+ghost use Rattle.std.specs.Prelude.{◌≡◌, [], ℕ, nat_eq, if◌then◌else◌, IfOk, OnErr, OnOk};
+ghost use Rattle.sbl_program.specs.Bits.{is_set};
 
-use crate::flags::{are_put, flag_at, grow, put_flags};
+use crate::bits::{are_put, is_set, put_bit, put_bits};
 use std::alloc::{AllocError, Global};
 use std::marker::Model;
 use std::rc::Rc;
 
-/// Flags that several owners share until one of them changes its own.
+/// Bits that several owners share until one of them changes its own.
 #[derive(Drop)]
 pub struct Block {
-    flags: Rc<Vec<bool>>,
+    words: Rc<Vec<u64>>,
 }
 
 impl Model for Block {
-    ghost use Rattle.std.specs.Prelude.{Bool, List};
+    ghost use Rattle.std.specs.Prelude.{ℕ, List};
 
-    ghost Value = { List Bool };
+    ghost Value = { List ℕ };
 
-    ghost view = { λ b. b.flags.value.items };
+    ghost view = { λ b. b.words.value.items };
 }
 
 impl Block {
-    /// No flag is set. AllocError where the growth was refused.
+    /// No bit is set. AllocError where the growth was refused.
     pub fn new(alloc: Global) -> Result<Block, AllocError>
         ensures { IfOk result (λ b. b ≡ []) }
     {
-        let flags = Rc::new(alloc, Vec::new(alloc))?;
-        Ok(Block { flags })
+        let words = Rc::new(alloc, Vec::new(alloc))?;
+        Ok(Block { words })
     }
 
-    /// One more owner of the same flags. AllocError where there are as many as can be counted.
+    /// One more owner of the same bits. AllocError where there are as many as can be counted.
     pub fn share(&self) -> Result<Block, AllocError>
         ensures { IfOk result (λ b. b ≡ self.now) }
     {
-        let flags = self.flags.clone()?;
-        Ok(Block { flags })
+        let words = self.words.clone()?;
+        Ok(Block { words })
     }
 
-    /// Whether the flag of a place is set.
+    /// Whether the bit of a place is set.
     #[inline(always)]
     pub fn has(&self, place: usize) -> bool
-        ensures { result ≡ is_flagged self.now place }
+        ensures { result ≡ is_set self.now place }
     {
-        flag_at(&self.flags, place)
+        is_set(&self.words, place)
     }
 
-    /// Gives the flag of a place a value. AllocError where a growth was refused.
+    /// Gives the bit of a place a value. AllocError where a growth was refused; no bit is changed then.
     pub fn put(&mut self, place: usize, value: bool) -> Result<(), AllocError>
-        ensures { (p : ℕ) → OnOk result (is_flagged self.new p ≡ (if nat_eq place p then value else is_flagged self.old p)) }
+        ensures put { (p : ℕ) → OnOk result (is_set self.new p ≡ (if nat_eq place p then value else is_set self.old p)) }
+        ensures same { (p : ℕ) → OnErr result (is_set self.new p ≡ is_set self.old p) }
     {
         if self.has(place) == value {
             return Ok(());
         }
-        let flags = Rc::make_mut(&mut self.flags)?;
-        grow(flags, place)?;
-        flags[place] = value;
-        Ok(())
+        put_bit(Rc::make_mut(&mut self.words)?, place, value)
     }
 
-    /// Gives a value to the flags of all places at which those of another block are set. Where nothing changes the flags stay
+    /// Gives a value to the bits of all places at which those of another block are set. Where nothing changes the bits stay
     /// shared, and where the other block is what comes out, that is. AllocError where a growth was refused.
     pub fn put_block(&mut self, alloc: Global, other: &Block, value: bool) -> Result<(), AllocError>
-        ensures { (p : ℕ) → OnOk result (is_flagged self.new p ≡ (if is_flagged other.now p then value else is_flagged self.old p)) }
+        ensures { (p : ℕ) → OnOk result (is_set self.new p ≡ (if is_set other.now p then value else is_set self.old p)) }
     {
-        if are_put(&self.flags, &other.flags, value) {
+        if are_put(&self.words, &other.words, value) {
             return Ok(());
         }
-        if are_put(&other.flags, &self.flags, true) {
+        if are_put(&other.words, &self.words, true) {
             *self = if value {
                 other.share()?
             } else {
@@ -76,6 +74,6 @@ impl Block {
             };
             return Ok(());
         }
-        put_flags(Rc::make_mut(&mut self.flags)?, &other.flags, value)
+        put_bits(Rc::make_mut(&mut self.words)?, &other.words, value)
     }
 }

@@ -1,55 +1,86 @@
 //! Classes of characters that share what they have in common.
 
-ghost use Rattle.std.specs.Prelude.{◌≡◌, ◌≤◌, ℕ, Bool, [], length, map, nat_eq, ◌&&◌, if◌then◌else◌, ◌/◌, ◌%◌, IfOk, OnOk};
-ghost use Rattle.sbl_program.specs.CharacterClasses.{is_in_block, members};
+ghost use Rattle.std.specs.Prelude.{◌≡◌, ℕ, map, nat_eq, if◌then◌else◌, IfOk, OnErr, OnOk};
+ghost use Rattle.sbl_program.specs.CharacterClasses.{members};
 ghost use Rattle.sbl_program.specs.Characters.{has};
 ghost use Rattle.sbl_program.specs.Terms.{behind, class_at, is_added, no_character};
 
+use crate::bits::{is_set, put_bit, put_bits};
 use crate::block::Block;
+use crate::blocks::{is_in_blocks, put_blocks, put_place};
 use sbl_tree::Additive;
 use std::alloc::{AllocError, Global};
 use std::marker::Model;
 
-// How many codes a block has: few alphabets have more. Our own choice.
-const BLOCK: usize = 1024;
+// How many codes have their bits at hand: nearly all alphabets have all their letters there. Our own choice.
+const FIRST: usize = 4096;
 
-/// Some characters, as those of a grouping. Whether a character is one of them takes no search through them. They stand in
-/// blocks of 1,024 codes, a flag for each code; a class that is made of others shares with them the blocks in which it has
-/// the same characters, so that groupings built one from another take little memory and time.
+/// Some characters, as those of a grouping. Whether a character is one of them takes no search through them: each code has a bit,
+/// those from 4,096 on in blocks of so many. A class that is made of others shares with them the blocks in which it has the same
+/// characters, so that groupings built one from another take little memory and time.
 #[derive(Drop)]
 pub struct CharacterClass {
-    // What lies past the end is not there.
+    // The bits of the first codes. What lies past the end is not there, here and in the blocks.
+    first: Vec<u64>,
     blocks: Vec<Block>,
 }
 
 impl Model for CharacterClass {
-    ghost use Rattle.std.specs.Prelude.{Bool, List};
+    ghost use Rattle.std.specs.Prelude.{ℕ, List};
 
-    ghost Value = { List (List Bool) };
+    ghost Value = { List ℕ × List (List ℕ) };
 
-    ghost view = { λ class. class.blocks.items };
+    ghost view = { λ class. (class.first.items, class.blocks.items) };
 }
 
 impl CharacterClass {
     /// No character. It takes no memory.
+    #[tactic(auto, unfolding(crate::specs::CharacterClasses::members))]
     pub fn new(alloc: Global) -> CharacterClass
         ensures { members result ≡ no_character }
     {
         CharacterClass {
+            first: Vec::new(alloc),
             blocks: Vec::new(alloc),
         }
     }
 
     /// Whether a character is one of these.
     #[inline(always)]
+    #[tactic(auto, unfolding(crate::specs::CharacterClasses::members))]
     pub fn contains(&self, c: char) -> bool
         ensures { result ≡ members self.now c }
     {
         let code = c as usize;
-        match self.blocks.get(code / BLOCK) {
-            None => false,
-            Some(block) => block.has(code % BLOCK),
+        if code < FIRST {
+            is_set(&self.first, code)
+        } else {
+            is_in_blocks(&self.blocks, code)
         }
+    }
+
+    /// Adds a character, or takes it away. AllocError where a growth was refused; the characters are as they were then.
+    #[tactic(auto, unfolding(crate::specs::CharacterClasses::members))]
+    pub fn put(&mut self, alloc: Global, c: char, value: bool) -> Result<(), AllocError>
+        ensures put { (d : ℕ) → OnOk result (members self.new d ≡ (if nat_eq c d then value else members self.old d)) }
+        ensures same { (d : ℕ) → OnErr result (members self.new d ≡ members self.old d) }
+    {
+        let code = c as usize;
+        if code < FIRST {
+            put_bit(&mut self.first, code, value)
+        } else {
+            put_place(alloc, &mut self.blocks, code, value)
+        }
+    }
+
+    // Gives a value to whether some characters are of these.
+    fn put_all(&mut self, alloc: Global, characters: &[char], value: bool) -> Result<(), AllocError>
+        ensures { (d : ℕ) → OnOk result (members self.new d ≡ (if has characters.now d then value else members self.old d)) }
+    {
+        for c in characters {
+            self.put(alloc, *c, value)?;
+        }
+        Ok(())
     }
 
     /// These with some characters added or taken away. AllocError where a growth was refused.
@@ -61,12 +92,13 @@ impl CharacterClass {
     ) -> Result<CharacterClass, AllocError>
         ensures { IfOk result (λ class. members class ≡ behind operator (has characters.now) (members self)) }
     {
-        let CharacterClass { mut blocks } = self;
-        put_characters(alloc, &mut blocks, characters, is_added(operator))?;
-        Ok(CharacterClass { blocks })
+        let mut class = self;
+        class.put_all(alloc, characters, is_added(operator))?;
+        Ok(class)
     }
 
     /// These with those of another class added or taken away. AllocError where a growth was refused.
+    #[tactic(auto, unfolding(crate::specs::CharacterClasses::members))]
     pub fn with_class(
         self,
         alloc: Global,
@@ -75,9 +107,14 @@ impl CharacterClass {
     ) -> Result<CharacterClass, AllocError>
         ensures { IfOk result (λ class. members class ≡ behind operator (members other.now) (members self)) }
     {
-        let CharacterClass { mut blocks } = self;
-        put_blocks(alloc, &mut blocks, &other.blocks, is_added(operator))?;
-        Ok(CharacterClass { blocks })
+        let CharacterClass {
+            mut first,
+            mut blocks,
+        } = self;
+        let value = is_added(operator);
+        put_bits(&mut first, &other.first, value)?;
+        put_blocks(alloc, &mut blocks, &other.blocks, value)?;
+        Ok(CharacterClass { first, blocks })
     }
 }
 
@@ -100,63 +137,4 @@ fn is_added(operator: Additive) -> bool
         Additive::Plus => true,
         Additive::Minus => false,
     }
-}
-
-// Grows blocks until they are so many. None of them has a character then.
-fn grow_blocks(alloc: Global, blocks: &mut Vec<Block>, count: usize) -> Result<(), AllocError>
-    ensures same { (k p : ℕ) → is_in_block blocks.new.items k p ≡ is_in_block blocks.old.items k p }
-    ensures there { IfOk result (λ _. count ≤ length blocks.new.items) }
-{
-    if blocks.len() < count {
-        let none = Block::new(alloc)?;
-        while blocks.len() < count {
-            blocks.push(none.share()?)?;
-        }
-    }
-    Ok(())
-}
-
-// Gives the flag of a character a value.
-fn put_character(
-    alloc: Global,
-    blocks: &mut Vec<Block>,
-    c: char,
-    value: bool,
-) -> Result<(), AllocError>
-    ensures { (k p : ℕ) → OnOk result (is_in_block blocks.new.items k p ≡ (if nat_eq (c / 1024) k && nat_eq (c % 1024) p then value else is_in_block blocks.old.items k p)) }
-{
-    let code = c as usize;
-    grow_blocks(alloc, blocks, code / BLOCK + 1)?;
-    blocks[code / BLOCK].put(code % BLOCK, value)
-}
-
-// Gives the flags of some characters a value.
-fn put_characters(
-    alloc: Global,
-    blocks: &mut Vec<Block>,
-    characters: &[char],
-    value: bool,
-) -> Result<(), AllocError>
-    ensures { (d : ℕ) → OnOk result (members blocks.new.items d ≡ (if has characters.now d then value else members blocks.old.items d)) }
-{
-    for c in characters {
-        put_character(alloc, blocks, *c, value)?;
-    }
-    Ok(())
-}
-
-// Gives a value to the flags of all characters that other blocks have.
-fn put_blocks(
-    alloc: Global,
-    blocks: &mut Vec<Block>,
-    others: &[Block],
-    value: bool,
-) -> Result<(), AllocError>
-    ensures { (k p : ℕ) → OnOk result (is_in_block blocks.new.items k p ≡ (if is_in_block others.now k p then value else is_in_block blocks.old.items k p)) }
-{
-    grow_blocks(alloc, blocks, others.len())?;
-    for (number, other) in others.iter().enumerate() {
-        blocks[number].put_block(alloc, other, value)?;
-    }
-    Ok(())
 }

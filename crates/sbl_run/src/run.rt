@@ -1,6 +1,6 @@
 //! Runs commands over a state.
 
-ghost use Rattle.std.specs.Prelude.{◌≡◌, ◌+◌, ◌<◌, ◌≤◌, Bool, true, false, suc, map, IfOk, slice_get};
+ghost use Rattle.std.specs.Prelude.{◌≡◌, ◌+◌, ◌<◌, ◌≤◌, true, false, suc, map, IfOk, slice_get};
 ghost use Rattle.sbl_run.specs.Kept.{Follows, Tried};
 ghost use Rattle.sbl_run.specs.Numbers.{value, given};
 ghost use Rattle.sbl_program.specs.ProgramOf.{program_of, view_joined, view_node, view_nodes, view_number};

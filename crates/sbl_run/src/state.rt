@@ -1,6 +1,6 @@
 //! The state of a run: its text, the places in it, and its variables.
 
-ghost use Rattle.std.specs.Prelude.{◌≡◌, ℕ, ◌+◌, ◌-◌, ◌<◌, ◌≤◌, ◌^◌, [], length, map, replicate, IfOk};
+ghost use Rattle.std.specs.Prelude.{◌≡◌, ℕ, ◌+◌, ◌-◌, ◌<◌, ◌≤◌, [], length, map, replicate, IfOk};
 ghost use Rattle.sbl_tables.specs.Fitting.{read_as};
 ghost use Rattle.sbl_run.specs.State.{State as RunState, pay, at_place, at_difference, to_limit, saved_cursor, put_back, step_over, place_after, ahead, room};
 ghost use Rattle.sbl_program.specs.Listed.{Listed};

@@ -1,6 +1,7 @@
 //! A search over sorted strings, each with a link to the longest shorter one that matches wherever it does.
 
 ghost use Rattle.std.specs.Prelude.{map};
+ghost use Rattle.sbl_program.specs.CharacterClasses.{members};
 ghost use Rattle.sbl_tables.specs.Fitting.{read_all};
 ghost use Rattle.sbl_tables.specs.Beginnings.{AreBeginnings};
 ghost use Rattle.sbl_tables.specs.Linked.{IsLinked, texts_of};
@@ -29,7 +30,7 @@ pub struct LinkedTable {
     links: Vec<Option<usize>>,
     beginnings: Beginnings,
     ghost linked: { ∥ IsLinked (read_all direction (map (λ v. v.items) strings.items)) rows.items links.items ∥₁ },
-    ghost begun: { ∥ AreBeginnings beginnings.characters beginnings.empty (texts_of rows.items) ∥₁ },
+    ghost begun: { ∥ AreBeginnings (members beginnings.characters) beginnings.empty (texts_of rows.items) ∥₁ },
 }
 
 impl LinkedTable {

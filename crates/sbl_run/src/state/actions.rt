@@ -1,6 +1,6 @@
 //! The commands that hold no command.
 
-ghost use Rattle.std.specs.Prelude.{◌≡◌, List, ℕ, [], map, slice_index_or, IfOk};
+ghost use Rattle.std.specs.Prelude.{◌≡◌, map, IfOk};
 ghost use Rattle.sbl_program.specs.CharacterClasses.{members};
 ghost use Rattle.sbl_run.specs.Actions.{acts};
 ghost use Rattle.sbl_run.specs.Numbers.{given, value, natural};

@@ -1,6 +1,6 @@
 //! Moving and testing.
 
-ghost use Rattle.std.specs.Prelude.{◌≡◌, ◌≤◌, ◌<◌, ◌^◌, [], length, map, nat_eq, IsTrue, IfOk, slice_get};
+ghost use Rattle.std.specs.Prelude.{◌≡◌, ◌≤◌, ◌<◌, length, map, nat_eq, IsTrue, slice_get};
 ghost use Rattle.std.specs.List.{starts_with};
 ghost use Rattle.sbl_program.specs.CharacterClasses.{members};
 ghost use Rattle.sbl_program.specs.Terms.{class_at};

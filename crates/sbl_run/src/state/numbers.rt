@@ -1,6 +1,6 @@
 //! Arithmetic, and the integer variables.
 
-ghost use Rattle.std.specs.Prelude.{◌≡◌, ◌+◌, ◌≤◌, ◌<◌, ◌^◌, ℤ, pos, ◌+ℤ◌, ◌-ℤ◌, ◌*ℤ◌, neg_ℤ, length, map, Ok, SomeIff, FitsSigned, IfOk};
+ghost use Rattle.std.specs.Prelude.{◌≡◌, ◌<◌, ℤ, pos, length, map, Ok, SomeIff, FitsSigned, IfOk};
 ghost use Rattle.std.specs.Int.{w32};
 ghost use Rattle.sbl_run.specs.Numbers.{value, with_both, fitted, divided, limit_value, integer_at, changed, holds, assign, compare, natural};
 ghost use Rattle.sbl_program.specs.ProgramOf.{view_added, view_number, view_scaled};

@@ -6,7 +6,7 @@ ghost use Rattle.std.specs.Ordering.{is_gt, nat_cmp};
 ghost use Rattle.std.specs.Cmp.Lexicographic.{slice_cmp};
 ghost use Rattle.sbl_tables.specs.Best.{IsBest};
 ghost use Rattle.sbl_tables.specs.Fitting.{read_as};
-ghost use Rattle.sbl_tables.specs.Linked.{AreLinks, AreRows, GoDown, IsCommon, IsCount, IsLast, IsLinked, Rise, StandsAt, before, numbers_of, texts_of};
+ghost use Rattle.sbl_tables.specs.Linked.{AreLinks, GoDown, IsCommon, IsCount, IsLast, IsLinked, Rise, StandsAt, before, texts_of};
 
 use sbl_tree::Mode;
 use std::alloc::{AllocError, Global};

@@ -1,6 +1,7 @@
 use Rattle.std.proofs.Common.{◌≡◌, ◌+◌, false, None, length, ap, refl, rules, ◌∙◌}
 use Rattle.std.proofs.Props.{props}
 use mathlib.Core.Logic.{∥∥₁_elim}
+use Rattle.sbl_program.specs.CharacterClasses.{members}
 use Rattle.sbl_tables.specs.Fitting.{read_as, first, fitting}
 use Rattle.sbl_tables.specs.Beginnings.{may_begin}
 use Rattle.sbl_tables.specs.Linked.{numbers_of, texts_of}
@@ -20,9 +21,9 @@ returns-then-not-may_begin c =
     let t = c.args.self.now in
     let part = c.ahead-part.result.now in
     let x = read_as t.direction part in
-    let set = t.beginnings.characters in
+    let class = members t.beginnings.characters in
     let empty = t.beginnings.empty in
-    let no : may_begin set empty x ≡ false = search rules in
+    let no : may_begin class empty x ≡ false = search rules in
     ∥∥₁_elim t.linked (Prim.hlevel props)
     (λ linked. ∥∥₁_elim t.begun (Prim.hlevel props)
-    (λ begun. best_fits (strings_of t) x (length part + 1) None (length part) (read_length t.direction part) refl (none_fits set empty x (length part + 1) (strings_of t) (texts_of t.rows.items) (numbers_of t.rows.items) linked.rows_are begun no) ∙ ap (λ y. first (fitting (strings_of t) y)) c.ahead-part.ensures))
+    (λ begun. best_fits (strings_of t) x (length part + 1) None (length part) (read_length t.direction part) refl (none_fits class empty x (length part + 1) (strings_of t) (texts_of t.rows.items) (numbers_of t.rows.items) linked.rows_are begun no) ∙ ap (λ y. first (fitting (strings_of t) y)) c.ahead-part.ensures))

@@ -1,0 +1,15 @@
+-- Bits in words of 64, counted from the lowest of the first.
+use Rattle.std.specs.Prelude.{ℕ, Bool, List, ◌/◌, ◌%◌, nat_eq, slice_index_or}
+use Rattle.std.specs.Int.{bit_at}
+
+-- whether a word has a bit
+abbrev pub has_bit : ℕ → ℕ → Bool
+has_bit word bit = nat_eq (bit_at word bit) 1
+
+-- whether the word of a number has a bit; past the end none has
+abbrev pub word_has : List ℕ → ℕ → ℕ → Bool
+word_has words number bit = has_bit (slice_index_or words number 0) bit
+
+-- whether the bit of a place is set
+abbrev pub is_set : List ℕ → ℕ → Bool
+is_set words place = word_has words (place / 64) (place % 64)

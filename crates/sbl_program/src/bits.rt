@@ -1,0 +1,88 @@
+//! Bits in words of 64, one for each place; past the end none is set.
+
+ghost use Rattle.std.specs.Prelude.{◌≡◌, ◌≤◌, ℕ, true, length, nat_eq, if◌then◌else◌, ◌%◌, slice_index_or, IfOk, OnErr, OnOk};
+ghost use Rattle.sbl_program.specs.Bits.{has_bit, is_set};
+
+use std::alloc::AllocError;
+
+// The bits of a word.
+const WORD: usize = 64;
+
+/// Whether the bit of a place is set.
+#[inline(always)]
+pub fn is_set(words: &[u64], place: usize) -> bool
+    ensures { result ≡ is_set words.now place }
+{
+    match words.get(place / WORD) {
+        None => false,
+        Some(word) => (*word >> (place % WORD)) & 1 == 1,
+    }
+}
+
+// The word that has the bit of a place alone.
+fn bit_of(place: usize) -> u64
+    ensures { (bit : ℕ) → has_bit result bit ≡ nat_eq (place % 64) bit }
+{
+    1 << (place % WORD)
+}
+
+// Gives a value to all bits that another word has.
+fn put_word(word: u64, other: u64, value: bool) -> u64
+    ensures { (bit : ℕ) → has_bit result bit ≡ (if has_bit other bit then value else has_bit word bit) }
+{
+    if value {
+        word | other
+    } else {
+        word ^ (word & other)
+    }
+}
+
+// Grows words until they are so many. No bit is set by it, also where a growth was refused.
+fn grow(words: &mut Vec<u64>, count: usize) -> Result<(), AllocError>
+    ensures same { (number : ℕ) → slice_index_or words.new.items number 0 ≡ slice_index_or words.old.items number 0 }
+    ensures there { IfOk result (λ _. count ≤ length words.new.items) }
+{
+    while words.len() < count {
+        words.push(0)?;
+    }
+    Ok(())
+}
+
+/// Gives the bit of a place a value. AllocError where a growth was refused; no bit is changed then.
+pub fn put_bit(words: &mut Vec<u64>, place: usize, value: bool) -> Result<(), AllocError>
+    ensures put { (p : ℕ) → OnOk result (is_set words.new.items p ≡ (if nat_eq place p then value else is_set words.old.items p)) }
+    ensures same { (p : ℕ) → OnErr result (is_set words.new.items p ≡ is_set words.old.items p) }
+{
+    let number = place / WORD;
+    grow(words, number + 1)?;
+    words[number] = put_word(words[number], bit_of(place), value);
+    Ok(())
+}
+
+/// Gives a value to the bits of all places at which others are set. AllocError where a growth was refused.
+pub fn put_bits(words: &mut Vec<u64>, others: &[u64], value: bool) -> Result<(), AllocError>
+    ensures { (p : ℕ) → OnOk result (is_set words.new.items p ≡ (if is_set others.now p then value else is_set words.old.items p)) }
+{
+    if value {
+        grow(words, others.len())?;
+    }
+    for number in 0..words.len().min(others.len()) {
+        words[number] = put_word(words[number], others[number], value);
+    }
+    Ok(())
+}
+
+/// True only where the bits of all places at which others are set have a value. False says nothing: so it is also where bits past
+/// the end would have to be set.
+pub fn are_put(words: &[u64], others: &[u64], value: bool) -> bool
+    ensures { result ≡ true → (p : ℕ) → is_set others.now p ≡ true → is_set words.now p ≡ value }
+{
+    if value && words.len() < others.len() {
+        return false;
+    }
+    let mut all = true;
+    for number in 0..words.len().min(others.len()) {
+        all &= put_word(words[number], others[number], value) == words[number];
+    }
+    all
+}

@@ -1,0 +1,73 @@
+//! Blocks of bits in a row.
+
+ghost use Rattle.std.specs.Prelude.{◌≡◌, ◌≤◌, ℕ, length, nat_eq, if◌then◌else◌, IfOk, OnErr, OnOk};
+ghost use Rattle.sbl_program.specs.CharacterClasses.{has_place, is_in_block};
+
+use crate::block::Block;
+use std::alloc::{AllocError, Global};
+
+// How many places a block has. Our own choice.
+const BLOCK: usize = 4096;
+
+/// Whether the bit of a place is set. Past the end none is.
+pub fn is_in_blocks(blocks: &[Block], place: usize) -> bool
+    ensures { result ≡ has_place blocks.now place }
+{
+    match blocks.get(place / BLOCK) {
+        None => false,
+        Some(block) => block.has(place % BLOCK),
+    }
+}
+
+// Grows blocks until they are so many. None of them has a bit then.
+fn grow(alloc: Global, blocks: &mut Vec<Block>, count: usize) -> Result<(), AllocError>
+    ensures same { (k p : ℕ) → is_in_block blocks.new.items k p ≡ is_in_block blocks.old.items k p }
+    ensures there { IfOk result (λ _. count ≤ length blocks.new.items) }
+{
+    if blocks.len() < count {
+        let none = Block::new(alloc)?;
+        blocks.reserve_exact(count - blocks.len())?;
+        while blocks.len() < count {
+            blocks.push(none.share()?)?;
+        }
+    }
+    Ok(())
+}
+
+/// Gives the bit of a place a value. AllocError where a growth was refused; no bit is changed then.
+pub fn put_place(
+    alloc: Global,
+    blocks: &mut Vec<Block>,
+    place: usize,
+    value: bool,
+) -> Result<(), AllocError>
+    ensures put { (p : ℕ) → OnOk result (has_place blocks.new.items p ≡ (if nat_eq place p then value else has_place blocks.old.items p)) }
+    ensures same { (p : ℕ) → OnErr result (has_place blocks.new.items p ≡ has_place blocks.old.items p) }
+{
+    let number = place / BLOCK;
+    if value {
+        grow(alloc, blocks, number + 1)?;
+    }
+    if number < blocks.len() {
+        blocks[number].put(place % BLOCK, value)?;
+    }
+    Ok(())
+}
+
+/// Gives a value to the bits of all places at which those of other blocks are set. AllocError where a growth was refused.
+pub fn put_blocks(
+    alloc: Global,
+    blocks: &mut Vec<Block>,
+    others: &[Block],
+    value: bool,
+) -> Result<(), AllocError>
+    ensures { (p : ℕ) → OnOk result (has_place blocks.new.items p ≡ (if has_place others.now p then value else has_place blocks.old.items p)) }
+{
+    if value {
+        grow(alloc, blocks, others.len())?;
+    }
+    for number in 0..blocks.len().min(others.len()) {
+        blocks[number].put_block(alloc, &others[number], value)?;
+    }
+    Ok(())
+}
