@@ -13,5 +13,5 @@ returns-in-Some c =
     let classes = c.args.classes.now in
     let found = c.in-Some.ensures.lookup in
     let there : slice_get classes k ≡ Some c.in-Some.other.now = slice_get_read classes (length classes) k c.in-Some.other.now refl (ltb-true k (length classes) (sym found.0)) found.1 in
-    let same : members c.in-Some.other.now ≡ class_at (map members classes) k = class_there classes k c.in-Some.other.now there in
+    let same : members c.in-Some.other.now ≡ class_at (map members classes) k = class_there members classes k c.in-Some.other.now there in
     search (rules, same)
