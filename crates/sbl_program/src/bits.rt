@@ -42,8 +42,11 @@ fn grow(words: &mut Vec<u64>, count: usize) -> Result<(), AllocError>
     ensures same { (number : ℕ) → slice_index_or words.new.items number 0 ≡ slice_index_or words.old.items number 0 }
     ensures there { IfOk result (λ _. count ≤ length words.new.items) }
 {
-    while words.len() < count {
-        words.push(0)?;
+    if words.len() < count {
+        words.reserve_exact(count - words.len())?;
+        while words.len() < count {
+            words.push(0)?;
+        }
     }
     Ok(())
 }
