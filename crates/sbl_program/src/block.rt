@@ -58,8 +58,8 @@ impl Block {
         put_bit(Rc::make_mut(&mut self.words)?, place, value)
     }
 
-    /// Gives a value to the bits of all places at which those of another block are set. Where nothing changes the bits stay
-    /// shared, and where the other block is what comes out, that is. AllocError where a growth was refused.
+    /// Gives a value to the bits of all places at which those of another block are set. Where it is seen that nothing changes
+    /// the bits stay shared, and where it is seen that the other block comes out, that is. AllocError where a growth was refused.
     pub fn put_block(&mut self, alloc: Global, other: &Block, value: bool) -> Result<(), AllocError>
         ensures { (p : ℕ) → OnOk result (is_set self.new p ≡ (if is_set other.now p then value else is_set self.old p)) }
     {

@@ -19,7 +19,7 @@ pub fn is_in_blocks(blocks: &[Block], place: usize) -> bool
     }
 }
 
-// Grows blocks until they are so many. None of them has a bit then.
+// Grows blocks until they are so many. No bit is set by it, also where a growth was refused.
 fn grow(alloc: Global, blocks: &mut Vec<Block>, count: usize) -> Result<(), AllocError>
     ensures same { (k p : ℕ) → is_in_block blocks.new.items k p ≡ is_in_block blocks.old.items k p }
     ensures there { IfOk result (λ _. count ≤ length blocks.new.items) }
