@@ -1,6 +1,6 @@
 //! Bits in words of 64, one for each place; past the end none is set.
 
-ghost use Rattle.std.specs.Prelude.{◌≡◌, ◌≤◌, ℕ, true, length, nat_eq, if◌then◌else◌, ◌%◌, slice_index_or, IfOk, OnErr, OnOk};
+ghost use Rattle.std.specs.Prelude.{◌≡◌, ◌≤◌, ◌<◌, ℕ, true, length, nat_eq, if◌then◌else◌, ◌%◌, slice_index_or, IfOk, OnErr, OnOk};
 ghost use Rattle.sbl_program.specs.Bits.{has_bit, is_set};
 
 use std::alloc::AllocError;
@@ -51,20 +51,25 @@ fn grow(words: &mut Vec<u64>, count: usize) -> Result<(), AllocError>
     Ok(())
 }
 
-/// Gives the bit of a place a value. AllocError where a growth was refused; no bit is changed then.
+/// Gives the bit of a place a value. Where it has it no memory is taken. AllocError where a growth was refused; no bit is changed
+/// then.
 pub fn put_bit(words: &mut Vec<u64>, place: usize, value: bool) -> Result<(), AllocError>
     ensures put { (p : ℕ) → OnOk result (is_set words.new.items p ≡ (if nat_eq place p then value else is_set words.old.items p)) }
     ensures same { (p : ℕ) → OnErr result (is_set words.new.items p ≡ is_set words.old.items p) }
 {
+    if is_set(words, place) == value {
+        return Ok(());
+    }
     let number = place / WORD;
     grow(words, number + 1)?;
     words[number] = put_word(words[number], bit_of(place), value);
     Ok(())
 }
 
-/// Gives a value to the bits of all places at which others are set. AllocError where a growth was refused.
+/// Gives a value to the bits of all places at which others are set. AllocError where a growth was refused; no bit is changed then.
 pub fn put_bits(words: &mut Vec<u64>, others: &[u64], value: bool) -> Result<(), AllocError>
-    ensures { (p : ℕ) → OnOk result (is_set words.new.items p ≡ (if is_set others.now p then value else is_set words.old.items p)) }
+    ensures put { (p : ℕ) → OnOk result (is_set words.new.items p ≡ (if is_set others.now p then value else is_set words.old.items p)) }
+    ensures same { (p : ℕ) → OnErr result (is_set words.new.items p ≡ is_set words.old.items p) }
 {
     if value {
         grow(words, others.len())?;
@@ -75,17 +80,32 @@ pub fn put_bits(words: &mut Vec<u64>, others: &[u64], value: bool) -> Result<(),
     Ok(())
 }
 
-/// True only where the bits of all places at which others are set have a value. False says nothing: so it is also where bits past
-/// the end would have to be set.
-pub fn are_put(words: &[u64], others: &[u64], value: bool) -> bool
-    ensures { result ≡ true → (p : ℕ) → is_set others.now p ≡ true → is_set words.now p ≡ value }
+// The word of a number. Past the end it has no bit.
+fn word_at(words: &[u64], number: usize) -> u64
+    ensures { result ≡ slice_index_or words.now number 0 }
 {
-    if value && words.len() < others.len() {
-        return false;
+    match words.get(number) {
+        None => 0,
+        Some(word) => *word,
     }
+}
+
+// Whether all bits that another word has have a value.
+fn has_all(word: u64, other: u64, value: bool) -> bool
+    ensures only { result ≡ true → (bit : ℕ) → has_bit other bit ≡ true → has_bit word bit ≡ value }
+    ensures all { ((bit : ℕ) → bit < 64 → has_bit other bit ≡ true → has_bit word bit ≡ value) → result ≡ true }
+{
+    put_word(word, other, value) == word
+}
+
+/// Whether the bits of all places at which others are set have a value.
+pub fn are_put(words: &[u64], others: &[u64], value: bool) -> bool
+    ensures only { result ≡ true → (p : ℕ) → is_set others.now p ≡ true → is_set words.now p ≡ value }
+    ensures all { ((p : ℕ) → is_set others.now p ≡ true → is_set words.now p ≡ value) → result ≡ true }
+{
     let mut all = true;
-    for number in 0..words.len().min(others.len()) {
-        all &= put_word(words[number], others[number], value) == words[number];
+    for number in 0..others.len() {
+        all &= has_all(word_at(words, number), others[number], value);
     }
     all
 }

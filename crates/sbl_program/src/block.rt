@@ -58,10 +58,12 @@ impl Block {
         put_bit(Rc::make_mut(&mut self.words)?, place, value)
     }
 
-    /// Gives a value to the bits of all places at which those of another block are set. Where it is seen that nothing changes
-    /// the bits stay shared, and where it is seen that the other block comes out, that is. AllocError where a growth was refused.
+    /// Gives a value to the bits of all places at which those of another block are set. Where nothing changes the bits stay
+    /// shared, and where the other block comes out that one is shared. AllocError where a growth was refused; no bit is changed
+    /// then.
     pub fn put_block(&mut self, alloc: Global, other: &Block, value: bool) -> Result<(), AllocError>
-        ensures { (p : ℕ) → OnOk result (is_set self.new p ≡ (if is_set other.now p then value else is_set self.old p)) }
+        ensures put { (p : ℕ) → OnOk result (is_set self.new p ≡ (if is_set other.now p then value else is_set self.old p)) }
+        ensures same { (p : ℕ) → OnErr result (is_set self.new p ≡ is_set self.old p) }
     {
         if are_put(&self.words, &other.words, value) {
             return Ok(());

@@ -54,7 +54,8 @@ pub fn put_place(
     Ok(())
 }
 
-/// Gives a value to the bits of all places at which those of other blocks are set. AllocError where a growth was refused.
+/// Gives a value to the bits of all places at which those of other blocks are set. AllocError where a growth was refused; some of the
+/// bits may have their value then.
 pub fn put_blocks(
     alloc: Global,
     blocks: &mut Vec<Block>,
