@@ -1,6 +1,7 @@
 pub mod Words
 pub mod Refusals
 pub mod Opening
+pub mod Taking
 pub mod PairFacts
 pub mod Sorting
 pub mod OrderFacts

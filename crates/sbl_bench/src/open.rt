@@ -1,17 +1,19 @@
 //! Opening a bench.
 
-ghost use Rattle.std.specs.Prelude.{◌≡◌, ◌≤◌, ◌<◌, ◌+◌, ◌^◌, map, length, None, OnOk, IfErr};
+ghost use Rattle.std.specs.Prelude.{◌≡◌, ◌≤◌, ◌<◌, ◌+◌, ◌^◌, ◌&&◌, not, map, length, None, OnOk, IfErr};
 ghost use Rattle.sbl_script.specs.Parsed.{Source};
 ghost use Rattle.sbl_machine.specs.MachineOf.{IsLinkedMachineOf};
-ghost use Rattle.sbl_bench.specs.Vocabulary as vocabulary;
-ghost use Rattle.sbl_bench.specs.Vocabulary.{with_word};
-ghost use Rattle.sbl_bench.specs.Contents.{word_fault, IsFaultOrMemory};
+ghost use Rattle.indexmap.specs.declared.map.entry.Entry.TheVariants.{Occupied};
+ghost use Rattle.indexmap.specs.Entry.{entry_map};
+ghost use Rattle.sbl_bench.specs.Vocabulary.{is_word, with_word};
+ghost use Rattle.sbl_bench.specs.Contents.{is_full, word_fault, IsFaultOrMemory};
 ghost use Rattle.sbl_bench.specs.Kept.{words_in, IsKept};
 
 use crate::bench::{Bench, MAX_WORD_LENGTH, MAX_WORDS};
 use crate::fault::EditFault;
-use crate::traces::{has_word, put_last};
+use crate::traces::{MAX_STEPS, has_word};
 use indexmap::IndexMap;
+use indexmap::map::{Entry, OccupiedEntry};
 use sbl_machine::{Machine, Meter, Table, Traced};
 use sbl_script::Script;
 use std::alloc::Global;
@@ -45,15 +47,15 @@ impl Bench {
     }
 }
 
-/// Whether the word is empty or one of those that are kept. Takes no memory.
-fn is_skipped(traces: &IndexMap<Vec<char>, Traced>, word: &[char]) -> bool
-    ensures { result ≡ vocabulary.is_skipped word.now (words_in traces.now.entries) }
+// Whether the vocabulary is full and the word is not in it.
+fn has_no_room(traces: &IndexMap<Vec<char>, Traced>, word: &[char]) -> bool
+    ensures { result ≡ (is_full (words_in traces.now.entries) && not (is_word word.now (words_in traces.now.entries))) }
 {
-    word.is_empty() || has_word(traces, word)
+    traces.len() >= MAX_WORDS && !has_word(traces, word)
 }
 
-/// Takes one word of the list that a bench is opened over: skips it, or runs it and puts it last. It answers WordTooLong, Full
-/// or OutOfMemory as `Bench::open` does.
+/// Takes one word of the list that a bench is opened over: skips it where it is empty or one of those that are kept, or runs it and
+/// puts it last. It answers WordTooLong, Full or OutOfMemory as `Bench::open` does. A word is looked for and put in by one hash.
 fn take_word(
     alloc: Global,
     machine: &Machine<Table>,
@@ -72,11 +74,30 @@ fn take_word(
     if word.len() > MAX_WORD_LENGTH {
         return Err(EditFault::WordTooLong);
     }
-    if is_skipped(traces, word.as_slice()) {
+    if word.is_empty() {
         return Ok(());
     }
-    if traces.len() >= MAX_WORDS {
+    if has_no_room(traces, word.as_slice()) {
         return Err(EditFault::Full);
     }
-    put_last(alloc, machine, meter, traces, word)
+    let Ok(entry) = traces.entry(word) else {
+        return Err(EditFault::OutOfMemory);
+    };
+    match entry {
+        Entry::Occupied(entry) => leave(entry),
+        Entry::Vacant(entry) => {
+            let traced = machine.trace(alloc, meter, entry.key().as_slice(), MAX_STEPS)?;
+            entry.insert(traced);
+        }
+    }
+    Ok(())
+}
+
+// Leaves a word's entry, and the others, as they are. (The map says so of an entry that changes places with itself, not of one that
+// is dropped.)
+fn leave(entry: OccupiedEntry<'_, Vec<char>, Traced>)
+    ensures { entry.exit.0.now.entries ≡ (entry_map (Occupied entry.entry)).entries }
+{
+    let index = entry.index();
+    entry.swap_indices(index);
 }
