@@ -1,4 +1,4 @@
--- A word that is taken, as the entries of the words that are kept.
+-- What taking a word does to the entries that are kept.
 use Rattle.std.proofs.Common.{◌≡◌, ◌∙◌, ◌++◌, ℕ, Bool, true, false, List, [], ◌∷◌, length, refl, sym, ap, subst, nat_eq, None, HashMap, Vec, Global, BuildHasherDefault, FoldHasher}
 use Rattle.std.specs.Str.{bytes_eq}
 use Rattle.indexmap.specs.IndexMap.{get, insert_entry}
@@ -13,7 +13,7 @@ Traces = HashMap (Vec ℕ Global) Traced (BuildHasherDefault FoldHasher)
 abbrev same_word : Vec ℕ Global → Vec ℕ Global → Bool
 same_word x y = bytes_eq x.items y.items
 
--- what holds of the entries that a borrowed entry leaves holds of the map's, once the borrow has come home
+-- what holds of the entries that an entry of the map leaves behind holds of the map's, once its borrow has ended
 pub comes_home : {G : Type 0} {g h : G} {left : Traces} (P : List KeptWord → Type 0) (es : List KeptWord) → g ≡ h → left.entries ≡ es → P es
     → (given : (m : Traces) × (g ≡ h → m ≡ left)) → P given.0.entries
 comes_home P es same stays p given = subst (λ (m : Traces). P m.entries) (sym (given.1 same)) (subst P (sym stays) p)

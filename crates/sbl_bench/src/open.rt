@@ -55,7 +55,8 @@ fn has_no_room(traces: &IndexMap<Vec<char>, Traced>, word: &[char]) -> bool
 }
 
 /// Takes one word of the list that a bench is opened over: skips it where it is empty or one of those that are kept, or runs it and
-/// puts it last. It answers WordTooLong, Full or OutOfMemory as `Bench::open` does. A word is looked for and put in by one hash.
+/// puts it last. It answers WordTooLong, Full or OutOfMemory as `Bench::open` does. One hash serves to look a
+/// word up and to put it in.
 fn take_word(
     alloc: Global,
     machine: &Machine<Table>,
@@ -93,8 +94,8 @@ fn take_word(
     Ok(())
 }
 
-// Leaves a word's entry, and the others, as they are. (The map says so of an entry that changes places with itself, not of one that
-// is dropped.)
+// Leaves a word's entry, and the others, as they are. (The map promises this of an entry that is swapped with itself, but nothing of
+// one that is dropped.)
 fn leave(entry: OccupiedEntry<'_, Vec<char>, Traced>)
     ensures { entry.exit.0.now.entries ≡ (entry_map (Occupied entry.entry)).entries }
 {

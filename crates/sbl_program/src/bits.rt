@@ -51,8 +51,8 @@ fn grow(words: &mut Vec<u64>, count: usize) -> Result<(), AllocError>
     Ok(())
 }
 
-/// Gives the bit of a place a value. Where it has it no memory is taken. AllocError where a growth was refused; no bit is changed
-/// then.
+/// Gives the bit of a place a value. Where it has that value already no memory is taken. AllocError where a growth was refused; no
+/// bit is changed then.
 pub fn put_bit(words: &mut Vec<u64>, place: usize, value: bool) -> Result<(), AllocError>
     ensures put { (p : ℕ) → OnOk result (is_set words.new.items p ≡ (if nat_eq place p then value else is_set words.old.items p)) }
     ensures same { (p : ℕ) → OnErr result (is_set words.new.items p ≡ is_set words.old.items p) }
@@ -90,7 +90,7 @@ fn word_at(words: &[u64], number: usize) -> u64
     }
 }
 
-// Whether all bits that another word has have a value.
+// Whether each bit that is set in another word has this value here.
 fn has_all(word: u64, other: u64, value: bool) -> bool
     ensures only { result ≡ true → (bit : ℕ) → has_bit other bit ≡ true → has_bit word bit ≡ value }
     ensures all { ((bit : ℕ) → bit < 64 → has_bit other bit ≡ true → has_bit word bit ≡ value) → result ≡ true }
@@ -98,7 +98,7 @@ fn has_all(word: u64, other: u64, value: bool) -> bool
     put_word(word, other, value) == word
 }
 
-/// Whether the bits of all places at which others are set have a value.
+/// Whether the bits of all places at which others are set have this value.
 pub fn are_put(words: &[u64], others: &[u64], value: bool) -> bool
     ensures only { result ≡ true → (p : ℕ) → is_set others.now p ≡ true → is_set words.now p ≡ value }
     ensures all { ((p : ℕ) → is_set others.now p ≡ true → is_set words.now p ≡ value) → result ≡ true }

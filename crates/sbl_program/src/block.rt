@@ -59,8 +59,8 @@ impl Block {
     }
 
     /// Gives a value to the bits of all places at which those of another block are set. Where nothing changes the bits stay
-    /// shared, and where the other block comes out that one is shared. AllocError where a growth was refused; no bit is changed
-    /// then.
+    /// shared; else, where the bits of the other block come out, those are shared. AllocError where a growth was refused; no bit
+    /// is changed then.
     pub fn put_block(&mut self, alloc: Global, other: &Block, value: bool) -> Result<(), AllocError>
         ensures put { (p : ℕ) → OnOk result (is_set self.new p ≡ (if is_set other.now p then value else is_set self.old p)) }
         ensures same { (p : ℕ) → OnErr result (is_set self.new p ≡ is_set self.old p) }

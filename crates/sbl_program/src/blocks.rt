@@ -55,7 +55,7 @@ pub fn put_place(
 }
 
 /// Gives a value to the bits of all places at which those of other blocks are set. AllocError where a growth was refused; some of the
-/// bits may have their value then.
+/// bits may have been given the value by then.
 pub fn put_blocks(
     alloc: Global,
     blocks: &mut Vec<Block>,
