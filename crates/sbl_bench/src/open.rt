@@ -55,8 +55,7 @@ fn has_no_room(traces: &IndexMap<Vec<char>, Traced>, word: &[char]) -> bool
 }
 
 /// Takes one word of the list that a bench is opened over: skips it where it is empty or one of those that are kept, or runs it and
-/// puts it last. It answers WordTooLong, Full or OutOfMemory as `Bench::open` does. One hash serves to look a
-/// word up and to put it in.
+/// puts it last. It answers WordTooLong, Full or OutOfMemory as `Bench::open` does.
 fn take_word(
     alloc: Global,
     machine: &Machine<Table>,

@@ -51,8 +51,7 @@ fn grow(words: &mut Vec<u64>, count: usize) -> Result<(), AllocError>
     Ok(())
 }
 
-/// Gives the bit of a place a value. Where it has that value already no memory is taken. AllocError where a growth was refused; no
-/// bit is changed then.
+/// Gives the bit of a place a value. AllocError where a growth was refused; no bit is changed then.
 pub fn put_bit(words: &mut Vec<u64>, place: usize, value: bool) -> Result<(), AllocError>
     ensures put { (p : ℕ) → OnOk result (is_set words.new.items p ≡ (if nat_eq place p then value else is_set words.old.items p)) }
     ensures same { (p : ℕ) → OnErr result (is_set words.new.items p ≡ is_set words.old.items p) }
