@@ -1,6 +1,6 @@
 # Shows where a script's fault stands: its line and column, the line, and a caret below it. Of a fault with an item it shows
 # where the item begins. Columns count characters, from 1.
-#   LC_ALL=C awk -v fault='snowbench: 10 Undeclared in item 4' -f tools/place.awk SESSION
+#   LC_ALL=C awk -v fault='snowbench: 10 Undeclared in item 4' -v verb=session -f tools/place.awk SESSION
 # The session is read up to the line that ends its script, in lines as the program takes them.
 BEGIN {
   if (match(fault, / at [0-9]+$/)) { kind = "place"; place = substr(fault, RSTART + 4) + 0 }
@@ -10,13 +10,19 @@ BEGIN {
   starts = " strings integers booleans routines externals groupings define stringescapes stringdef "
 }
 { sub(/\r$/, "") }
-$0 == "." { exit }
+$0 == "." { ended = 1; exit }
 kind == "place" && place <= before + length($0) { show($0, NR, place - before, ""); exit }
 kind == "item" && has_item($0) { show($0, NR, at - 1, ", where item " substr(fault, match(fault, /[0-9]+$/)) " begins"); exit }
 { before += length($0) + 1; last = $0; lines = NR }
 END {
-  if (kind == "cut") print "  the input ends inside the script: a line that is a single point ends the script"
+  if (kind == "cut" && !ended) cut("the script", "the script")
+  else if (kind == "cut" && verb == "check") cut("the words", "them")
+  else if (kind == "cut") cut("a block", "it")
   else if (kind == "place" && !shown && lines) show(last, lines, length(last), "")
+}
+
+function cut(part, pronoun) {
+  print "  the input ends inside " part ": a line that is a single point ends " pronoun
 }
 
 # Goes through a line as the lexer does, to the word that begins the item. What is open at the line's end stays open: a
