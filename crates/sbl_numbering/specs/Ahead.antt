@@ -1,4 +1,5 @@
--- The program of a routine by its names, its mode and its own tree: a `substring` looks ahead for the next among of its region.
+-- The program of a routine in terms of its names, its mode and its own tree: a `substring` looks ahead for the next
+-- among of its region.
 use Rattle.std.specs.Prelude.{ℕ, suc, Bool, true, false, List, [], ◌∷◌, Option, Some, None}
 use Rattle.sbl_tree.specs.Order.{ItemInMode}
 use Rattle.sbl_tree.specs.declared.tree.Simple.{Simple}
@@ -21,12 +22,12 @@ found_as ns a = record { number = a.number; strings = listing a.mode (strings_be
 abbrev pub search_of : Found → programs.Node
 search_of f = programs.search f.number f.strings f.entries
 
--- an among makes its search itself, and then comes its starter, unless a `substring` waits for it
+-- an among does its search itself, followed by its starter, unless a `substring` waits for it
 abbrev pub search_then : Names → Bool → Among → programs.Nodes → programs.Nodes
 search_then ns true a cs = programs.no_commands
 search_then ns false a cs = programs.command (search_of (found_as ns a)) cs
 
--- f where the region has no among ahead
+-- f if the region has no among ahead
 abbrev pub search_next : Names → Option Among → programs.Node
 search_next ns None = programs.act programs.f
 search_next ns (Some a) = search_of (found_as ns a)
@@ -69,7 +70,7 @@ module _ (ns : Names) where
         (made m k w (first_others m os (behind c k) (first_rows m rs (behind_others os (behind c k)) next)) c))
         (made_rows m (behind_others os (behind c k)) (waits_others os (waits c w)) next rs)
 
-    -- commands joined from the left to the one so far
+    -- commands joined from left to right to the one so far
     pub made_others : Mode → ℕ → Bool → Option Among → trees.Others → programs.Node → programs.Node
     made_others m k w next no_others sofar = sofar
     made_others m k w next (joined j c os) sofar =
@@ -91,7 +92,7 @@ module _ (ns : Names) where
     amongs = behind_others os (behind c 0);
   }
 
--- that of an item, if it has one, before others
+-- the routine of an item, if it has one, before others
 abbrev pub routine_in : Names → Mode → trees.Plain → List programs.Routine → List programs.Routine
 routine_in ns m (routine n c os) rs = routine_made ns m c os ∷ rs
 routine_in ns m (declaration k xs) rs = rs
@@ -99,7 +100,7 @@ routine_in ns m (escapes a b) rs = rs
 routine_in ns m (macro n b q) rs = rs
 routine_in ns m (grouping n a ts) rs = rs
 
--- the routines of some items, in their order
+-- the routines of these items, in their order
 abbrev pub routines_in : Names → List ItemInMode → List programs.Routine
 routines_in ns [] = []
 routines_in ns (x ∷ xs) = routine_in ns x.mode x.plain (routines_in ns xs)

@@ -1,4 +1,4 @@
--- what the contracts of public calls rest on
+-- definitions that public contracts depend on
 pub mod Items
 pub mod Regions
 pub mod NumberedNames
@@ -8,7 +8,7 @@ pub mod NumberedNumbers
 pub mod Numbered
 pub mod Ahead
 pub mod Laws
--- what the functions inside the crate promise each other: nothing in these need be believed
+-- what the functions inside the crate promise each other; no public contract depends on these
 pub mod NumberedView
 pub mod NameList
 pub mod NamedAgain

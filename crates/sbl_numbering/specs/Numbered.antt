@@ -1,4 +1,4 @@
--- The program of a script: numbers for names, each `substring` tied to its among, groupings as classes of characters.
+-- The program of a script: numbers for names, each `substring` linked to its among, groupings as classes of characters.
 use Rattle.std.specs.Prelude.{ℕ, ◌-◌, nat_lt, Bool, true, false, List, [], ◌∷◌, ◌++◌, length, drop, if◌then◌else◌}
 use Rattle.sbl_tree.specs.Order.{ItemInMode, in_order}
 use Rattle.sbl_tree.specs.declared.tree.Simple.{Simple}
@@ -33,8 +33,9 @@ use Rattle.sbl_numbering.specs.NumberedClasses.{numbered_classes}
 use Rattle.sbl_program.specs.Program as programs
 use Rattle.sbl_program.specs.ProgramOf.{commands_of}
 
--- Where a command stands: the amongs whose words are still to come, how many of them stand behind its region, and whether
--- a `substring` waits for the next of them. A routine's body, a group's bracket and a starter are a region each.
+-- The position of a command: the amongs whose words are still to come, how many of them are after its region, and
+-- whether a `substring` waits for the next of them. A routine's body, a group's command and a starter are a region
+-- each.
 pub record Position : Type 0 where
   pub coming : List Found
   pub behind : ℕ
@@ -45,15 +46,15 @@ abbrev pub next_of : List Found → Found
 next_of [] = record { number = 0; strings = listing Forward []; entries = [] }
 next_of (f ∷ fs) = f
 
--- inside an among, behind its word
+-- inside an among, after its word
 abbrev pub inside : Position → Position
 inside p = record p { coming = drop 1 p.coming; waits = false }
 
--- where nothing waits: at a region's beginning, and behind an among
+-- no `substring` waits: at the beginning of a region, and after an among
 abbrev pub closed : Position → Position
 closed p = record p { waits = false }
 
--- ---- the place behind a command
+-- ---- the position after a command
 
 abbrev pub past_simple : Simple → Position → Position
 past_simple simples.Substring p = record p { waits = true }
@@ -100,11 +101,11 @@ abbrev mutual
   past_groups (bare es) p = p
   past_groups (group e es rs gs) p = past_groups gs (past_rows rs (closed p))
 
--- at the beginning of a region, behind which a place is
+-- at the beginning of a region, if q is the position after the region
 abbrev pub begun : Position → Position → Position
 begun p q = record { coming = p.coming; behind = length q.coming; waits = false }
 
--- inside a bracket that is a region of its own
+-- inside parentheses that are a region of their own
 abbrev pub region : trees.Rows → Position → Position
 region rs p = begun p (past_rows rs (closed p))
 
@@ -114,7 +115,7 @@ region rs p = begun p (past_rows rs (closed p))
 abbrev pub search_next : Position → programs.Node
 search_next p = programs.search (next_of p.coming).number (next_of p.coming).strings (next_of p.coming).entries
 
--- that of a `substring`: f where its region has none ahead
+-- the search for a `substring`: f if its region has no among ahead
 abbrev pub search_ahead : Position → programs.Node
 search_ahead p = if nat_lt p.behind (length p.coming) then search_next p else programs.act programs.f
 
@@ -129,7 +130,7 @@ simple simples.Delete p = programs.act programs.delete
 simple simples.True p = programs.act programs.t
 simple simples.False p = programs.act programs.f
 
--- a name that stands as a command
+-- a name that is a command
 abbrev pub name_alone : Names → List ℕ → programs.Node
 name_alone ns n =
     if is_one_of ns.strings n then programs.act (programs.match (programs.variable (number_of ns.strings n))) else
@@ -185,7 +186,7 @@ relation_of comparisons.AtMost = relations.LessOrEqual
 relation_of comparisons.Greater = relations.Greater
 relation_of comparisons.AtLeast = relations.GreaterOrEqual
 
--- an among makes its search itself, and then comes its starter, unless a `substring` waits for it
+-- an among does its search itself, followed by its starter, unless a `substring` waits for it
 abbrev pub search_first : Position → List programs.Node → List programs.Node
 search_first p cs = if p.waits then [] else search_next p ∷ cs
 
@@ -209,12 +210,12 @@ abbrev mutual
       programs.among (next_of p.coming).number (commands_of (search_first p (numbered_starter ns s (inside p))))
       (commands_of (numbered_groups ns gs (past_starter s (inside p))))
 
-  -- the rows of a bracket
+  -- the rows in parentheses
   pub numbered_rows : Names → trees.Rows → Position → List programs.Node
   numbered_rows ns no_rows p = []
   numbered_rows ns (row c os rs) p = joined_all (joins_in ns os (past c p)) (numbered ns c p) ∷ numbered_rows ns rs (past_others os (past c p))
 
-  -- the further commands of a row
+  -- the commands of a row after the first
   pub joins_in : Names → trees.Others → Position → List JoinedView
   joins_in ns no_others p = []
   joins_in ns (joined j c os) p = (j, numbered ns c p) ∷ joins_in ns os (past c p)
@@ -223,19 +224,19 @@ abbrev mutual
   numbered_starter ns no_starter p = []
   numbered_starter ns (starter rs) p = programs.sequence (commands_of (numbered_rows ns rs (region rs p))) ∷ []
 
-  -- the brackets of the groups; a last group may have none
+  -- the commands of the groups; a last group may have none
   pub numbered_groups : Names → trees.Groups → Position → List programs.Node
   numbered_groups ns (bare es) p = []
   numbered_groups ns (group e es rs gs) p =
       programs.sequence (commands_of (numbered_rows ns rs (region rs p))) ∷ numbered_groups ns gs (past_rows rs (closed p))
 
--- commands joined from the left to the one so far
+-- commands joined from left to right to the one so far
 abbrev pub numbered_others : Names → trees.Others → Position → programs.Node → programs.Node
 numbered_others ns os p sofar = joined_all (joins_in ns os p) sofar
 
 -- ---- routines
 
--- behind a body, and at its beginning
+-- the position after a body, and at its beginning
 abbrev pub past_body : trees.Command → trees.Others → Position → Position
 past_body c os p = past_others os (past c (closed p))
 
@@ -255,7 +256,7 @@ past_plain (escapes a b) p = p
 past_plain (macro n b q) p = p
 past_plain (grouping n a ts) p = p
 
--- the routines with that of an item
+-- the routines, and the routine of an item after them
 abbrev pub with_routine : Names → trees.Plain → Position → List programs.Routine → List programs.Routine
 with_routine ns (routine n c os) p sofar = sofar ++ routine_of ns c os p ∷ []
 with_routine ns (declaration k xs) p sofar = sofar
@@ -269,7 +270,7 @@ routines_behind ns (x ∷ xs) p sofar = routines_behind ns xs (past_plain x.plai
 
 -- ---- a script
 
--- by its names, its items and its amongs
+-- given its names, its items and its amongs
 abbrev pub program_by : Names → List ItemInMode → List Found → List ℕ → programs.Program
 program_by ns items amongs external = record {
   integers = length ns.integers;

@@ -1,4 +1,5 @@
--- The amongs of a script in the order of their words `among`: the number of each in its routine, its strings and the mode of the place, and what stands beside each string.
+-- The amongs of a script in the order of their words `among`: the number of each in its routine, its strings with the
+-- mode at its position, and the candidate of each string.
 use Rattle.std.specs.Prelude.{ℕ, ◌+◌, ◌-◌, List, [], ◌∷◌, ◌++◌, length, Option, Some, None}
 use Rattle.sbl_tree.specs.Order.{ItemInMode}
 use Rattle.sbl_tree.specs.Tree as trees
@@ -14,7 +15,7 @@ pub record Found : Type 0 where
   pub strings : Listed
   pub entries : List Candidate
 
--- Each of the following takes what is so far, and gives it with its own behind it.
+-- Each of the following takes the list so far and returns it with its own part added at the end.
 
 -- the strings of an among
 abbrev pub strings_in : List trees.Entry → List (List ℕ) → List (List ℕ)
@@ -25,7 +26,7 @@ abbrev pub strings_behind : trees.Groups → List (List ℕ) → List (List ℕ)
 strings_behind (bare es) sofar = strings_in es sofar
 strings_behind (group e es rs gs) sofar = strings_behind gs (strings_in es (strings_in (e ∷ []) sofar))
 
--- what stands beside a string of the g-th group: the routine that has to signal t, and the string's length
+-- the candidate of a string in the g-th group: the routine that has to signal t, and the length of the string
 abbrev pub condition_of : Names → Option (List ℕ) → Option ℕ
 condition_of ns None = None
 condition_of ns (Some n) = Some (number_of ns.routines n)
@@ -37,12 +38,12 @@ abbrev pub entries_in : Names → ℕ → List trees.Entry → List Candidate �
 entries_in ns g [] sofar = sofar
 entries_in ns g (e ∷ es) sofar = entries_in ns g es (sofar ++ entry_of ns g e ∷ [])
 
--- the groups are counted from 0; the strings of a last group without a bracket have the number of groups
+-- the groups are counted from 0; the strings of a last group without a command have the number of groups
 abbrev pub entries_behind : Names → ℕ → trees.Groups → List Candidate → List Candidate
 entries_behind ns g (bare es) sofar = entries_in ns g es sofar
 entries_behind ns g (group e es rs gs) sofar = entries_behind ns (g + 1) gs (entries_in ns g es (entries_in ns g (e ∷ []) sofar))
 
--- an among of a routine that has so many amongs of other routines before it
+-- an among of a routine that has this many amongs of other routines before it
 abbrev pub found_of : Names → ℕ → Mode → trees.Groups → List Found → Found
 found_of ns first m gs sofar =
     record { number = length sofar - first; strings = listing m (strings_behind gs []); entries = entries_behind ns 0 gs [] }

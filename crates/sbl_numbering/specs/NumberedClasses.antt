@@ -1,4 +1,4 @@
--- The classes of the groupings: the terms from the left, each added or taken away.
+-- The classes of the groupings: the terms from left to right, each added or removed.
 use Rattle.std.specs.Prelude.{ℕ, Bool, List, [], ◌∷◌, ◌++◌}
 use Rattle.sbl_tree.specs.Order.{ItemInMode}
 use Rattle.sbl_tree.specs.declared.tree.Additive.TheVariants.{Plus}
@@ -7,7 +7,7 @@ use Rattle.sbl_program.specs.Characters.{has}
 use Rattle.sbl_program.specs.Terms.{behind, class_at, no_character}
 use Rattle.sbl_numbering.specs.NumberedNames.{Names, number_of}
 
--- the characters of a term, by the classes of the groupings before
+-- the characters of a term, given the classes of the groupings before it
 abbrev pub term_class : Names → List (ℕ → Bool) → Argument → ℕ → Bool
 term_class ns classes (written_out q) = has q.value
 term_class ns classes (by_name n) = class_at classes (number_of ns.groupings n)
@@ -16,7 +16,7 @@ abbrev pub with_terms : Names → List (ℕ → Bool) → List Term → (ℕ →
 with_terms ns classes [] class = class
 with_terms ns classes (term o a ∷ ts) class = with_terms ns classes ts (behind o (term_class ns classes a) class)
 
--- the classes with that of an item; the first term is added to no character
+-- the classes, and the class of an item after them; the first term is added to the empty class
 abbrev pub with_class : Names → Plain → List (ℕ → Bool) → List (ℕ → Bool)
 with_class ns (grouping n a ts) classes = classes ++ with_terms ns classes (term Plus a ∷ ts) no_character ∷ []
 with_class ns (declaration k xs) classes = classes

@@ -1,4 +1,4 @@
--- The names of a script by kind, and the number of each: its place among those of its kind.
+-- The names of a script by kind, and the number of each: its index among those of its kind.
 use Rattle.std.specs.Prelude.{ℕ, ◌+◌, Bool, List, [], ◌∷◌, ◌++◌, length, nat_lt, if◌then◌else◌}
 use Rattle.std.specs.Str.{bytes_eq}
 use Rattle.sbl_tree.specs.Order.{ItemInMode}
@@ -6,7 +6,7 @@ use Rattle.sbl_tree.specs.declared.tree.DeclarationKind.{DeclarationKind}
 use Rattle.sbl_tree.specs.declared.tree.DeclarationKind.TheVariants as kinds
 use Rattle.sbl_tree.specs.Tree.{Plain, declaration, escapes, macro, routine, grouping}
 
--- the variables in the order of their declarations, groupings and routines in that of their definitions; UTF-8 bytes
+-- variables in the order of their declarations, groupings and routines in the order of their definitions; UTF-8 bytes
 pub record Names : Type 0 where
   pub strings : List (List ℕ)
   pub integers : List (List ℕ)
@@ -25,7 +25,7 @@ declaring kinds.Routines ns all = all
 declaring kinds.Externals ns all = all
 declaring kinds.Groupings ns all = all
 
--- the names with those of an item
+-- the names, with the names of an item added
 abbrev pub naming : Plain → Names → Names
 naming (declaration k ns) all = declaring k ns all
 naming (escapes a b) all = all
@@ -37,7 +37,7 @@ abbrev pub names_behind : List ItemInMode → Names → Names
 names_behind [] all = all
 names_behind (x ∷ xs) all = names_behind xs (naming x.plain all)
 
--- the number of a name among some of which the first has this number; the next number where it is not there
+-- the number of a name in a list whose first name has number i; the next number after the list if it is not there
 abbrev pub number_from : ℕ → List (List ℕ) → List ℕ → ℕ
 number_from i [] n = i
 number_from i (x ∷ xs) n = if bytes_eq x n then i else number_from (i + 1) xs n
@@ -45,6 +45,6 @@ number_from i (x ∷ xs) n = if bytes_eq x n then i else number_from (i + 1) xs 
 abbrev pub number_of : List (List ℕ) → List ℕ → ℕ
 number_of ns n = number_from 0 ns n
 
--- whether a name is one of these
+-- the list has the name
 abbrev pub is_one_of : List (List ℕ) → List ℕ → Bool
 is_one_of ns n = nat_lt (number_of ns n) (length ns)

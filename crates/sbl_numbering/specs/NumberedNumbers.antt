@@ -22,7 +22,7 @@ abbrev mutual
   pub expression : Names → trees.Expression → programs.Arithmetic
   expression ns (trees.expression p ss) = added_all (sums_in ns ss) (product ns p)
 
-  -- the further products of a sum
+  -- the terms of a sum after the first
   pub sums_in : Names → trees.Sums → List AddedView
   sums_in ns trees.no_sums = []
   sums_in ns (trees.sum o p ss) = (o, product ns p) ∷ sums_in ns ss
@@ -30,7 +30,7 @@ abbrev mutual
   pub product : Names → trees.Product → programs.Arithmetic
   product ns (trees.product f ss) = scaled_all (scales_in ns ss) (factor ns f)
 
-  -- the further factors of a product
+  -- the factors of a product after the first
   pub scales_in : Names → trees.Scales → List ScaledView
   scales_in ns trees.no_scales = []
   scales_in ns (trees.scale o f ss) = (o, factor ns f) ∷ scales_in ns ss

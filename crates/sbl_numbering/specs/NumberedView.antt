@@ -1,4 +1,4 @@
--- The parts of the numbering without where they lie in memory.
+-- The parts of the compiler's data without memory addresses.
 use Rattle.std.specs.Prelude.{List, map, drop}
 use Rattle.sbl_program.specs.declared.found.Found.{Found}
 use Rattle.sbl_numbering.specs.declared.names.Names.{Names}

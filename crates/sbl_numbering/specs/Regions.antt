@@ -1,5 +1,5 @@
--- The regions of a routine, and the amongs in them: a routine's body, a group's bracket and a starter are a region each, and a
--- `substring` belongs to the next `among` of its own region.
+-- The regions of a routine, and the amongs in them: a routine's body, a group's command and a starter are a region
+-- each, and a `substring` belongs to the next `among` of its own region.
 use Rattle.std.specs.Prelude.{ℕ, suc, Bool, true, false, Option, Some}
 use Rattle.sbl_tree.specs.declared.tree.Prefix.{Prefix}
 use Rattle.sbl_tree.specs.declared.tree.Prefix.TheVariants as prefixes
@@ -9,12 +9,12 @@ use Rattle.sbl_tree.specs.Tree.{bracket, simple_, prefixed, counted, setlimit_, 
 use Rattle.sbl_tree.specs.declared.mode.Mode.{Mode}
 use Rattle.sbl_tree.specs.declared.mode.Mode.TheVariants.{Backward}
 
--- the mode of a command behind a prefix
+-- the mode of a command after a prefix
 abbrev pub mode_behind : Prefix → Mode → Mode
 mode_behind prefixes.Backwards m = Backward
 mode_behind x m = m
 
--- the number of the next among behind a command before which it is k
+-- the number of the next among after a command, if it is k before the command
 abbrev mutual
   pub behind : trees.Command → ℕ → ℕ
   behind (bracket rs) k = behind_rows rs k
@@ -40,7 +40,7 @@ abbrev mutual
   behind_groups (bare es) k = k
   behind_groups (group e es rs gs) k = behind_groups gs (behind_rows rs k)
 
--- whether a `substring` waits behind a command
+-- a `substring` waits after a command
 abbrev mutual
   pub waits : trees.Command → Bool → Bool
   waits (bracket rs) w = waits_rows rs w
@@ -59,7 +59,7 @@ abbrev mutual
   waits_others no_others w = w
   waits_others (joined j c os) w = waits_others os (waits c w)
 
--- an among: how many stand before it in its routine, the mode of its place, and its groups
+-- an among: the number of amongs before it in its routine, the mode at its position, and its groups
 pub record Among : Type 0 where
   pub number : ℕ
   pub mode : Mode
@@ -69,7 +69,8 @@ abbrev pub among_at : Mode → ℕ → trees.Groups → Among
 among_at m k gs = record { number = k; mode = m; groups = gs }
 
 abbrev mutual
-  -- the first among of a command before which there are k in the routine, or else the next of the region behind it, if there is one
+  -- the first among of a command, with k amongs before the command in the routine; or else the next one of the region
+  -- after it, if there is one
   pub first : Mode → trees.Command → ℕ → Option Among → Option Among
   first m (bracket rs) k n = first_rows m rs k n
   first m (prefixed x c) k n = first (mode_behind x m) c k n

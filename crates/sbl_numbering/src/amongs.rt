@@ -1,4 +1,4 @@
-//! The amongs of a script in the order of their words `among`.
+//! Lists the amongs of a script in the order of their words `among`.
 
 ghost use Rattle.std.specs.Prelude.{◌≡◌, ◌∷◌, ◌++◌, [], ◌-◌, List, map, length, OnOk, IfOk};
 ghost use Rattle.sbl_tree.specs.Order.{view_in_mode};
@@ -14,7 +14,7 @@ use sbl_program::{Candidate, Found};
 use sbl_tree::{Among, Command, Entry, Group, ItemInMode, Joined, Mode, Plain, Prefix, Row};
 use std::alloc::{AllocError, Global};
 
-// A copy of a string.
+// Returns a copy of a string. Returns `AllocError` if an allocation fails.
 fn copied(alloc: Global, string: &[char]) -> Result<Vec<char>, AllocError>
     ensures { IfOk result (λ v. v.items ≡ string.now) }
 {
@@ -135,7 +135,7 @@ fn entries_of(
     Ok(entries)
 }
 
-// The mode of a command behind a prefix.
+// Returns the mode of a command after a prefix.
 fn mode_behind(prefix: Prefix, mode: Mode) -> Mode
     ensures { result ≡ spec_mode_behind prefix mode }
 {
@@ -152,7 +152,7 @@ fn mode_behind(prefix: Prefix, mode: Mode) -> Mode
     }
 }
 
-// An among behind the others, before those inside it.
+// Adds an among after the others, before those inside it. Returns `AllocError` if an allocation fails.
 fn add_among(
     alloc: Global,
     names: &Names,
@@ -175,7 +175,7 @@ fn add_among(
     Ok(())
 }
 
-// The amongs of a command.
+// Adds the amongs of a command. Returns `AllocError` if an allocation fails.
 #[cycle(finding)]
 fn find(
     alloc: Global,
@@ -314,7 +314,7 @@ fn find_plain(
     Ok(())
 }
 
-/// The amongs of a script.
+/// Returns the amongs of a script. Returns `AllocError` if an allocation fails.
 pub fn amongs_of(
     alloc: Global,
     names: &Names,

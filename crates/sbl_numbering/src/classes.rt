@@ -1,4 +1,4 @@
-//! The classes of the groupings.
+//! Makes the classes of the groupings.
 
 ghost use Rattle.std.specs.Prelude.{◌≡◌, ◌∷◌, [], true, map, OnOk, IfOk};
 ghost use Rattle.sbl_tree.specs.Order.{view_in_mode};
@@ -17,7 +17,7 @@ use sbl_tree::{Additive, Argument, ItemInMode, Plain, Term};
 use std::alloc::{AllocError, Global};
 use std::collections::BTreeMap;
 
-// A class with the characters of a term added or taken away.
+// Returns the class with the characters of a term added or removed. Returns `AllocError` if an allocation fails.
 fn with_term(
     alloc: Global,
     names: &Names,
@@ -37,7 +37,8 @@ fn with_term(
     }
 }
 
-// Where each grouping is named last among some terms.
+// Returns the last index at which each grouping is named among these terms. Returns `AllocError` if an allocation
+// fails.
 fn last_places(
     alloc: Global,
     names: &Names,
@@ -52,7 +53,7 @@ fn last_places(
     Ok(last)
 }
 
-// Where the grouping that a term names is named last, if it is one of these.
+// Returns the last index of the grouping that a term names; 0 if there is none.
 fn last_place(names: &Names, last: &BTreeMap<usize, usize>, argument: &Argument) -> usize {
     match argument {
         Argument::Literal(_) => 0,
@@ -63,7 +64,7 @@ fn last_place(names: &Names, last: &BTreeMap<usize, usize>, argument: &Argument)
     }
 }
 
-// Whether a term names the grouping of a number.
+// Returns whether a term names the grouping with this number.
 fn is_name_of(names: &Names, argument: &Argument, number: usize) -> bool
     ensures { result ≡ is_name_of (view_names names.now) (view_argument argument.now) number }
 {
@@ -73,7 +74,8 @@ fn is_name_of(names: &Names, argument: &Argument, number: usize) -> bool
     }
 }
 
-// Whether the grouping that a term names is named again by the term behind it that stands so far away.
+// Returns whether the term `behind[distance]` names the grouping that `argument` names. `behind` has the terms after
+// `argument`.
 fn is_named_again(names: &Names, argument: &Argument, behind: &[Term], distance: usize) -> bool
     ensures { result ≡ true → is_named_again (view_names names.now) (view_argument argument.now) (map view_term behind.now) ≡ true }
 {
@@ -89,8 +91,8 @@ fn is_named_again(names: &Names, argument: &Argument, behind: &[Term], distance:
     }
 }
 
-// The class of a grouping. Of the terms behind the first that name one grouping only the last says anything: what each of them
-// adds or takes away is the same, and so the others are passed over.
+// Returns the class of a grouping. If several terms after the first name one grouping, only the last of them counts:
+// all of them add or remove the same characters. So the others are skipped.
 fn class_of(
     alloc: Global,
     names: &Names,
@@ -133,7 +135,7 @@ fn add_class(
     Ok(())
 }
 
-/// The class of each grouping, in the order of their definitions. AllocError where a growth was refused.
+/// Returns the class of each grouping, in the order of their definitions. Returns `AllocError` if an allocation fails.
 pub fn numbered_classes(
     alloc: Global,
     names: &Names,

@@ -1,4 +1,4 @@
-//! Commands, with numbers for names.
+//! Compiles commands, with numbers for names.
 
 ghost use Rattle.std.specs.Prelude.{◌≡◌, List, map, OnOk, IfOk};
 ghost use Rattle.sbl_tree.specs.View.{view_argument, view_command, view_rows, view_row, view_others, view_among, view_groups, view_expression, view_literal};
@@ -31,7 +31,7 @@ fn copied_entries(alloc: Global, entries: &[Candidate]) -> Result<Vec<Candidate>
     Ok(copy)
 }
 
-// The number of the next among in its routine.
+// Returns the number of the next among in its routine.
 fn next_number(amongs: &Vec<Found>, place: Position) -> usize
     ensures { result ≡ (spec.next_of (view_place amongs.now.items place).coming).number }
 {
@@ -41,7 +41,7 @@ fn next_number(amongs: &Vec<Found>, place: Position) -> usize
     }
 }
 
-// What stands beside each string of the next among.
+// Returns the candidates of the next among, one for each string. Returns `AllocError` if an allocation fails.
 fn next_entries(
     alloc: Global,
     amongs: &Vec<Found>,
@@ -55,7 +55,7 @@ fn next_entries(
     }
 }
 
-// The search of the next among.
+// Returns the search of the next among. Returns `AllocError` if an allocation fails.
 fn search_next(alloc: Global, amongs: &Vec<Found>, place: Position) -> Result<Node, AllocError>
     ensures { IfOk result (λ n. view_node (strings_at amongs.now.items) n ≡ spec.search_next (view_place amongs.now.items place)) }
 {
@@ -67,7 +67,8 @@ fn search_next(alloc: Global, amongs: &Vec<Found>, place: Position) -> Result<No
     })
 }
 
-// The same for a `substring`: f where its region has none ahead.
+// Returns the search for a `substring`: f if its region has no among ahead. Returns `AllocError` if an allocation
+// fails.
 fn search_ahead(alloc: Global, amongs: &Vec<Found>, place: Position) -> Result<Node, AllocError>
     ensures { IfOk result (λ n. view_node (strings_at amongs.now.items) n ≡ spec.search_ahead (view_place amongs.now.items place)) }
 {
@@ -104,7 +105,7 @@ fn simple(
     }
 }
 
-// A name that stands as a command.
+// Compiles a name that is a command.
 fn name_alone(names: &Names, _amongs: &Vec<Found>, name: &str) -> Node
     ensures { view_node (strings_at _amongs.now.items) result ≡ spec.name_alone (view_names names.now) name.now }
 {
@@ -188,14 +189,15 @@ fn edited(edit: Splice, string: StringTerm) -> Action
     }
 }
 
-// A further command of a row.
+// Returns a command of a row that comes after the first.
 fn joined_command(_amongs: &Vec<Found>, joiner: Joiner, command: Node) -> sbl_program::Joined
     ensures { view_joined (strings_at _amongs.now.items) result ≡ (joiner, view_node (strings_at _amongs.now.items) command) }
 {
     sbl_program::Joined { joiner, command }
 }
 
-// The first command and those after it; the first alone where there are none.
+// Makes a row of the first command and those after it; the first command alone if there are no others. Returns
+// `AllocError` if an allocation fails.
 fn whole_row(
     alloc: Global,
     _amongs: &Vec<Found>,
@@ -302,7 +304,7 @@ fn compare_values(
     ))
 }
 
-/// A command, and the place behind it.
+/// Compiles a command, and moves `place` to the position after it. Returns `AllocError` if an allocation fails.
 #[cycle(commands)]
 fn node_of(
     alloc: Global,
@@ -372,7 +374,7 @@ fn rows_of(
     Ok(nodes)
 }
 
-/// A row.
+/// Compiles a row, and moves `place` to the position after it. Returns `AllocError` if an allocation fails.
 #[cycle(commands)]
 pub fn row_of(
     alloc: Global,
@@ -441,7 +443,8 @@ fn among_of(
     })
 }
 
-// The rows of a bracket that is a region of its own.
+// Compiles the rows in parentheses that are a region of their own, and moves `place` to the position after them.
+// Returns `AllocError` if an allocation fails.
 #[cycle(commands)]
 fn region_of(
     alloc: Global,

@@ -1,18 +1,18 @@
-//! What is shown of the program of a script.
+//! Laws of the compiler.
 
 ghost use Rattle.sbl_numbering.specs.Laws.{OwnIsMade, RoutineIsItsOwn, ClassesAreTheirTerms};
 
-/// Each routine is numbered by the names, its mode and its own tree.
+/// The program of each routine is made of the names, its mode and its own tree.
 pub fn own_is_made()
     ensures { OwnIsMade }
 {}
 
-/// Where the names and a routine's body are the same, its program is.
+/// If the names and the body of a routine are the same, its program is the same.
 pub fn routine_is_its_own()
     ensures { RoutineIsItsOwn }
 {}
 
-/// A character is in a grouping's class exactly where its terms say so.
+/// A character is in the class of a grouping exactly if its terms have it.
 pub fn classes_are_their_terms()
     ensures { ClassesAreTheirTerms }
 {}

@@ -1,4 +1,4 @@
-//! Makes the program of a script.
+//! The compiler: makes the program of a script.
 #![tactic(auto)]
 
 mod amongs;
@@ -12,4 +12,5 @@ mod operators;
 mod place;
 mod program;
 
+pub use name_list::NameList;
 pub use program::{Made, numbered};

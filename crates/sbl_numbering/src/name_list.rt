@@ -1,4 +1,4 @@
-//! Names in their order, and the number of the first of each name.
+//! A list of names, with the number of the first of each name.
 
 ghost use Rattle.std.specs.Prelude.{◌≡◌, ◌++◌, ◌∷◌, [], ℕ, List, Some, None, length, map, if◌then◌else◌, MatchResult, OnOk, OnErr, string_bytes};
 ghost use Rattle.std.specs.BTreeMap.{get_by_text};
@@ -10,7 +10,7 @@ use std::alloc::{AllocError, Global};
 use std::collections::BTreeMap;
 use std::marker::Model;
 
-/// Names in their order. The number of a name takes no walk through them.
+/// Names in their order. The number of a name is found without a search through them.
 #[derive(Drop)]
 pub struct NameList {
     names: Vec<String>,
@@ -30,7 +30,7 @@ impl Model for NameList {
 }
 
 impl NameList {
-    /// No names. It takes no memory.
+    /// Returns an empty list. Does not allocate.
     pub fn new(alloc: Global) -> NameList
         ensures { result ≡ [] }
     {
@@ -40,7 +40,7 @@ impl NameList {
         }
     }
 
-    /// A name behind the others. AllocError where a growth was refused; the names are as they were then.
+    /// Adds a name at the end. Returns `AllocError` if an allocation fails; then the names are unchanged.
     pub fn add(&mut self, alloc: Global, name: &str) -> Result<(), AllocError>
         ensures { MatchResult result (λ _. self.new ≡ self.old ++ name.now ∷ []) (λ _. self.new ≡ self.old) }
     {
@@ -55,14 +55,14 @@ impl NameList {
         }
     }
 
-    /// How many names there are.
+    /// Returns the number of names.
     pub fn len(&self) -> usize
         ensures { result ≡ length self.now }
     {
         self.names.len()
     }
 
-    /// The number of a name, that of the first where several are equal; how many there are, where it is not one of them.
+    /// Returns the number of a name; of the first one if several are equal; the number of names if there is none.
     pub fn number_of(&self, name: &str) -> usize
         ensures { result ≡ spec.number_of self.now name.now }
     {
@@ -72,14 +72,14 @@ impl NameList {
         }
     }
 
-    /// Whether a name is one of these.
+    /// Returns whether the list has the name.
     pub fn is_one_of(&self, name: &str) -> bool
         ensures { result ≡ spec.is_one_of self.now name.now }
     {
         self.number_of(name) < self.len()
     }
 
-    /// The names alone.
+    /// Returns the names as a vector.
     pub fn into_names(self) -> Vec<String>
         ensures { map string_bytes result.items ≡ self }
     {
@@ -88,7 +88,7 @@ impl NameList {
     }
 }
 
-// Keeps a number for a name that has none.
+// Stores a number for a name that has none. Returns `AllocError` if an allocation fails; then nothing is changed.
 fn keep_first(
     alloc: Global,
     numbers: &mut BTreeMap<String, usize>,

@@ -1,4 +1,4 @@
-//! The names of a script by kind, and the number of each.
+//! The names of a script by kind, and their numbers.
 
 ghost use Rattle.std.specs.Prelude.{◌≡◌, ◌++◌, map, OnOk, IfOk, string_bytes};
 ghost use Rattle.sbl_tree.specs.Order.{view_in_mode};
@@ -10,7 +10,7 @@ use crate::name_list::NameList;
 use sbl_tree::{DeclarationKind, ItemInMode, Plain};
 use std::alloc::{AllocError, Global};
 
-/// The names of a script: variables in the order of their declarations, groupings and routines in that of their
+/// The names of a script: variables in the order of their declarations, groupings and routines in the order of their
 /// definitions.
 #[derive(Drop)]
 pub struct Names {
@@ -26,7 +26,7 @@ pub struct Names {
     pub routines: NameList,
 }
 
-// Names behind others.
+// Adds names after the others. Returns `AllocError` if an allocation fails.
 fn add_names(alloc: Global, more: &Vec<String>, names: &mut NameList) -> Result<(), AllocError>
     ensures { OnOk result (names.new ≡ names.old ++ map string_bytes more.now.items) }
 {
@@ -74,7 +74,7 @@ fn name_item(alloc: Global, plain: &Plain, names: &mut Names) -> Result<(), Allo
     }
 }
 
-/// The names of a script.
+/// Returns the names of a script. Returns `AllocError` if an allocation fails.
 pub fn names_of(alloc: Global, items: &[ItemInMode]) -> Result<Names, AllocError>
     ensures { IfOk result (λ names. view_names names ≡ spec.names_behind (map view_in_mode items.now) spec.no_names) }
 {

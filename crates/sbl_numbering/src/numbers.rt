@@ -1,4 +1,4 @@
-//! Strings and arithmetic expressions, with numbers for names.
+//! Compiles strings and arithmetic expressions, with numbers for names.
 
 ghost use Rattle.std.specs.Prelude.{◌≡◌, map, IfOk};
 ghost use Rattle.sbl_tree.specs.View.{view_argument, view_expression, view_product, view_factor, view_sums, view_scales};
@@ -14,7 +14,7 @@ use sbl_tree::{
 };
 use std::alloc::{AllocError, Global};
 
-/// A string.
+/// Compiles a string. Returns `AllocError` if an allocation fails.
 pub fn text(alloc: Global, names: &Names, argument: &Argument) -> Result<StringTerm, AllocError>
     ensures { IfOk result (λ t. view_text t ≡ spec.text (view_names names.now) (view_argument argument.now)) }
 {
@@ -36,21 +36,22 @@ fn constant(constant: Constant) -> Arithmetic
     }
 }
 
-// A further number of a sum.
+// Returns a term of a sum that comes after the first.
 fn added_number(operator: Additive, number: Arithmetic) -> sbl_program::Added
     ensures { view_added result ≡ (operator, view_number number) }
 {
     sbl_program::Added { operator, number }
 }
 
-// A further number of a product.
+// Returns a factor of a product that comes after the first.
 fn scaled_number(operator: Multiplicative, number: Arithmetic) -> sbl_program::Scaled
     ensures { view_scaled result ≡ (operator, view_number number) }
 {
     sbl_program::Scaled { operator, number }
 }
 
-// The first number and those after it; the first alone where there are none.
+// Makes a sum of the first term and those after it; the first term alone if there are no others. Returns `AllocError`
+// if an allocation fails.
 fn whole_sum(
     alloc: Global,
     first: Arithmetic,
@@ -67,7 +68,7 @@ fn whole_sum(
     })
 }
 
-// The same of a product.
+// Does the same for a product.
 fn whole_product(
     alloc: Global,
     first: Arithmetic,
@@ -84,7 +85,7 @@ fn whole_product(
     })
 }
 
-/// An expression.
+/// Compiles an expression. Returns `AllocError` if an allocation fails.
 #[cycle(arithmetic)]
 pub fn number_of_expression(
     alloc: Global,

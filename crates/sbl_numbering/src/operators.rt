@@ -1,4 +1,4 @@
-//! What the operators of assignments and comparisons become.
+//! Compiles the operators of assignments and comparisons.
 
 ghost use Rattle.std.specs.Prelude.{◌≡◌};
 ghost use Rattle.sbl_numbering.specs.Numbered as spec;
@@ -6,7 +6,7 @@ ghost use Rattle.sbl_numbering.specs.Numbered as spec;
 use sbl_program::{Change, Relation};
 use sbl_tree::{Assignment, Comparison};
 
-/// What becomes of an integer variable.
+/// Returns the change that an assignment makes to an integer variable.
 pub fn change_of(assignment: Assignment) -> Change
     ensures { result ≡ spec.change_of assignment }
 {
@@ -19,7 +19,7 @@ pub fn change_of(assignment: Assignment) -> Change
     }
 }
 
-/// What a comparison asks of two numbers.
+/// Returns the relation that a comparison tests.
 pub fn relation_of(comparison: Comparison) -> Relation
     ensures { result ≡ spec.relation_of comparison }
 {

@@ -1,4 +1,4 @@
-//! Where a command stands among the amongs of a script.
+//! The position of a command among the amongs of a script.
 
 ghost use Rattle.std.specs.Prelude.{◌≡◌, List, length};
 ghost use Rattle.sbl_tree.specs.View.{view_command, view_rows, view_row, view_others, view_among, view_groups};
@@ -9,25 +9,25 @@ ghost use Rattle.sbl_numbering.specs.NumberedView.{view_place};
 use sbl_program::Found;
 use sbl_tree::{Among, Command, Group, Joined, Row, Simple};
 
-/// Where a command stands.
+/// The position of a command.
 #[derive(Clone, Copy)]
 pub struct Position {
     /// The number of the next among in the script.
     pub next: usize,
-    /// How many of those that are to come stand behind its region.
+    /// The number of the amongs still to come that are after its region.
     pub behind: usize,
-    /// Whether a `substring` waits for the next one.
+    /// Whether a `substring` waits for the next among.
     pub waits: bool,
 }
 
-/// How many amongs are still to come.
+/// Returns the number of amongs still to come.
 pub fn left_of(amongs: &Vec<Found>, place: Position) -> usize
     ensures { result ≡ length (view_place amongs.now.items place).coming }
 {
     amongs.len().saturating_sub(place.next)
 }
 
-/// Inside the next among, behind its word.
+/// Returns the position inside the next among, after its word.
 pub fn inside(amongs: &Vec<Found>, place: Position) -> Position
     ensures { view_place amongs.now.items result ≡ spec.inside (view_place amongs.now.items place) }
 {
@@ -42,7 +42,7 @@ pub fn inside(amongs: &Vec<Found>, place: Position) -> Position
     }
 }
 
-/// Where nothing waits.
+/// Returns the same position, at which no `substring` waits.
 pub fn closed(_amongs: &Vec<Found>, place: Position) -> Position
     ensures { view_place _amongs.now.items result ≡ spec.closed (view_place _amongs.now.items place) }
 {
@@ -52,7 +52,7 @@ pub fn closed(_amongs: &Vec<Found>, place: Position) -> Position
     }
 }
 
-/// At the beginning of a region, behind which a place is.
+/// Returns the position at the beginning of a region; `behind` is the position after the region.
 pub fn begun(amongs: &Vec<Found>, place: Position, behind: Position) -> Position
     ensures { view_place amongs.now.items result ≡ spec.begun (view_place amongs.now.items place) (view_place amongs.now.items behind) }
 {
@@ -82,7 +82,7 @@ fn past_simple(_amongs: &Vec<Found>, word: Simple, place: Position) -> Position
     }
 }
 
-/// The place behind a command.
+/// Returns the position after a command.
 #[cycle(passing)]
 fn past(amongs: &Vec<Found>, command: &Command, place: Position) -> Position
     ensures { view_place amongs.now.items result ≡ spec.past (view_command command.now) (view_place amongs.now.items place) }
@@ -112,7 +112,7 @@ fn past(amongs: &Vec<Found>, command: &Command, place: Position) -> Position
     }
 }
 
-/// The place behind the rows of a bracket.
+/// Returns the position after the rows in parentheses.
 #[cycle(passing)]
 pub fn past_rows(amongs: &Vec<Found>, rows: &Vec<Row>, place: Position) -> Position
     ensures { view_place amongs.now.items result ≡ spec.past_rows (view_rows rows.now.items) (view_place amongs.now.items place) }
@@ -124,7 +124,7 @@ pub fn past_rows(amongs: &Vec<Found>, rows: &Vec<Row>, place: Position) -> Posit
     behind
 }
 
-/// The place behind a row.
+/// Returns the position after a row.
 #[cycle(passing)]
 pub fn past_row(amongs: &Vec<Found>, row: &Row, place: Position) -> Position
     ensures { view_place amongs.now.items result ≡ spec.past_others (view_row row.now).1 (spec.past (view_row row.now).0 (view_place amongs.now.items place)) }

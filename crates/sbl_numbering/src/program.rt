@@ -1,4 +1,4 @@
-//! The program of a script.
+//! Compiles a script to its program.
 
 ghost use Rattle.std.specs.Prelude.{◌≡◌, [], false, map, OnOk, IfOk, string_bytes};
 ghost use Rattle.sbl_tree.specs.Order.{in_order, view_in_mode};
@@ -98,7 +98,7 @@ fn program_by(
     })
 }
 
-/// A program, and the amongs whose strings its tables are to list.
+/// A program, and the amongs with the strings for its tables.
 #[derive(Drop)]
 pub struct Made {
     /// The program.
@@ -107,21 +107,29 @@ pub struct Made {
     pub amongs: Vec<Found>,
     /// The names of the routines, in the order of their definitions.
     pub routines: Vec<String>,
+    /// The names of the groupings, in the order of their definitions.
+    pub groupings: Vec<String>,
 }
 
-/// The program of a script's items, whose external is run. AllocError where a growth was refused.
+/// Compiles a script's items to a program that runs this external. Returns `AllocError` if an allocation fails.
 pub fn numbered(alloc: Global, items: &[Item], external: &str) -> Result<Made, AllocError>
     ensures program { IfOk result (λ n. program_of (strings_at n.amongs.items) n.program ≡ spec.numbered_items (view_items items.now) external.now) }
     ensures routines { IfOk result (λ n. map string_bytes n.routines.items ≡ known_in (in_order (view_items items.now)) kinds.Routines) }
+    ensures groupings { IfOk result (λ n. map string_bytes n.groupings.items ≡ known_in (in_order (view_items items.now)) kinds.Groupings) }
 {
     let in_order = items_in_order(alloc, items)?;
     let names = names_of(alloc, &in_order)?;
     let amongs = amongs_of(alloc, &names, &in_order)?;
     let program = program_by(alloc, &names, &in_order, &amongs, external)?;
-    let Names { routines, .. } = names;
+    let Names {
+        routines,
+        groupings,
+        ..
+    } = names;
     Ok(Made {
         program,
         amongs,
         routines: routines.into_names(),
+        groupings: groupings.into_names(),
     })
 }

@@ -2,6 +2,6 @@
 use Rattle.std.specs.Prelude.{ℕ, Bool, List, nat_eq}
 use Rattle.std.specs.List.{list_any}
 
--- whether a character is in a set
+-- the list contains the character
 abbrev pub has : List ℕ → ℕ → Bool
 has set c = list_any (λ x. nat_eq x c) set

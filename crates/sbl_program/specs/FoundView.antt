@@ -5,7 +5,7 @@ use Rattle.sbl_tree.specs.declared.mode.Mode.TheVariants.{Forward}
 use Rattle.sbl_program.specs.declared.found.Found.{Found}
 use Rattle.sbl_program.specs.Listed.{Listed, listing}
 
--- the characters of some strings
+-- the characters of the strings
 abbrev pub texts : List (Vec ℕ Global) → List (List ℕ)
 texts vs = map (λ v. v.items) vs
 

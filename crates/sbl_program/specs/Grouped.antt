@@ -1,4 +1,4 @@
--- Rows, sums and products: a first part and the others, grouped from the left.
+-- Rows, sums and products: a first part and the others, grouped from left to right.
 use Rattle.std.specs.Prelude.{List, [], ◌∷◌}
 use Rattle.sbl_tree.specs.declared.tree.Joiner.{Joiner}
 use Rattle.sbl_tree.specs.declared.tree.Joiner.TheVariants.{Or, And}
@@ -8,7 +8,7 @@ use Rattle.sbl_tree.specs.declared.tree.Multiplicative.{Multiplicative}
 use Rattle.sbl_tree.specs.declared.tree.Multiplicative.TheVariants as multiplicatives
 use Rattle.sbl_program.specs.Program as programs
 
--- a further command of a row, a further number of a sum, of a product
+-- the other commands of a row, terms of a sum and factors of a product
 abbrev pub JoinedView : Type 0
 JoinedView = Joiner × programs.Node
 
@@ -26,7 +26,7 @@ abbrev pub joined_all : List JoinedView → programs.Node → programs.Node
 joined_all [] c = c
 joined_all (o ∷ os) c = joined_all os (join o.0 c o.1)
 
--- a row; one without others is a bracket around its command
+-- a row; a row without others is its command in parentheses
 abbrev pub grouped : programs.Node → List JoinedView → programs.Node
 grouped c [] = programs.sequence (programs.command c programs.no_commands)
 grouped c (o ∷ os) = joined_all os (join o.0 c o.1)

@@ -1,4 +1,4 @@
--- what the contracts of public calls rest on
+-- definitions that public contracts depend on
 pub mod Listed
 pub mod Characters
 pub mod Terms

@@ -1,4 +1,4 @@
--- The strings of an among, and the mode that reads them.
+-- The strings of an among, and the mode in which they are read.
 use Rattle.std.specs.Prelude.{ℕ, List}
 use Rattle.sbl_tree.specs.declared.mode.Mode.{Mode}
 

@@ -1,4 +1,4 @@
--- The program of a script: names are numbers, each among knows its strings, and nothing says where it lies in memory.
+-- The program of a script: names are numbers, each among has its strings, and there are no memory addresses.
 use Rattle.std.specs.Prelude.{ℕ, Bool, List}
 use Rattle.sbl_program.specs.declared.action.Change.{Change}
 use Rattle.sbl_program.specs.declared.action.Relation.{Relation}
@@ -26,7 +26,7 @@ pub data Arithmetic : Type 0 where
   product : Arithmetic → Arithmetic → Arithmetic
   quotient : Arithmetic → Arithmetic → Arithmetic
 
--- a command that holds no command
+-- a command that contains no command
 pub data Action : Type 0 where
   match : StringTerm → Action
   grouping : ℕ → Action
@@ -72,27 +72,27 @@ mutual
     backwards : Node → Node
     setlimit : Node → Node → Node
     call : ℕ → Node
-    -- the search of an among, by its number in its routine, its strings, and what stands beside each of them
+    -- the search of an among: the number of the among in its routine, its strings, and the candidate of each string
     search : ℕ → Listed → List Candidate → Node
-    -- an among: its number, what it does before the chosen group's command, and the groups' commands
+    -- an among: its number, what runs before the command of the chosen group, and the commands of the groups
     among : ℕ → Nodes → Nodes → Node
 
   pub data Nodes : Type 0 where
     no_commands : Nodes
     command : Node → Nodes → Nodes
 
--- a routine, and how many amongs it has
+-- a routine, and the number of amongs in it
 pub record Routine : Type 0 where
   pub body : Node
   pub amongs : ℕ
 
 pub record Program : Type 0 where
-  -- how many variables there are
+  -- the number of variables of each type
   pub integers : ℕ
   pub booleans : ℕ
   pub strings : ℕ
-  -- the class of each grouping: whether a character is in it
+  -- the class of each grouping: whether it contains a character
   pub groupings : List (ℕ → Bool)
   pub routines : List Routine
-  -- the routine that is run
+  -- the number of the routine to run
   pub external : ℕ

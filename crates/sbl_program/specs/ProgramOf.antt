@@ -1,4 +1,4 @@
--- A machine's parts without where they lie in memory.
+-- The parts of a program without memory addresses.
 use Rattle.std.specs.Prelude.{ℕ, List, [], ◌∷◌, map}
 use Rattle.sbl_program.specs.declared.action.StringTerm.{StringTerm}
 use Rattle.sbl_program.specs.declared.action.StringTerm.TheVariants as terms
@@ -26,7 +26,7 @@ abbrev pub view_text : StringTerm → programs.StringTerm
 view_text (terms.Literal cs) = programs.literal cs.items
 view_text (terms.Variable x) = programs.variable x
 
--- one level, with the view of each child in its place
+-- one level, with the view of each child
 abbrev pub number_step : Arithmetic-F programs.Arithmetic AddedView ScaledView → programs.Arithmetic
 number_step (sums.Number n) = programs.number n
 number_step (sums.Integer x) = programs.integer x
@@ -85,7 +85,7 @@ abbrev pub commands_of : List programs.Node → programs.Nodes
 commands_of [] = programs.no_commands
 commands_of (c ∷ cs) = programs.command c (commands_of cs)
 
--- by the strings that each table lists
+-- `tables` has the strings of each table
 abbrev pub node_step : (ℕ → Listed) → Node-F programs.Node JoinedView → programs.Node
 node_step tables (nodes.Act a) = programs.act (view_action a)
 node_step tables (nodes.Sequence cs) = programs.sequence (commands_of cs.items)

@@ -1,4 +1,4 @@
--- What the terms of a grouping do to the class of its characters.
+-- How the terms of a grouping change its characters.
 use Rattle.std.specs.Prelude.{ℕ, Bool, true, false, List, if◌then◌else◌, slice_index_or}
 use Rattle.sbl_tree.specs.declared.tree.Additive.{Additive}
 use Rattle.sbl_tree.specs.declared.tree.Additive.TheVariants.{Plus, Minus}
@@ -6,15 +6,15 @@ use Rattle.sbl_tree.specs.declared.tree.Additive.TheVariants.{Plus, Minus}
 abbrev pub no_character : ℕ → Bool
 no_character c = false
 
--- whether the characters of a term are there behind it
+-- the term adds its characters
 abbrev pub is_added : Additive → Bool
 is_added Plus = true
 is_added Minus = false
 
--- a class behind a term: the characters of the term are added or taken away, the others are as they were
+-- the class after a term: the characters of the term are added or removed, all others are unchanged
 abbrev pub behind : Additive → (ℕ → Bool) → (ℕ → Bool) → ℕ → Bool
 behind operator term class c = if term c then is_added operator else class c
 
--- the class of a number; no character is in one that is not there
+-- the class with this number; it is empty if there is none
 abbrev pub class_at : List (ℕ → Bool) → ℕ → ℕ → Bool
 class_at classes number = slice_index_or classes number no_character

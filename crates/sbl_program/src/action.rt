@@ -1,8 +1,8 @@
-//! The commands that hold no command, and what they are made of. Names are numbers.
+//! Commands that contain no command, and their parts. Names are numbers.
 
 use sbl_tree::{Additive, Multiplicative};
 
-/// A string: a literal, or what a string variable holds.
+/// A string: a literal, or the value of a string variable.
 #[derive(Drop)]
 pub enum StringTerm {
     /// `'abc'`
@@ -33,43 +33,43 @@ pub enum Arithmetic {
     Least,
     /// `- A`
     Negative(Box<Arithmetic>),
-    /// `A + B - C ..`: added and taken away from the left.
+    /// `A + B - C ..`: added and subtracted from left to right.
     Sum {
-        /// The first number.
+        /// The first term.
         first: Box<Arithmetic>,
-        /// The numbers after it.
+        /// The terms after it.
         others: Vec<Added>,
     },
-    /// `A * B / C ..`: multiplied and divided from the left.
+    /// `A * B / C ..`: multiplied and divided from left to right.
     Product {
-        /// The first number.
+        /// The first factor.
         first: Box<Arithmetic>,
-        /// The numbers after it.
+        /// The factors after it.
         others: Vec<Scaled>,
     },
 }
 
-/// A further number of a sum.
+/// A term after the first one of a sum.
 #[cycle(arithmetic)]
 #[derive(Drop)]
 pub struct Added {
     /// The sign before it.
     pub operator: Additive,
-    /// The number.
+    /// The term.
     pub number: Arithmetic,
 }
 
-/// A further number of a product.
+/// A factor after the first one of a product.
 #[cycle(arithmetic)]
 #[derive(Drop)]
 pub struct Scaled {
     /// The sign before it.
     pub operator: Multiplicative,
-    /// The number.
+    /// The factor.
     pub number: Arithmetic,
 }
 
-/// How an assignment changes an integer.
+/// How an assignment changes an integer variable.
 #[derive(Clone, Copy, Debug, PartialEq, Eq)]
 pub enum Change {
     /// `=`
@@ -101,14 +101,14 @@ pub enum Relation {
     GreaterOrEqual,
 }
 
-/// A command that holds no command.
+/// A command that contains no command.
 #[derive(Drop)]
 pub enum Action {
-    /// A literal or a string variable.
+    /// A literal or a string variable: matches the text.
     Match(StringTerm),
     /// A grouping, by its number.
     Grouping(usize),
-    /// `non`, and a grouping.
+    /// `non` and a grouping, by its number.
     NonGrouping(usize),
     /// `next`
     Next,
@@ -128,7 +128,7 @@ pub enum Action {
     Set(usize),
     /// `unset b`
     Unset(usize),
-    /// A boolean's name.
+    /// The name of a boolean variable, by its number.
     Boolean(usize),
     /// `[`
     LeftBracket,
@@ -144,9 +144,9 @@ pub enum Action {
     Insert(StringTerm),
     /// `attach S`
     Attach(StringTerm),
-    /// `$x = AE` and its like.
+    /// `$x = AE` and similar commands.
     Assign(usize, Change, Arithmetic),
-    /// `$x == AE` and its like, or `$( AE == AE )`.
+    /// `$x == AE` and similar commands, or `$( AE == AE )`.
     Compare(Arithmetic, Relation, Arithmetic),
     /// `true`
     True,

@@ -1,4 +1,4 @@
-//! Blocks of bits that are shared.
+//! Shared blocks of bits.
 
 ghost use Rattle.std.specs.Prelude.{◌≡◌, [], ℕ, nat_eq, if◌then◌else◌, IfOk, OnErr, OnOk};
 ghost use Rattle.sbl_program.specs.Bits.{is_set};
@@ -23,7 +23,7 @@ impl Model for Block {
 }
 
 impl Block {
-    /// No bit is set. AllocError where the growth was refused.
+    /// Returns a block with no bit set. Returns `AllocError` if an allocation fails.
     pub fn new(alloc: Global) -> Result<Block, AllocError>
         ensures { IfOk result (λ b. b ≡ []) }
     {
@@ -31,7 +31,7 @@ impl Block {
         Ok(Block { words })
     }
 
-    /// One more owner of the same bits. AllocError where there are as many as can be counted.
+    /// Returns another owner of the same bits. Returns `AllocError` if the number of owners cannot be counted any more.
     pub fn share(&self) -> Result<Block, AllocError>
         ensures { IfOk result (λ b. b ≡ self.now) }
     {
@@ -39,7 +39,7 @@ impl Block {
         Ok(Block { words })
     }
 
-    /// Whether the bit of a place is set.
+    /// Returns whether the bit at index `place` is set.
     #[inline(always)]
     pub fn has(&self, place: usize) -> bool
         ensures { result ≡ is_set self.now place }
@@ -47,7 +47,7 @@ impl Block {
         is_set(&self.words, place)
     }
 
-    /// Gives the bit of a place a value. AllocError where a growth was refused; no bit is changed then.
+    /// Sets the bit at index `place` to `value`. Returns `AllocError` if an allocation fails; then no bit is changed.
     pub fn put(&mut self, place: usize, value: bool) -> Result<(), AllocError>
         ensures put { (p : ℕ) → OnOk result (is_set self.new p ≡ (if nat_eq place p then value else is_set self.old p)) }
         ensures same { (p : ℕ) → OnErr result (is_set self.new p ≡ is_set self.old p) }
@@ -58,9 +58,8 @@ impl Block {
         put_bit(Rc::make_mut(&mut self.words)?, place, value)
     }
 
-    /// Gives a value to the bits of all places at which those of another block are set. Where nothing changes the bits stay
-    /// shared; else, where the bits of the other block come out, those are shared. AllocError where a growth was refused; no bit
-    /// is changed then.
+    /// Sets to `value` all bits that are set in `other`. If nothing changes, the bits stay shared; if the result has
+    /// the bits of `other`, it shares them. Returns `AllocError` if an allocation fails; then no bit is changed.
     pub fn put_block(&mut self, alloc: Global, other: &Block, value: bool) -> Result<(), AllocError>
         ensures put { (p : ℕ) → OnOk result (is_set self.new p ≡ (if is_set other.now p then value else is_set self.old p)) }
         ensures same { (p : ℕ) → OnErr result (is_set self.new p ≡ is_set self.old p) }

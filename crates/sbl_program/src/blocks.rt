@@ -1,4 +1,4 @@
-//! Blocks of bits in a row.
+//! A list of blocks of bits.
 
 ghost use Rattle.std.specs.Prelude.{◌≡◌, ◌≤◌, ℕ, length, nat_eq, if◌then◌else◌, IfOk, OnErr, OnOk};
 ghost use Rattle.sbl_program.specs.CharacterClasses.{has_place, is_in_block};
@@ -6,10 +6,10 @@ ghost use Rattle.sbl_program.specs.CharacterClasses.{has_place, is_in_block};
 use crate::block::Block;
 use std::alloc::{AllocError, Global};
 
-// How many places a block has. Our own choice.
+// The number of bits in a block (our own choice).
 const BLOCK: usize = 4096;
 
-/// Whether the bit of a place is set. Past the end none is.
+/// Returns whether the bit at index `place` is set. Bits past the end are not set.
 pub fn is_in_blocks(blocks: &[Block], place: usize) -> bool
     ensures { result ≡ has_place blocks.now place }
 {
@@ -19,7 +19,8 @@ pub fn is_in_blocks(blocks: &[Block], place: usize) -> bool
     }
 }
 
-// Grows blocks until they are so many. No bit is set by it, also where a growth was refused.
+// Grows `blocks` to at least `count` blocks. No bit changes, also if an allocation fails. Returns `AllocError` if an
+// allocation fails.
 fn grow(alloc: Global, blocks: &mut Vec<Block>, count: usize) -> Result<(), AllocError>
     ensures same { (k p : ℕ) → is_in_block blocks.new.items k p ≡ is_in_block blocks.old.items k p }
     ensures there { IfOk result (λ _. count ≤ length blocks.new.items) }
@@ -34,7 +35,7 @@ fn grow(alloc: Global, blocks: &mut Vec<Block>, count: usize) -> Result<(), Allo
     Ok(())
 }
 
-/// Gives the bit of a place a value. AllocError where a growth was refused; no bit is changed then.
+/// Sets the bit at index `place` to `value`. Returns `AllocError` if an allocation fails; then no bit is changed.
 pub fn put_place(
     alloc: Global,
     blocks: &mut Vec<Block>,
@@ -54,8 +55,8 @@ pub fn put_place(
     Ok(())
 }
 
-/// Gives a value to the bits of all places at which those of other blocks are set. AllocError where a growth was refused; some of the
-/// bits may have been given the value by then.
+/// Sets to `value` all bits that are set in `others`. Returns `AllocError` if an allocation fails; then some of the
+/// bits may have been set already.
 pub fn put_blocks(
     alloc: Global,
     blocks: &mut Vec<Block>,

@@ -1,4 +1,4 @@
-//! Classes of characters that share what they have in common.
+//! Classes of characters that share common parts.
 
 ghost use Rattle.std.specs.Prelude.{◌≡◌, ℕ, map, nat_eq, if◌then◌else◌, IfOk, OnErr, OnOk};
 ghost use Rattle.sbl_program.specs.CharacterClasses.{members};
@@ -12,15 +12,16 @@ use sbl_tree::Additive;
 use std::alloc::{AllocError, Global};
 use std::marker::Model;
 
-// How many codes have their bits at hand: nearly all alphabets have all their letters there. Our own choice.
+// The number of code points whose bits are stored directly: nearly all alphabets have all their letters below it (our
+// own choice).
 const FIRST: usize = 4096;
 
-/// Some characters, as those of a grouping. Whether a character is one of them takes no search through them: each code has a bit,
-/// those from 4,096 on in blocks of so many. A class that is made of others shares with them the blocks in which it has the same
-/// characters, so that groupings built one from another take little memory and time.
+/// A set of characters, such as a grouping. Whether it contains a character is decided without a search: each code
+/// point has a bit; from 4,096 on the bits are in blocks of 4,096. A class that is built from others shares with them
+/// the blocks that have the same characters, so that groupings built from one another need little memory and time.
 #[derive(Drop)]
 pub struct CharacterClass {
-    // The bits of the first codes. What lies past the end is not there, here and in the blocks.
+    // The bits of the first code points. Bits past the end are not set, here and in the blocks.
     first: Vec<u64>,
     blocks: Vec<Block>,
 }
@@ -34,7 +35,7 @@ impl Model for CharacterClass {
 }
 
 impl CharacterClass {
-    /// No character. It takes no memory.
+    /// Returns the empty class. Does not allocate.
     #[tactic(auto, unfolding(crate::specs::CharacterClasses::members))]
     pub fn new(alloc: Global) -> CharacterClass
         ensures { members result ≡ no_character }
@@ -45,7 +46,7 @@ impl CharacterClass {
         }
     }
 
-    /// Whether a character is one of these.
+    /// Returns whether the class contains the character.
     #[inline(always)]
     #[tactic(auto, unfolding(crate::specs::CharacterClasses::members))]
     pub fn contains(&self, c: char) -> bool
@@ -59,7 +60,7 @@ impl CharacterClass {
         }
     }
 
-    /// Adds a character, or takes it away. AllocError where a growth was refused; the characters are as they were then.
+    /// Adds or removes a character. Returns `AllocError` if an allocation fails; then the class is unchanged.
     #[tactic(auto, unfolding(crate::specs::CharacterClasses::members))]
     pub fn put(&mut self, alloc: Global, c: char, value: bool) -> Result<(), AllocError>
         ensures put { (d : ℕ) → OnOk result (members self.new d ≡ (if nat_eq c d then value else members self.old d)) }
@@ -73,7 +74,7 @@ impl CharacterClass {
         }
     }
 
-    // Gives a value to whether some characters are of these.
+    // Adds or removes characters.
     fn put_all(&mut self, alloc: Global, characters: &[char], value: bool) -> Result<(), AllocError>
         ensures { (d : ℕ) → OnOk result (members self.new d ≡ (if has characters.now d then value else members self.old d)) }
     {
@@ -83,7 +84,7 @@ impl CharacterClass {
         Ok(())
     }
 
-    /// These with some characters added or taken away. AllocError where a growth was refused.
+    /// Returns this class with characters added or removed. Returns `AllocError` if an allocation fails.
     pub fn with(
         self,
         alloc: Global,
@@ -97,7 +98,8 @@ impl CharacterClass {
         Ok(class)
     }
 
-    /// These with those of another class added or taken away. AllocError where a growth was refused.
+    /// Returns this class with the characters of another class added or removed. Returns `AllocError` if an allocation
+    /// fails.
     #[tactic(auto, unfolding(crate::specs::CharacterClasses::members))]
     pub fn with_class(
         self,
@@ -118,7 +120,7 @@ impl CharacterClass {
     }
 }
 
-/// Whether a character is in the class of a number. No character is in one that is not there.
+/// Returns whether the class with this number contains the character; `false` if there is no such class.
 #[inline(always)]
 pub fn is_in_class(classes: &[CharacterClass], number: usize, c: char) -> bool
     ensures { result ≡ class_at (map members classes.now) number c }
@@ -129,7 +131,7 @@ pub fn is_in_class(classes: &[CharacterClass], number: usize, c: char) -> bool
     }
 }
 
-// Whether the characters of a term are there behind it.
+// Returns whether the term adds its characters.
 fn is_added(operator: Additive) -> bool
     ensures { result ≡ is_added operator }
 {

@@ -1,4 +1,4 @@
-//! An among as it is found in a script, for its table.
+//! An among as it is found in a script; its table is built from this.
 
 use crate::node::Candidate;
 use sbl_tree::Mode;
@@ -8,10 +8,10 @@ use sbl_tree::Mode;
 pub struct Found {
     /// Its number in its routine.
     pub number: usize,
-    /// The mode of its place.
+    /// The mode at its position.
     pub mode: Mode,
     /// Its strings.
     pub strings: Vec<Vec<char>>,
-    /// What stands beside each string.
+    /// The candidate of each string.
     pub entries: Vec<Candidate>,
 }

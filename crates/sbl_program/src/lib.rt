@@ -1,4 +1,5 @@
-//! The program of a script as a machine runs it: names are numbers, each `substring` is tied to its `among`, groupings are classes of characters.
+//! Programs as the interpreter runs them: names are numbers, each `substring` is tied to its `among`, groupings are
+//! classes of characters.
 #![tactic(auto)]
 
 mod action;

@@ -1,4 +1,5 @@
-//! The machine's own tree: names are numbers, and each among has its table and its place among the choices of its routine.
+//! The commands of a routine as the interpreter runs them: names are numbers; each among has its table and its number
+//! in its routine.
 
 ghost use Rattle.std.specs.Prelude.{◌≡◌, ℕ, slice_get};
 ghost use Rattle.std.specs.Option.{option_map};
@@ -13,11 +14,12 @@ use sbl_tree::Joiner;
 #[cycle(node)]
 #[derive(Drop)]
 pub enum Node {
-    /// A command without a command inside it.
+    /// A command that contains no command.
     Act(Action),
     /// `( C1 C2 .. )`
     Sequence(Vec<Node>),
-    /// `C1 or C2 and C3 ..`: a row of commands, grouped from the left. One without others is a bracket around the first.
+    /// `C1 or C2 and C3 ..`: a row of commands, grouped from left to right. If `others` is empty, the row is the first
+    /// command in parentheses.
     Row {
         /// The first command.
         first: Box<Node>,
@@ -48,30 +50,30 @@ pub enum Node {
     Backwards(Box<Node>),
     /// `setlimit C1 for C2`
     SetLimit(Box<Node>, Box<Node>),
-    /// A routine's name, by its number.
+    /// The name of a routine, by its number.
     Call(usize),
-    /// The search of an among, written as `substring` or made by the among itself.
+    /// The search of an among: a `substring`, or the search that the among makes itself.
     Search {
         /// The number of the among in its routine.
         among: usize,
         /// The number of its table.
         table: usize,
-        /// What stands beside each string.
+        /// The candidate of each string.
         entries: Vec<Candidate>,
     },
     /// `among ( .. )`
     Among {
         /// The number of the among in its routine.
         among: usize,
-        /// What it does before the chosen group's command: its search and its starter, or nothing where a `substring`
-        /// makes the search.
+        /// What runs before the command of the chosen group: the search and the starter. If a `substring` makes the
+        /// search: empty.
         before: Vec<Node>,
-        /// Each group's command.
+        /// The command of each group.
         bodies: Vec<Node>,
     },
 }
 
-/// A further command of a row.
+/// A command after the first one of a row.
 #[cycle(node)]
 #[derive(Drop)]
 pub struct Joined {
@@ -81,45 +83,45 @@ pub struct Joined {
     pub command: Node,
 }
 
-/// What stands beside a string of an among.
+/// What belongs to a string of an among.
 #[derive(Clone, Copy, Debug, PartialEq, Eq)]
 pub struct Candidate {
-    /// The routine that has to signal t.
+    /// The routine that must signal t.
     pub condition: Option<usize>,
-    /// The group, by its number; the number of groups where it has no command.
+    /// The number of its group; the number of groups if it has no command.
     pub group: usize,
-    /// How many characters the string has.
+    /// The length of the string in characters.
     pub length: usize,
 }
 
 /// A routine.
 #[derive(Drop)]
 pub struct Routine {
-    /// Its body.
+    /// The body of the routine.
     pub body: Node,
-    /// How many amongs it has.
+    /// The number of amongs in the routine.
     pub amongs: usize,
 }
 
-/// What the commands of a script refer to by number.
+/// A program: the variables, groupings and routines that commands refer to by number.
 #[derive(Drop)]
 pub struct Program {
-    /// How many integers there are.
+    /// The number of integer variables.
     pub integers: usize,
-    /// How many booleans there are.
+    /// The number of boolean variables.
     pub booleans: usize,
-    /// How many string variables there are.
+    /// The number of string variables.
     pub strings: usize,
     /// The class of each grouping.
     pub groupings: Vec<CharacterClass>,
     /// The routines.
     pub routines: Vec<Routine>,
-    /// The routine that is run, by its number.
+    /// The number of the routine to run.
     pub external: usize,
 }
 
 impl Program {
-    /// The routine of a number; `None` where no routine has it.
+    /// Returns the routine with this number, or `None` if there is none.
     pub fn routine(&self, number: usize) -> Option<&Routine>
         ensures { (tables : ℕ → Listed) → slice_get (program_of tables self.now).routines number ≡ option_map (λ r. view_routine tables r.now) result }
     {

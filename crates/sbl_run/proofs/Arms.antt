@@ -153,7 +153,7 @@ called p (suc n) i m s r h e =
     let k : n ≡ suc n - 1 = omega arith in
     ap (λ o. body_does (runs p n) i o m s) e ∙ ap (λ k. leave s.routine s.choices (runs p k r.body m (enter i r.amongs s))) k
 
-pub leave_signals : (i : ℕ) (cs : List (Option ℕ)) (e : Ending) (b : Bool) (t : State) → e ≡ Signals b t → leave i cs e ≡ Signals b (back_in i cs t)
+pub leave_signals : (i : ℕ) (cs : List (Option ℕ)) (e : Ending) (b : Bool) (t : State) → e ≡ Signals b t → leave i cs e ≡ Signals b (back_in i cs b t)
 leave_signals i cs e true t p = ap (leave i cs) p
 leave_signals i cs e false t p = ap (leave i cs) p
 

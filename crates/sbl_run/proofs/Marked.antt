@@ -7,7 +7,7 @@ use Rattle.std.proofs.lemmas.Bool.{true≢false, eqb-true, eq-eqb}
 use Rattle.std.proofs.lemmas.List.{get_or-set_same, get_or-set_other}
 use Rattle.std.proofs.lemmas.List.Folds.{list_any-append}
 use Rattle.sbl_run.specs.declared.touch.Touch.{Touch}
-use Rattle.sbl_run.specs.declared.touch.Touch.TheVariants.{Entered, Searched}
+use Rattle.sbl_run.specs.declared.touch.Touch.TheVariants.{Entered, Searched, Tested}
 use Rattle.sbl_run.specs.Marks.{is_set, is_set_in, AreMarked, AreAmong}
 use Rattle.sbl_run.specs.Touches.{same_touch, with_touch}
 
@@ -71,14 +71,24 @@ set_bit bits i j x ts y false h s l b =
     get_or-set_other bits i j true false (differ i j h) ∙ b ∙ sym (last_is_not x y ts s)
 
 -- bits that were grown
-pub grown_marks : (ts : List Touch) (entered more : List Bool) (searched others : List (List Bool)) → AreMarked ts entered searched → ((i : ℕ) → is_set more i ≡ is_set entered i) → ((i k : ℕ) → is_set_in others i k ≡ is_set_in searched i k) → AreMarked ts more others
-grown_marks ts entered more searched others h same alike = record { routines = λ i. same i ∙ h.routines i; amongs = λ i k. alike i k ∙ h.amongs i k }
+pub grown_marks : (ts : List Touch) (entered more : List Bool) (searched others : List (List Bool)) (tested further : List Bool) → AreMarked ts entered searched tested → ((i : ℕ) → is_set more i ≡ is_set entered i) → ((i k : ℕ) → is_set_in others i k ≡ is_set_in searched i k) → ((g : ℕ) → is_set further g ≡ is_set tested g) → AreMarked ts more others further
+grown_marks ts entered more searched others tested further h same alike too =
+    record { routines = λ i. same i ∙ h.routines i; amongs = λ i k. alike i k ∙ h.amongs i k; groupings = λ g. too g ∙ h.groupings g }
 
-pub entered_marks : (ts : List Touch) (entered : List Bool) (searched : List (List Bool)) (i : ℕ) → AreMarked ts entered searched → i < length entered → AreMarked (ts ++ (Entered i ∷ [])) (slice_set entered i true) searched
-entered_marks ts entered searched i h l =
+pub entered_marks : (ts : List Touch) (entered : List Bool) (searched : List (List Bool)) (tested : List Bool) (i : ℕ) → AreMarked ts entered searched tested → i < length entered → AreMarked (ts ++ (Entered i ∷ [])) (slice_set entered i true) searched tested
+entered_marks ts entered searched tested i h l =
     record {
       routines = λ j. set_bit entered i j (Entered j) ts (Entered i) _ refl refl l (h.routines j);
       amongs = λ j k. h.amongs j k ∙ sym (last_is_not (Searched j k) (Entered i) ts refl);
+      groupings = λ g. h.groupings g ∙ sym (last_is_not (Tested g) (Entered i) ts refl);
+    }
+
+pub tested_marks : (ts : List Touch) (entered : List Bool) (searched : List (List Bool)) (tested : List Bool) (g : ℕ) → AreMarked ts entered searched tested → g < length tested → AreMarked (ts ++ (Tested g ∷ [])) entered searched (slice_set tested g true)
+tested_marks ts entered searched tested g h l =
+    record {
+      routines = λ j. h.routines j ∙ sym (last_is_not (Entered j) (Tested g) ts refl);
+      amongs = λ j k. h.amongs j k ∙ sym (last_is_not (Searched j k) (Tested g) ts refl);
+      groupings = λ j. set_bit tested g j (Tested j) ts (Tested g) _ refl refl l (h.groupings j);
     }
 
 -- the same in a row
@@ -96,25 +106,28 @@ set_row rows i k j l ts false h a b g =
     ∙ g j l
     ∙ sym (last_is_not (Searched j l) (Searched i k) ts (ap (λ b. b && nat_eq l k) h))
 
-pub searched_marks : (ts : List Touch) (entered : List Bool) (searched : List (List Bool)) (i k : ℕ) → AreMarked ts entered searched → i < length searched → k < length (slice_index_or searched i []) → AreMarked (ts ++ (Searched i k ∷ [])) entered (slice_set searched i (slice_set (slice_index_or searched i []) k true))
-searched_marks ts entered searched i k h a b =
+pub searched_marks : (ts : List Touch) (entered : List Bool) (searched : List (List Bool)) (tested : List Bool) (i k : ℕ) → AreMarked ts entered searched tested → i < length searched → k < length (slice_index_or searched i []) → AreMarked (ts ++ (Searched i k ∷ [])) entered (slice_set searched i (slice_set (slice_index_or searched i []) k true)) tested
+searched_marks ts entered searched tested i k h a b =
     record {
       routines = λ j. h.routines j ∙ sym (last_is_not (Entered j) (Searched i k) ts refl);
       amongs = λ j l. set_row searched i k j l ts _ refl a b h.amongs;
+      groupings = λ g. h.groupings g ∙ sym (last_is_not (Tested g) (Searched i k) ts refl);
     }
 
 -- ---- bits that are cleared
 
-pub among : (ts : List Touch) (entered : List Bool) (searched : List (List Bool)) → AreMarked ts entered searched → AreAmong ts entered searched
-among ts entered searched h = record { routines = λ i p. sym (h.routines i) ∙ p; amongs = λ i k p. sym (h.amongs i k) ∙ p }
+pub among : (ts : List Touch) (entered : List Bool) (searched : List (List Bool)) (tested : List Bool) → AreMarked ts entered searched tested → AreAmong ts entered searched tested
+among ts entered searched tested h =
+    record { routines = λ i p. sym (h.routines i) ∙ p; amongs = λ i k p. sym (h.amongs i k) ∙ p; groupings = λ g p. sym (h.groupings g) ∙ p }
 
 none : (b : Bool) → (b ≡ true → false ≡ true) → b ≡ false
 none true h = sym (h refl)
 none false h = refl
 
 -- no bit is set where there is no touch
-pub cleared : (entered : List Bool) (searched : List (List Bool)) → AreAmong [] entered searched → AreMarked [] entered searched
-cleared entered searched h = record { routines = λ i. none _ (h.routines i); amongs = λ i k. none _ (h.amongs i k) }
+pub cleared : (entered : List Bool) (searched : List (List Bool)) (tested : List Bool) → AreAmong [] entered searched tested → AreMarked [] entered searched tested
+cleared entered searched tested h =
+    record { routines = λ i. none _ (h.routines i); amongs = λ i k. none _ (h.amongs i k); groupings = λ g. none _ (h.groupings g) }
 
 -- a cleared bit is not set, past the end too
 clear_bit : (bits : List Bool) (i : ℕ) → is_set (slice_set bits i false) i ≡ false
@@ -138,11 +151,20 @@ left_bit bits i j x ts y true h s g p =
 left_bit bits i j x ts y false h s g p =
     sym (last_is_not x y ts s) ∙ g (sym (get_or-set_other bits i j false false (differ i j h)) ∙ p)
 
-pub left_routine : (ts : List Touch) (entered : List Bool) (searched : List (List Bool)) (i : ℕ) → AreAmong (ts ++ (Entered i ∷ [])) entered searched → AreAmong ts (slice_set entered i false) searched
-left_routine ts entered searched i h =
+pub left_routine : (ts : List Touch) (entered : List Bool) (searched : List (List Bool)) (tested : List Bool) (i : ℕ) → AreAmong (ts ++ (Entered i ∷ [])) entered searched tested → AreAmong ts (slice_set entered i false) searched tested
+left_routine ts entered searched tested i h =
     record {
       routines = λ j p. left_bit entered i j (Entered j) ts (Entered i) _ refl refl (h.routines j) p;
       amongs = λ j k p. sym (last_is_not (Searched j k) (Entered i) ts refl) ∙ h.amongs j k p;
+      groupings = λ g p. sym (last_is_not (Tested g) (Entered i) ts refl) ∙ h.groupings g p;
+    }
+
+pub left_grouping : (ts : List Touch) (entered : List Bool) (searched : List (List Bool)) (tested : List Bool) (g : ℕ) → AreAmong (ts ++ (Tested g ∷ [])) entered searched tested → AreAmong ts entered searched (slice_set tested g false)
+left_grouping ts entered searched tested g h =
+    record {
+      routines = λ j p. sym (last_is_not (Entered j) (Tested g) ts refl) ∙ h.routines j p;
+      amongs = λ j k p. sym (last_is_not (Searched j k) (Tested g) ts refl) ∙ h.amongs j k p;
+      groupings = λ j p. left_bit tested g j (Tested j) ts (Tested g) _ refl refl (h.groupings j) p;
     }
 
 left_row : (rows : List (List Bool)) (i k j l : ℕ) (ts : List Touch) (e : Bool) → nat_eq j i ≡ e → ((j l : ℕ) → is_set_in rows j l ≡ true → list_any (same_touch (Searched j l)) (ts ++ (Searched i k ∷ [])) ≡ true) → is_set_in (slice_set rows i (slice_set (slice_index_or rows i []) k false)) j l ≡ true → list_any (same_touch (Searched j l)) ts ≡ true
@@ -157,11 +179,12 @@ left_row rows i k j l ts false h g p =
     sym (last_is_not (Searched j l) (Searched i k) ts (ap (λ b. b && nat_eq l k) h))
     ∙ g j l (sym (ap (λ bs. is_set bs l) (get_or-set_other rows i j (slice_set bits k false) [] (differ i j h))) ∙ p)
 
-pub left_among : (ts : List Touch) (entered : List Bool) (searched : List (List Bool)) (i k : ℕ) → AreAmong (ts ++ (Searched i k ∷ [])) entered searched → AreAmong ts entered (slice_set searched i (slice_set (slice_index_or searched i []) k false))
-left_among ts entered searched i k h =
+pub left_among : (ts : List Touch) (entered : List Bool) (searched : List (List Bool)) (tested : List Bool) (i k : ℕ) → AreAmong (ts ++ (Searched i k ∷ [])) entered searched tested → AreAmong ts entered (slice_set searched i (slice_set (slice_index_or searched i []) k false)) tested
+left_among ts entered searched tested i k h =
     record {
       routines = λ j p. sym (last_is_not (Entered j) (Searched i k) ts refl) ∙ h.routines j p;
       amongs = λ j l p. left_row searched i k j l ts _ refl h.amongs p;
+      groupings = λ g p. sym (last_is_not (Tested g) (Searched i k) ts refl) ∙ h.groupings g p;
     }
 
 -- ---- rows that were grown

@@ -1,6 +1,6 @@
--- What each command without a command inside it does once its step is paid.
+-- What each command without a command inside does after its step is paid.
 use Rattle.std.specs.Prelude.{ℕ, Bool, true, false, List, []}
-use Rattle.sbl_run.specs.Moves.{characters, match, one_of, next, hop, at_limit, set_mark, at_mark, to_mark, set_boolean, test_boolean}
+use Rattle.sbl_run.specs.Moves.{characters, match, one_of, touch_grouping, next, hop, at_limit, set_mark, at_mark, to_mark, set_boolean, test_boolean}
 use Rattle.sbl_run.specs.Numbers.{value, natural, given, assign, compare}
 use Rattle.sbl_program.specs.Program as programs
 use Rattle.sbl_program.specs.Terms.{class_at}
@@ -8,11 +8,11 @@ use Rattle.sbl_run.specs.Slices.{left_bracket, right_bracket, replace, keep, ins
 use Rattle.sbl_run.specs.State.{State, Ending, Signals, to_limit}
 use Rattle.sbl_tree.specs.declared.mode.Mode.{Mode}
 
--- by the classes of the groupings
+-- `classes` has the classes of the groupings
 abbrev pub acts : List (ℕ → Bool) → programs.Action → Mode → State → Ending
 acts classes (programs.match t) m s = match (characters t s) m s
-acts classes (programs.grouping g) m s = one_of true (class_at classes g) m s
-acts classes (programs.non g) m s = one_of false (class_at classes g) m s
+acts classes (programs.grouping g) m s = one_of true (class_at classes g) m (touch_grouping g s)
+acts classes (programs.non g) m s = one_of false (class_at classes g) m (touch_grouping g s)
 acts classes programs.next m s = next m s
 acts classes (programs.hop a) m s = given (value a m s) s (λ z. hop (natural z) m s)
 acts classes programs.tolimit m s = to_limit m s

@@ -1,11 +1,11 @@
--- The faults that halts stand for.
+-- The faults of halts.
 use Rattle.std.specs.Prelude.{Option, Some, None}
 use Rattle.sbl_run.specs.declared.fault.RunFault.{RunFault}
 use Rattle.sbl_run.specs.declared.fault.RunFault.TheVariants as faults
 use Rattle.sbl_run.specs.declared.halt.Halt.{Halt}
 use Rattle.sbl_run.specs.declared.halt.Halt.TheVariants as halts
 
--- the fault that a run is refused with; none for want of memory
+-- the fault with which a run is refused; none if memory was refused
 abbrev pub fault_of : Halt → Option RunFault
 fault_of halts.OutOfMemory = None
 fault_of halts.Steps = Some faults.Steps

@@ -1,16 +1,16 @@
--- How the code's answers stand for an ending, and what holds of each state.
+-- How the results of the code represent an ending, and what holds of each state.
 use Rattle.std.specs.Prelude.{◌≡◌, ℕ, ◌≤◌, Bool, true, false, List, length, Option, Some, None, Result, Ok, Err}
 use Rattle.sbl_run.specs.declared.fault.RunFault.{RunFault}
 use Rattle.sbl_run.specs.declared.halt.Halt.{Halt}
 use Rattle.sbl_run.specs.Halts.{fault_of}
 use Rattle.sbl_run.specs.State.{State, Ending, Signals, Stops}
 
--- A command ended early, and left this state, as the definition says; want of memory may come at any place.
+-- A command ended early and left this state, as the definition says; memory may be refused at any point.
 abbrev pub Halts : Option RunFault → State → Ending → Type 0
 Halts None new e = Unit {0}
 Halts (Some fault) new e = e ≡ Stops fault new
 
--- A command answered this, and left this state, as the definition says.
+-- A command returned this and left this state, as the definition says.
 abbrev pub Follows : Result Bool Halt → State → Ending → Type 0
 Follows (Ok b) new e = e ≡ Signals b new
 Follows (Err halt) new e = Halts (fault_of halt) new e
@@ -20,13 +20,13 @@ abbrev pub Leads : Result (Unit {0}) Halt → State → Ending → Type 0
 Leads (Ok u) new e = e ≡ Signals true new
 Leads (Err halt) new e = Halts (fault_of halt) new e
 
--- One string of a search: it is taken, or what comes next follows.
+-- One string of a search: it is taken, or the next one follows.
 abbrev pub Tried : Result Bool Halt → State → Ending → Ending → Type 0
 Tried (Ok true) new e follow = e ≡ Signals true new
 Tried (Ok false) new e follow = e ≡ follow
 Tried (Err halt) new e follow = Halts (fault_of halt) new e
 
--- the places lie in the text, which is short
+-- the offsets lie in the text, which is short
 pub record IsWithin (text : List ℕ) (cursor left beyond bra ket : ℕ) : Type 0 where
   pub short : length text ≤ 1024
   pub cursor_in : cursor ≤ length text

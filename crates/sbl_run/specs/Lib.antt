@@ -1,6 +1,7 @@
--- what the contracts of public calls rest on
+-- definitions that public contracts depend on
 pub mod Names
 pub mod Touches
+pub mod Events
 pub mod State
 pub mod Moves
 pub mod Slices
@@ -12,6 +13,7 @@ pub mod Run
 pub mod Start
 pub mod Halts
 pub mod Kept
--- what the functions inside the crate promise each other: nothing in these need be believed
+-- what the functions inside the crate promise each other; no public contract depends on these
+pub mod Told
 pub mod Rows
 pub mod Marks

@@ -1,4 +1,4 @@
--- Numbers: what an arithmetic expression is worth, and what is done with it.
+-- Numbers: the value of an arithmetic expression, and what is done with it.
 use Rattle.std.specs.Prelude.{ℕ, ℤ, pos, negsuc, ◌+ℤ◌, ◌-ℤ◌, ◌*ℤ◌, neg_ℤ, ◌^◌, Bool, true, not, length, nat_lt, int_lt, int_div, if◌then◌else◌, Result, Ok, Err, Option, Some, None, slice_index_or, slice_set}
 use Rattle.std.specs.Ordering.{int_eq}
 use Rattle.sbl_program.specs.declared.action.Change.{Change}
@@ -22,16 +22,16 @@ abbrev pub fitted : ℤ → Value
 fitted (pos n) = if nat_lt n (2 ^ 31) then Ok (pos n) else Err faults.Integer
 fitted (negsuc n) = if nat_lt n (2 ^ 31) then Ok (negsuc n) else Err faults.Integer
 
--- the quotient, cut towards zero
+-- the quotient, rounded towards zero
 abbrev pub divided : ℤ → ℤ → Value
 divided x y = if int_eq y (pos 0) then Err faults.Divide else fitted (int_div x y)
 
--- goes on with a number
+-- continues with a number
 abbrev pub with_value : Value → (ℤ → Value) → Value
 with_value (Ok z) go = go z
 with_value (Err fault) go = Err fault
 
--- goes on with two numbers, the left one first
+-- continues with two numbers, the left one first
 abbrev pub with_both : Value → Value → (ℤ → ℤ → Value) → Value
 with_both a b go = with_value a (λ x. with_value b (go x))
 
@@ -40,11 +40,11 @@ abbrev pub limit_value : Mode → State → Value
 limit_value Forward s = fitted (pos (length s.text) -ℤ pos s.beyond)
 limit_value Backward s = fitted (pos s.left)
 
--- what an integer variable holds
+-- the value of an integer variable
 abbrev pub integer_at : ℕ → State → ℤ
 integer_at x s = slice_index_or s.integers x (pos 0)
 
--- what an expression is worth
+-- the value of an expression
 abbrev pub value : programs.Arithmetic → Mode → State → Value
 value (programs.number n) m s = fitted (pos n)
 value (programs.integer x) m s = Ok (integer_at x s)
@@ -60,7 +60,7 @@ value (programs.difference a b) m s = with_both (value a m s) (value b m s) (λ 
 value (programs.product a b) m s = with_both (value a m s) (value b m s) (λ x y. fitted (x *ℤ y))
 value (programs.quotient a b) m s = with_both (value a m s) (value b m s) divided
 
--- what an integer becomes
+-- the new value of an integer variable
 abbrev pub changed : Change → ℤ → ℤ → Value
 changed Becomes x y = Ok y
 changed Plus x y = fitted (x +ℤ y)
@@ -76,12 +76,12 @@ holds LessOrEqual x y = not (int_lt y x)
 holds Greater x y = int_lt y x
 holds GreaterOrEqual x y = not (int_lt x y)
 
--- a command goes on with a number, or the run is refused
+-- a command continues with a number, or the run is refused
 abbrev pub given : Value → State → (ℤ → Ending) → Ending
 given (Ok z) s go = go z
 given (Err fault) s go = Stops fault s
 
--- `$x = AE` and its like: the expression first
+-- `$x = AE` and similar commands: the expression first
 abbrev pub assign : ℕ → Change → programs.Arithmetic → Mode → State → Ending
 assign x change a m s =
     given (with_value (value a m s) (changed change (integer_at x s))) s (λ z. Signals true (record s { integers = slice_set s.integers x z }))
@@ -90,7 +90,7 @@ assign x change a m s =
 abbrev pub compare : programs.Arithmetic → Relation → programs.Arithmetic → Mode → State → Ending
 compare a relation b m s = given (value a m s) s (λ x. given (value b m s) s (λ y. Signals (holds relation x y) s))
 
--- a number that is no less than zero
+-- a number that is not negative
 abbrev pub natural : ℤ → Option ℕ
 natural (pos n) = Some n
 natural (negsuc n) = None

@@ -1,5 +1,5 @@
--- Rows, sums and products as the machine goes through them, one part after another. Nothing here need be believed: it is what
--- the functions that run a row, a sum and a product promise each other.
+-- Rows, sums and products as the machine runs them, one part after another. You need not believe anything here: it is
+-- what the functions that run a row, a sum and a product promise each other.
 use Rattle.std.specs.Prelude.{ℕ, ℤ, zero, suc, ◌-◌, ◌+ℤ◌, ◌-ℤ◌, ◌*ℤ◌, Bool, true, false, not, List, [], ◌∷◌, length, if◌then◌else◌}
 use Rattle.sbl_tree.specs.declared.tree.Joiner.{Joiner}
 use Rattle.sbl_tree.specs.declared.tree.Joiner.TheVariants.{Or, And}
@@ -21,7 +21,7 @@ abbrev pub sum_of : Additive → ℤ → ℤ → Value
 sum_of additives.Plus x y = fitted (x +ℤ y)
 sum_of additives.Minus x y = fitted (x -ℤ y)
 
--- the others, added to what there is so far and taken away from it
+-- the other terms, added to and subtracted from the value so far
 abbrev pub sums_to : List AddedView → Value → Mode → State → Value
 sums_to [] v m s = v
 sums_to (o ∷ os) v m s = sums_to os (with_both v (value o.1 m s) (sum_of o.0)) m s
@@ -36,24 +36,24 @@ scales_to (o ∷ os) v m s = scales_to os (with_both v (value o.1 m s) (product_
 
 -- ---- rows
 
--- pays so many steps
+-- uses this many steps
 abbrev pub pays : ℕ → State → Ending
 pays zero s = Signals true s
 pays (suc n) s = then_on (pay s.steps s) (pays n)
 
--- whether a signal is that of the row so far, whatever its next command would do
+-- the signal decides the row so far, whatever the next command does
 abbrev pub is_settled : Joiner → Bool → Bool
 is_settled Or b = b
 is_settled And b = not b
 
--- the next command of a row, behind a signal
+-- the next command of a row, after a signal
 abbrev pub joined_runs : programs.Program → ℕ → Mode → SavedCursor → JoinedView → Bool → State → Ending
 joined_runs p levels m from o b s = if is_settled o.0 b then Signals b s else then_on (put_back m from s) (runs p levels o.1 m)
 
 abbrev pub joined_after : programs.Program → ℕ → Mode → SavedCursor → JoinedView → Ending → Ending
 joined_after p levels m from o e = after e (joined_runs p levels m from o true) (joined_runs p levels m from o false)
 
--- the others in turn, each behind what comes before it
+-- the others one after another, each after those before it
 abbrev pub others_run : programs.Program → ℕ → Mode → SavedCursor → List JoinedView → Ending → Ending
 others_run p levels m from [] e = e
 others_run p levels m from (o ∷ os) e = others_run p levels m from os (joined_after p levels m from o e)

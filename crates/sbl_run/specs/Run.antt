@@ -1,4 +1,4 @@
--- What a run of a script does: each command by what its parts do.
+-- What a run of a script does: each command in terms of its parts.
 use Rattle.std.specs.Prelude.{ℕ, zero, suc, ℤ, pos, negsuc, ◌-◌, Bool, true, false, List, length, Option, Some, None, slice_get, replicate}
 use Rattle.sbl_run.specs.declared.fault.RunFault.TheVariants.{Steps, Depth}
 use Rattle.sbl_run.specs.declared.state.Limits.{Limits}
@@ -8,13 +8,14 @@ use Rattle.sbl_run.specs.Moves.{next}
 use Rattle.sbl_run.specs.Numbers.{value, given}
 use Rattle.sbl_program.specs.Program as programs
 use Rattle.sbl_run.specs.Search.{choice, search_all}
-use Rattle.sbl_run.specs.State.{State, Ending, Signals, Stops, Doing, after, then_on, pay, at_place, to_limit, saved_cursor, put_back}
+use Rattle.sbl_run.specs.State.{State, Ending, Signals, Stops, Doing, after, then_on, pay, at_place, to_limit, saved_cursor, put_back, tell}
+use Rattle.sbl_run.specs.Events.{Enters, Leaves}
 use Rattle.sbl_run.specs.Touches.{with_touch}
 use Rattle.sbl_tree.specs.declared.mode.Mode.{Mode}
 use Rattle.sbl_tree.specs.declared.mode.Mode.TheVariants.{Forward, Backward}
 
--- At most n turns, up to the first f, after which the cursor is put back to before it. Each turn pays a step
--- at least, so a run begins at most one turn more than it has steps.
+-- At most n turns, up to the first f; then the cursor is put back to before that turn. Each turn uses at least one
+-- step, so a run begins at most one turn more than it has steps.
 abbrev pub turns : ℕ → Doing → Mode → State → Ending
 turns zero c m s = Stops Steps s
 turns (suc n) c m s = after (c m s) (turns n c m) (put_back m (saved_cursor s))
@@ -24,66 +25,67 @@ abbrev pub times : ℕ → Doing → Mode → State → Ending
 times zero c m s = Signals true s
 times (suc n) c m s = after (c m s) (times n c m) (Signals false)
 
--- a negative count is none
+-- a negative count is zero
 abbrev pub count_of : ℤ → ℕ
 count_of (pos n) = n
 count_of (negsuc n) = zero
 
--- where a command that is sought is t, from the state before it and the one after it:
--- `gopast` leaves the cursor after its match, `goto` puts it back before it
+-- the end of a search at the first t, from the state before the command and the one after it: `gopast` leaves the
+-- cursor after the match, `goto` puts it back before it
 abbrev pub found : Bool → Mode → State → State → Ending
 found true m s t = Signals true t
 found false m s t = put_back m (saved_cursor s) t
 
--- Tries at the cursor, and after each f, the cursor put back, one character further on; f where nothing is
--- ahead any more. Each try pays a step at least.
+-- Tries at the cursor, and after each f puts the cursor back and tries one character further on; f if nothing is ahead
+-- any more. Each try uses at least one step.
 abbrev pub seeks : ℕ → Bool → Doing → Mode → State → Ending
 seeks zero past c m s = Stops Steps s
 seeks (suc n) past c m s =
     after (c m s) (found past m s)
     (λ f. then_on (put_back m (saved_cursor s) f) (λ b. after (next m b) (seeks n past c m) (Signals false)))
 
--- the limits of both directions
+-- the limits in both directions
 abbrev pub limits : State → Limits
 limits s = record { left = s.left; beyond = s.beyond }
 
--- the cursor becomes the limit of the direction
+-- the limit of the direction set to the cursor
 abbrev pub limit_here : Mode → State → State
 limit_here Forward s = record s { beyond = length s.text - s.cursor }
 limit_here Backward s = record s { left = s.cursor }
 
--- an old limit returns: forwards by its distance from the text's end, backwards as its number
+-- an earlier limit restored: forwards by its distance from the end of the text, backwards by its offset
 abbrev pub limit_back : Mode → Limits → State → State
 limit_back Forward from s = record s { beyond = from.beyond }
 limit_back Backward from s = record s { left = from.left }
 
--- a change at the end, whatever is signalled
+-- a change at the end, whatever the signal
 abbrev pub at_end : (State → State) → Ending → Ending
 at_end change e = after e (λ t. Signals true (change t)) (λ f. Signals false (change f))
 
--- what was done within a limit, with the old one back at the end
+-- what was done within a limit, with the earlier limit restored at the end
 abbrev pub limited : Mode → Limits → Ending → Ending
 limited m from = at_end (limit_back m from)
 
--- where `backwards` begins: the left limit is the cursor, and the cursor goes to the limit
+-- the start of `backwards`: the left limit is the cursor, and the cursor moves to the limit
 abbrev pub backwards_from : State → Ending
 backwards_from s = to_limit Forward (record s { left = s.cursor })
 
--- and where it ends after t
+-- the end of `backwards` after t
 abbrev pub backwards_end : State → Ending
 backwards_end s = at_place s.left s
 
--- goes on with the group that is chosen; f where none is
+-- continues with the chosen group; f if there is none
 abbrev pub chosen : Option ℕ → State → (ℕ → Ending) → Ending
 chosen None s go = Signals false s
 chosen (Some g) s go = go g
 
--- a command pays a step before it does anything
+-- a command uses one step before it does anything
 abbrev pub paid : Doing → Doing
 paid d m s = then_on (pay s.steps s) (d m)
 
 abbrev mutual
-  -- What a command does once its step is paid, by the classes of the groupings and by what a call of each routine does.
+  -- What a command does after its step is paid, given the classes of the groupings and what a call of each routine
+  -- does.
   pub act : List (ℕ → Bool) → (ℕ → Doing) → programs.Node → Mode → State → Ending
   act classes call (programs.act a) m s = acts classes a m s
   -- `( C1 C2 .. )`
@@ -100,7 +102,7 @@ abbrev mutual
   act classes call (programs.fail a) m s = after (paid (act classes call a) m s) (Signals false) (Signals false)
   act classes call (programs.repeat a) m s = turns (suc s.steps) (paid (act classes call a)) m s
   act classes call (programs.loop n a) m s = given (value n m s) s (λ z. times (count_of z) (paid (act classes call a)) m s)
-  -- the loop, and then `repeat`, which pays no step of its own
+  -- the loop, and then `repeat`, which uses no step of its own
   act classes call (programs.atleast n a) m s =
       after (given (value n m s) s (λ z. times (count_of z) (paid (act classes call a)) m s))
       (λ t. turns (suc t.steps) (paid (act classes call a)) m t) (Signals false)
@@ -115,18 +117,18 @@ abbrev mutual
       (Signals false)
   -- a routine's name
   act classes call (programs.call i) m s = call i m s
-  -- `substring`, or the search that an among makes itself
+  -- `substring`, or the search that an among does itself
   act classes call (programs.search k strings entries) m s = search_all call k entries strings m s
-  -- an among: its search and its starter, if they are its own, and then the command of the group that is chosen
+  -- an among: its search and its starter, if they are its own, and then the command of the chosen group
   act classes call (programs.among k before bodies) m s =
       after (in_turn classes call before m s) (λ t. chosen (choice k t) t (λ g. nth_does classes call bodies g m t)) (Signals false)
 
-  -- in turn, up to the first f
+  -- one after another, up to the first f
   pub in_turn : List (ℕ → Bool) → (ℕ → Doing) → programs.Nodes → Mode → State → Ending
   in_turn classes call programs.no_commands m s = Signals true s
   in_turn classes call (programs.command c cs) m s = after (paid (act classes call c) m s) (in_turn classes call cs m) (Signals false)
 
-  -- the g-th of some commands; t where there is none
+  -- the g-th of these commands; t if there is none
   pub nth_does : List (ℕ → Bool) → (ℕ → Doing) → programs.Nodes → ℕ → Mode → State → Ending
   nth_does classes call programs.no_commands g m s = Signals true s
   nth_does classes call (programs.command c cs) zero m s = paid (act classes call c) m s
@@ -136,37 +138,37 @@ abbrev mutual
 abbrev pub does : List (ℕ → Bool) → (ℕ → Doing) → programs.Node → Doing
 does classes call c = paid (act classes call c)
 
--- a call of a routine with n amongs touches it and begins with nothing chosen
+-- a call of a routine with n amongs touches it and begins with no choices
 abbrev pub enter : ℕ → ℕ → State → State
-enter i n s = record s { choices = replicate n None; routine = i; touched = with_touch (Entered i) s.touched }
+enter i n s = tell (Enters i) (record s { choices = replicate n None; routine = i; touched = with_touch (Entered i) s.touched })
 
--- the caller's routine and its choices
-abbrev pub back_in : ℕ → List (Option ℕ) → State → State
-back_in i choices s = record s { choices = choices; routine = i }
+-- the routine and the choices of the caller, after a call with this signal
+abbrev pub back_in : ℕ → List (Option ℕ) → Bool → State → State
+back_in i choices b s = tell (Leaves b) (record s { choices = choices; routine = i })
 
--- at its return these are back
+-- a call restores these when it returns
 abbrev pub leave : ℕ → List (Option ℕ) → Ending → Ending
-leave i choices = at_end (back_in i choices)
+leave i choices e = after e (λ t. Signals true (back_in i choices true t)) (λ f. Signals false (back_in i choices false f))
 
--- what the i-th routine does, by what its commands do
+-- what the i-th routine does, given what its commands do
 abbrev pub body_does : (programs.Node → Doing) → ℕ → Option programs.Routine → Doing
 body_does run i None m s = Signals false s
 body_does run i (Some r) m s = leave s.routine s.choices (run r.body m (enter i r.amongs s))
 
--- what a call does where this many levels are left
+-- what a call does if this many levels are left
 abbrev pub calls : programs.Program → ℕ → ℕ → Doing
 calls p zero i m s = Stops Depth s
 calls p (suc n) i m s = body_does (does p.groupings (calls p n)) i (slice_get p.routines i) m s
 
--- what a command does in a program, where this many levels are left
+-- what a command of a program does if this many levels are left
 abbrev pub runs : programs.Program → ℕ → programs.Node → Doing
 runs p levels = does p.groupings (calls p levels)
 
--- the same of a command whose step is paid
+-- the same for a command whose step is paid
 abbrev pub runs_paid : programs.Program → ℕ → programs.Node → Doing
 runs_paid p levels = act p.groupings (calls p levels)
 
--- the same of commands in turn, and of the g-th of them
+-- the same for commands one after another, and for the g-th of them
 abbrev pub all_run : programs.Program → ℕ → programs.Nodes → Doing
 all_run p levels = in_turn p.groupings (calls p levels)
 

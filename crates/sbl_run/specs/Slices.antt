@@ -1,8 +1,9 @@
 -- The slice, replacement and insertion: what each of these commands does once its step is paid.
 use Rattle.std.specs.Prelude.{ℕ, ◌+◌, ◌-◌, Bool, true, false, ◌&&◌, List, length, take, drop, nat_lt, nat_le, if◌then◌else◌, slice_set}
 use Rattle.std.specs.List.{splice}
+use Rattle.sbl_run.specs.Events.{Puts}
 use Rattle.sbl_run.specs.declared.fault.RunFault.TheVariants.{Slice, Cursor, TooLong}
-use Rattle.sbl_run.specs.State.{State, Ending, Signals, Stops}
+use Rattle.sbl_run.specs.State.{State, Ending, Signals, Stops, tell}
 use Rattle.sbl_tree.specs.declared.mode.Mode.{Mode}
 use Rattle.sbl_tree.specs.declared.mode.Mode.TheVariants.{Forward, Backward}
 
@@ -11,7 +12,7 @@ abbrev pub left_bracket : Mode → State → State
 left_bracket Forward s = record s { bra = s.cursor }
 left_bracket Backward s = record s { ket = s.cursor }
 
--- `]` sets the other
+-- `]` sets the other end
 abbrev pub right_bracket : Mode → State → State
 right_bracket Forward s = record s { ket = s.cursor }
 right_bracket Backward s = record s { bra = s.cursor }
@@ -20,18 +21,18 @@ right_bracket Backward s = record s { bra = s.cursor }
 abbrev pub is_slice : State → Bool
 is_slice s = nat_le s.bra s.ket && nat_le (s.ket + s.beyond) (length s.text)
 
--- where a cursor goes when bra..ket is replaced by n characters
+-- where a cursor goes if bra..ket is replaced by n characters
 abbrev pub shifted : ℕ → ℕ → ℕ → ℕ → ℕ
 shifted n bra ket cursor = if nat_le ket cursor then cursor + n - (ket - bra) else (if nat_lt bra cursor then bra else cursor)
 
--- a string in place of the slice
+-- the slice replaced by a string
 abbrev pub replaced : List ℕ → State → State
 replaced string s =
-    record s {
+    tell (Puts s.bra s.ket string) (record s {
       text = splice s.text s.bra s.ket string;
       cursor = shifted (length string) s.bra s.ket s.cursor;
       ket = s.bra + length string;
-    }
+    })
 
 -- `<- S`; `delete` is `<- ''`
 abbrev pub replace : List ℕ → State → Ending
@@ -47,21 +48,21 @@ keep x s =
     then Signals true (record s { strings = slice_set s.strings x (take (s.ket - s.bra) (drop s.bra s.text)) })
     else Stops Slice s
 
--- where an end of the slice goes when n characters come in at a place
+-- where an end of the slice goes if n characters are inserted at an offset
 abbrev pub pushed : ℕ → ℕ → ℕ → ℕ
 pushed n at place = if nat_le at place then place + n else place
 
--- a string at the cursor, which ends right of it or left of it
+-- a string inserted at the cursor, which ends to the right of it or to the left of it
 abbrev pub inserted : Bool → List ℕ → State → State
 inserted right string s =
-    record s {
+    tell (Puts s.cursor s.cursor string) (record s {
       text = splice s.text s.cursor s.cursor string;
       cursor = if right then s.cursor + length string else s.cursor;
       bra = pushed (length string) s.cursor s.bra;
       ket = pushed (length string) s.cursor s.ket;
-    }
+    })
 
--- the same, unless the cursor is beyond the limit or the text grows too long
+-- the same, unless the cursor is beyond the limit or the text becomes too long
 abbrev pub put_in : Bool → List ℕ → State → Ending
 put_in right string s =
     if nat_le (s.cursor + s.beyond) (length s.text)

@@ -1,11 +1,11 @@
--- Where a run of a word under a program begins, and how it ends.
-use Rattle.std.specs.Prelude.{ℕ, pos, false, List, [], replicate}
+-- How a run of a word under a program begins and ends.
+use Rattle.std.specs.Prelude.{ℕ, pos, false, List, [], replicate, None}
 use Rattle.sbl_program.specs.Program as programs
 use Rattle.sbl_run.specs.Run.{calls}
 use Rattle.sbl_run.specs.State.{State, Ending}
 use Rattle.sbl_tree.specs.declared.mode.Mode.TheVariants.{Forward}
 
--- a state in which nothing has run: no text, no variables, nothing touched, no steps
+-- a state in which nothing has run: no text, no variables, nothing touched, no events, no steps
 abbrev pub blank : State
 blank = record {
   text = [];
@@ -20,10 +20,11 @@ blank = record {
   choices = [];
   routine = 0;
   touched = [];
+  told = None;
   steps = 0;
 }
 
--- where a run of a word begins: integers 0, booleans false, strings empty, nothing touched
+-- the beginning of a run of a word: integers 0, booleans false, strings empty, nothing touched
 abbrev pub start : programs.Program → List ℕ → ℕ → State
 start p word steps = record {
   text = word;
@@ -38,6 +39,7 @@ start p word steps = record {
   choices = [];
   routine = 0;
   touched = [];
+  told = None;
   steps = steps;
 }
 

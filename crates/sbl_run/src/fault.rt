@@ -4,22 +4,22 @@ ghost use Rattle.std.specs.Prelude.{◌≡◌};
 
 use thiserror::Error;
 
-/// Why a run is refused. It is displayed as its code and its name.
+/// Why a run is refused. Its display is the code and the name.
 #[derive(Clone, Copy, Debug, Drop, PartialEq, Eq, Error)]
 pub enum RunFault {
-    /// The steps are spent (our own choice: each command pays a step).
+    /// No steps are left (our own choice: each command uses one step).
     #[error("60 Steps")]
     Steps,
-    /// A call on a level that is too deep (our own choice).
+    /// A call is too deep (our own choice).
     #[error("61 Depth")]
     Depth,
-    /// The slice is none: its ends are crossed, or it goes past the limit.
+    /// There is no valid slice: its ends are crossed, or it goes past the limit.
     #[error("62 Slice")]
     Slice,
     /// The cursor would leave the text.
     #[error("63 Cursor")]
     Cursor,
-    /// A number does not fit.
+    /// A number is out of range.
     #[error("64 Integer")]
     Integer,
     /// A division by zero.
@@ -33,7 +33,7 @@ pub enum RunFault {
 impl RunFault {
     ghost use Rattle.sbl_run.specs.Names.{name_of};
 
-    /// The name alone.
+    /// Returns the name without the code.
     pub fn name(self) -> &'static str
         ensures { result.now ≡ name_of self }
     {

@@ -6,13 +6,13 @@ ghost use Rattle.sbl_run.specs.Halts.{fault_of, halt_of};
 use crate::fault::RunFault;
 use std::alloc::AllocError;
 
-/// Why a command has no signal. The faults stand here one by one, and not in a case of their own, so that a signal is
-/// two bytes and comes back in registers.
+/// Why a command has no signal. The faults are variants of this type and not of one inside it, so that a result has two
+/// bytes and is returned in registers.
 #[derive(Debug, Drop)]
 pub enum Halt {
-    /// A growth was refused, or a number to be touched is above `u32::MAX`.
+    /// An allocation failed, or a number to be touched is above `u32::MAX`.
     OutOfMemory,
-    /// The run is refused as `RunFault::Steps`, and so on.
+    /// The run is refused with `RunFault::Steps`, and so on.
     Steps,
     Depth,
     Slice,
@@ -23,7 +23,7 @@ pub enum Halt {
 }
 
 impl Halt {
-    /// The fault that the run is refused with. None for want of memory.
+    /// Returns the fault with which the run is refused; `None` if memory was refused.
     pub fn fault(self) -> Option<RunFault>
         ensures { result ≡ fault_of self }
     {

@@ -1,6 +1,7 @@
-//! Runs of programs: what each command does to the state of a run, what it costs, and what is touched on the way.
+//! Runs programs: what each command does to the state of a run, what it costs, and what it touches.
 #![tactic(auto)]
 
+mod event;
 mod fault;
 mod halt;
 mod run;
@@ -9,9 +10,11 @@ mod table;
 mod touch;
 mod touched;
 
+pub use event::Event;
 pub use fault::RunFault;
 pub use halt::Halt;
 pub use run::Runner;
 pub use state::State;
 pub use table::{TableList, Tables, tables_of};
 pub use touch::Touch;
+pub use touched::Touched;

@@ -1,4 +1,4 @@
-//! Runs commands over a state.
+//! Runs commands on a state.
 
 ghost use Rattle.std.specs.Prelude.{◌≡◌, ◌+◌, ◌<◌, ◌≤◌, true, false, suc, map, IfOk, slice_get};
 ghost use Rattle.sbl_run.specs.Kept.{Follows, Tried};
@@ -17,21 +17,22 @@ use crate::table::Tables;
 use sbl_program::{Arithmetic, Candidate, Joined, Node, Program};
 use sbl_tree::{Joiner, Mode};
 
-/// What commands run with, and what stays the same in them: a call and `backwards` run theirs with a runner of their own.
+/// The fixed part of the interpreter. A call and `backwards` run their commands with a runner of their own.
 #[derive_where(Clone, Copy)]
 pub struct Runner<'a, T> {
     /// The tables of the program's amongs.
     pub tables: &'a T,
     /// The program whose routines are called.
     pub program: &'a Program,
-    /// How deep calls may go from here on.
+    /// The number of levels that calls may still go down.
     pub levels: u32,
-    /// The direction in which commands read the text.
+    /// The mode: the direction in which commands read the text.
     pub mode: Mode,
 }
 
 impl<'a, T: Tables> Runner<'a, T> {
-    /// Runs a command: its signal, or why it has none. One that holds no other is done here, without a further call.
+    /// Runs a command and returns its signal, or why it has none. A command without a command inside is done here,
+    /// without another call.
     #[cycle(run)]
     #[inline(always)]
     fn run_command(&self, command: &Node, state: &mut State) -> Result<bool, Halt>
@@ -45,7 +46,7 @@ impl<'a, T: Tables> Runner<'a, T> {
         self.run_paid(command, state)
     }
 
-    /// Runs a command whose step is paid.
+    /// Runs a command whose step is already paid.
     #[cycle(run)]
     #[inline(never)]
     fn run_paid(&self, command: &Node, state: &mut State) -> Result<bool, Halt>
@@ -93,7 +94,7 @@ impl<'a, T: Tables> Runner<'a, T> {
         }
     }
 
-    /// Runs a command: f where it signals t, and t with the cursor put back where it signals f.
+    /// Runs a command. Returns f if it signals t; if it signals f, puts the cursor back and returns t.
     #[cycle(run)]
     fn run_not(&self, inner: &Node, state: &mut State) -> Result<bool, Halt>
         ensures follows { Follows result state.new (after (runs (program_of (T.listed self.now.tables.now) self.now.program.now) self.now.levels (view_node (T.listed self.now.tables.now) inner.now) self.now.mode state.old) (Signals false) (put_back self.now.mode (saved_cursor state.old))) }
@@ -107,7 +108,7 @@ impl<'a, T: Tables> Runner<'a, T> {
         Ok(true)
     }
 
-    /// Runs a command: where it signals t, the cursor is put back.
+    /// Runs a command and returns its signal. If it signals t, puts the cursor back.
     #[cycle(run)]
     fn run_test(&self, inner: &Node, state: &mut State) -> Result<bool, Halt>
         ensures follows { Follows result state.new (after (runs (program_of (T.listed self.now.tables.now) self.now.program.now) self.now.levels (view_node (T.listed self.now.tables.now) inner.now) self.now.mode state.old) (put_back self.now.mode (saved_cursor state.old)) (Signals false)) }
@@ -121,7 +122,7 @@ impl<'a, T: Tables> Runner<'a, T> {
         Ok(true)
     }
 
-    /// Runs a command: t, with the cursor put back where the command signals f.
+    /// Runs a command and returns t. If it signals f, puts the cursor back.
     #[cycle(run)]
     fn run_try(&self, inner: &Node, state: &mut State) -> Result<bool, Halt>
         ensures follows { Follows result state.new (after (runs (program_of (T.listed self.now.tables.now) self.now.program.now) self.now.levels (view_node (T.listed self.now.tables.now) inner.now) self.now.mode state.old) (Signals true) (put_back self.now.mode (saved_cursor state.old))) }
@@ -134,7 +135,7 @@ impl<'a, T: Tables> Runner<'a, T> {
         Ok(true)
     }
 
-    /// Runs a command, and puts the cursor back whatever it signals: t.
+    /// Runs a command, puts the cursor back whatever it signals, and returns t.
     #[cycle(run)]
     fn run_do(&self, inner: &Node, state: &mut State) -> Result<bool, Halt>
         ensures follows { Follows result state.new (after (runs (program_of (T.listed self.now.tables.now) self.now.program.now) self.now.levels (view_node (T.listed self.now.tables.now) inner.now) self.now.mode state.old) (put_back self.now.mode (saved_cursor state.old)) (put_back self.now.mode (saved_cursor state.old))) }
@@ -146,7 +147,7 @@ impl<'a, T: Tables> Runner<'a, T> {
         Ok(true)
     }
 
-    /// Runs a command backwards, over what is between the cursor and the limit.
+    /// Runs a command backwards, on the text between the cursor and the limit.
     #[cycle(run)]
     fn run_backwards(&self, inner: &Node, state: &mut State) -> Result<bool, Halt>
         ensures follows { Follows result state.new (then_on (backwards_from state.old) (λ b. after (runs (program_of (T.listed self.now.tables.now) self.now.program.now) self.now.levels (view_node (T.listed self.now.tables.now) inner.now) Backward b) backwards_end (Signals false))) }
@@ -164,7 +165,7 @@ impl<'a, T: Tables> Runner<'a, T> {
         Ok(true)
     }
 
-    /// Runs a command that sets the limit, and then, from where the cursor was before it, another within that limit.
+    /// Runs a command that sets the limit, and then another one within that limit, from where the cursor was before.
     #[cycle(run)]
     fn run_limited(&self, first: &Node, second: &Node, state: &mut State) -> Result<bool, Halt>
         ensures follows { Follows result state.new (after (runs (program_of (T.listed self.now.tables.now) self.now.program.now) self.now.levels (view_node (T.listed self.now.tables.now) first.now) self.now.mode state.old) (λ t. then_on (put_back self.now.mode (saved_cursor state.old) (limit_here self.now.mode t)) (λ u. limited self.now.mode (limits state.old) (runs (program_of (T.listed self.now.tables.now) self.now.program.now) self.now.levels (view_node (T.listed self.now.tables.now) second.now) self.now.mode u))) (Signals false)) }
@@ -182,7 +183,7 @@ impl<'a, T: Tables> Runner<'a, T> {
         Ok(signal)
     }
 
-    /// Runs a row, grouped from the left, whose first step is paid.
+    /// Runs a row, grouped from left to right. Its first step is already paid.
     #[cycle(run)]
     fn run_row(&self, first: &Node, others: &[Joined], state: &mut State) -> Result<bool, Halt>
         ensures follows { Follows result state.new (row_runs (program_of (T.listed self.now.tables.now) self.now.program.now) self.now.levels (view_node (T.listed self.now.tables.now) first.now) (map (view_joined (T.listed self.now.tables.now)) others.now) self.now.mode state.old) }
@@ -197,7 +198,8 @@ impl<'a, T: Tables> Runner<'a, T> {
         Ok(signal)
     }
 
-    /// Runs the next command of a row from the saved cursor at its beginning, unless the signal before it settles the row so far.
+    /// Runs the next command of a row from the saved cursor at the beginning of the row, unless the signal so far
+    /// decides the row.
     #[cycle(run)]
     fn run_joined(
         &self,
@@ -217,7 +219,7 @@ impl<'a, T: Tables> Runner<'a, T> {
         self.run_command(&joined.command, state)
     }
 
-    /// Runs commands in turn, up to the first f.
+    /// Runs commands one after another, up to the first f.
     #[cycle(run)]
     fn run_in_turn(&self, commands: &[Node], state: &mut State) -> Result<bool, Halt>
         ensures follows { Follows result state.new (all_run (program_of (T.listed self.now.tables.now) self.now.program.now) self.now.levels (view_nodes (T.listed self.now.tables.now) commands.now) self.now.mode state.old) }
@@ -231,7 +233,7 @@ impl<'a, T: Tables> Runner<'a, T> {
         Ok(true)
     }
 
-    /// Runs a command up to its first f, and puts the cursor back to before that.
+    /// Runs a command again and again up to its first f, and puts the cursor back to where it was before that.
     #[cycle(run)]
     fn run_turns(&self, inner: &Node, state: &mut State) -> Result<bool, Halt>
         ensures follows { Follows result state.new (turns (suc state.old.steps) (runs (program_of (T.listed self.now.tables.now) self.now.program.now) self.now.levels (view_node (T.listed self.now.tables.now) inner.now)) self.now.mode state.old) }
@@ -246,7 +248,7 @@ impl<'a, T: Tables> Runner<'a, T> {
         }
     }
 
-    /// Runs a command so many times, up to the first f.
+    /// Runs a command as often as `count` says, up to the first f.
     #[cycle(run)]
     fn run_times(&self, count: &Arithmetic, inner: &Node, state: &mut State) -> Result<bool, Halt>
         ensures follows { Follows result state.new (given (value (view_number count.now) self.now.mode state.old) state.old (λ z. times (count_of z) (runs (program_of (T.listed self.now.tables.now) self.now.program.now) self.now.levels (view_node (T.listed self.now.tables.now) inner.now)) self.now.mode state.old)) }
@@ -263,7 +265,8 @@ impl<'a, T: Tables> Runner<'a, T> {
         Ok(true)
     }
 
-    /// Tries a command at the cursor and further on, up to its first t; the cursor stays after its match, or goes before it.
+    /// Tries a command at the cursor and further on, up to its first t. The cursor stays after the match, or goes
+    /// before it.
     #[cycle(run)]
     fn run_seek(&self, past: bool, inner: &Node, state: &mut State) -> Result<bool, Halt>
         ensures follows { Follows result state.new (seeks (suc state.old.steps) past (runs (program_of (T.listed self.now.tables.now) self.now.program.now) self.now.levels (view_node (T.listed self.now.tables.now) inner.now)) self.now.mode state.old) }
@@ -284,9 +287,10 @@ impl<'a, T: Tables> Runner<'a, T> {
         }
     }
 
-    /// Calls the routine with this number: its signal, f where there is none. `Depth` where no level is left, `OutOfMemory` where
-    /// a growth was refused, or where a number to be touched is above `u32::MAX`, else the fault of a command in it; at a fault the
-    /// state is as that found it.
+    /// Calls the routine with this number and returns its signal; f if there is none.
+    ///
+    /// Returns `Depth` if no level is left, `OutOfMemory` if an allocation fails or a number to be touched is above
+    /// `u32::MAX`, and else the fault of a command in the routine. After a fault the state is the one at the fault.
     #[cycle(run)]
     pub fn run_call(&self, number: usize, state: &mut State) -> Result<bool, Halt>
         ensures follows { Follows result state.new (calls (program_of (T.listed self.now.tables.now) self.now.program.now) self.now.levels number self.now.mode state.old) }
@@ -305,13 +309,13 @@ impl<'a, T: Tables> Runner<'a, T> {
                     ..*self
                 };
                 let signal = deeper.run_command(&routine.body, state)?;
-                state.leave(caller, kept);
+                state.leave(caller, kept, signal)?;
                 Ok(signal)
             }
         }
     }
 
-    /// Runs what an among does before its group's command, and then the command of the group that is chosen.
+    /// Runs what an among does before the command of its group, and then the command of the chosen group.
     #[cycle(run)]
     fn run_among(
         &self,
@@ -335,7 +339,7 @@ impl<'a, T: Tables> Runner<'a, T> {
         }
     }
 
-    /// Tries the strings that fit, the longest first.
+    /// Tries the strings that match, the longest first.
     #[cycle(run)]
     fn run_search(
         &self,
@@ -359,11 +363,11 @@ impl<'a, T: Tables> Runner<'a, T> {
             }
             place = self.tables.next_shorter(table, i);
         }
-        state.choose(among, None);
+        state.take_none(among)?;
         Ok(false)
     }
 
-    /// Tries one string, and answers whether it is taken: not where its condition signals f.
+    /// Tries one string and returns whether it is taken. It is not taken if its condition signals f.
     #[cycle(run)]
     fn try_string(
         &self,
@@ -389,12 +393,12 @@ impl<'a, T: Tables> Runner<'a, T> {
             }
         }
         state.place_after(self.mode, from, entry.length)?;
-        state.choose(among, Some(entry.group));
+        state.take_string(among, entry.length, entry.group)?;
         Ok(true)
     }
 }
 
-// Whether a signal is that of the row so far, whatever its next command would do.
+// Returns whether the signal decides the row so far, whatever the next command does.
 #[inline(always)]
 fn is_settled(joiner: Joiner, signal: bool) -> bool
     ensures { result ≡ is_settled joiner signal }

@@ -1,14 +1,16 @@
-//! The state of a run: its text, the places in it, and its variables.
+//! The state of a run: its text, the offsets in it, and its variables.
 
-ghost use Rattle.std.specs.Prelude.{◌≡◌, ℕ, ◌+◌, ◌-◌, ◌<◌, ◌≤◌, [], length, map, replicate, IfOk};
+ghost use Rattle.std.specs.Prelude.{◌≡◌, ℕ, ◌+◌, ◌-◌, ◌<◌, ◌≤◌, [], length, map, replicate, IfOk, Some, None, false};
 ghost use Rattle.sbl_tables.specs.Fitting.{read_as};
-ghost use Rattle.sbl_run.specs.State.{State as RunState, pay, at_place, at_difference, to_limit, saved_cursor, put_back, step_over, place_after, ahead, room};
+ghost use Rattle.sbl_run.specs.State.{State as RunState, pay, at_place, at_difference, to_limit, saved_cursor, put_back, step_over, place_after, ahead, room, tell};
 ghost use Rattle.sbl_program.specs.Listed.{Listed};
 ghost use Rattle.sbl_program.specs.ProgramOf.{program_of, view_text};
 ghost use Rattle.sbl_run.specs.Moves.{characters};
+ghost use Rattle.sbl_run.specs.Events.{Event' as RunEvent, event_of, Puts};
 ghost use Rattle.sbl_run.specs.Kept.{Leads};
 ghost use Rattle.sbl_run.specs.Rows.{pays};
 ghost use Rattle.sbl_run.specs.Start.{blank, start};
+ghost use Rattle.sbl_run.specs.Told.{told_of};
 
 mod actions;
 mod control;
@@ -16,17 +18,19 @@ mod moves;
 pub mod numbers;
 mod slices;
 
+use crate::event::Event;
 use crate::halt::Halt;
 use crate::touched::Touched;
 use sbl_program::{Program, StringTerm};
 use sbl_tree::Mode;
 use std::alloc::{AllocError, Global};
 use std::marker::Model;
+use std::mem;
 
-/// The most characters that the text of a run may have.
+/// The greatest number of characters in the text of a run.
 const MAX_TEXT_LENGTH: usize = 1024;
 
-/// Where a run stands.
+/// The state of a run.
 #[derive(Drop)]
 pub struct State {
     text: Vec<char>,
@@ -41,8 +45,9 @@ pub struct State {
     choices: Vec<Option<usize>>,
     routine: usize,
     touched: Touched,
+    told: Option<Vec<Event>>,
     steps: u32,
-    // What the next splice is made in, and what the choices of the next calls are kept in.
+    // The buffer for the next splice, and buffers for the choices of the next calls.
     spare: Vec<char>,
     spares: Vec<Vec<Option<usize>>>,
 }
@@ -51,36 +56,37 @@ impl Model for State {
     ghost use Rattle.std.specs.Prelude.{map};
     ghost use Rattle.sbl_run.specs.State.{State as RunState};
     ghost use Rattle.sbl_run.specs.Kept.{IsWithin};
+    ghost use Rattle.sbl_run.specs.Told.{told_of};
 
     ghost Value = { RunState };
 
-    ghost view = { λ s. record { text = s.text.items; cursor = s.cursor; left = s.left; beyond = s.beyond; bra = s.bra; ket = s.ket; integers = s.integers.items; booleans = s.booleans.items; strings = map (λ v. v.items) s.strings.items; choices = s.choices.items; routine = s.routine; touched = s.touched; steps = s.steps } };
+    ghost view = { λ s. record { text = s.text.items; cursor = s.cursor; left = s.left; beyond = s.beyond; bra = s.bra; ket = s.ket; integers = s.integers.items; booleans = s.booleans.items; strings = map (λ v. v.items) s.strings.items; choices = s.choices.items; routine = s.routine; touched = s.touched; told = told_of s.told; steps = s.steps } };
 
     ghost invariant = { λ s. IsWithin s.text.items s.cursor s.left s.beyond s.bra s.ket };
 }
 
-/// The limits of both directions.
+/// The limits in both directions.
 #[derive(Clone, Copy)]
 pub struct Limits {
     /// The left limit.
     pub left: usize,
-    /// How many characters stand beyond the limit.
+    /// The number of characters beyond the limit.
     pub beyond: usize,
 }
 
-/// What putting the cursor back needs of a state.
+/// What is needed to put the cursor back.
 #[derive(Clone, Copy)]
 pub struct SavedCursor {
     /// The cursor.
     pub cursor: usize,
-    /// How many characters stand beyond the limit.
+    /// The number of characters beyond the limit.
     pub beyond: usize,
-    /// How many characters the text has.
+    /// The number of characters in the text.
     pub length: usize,
 }
 
 impl State {
-    /// A state that holds nothing, whose buffers are made as they are needed. Takes no memory.
+    /// Returns a state with nothing in it. Buffers are made when they are needed. Does not allocate.
     pub fn new(alloc: Global) -> State
         ensures { result ≡ blank }
     {
@@ -97,14 +103,15 @@ impl State {
             choices: Vec::new(alloc),
             routine: 0,
             touched: Touched::new(alloc),
+            told: None,
             steps: 0,
             spare: Vec::new(alloc),
             spares: Vec::new(alloc),
         }
     }
 
-    /// Goes to where a run of a word begins, with so many steps, whatever ran before in these buffers. AllocError where a growth
-    /// was refused.
+    /// Starts a run of a word with this many steps, whatever ran before in these buffers. Returns `AllocError` if an
+    /// allocation fails.
     pub fn restart(
         &mut self,
         program: &Program,
@@ -129,18 +136,76 @@ impl State {
         self.choices.clear();
         self.routine = 0;
         self.touched.clear();
+        self.told = None;
         self.steps = steps;
         Ok(())
     }
 
-    /// The steps that are left.
+    /// Starts to record events.
+    pub fn ask(&mut self)
+        ensures { self.new ≡ record self.old { told = Some [] } }
+    {
+        self.told = Some(Vec::new(*self.text.allocator()));
+    }
+
+    /// Returns the recorded events, or `None` if they were not asked for, and keeps none of them.
+    pub fn take_told(&mut self) -> Option<Vec<Event>>
+        ensures told { told_of result ≡ self.old.told }
+        ensures rest { self.new ≡ record self.old { told = None } }
+    {
+        mem::replace(&mut self.told, None)
+    }
+
+    // Records an event, if events are asked for. Returns `AllocError` if an allocation fails.
+    #[inline(always)]
+    fn tell(&mut self, event: Event) -> Result<(), AllocError>
+        ensures { IfOk result (λ _. self.new ≡ tell (event_of event) self.old) }
+    {
+        if let Some(events) = &mut self.told {
+            events.push(event)?;
+        }
+        Ok(())
+    }
+
+    // Does the same for the characters that replace those between two offsets of the text.
+    #[inline(always)]
+    fn tell_put(&mut self, from: usize, to: usize, term: &StringTerm) -> Result<(), AllocError>
+        ensures { IfOk result (λ _. self.new ≡ tell (Puts from to (characters (view_text term.now) self.old)) self.old) }
+    {
+        if self.is_asked() {
+            let put = self.copied(term)?;
+            self.tell(Event::Puts(from, to, put))?;
+        }
+        Ok(())
+    }
+
+    // Returns whether events are asked for. If not, none is recorded.
+    #[inline(always)]
+    fn is_asked(&self) -> bool
+        ensures { (x : RunEvent) → result ≡ false → tell x self.now ≡ self.now }
+    {
+        match &self.told {
+            None => false,
+            Some(_) => true,
+        }
+    }
+
+    // Returns a copy of a literal or of the value of a string variable. Returns `AllocError` if an allocation fails.
+    fn copied(&self, term: &StringTerm) -> Result<Vec<char>, AllocError>
+        ensures { IfOk result (λ v. v.items ≡ characters (view_text term.now) self.now) }
+    {
+        let alloc = *self.text.allocator();
+        self.characters(term).to_vec(alloc)
+    }
+
+    /// Returns the number of steps that are left.
     pub fn steps(&self) -> u32
         ensures { result ≡ self.now.steps }
     {
         self.steps
     }
 
-    /// Pays a step. `Steps` where none is left.
+    /// Uses one step. Returns `Steps` if none is left.
     #[inline(always)]
     pub fn pay(&mut self) -> Result<(), Halt>
         ensures { Leads result self.new (pay self.old.steps self.old) }
@@ -152,7 +217,7 @@ impl State {
         Ok(())
     }
 
-    // Pays so many steps. `Steps` where fewer are left, which are paid then.
+    // Uses this many steps. Returns `Steps` if fewer are left; then these are used.
     pub(crate) fn pay_for(&mut self, count: usize) -> Result<(), Halt>
         ensures leads { Leads result self.new (pays count self.old) }
         ensures no_more { IfOk result (λ _. self.new.steps ≤ self.old.steps) }
@@ -165,7 +230,7 @@ impl State {
         Ok(())
     }
 
-    // The cursor at a place.
+    // Sets the cursor to an offset.
     #[inline(always)]
     fn go_to(&mut self, place: usize) -> Result<(), Halt>
         ensures { Leads result self.new (at_place place self.old) }
@@ -177,7 +242,7 @@ impl State {
         Ok(())
     }
 
-    // The cursor at the place `b` left of `a`.
+    // Sets the cursor to the offset `b` to the left of `a`.
     #[inline(always)]
     fn go_to_difference(&mut self, a: usize, b: usize) -> Result<(), Halt>
         ensures { Leads result self.new (at_difference a b self.old) }
@@ -188,7 +253,7 @@ impl State {
         self.go_to(a - b)
     }
 
-    /// What has to be kept to put the cursor back here.
+    /// Returns what is needed to put the cursor back here.
     #[inline(always)]
     pub fn saved_cursor(&self) -> SavedCursor
         ensures value { result ≡ saved_cursor self.now }
@@ -201,7 +266,7 @@ impl State {
         }
     }
 
-    /// Puts the cursor back to a saved cursor. `Cursor` where that place is outside the text.
+    /// Puts the cursor back to a saved cursor. Returns `Cursor` if that offset is outside the text.
     #[inline(always)]
     pub fn put_back(&mut self, mode: Mode, from: SavedCursor) -> Result<(), Halt>
         requires { from.cursor + from.beyond + from.length ≤ 4096 }
@@ -218,7 +283,7 @@ impl State {
         }
     }
 
-    // The cursor over so many characters, which need not be ahead.
+    // Moves the cursor over this many characters, which need not be ahead.
     #[inline(always)]
     fn step_over(&mut self, mode: Mode, n: usize) -> Result<(), Halt>
         ensures leads { Leads result self.new (step_over mode n self.old) }
@@ -239,8 +304,8 @@ impl State {
         }
     }
 
-    /// Sets the cursor just after a string of so many characters that begins at a saved cursor. `Cursor` where one of the two
-    /// places is outside the text.
+    /// Sets the cursor just after a string of this many characters that begins at a saved cursor. Returns `Cursor` if
+    /// one of the two offsets is outside the text.
     #[inline(always)]
     pub fn place_after(&mut self, mode: Mode, from: SavedCursor, n: usize) -> Result<(), Halt>
         requires { from.cursor + from.beyond + from.length ≤ 4096 }
@@ -251,7 +316,7 @@ impl State {
         self.step_over(mode, n)
     }
 
-    /// `tolimit`. `Cursor` where the limit is outside the text.
+    /// `tolimit`. Returns `Cursor` if the limit is outside the text.
     pub fn to_limit(&mut self, mode: Mode) -> Result<(), Halt>
         ensures leads { Leads result self.new (to_limit mode self.old) }
         ensures same_steps { IfOk result (λ _. self.new.steps ≡ self.old.steps) }
@@ -269,7 +334,7 @@ impl State {
         }
     }
 
-    /// The characters of a literal, or of a string variable.
+    /// Returns the characters of a literal or of a string variable.
     #[inline(always)]
     pub fn characters<'a>(&'a self, term: &'a StringTerm) -> &'a [char]
         ensures { result.now ≡ characters (view_text term.now) self.now }
@@ -283,7 +348,7 @@ impl State {
         }
     }
 
-    // The limit, as far as it is in the text.
+    // Returns the limit as an offset of the text; 0 if it would be left of the text.
     #[inline(always)]
     fn limit(&self) -> usize
         ensures value { result ≡ length self.now.text - self.now.beyond }
@@ -292,7 +357,7 @@ impl State {
         self.text.len().saturating_sub(self.beyond)
     }
 
-    /// What is ahead, as it lies in the text.
+    /// Returns the part of the text that is ahead, in text order.
     #[inline(always)]
     pub fn part_ahead(&self, mode: Mode) -> &[char]
         ensures value { read_as mode result.now ≡ ahead mode self.now }
@@ -318,7 +383,7 @@ impl State {
     }
 }
 
-// Makes of some strings so many empty ones.
+// Makes `strings` a list of `count` empty strings. Returns `AllocError` if an allocation fails.
 fn make_empty(strings: &mut Vec<Vec<char>>, count: usize) -> Result<(), AllocError>
     ensures { IfOk result (λ _. map (λ x. x.items) strings.new.items ≡ replicate count []) }
 {

@@ -10,18 +10,18 @@ use sbl_program::Found;
 use sbl_tables::AmongSearch;
 use std::alloc::{AllocError, Global};
 
-/// Searches of all the amongs of a script.
+/// The searches of all amongs of a script.
 pub trait Tables {
-    /// The strings of an among, and the mode that reads them.
+    /// The strings of an among, and the mode in which they are read.
     ghost listed: { Self → ℕ → Listed };
 
-    /// The longest string of an among that fits at a place, up to a bound.
+    /// Returns the longest string of an among that matches at an offset, up to a bound.
     fn longest(&self, table: usize, text: &[char], at: usize, bound: usize) -> Option<usize>
         requires at_in { at ≤ length text.now }
         requires bound_in { bound ≤ length text.now }
         ensures { result ≡ first (fits_at (listed self.now table) text.now at bound) };
 
-    /// The longest string below this one that fits wherever this one does.
+    /// Returns the longest string after this one that matches wherever this one does.
     fn next_shorter(&self, table: usize, i: usize) -> Option<usize>
         ensures { (text : List ℕ) (at bound : ℕ) (before rest : List ℕ) → fits_at (listed self.now table) text at bound ≡ before ++ (i ∷ rest) → result ≡ first rest };
 }
@@ -51,7 +51,7 @@ impl<S: AmongSearch> Tables for TableList<S> {
     }
 }
 
-/// A table for each among. AllocError where a growth was refused.
+/// Returns a table for each among. Returns `AllocError` if an allocation fails.
 pub fn tables_of<S: AmongSearch>(alloc: Global, amongs: &[Found]) -> Result<Vec<S>, AllocError>
     ensures { IfOk result (λ ts. map (listed_of S S.entries S.mode) ts.items ≡ map listing_found amongs.now) }
 {

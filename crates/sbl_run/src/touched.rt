@@ -1,9 +1,10 @@
 //! What a run has touched: a list, and bits beside it, so that a touch costs the same however many there are.
 
-ghost use Rattle.std.specs.Prelude.{◌≡◌, ◌<◌, ℕ, false, [], length, map, slice_set, slice_index_or, IfOk, MatchResult};
+ghost use Rattle.std.specs.Prelude.{◌≡◌, ◌<◌, ℕ, false, [], ◌++◌, ◌∷◌, length, map, slice_set, slice_index_or, IfOk, MatchResult};
 ghost use Rattle.sbl_run.specs.Marks.{is_set, is_set_in};
-ghost use Rattle.sbl_run.specs.Touches.{with_touch};
-ghost use Rattle.sbl_run.specs.declared.touch.Touch.TheVariants.{Entered, Searched};
+ghost use Rattle.std.specs.List.{list_any};
+ghost use Rattle.sbl_run.specs.Touches.{same_touch, with_touch};
+ghost use Rattle.sbl_run.specs.declared.touch.Touch.TheVariants.{Entered, Searched, Tested};
 
 use crate::touch::Touch;
 use std::alloc::{AllocError, Global};
@@ -13,9 +14,10 @@ use std::marker::Model;
 #[derive(Drop)]
 pub struct Touched {
     touches: Vec<Touch>,
-    // For each routine whether it is touched, and for each of its amongs. They grow at a touch that lies past their ends.
+    // Whether each routine, each of its amongs and each grouping is touched. They grow if a touch lies past their ends.
     entered: Vec<bool>,
     searched: Vec<Vec<bool>>,
+    tested: Vec<bool>,
 }
 
 impl Model for Touched {
@@ -27,11 +29,11 @@ impl Model for Touched {
 
     ghost view = { λ t. t.touches.items };
 
-    ghost invariant = { λ t. AreMarked t.touches.items t.entered.items (map (λ row. row.items) t.searched.items) };
+    ghost invariant = { λ t. AreMarked t.touches.items t.entered.items (map (λ row. row.items) t.searched.items) t.tested.items };
 }
 
 impl Touched {
-    /// Nothing is touched. It takes no memory.
+    /// Returns an empty list. Does not allocate.
     pub fn new(alloc: Global) -> Touched
         ensures { result ≡ [] }
     {
@@ -39,17 +41,31 @@ impl Touched {
             touches: Vec::new(alloc),
             entered: Vec::new(alloc),
             searched: Vec::new(alloc),
+            tested: Vec::new(alloc),
         }
     }
 
-    /// The touches.
+    /// Returns the touches.
     pub fn touches(&self) -> &[Touch]
         ensures { result.now ≡ self.now }
     {
         &self.touches
     }
 
-    /// Takes all touches out, in time that goes with how many there are. The memory is kept.
+    /// Returns whether a touch is in the list, without a search through it.
+    pub fn has(&self, touch: Touch) -> bool
+        ensures { result ≡ list_any (same_touch touch) self.now }
+    {
+        match touch {
+            Touch::Entered(routine) => bit(&self.entered, routine as usize),
+            Touch::Searched(routine, among) => {
+                bit_in(&self.searched, routine as usize, among as usize)
+            }
+            Touch::Tested(grouping) => bit(&self.tested, grouping as usize),
+        }
+    }
+
+    /// Removes all touches, in time proportional to their number. The memory is kept.
     pub fn clear(&mut self)
         ensures { self.new ≡ [] }
     {
@@ -59,12 +75,13 @@ impl Touched {
                 Touch::Searched(routine, among) => {
                     set_in(&mut self.searched, routine as usize, among as usize, false)
                 }
+                Touch::Tested(grouping) => set(&mut self.tested, grouping as usize, false),
             }
         }
     }
 
-    /// The body of a routine is entered. AllocError where a growth was refused, or where the number is above `u32::MAX`; nothing is
-    /// touched then.
+    /// Records that the body of a routine is entered. Returns `AllocError` if an allocation fails or the number is
+    /// above `u32::MAX`; then nothing is touched.
     #[inline(always)]
     pub fn enter(&mut self, routine: usize) -> Result<(), AllocError>
         ensures { MatchResult result (λ _. self.new ≡ with_touch (Entered routine) self.old) (λ _. self.new ≡ self.old) }
@@ -79,8 +96,8 @@ impl Touched {
         Ok(())
     }
 
-    /// The search of an among is paid. AllocError where a growth was refused, or where a number is above `u32::MAX`; nothing is
-    /// touched then.
+    /// Records that the search of an among is paid. Returns `AllocError` if an allocation fails or a number is above
+    /// `u32::MAX`; then nothing is touched.
     #[inline(always)]
     pub fn search(&mut self, routine: usize, among: usize) -> Result<(), AllocError>
         ensures { MatchResult result (λ _. self.new ≡ with_touch (Searched routine among) self.old) (λ _. self.new ≡ self.old) }
@@ -94,9 +111,35 @@ impl Touched {
         set_in(&mut self.searched, routine, among, true);
         Ok(())
     }
+
+    /// Records that the test of a grouping is paid. Returns `AllocError` if an allocation fails or the number is above
+    /// `u32::MAX`; then nothing is touched.
+    #[inline(always)]
+    pub fn test(&mut self, grouping: usize) -> Result<(), AllocError>
+        ensures { MatchResult result (λ _. self.new ≡ with_touch (Tested grouping) self.old) (λ _. self.new ≡ self.old) }
+    {
+        if bit(&self.tested, grouping) {
+            return Ok(());
+        }
+        self.add_tested(grouping)
+    }
+
+    // Adds a grouping that is not touched yet. Returns `AllocError` as `test` does.
+    #[inline(never)]
+    fn add_tested(&mut self, grouping: usize) -> Result<(), AllocError>
+        requires { list_any (same_touch (Tested grouping)) self.old ≡ false }
+        ensures { MatchResult result (λ _. self.new ≡ self.old ++ (Tested grouping ∷ [])) (λ _. self.new ≡ self.old) }
+    {
+        let number = touch_number(grouping)?;
+        grow(&mut self.tested, grouping)?;
+        self.touches.push(Touch::Tested(number))?;
+        set(&mut self.tested, grouping, true);
+        Ok(())
+    }
 }
 
-// The number of a routine or an among as touches keep it. AllocError where it is above `u32::MAX`: no script has so many.
+// Returns the number of a routine, an among or a grouping as touches store it. Returns `AllocError` if it is above
+// `u32::MAX`: no script has so many.
 fn touch_number(number: usize) -> Result<u32, AllocError>
     ensures { MatchResult result (λ kept. kept ≡ number) (λ _. u32.MAX < number) }
 {
@@ -106,7 +149,7 @@ fn touch_number(number: usize) -> Result<u32, AllocError>
     }
 }
 
-// A bit; past the end none is set.
+// Returns a bit; past the end no bit is set.
 #[inline(always)]
 fn bit(bits: &[bool], i: usize) -> bool
     ensures { result ≡ is_set bits.now i }
@@ -117,7 +160,7 @@ fn bit(bits: &[bool], i: usize) -> bool
     }
 }
 
-// A bit of a row.
+// Returns a bit of a row.
 #[inline(always)]
 fn bit_in(rows: &[Vec<bool>], i: usize, k: usize) -> bool
     ensures { result ≡ is_set_in (map (λ row. row.items) rows.now) i k }
@@ -137,7 +180,7 @@ fn set(bits: &mut Vec<bool>, i: usize, bit: bool)
     }
 }
 
-// The same of a bit of a row.
+// Does the same for a bit of a row.
 fn set_in(rows: &mut Vec<Vec<bool>>, i: usize, k: usize, bit: bool)
     ensures { map (λ row. row.items) rows.new.items ≡ slice_set (map (λ row. row.items) rows.old.items) i (slice_set (slice_index_or (map (λ row. row.items) rows.old.items) i []) k bit) }
 {
@@ -146,7 +189,7 @@ fn set_in(rows: &mut Vec<Vec<bool>>, i: usize, k: usize, bit: bool)
     }
 }
 
-// Grows bits until this one is there.
+// Grows the bits until this one exists. Returns `AllocError` if an allocation fails.
 fn grow(bits: &mut Vec<bool>, i: usize) -> Result<(), AllocError>
     ensures same { (j : ℕ) → is_set bits.new.items j ≡ is_set bits.old.items j }
     ensures there { IfOk result (λ _. i < length bits.new.items) }
@@ -157,7 +200,7 @@ fn grow(bits: &mut Vec<bool>, i: usize) -> Result<(), AllocError>
     Ok(())
 }
 
-// Grows rows, and one of them, until this bit is there.
+// Grows the rows, and one of them, until this bit exists. Returns `AllocError` if an allocation fails.
 fn grow_in(rows: &mut Vec<Vec<bool>>, i: usize, k: usize) -> Result<(), AllocError>
     ensures same { (j l : ℕ) → is_set_in (map (λ row. row.items) rows.new.items) j l ≡ is_set_in (map (λ row. row.items) rows.old.items) j l }
     ensures there { IfOk result (λ _. (i < length rows.new.items) × (k < length (slice_index_or (map (λ row. row.items) rows.new.items) i []))) }

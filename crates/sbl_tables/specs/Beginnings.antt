@@ -1,16 +1,16 @@
--- The characters with which the strings of a table begin.
+-- The first characters of the strings of a table.
 use Rattle.std.specs.Prelude.{◌≡◌, ℕ, Bool, true, List, [], ◌∷◌, ◌||◌, Some, slice_get}
 
--- whether the first character of a string is of a class; an empty string is told of beside it
+-- the first character of the string is in the class; for an empty string the result is `empty`
 abbrev pub begins : (ℕ → Bool) → Bool → List ℕ → Bool
 begins class empty [] = empty
 begins class empty (c ∷ cs) = class c
 
--- so it is of each of these
+-- the same holds for each of these strings
 abbrev pub AreBeginnings : (ℕ → Bool) → Bool → List (List ℕ) → Type 0
 AreBeginnings class empty texts = (k : ℕ) (v : List ℕ) → slice_get texts k ≡ Some v → begins class empty v ≡ true
 
--- whether one of them may be the front of what is read
+-- one of the strings may be a prefix of the text read
 abbrev pub may_begin : (ℕ → Bool) → Bool → List ℕ → Bool
 may_begin class empty [] = empty
 may_begin class empty (c ∷ cs) = empty || class c

@@ -1,9 +1,9 @@
--- what the contracts of public calls rest on
+-- definitions that public contracts depend on
 pub mod Fitting
 pub mod Best
 pub mod Laws
 pub mod Strings
 pub mod LinkedStrings
--- what the functions inside the crate promise each other: nothing in these need be believed
+-- what the functions inside the crate promise each other; no public contract depends on these
 pub mod Linked
 pub mod Beginnings

@@ -10,6 +10,6 @@ entries_of t = map (λ v. v.items) t.strings.items
 abbrev pub mode_of : LinkedTable → Mode
 mode_of t = t.direction
 
--- as its mode reads them
+-- the strings as read in the mode of the table
 abbrev pub strings_of : LinkedTable → List (List ℕ)
 strings_of t = read_all (mode_of t) (entries_of t)

@@ -1,23 +1,23 @@
-//! What is shown of the strings of an among that fit.
+//! Laws of the matching strings of an among.
 
 ghost use Rattle.sbl_tables.specs.Laws.{BestComesFirst, FittingAreMatches, FittingFall, RestIsItsOwn};
 
-/// The longest comes first.
+/// The longest matching string comes first.
 pub fn best_comes_first()
     ensures { BestComesFirst }
 {}
 
-/// The strings after one that fits are its own fronts.
+/// After a matching string come the shorter strings that are prefixes of it.
 pub fn rest_is_its_own()
     ensures { RestIsItsOwn }
 {}
 
-/// Of strings that differ, those that fit are exactly those that match.
+/// If all strings differ, `fitting` has exactly the strings that match.
 pub fn fitting_are_matches()
     ensures { FittingAreMatches }
 {}
 
-/// Each string that fits is longer than the next.
+/// Each matching string is longer than the next one.
 pub fn fitting_fall()
     ensures { FittingFall }
 {}

@@ -1,4 +1,7 @@
-//! Searches of the strings of an `among`: the longest that stands at a place, and the next shorter one after it.
+//! Searches of an among's strings: the longest string that matches at a position of the text, and then the next shorter
+//! one.
+//!
+//! In forward mode a string is read from left to right, in backward mode from right to left.
 #![tactic(auto)]
 
 pub mod laws;

@@ -1,4 +1,4 @@
-//! A search over sorted strings, each with a link to the longest shorter one that matches wherever it does.
+//! A search of sorted strings. Each string has a link to the longest shorter string that is a prefix of it.
 
 ghost use Rattle.std.specs.Prelude.{map};
 ghost use Rattle.sbl_program.specs.CharacterClasses.{members};
@@ -24,9 +24,10 @@ use std::cmp::Reverse;
 pub struct LinkedTable {
     strings: Vec<Vec<char>>,
     direction: Mode,
-    // The strings as the mode reads them, in order, each with its number; of equal strings the first comes last.
+    // The strings as read in the mode, sorted, each with its number. Of equal strings the one with the smallest number
+    // is last.
     rows: Vec<(Vec<char>, Reverse<usize>)>,
-    // For each row the last row of the longest shorter string that is a front of its own.
+    // For each row, the last row of the longest shorter string that is a prefix of it.
     links: Vec<Option<usize>>,
     beginnings: Beginnings,
     ghost linked: { ∥ IsLinked (read_all direction (map (λ v. v.items) strings.items)) rows.items links.items ∥₁ },
@@ -38,7 +39,7 @@ impl LinkedTable {
     ghost use Rattle.sbl_tables.specs.Fitting.{read_as};
     ghost use Rattle.sbl_tables.specs.LinkedStrings.{strings_of};
 
-    /// The longest string of fewer characters than this that is the front of what the mode reads.
+    /// Returns the number of the longest string with fewer than `below` characters that is a prefix of the text read.
     fn best(&self, part: &[char], below: usize) -> Option<usize>
         ensures { ∥ IsBest (strings_of self.now) (read_as self.now.direction part.now) below result ∥₁ }
     {

@@ -1,4 +1,4 @@
-//! A search that looks at each string.
+//! A search that compares each string.
 
 ghost use Rattle.std.specs.Prelude.{◌≡◌, ◌≤◌, ◌++◌, ◌∷◌, [], List, ℕ, IfOk, map, nat_eq, length};
 ghost use Rattle.std.specs.List.{starts_with};
@@ -10,7 +10,7 @@ use crate::search::AmongSearch;
 use sbl_tree::Mode;
 use std::alloc::{AllocError, Global};
 
-/// A plain list of strings.
+/// A list of strings.
 #[derive(Drop)]
 pub struct PlainTable {
     strings: Vec<Vec<char>>,
@@ -18,7 +18,7 @@ pub struct PlainTable {
 }
 
 impl PlainTable {
-    /// The longest string of fewer characters than this that is the front of what the mode reads.
+    /// Returns the number of the longest string with fewer than `below` characters that is a prefix of the text read.
     fn best(&self, part: &[char], below: usize) -> Option<usize>
         ensures { IsBest (strings_of self.now) (read_as self.now.direction part.now) below result }
     {
@@ -30,7 +30,7 @@ impl PlainTable {
     }
 }
 
-/// The best of the strings so far, and one more than its length, with the next string.
+/// Updates the best string so far, and one more than its length, for the next string.
 fn better(
     direction: Mode,
     part: &[char],
@@ -82,7 +82,7 @@ impl AmongSearch for PlainTable {
     }
 }
 
-/// Copies of strings.
+/// Returns copies of strings. Returns `AllocError` if an allocation fails.
 pub fn copied_all(alloc: Global, strings: &[Vec<char>]) -> Result<Vec<Vec<char>>, AllocError>
     ensures { IfOk result (λ copies. map (λ v. v.items) copies.items ≡ map (λ v. v.items) strings.now) }
 {
@@ -93,14 +93,14 @@ pub fn copied_all(alloc: Global, strings: &[Vec<char>]) -> Result<Vec<Vec<char>>
     Ok(copies)
 }
 
-/// A copy of a string.
+/// Returns a copy of a string. Returns `AllocError` if an allocation fails.
 fn copied(alloc: Global, string: &[char]) -> Result<Vec<char>, AllocError>
     ensures { IfOk result (λ v. v.items ≡ string.now) }
 {
     string.to_vec(alloc)
 }
 
-/// Adds a copy of a string.
+/// Appends a copy of a string. Returns `AllocError` if an allocation fails.
 fn add(alloc: Global, copies: &mut Vec<Vec<char>>, string: &[char]) -> Result<(), AllocError>
     ensures { IfOk result (λ _. map (λ v. v.items) copies.new.items ≡ map (λ v. v.items) copies.old.items ++ (string.now ∷ [])) }
 {
@@ -108,7 +108,8 @@ fn add(alloc: Global, copies: &mut Vec<Vec<char>>, string: &[char]) -> Result<()
     Ok(())
 }
 
-/// What is ahead of a place, as it lies in the text.
+/// Returns the text between `at` and `bound`, in text order: from `at` to `bound` in forward mode, from `bound` to `at`
+/// in backward mode. Empty if `at` is already past `bound`.
 pub fn ahead(direction: Mode, text: &[char], at: usize, bound: usize) -> &[char]
     requires at_in { at ≤ length text.now }
     requires bound_in { bound ≤ length text.now }
@@ -120,7 +121,7 @@ pub fn ahead(direction: Mode, text: &[char], at: usize, bound: usize) -> &[char]
     }
 }
 
-// Whether a string is the front of what the mode reads of a part of the text.
+// Returns whether the string is a prefix of `part` (forward mode) or a suffix of `part` (backward mode).
 fn is_front(direction: Mode, part: &[char], string: &[char]) -> bool
     ensures { result ≡ starts_with nat_eq (read_as direction part.now) (read_as direction string.now) }
 {

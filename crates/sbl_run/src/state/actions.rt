@@ -1,4 +1,4 @@
-//! The commands that hold no command.
+//! Commands that contain no command.
 
 ghost use Rattle.std.specs.Prelude.{◌≡◌, map, IfOk};
 ghost use Rattle.sbl_program.specs.CharacterClasses.{members};
@@ -15,9 +15,12 @@ use sbl_program::{Action, Arithmetic, CharacterClass};
 use sbl_tree::Mode;
 
 impl State {
-    /// Does what a command without a command inside it does once its step is paid, and answers its signal. Refused where
-    /// a number of it is out of range, where there is no slice for it, where the cursor would leave the text, and where
-    /// the text would grow too long. `groupings` holds the class of each grouping.
+    /// Does a command without a command inside, after its step is paid, and returns its signal. `groupings` has the
+    /// class of each grouping.
+    ///
+    /// Returns a fault if a number in it is out of range, if there is no valid slice for it, if the cursor would leave
+    /// the text, or if the text would be too long; returns `OutOfMemory` if an allocation fails or the number of a
+    /// grouping is above `u32::MAX`.
     pub fn act(
         &mut self,
         groupings: &[CharacterClass],
@@ -29,8 +32,14 @@ impl State {
     {
         match action {
             Action::Match(term) => Ok(self.take_term(mode, term)),
-            Action::Grouping(number) => Ok(self.take_one(mode, groupings, *number, true)),
-            Action::NonGrouping(number) => Ok(self.take_one(mode, groupings, *number, false)),
+            Action::Grouping(number) => {
+                self.touch_grouping(*number)?;
+                Ok(self.take_one(mode, groupings, *number, true))
+            }
+            Action::NonGrouping(number) => {
+                self.touch_grouping(*number)?;
+                Ok(self.take_one(mode, groupings, *number, false))
+            }
             Action::Next => Ok(self.take_next(mode)),
             Action::Hop(expression) => self.hop_by(mode, expression),
             Action::ToLimit => {
@@ -91,7 +100,7 @@ impl State {
         }
     }
 
-    // `hop`: moves over as many characters as an expression says. Refused where its value is out of range.
+    // `hop`: moves over as many characters as an expression says. Returns a fault if the expression has one.
     #[inline(never)]
     fn hop_by(&mut self, mode: Mode, expression: &Arithmetic) -> Result<bool, Halt>
         ensures follows { Follows result self.new (given (value (view_number expression.now) mode self.old) self.old (λ z. hop (natural z) mode self.old)) }
@@ -101,7 +110,7 @@ impl State {
         Ok(self.hop(mode, natural(number)))
     }
 
-    // `atmark`: whether the cursor is where an expression says. Refused where its value is out of range.
+    // `atmark`: returns whether the cursor is at the value of an expression. Returns a fault if the expression has one.
     #[inline(never)]
     fn is_at_value(&mut self, mode: Mode, expression: &Arithmetic) -> Result<bool, Halt>
         ensures follows { Follows result self.new (given (value (view_number expression.now) mode self.old) self.old (λ z. at_mark (natural z) self.old)) }
@@ -111,7 +120,7 @@ impl State {
         Ok(self.is_at_mark(natural(place)))
     }
 
-    // `tomark`: sends the cursor to where an expression says. Refused where its value is out of range.
+    // `tomark`: moves the cursor to the value of an expression. Returns a fault if the expression has one.
     #[inline(never)]
     fn to_value(&mut self, mode: Mode, expression: &Arithmetic) -> Result<bool, Halt>
         ensures follows { Follows result self.new (given (value (view_number expression.now) mode self.old) self.old (λ z. to_mark (natural z) mode self.old)) }

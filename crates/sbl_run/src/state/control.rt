@@ -1,11 +1,13 @@
-//! What the commands that hold commands need of the state: limits, `backwards`, the choices of amongs, and calls.
+//! Parts of the state for commands that contain commands: limits, `backwards`, the choices of amongs, and calls.
 
 ghost use Rattle.std.specs.Prelude.{◌≡◌, ◌≤◌, ◌-◌, ℕ, Option, None, length, replicate, IfOk};
 ghost use Rattle.sbl_tables.specs.Fitting.{ahead_at};
 ghost use Rattle.sbl_run.specs.Kept.{Leads};
 ghost use Rattle.sbl_run.specs.Run.{limits, limit_here, limit_back, backwards_from, backwards_end, back_in, enter};
-ghost use Rattle.sbl_run.specs.Search.{choose, choice, bound_in, touch_among};
+ghost use Rattle.sbl_run.specs.Moves.{touch_grouping};
+ghost use Rattle.sbl_run.specs.Search.{choose, choice, bound_in, take_none, take_string, touch_among};
 
+use crate::event::Event;
 use crate::halt::Halt;
 use crate::state::{Limits, State};
 use crate::touch::Touch;
@@ -14,7 +16,7 @@ use std::alloc::AllocError;
 use std::mem;
 
 impl State {
-    /// The limits, to be kept over `setlimit`.
+    /// Returns the limits, to be restored after `setlimit`.
     #[inline(always)]
     pub fn limits(&self) -> Limits
         ensures value { result ≡ limits self.now }
@@ -26,7 +28,7 @@ impl State {
         }
     }
 
-    /// Makes the cursor the limit of the direction.
+    /// Sets the limit of the direction to the cursor.
     #[inline(always)]
     pub fn limit_here(&mut self, mode: Mode)
         ensures { self.new ≡ limit_here mode self.old }
@@ -37,7 +39,7 @@ impl State {
         }
     }
 
-    /// Puts an old limit back.
+    /// Restores an earlier limit.
     #[inline(always)]
     pub fn limit_back(&mut self, mode: Mode, from: Limits)
         requires { (from.left ≤ 1024) × (from.beyond ≤ 1024) }
@@ -49,7 +51,7 @@ impl State {
         }
     }
 
-    /// The start of `backwards`. `Cursor` where the limit is outside the text.
+    /// Starts `backwards`. Returns `Cursor` if the limit is outside the text.
     pub fn begin_backwards(&mut self) -> Result<(), Halt>
         ensures leads { Leads result self.new (backwards_from self.old) }
         ensures same_steps { IfOk result (λ _. self.new.steps ≡ self.old.steps) }
@@ -58,7 +60,7 @@ impl State {
         self.to_limit(Mode::Forward)
     }
 
-    /// The end of `backwards` after t. `Cursor` where the left limit is outside the text.
+    /// Ends `backwards` after t. Returns `Cursor` if the left limit is outside the text.
     pub fn end_backwards(&mut self) -> Result<(), Halt>
         ensures leads { Leads result self.new (backwards_end self.old) }
         ensures same_steps { IfOk result (λ _. self.new.steps ≡ self.old.steps) }
@@ -67,14 +69,14 @@ impl State {
         self.go_to(left)
     }
 
-    /// The text.
+    /// Returns the text.
     pub fn text(&self) -> &[char]
         ensures { result.now ≡ self.now.text }
     {
         &self.text
     }
 
-    /// The cursor.
+    /// Returns the cursor.
     pub fn place(&self) -> usize
         ensures value { result ≡ self.now.cursor }
         ensures within { result ≤ length self.now.text }
@@ -82,7 +84,7 @@ impl State {
         self.cursor
     }
 
-    /// The end of what is ahead, as a place of the text.
+    /// Returns the end of the part that is ahead, as an offset of the text.
     pub fn bound(&self, mode: Mode) -> usize
         ensures value { result ≡ bound_in mode self.now }
         ensures within { result ≤ length self.now.text }
@@ -99,9 +101,33 @@ impl State {
         }
     }
 
-    /// Keeps the group of the string that an among's search took, or that it took none.
+    /// Records that the search of an among takes a string of this many characters and this group. Returns `AllocError`
+    /// if an allocation fails.
     #[inline(always)]
-    pub fn choose(&mut self, among: usize, group: Option<usize>)
+    pub fn take_string(
+        &mut self,
+        among: usize,
+        length: usize,
+        group: usize,
+    ) -> Result<(), AllocError>
+        ensures { IfOk result (λ _. self.new ≡ take_string among length group self.old) }
+    {
+        self.choose(among, Some(group));
+        self.tell(Event::Finds(among, Some(length)))
+    }
+
+    /// Records that the search of an among takes no string. Returns `AllocError` if an allocation fails.
+    #[inline(always)]
+    pub fn take_none(&mut self, among: usize) -> Result<(), AllocError>
+        ensures { IfOk result (λ _. self.new ≡ take_none among self.old) }
+    {
+        self.choose(among, None);
+        self.tell(Event::Finds(among, None))
+    }
+
+    // Stores the group of the string that the search of an among took, or that it took none.
+    #[inline(always)]
+    fn choose(&mut self, among: usize, group: Option<usize>)
         ensures { self.new ≡ choose among group self.old }
     {
         if among < self.choices.len() {
@@ -109,7 +135,7 @@ impl State {
         }
     }
 
-    /// The group that was chosen for an among.
+    /// Returns the group that was chosen for an among, if any.
     #[inline(always)]
     pub fn choice(&self, among: usize) -> Option<usize>
         ensures { result ≡ choice among self.now }
@@ -120,31 +146,41 @@ impl State {
         }
     }
 
-    /// Touches an among of the routine that runs, whose search is paid. AllocError where a growth was refused, or where a
-    /// number is above `u32::MAX`.
+    /// Touches an among of the current routine, after its search is paid. Returns `AllocError` if an allocation fails
+    /// or a number is above `u32::MAX`.
     #[inline(always)]
     pub fn touch_among(&mut self, among: usize) -> Result<(), AllocError>
         ensures { IfOk result (λ _. self.new ≡ touch_among among self.old) }
     {
-        self.touched.search(self.routine, among)
+        self.touched.search(self.routine, among)?;
+        self.tell(Event::Searches(among, self.cursor))
     }
 
-    /// What was touched, in the order of first touch.
+    /// Touches a grouping, after its test is paid. Returns `AllocError` if an allocation fails or the number is above
+    /// `u32::MAX`.
+    #[inline(always)]
+    pub fn touch_grouping(&mut self, grouping: usize) -> Result<(), AllocError>
+        ensures { IfOk result (λ _. self.new ≡ touch_grouping grouping self.old) }
+    {
+        self.touched.test(grouping)
+    }
+
+    /// Returns what was touched, in the order of first touch.
     pub fn touches(&self) -> &[Touch]
         ensures { result.now ≡ self.now.touched }
     {
         self.touched.touches()
     }
 
-    /// The number of the routine that runs.
+    /// Returns the number of the current routine.
     pub fn routine(&self) -> usize
         ensures { result ≡ self.now.routine }
     {
         self.routine
     }
 
-    /// Begins a call of the routine with this number and so many amongs, which is touched, and answers the caller's choices.
-    /// AllocError where a growth was refused, or where the number is above `u32::MAX`.
+    /// Starts a call of the routine with this number, which has this many amongs. Touches the routine and returns the
+    /// choices of the caller. Returns `AllocError` if an allocation fails or the number is above `u32::MAX`.
     #[inline(always)]
     pub fn enter(&mut self, routine: usize, amongs: usize) -> Result<Vec<Option<usize>>, AllocError>
         ensures kept { IfOk result (λ v. v.items ≡ self.old.choices) }
@@ -157,10 +193,13 @@ impl State {
             self.fresh_choices(amongs)?
         };
         self.routine = routine;
-        Ok(mem::replace(&mut self.choices, fresh))
+        let kept = mem::replace(&mut self.choices, fresh);
+        self.tell(Event::Enters(routine))?;
+        Ok(kept)
     }
 
-    // As many empty choices, in a buffer that an ended call left, if there is one. AllocError where a growth was refused.
+    // Returns this many empty choices, in the buffer of an ended call if there is one. Returns `AllocError` if an
+    // allocation fails.
     fn fresh_choices(&mut self, amongs: usize) -> Result<Vec<Option<usize>>, AllocError>
         ensures fresh { IfOk result (λ v. v.items ≡ replicate amongs None) }
         ensures same { self.new ≡ self.old }
@@ -174,16 +213,23 @@ impl State {
         Ok(fresh)
     }
 
-    /// Ends a call: the caller's number and its choices are back.
+    /// Ends a call with this signal and restores the number and the choices of the caller. Returns `AllocError` if an
+    /// allocation fails.
     #[inline(always)]
-    pub fn leave(&mut self, caller: usize, kept: Vec<Option<usize>>)
-        ensures { self.new ≡ back_in caller kept.items self.old }
+    pub fn leave(
+        &mut self,
+        caller: usize,
+        kept: Vec<Option<usize>>,
+        signal: bool,
+    ) -> Result<(), AllocError>
+        ensures { IfOk result (λ _. self.new ≡ back_in caller kept.items signal self.old) }
     {
         self.routine = caller;
         let used = mem::replace(&mut self.choices, kept);
         if 0 < used.capacity() {
-            // Where there is no room for it, it is given back.
+            // If there is no room for it, it is freed.
             let _ = self.spares.push(used);
         }
+        self.tell(Event::Leaves(signal))
     }
 }

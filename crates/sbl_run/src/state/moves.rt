@@ -14,7 +14,7 @@ use sbl_program::{CharacterClass, StringTerm, is_in_class};
 use sbl_tree::Mode;
 
 impl State {
-    // How many characters are ahead.
+    // Returns the number of characters ahead.
     #[inline(always)]
     fn room(&self, mode: Mode) -> usize
         ensures { result ≡ room mode self.now }
@@ -25,7 +25,7 @@ impl State {
         }
     }
 
-    // The cursor further by n characters, which are ahead.
+    // Moves the cursor by n characters, which are ahead.
     #[inline(always)]
     fn advance(&mut self, mode: Mode, n: usize)
         requires { n ≤ room mode self.old }
@@ -37,7 +37,7 @@ impl State {
         }
     }
 
-    /// Moves over a literal or what a string variable holds, and answers whether it is the front of what is ahead.
+    /// Moves over a literal or the value of a string variable, and returns whether it is a prefix of the text ahead.
     pub fn take_term(&mut self, mode: Mode, term: &StringTerm) -> bool
         ensures leads { match (characters (view_text term.now) self.old) mode self.old ≡ Signals result self.new }
         ensures same_steps { self.new.steps ≡ self.old.steps }
@@ -51,7 +51,7 @@ impl State {
         found
     }
 
-    // The character that is read next.
+    // Returns the next character to read, if any.
     #[inline(always)]
     fn next_character(&self, mode: Mode) -> Option<char>
         ensures value { result ≡ slice_get (ahead mode self.now) 0 }
@@ -63,8 +63,8 @@ impl State {
         }
     }
 
-    /// Moves over one character that is in the class of a number, or over one that is not, as is wanted, and answers whether
-    /// there is one. Where no class has the number, no character is in it.
+    /// Moves over one character that is in the class with this number, or over one that is not, as `wanted` says, and
+    /// returns whether there is one. A class that does not exist has no characters.
     pub fn take_one(
         &mut self,
         mode: Mode,
@@ -82,7 +82,7 @@ impl State {
         found
     }
 
-    /// `next`: moves over one character, and answers whether there is one.
+    /// `next`: moves over one character, and returns whether there is one.
     pub fn take_next(&mut self, mode: Mode) -> bool
         ensures leads { next mode self.old ≡ Signals result self.new }
         ensures same_steps { self.new.steps ≡ self.old.steps }
@@ -94,7 +94,7 @@ impl State {
         found
     }
 
-    /// `hop`: moves over so many characters, and answers whether they are ahead.
+    /// `hop`: moves over this many characters, and returns whether they are ahead.
     pub fn hop(&mut self, mode: Mode, number: Option<usize>) -> bool
         ensures leads { hop number mode self.old ≡ Signals result self.new }
         ensures same_steps { self.new.steps ≡ self.old.steps }
@@ -111,7 +111,7 @@ impl State {
         }
     }
 
-    /// `atlimit`: whether nothing is ahead.
+    /// `atlimit`: returns whether nothing is ahead.
     pub fn is_at_limit(&self, mode: Mode) -> bool
         ensures { at_limit mode self.now ≡ Signals result self.now }
     {
@@ -127,7 +127,7 @@ impl State {
         }
     }
 
-    /// `atmark`: whether the cursor is at a place.
+    /// `atmark`: returns whether the cursor is at this offset.
     pub fn is_at_mark(&self, place: Option<usize>) -> bool
         ensures { at_mark place self.now ≡ Signals result self.now }
     {
@@ -137,7 +137,8 @@ impl State {
         }
     }
 
-    /// `tomark`: sends the cursor to a place between it and the limit of the direction, and answers whether it lies there.
+    /// `tomark`: moves the cursor to an offset between it and the limit of the direction, and returns whether the
+    /// offset is there.
     pub fn to_mark(&mut self, mode: Mode, place: Option<usize>) -> bool
         ensures leads { to_mark place mode self.old ≡ Signals result self.new }
         ensures same_steps { self.new.steps ≡ self.old.steps }
@@ -157,7 +158,7 @@ impl State {
         found
     }
 
-    /// Gives a boolean its value.
+    /// Sets a boolean.
     pub fn set_boolean(&mut self, number: usize, value: bool)
         ensures { self.new ≡ set_boolean number value self.old }
     {
@@ -166,7 +167,7 @@ impl State {
         }
     }
 
-    /// Tests a boolean.
+    /// Returns the value of a boolean.
     pub fn test_boolean(&self, number: usize) -> bool
         ensures { test_boolean number self.now ≡ Signals result self.now }
     {
@@ -177,7 +178,7 @@ impl State {
     }
 }
 
-// Whether a string is the front of what the mode reads of a part of the text.
+// Returns whether `string` is a prefix of `part` as read in the mode.
 fn is_front(mode: Mode, part: &[char], string: &[char]) -> bool
     ensures value { result ≡ starts_with nat_eq (read_as mode part.now) (read_as mode string.now) }
     ensures bound { IsTrue result → length string.now ≤ length part.now }
@@ -188,7 +189,7 @@ fn is_front(mode: Mode, part: &[char], string: &[char]) -> bool
     }
 }
 
-// Whether there is a character that is in the class of a number, or is not, as is wanted.
+// Returns whether there is a character that is in the class with this number, or is not, as `wanted` says.
 #[inline(always)]
 fn is_wanted(
     character: Option<char>,

@@ -15,7 +15,8 @@ use sbl_program::{Added, Arithmetic, Change, Relation, Scaled};
 use sbl_tree::{Additive, Mode, Multiplicative};
 
 impl State {
-    /// What an expression is worth. `Integer` where a number is out of range, `Divide` where a divisor is zero.
+    /// Returns the value of an expression. Returns `Integer` if a number is out of range, and `Divide` if a divisor is
+    /// zero.
     #[cycle(value)]
     pub fn value(&self, mode: Mode, expression: &Arithmetic) -> Result<i32, RunFault>
         ensures { result ≡ value (view_number expression.now) mode self.now }
@@ -44,7 +45,7 @@ impl State {
         }
     }
 
-    // Further numbers, added to what there is and taken away from it.
+    // Adds and subtracts the other terms of a sum.
     #[cycle(value)]
     fn sum(&self, mode: Mode, start: i32, others: &[Added]) -> Result<i32, RunFault>
         ensures { result ≡ sums_to (map view_added others.now) (Ok start) mode self.now }
@@ -56,7 +57,7 @@ impl State {
         Ok(total)
     }
 
-    // One further number.
+    // Adds or subtracts one term.
     #[cycle(value)]
     fn sum_with(&self, mode: Mode, total: i32, other: &Added) -> Result<i32, RunFault>
         ensures { result ≡ with_both (Ok total) (value (view_added other.now).1 mode self.now) (sum_of (view_added other.now).0) }
@@ -65,7 +66,7 @@ impl State {
         sum_of(other.operator, total, number)
     }
 
-    // Further numbers, by which what there is is multiplied and divided.
+    // Multiplies and divides by the other factors of a product.
     #[cycle(value)]
     fn product(&self, mode: Mode, start: i32, others: &[Scaled]) -> Result<i32, RunFault>
         ensures { result ≡ scales_to (map view_scaled others.now) (Ok start) mode self.now }
@@ -77,7 +78,7 @@ impl State {
         Ok(total)
     }
 
-    // One further number.
+    // Multiplies or divides by one factor.
     #[cycle(value)]
     fn product_with(&self, mode: Mode, total: i32, other: &Scaled) -> Result<i32, RunFault>
         ensures { result ≡ with_both (Ok total) (value (view_scaled other.now).1 mode self.now) (product_of (view_scaled other.now).0) }
@@ -86,7 +87,7 @@ impl State {
         product_of(other.operator, total, number)
     }
 
-    // What an integer variable holds.
+    // Returns the value of an integer variable.
     fn integer(&self, number: usize) -> i32
         ensures { result ≡ integer_at number self.now }
     {
@@ -96,7 +97,7 @@ impl State {
         }
     }
 
-    // The limit of the direction, as a number.
+    // Returns the limit of the direction as a number.
     fn limit_value(&self, mode: Mode) -> Result<i32, RunFault>
         ensures { result ≡ limit_value mode self.now }
     {
@@ -110,7 +111,7 @@ impl State {
         }
     }
 
-    /// `$x = AE` and its like. Refused where the expression is, and where the new number is out of range.
+    /// `$x = AE` and similar commands. Returns a fault if the expression has one or the new number is out of range.
     #[inline(never)]
     pub fn assign(
         &mut self,
@@ -130,7 +131,7 @@ impl State {
         Ok(())
     }
 
-    /// Compares two expressions. Refused where one of them is.
+    /// Compares two expressions. Returns a fault if one of them has one.
     #[inline(never)]
     pub fn compare(
         &self,
@@ -147,7 +148,7 @@ impl State {
     }
 }
 
-// A number that fits, or Integer.
+// Returns the number, or `Integer` if it is out of range.
 fn fitted(number: Option<i32>) -> Result<i32, RunFault>
     ensures { (z : ℤ) → SomeIff number (FitsSigned w32 z) z → result ≡ fitted z }
 {
@@ -157,7 +158,7 @@ fn fitted(number: Option<i32>) -> Result<i32, RunFault>
     }
 }
 
-// A count of characters as a number, or Integer.
+// Returns a count of characters as a number, or `Integer` if it is out of range.
 fn counted(n: usize) -> Result<i32, RunFault>
     ensures { result ≡ fitted (pos n) }
 {
@@ -168,7 +169,7 @@ fn counted(n: usize) -> Result<i32, RunFault>
     }
 }
 
-// A sum or a difference.
+// Returns a sum or a difference.
 fn sum_of(operator: Additive, x: i32, y: i32) -> Result<i32, RunFault>
     ensures { result ≡ sum_of operator x y }
 {
@@ -178,7 +179,7 @@ fn sum_of(operator: Additive, x: i32, y: i32) -> Result<i32, RunFault>
     }
 }
 
-// A product or a quotient.
+// Returns a product or a quotient.
 fn product_of(operator: Multiplicative, x: i32, y: i32) -> Result<i32, RunFault>
     ensures { result ≡ product_of operator x y }
 {
@@ -188,7 +189,7 @@ fn product_of(operator: Multiplicative, x: i32, y: i32) -> Result<i32, RunFault>
     }
 }
 
-// A quotient, cut towards zero.
+// Returns a quotient, rounded towards zero.
 fn divided(x: i32, y: i32) -> Result<i32, RunFault>
     ensures { result ≡ divided x y }
 {
@@ -198,7 +199,7 @@ fn divided(x: i32, y: i32) -> Result<i32, RunFault>
     fitted(x.checked_div(y))
 }
 
-// What an integer becomes.
+// Returns the new value of an integer variable.
 fn changed(change: Change, x: i32, y: i32) -> Result<i32, RunFault>
     ensures { result ≡ changed change x y }
 {
@@ -211,7 +212,7 @@ fn changed(change: Change, x: i32, y: i32) -> Result<i32, RunFault>
     }
 }
 
-// Whether two numbers stand in a relation.
+// Returns whether the relation holds for two numbers.
 fn holds(relation: Relation, x: i32, y: i32) -> bool
     ensures { result ≡ holds relation x y }
 {
@@ -225,7 +226,7 @@ fn holds(relation: Relation, x: i32, y: i32) -> bool
     }
 }
 
-/// A number that is no less than zero.
+/// Returns the number if it is not negative.
 pub fn natural(number: i32) -> Option<usize>
     ensures { result ≡ natural number }
 {
@@ -236,7 +237,7 @@ pub fn natural(number: i32) -> Option<usize>
     }
 }
 
-/// A number of turns: none where it is negative.
+/// Returns a number of turns: zero if the number is negative.
 pub fn count_of(number: i32) -> u32
     ensures { result ≡ count_of number }
 {

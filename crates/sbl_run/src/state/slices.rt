@@ -7,6 +7,7 @@ ghost use Rattle.sbl_program.specs.ProgramOf.{view_text};
 ghost use Rattle.sbl_run.specs.Moves.{characters};
 ghost use Rattle.sbl_run.specs.Kept.{Leads};
 
+use crate::event::Event;
 use crate::halt::Halt;
 use crate::state::{MAX_TEXT_LENGTH, State};
 use sbl_program::StringTerm;
@@ -35,14 +36,15 @@ impl State {
         }
     }
 
-    // Whether bra <= ket <= limit.
+    // Returns whether bra <= ket <= limit.
     fn is_slice(&self) -> bool
         ensures { result ≡ is_slice self.now }
     {
         self.bra <= self.ket && self.ket + self.beyond <= self.text.len()
     }
 
-    // The text with a string in place of a part of it, beside the text.
+    // Returns the text with a part of it replaced by a string. The state is unchanged. Returns `AllocError` if an
+    // allocation fails.
     fn spliced(
         &mut self,
         from: usize,
@@ -59,7 +61,8 @@ impl State {
         spliced(buffer, &self.text, from, to, self.characters(term))
     }
 
-    /// `delete`: replaces the slice by nothing. `Slice` where there is none.
+    /// `delete`: removes the characters of the slice. Returns `Slice` if there is no valid slice, and `OutOfMemory` if
+    /// an allocation fails.
     #[inline(never)]
     pub fn delete(&mut self) -> Result<(), Halt>
         ensures leads { Leads result self.new (replace [] self.old) }
@@ -71,13 +74,15 @@ impl State {
         let alloc = *self.text.allocator();
         let buffer = mem::replace(&mut self.spare, Vec::new(alloc));
         let made = spliced(buffer, &self.text, self.bra, self.ket, &[])?;
+        self.tell(Event::Puts(self.bra, self.ket, Vec::new(alloc)))?;
         self.spare = mem::replace(&mut self.text, made);
         self.cursor = shift(self.cursor, self.bra, self.ket, 0);
         self.ket = self.bra;
         Ok(())
     }
 
-    /// `<- S`: replaces the slice. `Slice` where there is none, `TooLong` where the text would grow too long.
+    /// `<- S`: replaces the slice. Returns `Slice` if there is no valid slice, `TooLong` if the text would be too long,
+    /// and `OutOfMemory` if an allocation fails.
     #[inline(never)]
     pub fn replace(&mut self, term: &StringTerm) -> Result<(), Halt>
         ensures leads { Leads result self.new (replace (characters (view_text term.now) self.old) self.old) }
@@ -92,13 +97,15 @@ impl State {
             return Err(Halt::TooLong);
         }
         let made = self.spliced(self.bra, self.ket, term)?;
+        self.tell_put(self.bra, self.ket, term)?;
         self.spare = mem::replace(&mut self.text, made);
         self.cursor = shift(self.cursor, self.bra, self.ket, length);
         self.ket = self.bra + length;
         Ok(())
     }
 
-    /// `-> s`: copies the slice to a string variable. `Slice` where there is none.
+    /// `-> s`: copies the slice to a string variable. Returns `Slice` if there is no valid slice, and `OutOfMemory` if
+    /// an allocation fails.
     #[inline(never)]
     pub fn keep(&mut self, number: usize) -> Result<(), Halt>
         ensures leads { Leads result self.new (keep number self.old) }
@@ -113,7 +120,7 @@ impl State {
         Ok(())
     }
 
-    // Puts a string at the cursor, which ends right of it or left of it.
+    // Inserts a string at the cursor. The cursor ends to the right of it or to the left of it.
     fn put_in(&mut self, right: bool, term: &StringTerm) -> Result<(), Halt>
         ensures leads { Leads result self.new (put_in right (characters (view_text term.now) self.old) self.old) }
         ensures same_steps { IfOk result (λ _. self.new.steps ≡ self.old.steps) }
@@ -126,6 +133,7 @@ impl State {
             return Err(Halt::TooLong);
         }
         let made = self.spliced(self.cursor, self.cursor, term)?;
+        self.tell_put(self.cursor, self.cursor, term)?;
         self.spare = mem::replace(&mut self.text, made);
         self.bra = push(length, self.cursor, self.bra);
         self.ket = push(length, self.cursor, self.ket);
@@ -135,7 +143,8 @@ impl State {
         Ok(())
     }
 
-    /// `insert S` and `<+ S`. `Cursor` where the cursor is beyond the limit, `TooLong` where the text would grow too long.
+    /// `insert S` and `<+ S`. Returns `Cursor` if the cursor is beyond the limit, `TooLong` if the text would be too
+    /// long, and `OutOfMemory` if an allocation fails.
     #[inline(never)]
     pub fn insert(&mut self, mode: Mode, term: &StringTerm) -> Result<(), Halt>
         ensures leads { Leads result self.new (insert (characters (view_text term.now) self.old) mode self.old) }
@@ -147,7 +156,7 @@ impl State {
         }
     }
 
-    /// `attach S`; refused as `insert` is.
+    /// `attach S`. Returns the same errors as `insert`.
     #[inline(never)]
     pub fn attach(&mut self, mode: Mode, term: &StringTerm) -> Result<(), Halt>
         ensures leads { Leads result self.new (attach (characters (view_text term.now) self.old) mode self.old) }
@@ -160,7 +169,7 @@ impl State {
     }
 }
 
-// Where a cursor goes when bra..ket is replaced by so many characters.
+// Returns where a cursor goes if bra..ket is replaced by this many characters.
 fn shift(cursor: usize, bra: usize, ket: usize, length: usize) -> usize
     requires small { cursor + length < 2 ^ 32 }
     requires ordered { bra ≤ ket }
@@ -175,7 +184,7 @@ fn shift(cursor: usize, bra: usize, ket: usize, length: usize) -> usize
     }
 }
 
-// Where an end of the slice goes when so many characters come in at a place.
+// Returns where an end of the slice goes if this many characters are inserted at an offset.
 fn push(length: usize, at: usize, place: usize) -> usize
     requires { length + place < 2 ^ 32 }
     ensures { result ≡ pushed length at place }
@@ -183,7 +192,7 @@ fn push(length: usize, at: usize, place: usize) -> usize
     if at <= place { place + length } else { place }
 }
 
-// A text with a string in place of a part of it, made in a buffer.
+// Returns a text with a part of it replaced by a string, made in `buffer`. Returns `AllocError` if an allocation fails.
 fn spliced(
     mut buffer: Vec<char>,
     text: &[char],
@@ -202,7 +211,7 @@ fn spliced(
     Ok(buffer)
 }
 
-// Gives a string variable its characters.
+// Sets the characters of a string variable.
 fn set_string(strings: &mut Vec<Vec<char>>, number: usize, string: Vec<char>)
     ensures { map (λ v. v.items) strings.new.items ≡ slice_set (map (λ v. v.items) strings.old.items) number string.items }
 {

@@ -1,4 +1,4 @@
-//! With which characters the strings of a linked table begin.
+//! The first characters of the strings of a linked table.
 
 ghost use Rattle.std.specs.Prelude.{◌≡◌, ◌||◌, ℕ, true, List, IfOk, OnOk};
 ghost use Rattle.sbl_program.specs.CharacterClasses.{members};
@@ -11,18 +11,18 @@ use sbl_tree::Mode;
 use std::alloc::{AllocError, Global};
 use std::cmp::Reverse;
 
-/// The characters with which the strings of a table begin, as the mode reads them. Where what is read begins with none of
-/// them, no string fits, and none is looked for.
+/// The first characters of the strings of a table, as read in the mode. If the text read begins with none of them, no
+/// string matches, so the search is skipped.
 #[derive(Drop)]
 pub struct Beginnings {
     /// The first characters.
     pub characters: CharacterClass,
-    /// Whether a string is empty: it has no first character, and fits wherever.
+    /// Whether one of the strings is empty: it has no first character and matches everywhere.
     pub empty: bool,
 }
 
 impl Beginnings {
-    /// Whether a string may be the front of what the mode reads. Takes no memory.
+    /// Returns whether some string may be a prefix of the text read. Does not allocate.
     #[inline(always)]
     pub fn may_begin(&self, direction: Mode, part: &[char]) -> bool
         ensures { result ≡ may_begin (members self.now.characters) self.now.empty (read_as direction part.now) }
@@ -37,7 +37,7 @@ impl Beginnings {
         }
     }
 
-    /// Adds the beginning of one more string. AllocError where a growth was refused.
+    /// Adds the first character of one more string. Returns `AllocError` if an allocation fails.
     fn add(&mut self, alloc: Global, text: &[char]) -> Result<(), AllocError>
         ensures own { OnOk result (begins (members self.new.characters) self.new.empty text.now ≡ true) }
         ensures others { (v : List ℕ) → begins (members self.old.characters) self.old.empty v ≡ true → OnOk result (begins (members self.new.characters) self.new.empty v ≡ true) }
@@ -50,7 +50,7 @@ impl Beginnings {
     }
 }
 
-/// The beginnings of the strings of these rows. AllocError where a growth was refused.
+/// Returns the first characters of the strings of these rows. Returns `AllocError` if an allocation fails.
 pub fn beginnings_of(
     alloc: Global,
     rows: &[(Vec<char>, Reverse<usize>)],

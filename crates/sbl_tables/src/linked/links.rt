@@ -12,7 +12,7 @@ use sbl_tree::Mode;
 use std::alloc::{AllocError, Global};
 use std::cmp::Reverse;
 
-/// The number of the longest string of fewer characters than this that is the front of what the mode reads.
+/// Returns the number of the longest string with fewer than `below` characters that is a prefix of the text read.
 pub fn best_of(
     rows: &[(Vec<char>, Reverse<usize>)],
     links: &[Option<usize>],
@@ -25,14 +25,14 @@ pub fn best_of(
     requires rise { Rise (texts_of rows.now) }
     ensures { (strings : List (List ℕ)) → IsLinked strings rows.now links.now → IsBest strings (read_as direction part.now) below result }
 {
-    // The mode is known in each arm, so that each has a search compiled for it.
+    // The mode is a constant in each arm, so that the search is compiled once for each mode.
     match direction {
         Mode::Forward => best_in(rows, links, Mode::Forward, part, below),
         Mode::Backward => best_in(rows, links, Mode::Backward, part, below),
     }
 }
 
-// The same, for a mode that is known where it is called.
+// Does the same for a mode that the caller passes as a constant.
 #[inline(always)]
 fn best_in(
     rows: &[(Vec<char>, Reverse<usize>)],
@@ -53,7 +53,7 @@ fn best_in(
     }
 }
 
-/// The links of rows.
+/// Returns the links of the rows. Returns `AllocError` if an allocation fails.
 pub fn links_of(
     alloc: Global,
     rows: &[(Vec<char>, Reverse<usize>)],
@@ -71,7 +71,7 @@ pub fn links_of(
     Ok(links)
 }
 
-// The first row that matches, from the last of the first rows on, along the links.
+// Returns the first row that matches, following the links from row `count - 1`.
 #[inline(always)]
 fn follow(
     rows: &[(Vec<char>, Reverse<usize>)],
@@ -97,14 +97,14 @@ fn follow(
     None
 }
 
-// The row before the first so many.
+// Returns the index of the last of the first `count` rows, or `None` if `count` is 0.
 fn row_before(count: usize) -> Option<usize>
     ensures { result ≡ before count }
 {
     if count == 0 { None } else { Some(count - 1) }
 }
 
-// How many rows do not stand after what the mode reads.
+// Returns the number of rows that do not sort after the text read.
 #[inline(always)]
 fn count_upto(rows: &[(Vec<char>, Reverse<usize>)], direction: Mode, part: &[char]) -> usize
     requires { Rise (texts_of rows.now) }
@@ -123,7 +123,7 @@ fn count_upto(rows: &[(Vec<char>, Reverse<usize>)], direction: Mode, part: &[cha
     low
 }
 
-// Whether a string has fewer characters than this, and is the front of what the mode reads.
+// Returns whether the string has fewer than `below` characters and is a prefix of the text read.
 #[inline(always)]
 fn is_shorter_front(direction: Mode, part: &[char], text: &[char], below: usize) -> bool
     ensures { MatchBool result ((starts_with nat_eq (read_as direction part.now) text.now ≡ true) × (length text.now < below)) (starts_with nat_eq (read_as direction part.now) text.now ≡ true → below ≤ length text.now) }
@@ -131,7 +131,7 @@ fn is_shorter_front(direction: Mode, part: &[char], text: &[char], below: usize)
     text.len() < below && common(direction, part, text) == text.len()
 }
 
-// Whether a string stands after what the mode reads.
+// Returns whether the string sorts after the text read.
 #[inline(always)]
 fn is_after(direction: Mode, part: &[char], text: &[char]) -> bool
     ensures { result ≡ is_gt (slice_cmp nat_cmp text.now (read_as direction part.now)) }
@@ -146,7 +146,7 @@ fn is_after(direction: Mode, part: &[char], text: &[char]) -> bool
     read_at(direction, part, count) < text[count]
 }
 
-// How many characters what the mode reads and a string have in common at their front.
+// Returns the length of the common prefix of the text read and the string.
 #[inline(always)]
 fn common(direction: Mode, part: &[char], text: &[char]) -> usize
     ensures { IsCommon (read_as direction part.now) text.now result }
@@ -162,7 +162,7 @@ fn common(direction: Mode, part: &[char], text: &[char]) -> usize
     text.len()
 }
 
-// The character that the mode reads at a place.
+// Returns the character at index `i` of the text read.
 #[inline(always)]
 fn read_at(direction: Mode, part: &[char], i: usize) -> char
     requires { i < length part.now }

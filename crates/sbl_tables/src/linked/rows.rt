@@ -8,7 +8,8 @@ use sbl_tree::Mode;
 use std::alloc::{AllocError, Global};
 use std::cmp::Reverse;
 
-/// The strings as the mode reads them, in order, each with its number; of equal strings the first comes last.
+/// Returns the strings as read in the mode, sorted, each with its number. Of equal strings the one with the smallest
+/// number is last. Returns `AllocError` if an allocation fails.
 pub fn rows_of(
     alloc: Global,
     strings: &[Vec<char>],
@@ -21,7 +22,7 @@ pub fn rows_of(
     Ok(rows)
 }
 
-// The same in the order of their numbers.
+// Returns the same rows in the order of their numbers.
 fn numbered(
     alloc: Global,
     strings: &[Vec<char>],
@@ -38,7 +39,7 @@ fn numbered(
     Ok(rows)
 }
 
-// A string as the mode reads it.
+// Returns a string as read in the mode.
 fn as_read(alloc: Global, direction: Mode, string: &[char]) -> Result<Vec<char>, AllocError>
     ensures { IfOk result (λ text. text.items ≡ read_as direction string.now) }
 {

@@ -145,8 +145,8 @@ run_turns-loop-state-preserved = loops.run_turns-loop-state-preserved
 pub run_call-returns-in_err-signal-in-Some-clause-follows : goal.run_call-returns-in_err-signal-in-Some-clause-follows
 run_call-returns-in_err-signal-in-Some-clause-follows = loops.run_call-returns-in_err-signal-in-Some-clause-follows
 
-pub run_call-returns-in_ok-signal-in-Some-clause-follows : goal.run_call-returns-in_ok-signal-in-Some-clause-follows
-run_call-returns-in_ok-signal-in-Some-clause-follows = loops.run_call-returns-in_ok-signal-in-Some-clause-follows
+pub run_call-returns-in_ok-leave-in-Some-clause-follows : goal.run_call-returns-in_ok-leave-in-Some-clause-follows
+run_call-returns-in_ok-leave-in-Some-clause-follows = loops.run_call-returns-in_ok-leave-in-Some-clause-follows
 
 pub run_among-returns-in-None-clause-follows : goal.run_among-returns-in-None-clause-follows
 run_among-returns-in-None-clause-follows = loops.run_among-returns-in-None-clause-follows

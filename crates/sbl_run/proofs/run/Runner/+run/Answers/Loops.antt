@@ -135,8 +135,8 @@ run_call-returns-in_err-signal-in-Some-clause-follows g t c =
     let h : Follows (Err halt) new body = search rules in
     rw r (follows_at (Err halt) new _ _ q (leave_halts s.routine s.choices halt new body h))
 
-pub run_call-returns-in_ok-signal-in-Some-clause-follows : goal.run_call-returns-in_ok-signal-in-Some-clause-follows
-run_call-returns-in_ok-signal-in-Some-clause-follows g t c =
+pub run_call-returns-in_ok-leave-in-Some-clause-follows : goal.run_call-returns-in_ok-leave-in-Some-clause-follows
+run_call-returns-in_ok-leave-in-Some-clause-follows g t c =
     let T = g.T.Tables.listed c.args.self.now.tables.now in
     let p = program_of T c.args.self.now.program.now in
     let m = c.args.self.now.mode in
@@ -150,7 +150,7 @@ run_call-returns-in_ok-signal-in-Some-clause-follows g t c =
     let b = c.in_ok-signal-in-Some.signal in
     let h : body ≡ Signals b new = search rules in
     let kept : c.in_ok-kept-in-Some.kept.items ≡ s.choices = c.in_ok-kept-in-Some.ensures.kept in
-    q ∙ leave_signals s.routine s.choices body b new h ∙ ap (λ i. Signals b (back_in i s.choices new)) (sym c.routine-caller.ensures) ∙ ap (λ cs. Signals b (back_in c.routine-caller.result cs new)) (sym kept) ∙ ap (Signals b) (sym c.leave.ensures)
+    q ∙ leave_signals s.routine s.choices body b new h ∙ ap (λ i. Signals b (back_in i s.choices b new)) (sym c.routine-caller.ensures) ∙ ap (λ cs. Signals b (back_in c.routine-caller.result cs b new)) (sym kept) ∙ ap (Signals b) (sym c.in_ok-leave-in-Some.ensures)
 
 pub run_among-returns-in-None-clause-follows : goal.run_among-returns-in-None-clause-follows
 run_among-returns-in-None-clause-follows g t c =
