@@ -1,22 +1,34 @@
 -- A script after an edit agrees with it outside the item that was replaced.
-use Rattle.std.proofs.Common.{◌≡◌, ◌∙◌, ◌||◌, ◌&&◌, ℕ, Bool, true, false, nat_eq, if◌then◌else◌, List, [], ◌∷◌, map, Option, Some, None, Ok, refl, sym, ap, subst}
+use Rattle.std.proofs.Common.{◌≡◌, ◌∙◌, ◌||◌, ◌&&◌, ℕ, Bool, true, false, nat_eq, if◌then◌else◌, List, [], ◌∷◌, ◌++◌, map, Option, Some, None, Ok, refl, sym, ap, subst}
 use Rattle.std.specs.List.{list_any}
 use Rattle.std.specs.Option.{option_or, is_some}
 use Rattle.std.specs.Str.{bytes_eq}
-use Rattle.std.proofs.lemmas.Bool.{eqb-true}
+use Rattle.std.proofs.lemmas.Bool.{eqb-true, true≢false}
 use Rattle.std.proofs.lemmas.Slice.Eq.{bytes_eq-Decides}
-use Rattle.sbl_tree.specs.Tree.{Command, Others, Starter, Groups, Plain, Item, bracket, no_rows, no_others, declaration, escapes, macro, routine, grouping, plain, backward}
+use Rattle.sbl_tree.specs.Tree.{Argument, written_out, Term, Command, Others, Starter, Groups, Plain, Item, bracket, no_rows, no_others, declaration, escapes, macro, routine, grouping, plain, backward}
 use Rattle.sbl_tree.specs.View.{RowView}
 use Rattle.sbl_tree.specs.Counts.{count_in_among}
+use Rattle.sbl_checks.specs.Laws.{WellDeclaredPasses}
 use Rattle.sbl_amongs.specs.Amongs.{Held, amongs_of_body, nth_held, put_in_body}
+use Rattle.sbl_numbering.specs.Items.{is_among, known_in, names_by}
 use Rattle.sbl_numbering.specs.Regions.{behind}
-use Rattle.sbl_script.specs.Edits.{ScriptEdit, body, among, routine_name, is_routine, routine_in, routine_of, plains_with, items_with, Home, home_in, home_of_body, home_of_among, home_of_held, IsSubstituted}
+use Rattle.sbl_tree.specs.Order.{ItemInMode, in_mode, in_order}
+use Rattle.sbl_tree.specs.declared.mode.Mode.TheVariants.{Backward}
+use Rattle.sbl_tree.specs.declared.tree.DeclarationKind.{DeclarationKind}
+use Rattle.sbl_tree.specs.declared.tree.DeclarationKind.TheVariants as kinds
+use Rattle.sbl_script.specs.declared.edits.DefinitionKind.TheVariants as defined
+use Rattle.sbl_script.specs.Edits.{ScriptEdit, body, among, terms, changes, defines, first_in, first_of, plain_if, plains_with, items_with, Home, home_in, home_of_body, home_of_among, home_of_held, home_of_terms, IsSubstituted}
+use Rattle.sbl_script.proofs.Found.{grouping_found, routine_found, some_plain}
 use Rattle.sbl_script.specs.Parsed.{Source}
-use Rattle.sbl_machine.specs.Frame.{AgreeOutside, EditsAgree, NamesStay, UntouchedStay}
-use Rattle.sbl_machine.specs.Holes.{with_holes, others_with_holes, holed_plain, holed_item}
+use Rattle.sbl_machine.specs.BuiltFrom.{IsClosed, affected, built_from, meets}
+use Rattle.sbl_machine.specs.Frame.{AgreeOutside, AgreeingNamesStay, ClearStay, EditsAgree, NamesStay, UnmetStay, UntouchedStay}
+use Rattle.sbl_machine.specs.Holes.{with_holes, nothing, others_with_holes, holed_plain, holed_item}
 use Rattle.sbl_machine.specs.Meaning.{ending}
 use Rattle.sbl_machine.specs.Outcome.{touched_at, touches_of}
-use Rattle.sbl_machine.specs.Touched.{Item', Routine, Among, named, replaced, routine_names, same_item, touches}
+use Rattle.sbl_machine.specs.Touched.{Item', Routine, Among, Grouping, named, replaced, names_of, same_item, touches}
+use Rattle.sbl_machine.specs.Marks.{EditedAreThere, has_item}
+use Rattle.sbl_machine.proofs.BuiltFrom.{affected_closed, built_more}
+use Rattle.sbl_machine.proofs.NamesStand.{flip}
 use Rattle.sbl_machine.proofs.FrameLaw.{agree_names, alike_by, clear_by_names, frame_on}
 use Rattle.sbl_machine.proofs.HoledPuts.{body_put}
 use Rattle.sbl_machine.proofs.TouchedOrder.{any-mapped}
@@ -24,67 +36,53 @@ use Rattle.sbl_machine.proofs.TouchedOrder.{any-mapped}
 same_bytes : (n : List ℕ) → bytes_eq n n ≡ true
 same_bytes n = (bytes_eq-Decides n n).1 refl
 
--- ---- another body for a routine that is the same with holes
+-- ---- another item in the place of the first that passes, which is the same with holes
 
-module _ (picked : Item' → Bool) (n : List ℕ) (b new : RowView) (same : holed_plain picked (routine n new.0 new.1) ≡ holed_plain picked (routine n b.0 b.1)) where
-  -- the routine itself
-  here : (m : List ℕ) (c : Command) (os : Others) → n ≡ m → Some (c, os) ≡ Some b → holed_plain picked (routine n new.0 new.1) ≡ holed_plain picked (routine m c os)
-  here m c os e is =
-      let own : b ≡ (c, os) = cc in
-      same ∙ ap (λ (x : RowView). holed_plain picked (routine n x.0 x.1)) own ∙ ap (λ (x : List ℕ). holed_plain picked (routine x c os)) e
+module _ (picked : Item' → Bool) (p : Plain → Bool) (new old : Plain) (same : holed_plain picked new ≡ holed_plain picked old) where
+  -- the item itself
+  here : (x : Plain) → Some x ≡ Some old → holed_plain picked new ≡ holed_plain picked x
+  here x is = same ∙ ap (holed_plain picked) (sym (some_plain x old is))
 
-  plains_by : (m : List ℕ) (c : Command) (os : Others) (xs : List Plain) (v : Bool) → bytes_eq n m ≡ v → option_or (if v then Some (c, os) else None) (routine_in n xs) ≡ Some b
-      → (routine_in n xs ≡ Some b → map (holed_plain picked) (plains_with n new xs) ≡ map (holed_plain picked) xs)
-      → map (holed_plain picked) (if v then routine n new.0 new.1 ∷ xs else routine m c os ∷ plains_with n new xs) ≡ holed_plain picked (routine m c os) ∷ map (holed_plain picked) xs
-  plains_by m c os xs true e is h = ap (λ (x : Plain). x ∷ map (holed_plain picked) xs) (here m c os ((bytes_eq-Decides n m).0 e) is)
-  plains_by m c os xs false e is h = ap (λ (l : List Plain). holed_plain picked (routine m c os) ∷ l) (h is)
+  plains_by : (x : Plain) (xs : List Plain) (v : Bool) → option_or (if v then Some x else None) (first_in p xs) ≡ Some old
+      → (first_in p xs ≡ Some old → map (holed_plain picked) (plains_with p new xs) ≡ map (holed_plain picked) xs)
+      → map (holed_plain picked) (if v then new ∷ xs else x ∷ plains_with p new xs) ≡ holed_plain picked x ∷ map (holed_plain picked) xs
+  plains_by x xs true is h = ap (λ (y : Plain). y ∷ map (holed_plain picked) xs) (here x is)
+  plains_by x xs false is h = ap (λ (l : List Plain). holed_plain picked x ∷ l) (h is)
 
-  plains_agree : (xs : List Plain) → routine_in n xs ≡ Some b → map (holed_plain picked) (plains_with n new xs) ≡ map (holed_plain picked) xs
+  plains_agree : (xs : List Plain) → first_in p xs ≡ Some old → map (holed_plain picked) (plains_with p new xs) ≡ map (holed_plain picked) xs
   plains_agree [] is = refl
-  plains_agree (routine m c os ∷ xs) is = plains_by m c os xs (bytes_eq n m) refl is (plains_agree xs)
-  plains_agree (declaration k ys ∷ xs) is = ap (λ (l : List Plain). declaration k ys ∷ l) (plains_agree xs is)
-  plains_agree (escapes x y ∷ xs) is = ap (λ (l : List Plain). escapes x y ∷ l) (plains_agree xs is)
-  plains_agree (macro x y z ∷ xs) is = ap (λ (l : List Plain). macro x y z ∷ l) (plains_agree xs is)
-  plains_agree (grouping x y z ∷ xs) is = ap (λ (l : List Plain). grouping x y z ∷ l) (plains_agree xs is)
+  plains_agree (x ∷ xs) is = plains_by x xs (p x) is (plains_agree xs)
 
-  -- whether the routine is there
-  there_by : (m : List ℕ) (c : Command) (os : Others) (xs : List Plain) (v : Bool) → list_any (is_routine n) xs ≡ is_some (routine_in n xs) → (v || list_any (is_routine n) xs) ≡ is_some (option_or (if v then Some (c, os) else None) (routine_in n xs))
-  there_by m c os xs true h = refl
-  there_by m c os xs false h = h
+  -- whether one passes
+  there_by : (x : Plain) (xs : List Plain) (v : Bool) → list_any p xs ≡ is_some (first_in p xs) → (v || list_any p xs) ≡ is_some (option_or (if v then Some x else None) (first_in p xs))
+  there_by x xs true h = refl
+  there_by x xs false h = h
 
-  there : (xs : List Plain) → list_any (is_routine n) xs ≡ is_some (routine_in n xs)
+  there : (xs : List Plain) → list_any p xs ≡ is_some (first_in p xs)
   there [] = refl
-  there (routine m c os ∷ xs) = there_by m c os xs (bytes_eq n m) (there xs)
-  there (declaration k ys ∷ xs) = there xs
-  there (escapes x y ∷ xs) = there xs
-  there (macro x y z ∷ xs) = there xs
-  there (grouping x y z ∷ xs) = there xs
+  there (x ∷ xs) = there_by x xs (p x) (there xs)
 
   abbrev Holed : List Item → List Item
   Holed is = map (holed_item picked) is
 
-  item_by : (m : List ℕ) (c : Command) (os : Others) (is : List Item) (v : Bool) → bytes_eq n m ≡ v → option_or (if v then Some (c, os) else None) (routine_of n is) ≡ Some b
-      → (routine_of n is ≡ Some b → Holed (items_with n new is) ≡ Holed is)
-      → Holed (if v then plain (routine n new.0 new.1) ∷ is else plain (routine m c os) ∷ items_with n new is) ≡ holed_item picked (plain (routine m c os)) ∷ Holed is
-  item_by m c os is true e at h = ap (λ (x : Plain). plain x ∷ Holed is) (here m c os ((bytes_eq-Decides n m).0 e) at)
-  item_by m c os is false e at h = ap (λ (l : List Item). holed_item picked (plain (routine m c os)) ∷ l) (h at)
+  item_by : (x : Plain) (is : List Item) (v : Bool) → option_or (if v then Some x else None) (first_of p is) ≡ Some old
+      → (first_of p is ≡ Some old → Holed (items_with p new is) ≡ Holed is)
+      → Holed (if v then plain new ∷ is else plain x ∷ items_with p new is) ≡ holed_item picked (plain x) ∷ Holed is
+  item_by x is true at h = ap (λ (y : Plain). plain y ∷ Holed is) (here x at)
+  item_by x is false at h = ap (λ (l : List Item). holed_item picked (plain x) ∷ l) (h at)
 
-  group_by : (xs : List Plain) (is : List Item) (o : Option RowView) → routine_in n xs ≡ o → option_or o (routine_of n is) ≡ Some b
-      → (routine_of n is ≡ Some b → Holed (items_with n new is) ≡ Holed is)
-      → Holed (if is_some o then backward (plains_with n new xs) ∷ is else backward xs ∷ items_with n new is) ≡ holed_item picked (backward xs) ∷ Holed is
+  group_by : (xs : List Plain) (is : List Item) (o : Option Plain) → first_in p xs ≡ o → option_or o (first_of p is) ≡ Some old
+      → (first_of p is ≡ Some old → Holed (items_with p new is) ≡ Holed is)
+      → Holed (if is_some o then backward (plains_with p new xs) ∷ is else backward xs ∷ items_with p new is) ≡ holed_item picked (backward xs) ∷ Holed is
   group_by xs is (Some x) e at h = ap (λ (l : List Plain). backward l ∷ Holed is) (plains_agree xs (e ∙ at))
   group_by xs is None e at h = ap (λ (l : List Item). holed_item picked (backward xs) ∷ l) (h at)
 
-  pub items_agree : (is : List Item) → routine_of n is ≡ Some b → Holed (items_with n new is) ≡ Holed is
+  pub items_agree : (is : List Item) → first_of p is ≡ Some old → Holed (items_with p new is) ≡ Holed is
   items_agree [] at = refl
-  items_agree (plain (routine m c os) ∷ is) at = item_by m c os is (bytes_eq n m) refl at (items_agree is)
-  items_agree (plain (declaration k ys) ∷ is) at = ap (λ (l : List Item). plain (declaration k ys) ∷ l) (items_agree is at)
-  items_agree (plain (escapes x y) ∷ is) at = ap (λ (l : List Item). plain (escapes x y) ∷ l) (items_agree is at)
-  items_agree (plain (macro x y z) ∷ is) at = ap (λ (l : List Item). plain (macro x y z) ∷ l) (items_agree is at)
-  items_agree (plain (grouping x y z) ∷ is) at = ap (λ (l : List Item). plain (grouping x y z) ∷ l) (items_agree is at)
+  items_agree (plain x ∷ is) at = item_by x is (p x) at (items_agree is)
   items_agree (backward xs ∷ is) at =
-      ap (λ (v : Bool). Holed (if v then backward (plains_with n new xs) ∷ is else backward xs ∷ items_with n new is)) (there xs)
-      ∙ group_by xs is (routine_in n xs) refl at (items_agree is)
+      ap (λ (v : Bool). Holed (if v then backward (plains_with p new xs) ∷ is else backward xs ∷ items_with p new is)) (there xs)
+      ∙ group_by xs is (first_in p xs) refl at (items_agree is)
 
 -- ---- edits
 
@@ -102,50 +100,169 @@ among_same n k b a h at count =
     let x = body_put k a (λ j. bytes_eq n n && nat_eq k j) (λ j. ap (λ (v : Bool). v && nat_eq k j) (same_bytes n)) b h at count in
     (λ i. routine n (x.first i) (x.others i))
 
--- the script with another body
-script_agree : (picked : Item' → Bool) (s t : Source) (n : List ℕ) (b new : RowView) → holed_plain picked (routine n new.0 new.1) ≡ holed_plain picked (routine n b.0 b.1) → routine_of n s.items ≡ Some b
-    → t.items ≡ items_with n new s.items → t.external ≡ s.external → AgreeOutside picked s t
-script_agree picked s t n b new same at items external =
-    let is : map (holed_item picked) s.items ≡ map (holed_item picked) t.items = sym (items_agree picked n b new same s.items at) ∙ ap (map (holed_item picked)) (sym items) in
+-- a grouping is changed with itself, so its terms are of no matter
+terms_same : (s : Source) (n : List ℕ) (a b : Argument) (xs ys : List Term) → holed_plain (affected s (Grouping n)) (grouping n a xs) ≡ holed_plain (affected s (Grouping n)) (grouping n b ys)
+terms_same s n a b xs ys =
+    let own : is_among (built_from n s) n ≡ true = built_more (in_order s.items) (n ∷ []) n (ap (λ (v : Bool). if v then true else false) (same_bytes n)) in
+    let gone = λ (c : Argument) (zs : List Term). ap (λ (v : Bool). if v then grouping n (written_out nothing) [] else grouping n c zs) own in
+    gone a xs ∙ sym (gone b ys)
+
+-- the script with another item in the place of one
+script_agree : (picked : Item' → Bool) (s t : Source) (p : Plain → Bool) (new old : Plain) → holed_plain picked new ≡ holed_plain picked old → first_of p s.items ≡ Some old
+    → t.items ≡ items_with p new s.items → t.external ≡ s.external → AgreeOutside picked s t
+script_agree picked s t p new old same at items external =
+    let is : map (holed_item picked) s.items ≡ map (holed_item picked) t.items = sym (items_agree picked p new old same s.items at) ∙ ap (map (holed_item picked)) (sym items) in
     (λ i. record { items = is i; external = sym external i })
 
 -- a home that there is, by what is found in the script
-body_agree : (s t : Source) (n text : List ℕ) (b : RowView) (h : Home) → routine_of n s.items ≡ Some b → home_of_body ≡ h → IsSubstituted s n h text true t → AgreeOutside (same_item (Routine n)) s t
+body_agree : (s t : Source) (n text : List ℕ) (b : RowView) (h : Home) → first_of (defines defined.Routine n) s.items ≡ Some (routine n b.0 b.1) → home_of_body s.items n ≡ h → IsSubstituted s h text true t
+    → AgreeOutside (same_item (Routine n)) s t
 body_agree s t n text b h at is =
-    subst (λ h. IsSubstituted s n h text true t → AgreeOutside (same_item (Routine n)) s t) is
-    (λ (z : IsSubstituted s n home_of_body text true t). script_agree (same_item (Routine n)) s t n b (home_of_body.around z.tree) (whole_same n b (home_of_body.around z.tree)) at z.items_are z.external_is)
+    subst (λ h. IsSubstituted s h text true t → AgreeOutside (same_item (Routine n)) s t) is
+    (λ (z : IsSubstituted s (home_of_body s.items n) text true t).
+    script_agree (same_item (Routine n)) s t (defines defined.Routine n) (routine n z.tree.0 z.tree.1) (routine n b.0 b.1) (whole_same n b z.tree) at z.items_are z.external_is)
 
-among_agree : (s t : Source) (n : List ℕ) (k : ℕ) (text : List ℕ) (b : RowView) (g : Held) (h : Home) → routine_of n s.items ≡ Some b → nth_held k (amongs_of_body b) ≡ Some g → home_of_among b k g ≡ h
-    → IsSubstituted s n h text true t → AgreeOutside (same_item (Among n k)) s t
+among_agree : (s t : Source) (n : List ℕ) (k : ℕ) (text : List ℕ) (b : RowView) (g : Held) (h : Home) → first_of (defines defined.Routine n) s.items ≡ Some (routine n b.0 b.1) → nth_held k (amongs_of_body b) ≡ Some g
+    → home_of_among s.items n b k g ≡ h → IsSubstituted s h text true t → AgreeOutside (same_item (Among n k)) s t
 among_agree s t n k text b g h at there is =
-    subst (λ h. IsSubstituted s n h text true t → AgreeOutside (same_item (Among n k)) s t) is
-    (λ (z : IsSubstituted s n (home_of_among b k g) text true t).
-    script_agree (same_item (Among n k)) s t n b (put_in_body b k z.tree) (among_same n k b z.tree g there (eqb-true _ _ z.counted)) at z.items_are z.external_is)
+    subst (λ h. IsSubstituted s h text true t → AgreeOutside (same_item (Among n k)) s t) is
+    (λ (z : IsSubstituted s (home_of_among s.items n b k g) text true t).
+    script_agree (same_item (Among n k)) s t (defines defined.Routine n) (routine n (put_in_body b k z.tree).0 (put_in_body b k z.tree).1) (routine n b.0 b.1)
+    (among_same n k b z.tree g there (eqb-true _ _ z.counted)) at z.items_are z.external_is)
 
-among_by : (s t : Source) (n : List ℕ) (k : ℕ) (text : List ℕ) (b : RowView) (h : Home) → routine_of n s.items ≡ Some b → (o : Option Held) → nth_held k (amongs_of_body b) ≡ o → home_of_held b k o ≡ Ok h
-    → IsSubstituted s n h text true t → AgreeOutside (same_item (Among n k)) s t
-among_by s t n k text b h at None there is = let never : home_of_held b k None ≡ Ok h = is in absurd cc
-among_by s t n k text b h at (Some g) there is = let same : home_of_among b k g ≡ h = cc in among_agree s t n k text b g h at there same
+among_by : (s t : Source) (n : List ℕ) (k : ℕ) (text : List ℕ) (b : RowView) (h : Home) → first_of (defines defined.Routine n) s.items ≡ Some (routine n b.0 b.1) → (o : Option Held) → nth_held k (amongs_of_body b) ≡ o
+    → home_of_held s.items n b k o ≡ Ok h → IsSubstituted s h text true t → AgreeOutside (same_item (Among n k)) s t
+among_by s t n k text b h at None there is = let never : home_of_held s.items n b k None ≡ Ok h = is in absurd cc
+among_by s t n k text b h at (Some g) there is = let same : home_of_among s.items n b k g ≡ h = cc in among_agree s t n k text b g h at there same
 
-edit_by : (s t : Source) (e : ScriptEdit) (text : List ℕ) (h : Home) (o : Option RowView) → routine_of (routine_name e) s.items ≡ o → home_in o e ≡ Ok h → IsSubstituted s (routine_name e) h text true t
-    → AgreeOutside (same_item (replaced e)) s t
-edit_by s t (body n) text h None at is = let never : home_in None (body n) ≡ Ok h = is in absurd cc
-edit_by s t (among n k) text h None at is = let never : home_in None (among n k) ≡ Ok h = is in absurd cc
-edit_by s t (body n) text h (Some b) at is = let same : home_of_body ≡ h = cc in body_agree s t n text b h at same
-edit_by s t (among n k) text h (Some b) at is = among_by s t n k text b h at (nth_held k (amongs_of_body b)) refl is
+terms_agree : (s t : Source) (n text : List ℕ) (a : Argument) (xs : List Term) (h : Home) → first_of (defines defined.Grouping n) s.items ≡ Some (grouping n a xs) → home_of_terms s.items n ≡ h → IsSubstituted s h text true t
+    → AgreeOutside (affected s (Grouping n)) s t
+terms_agree s t n text a xs h at is =
+    subst (λ h. IsSubstituted s h text true t → AgreeOutside (affected s (Grouping n)) s t) is
+    (λ (z : IsSubstituted s (home_of_terms s.items n) text true t).
+    script_agree (affected s (Grouping n)) s t (defines defined.Grouping n) (grouping n z.tree.0 z.tree.1) (grouping n a xs) (terms_same s n z.tree.0 a z.tree.1 xs) at z.items_are z.external_is)
+
+-- ---- what is found is in the script
+
+or_more : {A : Type 0} (a b c : Option A) → option_or a (option_or b c) ≡ option_or (option_or a b) c
+or_more (Some x) b c = refl
+or_more None b c = refl
+
+module _ (n : List ℕ) (k : DeclarationKind) (p : Plain → Bool) (own : (x : Plain) → p x ≡ true → (rest : List (List ℕ)) → is_among (names_by k x ++ rest) n ≡ true)
+    (more : (x : Plain) (rest : List (List ℕ)) → is_among rest n ≡ true → is_among (names_by k x ++ rest) n ≡ true) where
+  plain_known : (x : Plain) (v : Bool) → p x ≡ v → (o : Option Plain) (old : Plain) → option_or (if v then Some x else None) o ≡ Some old → (rest : List (List ℕ)) → (o ≡ Some old → is_among rest n ≡ true)
+      → is_among (names_by k x ++ rest) n ≡ true
+  plain_known x true e o old is rest later = own x e rest
+  plain_known x false e o old is rest later = more x rest (later is)
+
+  plains_known : (xs : List Plain) (o : Option Plain) (old : Plain) → option_or (first_in p xs) o ≡ Some old → (ys : List ItemInMode) → (o ≡ Some old → is_among (known_in ys k) n ≡ true)
+      → is_among (known_in (in_mode Backward xs ++ ys) k) n ≡ true
+  plains_known [] o old is ys later = later is
+  plains_known (x ∷ xs) o old is ys later =
+      plain_known x (p x) refl (option_or (first_in p xs) o) old (or_more (plain_if p x) (first_in p xs) o ∙ is) (known_in (in_mode Backward xs ++ ys) k) (λ g. plains_known xs o old g ys later)
+
+  items_known : (is : List Item) (old : Plain) → first_of p is ≡ Some old → is_among (known_in (in_order is) k) n ≡ true
+  items_known [] old h = let never : None ≡ Some old = h in absurd cc
+  items_known (plain x ∷ is) old h = plain_known x (p x) refl (first_of p is) old h (known_in (in_order is) k) (λ g. items_known is old g)
+  items_known (backward xs ∷ is) old h = plains_known xs (first_of p is) old h (in_order is) (λ g. items_known is old g)
+
+first_name : (n m : List ℕ) (rest : List (List ℕ)) → bytes_eq n m ≡ true → is_among (m ∷ rest) n ≡ true
+first_name n m rest e = ap (λ (v : Bool). if v then true else is_among rest n) (flip n m e)
+
+later_name : (n m : List ℕ) (rest : List (List ℕ)) → is_among rest n ≡ true → is_among (m ∷ rest) n ≡ true
+later_name n m rest h = by (bytes_eq m n)
+  where
+    by : (v : Bool) → (if v then true else is_among rest n) ≡ true
+    by true = refl
+    by false = h
+
+routine_own : (n : List ℕ) (x : Plain) → defines defined.Routine n x ≡ true → (rest : List (List ℕ)) → is_among (names_by kinds.Routines x ++ rest) n ≡ true
+routine_own n (routine m c os) e rest = first_name n m rest e
+routine_own n (declaration k ns) e rest = absurd (true≢false (sym e))
+routine_own n (escapes a b) e rest = absurd (true≢false (sym e))
+routine_own n (macro m b q) e rest = absurd (true≢false (sym e))
+routine_own n (grouping m a ts) e rest = absurd (true≢false (sym e))
+
+routine_more : (n : List ℕ) (x : Plain) (rest : List (List ℕ)) → is_among rest n ≡ true → is_among (names_by kinds.Routines x ++ rest) n ≡ true
+routine_more n (routine m c os) rest h = later_name n m rest h
+routine_more n (declaration k ns) rest h = h
+routine_more n (escapes a b) rest h = h
+routine_more n (macro m b q) rest h = h
+routine_more n (grouping m a ts) rest h = h
+
+grouping_own : (n : List ℕ) (x : Plain) → defines defined.Grouping n x ≡ true → (rest : List (List ℕ)) → is_among (names_by kinds.Groupings x ++ rest) n ≡ true
+grouping_own n (grouping m a ts) e rest = first_name n m rest e
+grouping_own n (declaration k ns) e rest = absurd (true≢false (sym e))
+grouping_own n (escapes a b) e rest = absurd (true≢false (sym e))
+grouping_own n (macro m b q) e rest = absurd (true≢false (sym e))
+grouping_own n (routine m c os) e rest = absurd (true≢false (sym e))
+
+grouping_more : (n : List ℕ) (x : Plain) (rest : List (List ℕ)) → is_among rest n ≡ true → is_among (names_by kinds.Groupings x ++ rest) n ≡ true
+grouping_more n (grouping m a ts) rest h = later_name n m rest h
+grouping_more n (declaration k ns) rest h = h
+grouping_more n (escapes a b) rest h = h
+grouping_more n (macro m b q) rest h = h
+grouping_more n (routine m c os) rest h = h
+
+routine_known : (n : List ℕ) (is : List Item) (x : Plain) → first_of (defines defined.Routine n) is ≡ Some x → is_among (known_in (in_order is) kinds.Routines) n ≡ true
+routine_known n is x at = items_known n kinds.Routines (defines defined.Routine n) (routine_own n) (routine_more n) is x at
+
+grouping_known : (n : List ℕ) (is : List Item) (x : Plain) → first_of (defines defined.Grouping n) is ≡ Some x → is_among (known_in (in_order is) kinds.Groupings) n ≡ true
+grouping_known n is x at = items_known n kinds.Groupings (defines defined.Grouping n) (grouping_own n) (grouping_more n) is x at
+
+-- ---- an edit, by what is found in the script
+
+abbrev Edited : Source → Source → ScriptEdit → Type 0
+Edited s t e = AgreeOutside (affected s (replaced e)) s t × (has_item (names_of s) (replaced e) ≡ true)
+
+edit_by : (s t : Source) (e : ScriptEdit) (text : List ℕ) (h : Home) (o : Option Plain) → first_of (changes e) s.items ≡ o → home_in s.items o e ≡ Ok h → IsSubstituted s h text true t → Edited s t e
+edit_by s t (body n) text h (Some (routine m c os)) at is z =
+    let same : home_of_body s.items n ≡ h = cc in
+    (body_agree s t n text (c, os) h (routine_found n s.items m c os at) same z, routine_known n s.items (routine m c os) at)
+edit_by s t (among n k) text h (Some (routine m c os)) at is z =
+    (among_by s t n k text (c, os) h (routine_found n s.items m c os at) (nth_held k (amongs_of_body (c, os))) refl is z, routine_known n s.items (routine m c os) at)
+edit_by s t (terms n) text h (Some (grouping m a ts)) at is z =
+    let same : home_of_terms s.items n ≡ h = cc in
+    (terms_agree s t n text a ts h (grouping_found n s.items m a ts at) same z, grouping_known n s.items (grouping m a ts) at)
+edit_by s t (body n) text h None at is z = let never : home_in s.items None (body n) ≡ Ok h = is in absurd cc
+edit_by s t (body n) text h (Some (declaration k2 ns)) at is z = let never : home_in s.items (Some (declaration k2 ns)) (body n) ≡ Ok h = is in absurd cc
+edit_by s t (body n) text h (Some (escapes x y)) at is z = let never : home_in s.items (Some (escapes x y)) (body n) ≡ Ok h = is in absurd cc
+edit_by s t (body n) text h (Some (macro m x y)) at is z = let never : home_in s.items (Some (macro m x y)) (body n) ≡ Ok h = is in absurd cc
+edit_by s t (body n) text h (Some (grouping m a ts)) at is z = let never : home_in s.items (Some (grouping m a ts)) (body n) ≡ Ok h = is in absurd cc
+edit_by s t (among n k) text h None at is z = let never : home_in s.items None (among n k) ≡ Ok h = is in absurd cc
+edit_by s t (among n k) text h (Some (declaration k2 ns)) at is z = let never : home_in s.items (Some (declaration k2 ns)) (among n k) ≡ Ok h = is in absurd cc
+edit_by s t (among n k) text h (Some (escapes x y)) at is z = let never : home_in s.items (Some (escapes x y)) (among n k) ≡ Ok h = is in absurd cc
+edit_by s t (among n k) text h (Some (macro m x y)) at is z = let never : home_in s.items (Some (macro m x y)) (among n k) ≡ Ok h = is in absurd cc
+edit_by s t (among n k) text h (Some (grouping m a ts)) at is z = let never : home_in s.items (Some (grouping m a ts)) (among n k) ≡ Ok h = is in absurd cc
+edit_by s t (terms n) text h None at is z = let never : home_in s.items None (terms n) ≡ Ok h = is in absurd cc
+edit_by s t (terms n) text h (Some (declaration k2 ns)) at is z = let never : home_in s.items (Some (declaration k2 ns)) (terms n) ≡ Ok h = is in absurd cc
+edit_by s t (terms n) text h (Some (escapes x y)) at is z = let never : home_in s.items (Some (escapes x y)) (terms n) ≡ Ok h = is in absurd cc
+edit_by s t (terms n) text h (Some (macro m x y)) at is z = let never : home_in s.items (Some (macro m x y)) (terms n) ≡ Ok h = is in absurd cc
+edit_by s t (terms n) text h (Some (routine m c os)) at is z = let never : home_in s.items (Some (routine m c os)) (terms n) ≡ Ok h = is in absurd cc
 
 pub edits_agree : EditsAgree
-edits_agree s t e text edited = edit_by s t e text edited.0 (routine_of (routine_name e) s.items) refl edited.1 edited.2
+edits_agree s t e text edited = (edit_by s t e text edited.0 (first_of (changes e) s.items) refl edited.1 edited.2).0
+
+pub edited_are_there : EditedAreThere
+edited_are_there s t e text edited = (edit_by s t e text edited.0 (first_of (changes e) s.items) refl edited.1 edited.2).1
 
 pub names_stay : NamesStay
-names_stay s t e text edited = agree_names (same_item (replaced e)) s t (edits_agree s t e text edited)
+names_stay s t e text edited = agree_names (affected s (replaced e)) s t (edits_agree s t e text edited)
 
-pub untouched_stay : UntouchedStay
-unfolding touches touches_of
-untouched_stay s t e text edited word limit clear =
-    let picked = same_item (replaced e) in
-    let agree = edits_agree s t e text edited in
-    let names = routine_names s in
+pub agreeing_names_stay : AgreeingNamesStay
+agreeing_names_stay picked s t agree = agree_names picked s t agree
+
+pub clear_stay : ClearStay
+unfolding touches_of
+clear_stay picked s t closed agree word limit clear =
+    let names = names_of s in
     let run = ending s word limit in
-    let same = frame_on picked s t agree word limit (sym (clear_by_names picked names run) ∙ sym (any-mapped (named names) picked (touched_at run)) ∙ clear) in
+    let same = frame_on picked s t closed agree word limit (sym (clear_by_names picked names run) ∙ sym (any-mapped (named names) picked (touched_at run)) ∙ clear) in
     record { alike = alike_by s t word limit (agree_names picked s t agree) same; touches = ap touched_at same }
+
+pub unmet_stay : WellDeclaredPasses → UnmetStay
+unfolding meets
+unmet_stay passes x s t well agree word limit clear = clear_stay (affected s x) s t (affected_closed passes s well x) agree word limit clear
+
+pub untouched_stay : WellDeclaredPasses → UntouchedStay
+untouched_stay passes s t e text well edited word limit clear = unmet_stay passes (replaced e) s t well (edits_agree s t e text edited) word limit clear

@@ -1,32 +1,35 @@
 -- Two scripts that agree outside some items run a word alike where its run touches none of these.
 use Rattle.std.proofs.Common.{◌≡◌, ◌∙◌, ℕ, zero, suc, Bool, true, false, List, [], map, refl, sym, ap, subst, ◌⊎◌, inl, inr, ⊎_elim, Option, Some, None, option_map}
 use Rattle.std.specs.Prelude.{slice_index_or}
-use Rattle.std.specs.List.{list_any}
+use Rattle.std.specs.List.{AllByRecursion, list_any}
 use Rattle.std.proofs.lemmas.Bool.{true≢false}
+use Rattle.std.proofs.Math.Path.{fun_ext}
 use Rattle.sbl_tree.specs.Order.{ItemInMode, in_order}
 use Rattle.sbl_tree.specs.declared.tree.DeclarationKind.TheVariants as kinds
 use Rattle.sbl_tree.specs.Tree.{bracket, no_rows, no_others}
 use Rattle.sbl_tree.specs.declared.mode.Mode.{Mode}
 use Rattle.sbl_tree.specs.declared.mode.Mode.TheVariants.{Forward}
-use Rattle.sbl_numbering.specs.Items.{Known, known_in, class_of, classes_behind, place_of, Body, body_named}
+use Rattle.sbl_numbering.specs.Items.{Known, known_in, class_of, classes_behind, is_among, place_of, Body, body_named}
 use Rattle.sbl_numbering.specs.Regions.{behind, behind_others}
 use Rattle.sbl_run.specs.declared.fault.RunFault.TheVariants.{Depth}
 use Rattle.sbl_run.specs.declared.touch.Touch.{Touch}
-use Rattle.sbl_run.specs.declared.touch.Touch.TheVariants.{Entered}
+use Rattle.sbl_run.specs.declared.touch.Touch.TheVariants.{Entered, Tested}
+use Rattle.sbl_machine.specs.BuiltFrom.{IsClosed, IsClosedAt}
 use Rattle.sbl_machine.specs.Frame.{AgreeOutside, RunsAlike, Frame}
 use Rattle.sbl_machine.specs.Holes.{with_holes, others_with_holes, holed_script}
 use Rattle.sbl_machine.specs.Meaning.{row_does, body_does, calls, start, ending}
 use Rattle.sbl_machine.specs.Outcome.{outcome_at, used_at, touched_at, run_of, used_of, touches_of}
 use Rattle.sbl_run.specs.Run.{paid, enter, leave}
 use Rattle.sbl_run.specs.State.{State, Ending, Signals, Stops, Doing, pay}
-use Rattle.sbl_machine.specs.Touched.{Item', Routine, Among, named, routine_names, items_of, touched_of}
+use Rattle.sbl_machine.specs.Touched.{Item', Routine, Among, Grouping, Names', named, names_of, items_of, touched_of}
 use Rattle.sbl_machine.proofs.TouchedOrder.{any_ordered, any-mapped}
 use Rattle.sbl_machine.proofs.Touching.{with_chosen, with_grows, not_then, filled}
 use Rattle.sbl_machine.proofs.Stays.{ended, pay_same}
 use Rattle.sbl_machine.proofs.FramePairs.{dirty, dirty_at, Grown, Within, WithinAt, Pair, Alike, grown_after, same_grown, same_pair, signals_pair, spoiled_pair, paid_alike}
 use Rattle.sbl_machine.proofs.FrameRuns.{row_alike}
 use Rattle.sbl_machine.proofs.HoledTrees.{behind_same, behind_others_same}
-use Rattle.sbl_machine.proofs.HoledScripts.{holed_items, order_holed, known_same, classes_same, names_same, hole_of, holed_body, bodies_holed, name_stands}
+use Rattle.sbl_machine.proofs.HoledScripts.{holed_items, order_holed, known_same, names_same, closed_holed, closed_of_holed, hole_of, holed_body, bodies_holed, name_stands, place_names}
+use Rattle.sbl_machine.proofs.HoledClasses.{classes_same, no_class}
 use Rattle.sbl_script.specs.Parsed.{Source}
 
 -- ---- calls
@@ -84,54 +87,66 @@ module _ (marked : Touch → Bool) where
       (λ s w. leave_dirty s.routine s.choices (d' m (enter j n' s)) ((h' (enter j n' s)).up (with_chosen marked (Entered j) s.touched c)))
 
 -- what is picked, by number
-abbrev pub marked_by : (Item' → Bool) → List (List ℕ) → Touch → Bool
+abbrev pub marked_by : (Item' → Bool) → Names' → Touch → Bool
 marked_by picked names x = picked (named names x)
 
-module _ (picked : Item' → Bool) (items : List ItemInMode) where
+module _ (picked : Item' → Bool) (items : List ItemInMode) (closed : AllByRecursion (λ x. IsClosedAt picked x.plain) items) where
   abbrev ns : Known
   ns = known_in items
 
   abbrev class : List ℕ → ℕ → Bool
   class = class_of (classes_behind items [])
 
+  -- the same with holes
+  abbrev class' : List ℕ → ℕ → Bool
+  class' = class_of (classes_behind (holed_items picked items) [])
+
   abbrev marked : Touch → Bool
-  marked = marked_by picked (known_in items kinds.Routines)
+  marked = marked_by picked (record { routines = known_in items kinds.Routines; groupings = known_in items kinds.Groupings })
+
+  -- a grouping that is not marked has the same; so has a name of none, which has nothing
+  classes_alike : (n : List ℕ) → marked (Tested (place_of (ns kinds.Groupings) n)) ≡ false → class' n ≡ class n
+  classes_alike n clear = at (is_among (known_in items kinds.Groupings) n) refl
+    where
+      at : (b : Bool) → is_among (known_in items kinds.Groupings) n ≡ b → class' n ≡ class n
+      at true e = classes_same picked items closed n (ap (λ x. picked (Grouping x)) (sym (place_names (known_in items kinds.Groupings) n e)) ∙ clear)
+      at false e = fun_ext (λ c. no_class (holed_items picked items) n c (ap (λ l. is_among l n) (ap (λ known. known kinds.Groupings) (known_same picked items)) ∙ e) ∙ sym (no_class items n c e))
 
   routine_by : (i : ℕ) (n : List ℕ) (body : Body) (call call' : List ℕ → Doing) (m : Mode) (b : Bool) → picked (Routine n) ≡ b → slice_index_or (known_in items kinds.Routines) (place_of (known_in items kinds.Routines) n) [] ≡ n
       → Alike marked (place_of (known_in items kinds.Routines) n) (paid (row_does ns class call body.mode body.first body.others))
-      (paid (row_does ns class call' body.mode (with_holes (λ k. picked (Among n k)) 0 body.first) (others_with_holes (λ k. picked (Among n k)) (behind body.first 0) body.others)))
-      → Pair marked i (body_does ns class call n (Some body) m) (body_does ns class call' n (Some (hole_of picked b n body)) m)
+      (paid (row_does ns class' call' body.mode (with_holes (λ k. picked (Among n k)) 0 body.first) (others_with_holes (λ k. picked (Among n k)) (behind body.first 0) body.others)))
+      → Pair marked i (body_does ns class call n (Some body) m) (body_does ns class' call' n (Some (hole_of picked b n body)) m)
   routine_by i n body call call' m true c name a =
       let j = place_of (known_in items kinds.Routines) n in
       entered_pair marked i j (behind_others body.others (behind body.first 0)) 0 (paid (row_does ns class call body.mode body.first body.others))
-      (paid (row_does ns class call' body.mode (bracket no_rows) no_others)) m (ap (λ x. picked (Routine x)) name ∙ c) (a.in_mode m).grown
+      (paid (row_does ns class' call' body.mode (bracket no_rows) no_others)) m (ap (λ x. picked (Routine x)) name ∙ c) (a.in_mode m).grown
       (λ s. grown_after marked s (pay s.steps s) (Signals true) (Signals false) (same_grown marked s _ (pay_same s.steps s)) (λ t. same_grown marked t _ refl) (λ t. same_grown marked t _ refl))
   routine_by i n body call call' m false c name a =
       let j = place_of (known_in items kinds.Routines) n in
       let holes = λ (k : ℕ). picked (Among n k) in
       let d = paid (row_does ns class call body.mode body.first body.others) in
-      let d' = paid (row_does ns class call' body.mode (with_holes holes 0 body.first) (others_with_holes holes (behind body.first 0) body.others)) in
+      let d' = paid (row_does ns class' call' body.mode (with_holes holes 0 body.first) (others_with_holes holes (behind body.first 0) body.others)) in
       let amongs = behind_others body.others (behind body.first 0) in
       subst (λ l. Pair marked i (called j amongs d m) (called j l d' m)) (sym (behind_others_same holes body.others (behind body.first 0) _ (behind_same holes body.first 0 0 refl)))
       (called_pair marked i j amongs d d' m a)
 
   body_pair : (i : ℕ) (n : List ℕ) (call call' : List ℕ → Doing) (m : Mode) → ((j : ℕ) (x : List ℕ) → Alike marked j (call x) (call' x)) → (o : Option Body) → body_named items n ≡ o
-      → Pair marked i (body_does ns class call n o m) (body_does ns class call' n (option_map (holed_body picked n) o) m)
+      → Pair marked i (body_does ns class call n o m) (body_does ns class' call' n (option_map (holed_body picked n) o) m)
   body_pair i n call call' m h None is = signals_pair marked i false
   body_pair i n call call' m h (Some body) is =
       let j = place_of (known_in items kinds.Routines) n in
       let name : slice_index_or (known_in items kinds.Routines) j [] ≡ n = name_stands items n body is in
       routine_by i n body call call' m (picked (Routine n)) refl name
-      (paid_alike marked j _ _ (row_alike marked ns class call call' j (h j) (λ k. picked (Among n k)) (λ k. ap (λ (x : List ℕ). picked (Among x (suc k))) name) body.mode body.first body.others))
+      (paid_alike marked j _ _ (row_alike marked ns class class' classes_alike call call' j (h j) (λ k. picked (Among n k)) (λ k. ap (λ (x : List ℕ). picked (Among x (suc k))) name) body.mode body.first body.others))
 
-  calls_alike : (l i : ℕ) (n : List ℕ) → Alike marked i (calls ns class (body_named items) l n) (calls ns class (body_named (holed_items picked items)) l n)
+  calls_alike : (l i : ℕ) (n : List ℕ) → Alike marked i (calls ns class (body_named items) l n) (calls ns class' (body_named (holed_items picked items)) l n)
   calls_alike zero i n = record { in_mode = λ m. same_pair marked i (Stops Depth) (λ s. refl) }
   calls_alike (suc l) i n =
       let call = calls ns class (body_named items) l in
-      let call' = calls ns class (body_named (holed_items picked items)) l in
+      let call' = calls ns class' (body_named (holed_items picked items)) l in
       record {
         in_mode = λ m.
-            subst (λ o. Pair marked i (body_does ns class call n (body_named items n) m) (body_does ns class call' n o m)) (sym (bodies_holed picked items n))
+            subst (λ o. Pair marked i (body_does ns class call n (body_named items n) m) (body_does ns class' call' n o m)) (sym (bodies_holed picked items n))
             (body_pair i n call call' m (λ j x. calls_alike l j x) (body_named items n) refl);
       }
 
@@ -139,7 +154,7 @@ module _ (picked : Item' → Bool) (items : List ItemInMode) where
 
   run_kin : (l : ℕ) (external word : List ℕ) (limit : ℕ) →
       let e = calls ns class (body_named items) l external Forward (start ns word limit) in
-      let e' = calls ns class (body_named (holed_items picked items)) l external Forward (start ns word limit) in
+      let e' = calls ns class' (body_named (holed_items picked items)) l external Forward (start ns word limit) in
       (e' ≡ e) ⊎ ((dirty_at marked e ≡ true) × (dirty_at marked e' ≡ true))
   run_kin l external word limit =
       (((calls_alike l 0 external).in_mode Forward).at (start ns word limit) (record { here = refl; quiet = λ k c clear. refl })).kin
@@ -150,29 +165,28 @@ run_on l items external word limit = calls (known_in items) (class_of (classes_b
 
 holed_run : (picked : Item' → Bool) (l : ℕ) (items : List ItemInMode) (external word : List ℕ) (limit : ℕ) →
     run_on l (holed_items picked items) external word limit
-    ≡ calls (known_in items) (class_of (classes_behind items [])) (body_named (holed_items picked items)) l external Forward (start (known_in items) word limit)
+    ≡ calls (known_in items) (class_of (classes_behind (holed_items picked items) [])) (body_named (holed_items picked items)) l external Forward (start (known_in items) word limit)
 holed_run picked l items external word limit =
     let bodies = body_named (holed_items picked items) in
-    ap (λ gs. calls (known_in (holed_items picked items)) (class_of gs) bodies l external Forward (start (known_in (holed_items picked items)) word limit)) (classes_same picked items [])
-    ∙ ap (λ ns. calls ns (class_of (classes_behind items [])) bodies l external Forward (start ns word limit)) (known_same picked items)
+    ap (λ ns. calls ns (class_of (classes_behind (holed_items picked items) [])) bodies l external Forward (start ns word limit)) (known_same picked items)
 
 -- two endings are the same, or something that is picked was touched in both
 abbrev Kin : (Touch → Bool) → Ending → Ending → Type 0
 Kin marked e e' = (e' ≡ e) ⊎ ((dirty_at marked e ≡ true) × (dirty_at marked e' ≡ true))
 
-levels_kin : (picked : Item' → Bool) (l : ℕ) (s : Source) (word : List ℕ) (limit : ℕ) →
-    Kin (marked_by picked (routine_names s)) (run_on l (in_order s.items) s.external word limit) (run_on l (in_order (holed_script picked s).items) s.external word limit)
-levels_kin picked l s word limit =
-    subst (Kin (marked_by picked (routine_names s)) (run_on l (in_order s.items) s.external word limit))
+levels_kin : (picked : Item' → Bool) (l : ℕ) (s : Source) → IsClosed picked s → (word : List ℕ) (limit : ℕ) →
+    Kin (marked_by picked (names_of s)) (run_on l (in_order s.items) s.external word limit) (run_on l (in_order (holed_script picked s).items) s.external word limit)
+levels_kin picked l s closed word limit =
+    subst (Kin (marked_by picked (names_of s)) (run_on l (in_order s.items) s.external word limit))
     (sym (ap (λ xs. run_on l xs s.external word limit) (order_holed picked s.items) ∙ holed_run picked l (in_order s.items) s.external word limit))
-    (run_kin picked (in_order s.items) l s.external word limit)
+    (run_kin picked (in_order s.items) closed l s.external word limit)
 
-ending_kin : (picked : Item' → Bool) (s : Source) (word : List ℕ) (limit : ℕ) → Kin (marked_by picked (routine_names s)) (ending s word limit) (ending (holed_script picked s) word limit)
+ending_kin : (picked : Item' → Bool) (s : Source) → IsClosed picked s → (word : List ℕ) (limit : ℕ) → Kin (marked_by picked (names_of s)) (ending s word limit) (ending (holed_script picked s) word limit)
 unfolding ending
-ending_kin picked s word limit = levels_kin picked 32 s word limit
+ending_kin picked s closed word limit = levels_kin picked 32 s closed word limit
 
-pub agree_names : (picked : Item' → Bool) (s t : Source) → AgreeOutside picked s t → routine_names t ≡ routine_names s
-agree_names picked s t agree = sym (names_same picked t) ∙ ap routine_names (sym agree) ∙ names_same picked s
+pub agree_names : (picked : Item' → Bool) (s t : Source) → AgreeOutside picked s t → names_of t ≡ names_of s
+agree_names picked s t agree = sym (names_same picked t) ∙ ap names_of (sym agree) ∙ names_same picked s
 
 clear_kin : (marked : Touch → Bool) (e e' : Ending) → Kin marked e e' → dirty_at marked e ≡ false → e' ≡ e
 clear_kin marked e e' h clear = ⊎_elim (λ p. p) (λ d. absurd (true≢false (sym d.0 ∙ clear))) h
@@ -180,13 +194,14 @@ clear_kin marked e e' h clear = ⊎_elim (λ p. p) (λ d. absurd (true≢false (
 clear_back : (marked : Touch → Bool) (e e' : Ending) → Kin marked e e' → dirty_at marked e' ≡ false → e ≡ e'
 clear_back marked e e' h clear = ⊎_elim (λ p. sym p) (λ d. absurd (true≢false (sym d.1 ∙ clear))) h
 
-pub frame_on : (picked : Item' → Bool) (s t : Source) → AgreeOutside picked s t → (word : List ℕ) (limit : ℕ) → dirty_at (marked_by picked (routine_names s)) (ending s word limit) ≡ false → ending t word limit ≡ ending s word limit
-frame_on picked s t agree word limit clear =
-    let marked = marked_by picked (routine_names s) in
+pub frame_on : (picked : Item' → Bool) (s t : Source) → IsClosed picked s → AgreeOutside picked s t → (word : List ℕ) (limit : ℕ) → dirty_at (marked_by picked (names_of s)) (ending s word limit) ≡ false → ending t word limit ≡ ending s word limit
+frame_on picked s t closed agree word limit clear =
+    let marked = marked_by picked (names_of s) in
     let hole = holed_script picked in
-    let same : ending (hole t) word limit ≡ ending s word limit = ap (λ x. ending x word limit) (sym agree) ∙ clear_kin marked _ _ (ending_kin picked s word limit) clear in
+    let later : IsClosed picked t = closed_of_holed picked t (subst (IsClosed picked) agree (closed_holed picked s closed)) in
+    let same : ending (hole t) word limit ≡ ending s word limit = ap (λ x. ending x word limit) (sym agree) ∙ clear_kin marked _ _ (ending_kin picked s closed word limit) clear in
     let kin : Kin marked (ending t word limit) (ending (hole t) word limit) =
-    subst (λ ns. Kin (marked_by picked ns) (ending t word limit) (ending (hole t) word limit)) (agree_names picked s t agree) (ending_kin picked t word limit) in
+    subst (λ ns. Kin (marked_by picked ns) (ending t word limit) (ending (hole t) word limit)) (agree_names picked s t agree) (ending_kin picked t later word limit) in
     clear_back marked _ _ kin (ap (dirty_at marked) same ∙ clear) ∙ same
 
 -- ---- what is said of it
@@ -195,23 +210,23 @@ pub touched_ended : (e : Ending) → touched_at e ≡ (ended e).touched
 touched_ended (Signals b s) = refl
 touched_ended (Stops fault s) = refl
 
-pub clear_by_names : (picked : Item' → Bool) (names : List (List ℕ)) (e : Ending) → list_any (marked_by picked names) (touched_at e) ≡ dirty_at (marked_by picked names) e
+pub clear_by_names : (picked : Item' → Bool) (names : Names') (e : Ending) → list_any (marked_by picked names) (touched_at e) ≡ dirty_at (marked_by picked names) e
 clear_by_names picked names e = ap (list_any (marked_by picked names)) (touched_ended e)
 
-pub alike_by : (s t : Source) (word : List ℕ) (limit : ℕ) → routine_names t ≡ routine_names s → ending t word limit ≡ ending s word limit → RunsAlike s t word limit
+pub alike_by : (s t : Source) (word : List ℕ) (limit : ℕ) → names_of t ≡ names_of s → ending t word limit ≡ ending s word limit → RunsAlike s t word limit
 unfolding run_of used_of touched_of touches_of
 alike_by s t word limit names same =
     record {
       outcome = ap outcome_at same;
-      touched = ap (λ ns. items_of ns (touched_at (ending t word limit))) names ∙ ap (λ e. items_of (routine_names s) (touched_at e)) same;
+      touched = ap (λ ns. items_of ns (touched_at (ending t word limit))) names ∙ ap (λ e. items_of (names_of s) (touched_at e)) same;
       used = ap (used_at limit) same;
     }
 
 pub frame_holds : Frame
 unfolding touched_of touches_of
-frame_holds picked s t agree word limit clear =
+frame_holds picked s t closed agree word limit clear =
     let e = ending s word limit in
-    let names = routine_names s in
+    let names = names_of s in
     let untouched : dirty_at (marked_by picked names) e ≡ false =
     sym (clear_by_names picked names e) ∙ sym (any-mapped (named names) picked (touched_at e)) ∙ sym (any_ordered picked (map (named names) (touched_at e))) ∙ clear in
-    alike_by s t word limit (agree_names picked s t agree) (frame_on picked s t agree word limit untouched)
+    alike_by s t word limit (agree_names picked s t agree) (frame_on picked s t closed agree word limit untouched)

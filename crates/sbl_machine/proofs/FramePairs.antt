@@ -21,6 +21,8 @@ use Rattle.sbl_run.specs.Numbers.{Value, given}
 use Rattle.sbl_run.specs.Run.{turns, times, count_of, seeks, limits, limit_here, limit_back, backwards_from, backwards_end, chosen, paid}
 use Rattle.sbl_run.specs.Search.{choice}
 use Rattle.sbl_run.specs.State.{State, Ending, Signals, Stops, Doing, after, then_on, pay, saved_cursor, put_back}
+use Rattle.sbl_run.specs.Touches.{with_touch}
+use Rattle.sbl_machine.proofs.Touching.{with_grows, with_chosen, not_then}
 use Rattle.sbl_machine.proofs.Stays.{Rest, ended, Same, pay_same, place_same, to_limit_same, back_same, next_same, found_same, here_same, limit_back_same, left_same, right_same, replace_same}
 
 -- the routine that runs is back at an ending with a signal
@@ -145,6 +147,22 @@ module _ (picked : Touch → Bool) where
   pub signals_pair : (i : ℕ) (b : Bool) → Pair i (Signals b) (Signals b)
   signals_pair i b = same_pair i (Signals b) (λ s. refl)
 
+  -- ---- a touch
+
+  abbrev pub touching : Touch → State → State
+  touching x s = record s { touched = with_touch x s.touched }
+
+  pub touched_grown : (x : Touch) (s : State) (e : Ending) → Grown (touching x s) e → Grown s e
+  touched_grown x s e h = record { up = λ d. h.up (with_grows picked x s.touched d); here = h.here }
+
+  pub touched_pair : (i : ℕ) (x : State → Touch) (f f' : State → Ending) → Pair i f f' → Pair i (λ s. f (touching (x s) s)) (λ s. f' (touching (x s) s))
+  touched_pair i x f f' h =
+      record {
+        grown = λ s. touched_grown (x s) s _ (h.grown (touching (x s) s));
+        grown' = λ s. touched_grown (x s) s _ (h.grown' (touching (x s) s));
+        at = λ s w. h.at (touching (x s) s) (record { here = w.here; quiet = λ k c clear. w.quiet k c (not_then _ _ (with_grows picked (x s) s.touched) clear) });
+      }
+
   -- what is picked is touched in both
   pub spoiled_pair : (i : ℕ) (f f' : State → Ending) → ((s : State) → Grown s (f s)) → ((s : State) → Grown s (f' s)) → ((s : State) → Within i s → dirty_at (f s) ≡ true) → ((s : State) → Within i s → dirty_at (f' s) ≡ true) → Pair i f f'
   spoiled_pair i f f' g g' d d' =
@@ -156,6 +174,12 @@ module _ (picked : Touch → Bool) where
           within = within_dirty i (f s) (here_from i s.routine (f s) w.here (g s).here) (d s w);
         };
       }
+
+  -- a touch of what is picked, and then anything
+  pub touched_spoiled : (i : ℕ) (x : Touch) (f f' : State → Ending) → picked x ≡ true → ((s : State) → Grown s (f s)) → ((s : State) → Grown s (f' s)) → Pair i (λ s. f (touching x s)) (λ s. f' (touching x s))
+  touched_spoiled i x f f' c g g' =
+      spoiled_pair i _ _ (λ s. touched_grown x s _ (g (touching x s))) (λ s. touched_grown x s _ (g' (touching x s)))
+      (λ s w. (g (touching x s)).up (with_chosen picked x s.touched c)) (λ s w. (g' (touching x s)).up (with_chosen picked x s.touched c))
 
   -- ---- what is built of doings
 

@@ -8,16 +8,16 @@ use Rattle.sbl_tree.specs.declared.mode.Mode.{Mode}
 use Rattle.sbl_numbering.specs.Items.{Known, place_of, is_among}
 use Rattle.sbl_numbering.specs.Regions.{Among, among_at, behind, behind_rows, behind_others, behind_starter, first, first_rows, first_others, mode_behind, waits, waits_others}
 use Rattle.sbl_run.specs.declared.touch.Touch.{Touch}
-use Rattle.sbl_run.specs.declared.touch.Touch.TheVariants.{Searched}
+use Rattle.sbl_run.specs.declared.touch.Touch.TheVariants.{Searched, Tested}
 use Rattle.sbl_machine.specs.Holes.{blank, blanks, blanks_rows, blanks_others, blanks_starter, blanks_groups, nothing, hole, with_holes, rows_with_holes, others_with_holes, starter_with_holes, groups_with_holes}
 use Rattle.sbl_machine.specs.Meaning as meaning
-use Rattle.sbl_machine.specs.Meaning.{offers, search, worth, text}
-use Rattle.sbl_run.specs.Moves.{match}
+use Rattle.sbl_machine.specs.Meaning.{offers, search, tests, worth, text}
+use Rattle.sbl_run.specs.Moves.{match, one_of}
 use Rattle.sbl_run.specs.Numbers.{integer_at}
 use Rattle.sbl_run.specs.Run.{paid}
 use Rattle.sbl_run.specs.State.{State, Signals, Doing, pay}
 use Rattle.sbl_machine.proofs.Stays.{pay_same, match_same, class_same, moves_same, assigned_same, compared_same, named_same, edited_same}
-use Rattle.sbl_machine.proofs.FramePairs.{Grown, Pair, Alike, grown_after, after_pair, from_pair, if_pair, same_grown, same_pair, signals_pair, paid_alike, prefixed_pair, counted_pair, joined_alike, limited_pair, simple_pair}
+use Rattle.sbl_machine.proofs.FramePairs.{Grown, Pair, Alike, grown_after, after_pair, from_pair, if_pair, same_grown, same_pair, signals_pair, paid_alike, prefixed_pair, counted_pair, joined_alike, limited_pair, simple_pair, touched_pair, touched_spoiled, touching}
 use Rattle.sbl_machine.proofs.FrameSearches.{finds, finds_grown, finds_alike, finds_spoiled, grown_call', choosing_grown, choosing_pair, hole_pair}
 use Rattle.sbl_machine.proofs.HoledTrees.{behind_same, behind_rows_same, behind_others_same, behind_starter_same, waits_same, waits_others_same, offers_same}
 
@@ -92,11 +92,11 @@ module _ (picked : Touch → Bool) (ns : Known) (class : List ℕ → ℕ → Bo
 
 -- ---- a command and the same with holes, in the i-th routine
 
-module _ (picked : Touch → Bool) (ns : Known) (class : List ℕ → ℕ → Bool) (call call' : List ℕ → Doing) (i : ℕ) (calls_alike : (n : List ℕ) → Alike picked i (call n) (call' n))
-    (holes : ℕ → Bool) (spot : (k : ℕ) → picked (Searched i k) ≡ holes (suc k)) where
+module _ (picked : Touch → Bool) (ns : Known) (class class' : List ℕ → ℕ → Bool) (classes_alike : (n : List ℕ) → picked (Tested (place_of (ns kinds.Groupings) n)) ≡ false → class' n ≡ class n)
+    (call call' : List ℕ → Doing) (i : ℕ) (calls_alike : (n : List ℕ) → Alike picked i (call n) (call' n)) (holes : ℕ → Bool) (spot : (k : ℕ) → picked (Searched i k) ≡ holes (suc k)) where
   -- what a `substring` finds ahead is alike
   pub record Like (n n' : Option Among) : Type 0 where
-    pub search : Alike picked i (meaning.search_ahead ns class call n) (meaning.search_ahead ns class call' n')
+    pub search : Alike picked i (meaning.search_ahead ns class call n) (meaning.search_ahead ns class' call' n')
 
   pub none_like : Like None None
   none_like = record { search = record { in_mode = λ m. signals_pair picked i false } }
@@ -114,7 +114,7 @@ module _ (picked : Touch → Bool) (ns : Known) (class : List ℕ → ℕ → Bo
 
   like_among : (r : Mode) (k k' : ℕ) (st : trees.Starter) (gs : trees.Groups) (n' : Option Among) (b : Bool) → holes (suc k) ≡ b → k' ≡ k
       → Like (Some (among_at r k gs)) (first r (if b then hole st gs else among_ (starter_with_holes holes (suc k) st) (groups_with_holes holes (behind_starter st (suc k)) gs)) k' n')
-  like_among r k k' st gs n' true e p = record { search = found_spoiled r k k' gs (in_hole picked ns class call' (grown_call' picked call call' i calls_alike) st gs) e p }
+  like_among r k k' st gs n' true e p = record { search = found_spoiled r k k' gs (in_hole picked ns class' call' (grown_call' picked call call' i calls_alike) st gs) e p }
   like_among r k k' st gs n' false e p = record { search = found_alike r k k' (behind_starter st (suc k)) gs e p }
 
   mutual
@@ -147,33 +147,48 @@ module _ (picked : Touch → Bool) (ns : Known) (class : List ℕ → ℕ → Bo
     first_others_like (joined j c os) r k k' n n' p h =
         first_like c r k k' _ _ p (first_others_like os r (behind c k) _ n n' (behind_same holes c k k' p) h)
 
+  -- the test of a grouping
+  one_of_grown : (w : Bool) (has : ℕ → Bool) (m : Mode) (s : State) → Grown picked s (one_of w has m s)
+  one_of_grown w has m s = same_grown picked s _ (class_same w has m s)
+
+  tests_by : (w : Bool) (x : List ℕ) (m : Mode) (b : Bool) → picked (Tested (place_of (ns kinds.Groupings) x)) ≡ b → Pair picked i (tests ns class w x m) (tests ns class' w x m)
+  tests_by w x m true c =
+      touched_spoiled picked i (Tested (place_of (ns kinds.Groupings) x)) (one_of w (class x) m) (one_of w (class' x) m) c (one_of_grown w (class x) m) (one_of_grown w (class' x) m)
+  tests_by w x m false c =
+      let g = place_of (ns kinds.Groupings) x in
+      subst (λ has. Pair picked i (tests ns class w x m) (λ s. one_of w has m (touching picked (Tested g) s))) (sym (classes_alike x c))
+      (touched_pair picked i (λ s. Tested g) (one_of w (class x) m) (one_of w (class x) m) (same_pair picked i _ (class_same w (class x) m)))
+
+  tests_pair : (w : Bool) (x : List ℕ) (m : Mode) → Pair picked i (tests ns class w x m) (tests ns class' w x m)
+  tests_pair w x m = tests_by w x m _ refl
+
   -- a name alone
-  name_pair : (x : List ℕ) (m : Mode) → Pair picked i (meaning.name_does ns class call x m) (meaning.name_does ns class call' x m)
+  name_pair : (x : List ℕ) (m : Mode) → Pair picked i (meaning.name_does ns class call x m) (meaning.name_does ns class' call' x m)
   name_pair x m =
       if_pair picked i (is_among (ns kinds.Strings) x) _ _ _ _ (same_pair picked i (λ s. match (slice_index_or s.strings (place_of (ns kinds.Strings) x) []) m s) (λ s. match_same (slice_index_or s.strings (place_of (ns kinds.Strings) x) []) m s))
       (if_pair picked i (is_among (ns kinds.Booleans) x) _ _ _ _ (same_pair picked i _ (λ s. refl))
-      (if_pair picked i (is_among (ns kinds.Groupings) x) _ _ _ _ (same_pair picked i _ (class_same true (class x) m)) ((calls_alike x).in_mode m)))
+      (if_pair picked i (is_among (ns kinds.Groupings) x) _ _ _ _ (tests_pair true x m) ((calls_alike x).in_mode m)))
 
   abbrev does : Mode → ℕ → Bool → Option Among → trees.Command → Doing
   does = meaning.act ns class call
 
   abbrev does' : Mode → ℕ → Bool → Option Among → trees.Command → Doing
-  does' = meaning.act ns class call'
+  does' = meaning.act ns class' call'
 
   among_alike : (r : Mode) (k : ℕ) (w : Bool) (n n' : Option Among) (st : trees.Starter) (gs : trees.Groups) (b : Bool) → holes (suc k) ≡ b
-      → Alike picked i (meaning.starter_does ns class call r (suc k) st) (meaning.starter_does ns class call' r (suc k) (starter_with_holes holes (suc k) st))
+      → Alike picked i (meaning.starter_does ns class call r (suc k) st) (meaning.starter_does ns class' call' r (suc k) (starter_with_holes holes (suc k) st))
       → ((g : ℕ) → Alike picked i (meaning.group_does ns class call r (behind_starter st (suc k)) gs g)
-      (meaning.group_does ns class call' r (behind_starter (starter_with_holes holes (suc k) st) (suc k)) (groups_with_holes holes (behind_starter st (suc k)) gs) g))
+      (meaning.group_does ns class' call' r (behind_starter (starter_with_holes holes (suc k) st) (suc k)) (groups_with_holes holes (behind_starter st (suc k)) gs) g))
       → Alike picked i (does r k w n (among_ st gs)) (does' r k w n' (if b then hole st gs else among_ (starter_with_holes holes (suc k) st) (groups_with_holes holes (behind_starter st (suc k)) gs)))
   among_alike r k w n n' st gs true e starts groups =
       let calls_grown = grown_call' picked call call' i calls_alike in
-      let inside = in_hole picked ns class call' calls_grown st gs in
+      let inside = in_hole picked ns class' call' calls_grown st gs in
       record {
         in_mode = λ m.
             hole_pair picked call call' i calls_alike k (spot k ∙ e) (offers 0 gs) (offers 0 inside) r r
             (meaning.starter_does ns class call r (suc k) st) (λ m s. Signals true s)
-            (λ g. meaning.group_does ns class call r (behind_starter st (suc k)) gs g m) (λ g. meaning.group_does ns class call' r (suc k) inside g m) m
-            (starts.in_mode m).grown (λ s. same_grown picked s _ refl) (λ g. ((groups g).in_mode m).grown) (λ g. in_hole_grown picked ns class call' calls_grown st gs r (suc k) g m) w;
+            (λ g. meaning.group_does ns class call r (behind_starter st (suc k)) gs g m) (λ g. meaning.group_does ns class' call' r (suc k) inside g m) m
+            (starts.in_mode m).grown (λ s. same_grown picked s _ refl) (λ g. ((groups g).in_mode m).grown) (λ g. in_hole_grown picked ns class' call' calls_grown st gs r (suc k) g m) w;
       }
   among_alike r k w n n' st gs false e starts groups =
       let l = behind_starter (starter_with_holes holes (suc k) st) (suc k) in
@@ -181,8 +196,8 @@ module _ (picked : Touch → Bool) (ns : Known) (class : List ℕ → ℕ → Bo
       record {
         in_mode = λ m.
             choosing_pair picked call call' i calls_alike k w (finds call k (offers 0 gs) r) (finds call' k (offers 0 inside) r)
-            (meaning.starter_does ns class call r (suc k) st) (meaning.starter_does ns class call' r (suc k) (starter_with_holes holes (suc k) st))
-            (λ g. meaning.group_does ns class call r (behind_starter st (suc k)) gs g m) (λ g. meaning.group_does ns class call' r l inside g m) m
+            (meaning.starter_does ns class call r (suc k) st) (meaning.starter_does ns class' call' r (suc k) (starter_with_holes holes (suc k) st))
+            (λ g. meaning.group_does ns class call r (behind_starter st (suc k)) gs g m) (λ g. meaning.group_does ns class' call' r l inside g m) m
             (found_alike r k k (behind_starter st (suc k)) gs e refl) starts (λ g. (groups g).in_mode m);
       }
 
@@ -190,10 +205,10 @@ module _ (picked : Touch → Bool) (ns : Known) (class : List ℕ → ℕ → Bo
     pub act_alike : (t : trees.Command) (r : Mode) (k k' : ℕ) (w w' : Bool) (n n' : Option Among) → k' ≡ k → w' ≡ w → Like n n' → Alike picked i (does r k w n t) (does' r k' w' n' (with_holes holes k t))
     act_alike (bracket rs) r k k' w w' n n' p q h = rows_alike rs r k k' w w' n n' p q h
     act_alike (simple_ x) r k k' w w' n n' p q h =
-        record { in_mode = λ m. simple_pair picked i x (meaning.search_ahead ns class call n) (meaning.search_ahead ns class call' n') h.search m }
+        record { in_mode = λ m. simple_pair picked i x (meaning.search_ahead ns class call n) (meaning.search_ahead ns class' call' n') h.search m }
     act_alike (literal_ x) r k k' w w' n n' p q h = record { in_mode = λ m. same_pair picked i _ (match_same x.value m) }
     act_alike (name_ x) r k k' w w' n n' p q h = record { in_mode = λ m. name_pair x m }
-    act_alike (non_ b x) r k k' w w' n n' p q h = record { in_mode = λ m. same_pair picked i _ (class_same false (class x) m) }
+    act_alike (non_ b x) r k k' w w' n n' p q h = record { in_mode = λ m. tests_pair false x m }
     act_alike (prefixed x c) r k k' w w' n n' p q h =
         record { in_mode = λ m. prefixed_pair picked i x _ _ (paid_alike picked i _ _ (act_alike c (mode_behind x r) k k' w w' n n' p q h)) m }
     act_alike (counted x e c) r k k' w w' n n' p q h =
@@ -219,7 +234,7 @@ module _ (picked : Touch → Bool) (ns : Known) (class : List ℕ → ℕ → Bo
         (among_alike r k w n n' st gs (holes (suc k)) refl (starter_alike st r (suc k) (suc k) refl)
         (λ g. groups_alike gs g r (behind_starter st (suc k)) _ (behind_starter_same holes st (suc k) (suc k) refl))))
 
-    rows_alike : (rs : trees.Rows) (r : Mode) (k k' : ℕ) (w w' : Bool) (n n' : Option Among) → k' ≡ k → w' ≡ w → Like n n' → Alike picked i (meaning.rows_do ns class call r k w n rs) (meaning.rows_do ns class call' r k' w' n' (rows_with_holes holes k rs))
+    rows_alike : (rs : trees.Rows) (r : Mode) (k k' : ℕ) (w w' : Bool) (n n' : Option Among) → k' ≡ k → w' ≡ w → Like n n' → Alike picked i (meaning.rows_do ns class call r k w n rs) (meaning.rows_do ns class' call' r k' w' n' (rows_with_holes holes k rs))
     rows_alike no_rows r k k' w w' n n' p q h = record { in_mode = λ m. signals_pair picked i true }
     rows_alike (row c os rs) r k k' w w' n n' p q h =
         let p1 = behind_same holes c k k' p in
@@ -236,7 +251,7 @@ module _ (picked : Touch → Bool) (ns : Known) (class : List ℕ → ℕ → Bo
               (λ s. signals_pair picked i false);
         }
 
-    pub others_alike : (os : trees.Others) (r : Mode) (k k' : ℕ) (w w' : Bool) (n n' : Option Among) (d d' : Doing) → k' ≡ k → w' ≡ w → Like n n' → Alike picked i d d' → Alike picked i (meaning.others_do ns class call r k w n os d) (meaning.others_do ns class call' r k' w' n' (others_with_holes holes k os) d')
+    pub others_alike : (os : trees.Others) (r : Mode) (k k' : ℕ) (w w' : Bool) (n n' : Option Among) (d d' : Doing) → k' ≡ k → w' ≡ w → Like n n' → Alike picked i d d' → Alike picked i (meaning.others_do ns class call r k w n os d) (meaning.others_do ns class' call' r k' w' n' (others_with_holes holes k os) d')
     others_alike no_others r k k' w w' n n' d d' p q h a = a
     others_alike (joined j c os) r k k' w w' n n' d d' p q h a =
         let p1 = behind_same holes c k k' p in
@@ -244,17 +259,17 @@ module _ (picked : Touch → Bool) (ns : Known) (class : List ℕ → ℕ → Bo
         others_alike os r (behind c k) _ (waits c w) _ n n' _ _ p1 (waits_same holes c k w w' q) h
         (joined_alike picked i j _ _ _ _ (paid_alike picked i d d' a) (paid_alike picked i _ _ (act_alike c r k k' w w' _ _ p q h1)))
 
-    starter_alike : (st : trees.Starter) (r : Mode) (k k' : ℕ) → k' ≡ k → Alike picked i (meaning.starter_does ns class call r k st) (meaning.starter_does ns class call' r k' (starter_with_holes holes k st))
+    starter_alike : (st : trees.Starter) (r : Mode) (k k' : ℕ) → k' ≡ k → Alike picked i (meaning.starter_does ns class call r k st) (meaning.starter_does ns class' call' r k' (starter_with_holes holes k st))
     starter_alike no_starter r k k' p = record { in_mode = λ m. signals_pair picked i true }
     starter_alike (starter rs) r k k' p = paid_alike picked i _ _ (rows_alike rs r k k' false false None None p refl none_like)
 
-    groups_alike : (gs : trees.Groups) (g : ℕ) (r : Mode) (k k' : ℕ) → k' ≡ k → Alike picked i (meaning.group_does ns class call r k gs g) (meaning.group_does ns class call' r k' (groups_with_holes holes k gs) g)
+    groups_alike : (gs : trees.Groups) (g : ℕ) (r : Mode) (k k' : ℕ) → k' ≡ k → Alike picked i (meaning.group_does ns class call r k gs g) (meaning.group_does ns class' call' r k' (groups_with_holes holes k gs) g)
     groups_alike (bare es) g r k k' p = record { in_mode = λ m. signals_pair picked i true }
     groups_alike (group e es rs gs) zero r k k' p = paid_alike picked i _ _ (rows_alike rs r k k' false false None None p refl none_like)
     groups_alike (group e es rs gs) (suc g) r k k' p = groups_alike gs g r (behind_rows rs k) _ (behind_rows_same holes rs k k' p)
 
   -- a routine's row
-  pub row_alike : (r : Mode) (c : trees.Command) (os : trees.Others) → Alike picked i (meaning.row_does ns class call r c os) (meaning.row_does ns class call' r (with_holes holes 0 c) (others_with_holes holes (behind c 0) os))
+  pub row_alike : (r : Mode) (c : trees.Command) (os : trees.Others) → Alike picked i (meaning.row_does ns class call r c os) (meaning.row_does ns class' call' r (with_holes holes 0 c) (others_with_holes holes (behind c 0) os))
   row_alike r c os =
       let p1 = behind_same holes c 0 0 refl in
       let h1 = first_others_like os r (behind c 0) _ None None p1 none_like in

@@ -10,7 +10,8 @@ use Rattle.sbl_run.specs.declared.touch.Touch.TheVariants.{Searched}
 use Rattle.sbl_machine.specs.Meaning.{Offer, offering, condition_does, takes, tried, begins}
 use Rattle.sbl_run.specs.Run.{chosen, paid}
 use Rattle.sbl_run.specs.Search.{choose, choice, touch_among}
-use Rattle.sbl_run.specs.State.{State, bound_of, Ending, Signals, Doing, after, then_on, pay, saved_cursor, put_back, place_after, step_over}
+use Rattle.sbl_run.specs.Events.{Event', Finds}
+use Rattle.sbl_run.specs.State.{tell, State, bound_of, Ending, Signals, Doing, after, then_on, pay, saved_cursor, put_back, place_after, step_over}
 use Rattle.sbl_machine.proofs.Touching.{with_chosen, with_grows, not_then}
 use Rattle.sbl_machine.proofs.Stays.{pay_same, back_same, over_same}
 use Rattle.sbl_machine.proofs.FramePairs.{Here, dirty, dirty_at, Grown, Within, Kept, Pair, Alike, here_from, grown_after, dirty_after, within_dirty, after_pair, from_pair, same_grown, same_pair, signals_pair, spoiled_pair, chosen_pair, paid_alike}
@@ -92,17 +93,17 @@ module _ (picked : Touch → Bool) where
     condition_pair (Some n) m =
         after_pair picked i (λ s. pay s.steps s) (λ s. pay s.steps s) _ _ _ _ (same_pair picked i _ (λ s. pay_same s.steps s)) (λ s. (calls_alike n).in_mode m) (λ s. signals_pair picked i false)
 
-    choose_grown : (b : Bool) (k : ℕ) (g : Option ℕ) (s : State) → Grown picked s (Signals b (choose k g s))
-    choose_grown b k g s = record { up = λ d. d; here = refl }
+    choose_grown : (b : Bool) (k : ℕ) (x : Event') (g : Option ℕ) (s : State) → Grown picked s (Signals b (tell x (choose k g s)))
+    choose_grown b k x g s = record { up = λ d. d; here = refl }
 
     other : (k l : ℕ) → picked (Searched i k) ≡ false → picked (Searched i l) ≡ true → l ≢ k
     other k l n c e = true≢false (sym c ∙ ap (λ x. picked (Searched i x)) e ∙ n)
 
-    choose_pair : (b : Bool) (k : ℕ) (g : Option ℕ) → picked (Searched i k) ≡ false → Pair picked i (λ s. Signals b (choose k g s)) (λ s. Signals b (choose k g s))
-    choose_pair b k g n =
+    choose_pair : (b : Bool) (k : ℕ) (x : Event') (g : Option ℕ) → picked (Searched i k) ≡ false → Pair picked i (λ s. Signals b (tell x (choose k g s))) (λ s. Signals b (tell x (choose k g s)))
+    choose_pair b k x g n =
         record {
-          grown = choose_grown b k g;
-          grown' = choose_grown b k g;
+          grown = choose_grown b k x g;
+          grown' = choose_grown b k x g;
           at = λ s w. record {
             kin = inl refl;
             within = record { here = w.here; quiet = λ l c clear. get_or-set_other s.choices k l g None (other k l n c) ∙ w.quiet l c clear };
@@ -114,16 +115,16 @@ module _ (picked : Touch → Bool) where
     take_pair k n (Some o) m from go go' h =
         after_pair picked i _ _ _ _ _ _ (place_pair m from (length o.string))
         (λ s. after_pair picked i _ _ _ _ _ _ (condition_pair o.condition m)
-        (λ a. after_pair picked i _ _ _ _ _ _ (place_pair m from (length o.string)) (λ b. choose_pair true k (Some o.group) n) (λ b. signals_pair picked i false))
+        (λ a. after_pair picked i _ _ _ _ _ _ (place_pair m from (length o.string)) (λ b. choose_pair true k (Finds k (Some (length o.string))) (Some o.group) n) (λ b. signals_pair picked i false))
         (λ a. h))
         (λ s. signals_pair picked i false)
 
     tried_pair : (k : ℕ) → picked (Searched i k) ≡ false → (os : List Offer) (r m : Mode) (from : State) (x : List ℕ) (l : ℕ) → Pair picked i (tried call k os r m from x l) (tried call' k os r m from x l)
-    tried_pair k n os r m from x zero = choose_pair false k None n
+    tried_pair k n os r m from x zero = choose_pair false k (Finds k None) None n
     tried_pair k n os r m from x (suc l) = take_pair k n (offering r (take l x) os) m from _ _ (tried_pair k n os r m from x l)
 
-    touched_pair : (k : ℕ) (f f' : State → Ending) → Pair picked i f f' → Pair picked i (λ s. f (touch_among k s)) (λ s. f' (touch_among k s))
-    touched_pair k f f' h =
+    searched_pair : (k : ℕ) (f f' : State → Ending) → Pair picked i f f' → Pair picked i (λ s. f (touch_among k s)) (λ s. f' (touch_among k s))
+    searched_pair k f f' h =
         let grows = λ (s : State). with_grows picked (Searched s.routine k) s.touched in
         record {
           grown = λ s. record { up = λ d. (h.grown (touch_among k s)).up (grows s d); here = (h.grown (touch_among k s)).here };
@@ -142,7 +143,7 @@ module _ (picked : Touch → Bool) where
     finds_alike k n os r =
         record {
           in_mode = λ m.
-              touched_pair k
+              searched_pair k
               (λ t. tried call k os r m t (ahead_at r t.text t.cursor (bound_of m t)) (suc (length (ahead_at r t.text t.cursor (bound_of m t)))) t)
               (λ t. tried call' k os r m t (ahead_at r t.text t.cursor (bound_of m t)) (suc (length (ahead_at r t.text t.cursor (bound_of m t)))) t)
               (from_pair picked i (λ s. s)

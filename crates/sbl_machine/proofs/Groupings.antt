@@ -18,7 +18,7 @@ use Rattle.sbl_machine.proofs.GroupingNames.{IsKnown, AreKnown, AreNames, names_
 
 -- ---- the groupings of some items
 
-abbrev name_of : Grouping → List ℕ
+abbrev pub name_of : Grouping → List ℕ
 name_of g = g.name
 
 -- some groupings, and then more
@@ -52,7 +52,7 @@ names_more (escapes a b) gs rest = refl
 names_more (macro m b q) gs rest = refl
 names_more (routine r c os) gs rest = refl
 
-class_names : (xs : List ItemInMode) (gs : List Grouping) → map name_of (classes_behind xs gs) ≡ map name_of gs ++ known_in xs kinds.Groupings
+pub class_names : (xs : List ItemInMode) (gs : List Grouping) → map name_of (classes_behind xs gs) ≡ map name_of gs ++ known_in xs kinds.Groupings
 class_names [] gs = sym (append-nil (map name_of gs))
 class_names (x ∷ xs) gs = class_names xs (and_grouping x.plain gs) ∙ names_more x.plain gs (known_in xs kinds.Groupings)
 

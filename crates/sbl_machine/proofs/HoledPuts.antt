@@ -71,7 +71,7 @@ inside_many : (s : Starter) (gs : Groups) → blanks_starter s (blanks_groups gs
 inside_many s gs = ap (blanks_starter s) (groups_many gs no_rows) ∙ starter_many s (so_many (count_in_groups gs) no_rows) ∙ many_more (count_in_starter s) (count_in_groups gs) no_rows
 
 -- the hole of an among is that of another with as many in it
-hole_same : (s s' : Starter) (gs gs' : Groups) → count_in_among (s', gs') ≡ count_in_among (s, gs) → hole s' gs' ≡ hole s gs
+pub hole_same : (s s' : Starter) (gs gs' : Groups) → count_in_among (s', gs') ≡ count_in_among (s, gs) → hole s' gs' ≡ hole s gs
 hole_same s s' gs gs' e =
     let n : count_in_starter s' + count_in_groups gs' ≡ count_in_starter s + count_in_groups gs = omega (arith, e) in
     let same : blanks_starter s' (blanks_groups gs' no_rows) ≡ blanks_starter s (blanks_groups gs no_rows) =

@@ -1,19 +1,22 @@
--- Holes leave a script its names and its groupings, and each routine its own body with holes.
-use Rattle.std.proofs.Common.{◌≡◌, ◌∙◌, ℕ, suc, Bool, true, false, List, [], ◌∷◌, ◌++◌, map, Option, Some, None, option_map, refl, ap}
-use Rattle.std.specs.Prelude.{if◌then◌else◌, slice_index_or}
+-- Holes leave a script its names, each routine its own body with holes, and what is closed.
+use Rattle.std.proofs.Common.{◌≡◌, ◌∙◌, ℕ, suc, Bool, true, false, List, [], ◌∷◌, ◌++◌, map, Option, Some, None, option_map, refl, sym, ap, subst}
+use Rattle.std.specs.Prelude.{◌↔◌, if◌then◌else◌, slice_index_or}
+use Rattle.std.specs.List.{AllByRecursion}
 use Rattle.std.specs.Str.{bytes_eq}
 use Rattle.std.proofs.lemmas.Slice.Eq.{bytes_eq-Decides}
+use Rattle.std.proofs.lemmas.Bool.{true≢false}
 use Rattle.std.proofs.Math.Path.{fun_ext}
 use Rattle.sbl_tree.specs.Order.{ItemInMode, in_mode, in_order}
 use Rattle.sbl_tree.specs.declared.tree.DeclarationKind.{DeclarationKind}
 use Rattle.sbl_tree.specs.declared.tree.DeclarationKind.TheVariants as kinds
-use Rattle.sbl_tree.specs.Tree.{Command, Others, Plain, Item, bracket, no_rows, no_others, declaration, escapes, macro, routine, grouping, plain, backward}
+use Rattle.sbl_tree.specs.Tree.{Command, Others, Argument, written_out, Term, Plain, Item, bracket, no_rows, no_others, declaration, escapes, macro, routine, grouping, plain, backward}
 use Rattle.sbl_tree.specs.declared.mode.Mode.{Mode}
 use Rattle.sbl_tree.specs.declared.mode.Mode.TheVariants.{Forward, Backward}
-use Rattle.sbl_numbering.specs.Items.{place_of, names_by, known_in, Grouping, and_grouping, classes_behind, Body, body_or, body_named}
+use Rattle.sbl_numbering.specs.Items.{Known, is_among, place_of, names_by, known_in, Body, body_or, body_named}
 use Rattle.sbl_numbering.specs.Regions.{behind}
-use Rattle.sbl_machine.specs.Holes.{with_holes, others_with_holes, holed_plain, holed_item, holed_script}
-use Rattle.sbl_machine.specs.Touched.{Item', Routine, Among, routine_names}
+use Rattle.sbl_machine.specs.BuiltFrom.{IsClosed, IsClosedAt}
+use Rattle.sbl_machine.specs.Holes.{nothing, with_holes, others_with_holes, holed_plain, holed_item, holed_script}
+use Rattle.sbl_machine.specs.Touched.{Item', Routine, Among, Grouping, names_of}
 use Rattle.sbl_script.specs.Parsed.{Source}
 
 module _ (picked : Item' → Bool) where
@@ -32,18 +35,11 @@ module _ (picked : Item' → Bool) where
   order_holed (plain x ∷ is) = ap (λ (l : List ItemInMode). holed_in_mode (record { mode = Forward; plain = x }) ∷ l) (order_holed is)
   order_holed (backward xs ∷ is) = ap (λ (l : List ItemInMode). in_mode Backward (map (holed_plain picked) xs) ++ l) (order_holed is) ∙ mode_holed Backward xs (in_order is)
 
-  -- ---- what does not look at a routine's body
+  -- ---- names
 
-  either_body : {A : Type 0} (f : Plain → A) (n : List ℕ) (c c' : Command) (os os' : Others) (b : Bool) (y : A) → f (routine n c os) ≡ y → f (routine n c' os') ≡ y → f (if b then routine n c os else routine n c' os') ≡ y
-  either_body f n c c' os os' true y p q = p
-  either_body f n c c' os os' false y p q = q
-
-  plain_same : {A : Type 0} (f : Plain → A) → ((n : List ℕ) (c c' : Command) (os os' : Others) → f (routine n c os) ≡ f (routine n c' os')) → (x : Plain) → f (holed_plain picked x) ≡ f x
-  plain_same f h (routine n c os) = either_body f n _ _ _ _ (picked (Routine n)) (f (routine n c os)) (h n _ c _ os) (h n _ c _ os)
-  plain_same f h (declaration k xs) = refl
-  plain_same f h (escapes a b) = refl
-  plain_same f h (macro n b q) = refl
-  plain_same f h (grouping n a ts) = refl
+  either_way : {A : Type 0} (b : Bool) (f : Plain → A) (x y : Plain) (z : A) → f x ≡ z → f y ≡ z → f (if b then x else y) ≡ z
+  either_way true f x y z p q = p
+  either_way false f x y z p q = q
 
   routine_by : (k : DeclarationKind) (n : List ℕ) (c c' : Command) (os os' : Others) → names_by k (routine n c os) ≡ names_by k (routine n c' os')
   routine_by kinds.Strings n c c' os os' = refl
@@ -53,20 +49,68 @@ module _ (picked : Item' → Bool) where
   routine_by kinds.Externals n c c' os os' = refl
   routine_by kinds.Groupings n c c' os os' = refl
 
+  grouping_by : (k : DeclarationKind) (n : List ℕ) (a a' : Argument) (ts ts' : List Term) → names_by k (grouping n a ts) ≡ names_by k (grouping n a' ts')
+  grouping_by kinds.Strings n a a' ts ts' = refl
+  grouping_by kinds.Integers n a a' ts ts' = refl
+  grouping_by kinds.Booleans n a a' ts ts' = refl
+  grouping_by kinds.Routines n a a' ts ts' = refl
+  grouping_by kinds.Externals n a a' ts ts' = refl
+  grouping_by kinds.Groupings n a a' ts ts' = refl
+
+  plain_names : (k : DeclarationKind) (x : Plain) → names_by k (holed_plain picked x) ≡ names_by k x
+  plain_names k (routine n c os) = either_way (picked (Routine n)) (names_by k) _ _ (names_by k (routine n c os)) (routine_by k n _ c _ os) (routine_by k n _ c _ os)
+  plain_names k (grouping n a ts) = either_way (picked (Grouping n)) (names_by k) _ _ (names_by k (grouping n a ts)) (grouping_by k n _ a _ ts) refl
+  plain_names k (declaration x xs) = refl
+  plain_names k (escapes a b) = refl
+  plain_names k (macro n b q) = refl
+
   names_by_kind : (xs : List ItemInMode) (k : DeclarationKind) → known_in (holed_items xs) k ≡ known_in xs k
   names_by_kind [] k = refl
-  names_by_kind (x ∷ xs) k = ap (λ l. names_by k (holed_plain picked x.plain) ++ l) (names_by_kind xs k) ∙ ap (λ l. l ++ known_in xs k) (plain_same (names_by k) (routine_by k) x.plain)
+  names_by_kind (x ∷ xs) k = ap (λ l. names_by k (holed_plain picked x.plain) ++ l) (names_by_kind xs k) ∙ ap (λ l. l ++ known_in xs k) (plain_names k x.plain)
 
   pub known_same : (xs : List ItemInMode) → known_in (holed_items xs) ≡ known_in xs
   known_same xs = fun_ext (names_by_kind xs)
 
-  pub classes_same : (xs : List ItemInMode) (gs : List Grouping) → classes_behind (holed_items xs) gs ≡ classes_behind xs gs
-  classes_same [] gs = refl
-  classes_same (x ∷ xs) gs =
-      ap (classes_behind (holed_items xs)) (plain_same (λ p. and_grouping p gs) (λ n c c' os os'. refl) x.plain) ∙ classes_same xs (and_grouping x.plain gs)
+  pub names_same : (s : Source) → names_of (holed_script picked s) ≡ names_of s
+  names_same s =
+      ap (λ (known : Known). record { routines = known kinds.Routines; groupings = known kinds.Groupings })
+      (ap known_in (order_holed s.items) ∙ known_same (in_order s.items))
 
-  pub names_same : (s : Source) → routine_names (holed_script picked s) ≡ routine_names s
-  names_same s = ap (λ is. known_in is kinds.Routines) (order_holed s.items) ∙ names_by_kind (in_order s.items) kinds.Routines
+  -- ---- what is closed
+
+  routine_closed : (n : List ℕ) (c c' : Command) (os os' : Others) (b : Bool) → IsClosedAt picked (if b then routine n c os else routine n c' os')
+  routine_closed n c c' os os' true = tt
+  routine_closed n c c' os os' false = tt
+
+  grouping_closed : (n : List ℕ) (a : Argument) (ts : List Term) (b : Bool) → picked (Grouping n) ≡ b
+      → IsClosedAt picked (if b then grouping n (written_out nothing) [] else grouping n a ts) ↔ IsClosedAt picked (grouping n a ts)
+  grouping_closed n a ts true c = (λ h e. c, λ h e. c)
+  grouping_closed n a ts false c = (λ h. h, λ h. h)
+
+  -- an item and the same with holes
+  closed_plain : (x : Plain) → IsClosedAt picked (holed_plain picked x) ↔ IsClosedAt picked x
+  closed_plain (routine n c os) = (λ h. tt, λ h. routine_closed n _ _ _ _ (picked (Routine n)))
+  closed_plain (grouping n a ts) = grouping_closed n a ts (picked (Grouping n)) refl
+  closed_plain (declaration x xs) = (λ h. tt, λ h. tt)
+  closed_plain (escapes a b) = (λ h. tt, λ h. tt)
+  closed_plain (macro n b q) = (λ h. tt, λ h. tt)
+
+  abbrev AreClosed : List ItemInMode → Type 0
+  AreClosed xs = AllByRecursion (λ x. IsClosedAt picked x.plain) xs
+
+  items_closed : (xs : List ItemInMode) → AreClosed (holed_items xs) ↔ AreClosed xs
+  items_closed [] = (λ h. tt, λ h. tt)
+  items_closed (x ∷ xs) =
+      let one = closed_plain x.plain in
+      let rest = items_closed xs in
+      (λ h. (one.0 h.0, rest.0 h.1), λ h. (one.1 h.0, rest.1 h.1))
+
+  -- a script and the same with holes
+  pub closed_holed : (s : Source) → IsClosed picked s → IsClosed picked (holed_script picked s)
+  closed_holed s h = subst AreClosed (sym (order_holed s.items)) ((items_closed (in_order s.items)).1 h)
+
+  pub closed_of_holed : (s : Source) → IsClosed picked (holed_script picked s) → IsClosed picked s
+  closed_of_holed s h = (items_closed (in_order s.items)).0 (subst AreClosed (order_holed s.items) h)
 
   -- ---- bodies
 
@@ -100,7 +144,7 @@ module _ (picked : Item' → Bool) where
   item_body m (declaration k xs) n rest = refl
   item_body m (escapes a b) n rest = refl
   item_body m (macro y b q) n rest = refl
-  item_body m (grouping y a ts) n rest = refl
+  item_body m (grouping y a ts) n rest = either_way (picked (Grouping y)) (λ x. body_or m x n (option_map (holed_body n) rest)) _ _ (option_map (holed_body n) rest) refl refl
 
   pub bodies_holed : (xs : List ItemInMode) (n : List ℕ) → body_named (holed_items xs) n ≡ option_map (holed_body n) (body_named xs n)
   bodies_holed [] n = refl
@@ -128,3 +172,12 @@ stands_item m (grouping z a ts) n xs h y is = h y is
 pub name_stands : (xs : List ItemInMode) (n : List ℕ) (b : Body) → body_named xs n ≡ Some b → slice_index_or (known_in xs kinds.Routines) (place_of (known_in xs kinds.Routines) n) [] ≡ n
 name_stands [] n b is = let never : None ≡ Some b = is in absurd cc
 name_stands (x ∷ xs) n b is = stands_item x.mode x.plain n xs (name_stands xs n) b is
+
+-- a name that is one of some is at its place among them
+pub place_names : (xs : List (List ℕ)) (n : List ℕ) → is_among xs n ≡ true → slice_index_or xs (place_of xs n) [] ≡ n
+place_names [] n h = absurd (true≢false (sym h))
+place_names (x ∷ xs) n h = at (bytes_eq x n) refl h (place_names xs n)
+  where
+    at : (b : Bool) → bytes_eq x n ≡ b → (if b then true else is_among xs n) ≡ true → (is_among xs n ≡ true → slice_index_or xs (place_of xs n) [] ≡ n) → slice_index_or (x ∷ xs) (if b then 0 else suc (place_of xs n)) [] ≡ n
+    at true e k rest = (bytes_eq-Decides x n).0 e
+    at false e k rest = rest k

@@ -23,8 +23,13 @@ inserted_by cmp same (x ∷ xs) k =
 same_order : (x y : Item) → cmp-value.it x y ≡ item_cmp (item_of x) (item_of y)
 same_order (code.Routine m) (code.Routine n) = refl
 same_order (code.Routine m) (code.Among n l) = refl
+same_order (code.Routine m) (code.Grouping n) = refl
 same_order (code.Among m k) (code.Routine n) = refl
 same_order (code.Among m k) (code.Among n l) = refl
+same_order (code.Among m k) (code.Grouping n) = refl
+same_order (code.Grouping m) (code.Routine n) = refl
+same_order (code.Grouping m) (code.Among n l) = refl
+same_order (code.Grouping m) (code.Grouping n) = refl
 
 pub inserted : (ks : List Item) (k : Item) → map item_of (insert_key cmp-value.it ks k) ≡ insert_key item_cmp (map item_of ks) (item_of k)
 inserted = inserted_by cmp-value.it same_order

@@ -25,7 +25,7 @@ use Rattle.sbl_numbering.specs.Ahead.{search_next, search_of, found_as, search_t
 use Rattle.sbl_numbering.specs.Items.{Known, place_of, is_among}
 use Rattle.sbl_machine.specs.Meaning.{prefixed_does, counted_does, joined_does, limited_does, simple_does, moved_does, named_does, edited_does, assigned_does, compared_does, begins, worth}
 use Rattle.sbl_machine.specs.Meaning as meaning
-use Rattle.sbl_run.specs.Moves.{characters, one_of, match, set_mark, set_boolean, test_boolean}
+use Rattle.sbl_run.specs.Moves.{characters, one_of, touch_grouping, match, set_mark, set_boolean, test_boolean}
 use Rattle.sbl_numbering.specs.Numbered.{name_alone, behind_prefix, behind_count, move, change_named, edit, change_of, relation_of}
 use Rattle.sbl_program.specs.Grouped.{join}
 use Rattle.sbl_numbering.specs.NumberedNames.{Names, is_one_of, number_of}
@@ -75,8 +75,10 @@ module _ (ns : Names) (known : Known) (agree : Agree ns known) (classes : List (
   one_kind : (xs ys : List (List ℕ)) (n : List ℕ) → xs ≡ ys → is_one_of xs n ≡ is_among ys n
   one_kind xs ys n e = among_is xs n ∙ ap (λ zs. is_among zs n) e
 
-  grouping_same : (w : Bool) (n : List ℕ) (m : Mode) (s : State) → one_of w (class_at classes (number_of ns.groupings n)) m s ≡ one_of w (class n) m s
-  grouping_same w n m s = ap (λ c. one_of w c m s) (fun_ext (same_class n))
+  grouping_same : (w : Bool) (n : List ℕ) (m : Mode) (s : State) → one_of w (class_at classes (number_of ns.groupings n)) m (touch_grouping (number_of ns.groupings n) s) ≡ meaning.tests known class w n m s
+  grouping_same w n m s =
+      ap (λ c. one_of w c m (touch_grouping (number_of ns.groupings n) s)) (fun_ext (same_class n))
+      ∙ ap (λ g. one_of w (class n) m (touch_grouping g s)) (placed_by _ _ n agree.groupings)
 
   name_same : (n : List ℕ) (m : Mode) (s : State) → run.act classes call (name_alone ns n) m s ≡ meaning.name_does known class call' n m s
   name_same n m s =

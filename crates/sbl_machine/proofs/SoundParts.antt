@@ -38,7 +38,7 @@ use Rattle.sbl_numbering.specs.NumberedNumbers.{text, constant, expression, sums
 use Rattle.sbl_run.specs.Numbers.{Value, value, fitted, with_value, changed, holds, integer_at}
 use Rattle.sbl_program.specs.Program as programs
 use Rattle.sbl_numbering.specs.Regions.{Among}
-use Rattle.sbl_run.specs.Search.{bound_in, choose, condition_does, try_one, tries, searched, search_all, touch_among}
+use Rattle.sbl_run.specs.Search.{bound_in, condition_does, take_string, try_one, tries, searched, search_all, touch_among}
 use Rattle.sbl_run.specs.State.{State, bound_of, Ending, Signals, Doing, after, saved_cursor, place_after, then_on, pay}
 use Rattle.sbl_numbering.proofs.SoundItems.{less_suc, placed_by}
 use Rattle.sbl_tree.specs.declared.mode.Mode.{Mode}
@@ -211,7 +211,7 @@ module _ (ns : Names) (known : Known) (agree : Agree ns known) where
     take_same : (k : ℕ) (o : Offer) (m : Mode) (from s : State) (next next' : State → Ending) → next ≡ next' → try_one call k (Some (entry_by o)) m from s next ≡ meaning.takes call' k (Some o) m from s next'
     unfolding entry_by
     take_same k o m from s next next' h =
-        ap (λ (c : Doing). then_on (place_after m (saved_cursor from) (length o.string) s) (λ a. after (c m a) (λ b. then_on (place_after m (saved_cursor from) (length o.string) b) (λ d. Signals true (choose k (Some o.group) d))) next)) (condition_same o.condition)
+        ap (λ (c : Doing). then_on (place_after m (saved_cursor from) (length o.string) s) (λ a. after (c m a) (λ b. then_on (place_after m (saved_cursor from) (length o.string) b) (λ d. Signals true (take_string k (length o.string) o.group d))) next)) (condition_same o.condition)
         ∙ ap (meaning.takes call' k (Some o) m from s) h
 
     onto_same : (t : Bool) (i : ℕ) (o : Option Offer) (is : List ℕ) (k : ℕ) (os : List Offer) (m : Mode) (from s : State) (next : State → Ending) → slice_get os i ≡ o → t ≡ there o → tries call k (map entry_by os) m from is ≡ next → tries call k (map entry_by os) m from (onto (cond t (Some i) None) is) s ≡ meaning.takes call' k o m from s next

@@ -13,7 +13,7 @@ use Rattle.sbl_program.specs.Program as programs
 use Rattle.sbl_numbering.specs.Regions.{behind, behind_others}
 use Rattle.sbl_run.specs.Run as run
 use Rattle.sbl_run.specs.Run.{enter, leave, paid, does}
-use Rattle.sbl_run.specs.State.{State, Doing}
+use Rattle.sbl_run.specs.State.{State, Ending, Doing}
 use Rattle.sbl_machine.proofs.SoundActs.{row_sound}
 use Rattle.sbl_numbering.proofs.SoundItems.{strings_are, integers_are, booleans_are, groupings_are, routines_are, placed_by, as_made}
 use Rattle.sbl_machine.proofs.SoundParts.{Agree}
@@ -21,6 +21,10 @@ use Rattle.sbl_numbering.proofs.Own.{class_same, routine_same}
 use Rattle.sbl_script.specs.Parsed.{Source}
 use Rattle.sbl_tree.specs.declared.mode.Mode.{Mode}
 use Rattle.sbl_tree.specs.declared.mode.Mode.TheVariants.{Forward}
+
+-- a run of a program that tells what it does
+abbrev pub telling_of : programs.Program → List ℕ → ℕ → Ending
+telling_of p word limit = run.calls p 32 p.external Forward (record (start p word limit) { told = Some [] })
 
 module _ (items : List ItemInMode) (external : List ℕ) where
   abbrev ns : Names
@@ -74,9 +78,19 @@ module _ (items : List ItemInMode) (external : List ℕ) where
       ∙ ap (λ l. started (known kinds.Integers) l ns.strings word limit) agree.booleans
       ∙ ap (λ l. started (known kinds.Integers) (known kinds.Booleans) l word limit) agree.strings
 
+  told_by_items : (word : List ℕ) (limit : ℕ) → telling_of program word limit ≡ meaning.calls known class (body_named items) 32 external Forward (record (meaning.start known word limit) { told = Some [] })
+  told_by_items word limit =
+      let begun : State = record (start program word limit) { told = Some [] } in
+      calls_same 32 external Forward begun
+      ∙ ap (λ (s : State). meaning.calls known class (body_named items) 32 external Forward (record s { told = Some [] })) (start_same word limit)
+
   by_items : (word : List ℕ) (limit : ℕ) → ending_of program word limit ≡ meaning.calls known class (body_named items) 32 external Forward (meaning.start known word limit)
   by_items word limit = calls_same 32 external Forward (start program word limit) ∙ ap (meaning.calls known class (body_named items) 32 external Forward) (start_same word limit)
 
 pub ending_same : (script : Source) (word : List ℕ) (limit : ℕ) → ending_of (numbered_script script) word limit ≡ meaning.ending script word limit
 unfolding numbered_items meaning.ending
 ending_same script word limit = by_items (in_order script.items) script.external word limit
+
+pub telling_same : (script : Source) (word : List ℕ) (limit : ℕ) → telling_of (numbered_script script) word limit ≡ meaning.telling script word limit
+unfolding numbered_items meaning.telling
+telling_same script word limit = told_by_items (in_order script.items) script.external word limit

@@ -1,5 +1,5 @@
 -- What is done with more steps left: the same, unless it ended for want of them.
-use Rattle.std.proofs.Common.{◌≡◌, ℕ, zero, suc, ◌+◌, ◌-◌, ◌<◌, ◌≤◌, Bool, true, false, Ok, Err, refl, sym, ap, subst, arith}
+use Rattle.std.proofs.Common.{◌≡◌, ℕ, zero, suc, ◌+◌, ◌-◌, ◌<◌, ◌≤◌, Bool, true, false, Ok, Err, None, refl, sym, ap, subst, arith}
 use Rattle.std.specs.Prelude.{ℤ, length, nat_le, nat_lt, if◌then◌else◌}
 use Rattle.sbl_run.specs.declared.fault.RunFault.{RunFault}
 use Rattle.sbl_run.specs.declared.fault.RunFault.TheVariants as faults
@@ -11,9 +11,9 @@ use Rattle.sbl_run.specs.State.{State, Ending, Signals, Stops, Doing, after, the
 use Rattle.sbl_tree.specs.declared.mode.Mode.{Mode}
 use Rattle.sbl_tree.specs.declared.mode.Mode.TheVariants.{Forward, Backward}
 
--- a state with k steps more
+-- a state with k steps more, whose run is not asked what it does
 abbrev pub more : ℕ → State → State
-more k s = record s { steps = s.steps + k }
+more k s = record s { steps = s.steps + k; told = None }
 
 -- fewer than n steps are left, unless it ended for want of them
 abbrev pub Within : ℕ → Ending → Type 0

@@ -31,7 +31,7 @@ use Rattle.sbl_machine.specs.Meaning.{Offer, prefixed_does, counted_does, joined
 use Rattle.sbl_run.specs.Moves.{match, next_is, one_of, hop, at_mark, to_mark}
 use Rattle.sbl_run.specs.Numbers.{Value, fitted, natural, with_value, integer_at}
 use Rattle.sbl_run.specs.Run.{turns, times, count_of, limits, limited, limit_here, limit_back, backwards_from, backwards_end, chosen, paid}
-use Rattle.sbl_run.specs.Search.{choose, touch_among}
+use Rattle.sbl_run.specs.Search.{take_string, touch_among}
 use Rattle.sbl_run.specs.Slices.{is_slice, replaced, replace, keep, inserted, put_in}
 use Rattle.sbl_run.specs.State.{State, bound_of, Ending, Signals, Stops, Doing, ahead, after, then_on, room, saved_cursor, place_after, put_back}
 use Rattle.sbl_machine.proofs.Steps.{more, Goes, Steady, Pays, signals_go, steady_goes, then_goes, if_goes, given_goes, pays_go, paid_go, at_place_go, to_limit_go, put_back_go, place_after_go, next_go, turns_goes, times_go, seeks_goes}
@@ -226,10 +226,10 @@ module _ (call : List ℕ → Doing) (go : (x : List ℕ) (m : Mode) → Steady 
   take_go i (Some o) m from next h k n s l =
       let to = place_after m (saved_cursor from) (length o.string) in
       let to_go = place_after_go m (saved_cursor from) (length o.string) in
-      let taken : State → Ending = λ b. then_on (to b) (λ c. Signals true (choose i (Some o.group) c)) in
+      let taken : State → Ending = λ b. then_on (to b) (λ c. Signals true (take_string i (length o.string) o.group c)) in
       then_goes k n (to s) (to (more k s)) (λ a. after (meaning.condition_does call o.condition m a) taken next) (to_go k n s l)
       (λ k n a j. steady_goes k n (meaning.condition_does call o.condition m a) (meaning.condition_does call o.condition m (more k a)) taken next (condition_go o.condition m k n a j)
-      (λ k n b p. then_goes k n (to b) (to (more k b)) (λ c. Signals true (choose i (Some o.group) c)) (to_go k n b p) (λ k n c q. (q, refl)))
+      (λ k n b p. then_goes k n (to b) (to (more k b)) (λ c. Signals true (take_string i (length o.string) o.group c)) (to_go k n b p) (λ k n c q. (q, refl)))
       h)
 
   tried_go : (i : ℕ) (os : List Offer) (r m : Mode) (from : State) (x : List ℕ) (l : ℕ) → Steady (tried call i os r m from x l)

@@ -1,9 +1,9 @@
 -- Where a limit is enough, each limit of at least the steps that were used is.
 use Rattle.std.proofs.Common.{◌≡◌, ◌⊎◌, inl, inr, ℕ, zero, suc, ◌+◌, ◌-◌, ◌<◌, ◌≤◌, List, [], refl, sym, ap, subst, ◌∙◌, arith}
 use Rattle.sbl_run.specs.declared.fault.RunFault.TheVariants as faults
-use Rattle.sbl_machine.specs.EnoughSteps.{RefusedForSteps, UsedStepsSuffice}
+use Rattle.sbl_machine.specs.EnoughSteps.{RefusedForSteps, UsedStepsSuffice, UsedStepsTouch}
 use Rattle.sbl_machine.specs.Meaning as meaning
-use Rattle.sbl_machine.specs.Outcome.{Refused, outcome_at, used_at, run_of, used_of}
+use Rattle.sbl_machine.specs.Outcome.{Refused, outcome_at, touched_at, used_at, run_of, touches_of, used_of}
 use Rattle.sbl_run.specs.State.{State, Ending, Signals, Stops}
 use Rattle.sbl_machine.proofs.Steps.{Within, Goes}
 use Rattle.sbl_machine.proofs.StepsRuns.{calls_go}
@@ -12,20 +12,20 @@ use Rattle.sbl_script.specs.Parsed.{Source}
 use Rattle.sbl_tree.specs.Order.{in_order}
 use Rattle.sbl_tree.specs.declared.mode.Mode.TheVariants.{Forward}
 
--- two endings, of runs with these limits, give the same for as many steps
+-- two endings, of runs with these limits, give the same for as many steps, and touch the same
 abbrev Alike : ℕ → ℕ → Ending → Ending → Type 0
-Alike l r e f = (outcome_at e ≡ outcome_at f) × (used_at l e ≡ used_at r f)
+Alike l r e f = (outcome_at e ≡ outcome_at f) × (used_at l e ≡ used_at r f) × (touched_at e ≡ touched_at f)
 
 turned : (l r : ℕ) (e f : Ending) → Alike l r e f → Alike r l f e
-turned l r e f h = (sym h.0, sym h.1)
+turned l r e f h = (sym h.0, sym h.1, sym h.2)
 
 counted : (l k : ℕ) (s : State) → (l + k) - (s.steps + k) ≡ l - s.steps
 counted l k s = omega arith
 
 higher : (k l : ℕ) (e e' : Ending) → Goes k (suc l) e e' → used_at l e ≤ l → Alike (l + k) l e' e
-higher k l (Signals b s) e' h u = (ap outcome_at h.1, ap (used_at (l + k)) h.1 ∙ counted l k s)
+higher k l (Signals b s) e' h u = (ap outcome_at h.1, ap (used_at (l + k)) h.1 ∙ counted l k s, ap touched_at h.1)
 higher k l (Stops faults.Steps s) e' h u = absurd (omega (arith, u))
-higher k l (Stops fault s) e' h u = (ap outcome_at h.1, ap (used_at (l + k)) h.1 ∙ counted l k s)
+higher k l (Stops fault s) e' h u = (ap outcome_at h.1, ap (used_at (l + k)) h.1 ∙ counted l k s, ap touched_at h.1)
 
 too_many : (k l : ℕ) (e : Ending) → Within k e → used_at (l + k) e ≤ l → ⊥
 too_many k l (Signals b s) h u = omega (arith, h, u)
@@ -33,9 +33,9 @@ too_many k l (Stops faults.Steps s) h u = omega (arith, u)
 too_many k l (Stops fault s) h u = omega (arith, h, u)
 
 lower : (k l : ℕ) (e e' : Ending) → Goes k (suc l) e e' → used_at (l + k) e' ≤ l → Alike l (l + k) e e'
-lower k l (Signals b s) e' h u = turned (l + k) l e' (Signals b s) (ap outcome_at h.1, ap (used_at (l + k)) h.1 ∙ counted l k s)
+lower k l (Signals b s) e' h u = turned (l + k) l e' (Signals b s) (ap outcome_at h.1, ap (used_at (l + k)) h.1 ∙ counted l k s, ap touched_at h.1)
 lower k l (Stops faults.Steps s) e' h u = absurd (too_many k l e' h u)
-lower k l (Stops fault s) e' h u = (sym (ap outcome_at h.1), sym (ap (used_at (l + k)) h.1 ∙ counted l k s))
+lower k l (Stops fault s) e' h u = (sym (ap outcome_at h.1), sym (ap (used_at (l + k)) h.1 ∙ counted l k s), sym (ap touched_at h.1))
 
 ending_goes : (script : Source) (word : List ℕ) (limit k : ℕ) → Goes k (suc limit) (meaning.ending script word limit) (meaning.ending script word (limit + k))
 unfolding meaning.ending
@@ -53,9 +53,11 @@ apart (suc a) (suc b) = at (apart a b)
     at (inl p) = inl (p.0, omega (arith, p.1))
     at (inr p) = inr (p.0, omega (arith, p.1))
 
-pub used_suffice : UsedStepsSuffice
-unfolding run_of used_of
-used_suffice script word limit other enough below = at (apart limit other)
+-- the endings at two limits, of which each is at least the steps that were used
+both_limits : (script : Source) (word : List ℕ) (limit other : ℕ) →
+    let e : ℕ → Ending = meaning.ending script word in
+    used_at limit (e limit) ≤ limit → used_at limit (e limit) ≤ other → Alike other limit (e other) (e limit)
+both_limits script word limit other enough below = at (apart limit other)
   where
     e : ℕ → Ending
     e l = meaning.ending script word l
@@ -64,6 +66,14 @@ used_suffice script word limit other enough below = at (apart limit other)
     at (inl p) = subst (λ o. Alike o limit (e o) (e limit)) p.1 (higher p.0 limit (e limit) (e (limit + p.0)) (ending_goes script word limit p.0) enough)
     at (inr p) =
         subst (λ l. used_at l (e l) ≤ other → Alike other l (e other) (e l)) p.1 (lower p.0 other (e other) (e (other + p.0)) (ending_goes script word other p.0)) below
+
+pub used_suffice : UsedStepsSuffice
+unfolding run_of used_of
+used_suffice script word limit other below above = let h = both_limits script word limit other below above in (h.0, h.1)
+
+pub used_touch : UsedStepsTouch
+unfolding used_of touches_of
+used_touch script word limit other below above = (both_limits script word limit other below above).2
 
 -- ---- refused for its steps
 

@@ -8,6 +8,7 @@ use Rattle.sbl_numbering.specs.Items.{Known, Body, place_of, is_among}
 use Rattle.sbl_numbering.specs.Regions.{Among, among_at, behind, behind_rows, behind_others, behind_starter, first, first_rows, first_others, mode_behind, waits, waits_others}
 use Rattle.sbl_machine.specs.Meaning as meaning
 use Rattle.sbl_machine.specs.Meaning.{begins, joined_does, search}
+use Rattle.sbl_run.specs.Moves.{touch_grouping}
 use Rattle.sbl_run.specs.Numbers.{integer_at}
 use Rattle.sbl_run.specs.Run.{chosen, back_in, enter, paid}
 use Rattle.sbl_run.specs.Search.{choice}
@@ -21,11 +22,14 @@ module _ (ns : Known) (class : List ℕ → ℕ → Bool) (call : List ℕ → D
   ahead_go None m = signals_go false
   ahead_go (Some a) m = search_go call go a m
 
+  tests_go : (wanted : Bool) (x : List ℕ) (m : Mode) → Steady (meaning.tests ns class wanted x m)
+  tests_go wanted x m k n s l = class_go wanted (class x) m k n (touch_grouping (place_of (ns kinds.Groupings) x) s) l
+
   name_go : (x : List ℕ) (m : Mode) → Steady (meaning.name_does ns class call x m)
   name_go x m k n s l =
       if_goes k n (is_among (ns kinds.Strings) x) _ _ _ _ (match_go (slice_index_or s.strings (place_of (ns kinds.Strings) x) []) m k n s l)
       (if_goes k n (is_among (ns kinds.Booleans) x) _ _ _ _ (l, refl)
-      (if_goes k n (is_among (ns kinds.Groupings) x) _ _ _ _ (class_go true (class x) m k n s l) (go x m k n s l)))
+      (if_goes k n (is_among (ns kinds.Groupings) x) _ _ _ _ (tests_go true x m k n s l) (go x m k n s l)))
 
   abbrev does : Mode → ℕ → Bool → Option Among → trees.Command → Doing
   does = meaning.act ns class call
@@ -39,7 +43,7 @@ module _ (ns : Known) (class : List ℕ → ℕ → Bool) (call : List ℕ → D
     act_go (simple_ y) r i w x m k n s l = simple_go (meaning.search_ahead ns class call x) (ahead_go x) y m k n s l
     act_go (literal_ q) r i w x m k n s l = match_go q.value m k n s l
     act_go (name_ y) r i w x m k n s l = name_go y m k n s l
-    act_go (non_ b y) r i w x m k n s l = class_go false (class y) m k n s l
+    act_go (non_ b y) r i w x m k n s l = tests_go false y m k n s l
     act_go (prefixed y c) r i w x m k n s l = prefixed_go y (paid (does (mode_behind y r) i w x c)) (paid_pays (does (mode_behind y r) i w x c) (act_go c (mode_behind y r) i w x)) m k n s l
     act_go (counted y e c) r i w x m k n s l = counted_goes y (paid (does r i w x c)) (paid_pays (does r i w x c) (act_go c r i w x)) m k n s _ _ (worth_more ns m k s e) l
     act_go (move_ y e) r i w x m k n s l = moved_goes y k n m s _ _ (worth_more ns m k s e) l
@@ -91,7 +95,7 @@ module _ (ns : Known) (class : List ℕ → ℕ → Bool) (call : List ℕ → D
   body_go x (Some b) m k n s l =
       let d = paid (meaning.row_does ns class call b.mode b.first b.others) m in
       let begun = enter (place_of (ns kinds.Routines) x) (behind_others b.others (behind b.first 0)) s in
-      steady_goes k n (d begun) (d (more k begun)) (λ t. Signals true (back_in s.routine s.choices t)) (λ t. Signals false (back_in s.routine s.choices t))
+      steady_goes k n (d begun) (d (more k begun)) (λ t. Signals true (back_in s.routine s.choices true t)) (λ t. Signals false (back_in s.routine s.choices false t))
       (pays_go (paid (meaning.row_does ns class call b.mode b.first b.others)) (paid_pays (meaning.row_does ns class call b.mode b.first b.others) (row_go b.mode b.first b.others)) m k n begun l)
       (λ k n t j. (j, refl)) (λ k n t j. (j, refl))
 

@@ -7,7 +7,7 @@ use Rattle.std.specs.Ordering.{match_ordering, nat_cmp, ordering_then}
 use Rattle.std.specs.Cmp.Lexicographic.{slice_cmp}
 use Rattle.std.specs.BTreeSet.{insert_key}
 use Rattle.std.proofs.lemmas.Map.Lookups.{exact_bytes, exact_unsigned}
-use Rattle.sbl_machine.specs.Touched.{Item', Routine, Among, item_cmp, ordered}
+use Rattle.sbl_machine.specs.Touched.{Item', Routine, Among, Grouping, item_cmp, ordered}
 
 then_equal : (o p : Ordering) → ordering_then o p ≡ Equal → (o ≡ Equal) × (p ≡ Equal)
 then_equal Less p h = let never : Less ≡ Equal = h in absurd cc
@@ -18,7 +18,12 @@ then_equal Greater p h = let never : Greater ≡ Equal = h in absurd cc
 pub item_exact : (x y : Item') → item_cmp x y ≡ Equal → x ≡ y
 item_exact (Routine m) (Routine n) h = ap Routine (exact_bytes m n h)
 item_exact (Routine m) (Among n l) h = let never : Less ≡ Equal = h in absurd cc
+item_exact (Routine m) (Grouping n) h = let never : Less ≡ Equal = h in absurd cc
 item_exact (Among m k) (Routine n) h = let never : Greater ≡ Equal = h in absurd cc
+item_exact (Among m k) (Grouping n) h = let never : Less ≡ Equal = h in absurd cc
+item_exact (Grouping m) (Routine n) h = let never : Greater ≡ Equal = h in absurd cc
+item_exact (Grouping m) (Among n l) h = let never : Greater ≡ Equal = h in absurd cc
+item_exact (Grouping m) (Grouping n) h = ap Grouping (exact_bytes m n h)
 item_exact (Among m k) (Among n l) h =
     let both = then_equal (slice_cmp nat_cmp m n) (nat_cmp k l) h in
     ap (λ x. Among x k) (exact_bytes m n both.0) ∙ ap (Among n) (exact_unsigned k l both.1)

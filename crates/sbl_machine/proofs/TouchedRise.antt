@@ -12,21 +12,24 @@ use Rattle.std.proofs.Math.Path.{fun_ext}
 use Rattle.std.proofs.lemmas.Cmp.{nat_cmp_total, nat_list_cmp_total, on_total, then_total}
 use Rattle.sbl_machine.specs.Frame.{TouchedRise}
 use Rattle.sbl_machine.specs.Outcome.{touches_of}
-use Rattle.sbl_machine.specs.Touched.{Item', Routine, Among, item_cmp, named, ordered, routine_names, touched_of}
+use Rattle.sbl_machine.specs.Touched.{Item', Routine, Among, Grouping, item_cmp, named, ordered, names_of, touched_of}
 
 -- ---- the order of items is that of their kinds, then of their names, then of their numbers
 
 kind_of : Item' → ℕ
 kind_of (Routine n) = 0
 kind_of (Among n k) = 1
+kind_of (Grouping n) = 2
 
 name_of : Item' → List ℕ
 name_of (Routine n) = n
 name_of (Among n k) = n
+name_of (Grouping n) = n
 
 number_of : Item' → ℕ
 number_of (Routine n) = 0
 number_of (Among n k) = k
+number_of (Grouping n) = 0
 
 abbrev by_parts : Item' → Item' → Ordering
 by_parts = then_cmp (on kind_of nat_cmp) (then_cmp (on name_of (slice_cmp nat_cmp)) (on number_of nat_cmp))
@@ -40,8 +43,13 @@ parts : (x y : Item') → by_parts x y ≡ item_cmp x y
 unfolding kind_of name_of number_of
 parts (Routine m) (Routine n) = then_same (slice_cmp nat_cmp m n)
 parts (Routine m) (Among n l) = refl
+parts (Routine m) (Grouping n) = refl
 parts (Among m k) (Routine n) = refl
 parts (Among m k) (Among n l) = refl
+parts (Among m k) (Grouping n) = refl
+parts (Grouping m) (Routine n) = refl
+parts (Grouping m) (Among n l) = refl
+parts (Grouping m) (Grouping n) = then_same (slice_cmp nat_cmp m n)
 
 item_total : IsTotalOrder item_cmp
 item_total =
@@ -86,4 +94,4 @@ ordered_rises (x ∷ xs) = rises_inserted (ordered xs) x (ordered_rises xs)
 
 pub touched_rise : TouchedRise
 unfolding touched_of
-touched_rise script word limit = ordered_rises (map (named (routine_names script)) (touches_of script word limit))
+touched_rise script word limit = ordered_rises (map (named (names_of script)) (touches_of script word limit))

@@ -4,7 +4,7 @@ use Rattle.std.specs.Prelude.{nat_eq, if◌then◌else◌, ◌&&◌, slice_index
 use Rattle.std.specs.List.{list_any}
 use Rattle.std.proofs.lemmas.Bool.{true≢false, or_cases, or_left, or_right, eqb-true}
 use Rattle.sbl_run.specs.declared.touch.Touch.{Touch}
-use Rattle.sbl_run.specs.declared.touch.Touch.TheVariants.{Entered, Searched}
+use Rattle.sbl_run.specs.declared.touch.Touch.TheVariants.{Entered, Searched, Tested}
 use Rattle.sbl_run.specs.Touches.{same_touch, with_touch}
 
 pub both_true : (a b : Bool) → (a && b) ≡ true → (a ≡ true) × (b ≡ true)
@@ -14,13 +14,18 @@ both_true false b h = absurd (true≢false (sym h))
 same_is : (x y : Touch) → same_touch x y ≡ true → x ≡ y
 same_is (Entered i) (Entered j) e = ap Entered (eqb-true i j e)
 same_is (Entered i) (Searched j l) e = absurd (true≢false (sym e))
+same_is (Entered i) (Tested h) e = absurd (true≢false (sym e))
 same_is (Searched i k) (Entered j) e = absurd (true≢false (sym e))
+same_is (Searched i k) (Tested h) e = absurd (true≢false (sym e))
+same_is (Tested g) (Entered j) e = absurd (true≢false (sym e))
+same_is (Tested g) (Searched j l) e = absurd (true≢false (sym e))
+same_is (Tested g) (Tested h) e = ap Tested (eqb-true g h e)
 same_is (Searched i k) (Searched j l) e =
     let b = both_true (nat_eq i j) (nat_eq k l) e in
     ap (λ n. Searched n k) (eqb-true i j b.0) ∙ ap (Searched j) (eqb-true k l b.1)
 
 module _ (chosen : Touch → Bool) where
-  has_chosen : (xs : List Touch) (x : Touch) → chosen x ≡ true → list_any (same_touch x) xs ≡ true → list_any chosen xs ≡ true
+  pub has_chosen : (xs : List Touch) (x : Touch) → chosen x ≡ true → list_any (same_touch x) xs ≡ true → list_any chosen xs ≡ true
   has_chosen [] x c h = absurd (true≢false (sym h))
   has_chosen (y ∷ ys) x c h =
       ⊎_elim (λ e. or_left (chosen y) _ (sym (ap chosen (same_is x y e)) ∙ c)) (λ e. or_right (chosen y) _ (has_chosen ys x c e)) (or_cases (same_touch x y) _ h)

@@ -1,52 +1,79 @@
--- What a run has not touched does not matter to it.
-use Rattle.std.specs.Prelude.{◌≡◌, ℕ, Bool, false, List}
+-- A run does not depend on what it does not touch.
+use Rattle.std.specs.Prelude.{◌≡◌, ℕ, Bool, false, List, map, Some}
 use Rattle.std.specs.List.{list_any}
 use Rattle.std.specs.List.Sorted.{IsStrictlySortedBy}
+use Rattle.sbl_checks.specs.Checks.{WellDeclared}
+use Rattle.sbl_machine.specs.BuiltFrom.{IsClosed, affected, meets}
+use Rattle.sbl_machine.specs.Differs.{differs, is_one_of}
 use Rattle.sbl_machine.specs.Holes.{holed_script}
 use Rattle.sbl_machine.specs.Outcome.{run_of, used_of, touches_of}
-use Rattle.sbl_machine.specs.Touched.{Item', item_cmp, replaced, same_item, touched_of, touches, routine_names}
+use Rattle.sbl_machine.specs.Touched.{Item', item_cmp, named, replaced, same_item, touched_of, touches, names_of}
 use Rattle.sbl_script.specs.Edits.{ScriptEdit, IsEdited}
 use Rattle.sbl_script.specs.Parsed.{Source}
 
--- Two scripts agree outside some items: they are equal once each of these is replaced by a hole. So an among of them holds as many
--- amongs in both.
+-- Two scripts agree outside the picked items if they are equal after each picked item is replaced by a hole. A hole
+-- keeps the number of amongs of an among.
 abbrev pub AgreeOutside : (Item' → Bool) → Source → Source → Type 0
 AgreeOutside picked s t = holed_script picked s ≡ holed_script picked t
 
--- a run of a word is the same under two scripts: what it gives, what it touches and what it costs
+-- a word has the same run under two scripts: the same outcome, the same items touched, the same number of steps used
 pub record RunsAlike (s t : Source) (word : List ℕ) (limit : ℕ) : Type 0 where
   pub outcome : run_of t word limit ≡ run_of s word limit
   pub touched : touched_of t word limit ≡ touched_of s word limit
   pub used : used_of t word limit ≡ used_of s word limit
 
--- Two scripts that agree outside some items run a word alike, where its run under the first touches none of these.
+-- Two scripts agree outside the picked items, and these are closed in the first. If the run of a word under the first
+-- touches no picked item, the word runs alike under both.
 abbrev pub Frame : Type 0
 Frame =
-    (picked : Item' → Bool) (s t : Source) → AgreeOutside picked s t → (word : List ℕ) (limit : ℕ) →
+    (picked : Item' → Bool) (s t : Source) → IsClosed picked s → AgreeOutside picked s t → (word : List ℕ) (limit : ℕ) →
     list_any picked (touched_of s word limit) ≡ false → RunsAlike s t word limit
 
--- An edit of a script agrees with it outside the item that it replaces, and names of routines stay.
+-- after an edit, the script agrees with the old one outside the items that the edit affects
 abbrev pub EditsAgree : Type 0
-EditsAgree = (s t : Source) (e : ScriptEdit) (text : List ℕ) → IsEdited s e text t → AgreeOutside (same_item (replaced e)) s t
+EditsAgree = (s t : Source) (e : ScriptEdit) (text : List ℕ) → IsEdited s e text t → AgreeOutside (affected s (replaced e)) s t
 
 abbrev pub NamesStay : Type 0
-NamesStay = (s t : Source) (e : ScriptEdit) (text : List ℕ) → IsEdited s e text t → routine_names t ≡ routine_names s
+NamesStay = (s t : Source) (e : ScriptEdit) (text : List ℕ) → IsEdited s e text t → names_of t ≡ names_of s
 
--- So after an edit each word whose run did not touch the replaced item runs as before, and touches the same by the same numbers.
+-- a word has the same run under the second script, and touches the same numbers
 pub record StaysAsItWas (s t : Source) (word : List ℕ) (limit : ℕ) : Type 0 where
   pub alike : RunsAlike s t word limit
   pub touches : touches_of t word limit ≡ touches_of s word limit
 
+-- In a well-declared script, if the run of a word before an edit touches nothing that the edit affects, the word runs
+-- as before.
 abbrev pub UntouchedStay : Type 0
 UntouchedStay =
-    (s t : Source) (e : ScriptEdit) (text : List ℕ) → IsEdited s e text t → (word : List ℕ) (limit : ℕ) →
-    touches (replaced e) s word limit ≡ false → StaysAsItWas s t word limit
+    (s t : Source) (e : ScriptEdit) (text : List ℕ) → WellDeclared s.items s.external → IsEdited s e text t → (word : List ℕ) (limit : ℕ) →
+    meets (replaced e) s word limit ≡ false → StaysAsItWas s t word limit
 
--- a run touches an item exactly where the item is one of those that it touches
+-- The same for any two scripts that agree outside what an edit of item x affects.
+abbrev pub UnmetStay : Type 0
+UnmetStay =
+    (x : Item') (s t : Source) → WellDeclared s.items s.external → AgreeOutside (affected s x) s t → (word : List ℕ) (limit : ℕ) →
+    meets x s word limit ≡ false → StaysAsItWas s t word limit
+
+-- Two scripts that agree outside some items have the same names of routines and groupings, whatever made the second. If
+-- these items are closed too, each word whose run touches none of them runs as before, and touches the same numbers.
+abbrev pub AgreeingNamesStay : Type 0
+AgreeingNamesStay = (picked : Item' → Bool) (s t : Source) → AgreeOutside picked s t → names_of t ≡ names_of s
+
+abbrev pub ClearStay : Type 0
+ClearStay =
+    (picked : Item' → Bool) (s t : Source) → IsClosed picked s → AgreeOutside picked s t → (word : List ℕ) (limit : ℕ) →
+    list_any picked (map (named (names_of s)) (touches_of s word limit)) ≡ false → StaysAsItWas s t word limit
+
+-- if two scripts differ only in bodies of routines, they agree outside the items in which they differ, and these are
+-- closed
+abbrev pub DifferingAgree : Type 0
+DifferingAgree = (s t : Source) (xs : List Item') → differs s t ≡ Some xs → IsClosed (is_one_of xs) s × AgreeOutside (is_one_of xs) s t
+
+-- a run touches an item exactly if the item is in its list of touched items
 abbrev pub TouchesAreTouched : Type 0
 TouchesAreTouched =
     (x : Item') (script : Source) (word : List ℕ) (limit : ℕ) → list_any (same_item x) (touched_of script word limit) ≡ touches x script word limit
 
--- and these rise, each once
+-- this list is in strictly ascending order
 abbrev pub TouchedRise : Type 0
 TouchedRise = (script : Source) (word : List ℕ) (limit : ℕ) → IsStrictlySortedBy item_cmp (touched_of script word limit)

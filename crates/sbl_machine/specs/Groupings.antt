@@ -1,4 +1,4 @@
--- What the groupings of a script that is well declared have.
+-- The characters of the groupings of a well-declared script.
 use Rattle.std.specs.Prelude.{◌≡◌, ◌↔◌, ℕ, true, List, [], ◌∷◌, ◌++◌, ⊤}
 use Rattle.std.specs.List.{AllByRecursion, Contains}
 use Rattle.sbl_tree.specs.Order.{ItemInMode, in_order}
@@ -9,27 +9,27 @@ use Rattle.sbl_numbering.specs.Items.{Grouping, class_of, classes_behind, term_h
 use Rattle.sbl_checks.specs.Checks.{WellDeclared}
 use Rattle.sbl_script.specs.Parsed.{Source}
 
--- the groupings of a script, all of them
+-- all groupings of a script
 abbrev pub groupings_of : Source → List Grouping
 groupings_of script = classes_behind (in_order script.items) []
 
--- an item of the script defines this name by a first term and the others behind it
+-- an item of the script defines the grouping n with first term a and other terms ts
 abbrev pub Defines : Source → List ℕ → Argument → List Term → Type 0
 Defines script n a ts =
     (before : List ItemInMode) × (m : Mode) × (after : List ItemInMode) ×
     (in_order script.items ≡ before ++ (record { mode = m; plain = grouping n a ts }) ∷ after)
 
--- a term has a character: one that it writes out, or one that the grouping which it names has
+-- a term has a character if it writes it out, or if the grouping that it names has it
 abbrev pub Has : List Grouping → ℕ → Argument → Type 0
 Has all c (written_out q) = Contains q.value c
 Has all c (by_name n) = class_of all n c ≡ true
 
--- a term does not take a character away
+-- a term does not remove a character
 abbrev pub Leaves : List Grouping → ℕ → Term → Type 0
 Leaves all c (term Plus a) = ⊤
 Leaves all c (term Minus a) = Has all c a → ⊥
 
--- a term that is added has the character, and none behind it takes it away
+-- one term adds the character, and no later term removes it
 pub record IsOfTerms (all : List Grouping) (ts : List Term) (c : ℕ) : Type 0 where
   pub before : List Term
   pub added : Argument
@@ -38,8 +38,8 @@ pub record IsOfTerms (all : List Grouping) (ts : List Term) (c : ℕ) : Type 0 w
   pub has : Has all c added
   pub stays : AllByRecursion (Leaves all c) after
 
--- A grouping has exactly the characters that one of its terms adds and no later one takes away. A name among the terms stands for
--- the grouping of that name among all those of the script, though it is made of the ones before it alone.
+-- A grouping has exactly the characters that one of its terms adds and no later term removes. A name among the terms
+-- means the grouping of that name among all groupings of the script, even though it is made only of those before it.
 abbrev pub GroupingsHaveTheirTerms : Type 0
 GroupingsHaveTheirTerms =
     (script : Source) → WellDeclared script.items script.external →

@@ -1,17 +1,18 @@
--- A script with holes in the place of some of its items: of an among only the number of those in it is left, of a routine nothing.
+-- A script with holes in place of some of its items. Of an among the hole keeps only how many amongs it holds; of a
+-- routine or a grouping, only the name.
 use Rattle.std.specs.Prelude.{ℕ, suc, Bool, [], map, None, if◌then◌else◌}
-use Rattle.sbl_machine.specs.Touched.{Item', Routine, Among}
+use Rattle.sbl_machine.specs.Touched.{Item', Routine, Among, Grouping}
 use Rattle.sbl_numbering.specs.Regions.{behind, behind_others, behind_rows, behind_starter}
 use Rattle.sbl_script.specs.Parsed.{Source}
 use Rattle.sbl_tree.specs.Terminal.{Quoted}
 use Rattle.sbl_tree.specs.Tree as trees
-use Rattle.sbl_tree.specs.Tree.{Plain, Item, bracket, prefixed, counted, setlimit_, among_, no_rows, row, no_others, joined, no_starter, starter, bare, group, entry, routine, plain, backward}
+use Rattle.sbl_tree.specs.Tree.{Plain, Item, bracket, prefixed, counted, setlimit_, among_, no_rows, row, no_others, joined, no_starter, starter, bare, group, entry, written_out, routine, grouping, plain, backward}
 
--- an among with nothing in it
+-- an empty among
 abbrev pub blank : trees.Command
 blank = among_ no_starter (bare [])
 
--- the amongs of a command, each with nothing in it, as rows before others
+-- the amongs of a command, each made empty, as rows followed by `rest`
 abbrev mutual
   pub blanks : trees.Command → trees.Rows → trees.Rows
   blanks (bracket rs) rest = blanks_rows rs rest
@@ -40,11 +41,11 @@ abbrev mutual
 abbrev pub nothing : Quoted
 nothing = record { spelling = []; value = [] }
 
--- an among of which only the number of those in it is left
+-- an among that keeps only how many amongs it holds
 abbrev pub hole : trees.Starter → trees.Groups → trees.Command
 hole s gs = among_ no_starter (group (entry nothing None) [] (blanks_starter s (blanks_groups gs no_rows)) (bare []))
 
--- a command before which so many amongs of its routine stand, with holes in the place of those that are picked by their number
+-- a command with holes in place of the amongs whose numbers are picked; k amongs of its routine come before it
 module _ (picked : ℕ → Bool) where
   abbrev mutual
     pub with_holes : ℕ → trees.Command → trees.Command
@@ -73,12 +74,13 @@ module _ (picked : ℕ → Bool) where
     groups_with_holes k (bare es) = bare es
     groups_with_holes k (group e es rs gs) = group e es (rows_with_holes k rs) (groups_with_holes (behind_rows rs k) gs)
 
--- a script with holes in the place of the items that are picked
+-- a script with holes in place of the picked items
 module _ (picked : Item' → Bool) where
   abbrev pub holed_plain : Plain → Plain
   holed_plain (routine n c os) =
       if picked (Routine n) then routine n (bracket no_rows) no_others
       else routine n (with_holes (λ k. picked (Among n k)) 0 c) (others_with_holes (λ k. picked (Among n k)) (behind c 0) os)
+  holed_plain (grouping n a ts) = if picked (Grouping n) then grouping n (written_out nothing) [] else grouping n a ts
   holed_plain x = x
 
   abbrev pub holed_item : Item → Item

@@ -1,9 +1,13 @@
--- what the contracts of public calls rest on
+-- definitions that the contracts of public functions use
 pub mod Meaning
 pub mod Outcome
+pub mod Limit
 pub mod Touched
+pub mod BuiltFrom
+pub mod Why
 pub mod Holes
 pub mod Frame
+pub mod Marks
 pub mod Numbered
 pub mod MachineOf
 pub mod Sound
@@ -11,3 +15,7 @@ pub mod EnoughSteps
 pub mod Searches
 pub mod NamesStand
 pub mod Groupings
+pub mod Same
+pub mod Differs
+-- what the functions inside the crate promise each other: nothing in these need be believed
+pub mod Marking

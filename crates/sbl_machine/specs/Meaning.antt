@@ -1,4 +1,5 @@
--- What a run of a script does: each command of its trees by what its parts do.
+-- What a run of a script does. Each command of its trees is defined by what its parts do. A command takes the mode m
+-- and the state s. It ends with the signal t or f and a new state, or it stops the run.
 use Rattle.std.specs.Prelude.{ℕ, ℤ, pos, negsuc, zero, suc, ◌+◌, ◌+ℤ◌, ◌-ℤ◌, ◌*ℤ◌, neg_ℤ, Bool, true, false, not, List, [], ◌∷◌, ◌++◌, length, map, take, replicate, nat_eq, int_lt, if◌then◌else◌, Option, Some, None, Ok, slice_index_or, slice_set}
 use Rattle.std.specs.Ordering.{int_eq}
 use Rattle.sbl_tree.specs.Order.{in_order}
@@ -32,11 +33,11 @@ use Rattle.std.specs.Cmp.Lexicographic.{pointwise}
 use Rattle.sbl_tree.specs.declared.tree.DeclarationKind.TheVariants as kinds
 use Rattle.sbl_tables.specs.Fitting.{read_as, ahead_at}
 use Rattle.sbl_numbering.specs.Items.{Known, Body, is_among, place_of, body_named, class_of, classes_behind, known_in}
-use Rattle.sbl_run.specs.Moves.{match, one_of, next, hop, at_limit, set_mark, at_mark, to_mark, set_boolean, test_boolean}
+use Rattle.sbl_run.specs.Moves.{match, one_of, touch_grouping, next, hop, at_limit, set_mark, at_mark, to_mark, set_boolean, test_boolean}
 use Rattle.sbl_run.specs.Numbers.{Value, natural, given, fitted, divided, with_value, with_both, limit_value, integer_at}
 use Rattle.sbl_numbering.specs.Regions.{Among, among_at, behind, behind_rows, behind_others, behind_starter, first, first_rows, first_others, mode_behind, waits, waits_others}
-use Rattle.sbl_run.specs.Run.{at_end, turns, times, count_of, seeks, limits, limit_here, limit_back, backwards_from, backwards_end, chosen as go_on, enter, back_in, paid}
-use Rattle.sbl_run.specs.Search.{choose, choice, touch_among}
+use Rattle.sbl_run.specs.Run.{at_end, turns, times, count_of, seeks, limits, limit_here, limit_back, backwards_from, backwards_end, chosen as go_on, enter, leave, paid}
+use Rattle.sbl_run.specs.Search.{choice, take_none, take_string, touch_among}
 use Rattle.sbl_run.specs.Slices.{left_bracket, right_bracket, replace, keep, insert, attach}
 use Rattle.sbl_run.specs.State.{State, Ending, Signals, Stops, Doing, bound_of, after, then_on, saved_cursor, place_after, put_back, to_limit}
 use Rattle.sbl_run.specs.declared.fault.RunFault.TheVariants.{Depth}
@@ -44,9 +45,9 @@ use Rattle.sbl_script.specs.Parsed.{Source}
 use Rattle.sbl_tree.specs.declared.mode.Mode.{Mode}
 use Rattle.sbl_tree.specs.declared.mode.Mode.TheVariants.{Forward, Backward}
 
--- ---- commands, by what their parts do
+-- ---- what a command does, given what its parts do
 
--- `not C` and its like, by what C does
+-- `not C`, `test C` and the other prefixes, given what C does
 abbrev pub prefixed_does : Prefix → Doing → Doing
 prefixed_does prefixes.Not c m s = after (c m s) (Signals false) (put_back m (saved_cursor s))
 prefixed_does prefixes.Test c m s = after (c m s) (put_back m (saved_cursor s)) (Signals false)
@@ -58,24 +59,25 @@ prefixed_does prefixes.GoTo c m s = seeks (suc s.steps) false c m s
 prefixed_does prefixes.GoPast c m s = seeks (suc s.steps) true c m s
 prefixed_does prefixes.Backwards c m s = then_on (backwards_from s) (λ b. after (c Backward b) backwards_end (Signals false))
 
--- the loop, and behind `atleast` then `repeat`, which pays no step of its own
+-- `loop`; and `atleast`, which is the loop followed by a `repeat` that costs no step of its own
 abbrev pub counted_does : Count → Value → Doing → Doing
 counted_does counts.Loop v c m s = given v s (λ z. times (count_of z) c m s)
 counted_does counts.AtLeast v c m s =
     after (given v s (λ z. times (count_of z) c m s)) (λ t. turns (suc t.steps) c m t) (Signals false)
 
--- `C1 or C2`, `C1 and C2`
+-- `C1 or C2`, `C1 and C2`: before C2 the cursor goes back to where C1 began
 abbrev pub joined_does : Joiner → Doing → Doing → Doing
 joined_does Or a b m s = after (a m s) (Signals true) (λ f. then_on (put_back m (saved_cursor s) f) (b m))
 joined_does And a b m s = after (a m s) (λ t. then_on (put_back m (saved_cursor s) t) (b m)) (Signals false)
 
--- `setlimit C1 for C2`: the old limit is back at the end
+-- `setlimit C1 for C2`: the limit is set where C1 ends, the cursor goes back to where C1 began, and after C2 the old
+-- limit is restored
 abbrev pub limited_does : Doing → Doing → Doing
 limited_does a b m s =
     after (a m s)
     (λ t. then_on (put_back m (saved_cursor s) (limit_here m t)) (λ u. at_end (limit_back m (limits s)) (b m u))) (Signals false)
 
--- the words that stand alone, by the search of the next among
+-- commands of a single word; `substring` does the search of the next among
 abbrev pub simple_does : Doing → Simple → Doing
 simple_does search simples.Substring m s = search m s
 simple_does search simples.LeftBracket m s = Signals true (left_bracket m s)
@@ -92,7 +94,7 @@ moved_does moves.Hop v m s = given v s (λ z. hop (natural z) m s)
 moved_does moves.AtMark v m s = given v s (λ z. at_mark (natural z) s)
 moved_does moves.ToMark v m s = given v s (λ z. to_mark (natural z) m s)
 
--- `$x = AE` and its like
+-- the new value of x in `$x = AE`, `$x += AE` and the like
 abbrev pub altered : Assignment → ℤ → ℤ → Value
 altered assignments.Equals x y = Ok y
 altered assignments.Plus x y = fitted (x +ℤ y)
@@ -121,19 +123,20 @@ named_does ns namings.Set n m s = Signals true (set_boolean (place_of (ns kinds.
 named_does ns namings.Unset n m s = Signals true (set_boolean (place_of (ns kinds.Booleans) n) false s)
 named_does ns namings.Arrow n m s = keep (place_of (ns kinds.Strings) n) s
 
--- `<+` is `insert`
+-- `<-`, `insert`, its sign `<+`, and `attach`
 abbrev pub edited_does : Splice → List ℕ → Doing
 edited_does edits.Replace cs m s = replace cs s
 edited_does edits.InsertSign cs m s = insert cs m s
 edited_does edits.Insert cs m s = insert cs m s
 edited_does edits.Attach cs m s = attach cs m s
 
--- an among makes its search itself, and then comes its starter, unless a `substring` waits for it
+-- An among first makes its own search, and on t runs its starter. If a `substring` waits for it, that search has been
+-- made, and the among skips both.
 abbrev pub begins : Bool → Doing → Doing → Doing
 begins true search begun m s = Signals true s
 begins false search begun m s = after (paid search m s) (begun m) (Signals false)
 
--- ---- strings and numbers, by the variables' names
+-- ---- strings and numbers, given the names of the variables
 
 module _ (ns : Known) where
   abbrev pub text : trees.Argument → State → List ℕ
@@ -156,11 +159,11 @@ module _ (ns : Known) where
   scaled multiplicatives.Over v w = with_both v w divided
 
   abbrev mutual
-    -- what an expression is worth
+    -- the value of an expression
     pub worth : trees.Expression → Mode → State → Value
     worth (trees.expression p ss) m s = summed ss (product_worth p m s) m s
 
-    -- products are added and taken away from the left
+    -- adds and subtracts products, from left to right
     pub summed : trees.Sums → Value → Mode → State → Value
     summed trees.no_sums v m s = v
     summed (trees.sum o p ss) v m s = summed ss (added o v (product_worth p m s)) m s
@@ -168,7 +171,7 @@ module _ (ns : Known) where
     pub product_worth : trees.Product → Mode → State → Value
     product_worth (trees.product f ss) m s = multiplied ss (factor_worth f m s) m s
 
-    -- factors are multiplied and divided from the left
+    -- multiplies and divides factors, from left to right
     pub multiplied : trees.Scales → Value → Mode → State → Value
     multiplied trees.no_scales v m s = v
     multiplied (trees.scale o f ss) v m s = multiplied ss (scaled o v (factor_worth f m s)) m s
@@ -192,73 +195,81 @@ pub record Offer : Type 0 where
 abbrev pub offer : ℕ → trees.Entry → Offer
 offer g (trees.entry q c) = record { string = q.value; condition = c; group = g }
 
--- the groups are counted from 0; the strings of a last group without a bracket have the number of groups
+-- Groups are counted from 0. The strings after the last bracketed group belong to none; their group number is the
+-- number of groups.
 abbrev pub offers : ℕ → trees.Groups → List Offer
 offers g (bare es) = map (offer g) es
 offers g (group e es rs gs) = offer g e ∷ (map (offer g) es ++ offers (g + 1) gs)
 
--- the first of some strings that is this one as the mode reads it
+-- the first entry whose string, as the mode reads it, is w
 abbrev pub offering : Mode → List ℕ → List Offer → Option Offer
 offering r w [] = None
 offering r w (o ∷ os) = if pointwise nat_eq w (read_as r o.string) then Some o else offering r w os
 
 module _ (call : List ℕ → Doing) where
-  -- a condition is a call, which pays a step of its own
+  -- a condition is a call that costs one step; without a condition the signal is t
   abbrev pub condition_does : Option (List ℕ) → Doing
   condition_does None m s = Signals true s
   condition_does (Some n) m s = paid (call n) m s
 
-  -- One string, if there is one: the cursor goes just after it, and its condition is called. At t it is taken, and the cursor
-  -- set just after it again; at f what comes next goes on from the state that the condition left.
+  -- Tries one entry, if there is one. The cursor moves past the string, and the condition is called. If it signals t,
+  -- the cursor moves past the string again and the entry is chosen. If it signals f, `next` continues from the state
+  -- that the condition left.
   abbrev pub takes : ℕ → Option Offer → Mode → State → State → (State → Ending) → Ending
   takes k None m from s next = next s
   takes k (Some o) m from s next =
       then_on (place_after m (saved_cursor from) (length o.string) s) (λ a.
       after (condition_does o.condition m a)
-      (λ b. then_on (place_after m (saved_cursor from) (length o.string) b) (λ c. Signals true (choose k (Some o.group) c)))
+      (λ b. then_on (place_after m (saved_cursor from) (length o.string) b) (λ c. Signals true (take_string k (length o.string) o.group c)))
       next)
 
-  -- The strings of fewer than b characters that are a front of x, the longest first, from the state in which the search began;
-  -- where none is taken, nothing is chosen.
+  -- Tries the entries whose strings are a prefix of x, longest first, and of each length the first entry only. The last
+  -- argument is one more than the longest length to try. The state `from` is the one in which the search began. If no
+  -- entry is taken, none is chosen and the signal is f.
   abbrev pub tried : ℕ → List Offer → Mode → Mode → State → List ℕ → ℕ → State → Ending
-  tried k os r m from x zero s = Signals false (choose k None s)
+  tried k os r m from x zero s = Signals false (take_none k s)
   tried k os r m from x (suc l) s = takes k (offering r (take l x) os) m from s (tried k os r m from x l)
 
-  -- the strings that are a front of what is ahead, both read in the mode of the among's place
+  -- searches the text ahead; the strings and the text are both read in the mode of the among's place
   abbrev pub searched : Among → Doing
   searched a m s =
       let x = ahead_at a.mode s.text s.cursor (bound_of m s) in
       tried a.number (offers 0 a.groups) a.mode m s x (suc (length x)) s
 
-  -- a search touches its among, whatever it finds
+  -- a search touches its among, whether or not it finds a string
   abbrev pub search : Among → Doing
   search a m s = searched a m (touch_among a.number s)
 
--- ---- the commands of a script, by its names, its groupings, and what a call of each routine does
+-- ---- what a command does, given the names of the script, its groupings, and what a call of each routine does
+
+-- a test of a grouping touches it, whatever the result
+abbrev pub tests : Known → (List ℕ → ℕ → Bool) → Bool → List ℕ → Doing
+tests ns class wanted n m s = one_of wanted (class n) m (touch_grouping (place_of (ns kinds.Groupings) n) s)
 
 module _ (ns : Known) (class : List ℕ → ℕ → Bool) (call : List ℕ → Doing) where
-  -- f where the region has no among ahead
+  -- `substring`: f if no among follows in its region
   abbrev pub search_ahead : Option Among → Doing
   search_ahead None m s = Signals false s
   search_ahead (Some a) m s = search call a m s
 
-  -- a name alone: a string variable, a boolean, a grouping or a routine
+  -- a name alone: a string variable, a boolean, a grouping, or else a routine to call
   abbrev pub name_does : List ℕ → Doing
   name_does n m s =
       if is_among (ns kinds.Strings) n then match (slice_index_or s.strings (place_of (ns kinds.Strings) n) []) m s else
       if is_among (ns kinds.Booleans) n then test_boolean (place_of (ns kinds.Booleans) n) s else
-      if is_among (ns kinds.Groupings) n then one_of true (class n) m s else
+      if is_among (ns kinds.Groupings) n then tests ns class true n m s else
       call n m s
 
   abbrev mutual
-    -- What a command does once its step is paid: `r` is the mode of its place, k amongs of its routine stand before it, w says whether
-    -- a `substring` of its region waits, and n is the next among of its region behind it.
+    -- What a command does after its step is paid. r is the mode of its place. k is the number of amongs before it in
+    -- its routine. w says whether a `substring` of its region waits for an among. n is the next among of its region
+    -- after the command.
     pub act : Mode → ℕ → Bool → Option Among → trees.Command → Doing
     act r k w n (bracket rs) m s = rows_do r k w n rs m s
     act r k w n (simple_ x) m s = simple_does (search_ahead n) x m s
     act r k w n (literal_ q) m s = match q.value m s
     act r k w n (name_ x) m s = name_does x m s
-    act r k w n (non_ b x) m s = one_of false (class x) m s
+    act r k w n (non_ b x) m s = tests ns class false x m s
     act r k w n (prefixed x c) m s = prefixed_does x (paid (act (mode_behind x r) k w n c)) m s
     act r k w n (counted x e c) m s = counted_does x (worth ns e m s) (paid (act r k w n c)) m s
     act r k w n (move_ x e) m s = moved_does x (worth ns e m s) m s
@@ -273,7 +284,7 @@ module _ (ns : Known) (class : List ℕ → ℕ → Bool) (call : List ℕ → D
         after (begins w (search call (among_at r k gs)) (starter_does r (suc k) st) m s)
         (λ t. go_on (choice k t) t (λ g. group_does r (behind_starter st (suc k)) gs g m t)) (Signals false)
 
-    -- in turn, up to the first f
+    -- runs the rows in order, up to the first that signals f
     pub rows_do : Mode → ℕ → Bool → Option Among → trees.Rows → Doing
     rows_do r k w n no_rows m s = Signals true s
     rows_do r k w n (row c os rs) m s =
@@ -282,7 +293,7 @@ module _ (ns : Known) (class : List ℕ → ℕ → Bool) (call : List ℕ → D
         (act r k w (first_others r os (behind c k) (first_rows r rs (behind_others os (behind c k)) n)) c)) m s)
         (rows_do r (behind_others os (behind c k)) (waits_others os (waits c w)) n rs m) (Signals false)
 
-    -- commands joined from the left to what the one before them does
+    -- joins commands from the left: d is what the commands so far do
     pub others_do : Mode → ℕ → Bool → Option Among → trees.Others → Doing → Doing
     others_do r k w n no_others d m s = d m s
     others_do r k w n (joined j c os) d m s =
@@ -292,31 +303,31 @@ module _ (ns : Known) (class : List ℕ → ℕ → Bool) (call : List ℕ → D
     starter_does r k no_starter m s = Signals true s
     starter_does r k (starter rs) m s = paid (rows_do r k false None rs) m s
 
-    -- the g-th group's command; t where it has none
+    -- the command of group number g; t if that group has none
     pub group_does : Mode → ℕ → trees.Groups → ℕ → Doing
     group_does r k (bare es) g m s = Signals true s
     group_does r k (group e es rs gs) zero m s = paid (rows_do r k false None rs) m s
     group_does r k (group e es rs gs) (suc g) m s = group_does r (behind_rows rs k) gs g m s
 
-  -- a routine's body: its row, grouped from the left
+  -- what the body of a routine does: its commands are joined from the left
   abbrev pub row_does : Mode → trees.Command → trees.Others → Doing
   row_does r c os = others_do r (behind c 0) (waits c false) None os (act r 0 false (first_others r os (behind c 0) None) c)
 
-  -- a call touches the routine and begins with nothing chosen, and at its return the caller's choices are back
+  -- A call touches the routine and begins with nothing chosen. When it returns, the caller's choices are restored.
   abbrev pub body_does : List ℕ → Option Body → Doing
   body_does n None m s = Signals false s
   body_does n (Some b) m s =
-      at_end (back_in s.routine s.choices)
+      leave s.routine s.choices
       (paid (row_does b.mode b.first b.others) m (enter (place_of (ns kinds.Routines) n) (behind_others b.others (behind b.first 0)) s))
 
 -- ---- runs
 
--- what a call does where this many levels are left
+-- what a call does if at most this many levels of calls are left
 abbrev pub calls : Known → (List ℕ → ℕ → Bool) → (List ℕ → Option Body) → ℕ → List ℕ → Doing
 calls ns class bodies zero n m s = Stops Depth s
 calls ns class bodies (suc l) n m s = body_does ns class (calls ns class bodies l) n (bodies n) m s
 
--- where a run of a word begins: integers 0, booleans false, strings empty, nothing touched
+-- the state in which a run begins: all integers are 0, all booleans false, all strings empty, and nothing is touched
 abbrev pub start : Known → List ℕ → ℕ → State
 start ns word steps = record {
   text = word;
@@ -331,12 +342,20 @@ start ns word steps = record {
   choices = [];
   routine = 0;
   touched = [];
+  told = None;
   steps = steps;
 }
 
--- how a run of a word ends: the external's body runs forwards, on the first of 32 levels
+-- How a run of a script on a word ends. The external's body runs forwards, on the first of 32 levels.
 unfoldable pub ending : Source → List ℕ → ℕ → Ending
 ending script word limit =
     let items = in_order script.items in
     calls (known_in items) (class_of (classes_behind items [])) (body_named items) 32 script.external Forward
     (start (known_in items) word limit)
+
+-- the same run, with its events recorded
+unfoldable pub telling : Source → List ℕ → ℕ → Ending
+telling script word limit =
+    let items = in_order script.items in
+    calls (known_in items) (class_of (classes_behind items [])) (body_named items) 32 script.external Forward
+    (record (start (known_in items) word limit) { told = Some [] })

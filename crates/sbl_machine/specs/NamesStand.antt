@@ -1,4 +1,4 @@
--- What the names of a script that is well declared stand for.
+-- What the names in a well-declared script mean.
 use Rattle.std.specs.Prelude.{◌≡◌, ◌⊎◌, ℕ, true, List, ◌∷◌, ◌++◌, Some}
 use Rattle.sbl_tree.specs.Order.{ItemInMode, in_order}
 use Rattle.sbl_tree.specs.declared.tree.DeclarationKind.TheVariants as kinds
@@ -11,11 +11,11 @@ use Rattle.sbl_checks.specs.declared.occurrences.Site.{Site}
 use Rattle.sbl_checks.specs.declared.occurrences.Use.{Use}
 use Rattle.sbl_checks.specs.declared.occurrences.Use.TheVariants as use_as
 
--- there is a routine of this name, in this mode
+-- the script has a routine with this name, defined in this mode
 abbrev pub HasBody : List ItemInMode → List ℕ → Mode → Type 0
 HasBody items n m = (b : Body) × (body_named items n ≡ Some b) × (b.mode ≡ m)
 
--- a name, used so in a command of this mode, stands for a variable, a grouping or a routine that there is
+-- a name, used in this way in a command of this mode, means an existing variable, grouping or routine
 abbrev pub StandsFor : List ItemInMode → Use → List ℕ → Mode → Type 0
 StandsFor items use_as.String n m = is_among (known_in items kinds.Strings) n ≡ true
 StandsFor items use_as.Integer n m = is_among (known_in items kinds.Integers) n ≡ true
@@ -27,8 +27,8 @@ StandsFor items use_as.Command n m =
     (is_among (known_in items kinds.Strings) n ≡ true) ⊎
     ((is_among (known_in items kinds.Booleans) n ≡ true) ⊎ ((is_among (known_in items kinds.Groupings) n ≡ true) ⊎ HasBody items n m))
 
--- Each name that a script uses stands for what there is: so what the definition of a run says of a name that stands for nothing is
--- never met, and a routine is called in the mode in which it is defined.
+-- In a well-declared script each name that is used means something that exists, and a routine is called in the mode in
+-- which it is defined. So the cases of the definition of a run for other names do not arise.
 abbrev pub NamesStand : Type 0
 NamesStand =
     (script : Source) → WellDeclared script.items script.external → (before after : List Occurrence) (p : Site) (u : Use) (n : List ℕ) →

@@ -1,4 +1,4 @@
--- What a run over a word gives, and what it costs.
+-- The outcome of a run on a word, and the steps that it uses.
 use Rattle.std.specs.Prelude.{ℕ, ◌+◌, ◌-◌, List}
 use Rattle.sbl_run.specs.declared.fault.RunFault.{RunFault}
 use Rattle.sbl_run.specs.declared.fault.RunFault.TheVariants as faults
@@ -14,34 +14,34 @@ pub data Outcome' : Type 0 where
   Stem : List ℕ → Outcome'
   Refused : RunFault → Outcome'
 
--- the code's outcome without where it lies in memory
+-- the outcome that the code's value represents
 abbrev pub outcome_of : Outcome → Outcome'
 outcome_of (code.Stem text) = Stem text.items
 outcome_of (code.Refused fault) = Refused fault
 
--- the text as it stands at the end is the stem, whatever the signal
+-- the stem is the text at the end of the run, whatever the signal
 abbrev pub outcome_at : Ending → Outcome'
 outcome_at (Signals b s) = Stem s.text
 outcome_at (Stops fault s) = Refused fault
 
--- the steps that were paid; one more than the limit where the run was refused as Steps
+-- the number of steps used; limit + 1 if the run was refused for its steps
 abbrev pub used_at : ℕ → Ending → ℕ
 used_at limit (Signals b s) = limit - s.steps
 used_at limit (Stops faults.Steps s) = limit + 1
 used_at limit (Stops fault s) = limit - s.steps
 
--- what was touched, by numbers
+-- what the run touched, by number
 abbrev pub touched_at : Ending → List Touch
 touched_at (Signals b s) = s.touched
 touched_at (Stops fault s) = s.touched
 
--- what a run of a script over a word gives, with so many steps, and what it costs
+-- the outcome of a run of a script on a word, with this limit of steps
 unfoldable pub run_of : Source → List ℕ → ℕ → Outcome'
 run_of script word limit = outcome_at (ending script word limit)
 
 unfoldable pub used_of : Source → List ℕ → ℕ → ℕ
 used_of script word limit = used_at limit (ending script word limit)
 
--- what it touches, by numbers
+-- what this run touches, by number
 unfoldable pub touches_of : Source → List ℕ → ℕ → List Touch
 touches_of script word limit = touched_at (ending script word limit)

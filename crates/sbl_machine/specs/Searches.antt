@@ -1,4 +1,4 @@
--- What is shown of the searches of a script that is well declared.
+-- Searches in a well-declared script.
 use Rattle.std.specs.Prelude.{◌↔◌, ℕ, List, []}
 use Rattle.std.specs.List.{AllByRecursion}
 use Rattle.sbl_tables.specs.Fitting.{fitting, read_all}
@@ -9,19 +9,19 @@ use Rattle.sbl_numbering.specs.NumberedAmongs.{Found, found_behind}
 use Rattle.sbl_checks.specs.Checks.{WellDeclared}
 use Rattle.sbl_script.specs.Parsed.{Source}
 
--- the amongs of a script, for each of which there is a table
+-- the amongs of a script; each has a table
 abbrev pub amongs_of : Source → List Found
 amongs_of script = found_behind (names_in script.items) (in_order script.items) []
 
--- an among's strings, as the mode of its place reads them
+-- the strings of an among, as the mode of its place reads them
 abbrev pub strings_read : Found → List (List ℕ)
 strings_read f = read_all f.strings.mode f.strings.entries
 
--- no string of an among stands twice in its table
+-- the strings in a table of an among all differ
 abbrev pub TablesDiffer : Type 0
 TablesDiffer = (script : Source) → WellDeclared script.items script.external → AllByRecursion (λ f. AllDiffer (strings_read f)) (amongs_of script)
 
--- so that a search meets exactly those of its strings that are a front of what is ahead
+-- a search finds exactly the strings of the among that are a prefix of the text ahead
 abbrev pub SearchesAreExact : Type 0
 SearchesAreExact =
     (script : Source) → WellDeclared script.items script.external →

@@ -1,10 +1,10 @@
--- What is shown of runs.
+-- The program of a script runs as the script does.
 use Rattle.std.specs.Prelude.{◌≡◌, ℕ, List}
 use Rattle.sbl_machine.specs.Meaning.{ending}
 use Rattle.sbl_run.specs.Start.{ending_of}
 use Rattle.sbl_machine.specs.Numbered.{numbered_script}
 use Rattle.sbl_script.specs.Parsed.{Source}
 
--- a run of a script's program is a run of the script
+-- a run of the program of a script is a run of the script
 abbrev pub RunIsSound : Type 0
 RunIsSound = (script : Source) (word : List ℕ) (limit : ℕ) → ending_of (numbered_script script) word limit ≡ ending script word limit

@@ -1,17 +1,17 @@
-//! Why a run is not made.
+//! Why a run gives no result.
 
 ghost use Rattle.std.specs.Prelude.{◌≡◌};
 
 use std::alloc::AllocError;
 use thiserror::Error;
 
-/// Why `Machine::run` has no answer.
+/// Why `Machine::run` returns no result.
 #[derive(Clone, Copy, Debug, Drop, PartialEq, Eq, Error)]
 pub enum RunStop {
-    /// A growth was refused.
+    /// An allocation failed.
     #[error("49 OutOfMemory")]
     OutOfMemory,
-    /// The meter counts no further.
+    /// The meter cannot count another run.
     #[error("50 MeterFull")]
     MeterFull,
 }

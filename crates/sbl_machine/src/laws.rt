@@ -1,35 +1,50 @@
-//! What is shown of runs.
+//! Laws of runs.
 
-ghost use Rattle.sbl_machine.specs.EnoughSteps.{RefusedForSteps, UsedStepsSuffice};
-ghost use Rattle.sbl_machine.specs.Frame.{EditsAgree, Frame, NamesStay, TouchedRise, TouchesAreTouched, UntouchedStay};
+ghost use Rattle.sbl_machine.specs.BuiltFrom.{AffectedIsClosed};
+ghost use Rattle.sbl_machine.specs.EnoughSteps.{RefusedForSteps, UsedStepsSuffice, UsedStepsTouch};
+ghost use Rattle.sbl_machine.specs.Frame.{AgreeingNamesStay, ClearStay, DifferingAgree, EditsAgree, Frame, NamesStay, TouchedRise, TouchesAreTouched, UnmetStay, UntouchedStay};
 ghost use Rattle.sbl_machine.specs.Groupings.{GroupingsAreTheirTerms, GroupingsHaveTheirTerms};
+ghost use Rattle.sbl_machine.specs.Marks.{EditedAreThere};
 ghost use Rattle.sbl_machine.specs.NamesStand.{NamesStand};
 ghost use Rattle.sbl_machine.specs.Searches.{SearchesAreExact, TablesDiffer};
 ghost use Rattle.sbl_machine.specs.Sound.{RunIsSound};
+ghost use Rattle.sbl_machine.specs.Why.{PutsGiveTheStem, TellingChangesNothing};
 
 use sbl_checks::laws::{amongs_are_sound, names_resolve, well_declared_passes};
 use sbl_tables::laws::fitting_are_matches;
 
-/// A run of a script's program is a run of the script.
+/// A run of the program of a script is a run of the script.
 pub fn run_is_sound()
     ensures { RunIsSound }
 {}
 
-/// A run is refused for its steps exactly where it used more than its limit; and where a limit is enough for a run, each limit
-/// of at least the steps that it used, higher or lower, gives the same outcome for as many steps.
+/// A run is refused for its steps exactly if it used more than its limit. If a limit is enough for a run, each other
+/// limit that is at least the number of steps used gives the same outcome, the same number of steps used, and the same
+/// touches.
 pub fn used_steps_suffice()
     ensures refused { RefusedForSteps }
     ensures suffice { UsedStepsSuffice }
+    ensures touch { UsedStepsTouch }
 {}
 
-/// A run touches an item exactly where the item is one of those that it touches; and these are in order, each once.
+/// A run that records its events gives the same outcome and uses the same number of steps as the run that does not.
+pub fn telling_changes_nothing()
+    ensures { TellingChangesNothing }
+{}
+
+/// If a run gives a stem, making its recorded replacements on the word, one after another, gives that stem.
+pub fn puts_give_the_stem()
+    ensures { PutsGiveTheStem }
+{}
+
+/// A run touches an item exactly if the item is in its list of touched items. That list is in strictly ascending order.
 pub fn touches_are_touched()
     ensures touched { TouchesAreTouched }
     ensures rise { TouchedRise }
 {}
 
-/// In a script that is well declared no string stands twice in the table of an `among`, so that a search meets exactly those of
-/// its strings that stand where it searches.
+/// In a well-declared script, no string occurs twice in the table of an `among`. So a search finds exactly the strings
+/// of the among that are a prefix of the text ahead.
 pub fn searches_are_exact()
     ensures differ { TablesDiffer }
     ensures exact { SearchesAreExact }
@@ -38,8 +53,8 @@ pub fn searches_are_exact()
     fitting_are_matches();
 }
 
-/// Each name that a script that is well declared uses stands for a variable, a grouping or a routine that there is, and a routine
-/// is called in the mode in which it is defined: what the definition of a run says of other names is never met.
+/// In a well-declared script, each name that is used means an existing variable, grouping or routine, and a routine is
+/// called in the mode in which it is defined. So the cases of the definition of a run for other names do not arise.
 pub fn names_stand()
     ensures { NamesStand }
 {
@@ -47,8 +62,8 @@ pub fn names_stand()
     well_declared_passes();
 }
 
-/// In a script that is well declared a grouping has exactly the characters that one of its terms adds and no later one takes
-/// away, where a name among the terms stands for the grouping of that name in the whole script.
+/// In a well-declared script, a grouping has exactly the characters that one of its terms adds and no later term
+/// removes. A name among the terms means the grouping of that name in the whole script.
 pub fn groupings_are_their_terms()
     ensures have { GroupingsHaveTheirTerms }
     ensures computed { GroupingsAreTheirTerms }
@@ -56,19 +71,56 @@ pub fn groupings_are_their_terms()
     well_declared_passes();
 }
 
-/// A run does not depend on what it has not touched: two scripts that agree outside some items run a word alike, where its run
-/// under the first touches none of these.
+/// A run does not depend on items that it does not touch. If two scripts agree outside some items, and the run of a
+/// word under the first touches none of them, the word runs alike under both. If these items include a grouping, they
+/// have to include every grouping that is built from it.
 pub fn frame()
     ensures { Frame }
 {}
 
-/// An edit of a script agrees with it outside the item that it replaces, and names of routines stay.
+/// In a well-declared script, if the items that an item affects include a grouping, they include all groupings built
+/// from it, directly or through others. So the frame law applies to these items.
+pub fn affected_is_closed()
+    ensures { AffectedIsClosed }
+{
+    well_declared_passes();
+}
+
+/// After an edit, the script agrees with the old one outside the replaced item and, if that is a grouping, the
+/// groupings built from it. The names of routines and groupings stay, and the routine or grouping of the replaced item
+/// is in the script.
 pub fn edits_agree()
     ensures agree { EditsAgree }
     ensures names { NamesStay }
+    ensures there { EditedAreThere }
 {}
 
-/// After an edit a word whose run did not touch the replaced item runs as before, and touches the same.
+/// After an edit, a word runs as before and touches the same, if its run before the edit touched neither the replaced
+/// item nor a grouping that is built from it.
 pub fn untouched_stay()
     ensures { UntouchedStay }
+{
+    well_declared_passes();
+}
+
+/// If two scripts agree outside the items that one item affects, a word whose run met none of these items runs as
+/// before and touches the same.
+pub fn unmet_stay()
+    ensures { UnmetStay }
+{
+    well_declared_passes();
+}
+
+/// If two scripts agree outside some items, they have the same names of routines and groupings. If these items also
+/// include each grouping built from one of them, a word whose run touches none of these items runs as before, and
+/// touches the same, by name and by number.
+pub fn clear_stay()
+    ensures names { AgreeingNamesStay }
+    ensures clear { ClearStay }
+{}
+
+/// If two scripts differ only in bodies of routines, they agree outside the items in which they differ, and these items
+/// are closed under what is built from them.
+pub fn differing_agree()
+    ensures { DifferingAgree }
 {}

@@ -1,21 +1,25 @@
-//! The machine that runs Snowball scripts: what a run does to a word, step by step.
+//! The machine that runs Snowball scripts, and what a run does to a word, step by step.
 #![tactic(auto)]
 
+mod built;
 mod fault;
 mod item;
 pub mod laws;
+mod limit;
 mod machine;
+mod marks;
 mod meter;
 mod naming;
 mod outcome;
 
 pub use fault::RunStop;
 pub use item::Item;
+pub use limit::DEFAULT_LIMIT;
 pub use machine::Machine;
 pub use meter::Meter;
-pub use outcome::{Outcome, Ran, Traced};
-pub use sbl_run::{RunFault, Touch};
+pub use outcome::{Outcome, Ran, Traced, Why};
+pub use sbl_run::{Event, RunFault, Touch, Touched};
 pub use sbl_tables::{AmongSearch, LinkedTable, PlainTable};
 
-/// The search that a program runs on.
+/// The tables that a program searches.
 pub type Table = LinkedTable;

@@ -1,29 +1,35 @@
 //! The machine.
 
-ghost use Rattle.std.specs.Prelude.{◌≡◌, ◌<◌, ◌≤◌, ◌+◌, length, map, IfOk, MatchResult, ◌↔◌, Err};
+ghost use Rattle.std.specs.Prelude.{◌≡◌, ◌<◌, ◌≤◌, ◌+◌, true, length, map, IfOk, MatchResult, ◌↔◌, Err};
 ghost use Rattle.std.specs.List.{list_any};
 ghost use Rattle.sbl_run.specs.Kept.{Follows};
 ghost use Rattle.sbl_machine.specs.MachineOf.{IsMachineOf};
+ghost use Rattle.sbl_machine.specs.Marks.{AreMarksOf, has_item};
 ghost use Rattle.sbl_machine.specs.Outcome.{outcome_at, outcome_of, run_of, touched_at, touches_of, used_at, used_of};
-ghost use Rattle.sbl_machine.specs.Touched.{item_of, items_in, items_of, named, routine_names, same_item, touched_of};
+ghost use Rattle.sbl_machine.specs.Touched.{item_of, items_in, items_of, named, names_of, same_item, touched_of};
 ghost use Rattle.sbl_script.specs.Parsed.{Source, source_of};
 ghost use Rattle.sbl_run.specs.State.{Ending};
+ghost use Rattle.sbl_run.specs.Events.{event_of};
+ghost use Rattle.sbl_run.specs.Told.{told_of};
+ghost use Rattle.sbl_machine.specs.Why.{events_at, events_in, events_of};
 
 use crate::fault::RunStop;
 use crate::item::Item;
+use crate::marks::marks_of;
 use crate::meter::Meter;
-use crate::naming::{is_touched, items_touched};
-use crate::outcome::{Outcome, Ran, Traced};
+use crate::naming::{Names, is_touched, items_touched};
+use crate::outcome::{Outcome, Ran, Traced, Why};
 use sbl_numbering::{Made, numbered};
 use sbl_program::Program;
-use sbl_run::{Halt, RunFault, Runner, State, TableList, Touch, tables_of};
+use sbl_run::{Event, Halt, RunFault, Runner, State, TableList, Touch, Touched, tables_of};
 use sbl_script::Script;
+use sbl_script::laws::is_spelled;
 use sbl_tables::AmongSearch;
 use sbl_tree::Mode;
 use std::alloc::{AllocError, Global};
 use std::collections::BTreeSet;
 
-/// How deep the calls of routines may go, the external counted as one.
+/// The maximum depth of calls of routines, counting the external as 1.
 const MAX_LEVELS: u32 = 32;
 
 /// A script, ready to run.
@@ -31,30 +37,38 @@ const MAX_LEVELS: u32 = 32;
 pub struct Machine<S> {
     tables: TableList<S>,
     program: Program,
-    // The routines, in the order of their definitions.
-    names: Vec<String>,
+    names: Names,
 }
 
 impl<S: AmongSearch> Machine<S> {
-    /// The machine of a script, which owns what it needs of it. AllocError where a growth was refused.
+    /// Returns the machine of a script. The machine owns what it needs of the script.
+    ///
+    /// Returns `AllocError` if an allocation fails.
     pub fn new(alloc: Global, script: &Script) -> Result<Machine<S>, AllocError>
         ensures { IfOk result (λ m. IsMachineOf S S.entries S.mode m (source_of script.now)) }
     {
         let Made {
             program,
             amongs,
-            routines: names,
+            routines,
+            groupings,
         } = numbered(alloc, script.items(), script.external())?;
         let tables = tables_of(alloc, &amongs)?;
         Ok(Machine {
             tables: TableList { tables },
             program,
-            names,
+            names: Names {
+                routines,
+                groupings,
+            },
         })
     }
 
-    /// Runs the script over a word with so many steps, and tells the items that the run touched. `MeterFull` where the meter
-    /// counts no further, `OutOfMemory` where a growth was refused; the meter is then as before, else it is raised by one.
+    /// Runs the script on a word with at most `limit` steps, and returns the items that the run touched, too. Adds one
+    /// to the count of the meter.
+    ///
+    /// Returns `MeterFull` exactly if the count is `u64::MAX`, and `OutOfMemory` if an allocation fails. The count then
+    /// stays.
     pub fn run(
         &self,
         alloc: Global,
@@ -83,7 +97,7 @@ impl<S: AmongSearch> Machine<S> {
         })
     }
 
-    /// The same as `run`, but what was touched comes as numbers, which `items` and `touched` read.
+    /// The same as `run`, but returns what the run touched by number. `items` and `touched` read these numbers.
     pub fn trace(
         &self,
         alloc: Global,
@@ -103,23 +117,71 @@ impl<S: AmongSearch> Machine<S> {
         Ok(traced)
     }
 
-    /// What was touched, by names, each once, in order: routines in code point order, then amongs by routine and number. A number
-    /// past the routines has an empty name. AllocError where a growth was refused.
+    /// Runs the script on a word with at most `limit` steps, and returns the events of the run, too.
+    ///
+    /// Returns `AllocError` if an allocation fails.
+    pub fn why(&self, alloc: Global, word: &[char], limit: u32) -> Result<Why, AllocError>
+        requires { length word.now ≤ 255 }
+        ensures outcome { (script : Source) → IsMachineOf S S.entries S.mode self.now script → IfOk result (λ why. outcome_of why.outcome ≡ run_of script word.now limit) }
+        ensures events { (script : Source) → IsMachineOf S S.entries S.mode self.now script → IfOk result (λ why. map event_of why.events.items ≡ events_of script word.now limit) }
+        ensures used { (script : Source) → IsMachineOf S S.entries S.mode self.now script → IfOk result (λ why. why.used ≡ used_of script word.now limit) }
+    {
+        let mut state = State::new(alloc);
+        state.restart(&self.program, word, limit)?;
+        state.ask();
+        let runner = Runner {
+            tables: &self.tables,
+            program: &self.program,
+            levels: MAX_LEVELS,
+            mode: Mode::Forward,
+        };
+        let end = runner.run_call(self.program.external, &mut state);
+        let traced = ended(alloc, end, limit, &state)?;
+        Ok(Why {
+            outcome: traced.outcome,
+            events: told_events(alloc, state.take_told()),
+            used: traced.used,
+        })
+    }
+
+    /// Returns the items that were touched, each once, in order: routines by name in code point order, then amongs by
+    /// routine and number, then groupings by name. If no routine or grouping has a number, its name is empty.
+    ///
+    /// Returns `AllocError` if an allocation fails.
     pub fn items(&self, alloc: Global, touches: &[Touch]) -> Result<BTreeSet<Item>, AllocError>
-        ensures { (script : Source) → IsMachineOf S S.entries S.mode self.now script → IfOk result (λ set. items_in set ≡ items_of (routine_names script) touches.now) }
+        ensures { (script : Source) → IsMachineOf S S.entries S.mode self.now script → IfOk result (λ set. items_in set ≡ items_of (names_of script) touches.now) }
     {
-        items_touched(alloc, self.names.as_slice(), touches)
+        items_touched(alloc, &self.names, touches)
     }
 
-    /// Whether an item is one of those that were touched. It takes no memory.
+    /// Whether an item is one of those that were touched. Does not allocate.
     pub fn touched(&self, touches: &[Touch], item: &Item) -> bool
-        ensures { (script : Source) → IsMachineOf S S.entries S.mode self.now script → result ≡ list_any (same_item (item_of item.now)) (map (named (routine_names script)) touches.now) }
+        ensures { (script : Source) → IsMachineOf S S.entries S.mode self.now script → result ≡ list_any (same_item (item_of item.now)) (map (named (names_of script)) touches.now) }
     {
-        is_touched(self.names.as_slice(), touches, item)
+        is_touched(&self.names, touches, item)
     }
 
-    // A run that the meter does not count yet, in the state that it keeps. `MeterFull` where it counts no further, `OutOfMemory`
-    // where a growth was refused.
+    /// Returns what an edit of an item affects, by number: the item and, if it is a grouping, all groupings that are
+    /// built from it, directly or through others. This holds if the machine is that of the script and the script
+    /// defines the routine or grouping of the item.
+    ///
+    /// # Errors
+    ///
+    /// Returns `AllocError` if an allocation fails.
+    pub fn affected(
+        &self,
+        alloc: Global,
+        script: &Script,
+        item: &Item,
+    ) -> Result<Touched, AllocError>
+        ensures { IsMachineOf S S.entries S.mode self.now (source_of script.now) → has_item (names_of (source_of script.now)) (item_of item.now) ≡ true → IfOk result (λ marks. AreMarksOf (source_of script.now) (item_of item.now) marks) }
+    {
+        is_spelled(script);
+        marks_of(alloc, &self.names, script.items(), item)
+    }
+
+    // Runs with the state that the meter keeps, and does not count the run. Returns `MeterFull` if the meter cannot
+    // count another run, and `OutOfMemory` if an allocation fails.
     fn run_unless_full(
         &self,
         alloc: Global,
@@ -141,7 +203,7 @@ impl<S: AmongSearch> Machine<S> {
         Ok(self.run_in(alloc, &mut meter.state, word, limit)?)
     }
 
-    // A run in the state of an earlier one, or in one of its own, which is kept then.
+    // Runs in the state of an earlier run, or in a new state, which it then keeps.
     fn run_in(
         &self,
         alloc: Global,
@@ -165,7 +227,7 @@ impl<S: AmongSearch> Machine<S> {
         }
     }
 
-    // The run itself.
+    // Makes the run.
     fn ran(
         &self,
         alloc: Global,
@@ -190,7 +252,7 @@ impl<S: AmongSearch> Machine<S> {
     }
 }
 
-/// What a run gave that ended so. AllocError where it was for want of memory.
+/// Returns the result of a run that ended in this way. Returns `AllocError` if it ended because an allocation failed.
 fn ended(
     alloc: Global,
     end: Result<bool, Halt>,
@@ -200,6 +262,7 @@ fn ended(
     ensures outcome { (e : Ending) → Follows end state.now e → IfOk result (λ traced. outcome_of traced.outcome ≡ outcome_at e) }
     ensures touches { (e : Ending) → Follows end state.now e → IfOk result (λ traced. traced.touches.items ≡ touched_at e) }
     ensures used { (e : Ending) → Follows end state.now e → IfOk result (λ traced. traced.used ≡ used_at limit e) }
+    ensures told { (e : Ending) → Follows end state.now e → IfOk result (λ _. events_in state.now.told ≡ events_at e) }
 {
     let paid = u64::from(limit.saturating_sub(state.steps()));
     let touches = state.touches().to_vec(alloc)?;
@@ -221,5 +284,15 @@ fn ended(
             touches,
             used: paid,
         }),
+    }
+}
+
+/// Returns the recorded events, or none if events were not recorded.
+fn told_events(alloc: Global, told: Option<Vec<Event>>) -> Vec<Event>
+    ensures { map event_of result.items ≡ events_in (told_of told) }
+{
+    match told {
+        None => Vec::new(alloc),
+        Some(events) => events,
     }
 }

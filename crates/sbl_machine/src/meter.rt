@@ -5,11 +5,11 @@ ghost use Rattle.std.specs.Prelude.{◌≡◌, ◌+◌, ◌<◌, IsTrue, false, 
 use sbl_run::State;
 use std::marker::Model;
 
-/// Counts the runs that were made, and keeps what the last one leaves to the next.
+/// Counts runs, and keeps the buffers of the last run for the next.
 #[derive(Drop)]
 pub struct Meter {
     runs: u64,
-    // The state of the runs, one after another: each begins in the buffers that the one before it leaves.
+    // The state of the last run. The next run begins in its buffers.
     pub(crate) state: Option<State>,
 }
 
@@ -22,7 +22,7 @@ impl Model for Meter {
 }
 
 impl Meter {
-    /// A meter that has counted nothing.
+    /// Returns a meter with count 0.
     pub fn new() -> Meter
         ensures { result ≡ 0 }
     {
@@ -32,14 +32,14 @@ impl Meter {
         }
     }
 
-    /// How many runs were made.
+    /// Returns the number of runs.
     pub fn count(&self) -> u64
         ensures { result ≡ self.now }
     {
         self.runs
     }
 
-    /// Whether it counts no further.
+    /// Whether the count is `u64::MAX`, so that the meter cannot count another run.
     pub fn is_full(&self) -> bool
         ensures at_end { IsTrue result ↔ (self.now ≡ u64.MAX) }
         ensures room { result ≡ false → self.now < u64.MAX }
@@ -47,7 +47,7 @@ impl Meter {
         self.count() == u64::MAX
     }
 
-    /// Counts one more run.
+    /// Adds one to the count.
     pub(crate) fn count_run(&mut self)
         requires { self.old < u64.MAX }
         ensures { self.new ≡ self.old + 1 }

@@ -1,4 +1,4 @@
-//! What is touched, by names.
+//! The items that a run touches, by name.
 
 ghost use Rattle.std.specs.Prelude.{◌≡◌, ◌<◌, IfOk, OnOk, map, string_bytes, slice_index_or, []};
 ghost use Rattle.std.specs.BTreeSet.{insert_key};
@@ -9,8 +9,27 @@ use crate::item::Item;
 use sbl_run::Touch;
 use std::alloc::{AllocError, Global};
 use std::collections::BTreeSet;
+use std::marker::Model;
 
-// The name of a routine; empty where there is none of this number.
+/// The names of a script's routines and groupings, each in the order of their definitions.
+#[derive(Drop)]
+pub struct Names {
+    /// The routines.
+    pub routines: Vec<String>,
+    /// The groupings.
+    pub groupings: Vec<String>,
+}
+
+impl Model for Names {
+    ghost use Rattle.std.specs.Prelude.{map, string_bytes};
+    ghost use Rattle.sbl_machine.specs.Touched.{Names'};
+
+    ghost Value = { Names' };
+
+    ghost view = { λ n. record { routines = map string_bytes n.routines.items; groupings = map string_bytes n.groupings.items } };
+}
+
+// Returns the name of the routine or grouping with this number, or an empty name if there is none.
 fn name_at(names: &[String], number: usize) -> &str
     ensures { result.now ≡ slice_index_or (map string_bytes names.now) number [] }
 {
@@ -20,19 +39,23 @@ fn name_at(names: &[String], number: usize) -> &str
     }
 }
 
-// What is touched, by its routine's name. AllocError where a growth was refused.
-fn item_named(alloc: Global, names: &[String], touch: Touch) -> Result<Item, AllocError>
-    ensures { IfOk result (λ item. item_of item ≡ named (map string_bytes names.now) touch) }
+// Returns the item of a touch. Returns `AllocError` if an allocation fails.
+fn item_named(alloc: Global, names: &Names, touch: Touch) -> Result<Item, AllocError>
+    ensures { IfOk result (λ item. item_of item ≡ named names.now touch) }
 {
     match touch {
         Touch::Entered(routine) => Ok(Item::Routine(String::from_str(
             alloc,
-            name_at(names, routine as usize),
+            name_at(&names.routines, routine as usize),
         )?)),
         Touch::Searched(routine, among) => {
-            let name = String::from_str(alloc, name_at(names, routine as usize))?;
+            let name = String::from_str(alloc, name_at(&names.routines, routine as usize))?;
             Ok(Item::Among(name, u64::from(among) + 1))
         }
+        Touch::Tested(grouping) => Ok(Item::Grouping(String::from_str(
+            alloc,
+            name_at(&names.groupings, grouping as usize),
+        )?)),
     }
 }
 
@@ -45,13 +68,13 @@ fn add_item(items: &mut BTreeSet<Item>, item: Item) -> Result<(), AllocError>
     }
 }
 
-/// The items that are touched, each once, in order. AllocError where a growth was refused.
+/// Returns the items that are touched, each once, in order. Returns `AllocError` if an allocation fails.
 pub fn items_touched(
     alloc: Global,
-    names: &[String],
+    names: &Names,
     touches: &[Touch],
 ) -> Result<BTreeSet<Item>, AllocError>
-    ensures { IfOk result (λ set. items_in set ≡ items_of (map string_bytes names.now) touches.now) }
+    ensures { IfOk result (λ set. items_in set ≡ items_of names.now touches.now) }
 {
     let mut items = BTreeSet::new(alloc);
     let mut left = touches.len();
@@ -62,25 +85,33 @@ pub fn items_touched(
     Ok(items)
 }
 
-// Whether a touch is that of an item.
-fn is_touch_of(names: &[String], touch: Touch, item: &Item) -> bool
-    ensures { result ≡ same_item (item_of item.now) (named (map string_bytes names.now) touch) }
+// Whether a touch is of this item.
+fn is_touch_of(names: &Names, touch: Touch, item: &Item) -> bool
+    ensures { result ≡ same_item (item_of item.now) (named names.now touch) }
 {
-    match (item, touch) {
-        (Item::Routine(name), Touch::Entered(routine)) => {
-            name.as_str() == name_at(names, routine as usize)
-        }
-        (Item::Among(name, number), Touch::Searched(routine, among)) => {
-            *number == u64::from(among) + 1 && name.as_str() == name_at(names, routine as usize)
-        }
-        (Item::Routine(_), Touch::Searched(_, _)) => false,
-        (Item::Among(_, _), Touch::Entered(_)) => false,
+    match item {
+        Item::Routine(name) => match touch {
+            Touch::Entered(routine) => name.as_str() == name_at(&names.routines, routine as usize),
+            Touch::Searched(_, _) | Touch::Tested(_) => false,
+        },
+        Item::Among(name, number) => match touch {
+            Touch::Searched(routine, among) => {
+                *number == u64::from(among) + 1
+                    && name.as_str() == name_at(&names.routines, routine as usize)
+            }
+            Touch::Entered(_) | Touch::Tested(_) => false,
+        },
+        Item::Grouping(name) => match touch {
+            Touch::Tested(grouping) => name.as_str()
+                == name_at(&names.groupings, grouping as usize),
+            Touch::Entered(_) | Touch::Searched(_, _) => false,
+        },
     }
 }
 
-/// Whether an item is among the touched ones.
-pub fn is_touched(names: &[String], touches: &[Touch], item: &Item) -> bool
-    ensures { result ≡ list_any (same_item (item_of item.now)) (map (named (map string_bytes names.now)) touches.now) }
+/// Whether one of the touches is of this item.
+pub fn is_touched(names: &Names, touches: &[Touch], item: &Item) -> bool
+    ensures { result ≡ list_any (same_item (item_of item.now)) (map (named names.now) touches.now) }
 {
     for touch in touches {
         if is_touch_of(names, *touch, item) {

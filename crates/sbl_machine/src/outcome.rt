@@ -1,36 +1,47 @@
-//! What a run gives.
+//! The result of a run.
 
 use crate::item::Item;
-use sbl_run::{RunFault, Touch};
+use sbl_run::{Event, RunFault, Touch};
 use std::collections::BTreeSet;
 
-/// What a run of a script does to a word.
+/// The outcome of a run of a script on a word.
 #[derive(Debug, Drop, PartialEq, Eq)]
 pub enum Outcome {
-    /// The word's stem: the text as it stands when the external ends.
+    /// The stem of the word: the text when the external ends.
     Stem(Vec<char>),
-    /// The run is refused.
+    /// The run was refused.
     Refused(RunFault),
 }
 
-/// What a run gave, what it touched, and what it cost.
+/// The outcome of a run, the items that it touched, and the steps that it used.
 #[derive(Debug, Drop, PartialEq, Eq)]
 pub struct Ran {
     /// The stem, or why there is none.
     pub outcome: Outcome,
-    /// The routines that were entered and the amongs that were searched, in order.
+    /// The routines that the run entered, the amongs that it searched and the groupings that it tested, in order.
     pub touched: BTreeSet<Item>,
-    /// The steps that were paid; one more than the limit where the run was refused as Steps.
+    /// The number of steps used; `limit` + 1 if the run was refused for its steps.
     pub used: u64,
 }
 
-/// The same as `Ran`, with numbers in place of names.
+/// The same as `Ran`, with numbers instead of names.
 #[derive(Debug, Drop, PartialEq, Eq)]
 pub struct Traced {
     /// The stem, or why there is none.
     pub outcome: Outcome,
-    /// What was touched, each once, in the order of first touch.
+    /// What the run touched, each once, in the order of first touch.
     pub touches: Vec<Touch>,
-    /// The steps that were paid; one more than the limit where the run was refused as Steps.
+    /// The number of steps used; `limit` + 1 if the run was refused for its steps.
+    pub used: u64,
+}
+
+/// Why a word has its stem.
+#[derive(Debug, Drop, PartialEq, Eq)]
+pub struct Why {
+    /// The stem, or why there is none.
+    pub outcome: Outcome,
+    /// The events of the run, in order, up to its end or to where it was refused.
+    pub events: Vec<Event>,
+    /// The number of steps used; `limit` + 1 if the run was refused for its steps.
     pub used: u64,
 }

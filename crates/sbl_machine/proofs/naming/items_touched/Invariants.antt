@@ -1,9 +1,9 @@
-use Rattle.std.proofs.Common.{◌≡◌, ◌≤◌, drop, length, map, string_bytes}
+use Rattle.std.proofs.Common.{◌≡◌, ◌≤◌, drop, length}
 use Rattle.sbl_machine.specs.Touched.{items_in, items_of}
 use Rattle.sbl_machine.proofs.naming.items_touched.Given as goal
 
 abbrev pub invariant-loop-left : goal.invariant-loop-left
-invariant-loop-left l = (l.left ≤ length l.touches) × (items_in l.items ≡ items_of (map string_bytes l.names) (drop l.left l.touches))
+invariant-loop-left l = (l.left ≤ length l.touches) × (items_in l.items ≡ items_of l.names (drop l.left l.touches))
 
 abbrev pub decreases-loop-left : goal.decreases-loop-left
 decreases-loop-left l = l.left

@@ -1,5 +1,7 @@
-use Rattle.std.proofs.Common.{map, ap, ◌∙◌, ℕ}
+use Rattle.std.proofs.Common.{List, map, ap, ◌∙◌, ℕ, string_bytes}
 use Rattle.sbl_tree.specs.Order.{in_order}
+use Rattle.sbl_tree.specs.Tree.{Item}
+use Rattle.sbl_machine.specs.Touched.{Names'}
 use Rattle.sbl_tree.specs.declared.tree.DeclarationKind.TheVariants as kinds
 use Rattle.sbl_numbering.specs.Items.{known_in}
 use Rattle.sbl_program.specs.Listed.{Listed}
@@ -11,6 +13,9 @@ use Rattle.sbl_run.proofs.NumberingTables.{same_tables}
 use Rattle.sbl_tree.specs.View.{view_items}
 use Rattle.sbl_machine.proofs.machine.Machine.new.Goals as goal
 
+abbrev names_in : List Item → Names'
+names_in items = record { routines = known_in (in_order items) kinds.Routines; groupings = known_in (in_order items) kinds.Groupings }
+
 pub returns : goal.returns
 unfolding IsMachineOf
 returns g c =
@@ -21,5 +26,7 @@ returns g c =
           ∙ c.in_ok-program.ensures.program
           ∙ ap (λ is. numbered_items (view_items is) c.external.result.now) c.items.ensures
           ∙ ap (numbered_items items) c.external.ensures,
-      c.in_ok-program.ensures.routines ∙ ap (λ is. known_in (in_order (view_items is)) kinds.Routines) c.items.ensures,
+      ap (λ (rs : List (List ℕ)). record { routines = rs; groupings = map string_bytes made.groupings.items }) c.in_ok-program.ensures.routines
+          ∙ ap (λ (gs : List (List ℕ)). record { routines = known_in (in_order (view_items c.items.result.now)) kinds.Routines; groupings = gs }) c.in_ok-program.ensures.groupings
+          ∙ ap (λ is. names_in (view_items is)) c.items.ensures,
     )

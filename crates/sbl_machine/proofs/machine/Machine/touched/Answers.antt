@@ -1,4 +1,4 @@
-use Rattle.std.proofs.Common.{ap, map, string_bytes, ◌∙◌}
+use Rattle.std.proofs.Common.{ap, map, ◌∙◌}
 use Rattle.std.specs.List.{list_any}
 use Rattle.sbl_machine.specs.MachineOf.{IsMachineOf}
 use Rattle.sbl_machine.specs.Touched.{item_of, named, same_item}
@@ -7,6 +7,4 @@ use Rattle.sbl_machine.proofs.machine.Machine.touched.Goals as goal
 pub returns : goal.returns
 unfolding IsMachineOf
 returns g c script h =
-    c.is_touched.ensures
-    ∙ ap (λ names. list_any (same_item (item_of c.args.item.now)) (map (named names) c.args.touches.now))
-    (ap (map string_bytes) c.as_slice.ensures.value ∙ h.1)
+    c.is_touched.ensures ∙ ap (λ names. list_any (same_item (item_of c.args.item.now)) (map (named names) c.args.touches.now)) h.1

@@ -1,0 +1,630 @@
+-- Two scripts agree outside the items in which they differ.
+use Rattle.std.proofs.Common.{◌≡◌, ◌∙◌, ◌+◌, ℕ, zero, suc, Bool, true, false, ◌&&◌, ◌||◌, nat_eq, if◌then◌else◌, List, [], ◌∷◌, ◌++◌, map, Option, Some, None, refl, sym, ap, subst, arith}
+use Rattle.std.specs.Prelude.{⊤}
+use Rattle.std.specs.List.{list_all, list_any}
+use Rattle.std.specs.Option.{option_or}
+use Rattle.std.specs.Str.{bytes_eq}
+use Rattle.std.proofs.lemmas.Bool.{eq-eqb, eqb-true, true≢false}
+use Rattle.std.proofs.lemmas.List.Folds.{list_all-append}
+use Rattle.std.proofs.lemmas.Option.{none-some, same_Some}
+use Rattle.std.proofs.lemmas.Slice.Eq.{bytes_eq-Decides}
+use Rattle.sbl_tree.specs.Counts.{count_in_among}
+use Rattle.sbl_tree.specs.Tree.{Command, Rows, Others, Starter, Groups, bracket, simple_, literal_, name_, non_, prefixed, counted, move_, named, splice_, setlimit_, assign_, compare_, compare_values_, among_, no_rows, row, no_others, joined, no_starter, starter, bare, group, Plain, declaration, escapes, macro, routine, grouping, Item, plain, backward}
+use Rattle.sbl_numbering.specs.Regions.{behind, behind_rows, behind_others, behind_starter, behind_groups}
+use Rattle.sbl_script.specs.Parsed.{Source}
+use Rattle.sbl_machine.specs.Differs.{when, join, differ, differ_rows, differ_others, differ_starter, differ_groups, items_by, differ_plain, differ_plains, differ_item, differ_items, differs, is_one_of}
+use Rattle.sbl_machine.specs.Frame.{AgreeOutside, DifferingAgree}
+use Rattle.sbl_machine.specs.Holes.{hole, with_holes, rows_with_holes, others_with_holes, starter_with_holes, groups_with_holes, holed_plain, holed_item}
+use Rattle.sbl_machine.specs.Same.{same_argument, same_base, same_kind, same_names, same_quoted, same_terms}
+use Rattle.sbl_machine.specs.Touched.{Item', Routine, Among, Grouping, same_item}
+use Rattle.sbl_machine.proofs.BuiltFrom.{none_closed}
+use Rattle.sbl_machine.proofs.HoledPuts.{behind_is, hole_same}
+use Rattle.sbl_machine.proofs.SameParts.{both, name_is, simple_is, prefix_is, times_is, move_is, naming_is, splicing_is, assignment_is, comparison_is, joiner_is, kind_is, flag_is, quoted_is, argument_is, expression_is, entry_is, entries_are, names_are, base_is, terms_are}
+
+-- ---- parts one after another
+
+record Both {X : Type 0} (x y : Option (List X)) (ks : List X) : Type 0 where
+  first : List X
+  second : List X
+  one : x ≡ Some first
+  other : y ≡ Some second
+  is : ks ≡ first ++ second
+
+halves : {X : Type 0} (x y : Option (List X)) (ks : List X) → join x y ≡ Some ks → Both x y ks
+halves (Some a) (Some b) ks e = record { first = a; second = b; one = refl; other = refl; is = sym (same_Some (a ++ b) ks e) }
+halves (Some a) None ks e = absurd (none-some ks e)
+halves None y ks e = absurd (none-some ks e)
+
+whole : {X : Type 0} (b : Bool) (ks : List X) → when b ≡ Some ks → b ≡ true
+whole true ks e = refl
+whole false ks e = absurd (none-some ks e)
+
+if_so : {X : Type 0} (b : Bool) (x : Option X) (k : X) → (if b then x else None) ≡ Some k → (b ≡ true) × (x ≡ Some k)
+if_so true x k e = (refl, e)
+if_so false x k e = absurd (none-some k e)
+
+covered : {X : Type 0} (test : X → Bool) (ks a b : List X) → ks ≡ a ++ b → list_all test ks ≡ true → (list_all test a ≡ true) × (list_all test b ≡ true)
+covered test ks a b e h = both _ _ (sym (list_all-append test a b) ∙ sym (ap (list_all test) e) ∙ h)
+
+-- ---- commands
+
+module _ (holes : ℕ → Bool) where
+  abbrev All : List ℕ → Type 0
+  All ks = list_all holes ks ≡ true
+
+  abbrev Alike : ℕ → ℕ → Command → Command → Type 0
+  Alike k l c d = (with_holes holes k c ≡ with_holes holes l d) × (behind c k ≡ behind d l)
+
+  as_many : (s t : Starter) (gs hs : Groups) (k l : ℕ) → k ≡ l → behind (among_ s gs) k ≡ behind (among_ t hs) l → count_in_among (s, gs) ≡ count_in_among (t, hs)
+  as_many s t gs hs k l p e = let x = behind_is (among_ s gs) k in let y = behind_is (among_ t hs) l in omega (arith, x, y, p, e)
+
+  behind_same : (s t : Starter) (gs hs : Groups) (k l : ℕ) → k ≡ l → count_in_among (s, gs) ≡ count_in_among (t, hs) → behind (among_ s gs) k ≡ behind (among_ t hs) l
+  behind_same s t gs hs k l p e = let x = behind_is (among_ s gs) k in let y = behind_is (among_ t hs) l in omega (arith, x, y, p, e)
+
+  -- an among that stands for itself
+  itself : (s t : Starter) (gs hs : Groups) (k l : ℕ) → k ≡ l → (ks : List ℕ) (b : Bool) → nat_eq (count_in_among (s, gs)) (count_in_among (t, hs)) ≡ b → (if b then Some (suc k ∷ []) else None) ≡ Some ks → All ks → Alike k l (among_ s gs) (among_ t hs)
+  itself s t gs hs k l p ks false e is all = absurd (none-some ks is)
+  itself s t gs hs k l p ks true e is all =
+      let n = eqb-true _ _ e in
+      let at : holes (suc k) ≡ true = (both _ _ (ap (list_all holes) (same_Some (suc k ∷ []) ks is) ∙ all)).0 in
+      let also : holes (suc l) ≡ true = sym (ap (λ j. holes (suc j)) p) ∙ at in (
+        ap (λ b. if b then hole s gs else among_ (starter_with_holes holes (suc k) s) (groups_with_holes holes (behind_starter s (suc k)) gs)) at
+            ∙ hole_same t s hs gs n
+            ∙ sym (ap (λ b. if b then hole t hs else among_ (starter_with_holes holes (suc l) t) (groups_with_holes holes (behind_starter t (suc l)) hs)) also),
+        behind_same s t gs hs k l p n,
+      )
+
+  -- an among in which only amongs inside it differ
+  inside : (s t : Starter) (gs hs : Groups) (k l : ℕ) → k ≡ l → starter_with_holes holes (suc k) s ≡ starter_with_holes holes (suc l) t
+      → groups_with_holes holes (behind_starter s (suc k)) gs ≡ groups_with_holes holes (behind_starter t (suc l)) hs → behind (among_ s gs) k ≡ behind (among_ t hs) l → Alike k l (among_ s gs) (among_ t hs)
+  inside s t gs hs k l p a b e =
+      let h = hole_same t s hs gs (as_many s t gs hs k l p e) in
+      ((λ i. if holes (suc (p i)) then h i else among_ (a i) (b i)), e)
+
+  among_by : (s t : Starter) (gs hs : Groups) (k l : ℕ) → k ≡ l → (ks : List ℕ) → All ks → (a b : Option (List ℕ))
+      → ((x : List ℕ) → a ≡ Some x → All x → (starter_with_holes holes (suc k) s ≡ starter_with_holes holes (suc l) t) × (behind_starter s (suc k) ≡ behind_starter t (suc l)))
+      → ((y : List ℕ) → b ≡ Some y → behind_starter s (suc k) ≡ behind_starter t (suc l) → All y
+      → (groups_with_holes holes (behind_starter s (suc k)) gs ≡ groups_with_holes holes (behind_starter t (suc l)) hs) × (behind (among_ s gs) k ≡ behind (among_ t hs) l))
+      → option_or (join a b) (if nat_eq (count_in_among (s, gs)) (count_in_among (t, hs)) then Some (suc k ∷ []) else None) ≡ Some ks → Alike k l (among_ s gs) (among_ t hs)
+  among_by s t gs hs k l p ks all None b first second is = itself s t gs hs k l p ks (nat_eq (count_in_among (s, gs)) (count_in_among (t, hs))) refl is all
+  among_by s t gs hs k l p ks all (Some a) None first second is = itself s t gs hs k l p ks (nat_eq (count_in_among (s, gs)) (count_in_among (t, hs))) refl is all
+  among_by s t gs hs k l p ks all (Some a) (Some b) first second is =
+      let parts = covered holes ks a b (sym (same_Some (a ++ b) ks is)) all in
+      let x = first a refl parts.0 in
+      let y = second b refl x.1 parts.1 in
+      inside s t gs hs k l p x.0 y.0 y.1
+
+  mutual
+    sound : (c d : Command) (k l : ℕ) → k ≡ l → (ks : List ℕ) → differ k c d ≡ Some ks → All ks → Alike k l c d
+    sound (bracket rs) (bracket ss) k l p ks is all = let h = sound_rows rs ss k l p ks is all in (ap bracket h.0, h.1)
+    sound (simple_ x) (simple_ y) k l p ks is all = (ap simple_ (simple_is x y (whole _ ks is)), p)
+    sound (literal_ x) (literal_ y) k l p ks is all = (ap literal_ (quoted_is x y (whole _ ks is)), p)
+    sound (name_ x) (name_ y) k l p ks is all = (ap name_ (name_is x y (whole _ ks is)), p)
+    sound (non_ a m) (non_ b n) k l p ks is all =
+        let h = both _ _ (whole _ ks is) in
+        let x = flag_is a b h.0 in
+        let y = name_is m n h.1 in
+        ((λ i. non_ (x i) (y i)), p)
+    sound (prefixed x c) (prefixed y d) k l p ks is all =
+        let h = if_so _ _ ks is in
+        let e = prefix_is x y h.0 in
+        let j = sound c d k l p ks h.1 all in
+        ((λ i. prefixed (e i) (j.0 i)), j.1)
+    sound (counted x a c) (counted y b d) k l p ks is all =
+        let h = if_so _ _ ks is in
+        let g = both _ _ h.0 in
+        let e = times_is x y g.0 in
+        let f = expression_is a b g.1 in
+        let j = sound c d k l p ks h.1 all in
+        ((λ i. counted (e i) (f i) (j.0 i)), j.1)
+    sound (move_ x a) (move_ y b) k l p ks is all =
+        let h = both _ _ (whole _ ks is) in
+        let e = move_is x y h.0 in
+        let f = expression_is a b h.1 in
+        ((λ i. move_ (e i) (f i)), p)
+    sound (named x m) (named y n) k l p ks is all =
+        let h = both _ _ (whole _ ks is) in
+        let e = naming_is x y h.0 in
+        let f = name_is m n h.1 in
+        ((λ i. named (e i) (f i)), p)
+    sound (splice_ x a) (splice_ y b) k l p ks is all =
+        let h = both _ _ (whole _ ks is) in
+        let e = splicing_is x y h.0 in
+        let f = argument_is a b h.1 in
+        ((λ i. splice_ (e i) (f i)), p)
+    sound (setlimit_ b c) (setlimit_ d e) k l p ks is all =
+        let h = halves _ _ ks is in
+        let a = covered holes ks h.first h.second h.is all in
+        let x = sound b d k l p h.first h.one a.0 in
+        let y = sound c e (behind b k) (behind d l) x.1 h.second h.other a.1 in
+        ((λ i. setlimit_ (x.0 i) (y.0 i)), y.1)
+    sound (assign_ m o a) (assign_ n u b) k l p ks is all =
+        let h = both _ _ (whole _ ks is) in
+        let j = both _ _ h.1 in
+        let e = name_is m n h.0 in
+        let f = assignment_is o u j.0 in
+        let g = expression_is a b j.1 in
+        ((λ i. assign_ (e i) (f i) (g i)), p)
+    sound (compare_ m o a) (compare_ n u b) k l p ks is all =
+        let h = both _ _ (whole _ ks is) in
+        let j = both _ _ h.1 in
+        let e = name_is m n h.0 in
+        let f = comparison_is o u j.0 in
+        let g = expression_is a b j.1 in
+        ((λ i. compare_ (e i) (f i) (g i)), p)
+    sound (compare_values_ m o a) (compare_values_ n u b) k l p ks is all =
+        let h = both _ _ (whole _ ks is) in
+        let j = both _ _ h.1 in
+        let e = expression_is m n h.0 in
+        let f = comparison_is o u j.0 in
+        let g = expression_is a b j.1 in
+        ((λ i. compare_values_ (e i) (f i) (g i)), p)
+    sound (among_ s gs) (among_ t hs) k l p ks is all =
+        among_by s t gs hs k l p ks all (differ_starter (suc k) s t) (differ_groups (behind_starter s (suc k)) gs hs)
+        (λ a x q. sound_starter s t (suc k) (suc l) (ap suc p) a x q)
+        (λ b y e q. sound_groups gs hs (behind_starter s (suc k)) (behind_starter t (suc l)) e b y q) is
+    sound (bracket x0) (simple_ y0) k l p ks is all = absurd (none-some ks is)
+    sound (bracket x0) (literal_ y0) k l p ks is all = absurd (none-some ks is)
+    sound (bracket x0) (name_ y0) k l p ks is all = absurd (none-some ks is)
+    sound (bracket x0) (non_ y0 y1) k l p ks is all = absurd (none-some ks is)
+    sound (bracket x0) (prefixed y0 y1) k l p ks is all = absurd (none-some ks is)
+    sound (bracket x0) (counted y0 y1 y2) k l p ks is all = absurd (none-some ks is)
+    sound (bracket x0) (move_ y0 y1) k l p ks is all = absurd (none-some ks is)
+    sound (bracket x0) (named y0 y1) k l p ks is all = absurd (none-some ks is)
+    sound (bracket x0) (splice_ y0 y1) k l p ks is all = absurd (none-some ks is)
+    sound (bracket x0) (setlimit_ y0 y1) k l p ks is all = absurd (none-some ks is)
+    sound (bracket x0) (assign_ y0 y1 y2) k l p ks is all = absurd (none-some ks is)
+    sound (bracket x0) (compare_ y0 y1 y2) k l p ks is all = absurd (none-some ks is)
+    sound (bracket x0) (compare_values_ y0 y1 y2) k l p ks is all = absurd (none-some ks is)
+    sound (bracket x0) (among_ y0 y1) k l p ks is all = absurd (none-some ks is)
+    sound (simple_ x0) (bracket y0) k l p ks is all = absurd (none-some ks is)
+    sound (simple_ x0) (literal_ y0) k l p ks is all = absurd (none-some ks is)
+    sound (simple_ x0) (name_ y0) k l p ks is all = absurd (none-some ks is)
+    sound (simple_ x0) (non_ y0 y1) k l p ks is all = absurd (none-some ks is)
+    sound (simple_ x0) (prefixed y0 y1) k l p ks is all = absurd (none-some ks is)
+    sound (simple_ x0) (counted y0 y1 y2) k l p ks is all = absurd (none-some ks is)
+    sound (simple_ x0) (move_ y0 y1) k l p ks is all = absurd (none-some ks is)
+    sound (simple_ x0) (named y0 y1) k l p ks is all = absurd (none-some ks is)
+    sound (simple_ x0) (splice_ y0 y1) k l p ks is all = absurd (none-some ks is)
+    sound (simple_ x0) (setlimit_ y0 y1) k l p ks is all = absurd (none-some ks is)
+    sound (simple_ x0) (assign_ y0 y1 y2) k l p ks is all = absurd (none-some ks is)
+    sound (simple_ x0) (compare_ y0 y1 y2) k l p ks is all = absurd (none-some ks is)
+    sound (simple_ x0) (compare_values_ y0 y1 y2) k l p ks is all = absurd (none-some ks is)
+    sound (simple_ x0) (among_ y0 y1) k l p ks is all = absurd (none-some ks is)
+    sound (literal_ x0) (bracket y0) k l p ks is all = absurd (none-some ks is)
+    sound (literal_ x0) (simple_ y0) k l p ks is all = absurd (none-some ks is)
+    sound (literal_ x0) (name_ y0) k l p ks is all = absurd (none-some ks is)
+    sound (literal_ x0) (non_ y0 y1) k l p ks is all = absurd (none-some ks is)
+    sound (literal_ x0) (prefixed y0 y1) k l p ks is all = absurd (none-some ks is)
+    sound (literal_ x0) (counted y0 y1 y2) k l p ks is all = absurd (none-some ks is)
+    sound (literal_ x0) (move_ y0 y1) k l p ks is all = absurd (none-some ks is)
+    sound (literal_ x0) (named y0 y1) k l p ks is all = absurd (none-some ks is)
+    sound (literal_ x0) (splice_ y0 y1) k l p ks is all = absurd (none-some ks is)
+    sound (literal_ x0) (setlimit_ y0 y1) k l p ks is all = absurd (none-some ks is)
+    sound (literal_ x0) (assign_ y0 y1 y2) k l p ks is all = absurd (none-some ks is)
+    sound (literal_ x0) (compare_ y0 y1 y2) k l p ks is all = absurd (none-some ks is)
+    sound (literal_ x0) (compare_values_ y0 y1 y2) k l p ks is all = absurd (none-some ks is)
+    sound (literal_ x0) (among_ y0 y1) k l p ks is all = absurd (none-some ks is)
+    sound (name_ x0) (bracket y0) k l p ks is all = absurd (none-some ks is)
+    sound (name_ x0) (simple_ y0) k l p ks is all = absurd (none-some ks is)
+    sound (name_ x0) (literal_ y0) k l p ks is all = absurd (none-some ks is)
+    sound (name_ x0) (non_ y0 y1) k l p ks is all = absurd (none-some ks is)
+    sound (name_ x0) (prefixed y0 y1) k l p ks is all = absurd (none-some ks is)
+    sound (name_ x0) (counted y0 y1 y2) k l p ks is all = absurd (none-some ks is)
+    sound (name_ x0) (move_ y0 y1) k l p ks is all = absurd (none-some ks is)
+    sound (name_ x0) (named y0 y1) k l p ks is all = absurd (none-some ks is)
+    sound (name_ x0) (splice_ y0 y1) k l p ks is all = absurd (none-some ks is)
+    sound (name_ x0) (setlimit_ y0 y1) k l p ks is all = absurd (none-some ks is)
+    sound (name_ x0) (assign_ y0 y1 y2) k l p ks is all = absurd (none-some ks is)
+    sound (name_ x0) (compare_ y0 y1 y2) k l p ks is all = absurd (none-some ks is)
+    sound (name_ x0) (compare_values_ y0 y1 y2) k l p ks is all = absurd (none-some ks is)
+    sound (name_ x0) (among_ y0 y1) k l p ks is all = absurd (none-some ks is)
+    sound (non_ x0 x1) (bracket y0) k l p ks is all = absurd (none-some ks is)
+    sound (non_ x0 x1) (simple_ y0) k l p ks is all = absurd (none-some ks is)
+    sound (non_ x0 x1) (literal_ y0) k l p ks is all = absurd (none-some ks is)
+    sound (non_ x0 x1) (name_ y0) k l p ks is all = absurd (none-some ks is)
+    sound (non_ x0 x1) (prefixed y0 y1) k l p ks is all = absurd (none-some ks is)
+    sound (non_ x0 x1) (counted y0 y1 y2) k l p ks is all = absurd (none-some ks is)
+    sound (non_ x0 x1) (move_ y0 y1) k l p ks is all = absurd (none-some ks is)
+    sound (non_ x0 x1) (named y0 y1) k l p ks is all = absurd (none-some ks is)
+    sound (non_ x0 x1) (splice_ y0 y1) k l p ks is all = absurd (none-some ks is)
+    sound (non_ x0 x1) (setlimit_ y0 y1) k l p ks is all = absurd (none-some ks is)
+    sound (non_ x0 x1) (assign_ y0 y1 y2) k l p ks is all = absurd (none-some ks is)
+    sound (non_ x0 x1) (compare_ y0 y1 y2) k l p ks is all = absurd (none-some ks is)
+    sound (non_ x0 x1) (compare_values_ y0 y1 y2) k l p ks is all = absurd (none-some ks is)
+    sound (non_ x0 x1) (among_ y0 y1) k l p ks is all = absurd (none-some ks is)
+    sound (prefixed x0 x1) (bracket y0) k l p ks is all = absurd (none-some ks is)
+    sound (prefixed x0 x1) (simple_ y0) k l p ks is all = absurd (none-some ks is)
+    sound (prefixed x0 x1) (literal_ y0) k l p ks is all = absurd (none-some ks is)
+    sound (prefixed x0 x1) (name_ y0) k l p ks is all = absurd (none-some ks is)
+    sound (prefixed x0 x1) (non_ y0 y1) k l p ks is all = absurd (none-some ks is)
+    sound (prefixed x0 x1) (counted y0 y1 y2) k l p ks is all = absurd (none-some ks is)
+    sound (prefixed x0 x1) (move_ y0 y1) k l p ks is all = absurd (none-some ks is)
+    sound (prefixed x0 x1) (named y0 y1) k l p ks is all = absurd (none-some ks is)
+    sound (prefixed x0 x1) (splice_ y0 y1) k l p ks is all = absurd (none-some ks is)
+    sound (prefixed x0 x1) (setlimit_ y0 y1) k l p ks is all = absurd (none-some ks is)
+    sound (prefixed x0 x1) (assign_ y0 y1 y2) k l p ks is all = absurd (none-some ks is)
+    sound (prefixed x0 x1) (compare_ y0 y1 y2) k l p ks is all = absurd (none-some ks is)
+    sound (prefixed x0 x1) (compare_values_ y0 y1 y2) k l p ks is all = absurd (none-some ks is)
+    sound (prefixed x0 x1) (among_ y0 y1) k l p ks is all = absurd (none-some ks is)
+    sound (counted x0 x1 x2) (bracket y0) k l p ks is all = absurd (none-some ks is)
+    sound (counted x0 x1 x2) (simple_ y0) k l p ks is all = absurd (none-some ks is)
+    sound (counted x0 x1 x2) (literal_ y0) k l p ks is all = absurd (none-some ks is)
+    sound (counted x0 x1 x2) (name_ y0) k l p ks is all = absurd (none-some ks is)
+    sound (counted x0 x1 x2) (non_ y0 y1) k l p ks is all = absurd (none-some ks is)
+    sound (counted x0 x1 x2) (prefixed y0 y1) k l p ks is all = absurd (none-some ks is)
+    sound (counted x0 x1 x2) (move_ y0 y1) k l p ks is all = absurd (none-some ks is)
+    sound (counted x0 x1 x2) (named y0 y1) k l p ks is all = absurd (none-some ks is)
+    sound (counted x0 x1 x2) (splice_ y0 y1) k l p ks is all = absurd (none-some ks is)
+    sound (counted x0 x1 x2) (setlimit_ y0 y1) k l p ks is all = absurd (none-some ks is)
+    sound (counted x0 x1 x2) (assign_ y0 y1 y2) k l p ks is all = absurd (none-some ks is)
+    sound (counted x0 x1 x2) (compare_ y0 y1 y2) k l p ks is all = absurd (none-some ks is)
+    sound (counted x0 x1 x2) (compare_values_ y0 y1 y2) k l p ks is all = absurd (none-some ks is)
+    sound (counted x0 x1 x2) (among_ y0 y1) k l p ks is all = absurd (none-some ks is)
+    sound (move_ x0 x1) (bracket y0) k l p ks is all = absurd (none-some ks is)
+    sound (move_ x0 x1) (simple_ y0) k l p ks is all = absurd (none-some ks is)
+    sound (move_ x0 x1) (literal_ y0) k l p ks is all = absurd (none-some ks is)
+    sound (move_ x0 x1) (name_ y0) k l p ks is all = absurd (none-some ks is)
+    sound (move_ x0 x1) (non_ y0 y1) k l p ks is all = absurd (none-some ks is)
+    sound (move_ x0 x1) (prefixed y0 y1) k l p ks is all = absurd (none-some ks is)
+    sound (move_ x0 x1) (counted y0 y1 y2) k l p ks is all = absurd (none-some ks is)
+    sound (move_ x0 x1) (named y0 y1) k l p ks is all = absurd (none-some ks is)
+    sound (move_ x0 x1) (splice_ y0 y1) k l p ks is all = absurd (none-some ks is)
+    sound (move_ x0 x1) (setlimit_ y0 y1) k l p ks is all = absurd (none-some ks is)
+    sound (move_ x0 x1) (assign_ y0 y1 y2) k l p ks is all = absurd (none-some ks is)
+    sound (move_ x0 x1) (compare_ y0 y1 y2) k l p ks is all = absurd (none-some ks is)
+    sound (move_ x0 x1) (compare_values_ y0 y1 y2) k l p ks is all = absurd (none-some ks is)
+    sound (move_ x0 x1) (among_ y0 y1) k l p ks is all = absurd (none-some ks is)
+    sound (named x0 x1) (bracket y0) k l p ks is all = absurd (none-some ks is)
+    sound (named x0 x1) (simple_ y0) k l p ks is all = absurd (none-some ks is)
+    sound (named x0 x1) (literal_ y0) k l p ks is all = absurd (none-some ks is)
+    sound (named x0 x1) (name_ y0) k l p ks is all = absurd (none-some ks is)
+    sound (named x0 x1) (non_ y0 y1) k l p ks is all = absurd (none-some ks is)
+    sound (named x0 x1) (prefixed y0 y1) k l p ks is all = absurd (none-some ks is)
+    sound (named x0 x1) (counted y0 y1 y2) k l p ks is all = absurd (none-some ks is)
+    sound (named x0 x1) (move_ y0 y1) k l p ks is all = absurd (none-some ks is)
+    sound (named x0 x1) (splice_ y0 y1) k l p ks is all = absurd (none-some ks is)
+    sound (named x0 x1) (setlimit_ y0 y1) k l p ks is all = absurd (none-some ks is)
+    sound (named x0 x1) (assign_ y0 y1 y2) k l p ks is all = absurd (none-some ks is)
+    sound (named x0 x1) (compare_ y0 y1 y2) k l p ks is all = absurd (none-some ks is)
+    sound (named x0 x1) (compare_values_ y0 y1 y2) k l p ks is all = absurd (none-some ks is)
+    sound (named x0 x1) (among_ y0 y1) k l p ks is all = absurd (none-some ks is)
+    sound (splice_ x0 x1) (bracket y0) k l p ks is all = absurd (none-some ks is)
+    sound (splice_ x0 x1) (simple_ y0) k l p ks is all = absurd (none-some ks is)
+    sound (splice_ x0 x1) (literal_ y0) k l p ks is all = absurd (none-some ks is)
+    sound (splice_ x0 x1) (name_ y0) k l p ks is all = absurd (none-some ks is)
+    sound (splice_ x0 x1) (non_ y0 y1) k l p ks is all = absurd (none-some ks is)
+    sound (splice_ x0 x1) (prefixed y0 y1) k l p ks is all = absurd (none-some ks is)
+    sound (splice_ x0 x1) (counted y0 y1 y2) k l p ks is all = absurd (none-some ks is)
+    sound (splice_ x0 x1) (move_ y0 y1) k l p ks is all = absurd (none-some ks is)
+    sound (splice_ x0 x1) (named y0 y1) k l p ks is all = absurd (none-some ks is)
+    sound (splice_ x0 x1) (setlimit_ y0 y1) k l p ks is all = absurd (none-some ks is)
+    sound (splice_ x0 x1) (assign_ y0 y1 y2) k l p ks is all = absurd (none-some ks is)
+    sound (splice_ x0 x1) (compare_ y0 y1 y2) k l p ks is all = absurd (none-some ks is)
+    sound (splice_ x0 x1) (compare_values_ y0 y1 y2) k l p ks is all = absurd (none-some ks is)
+    sound (splice_ x0 x1) (among_ y0 y1) k l p ks is all = absurd (none-some ks is)
+    sound (setlimit_ x0 x1) (bracket y0) k l p ks is all = absurd (none-some ks is)
+    sound (setlimit_ x0 x1) (simple_ y0) k l p ks is all = absurd (none-some ks is)
+    sound (setlimit_ x0 x1) (literal_ y0) k l p ks is all = absurd (none-some ks is)
+    sound (setlimit_ x0 x1) (name_ y0) k l p ks is all = absurd (none-some ks is)
+    sound (setlimit_ x0 x1) (non_ y0 y1) k l p ks is all = absurd (none-some ks is)
+    sound (setlimit_ x0 x1) (prefixed y0 y1) k l p ks is all = absurd (none-some ks is)
+    sound (setlimit_ x0 x1) (counted y0 y1 y2) k l p ks is all = absurd (none-some ks is)
+    sound (setlimit_ x0 x1) (move_ y0 y1) k l p ks is all = absurd (none-some ks is)
+    sound (setlimit_ x0 x1) (named y0 y1) k l p ks is all = absurd (none-some ks is)
+    sound (setlimit_ x0 x1) (splice_ y0 y1) k l p ks is all = absurd (none-some ks is)
+    sound (setlimit_ x0 x1) (assign_ y0 y1 y2) k l p ks is all = absurd (none-some ks is)
+    sound (setlimit_ x0 x1) (compare_ y0 y1 y2) k l p ks is all = absurd (none-some ks is)
+    sound (setlimit_ x0 x1) (compare_values_ y0 y1 y2) k l p ks is all = absurd (none-some ks is)
+    sound (setlimit_ x0 x1) (among_ y0 y1) k l p ks is all = absurd (none-some ks is)
+    sound (assign_ x0 x1 x2) (bracket y0) k l p ks is all = absurd (none-some ks is)
+    sound (assign_ x0 x1 x2) (simple_ y0) k l p ks is all = absurd (none-some ks is)
+    sound (assign_ x0 x1 x2) (literal_ y0) k l p ks is all = absurd (none-some ks is)
+    sound (assign_ x0 x1 x2) (name_ y0) k l p ks is all = absurd (none-some ks is)
+    sound (assign_ x0 x1 x2) (non_ y0 y1) k l p ks is all = absurd (none-some ks is)
+    sound (assign_ x0 x1 x2) (prefixed y0 y1) k l p ks is all = absurd (none-some ks is)
+    sound (assign_ x0 x1 x2) (counted y0 y1 y2) k l p ks is all = absurd (none-some ks is)
+    sound (assign_ x0 x1 x2) (move_ y0 y1) k l p ks is all = absurd (none-some ks is)
+    sound (assign_ x0 x1 x2) (named y0 y1) k l p ks is all = absurd (none-some ks is)
+    sound (assign_ x0 x1 x2) (splice_ y0 y1) k l p ks is all = absurd (none-some ks is)
+    sound (assign_ x0 x1 x2) (setlimit_ y0 y1) k l p ks is all = absurd (none-some ks is)
+    sound (assign_ x0 x1 x2) (compare_ y0 y1 y2) k l p ks is all = absurd (none-some ks is)
+    sound (assign_ x0 x1 x2) (compare_values_ y0 y1 y2) k l p ks is all = absurd (none-some ks is)
+    sound (assign_ x0 x1 x2) (among_ y0 y1) k l p ks is all = absurd (none-some ks is)
+    sound (compare_ x0 x1 x2) (bracket y0) k l p ks is all = absurd (none-some ks is)
+    sound (compare_ x0 x1 x2) (simple_ y0) k l p ks is all = absurd (none-some ks is)
+    sound (compare_ x0 x1 x2) (literal_ y0) k l p ks is all = absurd (none-some ks is)
+    sound (compare_ x0 x1 x2) (name_ y0) k l p ks is all = absurd (none-some ks is)
+    sound (compare_ x0 x1 x2) (non_ y0 y1) k l p ks is all = absurd (none-some ks is)
+    sound (compare_ x0 x1 x2) (prefixed y0 y1) k l p ks is all = absurd (none-some ks is)
+    sound (compare_ x0 x1 x2) (counted y0 y1 y2) k l p ks is all = absurd (none-some ks is)
+    sound (compare_ x0 x1 x2) (move_ y0 y1) k l p ks is all = absurd (none-some ks is)
+    sound (compare_ x0 x1 x2) (named y0 y1) k l p ks is all = absurd (none-some ks is)
+    sound (compare_ x0 x1 x2) (splice_ y0 y1) k l p ks is all = absurd (none-some ks is)
+    sound (compare_ x0 x1 x2) (setlimit_ y0 y1) k l p ks is all = absurd (none-some ks is)
+    sound (compare_ x0 x1 x2) (assign_ y0 y1 y2) k l p ks is all = absurd (none-some ks is)
+    sound (compare_ x0 x1 x2) (compare_values_ y0 y1 y2) k l p ks is all = absurd (none-some ks is)
+    sound (compare_ x0 x1 x2) (among_ y0 y1) k l p ks is all = absurd (none-some ks is)
+    sound (compare_values_ x0 x1 x2) (bracket y0) k l p ks is all = absurd (none-some ks is)
+    sound (compare_values_ x0 x1 x2) (simple_ y0) k l p ks is all = absurd (none-some ks is)
+    sound (compare_values_ x0 x1 x2) (literal_ y0) k l p ks is all = absurd (none-some ks is)
+    sound (compare_values_ x0 x1 x2) (name_ y0) k l p ks is all = absurd (none-some ks is)
+    sound (compare_values_ x0 x1 x2) (non_ y0 y1) k l p ks is all = absurd (none-some ks is)
+    sound (compare_values_ x0 x1 x2) (prefixed y0 y1) k l p ks is all = absurd (none-some ks is)
+    sound (compare_values_ x0 x1 x2) (counted y0 y1 y2) k l p ks is all = absurd (none-some ks is)
+    sound (compare_values_ x0 x1 x2) (move_ y0 y1) k l p ks is all = absurd (none-some ks is)
+    sound (compare_values_ x0 x1 x2) (named y0 y1) k l p ks is all = absurd (none-some ks is)
+    sound (compare_values_ x0 x1 x2) (splice_ y0 y1) k l p ks is all = absurd (none-some ks is)
+    sound (compare_values_ x0 x1 x2) (setlimit_ y0 y1) k l p ks is all = absurd (none-some ks is)
+    sound (compare_values_ x0 x1 x2) (assign_ y0 y1 y2) k l p ks is all = absurd (none-some ks is)
+    sound (compare_values_ x0 x1 x2) (compare_ y0 y1 y2) k l p ks is all = absurd (none-some ks is)
+    sound (compare_values_ x0 x1 x2) (among_ y0 y1) k l p ks is all = absurd (none-some ks is)
+    sound (among_ x0 x1) (bracket y0) k l p ks is all = absurd (none-some ks is)
+    sound (among_ x0 x1) (simple_ y0) k l p ks is all = absurd (none-some ks is)
+    sound (among_ x0 x1) (literal_ y0) k l p ks is all = absurd (none-some ks is)
+    sound (among_ x0 x1) (name_ y0) k l p ks is all = absurd (none-some ks is)
+    sound (among_ x0 x1) (non_ y0 y1) k l p ks is all = absurd (none-some ks is)
+    sound (among_ x0 x1) (prefixed y0 y1) k l p ks is all = absurd (none-some ks is)
+    sound (among_ x0 x1) (counted y0 y1 y2) k l p ks is all = absurd (none-some ks is)
+    sound (among_ x0 x1) (move_ y0 y1) k l p ks is all = absurd (none-some ks is)
+    sound (among_ x0 x1) (named y0 y1) k l p ks is all = absurd (none-some ks is)
+    sound (among_ x0 x1) (splice_ y0 y1) k l p ks is all = absurd (none-some ks is)
+    sound (among_ x0 x1) (setlimit_ y0 y1) k l p ks is all = absurd (none-some ks is)
+    sound (among_ x0 x1) (assign_ y0 y1 y2) k l p ks is all = absurd (none-some ks is)
+    sound (among_ x0 x1) (compare_ y0 y1 y2) k l p ks is all = absurd (none-some ks is)
+    sound (among_ x0 x1) (compare_values_ y0 y1 y2) k l p ks is all = absurd (none-some ks is)
+
+    sound_rows : (rs ss : Rows) (k l : ℕ) → k ≡ l → (ks : List ℕ) → differ_rows k rs ss ≡ Some ks → All ks → (rows_with_holes holes k rs ≡ rows_with_holes holes l ss) × (behind_rows rs k ≡ behind_rows ss l)
+    sound_rows no_rows no_rows k l p ks is all = (refl, p)
+    sound_rows (row c os rs) (row d ps ss) k l p ks is all =
+        let h = halves _ _ ks is in
+        let a = covered holes ks h.first h.second h.is all in
+        let x = sound c d k l p h.first h.one a.0 in
+        let j = halves _ _ h.second h.other in
+        let b = covered holes h.second j.first j.second j.is a.1 in
+        let y = sound_others os ps (behind c k) (behind d l) x.1 j.first j.one b.0 in
+        let z = sound_rows rs ss (behind_others os (behind c k)) (behind_others ps (behind d l)) y.1 j.second j.other b.1 in
+        ((λ i. row (x.0 i) (y.0 i) (z.0 i)), z.1)
+    sound_rows no_rows (row d ps ss) k l p ks is all = absurd (none-some ks is)
+    sound_rows (row c os rs) no_rows k l p ks is all = absurd (none-some ks is)
+
+    sound_others : (os ps : Others) (k l : ℕ) → k ≡ l → (ks : List ℕ) → differ_others k os ps ≡ Some ks → All ks → (others_with_holes holes k os ≡ others_with_holes holes l ps) × (behind_others os k ≡ behind_others ps l)
+    sound_others no_others no_others k l p ks is all = (refl, p)
+    sound_others (joined x c os) (joined y d ps) k l p ks is all =
+        let g = if_so _ _ ks is in
+        let e = joiner_is x y g.0 in
+        let h = halves _ _ ks g.1 in
+        let a = covered holes ks h.first h.second h.is all in
+        let u = sound c d k l p h.first h.one a.0 in
+        let v = sound_others os ps (behind c k) (behind d l) u.1 h.second h.other a.1 in
+        ((λ i. joined (e i) (u.0 i) (v.0 i)), v.1)
+    sound_others no_others (joined y d ps) k l p ks is all = absurd (none-some ks is)
+    sound_others (joined x c os) no_others k l p ks is all = absurd (none-some ks is)
+
+    sound_starter : (s t : Starter) (k l : ℕ) → k ≡ l → (ks : List ℕ) → differ_starter k s t ≡ Some ks → All ks → (starter_with_holes holes k s ≡ starter_with_holes holes l t) × (behind_starter s k ≡ behind_starter t l)
+    sound_starter no_starter no_starter k l p ks is all = (refl, p)
+    sound_starter (starter rs) (starter ss) k l p ks is all = let h = sound_rows rs ss k l p ks is all in (ap starter h.0, h.1)
+    sound_starter no_starter (starter ss) k l p ks is all = absurd (none-some ks is)
+    sound_starter (starter rs) no_starter k l p ks is all = absurd (none-some ks is)
+
+    sound_groups : (gs hs : Groups) (k l : ℕ) → k ≡ l → (ks : List ℕ) → differ_groups k gs hs ≡ Some ks → All ks → (groups_with_holes holes k gs ≡ groups_with_holes holes l hs) × (behind_groups gs k ≡ behind_groups hs l)
+    sound_groups (bare es) (bare fs) k l p ks is all = (ap bare (entries_are es fs (whole _ ks is)), p)
+    sound_groups (group e es rs gs) (group f fs ss hs) k l p ks is all =
+        let g = if_so _ _ ks is in
+        let w = both _ _ g.0 in
+        let m = entry_is e f w.0 in
+        let n = entries_are es fs w.1 in
+        let h = halves _ _ ks g.1 in
+        let a = covered holes ks h.first h.second h.is all in
+        let x = sound_rows rs ss k l p h.first h.one a.0 in
+        let y = sound_groups gs hs (behind_rows rs k) (behind_rows ss l) x.1 h.second h.other a.1 in
+        ((λ i. group (m i) (n i) (x.0 i) (y.0 i)), y.1)
+    sound_groups (bare es) (group f fs ss hs) k l p ks is all = absurd (none-some ks is)
+    sound_groups (group e es rs gs) (bare fs) k l p ks is all = absurd (none-some ks is)
+
+-- ---- items
+
+module _ (picked : Item' → Bool) where
+  abbrev Picked : List Item' → Type 0
+  Picked xs = list_all picked xs ≡ true
+
+  numbers : (n : List ℕ) (ks : List ℕ) → Picked (map (Among n) ks) → list_all (λ k. picked (Among n k)) ks ≡ true
+  numbers n [] all = refl
+  numbers n (k ∷ ks) all = let h = both (picked (Among n k)) (list_all picked (map (Among n) ks)) all in rw h.0 (numbers n ks h.1)
+
+  -- two bodies of one routine
+  bodies : (n : List ℕ) (c d : Command) (os ps : Others) (o : Option (List ℕ)) → join (differ 0 c d) (differ_others (behind c 0) os ps) ≡ o → Picked (items_by n o)
+      → holed_plain picked (routine n c os) ≡ holed_plain picked (routine n d ps)
+  bodies n c d os ps None e all = let h = (both (picked (Routine n)) true all).0 in rw h refl
+  bodies n c d os ps (Some ks) e all =
+      let holes = λ (k : ℕ). picked (Among n k) in
+      let h = halves _ _ ks e in
+      let a = covered holes ks h.first h.second h.is (numbers n ks all) in
+      let x = sound holes c d 0 0 refl h.first h.one a.0 in
+      let y = sound_others holes os ps (behind c 0) (behind d 0) x.1 h.second h.other a.1 in
+      (λ i. if picked (Routine n) then routine n (bracket no_rows) no_others else routine n (x.0 i) (y.0 i))
+
+  plain_agree : (x y : Plain) (zs : List Item') → differ_plain x y ≡ Some zs → Picked zs → holed_plain picked x ≡ holed_plain picked y
+  plain_agree (declaration k ms) (declaration l ns) zs is all =
+      let h = both _ _ (whole _ zs is) in
+      let a = kind_is k l h.0 in
+      let b = names_are ms ns h.1 in
+      (λ i. declaration (a i) (b i))
+  plain_agree (escapes a b) (escapes c d) zs is all =
+      let h = both _ _ (whole _ zs is) in
+      let x = eqb-true a c h.0 in
+      let y = eqb-true b d h.1 in
+      (λ i. escapes (x i) (y i))
+  plain_agree (macro m b q) (macro n c r) zs is all =
+      let h = both _ _ (whole _ zs is) in
+      let j = both _ _ h.1 in
+      let x = name_is m n h.0 in
+      let y = base_is b c j.0 in
+      let z = quoted_is q r j.1 in
+      (λ i. macro (x i) (y i) (z i))
+  plain_agree (routine m c os) (routine n d ps) zs is all =
+      let h = if_so _ _ zs is in
+      let o = join (differ 0 c d) (differ_others (behind c 0) os ps) in
+      let e = same_Some (items_by m o) zs h.1 in
+      bodies m c d os ps o refl (ap (list_all picked) e ∙ all) ∙ ap (λ (x : List ℕ). holed_plain picked (routine x d ps)) (name_is m n h.0)
+  plain_agree (grouping m a xs) (grouping n b ys) zs is all =
+      let h = both _ _ (whole _ zs is) in
+      let j = both _ _ h.1 in
+      let x = name_is m n h.0 in
+      let y = argument_is a b j.0 in
+      let z = terms_are xs ys j.1 in
+      (λ i. holed_plain picked (grouping (x i) (y i) (z i)))
+  plain_agree (declaration x0 x1) (escapes y0 y1) zs is all = absurd (none-some zs is)
+  plain_agree (declaration x0 x1) (macro y0 y1 y2) zs is all = absurd (none-some zs is)
+  plain_agree (declaration x0 x1) (routine y0 y1 y2) zs is all = absurd (none-some zs is)
+  plain_agree (declaration x0 x1) (grouping y0 y1 y2) zs is all = absurd (none-some zs is)
+  plain_agree (escapes x0 x1) (declaration y0 y1) zs is all = absurd (none-some zs is)
+  plain_agree (escapes x0 x1) (macro y0 y1 y2) zs is all = absurd (none-some zs is)
+  plain_agree (escapes x0 x1) (routine y0 y1 y2) zs is all = absurd (none-some zs is)
+  plain_agree (escapes x0 x1) (grouping y0 y1 y2) zs is all = absurd (none-some zs is)
+  plain_agree (macro x0 x1 x2) (declaration y0 y1) zs is all = absurd (none-some zs is)
+  plain_agree (macro x0 x1 x2) (escapes y0 y1) zs is all = absurd (none-some zs is)
+  plain_agree (macro x0 x1 x2) (routine y0 y1 y2) zs is all = absurd (none-some zs is)
+  plain_agree (macro x0 x1 x2) (grouping y0 y1 y2) zs is all = absurd (none-some zs is)
+  plain_agree (routine x0 x1 x2) (declaration y0 y1) zs is all = absurd (none-some zs is)
+  plain_agree (routine x0 x1 x2) (escapes y0 y1) zs is all = absurd (none-some zs is)
+  plain_agree (routine x0 x1 x2) (macro y0 y1 y2) zs is all = absurd (none-some zs is)
+  plain_agree (routine x0 x1 x2) (grouping y0 y1 y2) zs is all = absurd (none-some zs is)
+  plain_agree (grouping x0 x1 x2) (declaration y0 y1) zs is all = absurd (none-some zs is)
+  plain_agree (grouping x0 x1 x2) (escapes y0 y1) zs is all = absurd (none-some zs is)
+  plain_agree (grouping x0 x1 x2) (macro y0 y1 y2) zs is all = absurd (none-some zs is)
+  plain_agree (grouping x0 x1 x2) (routine y0 y1 y2) zs is all = absurd (none-some zs is)
+
+  plains_agree : (xs ys : List Plain) (zs : List Item') → differ_plains xs ys ≡ Some zs → Picked zs → map (holed_plain picked) xs ≡ map (holed_plain picked) ys
+  plains_agree [] [] zs is all = refl
+  plains_agree (x ∷ xs) (y ∷ ys) zs is all =
+      let h = halves _ _ zs is in
+      let a = covered picked zs h.first h.second h.is all in
+      let p = plain_agree x y h.first h.one a.0 in
+      let q = plains_agree xs ys h.second h.other a.1 in
+      (λ i. p i ∷ q i)
+  plains_agree [] (y ∷ ys) zs is all = absurd (none-some zs is)
+  plains_agree (x ∷ xs) [] zs is all = absurd (none-some zs is)
+
+  item_agree : (x y : Item) (zs : List Item') → differ_item x y ≡ Some zs → Picked zs → holed_item picked x ≡ holed_item picked y
+  item_agree (plain x) (plain y) zs is all = ap plain (plain_agree x y zs is all)
+  item_agree (backward xs) (backward ys) zs is all = ap backward (plains_agree xs ys zs is all)
+  item_agree (plain x) (backward ys) zs is all = absurd (none-some zs is)
+  item_agree (backward xs) (plain y) zs is all = absurd (none-some zs is)
+
+  items_agree : (xs ys : List Item) (zs : List Item') → differ_items xs ys ≡ Some zs → Picked zs → map (holed_item picked) xs ≡ map (holed_item picked) ys
+  items_agree [] [] zs is all = refl
+  items_agree (x ∷ xs) (y ∷ ys) zs is all =
+      let h = halves _ _ zs is in
+      let a = covered picked zs h.first h.second h.is all in
+      let p = item_agree x y h.first h.one a.0 in
+      let q = items_agree xs ys h.second h.other a.1 in
+      (λ i. p i ∷ q i)
+  items_agree [] (y ∷ ys) zs is all = absurd (none-some zs is)
+  items_agree (x ∷ xs) [] zs is all = absurd (none-some zs is)
+
+-- ---- the items themselves are picked
+
+same_self : (x : Item') → same_item x x ≡ true
+same_self (Routine n) = (bytes_eq-Decides n n).1 refl
+same_self (Among n k) = rw ((bytes_eq-Decides n n).1 refl) (eq-eqb k k refl)
+same_self (Grouping n) = (bytes_eq-Decides n n).1 refl
+
+or_first : (a b : Bool) → a ≡ true → (a || b) ≡ true
+or_first true b e = refl
+or_first false b e = absurd (true≢false (sym e))
+
+or_second : (a b : Bool) → b ≡ true → (a || b) ≡ true
+or_second true b e = refl
+or_second false b e = e
+
+all_picked : (xs zs : List Item') → ((x : Item') → is_one_of xs x ≡ true → is_one_of zs x ≡ true) → list_all (is_one_of zs) xs ≡ true
+all_picked [] zs h = refl
+all_picked (x ∷ xs) zs h =
+    rw (h x (or_first (same_item x x) (is_one_of xs x) (same_self x)))
+    (all_picked xs zs (λ y p. h y (or_second (same_item x y) (is_one_of xs y) p)))
+
+-- ---- no grouping is one of them
+
+abbrev NoGrouping : List Item' → Type 0
+NoGrouping [] = ⊤
+NoGrouping (x ∷ xs) = ((m : List ℕ) → same_item x (Grouping m) ≡ false) × NoGrouping xs
+
+none_after : (xs ys : List Item') → NoGrouping xs → NoGrouping ys → NoGrouping (xs ++ ys)
+none_after [] ys p q = q
+none_after (x ∷ xs) ys p q = (p.0, none_after xs ys p.1 q)
+
+none_when : (b : Bool) (zs : List Item') → when b ≡ Some zs → NoGrouping zs
+none_when true zs is = subst NoGrouping (same_Some [] zs is) tt
+none_when false zs is = absurd (none-some zs is)
+
+amongs_none : (n : List ℕ) (ks : List ℕ) → NoGrouping (map (Among n) ks)
+amongs_none n [] = tt
+amongs_none n (k ∷ ks) = (λ m. refl, amongs_none n ks)
+
+body_none : (n : List ℕ) (o : Option (List ℕ)) → NoGrouping (items_by n o)
+body_none n None = (λ m. refl, tt)
+body_none n (Some ks) = amongs_none n ks
+
+plain_none : (x y : Plain) (zs : List Item') → differ_plain x y ≡ Some zs → NoGrouping zs
+plain_none (declaration k ms) (declaration l ns) zs is = none_when (same_kind k l && same_names ms ns) zs is
+plain_none (escapes a b) (escapes c d) zs is = none_when (nat_eq a c && nat_eq b d) zs is
+plain_none (macro m b q) (macro n c r) zs is = none_when (bytes_eq m n && (same_base b c && same_quoted q r)) zs is
+plain_none (routine m c os) (routine n d ps) zs is =
+    let h = if_so _ _ zs is in
+    let o = join (differ 0 c d) (differ_others (behind c 0) os ps) in
+    subst NoGrouping (same_Some (items_by m o) zs h.1) (body_none m o)
+plain_none (grouping m a xs) (grouping n b ys) zs is = none_when (bytes_eq m n && (same_argument a b && same_terms xs ys)) zs is
+plain_none (declaration x0 x1) (escapes y0 y1) zs is = absurd (none-some zs is)
+plain_none (declaration x0 x1) (macro y0 y1 y2) zs is = absurd (none-some zs is)
+plain_none (declaration x0 x1) (routine y0 y1 y2) zs is = absurd (none-some zs is)
+plain_none (declaration x0 x1) (grouping y0 y1 y2) zs is = absurd (none-some zs is)
+plain_none (escapes x0 x1) (declaration y0 y1) zs is = absurd (none-some zs is)
+plain_none (escapes x0 x1) (macro y0 y1 y2) zs is = absurd (none-some zs is)
+plain_none (escapes x0 x1) (routine y0 y1 y2) zs is = absurd (none-some zs is)
+plain_none (escapes x0 x1) (grouping y0 y1 y2) zs is = absurd (none-some zs is)
+plain_none (macro x0 x1 x2) (declaration y0 y1) zs is = absurd (none-some zs is)
+plain_none (macro x0 x1 x2) (escapes y0 y1) zs is = absurd (none-some zs is)
+plain_none (macro x0 x1 x2) (routine y0 y1 y2) zs is = absurd (none-some zs is)
+plain_none (macro x0 x1 x2) (grouping y0 y1 y2) zs is = absurd (none-some zs is)
+plain_none (routine x0 x1 x2) (declaration y0 y1) zs is = absurd (none-some zs is)
+plain_none (routine x0 x1 x2) (escapes y0 y1) zs is = absurd (none-some zs is)
+plain_none (routine x0 x1 x2) (macro y0 y1 y2) zs is = absurd (none-some zs is)
+plain_none (routine x0 x1 x2) (grouping y0 y1 y2) zs is = absurd (none-some zs is)
+plain_none (grouping x0 x1 x2) (declaration y0 y1) zs is = absurd (none-some zs is)
+plain_none (grouping x0 x1 x2) (escapes y0 y1) zs is = absurd (none-some zs is)
+plain_none (grouping x0 x1 x2) (macro y0 y1 y2) zs is = absurd (none-some zs is)
+plain_none (grouping x0 x1 x2) (routine y0 y1 y2) zs is = absurd (none-some zs is)
+
+plains_none : (xs ys : List Plain) (zs : List Item') → differ_plains xs ys ≡ Some zs → NoGrouping zs
+plains_none [] [] zs is = subst NoGrouping (same_Some [] zs is) tt
+plains_none (x ∷ xs) (y ∷ ys) zs is =
+    let h = halves _ _ zs is in
+    subst NoGrouping (sym h.is) (none_after h.first h.second (plain_none x y h.first h.one) (plains_none xs ys h.second h.other))
+plains_none [] (y ∷ ys) zs is = absurd (none-some zs is)
+plains_none (x ∷ xs) [] zs is = absurd (none-some zs is)
+
+item_none : (x y : Item) (zs : List Item') → differ_item x y ≡ Some zs → NoGrouping zs
+item_none (plain x) (plain y) zs is = plain_none x y zs is
+item_none (backward xs) (backward ys) zs is = plains_none xs ys zs is
+item_none (plain x) (backward ys) zs is = absurd (none-some zs is)
+item_none (backward xs) (plain y) zs is = absurd (none-some zs is)
+
+items_none : (xs ys : List Item) (zs : List Item') → differ_items xs ys ≡ Some zs → NoGrouping zs
+items_none [] [] zs is = subst NoGrouping (same_Some [] zs is) tt
+items_none (x ∷ xs) (y ∷ ys) zs is =
+    let h = halves _ _ zs is in
+    subst NoGrouping (sym h.is) (none_after h.first h.second (item_none x y h.first h.one) (items_none xs ys h.second h.other))
+items_none [] (y ∷ ys) zs is = absurd (none-some zs is)
+items_none (x ∷ xs) [] zs is = absurd (none-some zs is)
+
+none_picked : (zs : List Item') → NoGrouping zs → (m : List ℕ) → is_one_of zs (Grouping m) ≡ false
+none_picked [] h m = refl
+none_picked (x ∷ xs) h m = ap (λ (b : Bool). b || is_one_of xs (Grouping m)) (h.0 m) ∙ none_picked xs h.1 m
+
+pub differing_agree : DifferingAgree
+differing_agree s t zs is =
+    let h = if_so _ _ zs is in
+    let external = name_is s.external t.external h.0 in
+    let items = items_agree (is_one_of zs) s.items t.items zs h.1 (all_picked zs zs (λ x p. p)) in
+    (none_closed (is_one_of zs) (none_picked zs (items_none s.items t.items zs h.1)) s, λ i. record { items = items i; external = external i })

@@ -1,0 +1,232 @@
+-- Parts of trees that are the same are equal.
+use Rattle.std.proofs.Common.{◌≡◌, ◌∙◌, ℕ, Bool, true, false, ◌&&◌, List, [], ◌∷◌, Option, Some, None, refl, sym, ap}
+use Rattle.std.specs.Str.{bytes_eq}
+use Rattle.std.proofs.lemmas.Bool.{eqb-true, true≢false}
+use Rattle.std.proofs.lemmas.Slice.Eq.{bytes_eq-Decides}
+use denote.Enum.Bare.{same_true}
+use Rattle.sbl_tree.specs.contracts.tree.Simple as simple
+use Rattle.sbl_tree.specs.contracts.tree.Prefix as prefix
+use Rattle.sbl_tree.specs.contracts.tree.Count as times
+use Rattle.sbl_tree.specs.contracts.tree.Move as move
+use Rattle.sbl_tree.specs.contracts.tree.Naming as naming
+use Rattle.sbl_tree.specs.contracts.tree.Splice as splicing
+use Rattle.sbl_tree.specs.contracts.tree.Additive as additive
+use Rattle.sbl_tree.specs.contracts.tree.Multiplicative as multiplicative
+use Rattle.sbl_tree.specs.contracts.tree.Assignment as assignment
+use Rattle.sbl_tree.specs.contracts.tree.Comparison as comparison
+use Rattle.sbl_tree.specs.contracts.tree.Constant as constant
+use Rattle.sbl_tree.specs.contracts.tree.Joiner as joiner
+use Rattle.sbl_tree.specs.contracts.tree.DeclarationKind as kind
+use Rattle.sbl_tree.specs.contracts.tree.Base as base
+use Rattle.sbl_tree.specs.declared.tree.Simple.{Simple}
+use Rattle.sbl_tree.specs.declared.tree.Prefix.{Prefix}
+use Rattle.sbl_tree.specs.declared.tree.Count.{Count}
+use Rattle.sbl_tree.specs.declared.tree.Move.{Move}
+use Rattle.sbl_tree.specs.declared.tree.Naming.{Naming}
+use Rattle.sbl_tree.specs.declared.tree.Splice.{Splice}
+use Rattle.sbl_tree.specs.declared.tree.Additive.{Additive}
+use Rattle.sbl_tree.specs.declared.tree.Multiplicative.{Multiplicative}
+use Rattle.sbl_tree.specs.declared.tree.Assignment.{Assignment}
+use Rattle.sbl_tree.specs.declared.tree.Comparison.{Comparison}
+use Rattle.sbl_tree.specs.declared.tree.Constant.{Constant}
+use Rattle.sbl_tree.specs.declared.tree.Joiner.{Joiner}
+use Rattle.sbl_tree.specs.declared.tree.DeclarationKind.{DeclarationKind}
+use Rattle.sbl_tree.specs.declared.tree.Base.{Base}
+use Rattle.sbl_tree.specs.Terminal.{Quoted}
+use Rattle.sbl_tree.specs.Tree.{Argument, written_out, by_name, Expression, expression, Sums, no_sums, sum, Product, product, Scales, no_scales, scale, Factor, negated, bracketed, numeral, variable, fixed, length_of, Entry, entry, Term, term}
+use Rattle.sbl_machine.specs.Same.{same_additive, same_argument, same_assignment, same_base, same_comparison, same_condition, same_constant, same_entries, same_entry, same_expression, same_factor, same_flag, same_joiner, same_kind, same_move, same_multiplicative, same_names, same_naming, same_prefix, same_product, same_quoted, same_scales, same_simple, same_splicing, same_sums, same_terms, same_times}
+
+pub both : (a b : Bool) → (a && b) ≡ true → (a ≡ true) × (b ≡ true)
+both true b e = (refl, e)
+both false b e = absurd (true≢false (sym e))
+
+never : {X : Type 0} → false ≡ true → X
+never e = absurd (true≢false (sym e))
+
+pub name_is : (m n : List ℕ) → bytes_eq m n ≡ true → m ≡ n
+name_is m n e = (bytes_eq-Decides m n).0 e
+
+pub simple_is : (x y : Simple) → same_simple x y ≡ true → x ≡ y
+simple_is x y e = same_true simple.the_type tt x y e
+
+pub prefix_is : (x y : Prefix) → same_prefix x y ≡ true → x ≡ y
+prefix_is x y e = same_true prefix.the_type tt x y e
+
+pub times_is : (x y : Count) → same_times x y ≡ true → x ≡ y
+times_is x y e = same_true times.the_type tt x y e
+
+pub move_is : (x y : Move) → same_move x y ≡ true → x ≡ y
+move_is x y e = same_true move.the_type tt x y e
+
+pub naming_is : (x y : Naming) → same_naming x y ≡ true → x ≡ y
+naming_is x y e = same_true naming.the_type tt x y e
+
+pub splicing_is : (x y : Splice) → same_splicing x y ≡ true → x ≡ y
+splicing_is x y e = same_true splicing.the_type tt x y e
+
+pub additive_is : (x y : Additive) → same_additive x y ≡ true → x ≡ y
+additive_is x y e = same_true additive.the_type tt x y e
+
+pub multiplicative_is : (x y : Multiplicative) → same_multiplicative x y ≡ true → x ≡ y
+multiplicative_is x y e = same_true multiplicative.the_type tt x y e
+
+pub assignment_is : (x y : Assignment) → same_assignment x y ≡ true → x ≡ y
+assignment_is x y e = same_true assignment.the_type tt x y e
+
+pub comparison_is : (x y : Comparison) → same_comparison x y ≡ true → x ≡ y
+comparison_is x y e = same_true comparison.the_type tt x y e
+
+pub constant_is : (x y : Constant) → same_constant x y ≡ true → x ≡ y
+constant_is x y e = same_true constant.the_type tt x y e
+
+pub joiner_is : (x y : Joiner) → same_joiner x y ≡ true → x ≡ y
+joiner_is x y e = same_true joiner.the_type tt x y e
+
+pub kind_is : (x y : DeclarationKind) → same_kind x y ≡ true → x ≡ y
+kind_is x y e = same_true kind.the_type tt x y e
+
+pub flag_is : (x y : Bool) → same_flag x y ≡ true → x ≡ y
+flag_is true b e = sym e
+flag_is false true e = never e
+flag_is false false e = refl
+
+pub quoted_is : (x y : Quoted) → same_quoted x y ≡ true → x ≡ y
+quoted_is x y e =
+    let h = both _ _ e in
+    let p = name_is x.spelling y.spelling h.0 in
+    let q = name_is x.value y.value h.1 in
+    (λ i. record { spelling = p i; value = q i })
+
+pub argument_is : (x y : Argument) → same_argument x y ≡ true → x ≡ y
+argument_is (written_out q) (written_out r) e = ap written_out (quoted_is q r e)
+argument_is (by_name m) (by_name n) e = ap by_name (name_is m n e)
+argument_is (written_out q) (by_name n) e = never e
+argument_is (by_name m) (written_out r) e = never e
+
+mutual
+  pub expression_is : (x y : Expression) → same_expression x y ≡ true → x ≡ y
+  expression_is (expression p ss) (expression q ts) e =
+      let h = both _ _ e in
+      let a = product_is p q h.0 in
+      let b = sums_is ss ts h.1 in
+      (λ i. expression (a i) (b i))
+
+  sums_is : (x y : Sums) → same_sums x y ≡ true → x ≡ y
+  sums_is no_sums no_sums e = refl
+  sums_is (sum o p ss) (sum u q ts) e =
+      let h = both _ _ e in
+      let j = both _ _ h.1 in
+      let c = additive_is o u h.0 in
+      let a = product_is p q j.0 in
+      let b = sums_is ss ts j.1 in
+      (λ i. sum (c i) (a i) (b i))
+  sums_is no_sums (sum u q ts) e = never e
+  sums_is (sum o p ss) no_sums e = never e
+
+  product_is : (x y : Product) → same_product x y ≡ true → x ≡ y
+  product_is (product f ss) (product g ts) e =
+      let h = both _ _ e in
+      let a = factor_is f g h.0 in
+      let b = scales_is ss ts h.1 in
+      (λ i. product (a i) (b i))
+
+  scales_is : (x y : Scales) → same_scales x y ≡ true → x ≡ y
+  scales_is no_scales no_scales e = refl
+  scales_is (scale o f ss) (scale u g ts) e =
+      let h = both _ _ e in
+      let j = both _ _ h.1 in
+      let c = multiplicative_is o u h.0 in
+      let a = factor_is f g j.0 in
+      let b = scales_is ss ts j.1 in
+      (λ i. scale (c i) (a i) (b i))
+  scales_is no_scales (scale u g ts) e = never e
+  scales_is (scale o f ss) no_scales e = never e
+
+  factor_is : (x y : Factor) → same_factor x y ≡ true → x ≡ y
+  factor_is (negated f) (negated g) e = ap negated (factor_is f g e)
+  factor_is (bracketed a) (bracketed b) e = ap bracketed (expression_is a b e)
+  factor_is (numeral m) (numeral n) e = ap numeral (eqb-true m n e)
+  factor_is (variable m) (variable n) e = ap variable (name_is m n e)
+  factor_is (fixed c) (fixed d) e = ap fixed (constant_is c d e)
+  factor_is (length_of a) (length_of b) e = ap length_of (argument_is a b e)
+  factor_is (negated a) (bracketed b) e = never e
+  factor_is (negated a) (numeral b) e = never e
+  factor_is (negated a) (variable b) e = never e
+  factor_is (negated a) (fixed b) e = never e
+  factor_is (negated a) (length_of b) e = never e
+  factor_is (bracketed a) (negated b) e = never e
+  factor_is (bracketed a) (numeral b) e = never e
+  factor_is (bracketed a) (variable b) e = never e
+  factor_is (bracketed a) (fixed b) e = never e
+  factor_is (bracketed a) (length_of b) e = never e
+  factor_is (numeral a) (negated b) e = never e
+  factor_is (numeral a) (bracketed b) e = never e
+  factor_is (numeral a) (variable b) e = never e
+  factor_is (numeral a) (fixed b) e = never e
+  factor_is (numeral a) (length_of b) e = never e
+  factor_is (variable a) (negated b) e = never e
+  factor_is (variable a) (bracketed b) e = never e
+  factor_is (variable a) (numeral b) e = never e
+  factor_is (variable a) (fixed b) e = never e
+  factor_is (variable a) (length_of b) e = never e
+  factor_is (fixed a) (negated b) e = never e
+  factor_is (fixed a) (bracketed b) e = never e
+  factor_is (fixed a) (numeral b) e = never e
+  factor_is (fixed a) (variable b) e = never e
+  factor_is (fixed a) (length_of b) e = never e
+  factor_is (length_of a) (negated b) e = never e
+  factor_is (length_of a) (bracketed b) e = never e
+  factor_is (length_of a) (numeral b) e = never e
+  factor_is (length_of a) (variable b) e = never e
+  factor_is (length_of a) (fixed b) e = never e
+
+condition_is : (x y : Option (List ℕ)) → same_condition x y ≡ true → x ≡ y
+condition_is None None e = refl
+condition_is (Some m) (Some n) e = ap Some (name_is m n e)
+condition_is None (Some n) e = never e
+condition_is (Some m) None e = never e
+
+pub entry_is : (x y : Entry) → same_entry x y ≡ true → x ≡ y
+entry_is (entry q m) (entry r n) e =
+    let h = both _ _ e in
+    let a = quoted_is q r h.0 in
+    let b = condition_is m n h.1 in
+    (λ i. entry (a i) (b i))
+
+pub entries_are : (x y : List Entry) → same_entries x y ≡ true → x ≡ y
+entries_are [] [] e = refl
+entries_are (a ∷ xs) (b ∷ ys) e =
+    let h = both _ _ e in
+    let p = entry_is a b h.0 in
+    let q = entries_are xs ys h.1 in
+    (λ i. p i ∷ q i)
+entries_are [] (b ∷ ys) e = never e
+entries_are (a ∷ xs) [] e = never e
+
+pub names_are : (x y : List (List ℕ)) → same_names x y ≡ true → x ≡ y
+names_are [] [] e = refl
+names_are (a ∷ xs) (b ∷ ys) e =
+    let h = both _ _ e in
+    let p = name_is a b h.0 in
+    let q = names_are xs ys h.1 in
+    (λ i. p i ∷ q i)
+names_are [] (b ∷ ys) e = never e
+names_are (a ∷ xs) [] e = never e
+
+pub base_is : (x y : Option Base) → same_base x y ≡ true → x ≡ y
+base_is None None e = refl
+base_is (Some m) (Some n) e = ap Some (same_true base.the_type tt m n e)
+base_is None (Some n) e = never e
+base_is (Some m) None e = never e
+
+pub terms_are : (x y : List Term) → same_terms x y ≡ true → x ≡ y
+terms_are [] [] e = refl
+terms_are (term o a ∷ xs) (term u b ∷ ys) e =
+    let h = both _ _ e in
+    let j = both _ _ h.1 in
+    let c = additive_is o u h.0 in
+    let p = argument_is a b j.0 in
+    let q = terms_are xs ys j.1 in
+    (λ i. term (c i) (p i) ∷ q i)
+terms_are [] (term u b ∷ ys) e = never e
+terms_are (term o a ∷ xs) [] e = never e

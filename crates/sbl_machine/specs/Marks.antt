@@ -1,0 +1,24 @@
+-- What an edit affects, by number.
+use Rattle.std.specs.Prelude.{◌≡◌, ℕ, Bool, true, List}
+use Rattle.std.specs.List.{list_any}
+use Rattle.sbl_numbering.specs.Items.{is_among}
+use Rattle.sbl_run.specs.declared.touch.Touch.{Touch}
+use Rattle.sbl_run.specs.Touches.{same_touch}
+use Rattle.sbl_script.specs.Edits.{ScriptEdit, IsEdited}
+use Rattle.sbl_script.specs.Parsed.{Source}
+use Rattle.sbl_machine.specs.BuiltFrom.{affected}
+use Rattle.sbl_machine.specs.Touched.{Item', Routine, Among, Grouping, Names', named, names_of, replaced}
+
+-- whether a script defines the routine or the grouping of an item
+abbrev pub has_item : Names' → Item' → Bool
+has_item names (Routine n) = is_among names.routines n
+has_item names (Among n k) = is_among names.routines n
+has_item names (Grouping n) = is_among names.groupings n
+
+-- The marks of item x: a touch is one of them exactly if an edit of x affects what it touches.
+abbrev pub AreMarksOf : Source → Item' → List Touch → Type 0
+AreMarksOf s x marks = (t : Touch) → list_any (same_touch t) marks ≡ affected s x (named (names_of s) t)
+
+-- the script defines the routine or the grouping that an edit changes
+abbrev pub EditedAreThere : Type 0
+EditedAreThere = (s t : Source) (e : ScriptEdit) (text : List ℕ) → IsEdited s e text t → has_item (names_of s) (replaced e) ≡ true

@@ -1,0 +1,68 @@
+//! The groupings that are built from one grouping: each that names it among its terms, or names another that is built
+//! from it.
+
+ghost use Rattle.std.specs.Prelude.{◌≡◌, [], ◌∷◌, map, OnOk, IfOk};
+ghost use Rattle.sbl_numbering.specs.Items.{is_among};
+ghost use Rattle.sbl_tree.specs.Order.{in_order};
+ghost use Rattle.sbl_tree.specs.View.{view_argument, view_items, view_plain, view_term};
+ghost use Rattle.sbl_machine.specs.BuiltFrom as spec;
+
+use sbl_numbering::NameList;
+use sbl_tree::{Argument, Item, Plain, Term, items_in_order};
+use std::alloc::{AllocError, Global};
+
+// Whether a term is the name of one of these groupings.
+fn names_one(names: &NameList, argument: &Argument) -> bool
+    ensures { result ≡ spec.names (is_among names.now) (view_argument argument.now) }
+{
+    match argument {
+        Argument::Literal(_) => false,
+        Argument::Name(name) => names.is_one_of(name.as_str()),
+    }
+}
+
+// Whether one of these terms is the name of one of these groupings.
+fn one_names_one(names: &NameList, terms: &[Term]) -> bool
+    ensures { result ≡ spec.any_names (is_among names.now) (map view_term terms.now) }
+{
+    for term in terms {
+        if names_one(names, &term.argument) {
+            return true;
+        }
+    }
+    false
+}
+
+// If the item is a grouping built from one of `names`, adds its name.
+fn add_built(alloc: Global, plain: &Plain, names: &mut NameList) -> Result<(), AllocError>
+    ensures { OnOk result (names.new ≡ spec.and_built (view_plain plain.now) names.old) }
+{
+    if let Plain::Grouping {
+        name,
+        first,
+        others,
+    } = plain
+    {
+        if names_one(names, first) || one_names_one(names, others) {
+            names.add(alloc, name.as_str())?;
+        }
+    }
+    Ok(())
+}
+
+/// Returns the name of a grouping, followed by those of all groupings that are built from it.
+///
+/// # Errors
+///
+/// Returns `AllocError` if an allocation fails.
+pub fn built_from(alloc: Global, items: &[Item], name: &str) -> Result<NameList, AllocError>
+    ensures { IfOk result (λ names. names ≡ spec.built_behind (in_order (view_items items.now)) (name.now ∷ [])) }
+{
+    let mut names = NameList::new(alloc);
+    names.add(alloc, name)?;
+    let in_order = items_in_order(alloc, items)?;
+    for item in &in_order {
+        add_built(alloc, item.plain, &mut names)?;
+    }
+    Ok(names)
+}
