@@ -1,14 +1,14 @@
--- The amongs of a tree, in the order of the word `among`, and a tree in which another stands in the place of one.
+-- The amongs of a tree, in the order of the words `among`, and a tree in which another among replaces one.
 use Rattle.std.specs.Prelude.{◌≡◌, ℕ, ◌+◌, ◌-◌, List, [], ◌∷◌, Option, Some, None, nat_eq, if◌then◌else◌}
 use Rattle.sbl_tree.specs.Tree.{Command, bracket, prefixed, counted, setlimit_, among_, Rows, no_rows, row, Others, no_others, joined, Starter, no_starter, starter, Groups, bare, group}
 use Rattle.sbl_tree.specs.Places.{placed, AreShallow}
 use Rattle.sbl_tree.specs.Counts.{count_amongs, count_in_rows, count_in_others, count_in_starter}
 
--- the depth at which an among stands, its starter and its groups
+-- an among: its depth, its starter and its groups
 abbrev pub Held : Type 0
 Held = ℕ × Starter × Groups
 
--- the amongs of a command that stands at a depth, and then the rest
+-- the amongs of a command at depth d, followed by the list `rest`
 abbrev mutual
   pub amongs : Command → ℕ → List Held → List Held
   amongs (bracket rs) d rest = amongs_of_rows rs (d + 1) rest
@@ -38,13 +38,13 @@ abbrev mutual
 abbrev pub amongs_of_body : Command × Others → List Held
 amongs_of_body b = amongs b.0 1 (amongs_of_others b.1 1 [])
 
--- the k-th, counted from 1
+-- the among with number k, counted from 1
 abbrev pub nth_held : ℕ → List Held → Option Held
 nth_held k [] = None
 nth_held k (h ∷ hs) = if nat_eq k 1 then Some h else nth_held (k - 1) hs
 
--- The tree with another among in the place of the k-th, counted from 1: for what stands behind a part, k is less by the
--- part's amongs. There is no 0-th.
+-- The tree with another among in place of the one with number k, counted from 1. After each part, k decreases by the
+-- number of amongs in that part. No among has number 0.
 abbrev mutual
   pub put_among : Command → ℕ → Starter × Groups → Command
   put_among (bracket rs) k a = bracket (put_in_rows rs k a)
@@ -70,14 +70,14 @@ abbrev mutual
   put_in_groups (bare es) k a = bare es
   put_in_groups (group e es rs gs) k a = group e es (put_in_rows rs k a) (put_in_groups gs (k - count_in_rows rs) a)
 
--- a routine's body with another among in the place of the k-th
+-- a routine's body with another among in place of the one with number k
 abbrev pub put_in_body : Command × Others → ℕ → Starter × Groups → Command × Others
 put_in_body b k a = (put_among b.0 k a, put_in_others b.1 (k - count_amongs b.0) a)
 
--- an among in which another stands in the place of itself, the first, or of one inside
+-- an among in which another replaces number k: the among itself has number 1, and those inside it follow
 abbrev pub put_in_among : Starter × Groups → ℕ → Starter × Groups → Starter × Groups
 put_in_among b k a = if nat_eq k 1 then a else (put_in_starter b.0 (k - 1) a, put_in_groups b.1 (k - 1 - count_in_starter b.0) a)
 
--- an among may stand where the one with this number does: none of its tokens is too deep there
+-- an among fits in place of the one with number k: at that depth none of its tokens is too deep
 abbrev pub FitsAt : ℕ → List Held → Starter × Groups → Type 0
 FitsAt k hs a = (h : Held) → nth_held k hs ≡ Some h → AreShallow (placed (among_ a.0 a.1) h.0 [])

@@ -1,4 +1,4 @@
--- what the contracts of public calls rest on
+-- definitions that the contracts of public functions use
 pub mod Amongs
 pub mod Replaced
 -- what the functions inside the crate promise each other: nothing in these need be believed

@@ -1,4 +1,4 @@
--- How a walk through a part of a tree to the among with a number ends.
+-- The result of a walk through a part of a tree to the among with a number.
 use Rattle.std.specs.Prelude.{◌≡◌, ℕ, ◌≤◌, List, Some}
 use Rattle.sbl_amongs.specs.declared.finding.WalkEnd.{WalkEnd}
 use Rattle.sbl_amongs.specs.declared.finding.WalkEnd.TheVariants as ends
@@ -6,7 +6,7 @@ use Rattle.sbl_amongs.specs.Amongs.{Held, nth_held}
 use Rattle.sbl_tree.specs.Places.{max_depth}
 use Rattle.sbl_tree.specs.View.{view_among}
 
--- the among is in the part, or it has another number behind it
+-- the among is in the part, or it has number m among those after the part
 abbrev pub Finds : WalkEnd → ℕ → (List Held → List Held) → Type 0
 Finds (ends.There d a) n part = (d ≤ max_depth) × ((rest : List Held) → nth_held n (part rest) ≡ Some (d, (view_among a.now).0, (view_among a.now).1))
 Finds (ends.Behind m) n part = (rest : List Held) → nth_held n (part rest) ≡ nth_held m rest

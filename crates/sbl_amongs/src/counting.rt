@@ -1,4 +1,4 @@
-//! Whether two amongs hold as many.
+//! Whether two amongs hold the same number of amongs.
 
 ghost use Rattle.std.specs.Prelude.{◌≡◌, ◌<◌, ◌-◌, List, nat_eq};
 ghost use Rattle.sbl_tree.specs.Counts as spec;
@@ -7,7 +7,7 @@ ghost use Rattle.sbl_tree.specs.View.{view_among, view_command, view_groups, vie
 
 use sbl_tree::{Among, Command, Group, Joined, Row};
 
-/// A number less the count of amongs in a command; 0 where there are more.
+/// Returns `number` minus the number of amongs in a command, or 0 if there are more.
 #[cycle(less)]
 fn less_command(command: &Command, number: u64) -> u64
     ensures { result ≡ number - spec.count_amongs (view_command command.now) }
@@ -34,7 +34,7 @@ fn less_command(command: &Command, number: u64) -> u64
     }
 }
 
-/// Less the among itself, too.
+/// The same for an among, which itself counts too.
 #[cycle(less)]
 fn less_among(among: &Among, number: u64) -> u64
     ensures { result ≡ number - spec.count_in_among (view_among among.now) }
@@ -87,7 +87,8 @@ fn less_others(others: &Vec<Joined>, number: u64) -> u64
     left
 }
 
-/// Whether two amongs hold as many, those inside and themselves counted. The first holds fewer than 2^64 - 1.
+/// Whether two amongs hold the same number of amongs. Each count includes the among itself and those inside it. The
+/// count of the first is less than 2^64 - 1.
 pub fn has_as_many_amongs(among: &Among, other: &Among) -> bool
     requires { spec.count_in_among (view_among among.now) < 18446744073709551615 }
     ensures { result ≡ nat_eq (spec.count_in_among (view_among among.now)) (spec.count_in_among (view_among other.now)) }

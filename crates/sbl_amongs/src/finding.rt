@@ -1,4 +1,4 @@
-//! The among of a routine's body that has a number.
+//! Finds an among of a routine's body by its number.
 
 ghost use Rattle.std.specs.Prelude.{◌≡◌, ◌≤◌, ◌<◌, ◌-◌, List, [], MatchOption, None, Some, nat_eq};
 ghost use Rattle.sbl_amongs.specs.Amongs as spec;
@@ -12,15 +12,15 @@ ghost use Rattle.sbl_tree.specs.View.{view_among, view_command, view_groups, vie
 
 use sbl_tree::{Among, Command, Group, Joined, Row};
 
-/// How a walk through a part of a tree ends.
+/// The result of a walk through a part of a tree.
 pub(crate) enum WalkEnd<'a> {
-    /// The among, with the depth at which it stands.
+    /// The among, with its depth.
     There(u8, &'a Among),
-    /// The number that the among has behind the part.
+    /// The among is not in the part. This is its number among those after the part.
     Behind(u64),
 }
 
-/// The among with this number in a command that stands at `depth`.
+/// Finds the among with this number in a command at `depth`.
 #[cycle(find)]
 fn in_command(command: &Command, depth: u8, number: u64) -> WalkEnd<'_>
     ensures { AreShallow (placed (view_command command.now) depth []) → Finds result number (λ rest. spec.amongs (view_command command.now) depth rest) }
@@ -51,7 +51,7 @@ fn in_command(command: &Command, depth: u8, number: u64) -> WalkEnd<'_>
     }
 }
 
-/// An among comes before those in its starter, and these before those in its groups.
+/// An among comes before those in its starter, and these come before those in its groups.
 #[cycle(find)]
 fn in_among(among: &Among, depth: u8, number: u64) -> WalkEnd<'_>
     ensures { AreShallow (placed (trees.among_ (view_among among.now).0 (view_among among.now).1) depth []) → Finds result number (λ rest. spec.amongs (trees.among_ (view_among among.now).0 (view_among among.now).1) depth rest) }
@@ -129,8 +129,8 @@ fn in_others(others: &Vec<Joined>, depth: u8, number: u64) -> WalkEnd<'_>
     WalkEnd::Behind(behind)
 }
 
-/// The among of a routine's body with this number, counted from 1 in the order of the words `among`, and the depth at
-/// which it stands; `None` exactly where there is none, as for 0. The body stands nowhere deeper than 64.
+/// Returns the among with this number, and its depth. Amongs are numbered from 1 in the order of the words `among`.
+/// Returns `None` exactly if no among has this number; so for 0. In the body no token is deeper than 64.
 pub fn nth_among(row: &Row, number: u64) -> Option<(u8, &Among)>
     requires { AreShallow (places_in body (view_row row.now)) }
     ensures held { MatchOption result (nth_held number (amongs_of_body (view_row row.now)) ≡ None) (λ x. nth_held number (amongs_of_body (view_row row.now)) ≡ Some (x.0, (view_among x.1.now).0, (view_among x.1.now).1)) }

@@ -1,4 +1,4 @@
-//! The amongs of a routine's body: the one with a number, how many an among holds, and a body with another in the place of one.
+//! The amongs of a routine's body: finds one by its number, counts them, and replaces one.
 #![tactic(auto)]
 
 mod counting;

@@ -1,4 +1,4 @@
-//! The amongs of a tree, in the order of the word `among`, and copies in which another stands in the place of one.
+//! Copies of trees in which another among replaces one, by its number in the order of the words `among`.
 
 ghost use Rattle.std.specs.Prelude.{◌≡◌, ◌-◌, List, IfOk};
 ghost use Rattle.sbl_tree.specs.Counts.{count_amongs, count_in_among, count_in_groups, count_in_others, count_in_rows};
@@ -15,7 +15,8 @@ use sbl_tree::{
 };
 use std::alloc::{AllocError, Global};
 
-/// A copy with `among` in the place of the `at`-th among, counted from 1, and `at` less the number of amongs.
+/// Returns a copy with `among` in place of the among with number `at`, counted from 1. Subtracts the number of amongs
+/// in the command from `at`.
 #[cycle(put_among)]
 fn put_in_command(
     alloc: Global,
@@ -183,9 +184,11 @@ fn put_in_others(
     Ok((copies, rest))
 }
 
-/// A copy of a routine's body with `among` in the place of the `at`-th, counted from 1 in the order of the word `among`.
-/// Where there is none, as for 0, it is a plain copy. It is nowhere too deep where the body is not and `among` fits. A refused growth
-/// is the one error.
+/// Returns a copy of a routine's body with `among` in place of the among with number `at`, counted from 1 in the order
+/// of the words `among`. If no among has this number (so for 0), it is a plain copy. If no token of the body is deeper
+/// than 64, and none of `among` is in its new place, then none of the copy is.
+///
+/// Returns `AllocError` if an allocation fails.
 pub fn put_in_place(alloc: Global, row: &Row, at: u64, among: &Among) -> Result<Row, AllocError>
     ensures put { IfOk result (λ r. view_row r ≡ put_in_body (view_row row.now) at (view_among among.now)) }
     ensures shallow { IfOk result (λ r. AreShallow (places_in body (view_row row.now)) → FitsAt at (amongs_of_body (view_row row.now)) (view_among among.now) → AreShallow (places_in body (view_row r))) }

@@ -1,4 +1,4 @@
--- What holds of each among of a script that is well declared.
+-- What holds for each among of a well declared script.
 use Rattle.std.specs.Prelude.{◌≡◌, ℕ, false, List, [], ◌∷◌, ◌++◌, map}
 use Rattle.std.specs.List.{IsDistinct}
 use Rattle.std.specs.Str.{bytes_eq}
@@ -10,17 +10,17 @@ use Rattle.sbl_checks.specs.Checks.{WellDeclared}
 abbrev pub text_of : Entry → List ℕ
 text_of (entry q c) = q.value
 
--- the strings of some groups, in text order
+-- the strings of these groups, in text order
 abbrev pub texts_of : Groups → List (List ℕ)
 texts_of (bare es) = map text_of es
 texts_of (group e es rs gs) = (text_of e ∷ map text_of es) ++ texts_of gs
 
--- there is a string, and the strings differ in their characters
+-- there is at least one string, and the strings differ in their characters
 pub record IsSound (gs : Groups) : Type 0 where
   pub strings_differ : IsDistinct bytes_eq (texts_of gs)
   pub has_strings : is_empty gs ≡ false
 
--- so it is for each among of a command, those inside an among too
+-- P holds for each among of a command, also for those inside another among
 abbrev mutual
   pub EachAmong : (Groups → Type 0) → Command → Type 0
   EachAmong P (bracket rs) = EachAmongOfRows P rs
@@ -46,7 +46,7 @@ abbrev mutual
   EachAmongOfGroups P (bare es) = Unit {0}
   EachAmongOfGroups P (group e es rs gs) = EachAmongOfRows P rs × EachAmongOfGroups P gs
 
--- and for each among of a script
+-- P holds for each among of a script
 abbrev pub EachAmongOfPlain : (Groups → Type 0) → Plain → Type 0
 EachAmongOfPlain P (routine n c os) = EachAmong P c × EachAmongOfOthers P os
 EachAmongOfPlain P _ = Unit {0}
@@ -60,6 +60,6 @@ EachAmongOfItems P [] = Unit {0}
 EachAmongOfItems P (plain x ∷ is) = EachAmongOfPlain P x × EachAmongOfItems P is
 EachAmongOfItems P (backward xs ∷ is) = EachAmongOfPlains P xs × EachAmongOfItems P is
 
--- each among of a script that is well declared is sound
+-- each among of a well declared script is sound
 abbrev pub AmongsAreSound : Type 0
 AmongsAreSound = (items : List Item) (external : List ℕ) → WellDeclared items external → EachAmongOfItems IsSound items

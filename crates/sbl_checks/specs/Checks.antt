@@ -1,4 +1,5 @@
--- What is asked of a script beside its grammar. Each check looks at one occurrence, at those before it and behind it, and at all of them.
+-- The checks of a script beyond its grammar. Each check looks at one occurrence, at those before and after it, and at
+-- all of them.
 use Rattle.std.specs.Prelude.{◌≡◌, ℕ, Bool, true, false, not, ◌&&◌, ◌||◌, List, [], ◌∷◌, ◌++◌, Option, Some, None, is_some, nat_eq, nat_lt, if◌then◌else◌}
 use Rattle.std.specs.Option.{option_or}
 use Rattle.std.specs.List.{list_any}
@@ -16,13 +17,13 @@ use Rattle.sbl_checks.specs.declared.occurrences.Site.{Site}
 use Rattle.sbl_checks.specs.Bodies.{body_in}
 use Rattle.sbl_checks.specs.Occurrences.{Occurrence, Notice, declares, defines_routine, defines_grouping, uses, substring, among, string, backwards, region_end, occurrences_of}
 
--- ---- what occurrences say of a name
+-- ---- what occurrences say about a name
 
 abbrev pub declared_as : List ℕ → Notice → Option DeclarationKind
 declared_as n (declares k x) = if bytes_eq n x then Some k else None
 declared_as n _ = None
 
--- the kind as which some occurrences declare the name first
+-- the kind of the first declaration of the name in these occurrences
 abbrev pub kind_of : List ℕ → List Occurrence → Option DeclarationKind
 kind_of n [] = None
 kind_of n (m ∷ ms) = option_or (declared_as n m.notice) (kind_of n ms)
@@ -35,7 +36,7 @@ is_definition n _ = false
 abbrev pub defined_at : List ℕ → Occurrence → Option Site
 defined_at n m = if is_definition n m.notice then Some m.site else None
 
--- where some occurrences define it first, of whatever kind
+-- the site of the first definition of the name in these occurrences, of any kind
 abbrev pub definition_of : List ℕ → List Occurrence → Option Site
 definition_of n [] = None
 definition_of n (m ∷ ms) = option_or (defined_at n m) (definition_of n ms)
@@ -67,7 +68,7 @@ abbrev pub is_string : DeclarationKind → Bool
 is_string kinds.Strings = true
 is_string _ = false
 
--- a name of this kind may be used so
+-- a name of this kind is allowed in this use
 abbrev pub may_be : Use → DeclarationKind → Bool
 may_be use_as.Command k = not (is_integer k)
 may_be use_as.Condition k = is_routine k
@@ -77,7 +78,7 @@ may_be use_as.Boolean k = is_boolean k
 may_be use_as.Integer k = is_integer k
 may_be use_as.String k = is_string k
 
--- a name of this kind stands for what is defined
+-- a name of this kind needs a definition
 abbrev pub needs_definition : DeclarationKind → Bool
 needs_definition k = is_routine k || is_grouping k
 
@@ -86,59 +87,59 @@ is_mode Forward Forward = true
 is_mode Backward Backward = true
 is_mode _ _ = false
 
--- there is a definition, in an item before this
+-- there is a definition in an earlier item
 abbrev pub is_earlier : ℕ → Option Site → Bool
 is_earlier item None = false
 is_earlier item (Some p) = nat_lt p.item item
 
--- there is a definition, in the other mode
+-- there is a definition in the other mode
 abbrev pub is_in_other : Mode → Option Site → Bool
 is_in_other mode None = false
 is_in_other mode (Some p) = not (is_mode mode p.mode)
 
 -- ---- the checks
 
--- 9: declared before, of whatever kind
+-- 9: the name was declared before, as any kind
 abbrev pub is_declared_twice : List Occurrence → Notice → Bool
 is_declared_twice before (declares k n) = is_some (kind_of n before)
 is_declared_twice before _ = false
 
--- 10: no earlier declaration
+-- 10: the name was not declared before
 abbrev pub is_undeclared : List Occurrence → Notice → Bool
 is_undeclared before (defines_routine n) = not (is_some (kind_of n before))
 is_undeclared before (defines_grouping n) = not (is_some (kind_of n before))
 is_undeclared before (uses u n) = not (is_some (kind_of n before))
 is_undeclared before _ = false
 
--- 11: its kind is not allowed there
+-- 11: the kind of the name is not allowed there
 abbrev pub is_wrong_kind : List Occurrence → Notice → Bool
 is_wrong_kind before (defines_routine n) = not (is_kind is_routine (kind_of n before))
 is_wrong_kind before (defines_grouping n) = not (is_kind is_grouping (kind_of n before))
 is_wrong_kind before (uses u n) = not (is_kind (may_be u) (kind_of n before))
 is_wrong_kind before _ = false
 
--- 12: defined before
+-- 12: the name was defined in an earlier item
 abbrev pub is_defined_twice : List Occurrence → ℕ → Notice → Bool
 is_defined_twice all item (defines_routine n) = is_earlier item (definition_of n all)
 is_defined_twice all item (defines_grouping n) = is_earlier item (definition_of n all)
 is_defined_twice all item _ = false
 
--- a routine or grouping that is defined nowhere; in a grouping's definition: that is not defined earlier
+-- a routine or grouping without a definition; for a term of a grouping: without a definition in an earlier item
 abbrev pub lacks_definition : Use → ℕ → Option DeclarationKind → Option Site → Bool
 lacks_definition use_as.Term item kind site = not (is_earlier item site)
 lacks_definition _ item kind site = is_kind needs_definition kind && not (is_some site)
 
--- 13: a use of such
+-- 13: the use of such a name
 abbrev pub is_undefined : List Occurrence → List Occurrence → ℕ → Notice → Bool
 is_undefined all before item (uses u n) = lacks_definition u item (kind_of n before) (definition_of n all)
 is_undefined all before item _ = false
 
--- 14: a use of a routine that is defined in the other mode
+-- 14: the use of a routine that is defined in the other mode
 abbrev pub is_wrong_mode : List Occurrence → List Occurrence → Mode → Notice → Bool
 is_wrong_mode all before mode (uses u n) = is_kind is_routine (kind_of n before) && is_in_other mode (definition_of n all)
 is_wrong_mode all before mode _ = false
 
--- of the amongs, substrings and ends of regions in some occurrences the first is an among of this mode
+-- the first among, substring or end of a region in these occurrences is an among of this mode
 abbrev pub is_followed : Mode → List Occurrence → Bool
 is_followed mode [] = false
 is_followed mode (m ∷ ms) = elim m.notice [
@@ -148,19 +149,20 @@ is_followed mode (m ∷ ms) = elim m.notice [
   | _ ↦ is_followed mode ms
 ]
 
--- 15: a substring with no among of its region behind it, before the region's end or its next substring, or with one of the other mode
+-- 15: a substring after which the end of its region or another substring comes before any among, or whose next among
+-- has the other mode
 abbrev pub is_unpaired : Mode → Notice → List Occurrence → Bool
 is_unpaired mode substring after = not (is_followed mode after)
 is_unpaired mode _ after = false
 
--- a substring waits for its among behind this occurrence
+-- after this occurrence a substring is still without its among
 abbrev pub waits_after : Notice → Bool → Bool
 waits_after substring waits = true
 waits_after (among has_starter is_empty) waits = false
 waits_after region_end waits = false
 waits_after _ waits = waits
 
--- a substring waits for its among behind some occurrences
+-- after these occurrences a substring is still without its among
 abbrev pub is_awaited : List Occurrence → Bool → Bool
 is_awaited [] waits = waits
 is_awaited (m ∷ ms) waits = is_awaited ms (waits_after m.notice waits)
@@ -175,15 +177,15 @@ abbrev pub is_text : ℕ → List ℕ → Notice → Bool
 is_text k text (string o t) = nat_eq k o && bytes_eq text t
 is_text k text _ = false
 
--- and that among stands in this item
+-- the occurrence is such a string in this item
 abbrev pub is_text_of : ℕ → ℕ → List ℕ → Occurrence → Bool
 is_text_of item k text m = is_text k text m.notice && nat_eq item m.site.item
 
--- some occurrence says so
+-- some occurrence is such a string
 abbrev pub has_text : ℕ → ℕ → List ℕ → List Occurrence → Bool
 has_text item k text ms = list_any (is_text_of item k text) ms
 
--- 17: its characters are those of an earlier string of this among
+-- 17: the characters are those of an earlier string of the same among
 abbrev pub is_repeated : List Occurrence → ℕ → Notice → Bool
 is_repeated before item (string k text) = has_text item k text before
 is_repeated before item _ = false
@@ -198,7 +200,7 @@ abbrev pub is_nested : Mode → Notice → Bool
 is_nested mode backwards = is_mode Backward mode
 is_nested mode _ = false
 
--- the fault of an occurrence, of several that with the smallest number
+-- the fault of an occurrence; if there are several, the one with the smallest number
 abbrev pub fault_at : List Occurrence → List Occurrence → Occurrence → List Occurrence → Option ScriptFault
 fault_at all before m after =
     if is_declared_twice before m.notice then Some (fault.DeclaredTwice m.site.item) else
@@ -214,12 +216,12 @@ fault_at all before m after =
     if is_nested m.site.mode m.notice then Some (fault.NestedBackwards m.site.item) else
     None
 
--- a name of this kind may be defined so
+-- a name of this kind can be defined as a grouping, or as a routine
 abbrev pub may_define : Bool → DeclarationKind → Bool
 may_define true k = is_grouping k
 may_define false k = is_routine k
 
--- the same for a name in a definition, and for a name that is used, with what is known of it
+-- the fault of a name in a definition, and of the use of a name, given its kind and its first definition
 abbrev pub fault_of_definition : ℕ → Bool → Option DeclarationKind → Option Site → Option ScriptFault
 fault_of_definition item wants_grouping kind site =
     if not (is_some kind) then Some (fault.Undeclared item) else
@@ -235,7 +237,7 @@ fault_of_use p how kind site =
     if is_kind is_routine kind && is_in_other p.mode site then Some (fault.WrongMode p.item) else
     None
 
--- the first fault behind the occurrences before
+-- the first fault of the occurrences after those in `before`
 abbrev pub fault_behind : List Occurrence → List Occurrence → List Occurrence → Option ScriptFault
 fault_behind all before [] = None
 fault_behind all before (m ∷ after) = option_or (fault_at all before m after) (fault_behind all (before ++ m ∷ []) after)
@@ -248,14 +250,14 @@ is_external _ = false
 abbrev pub has_external : List Item → List ℕ → List Occurrence → Bool
 has_external items external all = is_external (kind_of external all) && is_some (body_in external items)
 
--- 21: the external that is asked for is not
+-- 21: the requested external is not declared and defined like this
 abbrev pub fault_of_external : List Item → List ℕ → List Occurrence → Option ScriptFault
 fault_of_external items external all = if has_external items external all then None else Some fault.NoExternal
 
--- the first fault of a script with this external; that of the external comes last
+-- the first fault of a script with this external; the fault of the external comes last
 abbrev pub fault_of : List Item → List ℕ → Option ScriptFault
 fault_of items external = let all = occurrences_of items in option_or (fault_behind all [] all) (fault_of_external items external all)
 
--- none of the checks fails
+-- no check fails
 abbrev pub WellDeclared : List Item → List ℕ → Type 0
 WellDeclared items external = fault_of items external ≡ None

@@ -1,9 +1,9 @@
--- what the contracts of public calls rest on
+-- definitions that public contracts depend on
 pub mod Bodies
 pub mod Occurrences
 pub mod Checks
 pub mod Amongs
 pub mod Laws
--- what the functions inside the crate promise each other: nothing in these need be believed
+-- what the functions inside the crate promise each other; no public contract depends on these
 pub mod OccurrenceView
 pub mod Met

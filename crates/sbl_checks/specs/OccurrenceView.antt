@@ -1,4 +1,4 @@
--- An occurrence without where its names lie in memory.
+-- An occurrence without memory addresses.
 use Rattle.std.specs.Prelude.{List, map}
 use Rattle.sbl_checks.specs.declared.occurrences.Notice.{Notice}
 use Rattle.sbl_checks.specs.declared.occurrences.Notice.TheVariants as notices

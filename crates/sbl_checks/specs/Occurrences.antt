@@ -14,7 +14,7 @@ use Rattle.sbl_checks.specs.declared.occurrences.Use.{Use}
 use Rattle.sbl_checks.specs.declared.occurrences.Use.TheVariants as use_as
 use Rattle.sbl_checks.specs.declared.occurrences.Site.{Site}
 
--- what stands at an occurrence; names are UTF-8 bytes
+-- what occurs at one place of a script; names are UTF-8 bytes
 pub data Notice : Type 0 where
   declares : DeclarationKind → List ℕ → Notice
   defines_routine defines_grouping : List ℕ → Notice
@@ -22,34 +22,34 @@ pub data Notice : Type 0 where
   substring : Notice
   -- an among: whether it has a starter, whether it has no string
   among : Bool → Bool → Notice
-  -- a string of an among, which is told by its number in its item: its characters
+  -- a string of an among: the number of the among in its item, and the characters of the string
   string : ℕ → List ℕ → Notice
   backwards : Notice
-  -- the end of a routine's body, or of a group's or starter's bracket
+  -- the end of a routine's body, or of the parentheses of a group or a starter
   region_end : Notice
 
 pub record Occurrence : Type 0 where
   pub site : Site
   pub notice : Notice
 
--- Each of the following takes the occurrences so far, and gives them with its own behind them.
+-- Each of the following functions appends its own occurrences to those so far.
 abbrev pub put : Notice → Site → List Occurrence → List Occurrence
 put n p sofar = sofar ++ (record { site = p; notice = n }) ∷ []
 
--- how many amongs a routine has so far, where it had so many before
+-- the number of amongs of the current routine after an occurrence, given the number before it
 abbrev pub amongs_after : Notice → ℕ → ℕ
 amongs_after (defines_routine n) k = 0
 amongs_after (among has_starter is_empty) k = k + 1
 amongs_after _ k = k
 
--- how many amongs the routine that was defined last has so far; where none is defined, k more
+-- the number of amongs in the last routine of these occurrences; if there is no routine, k plus all amongs
 abbrev pub amongs_in : List Occurrence → ℕ → ℕ
 amongs_in [] k = k
 amongs_in (m ∷ ms) k = amongs_in ms (amongs_after m.notice k)
 
 -- ---- names of strings and integers
 
--- a string that is named
+-- a string that is a name
 abbrev pub noted_string : Argument → Site → List Occurrence → List Occurrence
 noted_string (written_out q) p sofar = sofar
 noted_string (by_name n) p sofar = put (uses use_as.String n) p sofar
@@ -87,7 +87,7 @@ abbrev pub noted_prefix : Prefix → Site → List Occurrence → List Occurrenc
 noted_prefix prefixes.Backwards p sofar = put backwards p sofar
 noted_prefix _ p sofar = sofar
 
--- the site of a command behind a prefix
+-- the site of a command after a prefix
 abbrev pub site_behind : Prefix → Site → Site
 site_behind prefixes.Backwards p = record { item = p.item; mode = Backward }
 site_behind _ p = p
@@ -102,7 +102,7 @@ abbrev pub noted_condition : Option (List ℕ) → Site → List Occurrence → 
 noted_condition None p sofar = sofar
 noted_condition (Some n) p sofar = put (uses use_as.Condition n) p sofar
 
--- strings of the among of this number
+-- a string of the among of this number
 abbrev pub noted_entry : Entry → ℕ → Site → List Occurrence → List Occurrence
 noted_entry (entry q c) k p sofar = noted_condition c p (put (string k q.value) p sofar)
 
@@ -173,11 +173,11 @@ noted_plain (macro n b q) p sofar = sofar
 noted_plain (routine n c os) p sofar = put region_end p (noted_others os p (noted c p (put (defines_routine n) p sofar)))
 noted_plain (grouping n a ts) p sofar = noted_terms ts p (noted_term a p (put (defines_grouping n) p sofar))
 
--- the occurrences of some items, of which the first has this number
+-- the occurrences of these items; n is the number of the first one
 abbrev pub noted_items : List ItemInMode → ℕ → List Occurrence → List Occurrence
 noted_items [] n sofar = sofar
 noted_items (x ∷ xs) n sofar = noted_items xs (n + 1) (noted_plain x.plain (record { item = n; mode = x.mode }) sofar)
 
--- the occurrences of a script, its items counted from 1
+-- the occurrences of a script, with items counted from 1
 abbrev pub occurrences_of : List Item → List Occurrence
 occurrences_of items = noted_items (in_order items) 1 []

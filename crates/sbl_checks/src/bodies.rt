@@ -6,7 +6,7 @@ ghost use Rattle.sbl_checks.specs.Bodies as spec;
 
 use sbl_tree::{Item, Plain, Row};
 
-/// The body of the first routine of this name that is defined in forward mode; `None` where there is none.
+/// Returns the body of the first routine of this name that is defined in forward mode, or `None` if there is none.
 pub fn body_in<'a>(items: &'a [Item], name: &str) -> Option<&'a Row>
     ensures { MatchOption result (spec.body_in name.now (view_items items.now) ≡ None) (λ body. spec.body_in name.now (view_items items.now) ≡ Some (view_row body.now)) }
 {

@@ -1,4 +1,4 @@
-//! What is asked of a script beside its grammar.
+//! The checks of a script beyond its grammar.
 
 ghost use Rattle.std.specs.Prelude.{◌≡◌, ℕ, ◌∷◌, [], ◌++◌, List, not, is_some, ◌||◌, ◌+◌, ◌<◌, length, drop, nat_eq, ◌&&◌, ◌⊎◌, IfOk, IfErr, OnOk, if◌then◌else◌, Some, None, ◌==◌};
 ghost use Rattle.sbl_checks.specs.Checks as spec;
@@ -29,7 +29,7 @@ fn is_grouping(kind: DeclarationKind) -> bool
     matches!(kind, DeclarationKind::Groupings)
 }
 
-/// Whether a name of this kind may be used so.
+/// Returns whether a name of this kind is allowed in this use.
 fn may_be(how: Use, kind: DeclarationKind) -> bool
     ensures { result ≡ spec.may_be how kind }
 {
@@ -52,7 +52,7 @@ fn is_mode(wanted: Mode, mode: Mode) -> bool
     }
 }
 
-/// Whether there is a definition, in an item before this.
+/// Returns whether there is a definition in an earlier item.
 fn is_earlier(item: usize, definition: Option<Site>) -> bool
     ensures { result ≡ spec.is_earlier item definition }
 {
@@ -62,7 +62,7 @@ fn is_earlier(item: usize, definition: Option<Site>) -> bool
     }
 }
 
-/// Whether there is a definition, in the other mode.
+/// Returns whether there is a definition in the other mode.
 fn is_in_other(mode: Mode, definition: Option<Site>) -> bool
     ensures { result ≡ spec.is_in_other mode definition }
 {
@@ -72,7 +72,7 @@ fn is_in_other(mode: Mode, definition: Option<Site>) -> bool
     }
 }
 
-/// Whether a use lacks its definition.
+/// Returns whether a name that is used has no definition.
 fn lacks_definition(how: Use, item: usize, kind: DeclarationKind, definition: Option<Site>) -> bool
     ensures { result ≡ spec.lacks_definition how item (Some kind) definition }
 {
@@ -82,7 +82,7 @@ fn lacks_definition(how: Use, item: usize, kind: DeclarationKind, definition: Op
     }
 }
 
-/// Whether a name of this kind may be defined so.
+/// Returns whether a name of this kind can be defined as a grouping or as a routine.
 fn may_define(wants_grouping: bool, kind: DeclarationKind) -> bool
     ensures { result ≡ spec.may_define wants_grouping kind }
 {
@@ -93,7 +93,7 @@ fn may_define(wants_grouping: bool, kind: DeclarationKind) -> bool
     }
 }
 
-/// The fault of a name in a definition, with what is known of the name.
+/// Returns the fault of a name in a definition, given its declared kind and its first definition.
 fn fault_of_definition(
     item: usize,
     wants_grouping: bool,
@@ -114,7 +114,7 @@ fn fault_of_definition(
     None
 }
 
-/// The fault of a name that is used, with what is known of the name.
+/// Returns the fault of the use of a name, given its declared kind and its first definition.
 fn fault_of_use(
     site: Site,
     how: Use,
@@ -139,14 +139,14 @@ fn fault_of_use(
     None
 }
 
-/// This fault where the condition holds.
+/// Returns the fault if the condition holds.
 fn fault_if(condition: bool, fault: ScriptFault) -> Option<ScriptFault>
     ensures { result ≡ (if condition then Some fault else None) }
 {
     if condition { Some(fault) } else { None }
 }
 
-/// The fault of an among.
+/// Returns the fault of an among.
 fn fault_of_among(item: usize, is_started_twice: bool, is_empty: bool) -> Option<ScriptFault>
     ensures { result ≡ (if is_started_twice then Some (ScriptFault.Starter item) else if is_empty then Some (ScriptFault.EmptyAmong item) else None) }
 {
@@ -156,7 +156,7 @@ fn fault_of_among(item: usize, is_started_twice: bool, is_empty: bool) -> Option
     fault_if(is_empty, ScriptFault::EmptyAmong { item })
 }
 
-/// Whether the first among, substring or end of a region is an among of this mode.
+/// Returns whether the first among, substring or end of a region is an among of this mode.
 fn is_followed(mode: Mode, occurrences: &[Occurrence]) -> bool
     ensures { result ≡ spec.is_followed mode (view_occurrences occurrences.now) }
 {
@@ -173,14 +173,14 @@ fn is_followed(mode: Mode, occurrences: &[Occurrence]) -> bool
     false
 }
 
-/// What was met among some occurrences.
+/// What the checks remember of the occurrences so far.
 #[derive(Drop)]
 pub struct Met<'a> {
-    /// What each name is declared as.
+    /// The kind that each name is declared as.
     pub kinds: BTreeMap<&'a str, DeclarationKind>,
-    /// The strings of each among, with the item and the number of the among in it.
+    /// The strings of each among, with the number of its item and the number of the among in the item.
     pub strings: BTreeSet<(usize, usize, &'a [char])>,
-    /// Whether a `substring` waits for its `among`.
+    /// Whether a `substring` is still without its `among`.
     pub waits: bool,
 }
 
@@ -196,7 +196,8 @@ fn definition_of(sites: &BTreeMap<&str, Site>, name: &str) -> Option<Site>
     sites.get(name).copied()
 }
 
-/// The fault of an occurrence, with the occurrences behind it, with the sites of the definitions, and with what was met before.
+/// Returns the fault of an occurrence, given the occurrences after it, the first definition of each name, and what the
+/// checks remember of the occurrences before it.
 fn fault_at<'a>(
     occurrence: &Occurrence<'a>,
     after: &[Occurrence<'a>],
@@ -250,7 +251,7 @@ fn fault_at<'a>(
     }
 }
 
-/// Keeps a value for a name that has none.
+/// Inserts a value for a name, unless the name has one already. Returns `AllocError` if an allocation fails.
 fn keep_first<'a, T: Copy>(
     map: &mut BTreeMap<&'a str, T>,
     name: &'a str,
@@ -264,7 +265,7 @@ fn keep_first<'a, T: Copy>(
     Ok(())
 }
 
-/// Keeps a string of an among of an item.
+/// Inserts a string of an among of an item. Returns `AllocError` if an allocation fails.
 fn keep_string<'a>(
     strings: &mut BTreeSet<(usize, usize, &'a [char])>,
     item: usize,
@@ -277,7 +278,7 @@ fn keep_string<'a>(
     Ok(())
 }
 
-/// Notes what an occurrence says besides what was met.
+/// Updates what the checks remember after an occurrence. Returns `AllocError` if an allocation fails.
 fn note<'a>(occurrence: &Occurrence<'a>, met: &mut Met<'a>) -> Result<(), AllocError>
     ensures { OnOk result (Notes met.old met.new (view_occurrence occurrence.now)) }
 {
@@ -300,7 +301,8 @@ fn note<'a>(occurrence: &Occurrence<'a>, met: &mut Met<'a>) -> Result<(), AllocE
     Ok(())
 }
 
-/// Notes where an occurrence defines a name.
+/// Records the site of a definition, if the occurrence is the first one of its name. Returns `AllocError` if an
+/// allocation fails.
 fn note_definition<'a>(
     occurrence: &Occurrence<'a>,
     sites: &mut BTreeMap<&'a str, Site>,
@@ -317,7 +319,7 @@ fn note_definition<'a>(
     }
 }
 
-/// Where each name is defined first.
+/// Returns the site of the first definition of each name. Returns `AllocError` if an allocation fails.
 fn sites_of<'a>(
     alloc: Global,
     occurrences: &[Occurrence<'a>],
@@ -331,7 +333,7 @@ fn sites_of<'a>(
     Ok(sites)
 }
 
-/// Nothing is met yet.
+/// Returns the state before the first occurrence.
 fn met_nothing<'a>(alloc: Global) -> Met<'a>
     ensures { HasMet result [] }
 {
@@ -342,7 +344,7 @@ fn met_nothing<'a>(alloc: Global) -> Met<'a>
     }
 }
 
-/// The occurrences behind one.
+/// Returns the occurrences after the one at `index`.
 fn behind<'a, 'b>(occurrences: &'b [Occurrence<'a>], index: usize) -> &'b [Occurrence<'a>]
     requires { index < length occurrences.now }
     ensures { result.now ≡ drop (index + 1) occurrences.now }
@@ -350,7 +352,7 @@ fn behind<'a, 'b>(occurrences: &'b [Occurrence<'a>], index: usize) -> &'b [Occur
     &occurrences[index + 1..]
 }
 
-/// The checks of all occurrences, in their order.
+/// Checks all occurrences in order.
 fn check_occurrences<'a>(
     occurrences: &[Occurrence<'a>],
     sites: &BTreeMap<&'a str, Site>,
@@ -371,9 +373,10 @@ fn check_occurrences<'a>(
     Ok(())
 }
 
-/// All checks of a script, whose external is asked for.
+/// Runs all checks of a script with this external.
 ///
-/// Answers the first fault in text order; that of the external comes last. Besides `OutOfMemory` where memory was refused.
+/// Returns the first fault in text order; the fault of the external comes last. Returns `OutOfMemory` if an allocation
+/// fails.
 pub fn check(alloc: Global, items: &[Item], external: &str) -> Result<(), ScriptFault>
     ensures well_declared { IfOk result (λ _. spec.WellDeclared (view_items items.now) external.now) }
     ensures fault { IfErr result (λ f. (f ≡ ScriptFault.OutOfMemory) ⊎ (spec.fault_of (view_items items.now) external.now ≡ Some f)) }
@@ -385,7 +388,7 @@ pub fn check(alloc: Global, items: &[Item], external: &str) -> Result<(), Script
     check_external(kind_of(&met, external), body_in(items, external))
 }
 
-/// The external is declared as such, and has a body.
+/// Checks that the external is declared as an external and has a body.
 fn check_external(kind: Option<DeclarationKind>, body: Option<&Row>) -> Result<(), ScriptFault>
     ensures { Finds result (if spec.is_external kind && is_some body.entry then None else Some ScriptFault.NoExternal) }
 {

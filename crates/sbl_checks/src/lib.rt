@@ -1,4 +1,4 @@
-//! The checks of a script: what is asked of it beside its grammar.
+//! The resolver: the checks of a script beyond its grammar, such as whether its names are declared and defined.
 #![tactic(auto)]
 
 mod bodies;

@@ -1,4 +1,4 @@
-//! The occurrences of a script, in text order.
+//! Collects the occurrences of a script, in text order.
 
 ghost use Rattle.std.specs.Prelude.{◌≡◌, List, map, OnOk, IfOk, string_bytes};
 ghost use Rattle.sbl_tree.specs.View.{view_argument, view_expression, view_factor, view_product, view_sums, view_scales, view_entry, view_command, view_rows, view_others, view_starter, view_among, view_groups, view_row, view_term, view_plain, view_items};
@@ -16,7 +16,7 @@ use sbl_tree::{
 };
 use std::alloc::{AllocError, Global};
 
-/// The occurrences of a string that may be named.
+/// Appends the occurrences of a string that may be a name.
 fn note_string<'a>(
     string: &'a Argument,
     site: Site,
@@ -30,7 +30,7 @@ fn note_string<'a>(
     }
 }
 
-/// The occurrences of an arithmetic expression.
+/// Appends the occurrences of an arithmetic expression.
 #[cycle(arithmetic)]
 fn note_expression<'a>(
     expression: &'a Expression,
@@ -118,7 +118,7 @@ fn note_prefix(prefix: Prefix, site: Site, occurrences: &mut SoFar) -> Result<()
     }
 }
 
-/// The site of a command behind a prefix.
+/// Returns the site of a command after a prefix.
 fn site_behind(prefix: Prefix, site: Site) -> Site
     ensures { result ≡ spec.site_behind prefix site }
 {
@@ -188,7 +188,7 @@ fn has_none(groups: &[Group], bare: &[Entry]) -> bool
     groups.is_empty() && bare.is_empty()
 }
 
-/// The occurrences of a command.
+/// Appends the occurrences of a command.
 #[cycle(commands)]
 fn note_command<'a>(
     command: &'a Command,
@@ -272,7 +272,7 @@ fn note_others<'a>(
     Ok(())
 }
 
-/// The occurrences of an among, of its starter, and then string by string and group by group.
+/// Appends the occurrences of an among, of its starter, and then of each string and group.
 #[cycle(commands)]
 fn note_among<'a>(
     among: &'a Among,
@@ -407,7 +407,7 @@ fn note_in_order<'a>(
     Ok(())
 }
 
-/// The occurrences of a script, its items counted from 1.
+/// Returns the occurrences of a script, with items counted from 1. Returns `AllocError` if an allocation fails.
 pub fn occurrences_of<'a>(
     alloc: Global,
     items: &'a [Item],

@@ -1,27 +1,28 @@
-//! What the checks look at in a script.
+//! The parts of a script that the checks look at.
 
 use sbl_tree::{DeclarationKind, Mode};
 
-/// What a name is used as.
+/// The use of a name.
 #[derive(Clone, Copy, Debug, PartialEq, Eq)]
 pub enum Use {
-    /// A command.
+    /// As a command.
     Command,
-    /// The condition of a string of an `among`.
+    /// As the condition of a string of an `among`.
     Condition,
-    /// What stands after `non`.
+    /// As the grouping after `non`.
     Excluded,
-    /// A term of a grouping.
+    /// As a term of a grouping.
     Term,
-    /// What `set` and `unset` change.
+    /// As the variable of `set` or `unset`.
     Boolean,
-    /// What `setmark`, `$` and arithmetic name.
+    /// As the variable of `setmark` or `$`, or in arithmetic.
     Integer,
-    /// What `->` changes, and a string that is named.
+    /// As the variable of `->`, or as a string.
     String,
 }
 
-/// Where something stands: in which item (counted from 1, a `backwardmode` not being counted, but its items), and in which mode.
+/// A position in a script: the number of the item and the mode. Items are counted from 1; the items of a `backwardmode`
+/// are counted, the `backwardmode` itself is not.
 #[derive(Clone, Copy, Debug, PartialEq, Eq)]
 pub struct Site {
     /// The number of the item.
@@ -30,39 +31,40 @@ pub struct Site {
     pub mode: Mode,
 }
 
-/// What stands there.
+/// What occurs there.
 #[derive(Clone, Copy)]
 pub enum Notice<'a> {
-    /// A name in a declaration.
+    /// The declaration of a name.
     Declares(DeclarationKind, &'a str),
-    /// The name of a routine in its definition.
+    /// The definition of a routine with this name.
     DefinesRoutine(&'a str),
-    /// The name of a grouping in its definition.
+    /// The definition of a grouping with this name.
     DefinesGrouping(&'a str),
-    /// A name that is used.
+    /// The use of a name.
     Uses(Use, &'a str),
     /// `substring`
     Substring,
     /// `among`
     Among {
-        /// Whether a bracket stands before its first string.
+        /// Whether it has a starter: commands in parentheses before its first string.
         has_starter: bool,
         /// Whether it has no string.
         is_empty: bool,
     },
-    /// A string of an `among`, which is told by its number in its item: they are counted from 1, in the order of the words `among`.
+    /// A string of an `among`, with the number of the among in its item. Amongs are counted from 1, in the order of the
+    /// words `among`.
     String(usize, &'a [char]),
     /// `backwards`
     Backwards,
-    /// The end of a routine's body, or of the bracket of an among's group or starter.
+    /// The end of a routine's body, or of the parentheses of an among's group or starter.
     RegionEnd,
 }
 
-/// One thing that the checks look at.
+/// An occurrence: one place in a script that the checks look at.
 #[derive(Clone, Copy)]
 pub struct Occurrence<'a> {
-    /// Where it stands.
+    /// Its position.
     pub site: Site,
-    /// What it is.
+    /// What occurs there.
     pub notice: Notice<'a>,
 }

@@ -1,4 +1,4 @@
-//! The occurrences that were noted so far.
+//! The occurrences collected so far.
 
 ghost use Rattle.std.specs.Prelude.{◌≡◌, [], List, ◌+◌, OnOk, ◌≤◌, length};
 ghost use Rattle.sbl_checks.specs.Occurrences as spec;
@@ -8,7 +8,7 @@ use crate::occurrences::{Notice, Occurrence, Site};
 use std::alloc::{AllocError, Global};
 use std::marker::Model;
 
-/// The occurrences so far, with how many amongs the routine that was defined last has among them.
+/// The occurrences so far, and the number of amongs in the last routine among them.
 #[derive(Drop)]
 pub struct SoFar<'a> {
     occurrences: Vec<Occurrence<'a>>,
@@ -29,7 +29,7 @@ impl<'a> Model for SoFar<'a> {
 }
 
 impl<'a> SoFar<'a> {
-    /// Nothing yet. It takes no memory.
+    /// Returns an empty list. Does not allocate.
     pub fn new(alloc: Global) -> SoFar<'a>
         ensures { result ≡ [] }
     {
@@ -39,16 +39,16 @@ impl<'a> SoFar<'a> {
         }
     }
 
-    /// The number of an among that comes next, in its item.
+    /// Returns the number of the next among in its item.
     pub fn next_among(&self) -> usize
         ensures { result ≡ spec.amongs_in (view_occurrences self.now) 0 + 1 }
     {
-        // There are not more amongs than occurrences.
+        // There are at most as many amongs as occurrences.
         let _most = self.occurrences.as_slice().len() + 1;
         self.amongs + 1
     }
 
-    /// Puts an occurrence behind the others.
+    /// Appends an occurrence. Returns `AllocError` if an allocation fails.
     pub fn put(&mut self, notice: Notice<'a>, site: Site) -> Result<(), AllocError>
         ensures { OnOk result (view_occurrences self.new ≡ spec.put (view_notice notice.entry) site (view_occurrences self.old)) }
     {
@@ -58,7 +58,7 @@ impl<'a> SoFar<'a> {
         Ok(())
     }
 
-    /// The occurrences.
+    /// Returns the occurrences.
     pub fn into_vec(self) -> Vec<Occurrence<'a>>
         ensures { result.items ≡ self.entry }
     {
@@ -66,7 +66,8 @@ impl<'a> SoFar<'a> {
     }
 }
 
-/// How many amongs a routine has behind an occurrence, which so many stand before, and the number that comes next.
+/// Returns the number of amongs of the current routine after an occurrence, given the number before it. `next` is that
+/// number plus 1.
 fn amongs_after(notice: Notice, amongs: usize, next: usize) -> usize
     ensures { next ≡ amongs + 1 → result ≡ spec.amongs_after (view_notice notice.entry) amongs }
 {

@@ -1,4 +1,4 @@
--- What the first of some tokens says.
+-- The value of the first token.
 use Rattle.std.specs.Prelude.{ℕ, List, [], ◌∷◌}
 use Rattle.sbl_lexemes.specs.declared.token.Kind.{Kind}
 use Rattle.sbl_lexemes.specs.declared.token.Kind.TheVariants as kinds

@@ -1,4 +1,4 @@
--- What is wanted at the front of each text.
+-- What the parser expects at the start of each text.
 use Rattle.std.specs.Prelude.{[], ◌∷◌}
 use Rattle.sbl_tree.specs.Texts.{Text, script, body, terms, among}
 use Rattle.sbl_grammar.specs.Steps.{Stack, command, others, argument, items}

@@ -1,9 +1,9 @@
--- what the contracts of public calls rest on
+-- definitions that public contracts depend on
 pub mod Profile
 pub mod Reading
 pub mod Told
 pub mod Laws
--- what the functions inside the crate promise each other: nothing in these need be believed
+-- what the functions inside the crate promise each other; no public contract depends on these
 pub mod Roles
 pub mod Steps
 pub mod Fronts

@@ -1,4 +1,4 @@
--- The tokens of the language that are not offered here.
+-- The tokens of the language that are not supported.
 use Rattle.std.specs.Prelude.{Bool, true, false}
 use Rattle.sbl_lexemes.specs.Lexemes.{Lexeme}
 use Rattle.sbl_tree.specs.Terminal.{Terminal, other, terminal_of}
@@ -7,6 +7,6 @@ abbrev pub is_other : Terminal → Bool
 is_other (other x) = true
 is_other _ = false
 
--- it stands in no tree
+-- the token occurs in no tree
 abbrev pub is_left_out : Lexeme → Bool
 is_left_out l = is_other (terminal_of l)

@@ -1,27 +1,27 @@
--- What reading is: a condition on all trees.
+-- The specification of parsing, as a condition on all trees.
 use Rattle.std.specs.Prelude.{◌≡◌, ℕ, ◌<◌, List, [], ◌∷◌, ◌++◌}
 use Rattle.sbl_tree.specs.Terminal.{Terminal, dollar, name}
 use Rattle.sbl_tree.specs.Texts.{Text, TreeOf, places_in, tokens_of}
 use Rattle.sbl_tree.specs.Places.{AreShallow, AtDepth, tokens, max_depth}
 
--- these tokens are the front of a tree's
+-- these tokens are a prefix of the tokens of a tree
 abbrev pub IsFront : Text → List Terminal → Type 0
 IsFront t before = (tree : TreeOf t) × (rest : List Terminal) × (tokens_of t tree ≡ before ++ rest)
 
--- the token after these stands too deep in a tree whose tokens so begin
+-- the token after these tokens is too deep, in a tree whose tokens begin with both
 abbrev pub IsTooDeep : Text → List Terminal → Terminal → Type 0
 IsTooDeep t before x = (tree : TreeOf t) × (front : List AtDepth) × (depth : ℕ) × (rest : List AtDepth)
     × (places_in t tree ≡ front ++ (x, depth) ∷ rest) × (tokens front ≡ before) × (max_depth < depth)
 
--- none of these tokens does
+-- none of these tokens is too deep
 abbrev pub HasNoneTooDeep : Text → List Terminal → Type 0
 HasNoneTooDeep t before = (b c : List Terminal) (x : Terminal) → before ≡ b ++ x ∷ c → IsTooDeep t b x → ⊥
 
--- the tree of the tokens, nowhere too deep
+-- these are the tokens of the tree, and none is too deep
 abbrev pub IsReadAs : (t : Text) → List Terminal → TreeOf t → Type 0
 IsReadAs t all tree = (tokens_of t tree ≡ all) × AreShallow (places_in t tree)
 
--- the first token cannot follow those before it; with no token left: more is needed
+-- the first token of the rest cannot follow those before it; if the rest is empty, more tokens are needed
 abbrev pub CannotFollow : Text → List Terminal → List Terminal → Type 0
 CannotFollow t before [] = (tree : TreeOf t) → tokens_of t tree ≡ before → ⊥
 CannotFollow t before (x ∷ more) = IsFront t (before ++ x ∷ []) → ⊥
@@ -30,12 +30,12 @@ CannotFollow t before (x ∷ more) = IsFront t (before ++ x ∷ []) → ⊥
 abbrev pub WantsOperator : List Terminal → Type 0
 WantsOperator before = (front : List Terminal) × (n : List ℕ) × (before ≡ front ++ dollar ∷ name n ∷ [])
 
--- there is a token, and an operator is wanted in its place
+-- there is a token where an operator is expected
 abbrev pub LacksOperator : List Terminal → List Terminal → Type 0
 LacksOperator before [] = ⊥
 LacksOperator before (x ∷ more) = WantsOperator before
 
--- the tokens before are a front, none too deep, and what comes cannot follow
+-- the tokens before are a prefix of a tree and not too deep, and the rest cannot follow
 pub record StopsAt (t : Text) (before rest : List Terminal) : Type 0 where
   pub front : IsFront t before
   pub shallow : HasNoneTooDeep t before
@@ -56,7 +56,7 @@ pub record IsTooDeepAt (t : Text) (all rest : List Terminal) : Type 0 where
   pub shallow : HasNoneTooDeep t before
   pub deep : IsTooDeep t before first
 
--- the rest begins with the `$` and the name before what is no operator
+-- the rest begins with the `$` and the name before the token that is not an operator
 pub record IsOutOfProfileAt (t : Text) (all rest : List Terminal) : Type 0 where
   pub before : List Terminal
   pub subject : List ℕ

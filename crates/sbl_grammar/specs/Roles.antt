@@ -1,4 +1,4 @@
--- The part that a token plays, without its text or its value.
+-- The role of a token, without its text or its value.
 use Rattle.std.specs.Prelude.{List, [], ◌∷◌}
 use Rattle.sbl_grammar.specs.declared.role.Role.{Role}
 use Rattle.sbl_grammar.specs.declared.role.Role.TheVariants as roles

@@ -1,4 +1,4 @@
--- What begins a command or an item.
+-- The tokens that a command or an item can begin with.
 use Rattle.std.specs.Prelude.{Bool, true, false}
 use Rattle.sbl_grammar.specs.declared.role.Role.{Role}
 use Rattle.sbl_grammar.specs.declared.role.Role.TheVariants as roles
@@ -34,7 +34,7 @@ begins_item roles.Define = true
 begins_item roles.BackwardMode = true
 begins_item _ = false
 
--- a literal or a name comes
+-- the token is a literal or a name
 abbrev pub begins_argument : Role → Bool
 begins_argument roles.Literal = true
 begins_argument roles.Name = true

@@ -1,11 +1,11 @@
--- What may come next, token by token: a stack of what is still wanted.
+-- Which token may come next: a stack of the symbols that are still expected.
 use Rattle.std.specs.Prelude.{ℕ, ◌+◌, Bool, true, false, ◌&&◌, List, [], ◌∷◌, Option, Some, None, nat_lt, if◌then◌else◌}
 use Rattle.sbl_tree.specs.Places.{max_depth}
 use Rattle.sbl_tree.specs.declared.tree.Additive.TheVariants as additives
 use Rattle.sbl_tree.specs.Terminal.{Terminal}
 use Rattle.sbl_tree.specs.Terminal as t
 
--- what is wanted, with the depth of what holds it
+-- an expected symbol, with the nesting depth of what contains it
 pub data Symbol : Type 0 where
   opening closing name argument command others rows for_ excluded subject operator comparison : ℕ → Symbol
   factor scales sums starter groups entries condition among : ℕ → Symbol
@@ -14,17 +14,18 @@ pub data Symbol : Type 0 where
 abbrev pub Stack : Type 0
 Stack = List Symbol
 
--- what a token does: it goes on at its depth, with what is wanted behind it; it cannot come; it stands where an operator must
+-- the result of a token: it is accepted at its depth, and then these symbols are expected; it cannot come; or an
+-- operator is missing
 pub data Step : Type 0 where
   goes : ℕ → Stack → Step
   stuck : Step
   unassigned : Step
 
--- an expression, before what was wanted behind it
+-- the symbols of an expression, pushed on the stack k
 abbrev pub expression : ℕ → Stack → Stack
 expression d k = factor d ∷ scales d ∷ sums d ∷ k
 
--- nothing may stand in its place
+-- the symbol may be empty
 abbrev pub is_optional : Symbol → Bool
 is_optional (others d) = true
 is_optional (rows d) = true
@@ -41,7 +42,7 @@ is_optional plains = true
 is_optional items = true
 is_optional _ = false
 
--- ---- one function for each symbol: the token in its place, before what was wanted behind it
+-- ---- one function for each symbol: the step for a token, with the stack k of the symbols after it
 
 abbrev pub behind_opening : ℕ → Terminal → Stack → Step
 behind_opening d t.open_ k = goes d k
@@ -224,12 +225,12 @@ abbrev pub step : Stack → Terminal → Step
 step [] x = stuck
 step (s ∷ k) x = or_else (behind s x k) (if is_optional s then step k x else stuck)
 
--- nothing need come
+-- no more tokens are needed
 abbrev pub is_done : Stack → Bool
 is_done [] = true
 is_done (s ∷ k) = is_optional s && is_done k
 
--- The fault, with the tokens from the one on that cannot come or stands too deep.
+-- The fault, with the tokens from the one on that cannot come or is too deep.
 pub data Fault : Type 0 where
   syntax : List Terminal → Fault
   too_deep : List Terminal → Fault

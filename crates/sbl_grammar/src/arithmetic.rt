@@ -1,4 +1,5 @@
-//! Arithmetic expressions.
+//! Parses arithmetic expressions. Each function reads from the token at index `at` and returns what it has read and the
+//! index of the token after it, or else the first fault, or `Memory` if an allocation fails.
 
 ghost use Rattle.std.specs.Prelude.{◌≡◌, ◌≤◌, ◌∷◌, [], string_bytes};
 ghost use Rattle.sbl_tree.specs.Terminal.{left};
@@ -17,7 +18,7 @@ use sbl_text::Token;
 use sbl_tree::{Added, Additive, Expression, Factor, Product, Scaled};
 use std::alloc::Global;
 
-/// An arithmetic expression. A bracket or minus in it stands one deeper than `depth`.
+/// Parses an arithmetic expression. Parentheses or a minus in it are one level deeper than `depth`.
 #[cycle(arithmetic)]
 pub fn expression(
     alloc: Global,
@@ -33,7 +34,7 @@ pub fn expression(
     Ok((Expression { first, others }, rest))
 }
 
-/// Further products, as many as come.
+/// Parses the products after the first one, if any.
 #[cycle(arithmetic)]
 fn sums(
     alloc: Global,
@@ -54,7 +55,7 @@ fn sums(
     Ok((sums, rest))
 }
 
-/// A product.
+/// Parses a product.
 #[cycle(arithmetic)]
 fn product(
     alloc: Global,
@@ -70,7 +71,7 @@ fn product(
     Ok((Product { first, others }, rest))
 }
 
-/// Further factors, as many as come.
+/// Parses the factors after the first one, if any.
 #[cycle(arithmetic)]
 fn scales(
     alloc: Global,
@@ -91,7 +92,7 @@ fn scales(
     Ok((scales, rest))
 }
 
-/// A factor.
+/// Parses a factor.
 #[cycle(arithmetic)]
 fn factor(
     alloc: Global,
@@ -113,7 +114,7 @@ fn factor(
     }
 }
 
-/// `- F`
+/// Parses `- F`.
 #[cycle(arithmetic)]
 fn negated(
     alloc: Global,
@@ -138,7 +139,7 @@ fn negated(
     }
 }
 
-/// `( E )`
+/// Parses `( E )`.
 #[cycle(arithmetic)]
 fn bracketed(
     alloc: Global,
@@ -158,7 +159,7 @@ fn bracketed(
     Ok((Factor::Bracket(Box::new(alloc, inner)?), rest))
 }
 
-/// `lenof S`
+/// Parses `lenof S`.
 fn length_of(
     alloc: Global,
     tokens: &[Token<'_>],

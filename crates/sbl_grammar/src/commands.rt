@@ -1,4 +1,5 @@
-//! Commands, by recursive descent.
+//! Parses commands. Each function reads from the token at index `at` and returns what it has read and the index of the
+//! token after it, or else the first fault, or `Memory` if an allocation fails.
 
 ghost use Rattle.std.specs.Prelude.{◌≡◌, ◌≤◌, ◌+◌, ◌∷◌, [], drop, string_bytes, OnOk};
 ghost use Rattle.sbl_tree.specs.Terminal.{left};
@@ -23,7 +24,7 @@ use sbl_text::Token;
 use sbl_tree::{Among, Command, Count, Entry, Group, Joined, Prefix, Row};
 use std::alloc::Global;
 
-/// One command. Its first token stands at `depth`.
+/// Parses a command whose first token is at nesting depth `depth`.
 #[cycle(commands)]
 pub fn command(
     alloc: Global,
@@ -66,7 +67,7 @@ pub fn command(
     }
 }
 
-/// `( C1 C2 .. )`
+/// Parses `( C1 C2 .. )`.
 #[cycle(commands)]
 fn bracket(
     alloc: Global,
@@ -82,7 +83,7 @@ fn bracket(
     Ok((Command::Bracket(rows), rest))
 }
 
-/// `not C` and its like
+/// Parses `not C` and similar commands.
 #[cycle(commands)]
 fn prefixed(
     alloc: Global,
@@ -99,7 +100,7 @@ fn prefixed(
     Ok((Command::Prefixed(prefix, Box::new(alloc, inner)?), rest))
 }
 
-/// `loop E C` and `atleast E C`
+/// Parses `loop E C` and `atleast E C`.
 #[cycle(commands)]
 fn counted(
     alloc: Global,
@@ -120,7 +121,7 @@ fn counted(
     ))
 }
 
-/// `setlimit C1 for C2`
+/// Parses `setlimit C1 for C2`.
 #[cycle(commands)]
 fn set_limit(
     alloc: Global,
@@ -141,7 +142,7 @@ fn set_limit(
     ))
 }
 
-/// `among ( .. )`
+/// Parses `among ( .. )`.
 #[cycle(commands)]
 pub fn among(
     alloc: Global,
@@ -167,7 +168,8 @@ pub fn among(
     ))
 }
 
-/// The bracket before the first string of an `among`, where there is one. It stands one deeper than `depth`.
+/// Parses the starter of an `among` (the commands in parentheses before the first string), if there is one. Its
+/// parentheses are one level deeper than `depth`.
 #[cycle(commands)]
 fn starter(
     alloc: Global,
@@ -190,7 +192,8 @@ fn starter(
     }
 }
 
-/// Groups, and the strings behind the last bracket. A bracket stands one deeper than `depth`.
+/// Parses the groups of an `among`, and the strings after the last group. Parentheses are one level deeper than
+/// `depth`.
 #[cycle(commands)]
 fn groups(
     alloc: Global,
@@ -228,7 +231,7 @@ fn groups(
     Ok(((groups, Vec::new(alloc)), rest))
 }
 
-/// What stands in a bracket at `depth`, and the `)`.
+/// Parses the commands after a `(` at depth `depth`, and the `)`.
 #[cycle(commands)]
 fn block(
     alloc: Global,
@@ -244,7 +247,7 @@ fn block(
     Ok((rows, rest))
 }
 
-/// Rows, as many as come.
+/// Parses rows up to a token that does not begin a command.
 #[cycle(commands)]
 fn rows(
     alloc: Global,
@@ -266,7 +269,7 @@ fn rows(
     Ok((rows, rest))
 }
 
-/// Further commands of a row, as many as come.
+/// Parses the commands after the first one of a row, if any.
 #[cycle(commands)]
 pub fn others(
     alloc: Global,

@@ -1,4 +1,4 @@
-//! The strings of an `among`.
+//! Parses the strings of an `among`.
 
 ghost use Rattle.std.specs.Prelude.{◌≡◌, ◌≤◌, ◌∷◌, [], drop, map, IfOk, IfErr};
 ghost use Rattle.sbl_tree.specs.Terminal.{left};
@@ -16,7 +16,7 @@ use sbl_text::Token;
 use sbl_tree::Entry;
 use std::alloc::Global;
 
-/// A string's condition, where there is one.
+/// Parses the condition of a string, if there is one.
 fn condition(
     alloc: Global,
     tokens: &[Token<'_>],
@@ -33,7 +33,7 @@ fn condition(
     }
 }
 
-/// A string and its condition.
+/// Parses a string and its condition.
 pub fn entry(
     alloc: Global,
     tokens: &[Token<'_>],
@@ -51,7 +51,7 @@ pub fn entry(
     Ok((Entry { string, condition }, rest))
 }
 
-/// Further strings, as many as come.
+/// Parses more strings, if any.
 pub fn entries(
     alloc: Global,
     tokens: &[Token<'_>],

@@ -1,30 +1,30 @@
-//! Why tokens could not be read.
+//! Errors of the parser.
 
 ghost use Rattle.std.specs.Prelude.{◌≡◌};
 ghost use Rattle.sbl_grammar.specs.declared.error.ReadError.TheVariants.{Memory};
 
 use std::alloc::{AllocError, AllocFailed};
 
-/// The greatest depth (our own choice).
+/// The greatest nesting depth (our own choice).
 pub const MAX_DEPTH: u8 = 64;
 
-/// The first fault, with the number of tokens before its place.
+/// The first fault; the number is the index of its token.
 #[derive(Clone, Copy, Debug, PartialEq, Eq)]
 pub enum Fault {
-    /// The token cannot follow those before it.
+    /// The token cannot follow the tokens before it.
     Syntax(usize),
-    /// The token stands too deep.
+    /// The token is nested too deep.
     TooDeep(usize),
-    /// An operator is missing behind the `$` and the name.
+    /// There is no operator after the `$` and the name.
     OutOfProfile(usize),
 }
 
-/// Why tokens could not be read.
+/// Why parsing failed.
 #[derive(Clone, Copy, Debug, PartialEq, Eq)]
 pub enum ReadError {
-    /// Memory was refused.
+    /// An allocation failed.
     Memory,
-    /// The tokens are those of no tree, or too deep.
+    /// The tokens do not form a tree, or a token is nested too deep.
     Fault(Fault),
 }
 
@@ -44,21 +44,21 @@ impl<T: Drop> From<AllocFailed<T>> for ReadError {
     }
 }
 
-/// The token at the place cannot come.
+/// Returns the error for a token that cannot follow the tokens before it.
 pub fn syntax(at: usize) -> ReadError
     ensures { result ≡ ReadError.Fault (Fault.Syntax at) }
 {
     ReadError::Fault(Fault::Syntax(at))
 }
 
-/// The token at the place stands too deep.
+/// Returns the error for a token that is nested too deep.
 pub fn too_deep(at: usize) -> ReadError
     ensures { result ≡ ReadError.Fault (Fault.TooDeep at) }
 {
     ReadError::Fault(Fault::TooDeep(at))
 }
 
-/// The `$` at the place has a name and no operator.
+/// Returns the error for a `$` with a name but no operator after it.
 pub fn out_of_profile(at: usize) -> ReadError
     ensures { result ≡ ReadError.Fault (Fault.OutOfProfile at) }
 {

@@ -1,4 +1,4 @@
-//! The first of some tokens.
+//! Access to the token at an index.
 
 ghost use Rattle.std.specs.Prelude.{◌≡◌, ◌<◌, length, drop, IfOk, string_bytes};
 ghost use Rattle.sbl_tree.specs.Terminal.{terminals_of, left, word_terminal, sign_terminal};
@@ -124,14 +124,14 @@ fn role_of_kind(kind: Kind) -> Role
     }
 }
 
-/// Whether the token is of the language, and not of what is offered here: it stands in no tree.
+/// Returns whether the token belongs to a part of the language that is not supported: it occurs in no tree.
 pub fn is_left_out(token: &Token<'_>) -> bool
     ensures { result ≡ profile.is_left_out (lexeme_of token.now) }
 {
     role_of_kind(token.kind) == Role::Other
 }
 
-/// The tokens from a place on.
+/// Returns the tokens from index `at` on.
 fn rest_of<'a, 'b>(tokens: &'b [Token<'a>], at: usize) -> &'b [Token<'a>]
     ensures { result.now ≡ drop at tokens.now }
 {
@@ -150,14 +150,14 @@ fn first_role(tokens: &[Token<'_>]) -> Role
     }
 }
 
-/// The part that the token at a place plays.
+/// Returns the role of the token at an index, or `End` if there is none.
 pub fn role(tokens: &[Token<'_>], at: usize) -> Role
     ensures { result ≡ role_of (left tokens.now at) }
 {
     first_role(rest_of(tokens, at))
 }
 
-/// The place behind a token.
+/// Returns the index of the next token.
 #[tactic(auto, using(crate::proofs::Left::left_next))]
 pub fn behind(tokens: &[Token<'_>], at: usize) -> usize
     requires { 0 < length (left tokens.now at) }
@@ -175,7 +175,7 @@ fn text_first(alloc: Global, tokens: &[Token<'_>]) -> Result<String, AllocError>
     }
 }
 
-/// The text of the token at a place.
+/// Returns a copy of the text of the token at an index.
 pub fn text(alloc: Global, tokens: &[Token<'_>], at: usize) -> Result<String, AllocError>
     ensures { IfOk result (λ s. string_bytes s ≡ first_text (drop at tokens.now)) }
 {
@@ -194,7 +194,7 @@ fn number_first(tokens: &[Token<'_>]) -> u32
     }
 }
 
-/// The number of the token at a place.
+/// Returns the value of the number at an index.
 pub fn number(tokens: &[Token<'_>], at: usize) -> u32
     ensures { result ≡ first_number (drop at tokens.now) }
 {
@@ -213,7 +213,7 @@ fn inserts_first(tokens: &[Token<'_>]) -> (char, char)
     }
 }
 
-/// The insert characters of the token at a place.
+/// Returns the insert characters at an index.
 pub fn inserts(tokens: &[Token<'_>], at: usize) -> (char, char)
     ensures { result ≡ first_inserts (drop at tokens.now) }
 {
@@ -247,7 +247,7 @@ fn literal_first(alloc: Global, tokens: &[Token<'_>]) -> Result<Literal, AllocEr
     }
 }
 
-/// The literal of the token at a place.
+/// Returns the literal at an index.
 pub fn literal(alloc: Global, tokens: &[Token<'_>], at: usize) -> Result<Literal, AllocError>
     ensures { IfOk result (λ l. view_literal l ≡ first_literal (drop at tokens.now)) }
 {

@@ -1,4 +1,5 @@
-//! Items, by recursive descent.
+//! Parses items. Each function reads from the token at index `at` and returns what it has read and the index of the
+//! token after it, or else the first fault, or `Memory` if an allocation fails.
 
 ghost use Rattle.std.specs.Prelude.{◌≡◌, ◌≤◌, ◌∷◌, [], map, string_bytes};
 ghost use Rattle.sbl_tree.specs.Terminal.{left};
@@ -19,7 +20,7 @@ use sbl_text::Token;
 use sbl_tree::{Argument, Base, DeclarationKind, Item, Literal, Plain, Row, Term};
 use std::alloc::Global;
 
-/// Names, as many as come.
+/// Parses names up to a token that is not a name.
 fn names(alloc: Global, tokens: &[Token<'_>], at: usize) -> Result<(Vec<String>, usize), ReadError>
     ensures { Gives tokens.now at (wanted.names ∷ []) (λ x. spelled_names (map string_bytes x.0.items) (left tokens.now x.1)) (λ x. x.1) result }
 {
@@ -32,7 +33,7 @@ fn names(alloc: Global, tokens: &[Token<'_>], at: usize) -> Result<(Vec<String>,
     Ok((names, rest))
 }
 
-/// Further terms of a grouping, as many as come.
+/// Parses the terms after the first one of a grouping, if any.
 pub fn terms(
     alloc: Global,
     tokens: &[Token<'_>],
@@ -50,7 +51,7 @@ pub fn terms(
     Ok((terms, rest))
 }
 
-/// A macro's name.
+/// Parses the name of a macro.
 fn macro_name(alloc: Global, tokens: &[Token<'_>], at: usize) -> Result<(String, usize), ReadError>
     ensures { Gives tokens.now at (wanted.macro ∷ []) (λ x. t.macro_name (string_bytes x.0) ∷ left tokens.now x.1) (λ x. x.1) result }
 {
@@ -60,7 +61,7 @@ fn macro_name(alloc: Global, tokens: &[Token<'_>], at: usize) -> Result<(String,
     }
 }
 
-/// `hex` or `decimal`, where one comes.
+/// Parses `hex` or `decimal`, if there is one.
 fn base(tokens: &[Token<'_>], at: usize) -> (Option<Base>, usize)
     ensures spelled { left tokens.now at ≡ spelled_base result.0 (left tokens.now result.1) }
     ensures faults { (k : wanted.Stack) → wanted.fault (left tokens.now at) (wanted.base ∷ k) ≡ wanted.fault (left tokens.now result.1) k }
@@ -71,7 +72,7 @@ fn base(tokens: &[Token<'_>], at: usize) -> (Option<Base>, usize)
     }
 }
 
-/// A macro's literal.
+/// Parses the literal of a macro.
 fn macro_literal(
     alloc: Global,
     tokens: &[Token<'_>],
@@ -85,7 +86,7 @@ fn macro_literal(
     }
 }
 
-/// `routines ( A B .. )` and its like
+/// Parses `routines ( A B .. )` and similar declarations.
 fn declaration(
     alloc: Global,
     tokens: &[Token<'_>],
@@ -101,7 +102,7 @@ fn declaration(
     Ok((Plain::Declaration(kind, names), rest))
 }
 
-/// `stringescapes AB`
+/// Parses `stringescapes AB`.
 fn string_escapes(tokens: &[Token<'_>], at: usize) -> Result<(Plain, usize), ReadError>
     requires { role_of (left tokens.now at) ≡ Role.StringEscapes }
     ensures { Gives tokens.now at (wanted.plain ∷ []) (λ x. spelled_plain (view_plain x.0) (left tokens.now x.1)) (λ x. x.1) result }
@@ -116,7 +117,7 @@ fn string_escapes(tokens: &[Token<'_>], at: usize) -> Result<(Plain, usize), Rea
     }
 }
 
-/// `stringdef M 'abc'` and its like
+/// Parses `stringdef M 'abc'` and similar definitions.
 fn string_def(alloc: Global, tokens: &[Token<'_>], at: usize) -> Result<(Plain, usize), ReadError>
     requires { role_of (left tokens.now at) ≡ Role.StringDef }
     ensures { Gives tokens.now at (wanted.plain ∷ []) (λ x. spelled_plain (view_plain x.0) (left tokens.now x.1)) (λ x. x.1) result }
@@ -127,7 +128,7 @@ fn string_def(alloc: Global, tokens: &[Token<'_>], at: usize) -> Result<(Plain, 
     Ok((Plain::StringDef { name, base, value }, rest))
 }
 
-/// The terms of a grouping: the first, and those after it.
+/// Parses the terms of a grouping and returns the first one and those after it.
 pub fn grouping_terms(
     alloc: Global,
     tokens: &[Token<'_>],
@@ -144,7 +145,7 @@ pub fn grouping_terms(
     Ok(((first, others), rest))
 }
 
-/// The body of a routine.
+/// Parses the body of a routine.
 pub fn row(alloc: Global, tokens: &[Token<'_>], at: usize) -> Result<(Row, usize), ReadError>
     ensures { Gives tokens.now at (wanted.command 1 ∷ wanted.others 1 ∷ []) (λ x. spelled (view_row x.0).0 (spelled_others (view_row x.0).1 (left tokens.now x.1))) (λ x. x.1) result }
 {
@@ -153,7 +154,7 @@ pub fn row(alloc: Global, tokens: &[Token<'_>], at: usize) -> Result<(Row, usize
     Ok((Row { first, others }, rest))
 }
 
-/// `define NAME as R` and `define NAME T1 + T2 ..`
+/// Parses `define NAME as R` and `define NAME T1 + T2 ..`.
 fn define(alloc: Global, tokens: &[Token<'_>], at: usize) -> Result<(Plain, usize), ReadError>
     requires { role_of (left tokens.now at) ≡ Role.Define }
     ensures { Gives tokens.now at (wanted.plain ∷ []) (λ x. spelled_plain (view_plain x.0) (left tokens.now x.1)) (λ x. x.1) result }
@@ -185,7 +186,7 @@ fn define(alloc: Global, tokens: &[Token<'_>], at: usize) -> Result<(Plain, usiz
     }
 }
 
-/// An item that may stand in a `backwardmode`.
+/// Parses an item that is allowed in a `backwardmode`.
 fn plain(alloc: Global, tokens: &[Token<'_>], at: usize) -> Result<(Plain, usize), ReadError>
     ensures { Gives tokens.now at (wanted.plain ∷ []) (λ x. spelled_plain (view_plain x.0) (left tokens.now x.1)) (λ x. x.1) result }
 {
@@ -198,7 +199,7 @@ fn plain(alloc: Global, tokens: &[Token<'_>], at: usize) -> Result<(Plain, usize
     }
 }
 
-/// The items of a `backwardmode`, as many as come.
+/// Parses the items of a `backwardmode`, if any.
 fn plains(alloc: Global, tokens: &[Token<'_>], at: usize) -> Result<(Vec<Plain>, usize), ReadError>
     ensures { Gives tokens.now at (wanted.plains ∷ []) (λ x. spelled_plains (map view_plain x.0.items) (left tokens.now x.1)) (λ x. x.1) result }
 {
@@ -212,7 +213,7 @@ fn plains(alloc: Global, tokens: &[Token<'_>], at: usize) -> Result<(Vec<Plain>,
     Ok((plains, rest))
 }
 
-/// `backwardmode ( .. )`
+/// Parses `backwardmode ( .. )`.
 fn backward_mode(alloc: Global, tokens: &[Token<'_>], at: usize) -> Result<(Item, usize), ReadError>
     requires { role_of (left tokens.now at) ≡ Role.BackwardMode }
     ensures { Gives tokens.now at (wanted.item ∷ []) (λ x. spelled_item (view_item x.0) (left tokens.now x.1)) (λ x. x.1) result }
@@ -223,7 +224,7 @@ fn backward_mode(alloc: Global, tokens: &[Token<'_>], at: usize) -> Result<(Item
     Ok((Item::BackwardMode(plains), rest))
 }
 
-/// An item.
+/// Parses an item.
 fn item(alloc: Global, tokens: &[Token<'_>], at: usize) -> Result<(Item, usize), ReadError>
     ensures { Gives tokens.now at (wanted.item ∷ []) (λ x. spelled_item (view_item x.0) (left tokens.now x.1)) (λ x. x.1) result }
 {
@@ -236,7 +237,7 @@ fn item(alloc: Global, tokens: &[Token<'_>], at: usize) -> Result<(Item, usize),
     }
 }
 
-/// Items, as many as come.
+/// Parses items up to a token that does not begin an item.
 pub fn items(
     alloc: Global,
     tokens: &[Token<'_>],

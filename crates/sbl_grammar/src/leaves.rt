@@ -1,4 +1,5 @@
-//! Commands that hold no command.
+//! Parses commands that contain no command. Each function reads from the token at index `at` and returns what it has
+//! read and the index of the token after it, or else the first fault, or `Memory` if an allocation fails.
 
 ghost use Rattle.std.specs.Prelude.{◌≡◌, ◌≤◌, ◌∷◌, [], drop, string_bytes};
 ghost use Rattle.sbl_tree.specs.Terminal.{left};
@@ -18,7 +19,7 @@ use sbl_text::Token;
 use sbl_tree::{Additive, Command, Move, Naming, Splice};
 use std::alloc::Global;
 
-/// `non G` and `non - G`
+/// Parses `non G` and `non - G`.
 pub fn non(
     alloc: Global,
     tokens: &[Token<'_>],
@@ -43,7 +44,7 @@ pub fn non(
     }
 }
 
-/// `non - G`
+/// Parses `non - G`.
 fn non_minus(
     alloc: Global,
     tokens: &[Token<'_>],
@@ -72,7 +73,7 @@ fn non_minus(
     }
 }
 
-/// `hop E`, `atmark E` and `tomark E`
+/// Parses `hop E`, `atmark E` and `tomark E`.
 pub fn moved(
     alloc: Global,
     tokens: &[Token<'_>],
@@ -88,7 +89,7 @@ pub fn moved(
     Ok((Command::Move(word, place), rest))
 }
 
-/// `setmark X`, `set X`, `unset X` and `-> X`
+/// Parses `setmark X`, `set X`, `unset X` and `-> X`.
 pub fn named(
     alloc: Global,
     tokens: &[Token<'_>],
@@ -104,7 +105,7 @@ pub fn named(
     Ok((Command::Named(word, name), rest))
 }
 
-/// `<- S`, `<+ S`, `insert S` and `attach S`
+/// Parses `<- S`, `<+ S`, `insert S` and `attach S`.
 pub fn edited(
     alloc: Global,
     tokens: &[Token<'_>],
@@ -120,7 +121,7 @@ pub fn edited(
     Ok((Command::Splice(word, string), rest))
 }
 
-/// `$ X = E`, `$ X == E`, `$ ( E1 == E2 )` and their like
+/// Parses `$ X = E`, `$ X == E`, `$ ( E1 == E2 )` and similar commands.
 pub fn dollar(
     alloc: Global,
     tokens: &[Token<'_>],
@@ -139,7 +140,7 @@ pub fn dollar(
     }
 }
 
-/// `$ X = E` and its like. With no operator behind the name the fault is at the `$`.
+/// Parses `$ X = E` and similar commands. If there is no operator after the name, the fault is at the `$`.
 fn assigned(
     alloc: Global,
     tokens: &[Token<'_>],
@@ -167,7 +168,7 @@ fn assigned(
     }
 }
 
-/// `$ ( E1 == E2 )` and its like
+/// Parses `$ ( E1 == E2 )` and similar commands.
 fn values_compared(
     alloc: Global,
     tokens: &[Token<'_>],

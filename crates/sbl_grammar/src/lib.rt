@@ -1,4 +1,4 @@
-//! The grammar of Snowball: trees, the tokens of a tree, and the tree of some tokens.
+//! The parser: builds the AST of a script, or of a part of one, from its tokens by recursive descent.
 #![tactic(auto)]
 
 mod arithmetic;

@@ -1,4 +1,4 @@
-//! The tree of some tokens.
+//! Parses all tokens of a text.
 
 ghost use Rattle.std.specs.Prelude.{◌≡◌, ◌⊎◌, ◌≤◌, ◌∷◌, [], List, IfOk, IfErr, length, map};
 ghost use Rattle.sbl_lexemes.specs.Lexemes.{Lexeme};
@@ -28,7 +28,7 @@ use sbl_text::{ScriptFault, Token};
 use sbl_tree::{Among, Argument, Item, Row, Term};
 use std::alloc::Global;
 
-/// The byte at which a token begins, or the end where there is none.
+/// Returns the byte offset at which the token at index `at` starts, or `end` if there is no such token.
 fn place(tokens: &[Token<'_>], at: usize, end: usize) -> usize
     ensures { result ≡ place_at tokens.now at end }
 {
@@ -38,7 +38,7 @@ fn place(tokens: &[Token<'_>], at: usize, end: usize) -> usize
     }
 }
 
-/// The fault of a reader, at its byte.
+/// Returns the fault of a script for an error of the parser, with its byte offset.
 fn told(tokens: &[Token<'_>], end: usize, error: ReadError) -> ScriptFault
     ensures { result ≡ fault_told tokens.now end error }
 {
@@ -58,13 +58,14 @@ fn told(tokens: &[Token<'_>], end: usize, error: ReadError) -> ScriptFault
     }
 }
 
-/// The tree of a script's tokens (Snowball manual, "Syntax of Snowball"). `end` is the script's length in bytes.
+/// Parses the tokens of a script (Snowball manual, "Syntax of Snowball"). `end` is the length of the script in bytes.
 ///
-/// Errors, of which the first from the left is answered, at its byte:
-/// * `Syntax` where the token can follow those before it in no script, or at the end where more is needed;
+/// Returns the first of these faults, with its byte offset:
+/// * `Syntax` if a token cannot follow those before it in any script, or if more tokens are needed at the end;
 /// * `TooDeep` at the first token at depth 65 (our own choice);
-/// * `OutOfProfile` at a `$` whose name has no operator behind it (our own choice);
-/// * `OutOfMemory` where memory was refused.
+/// * `OutOfProfile` at a `$` with a name but no operator after it (our own choice).
+///
+/// Returns `OutOfMemory` if an allocation fails.
 pub fn parse(alloc: Global, tokens: &[Token<'_>], end: usize) -> Result<Vec<Item>, ScriptFault>
     ensures read { IfOk result (λ items. IsReadAs script (terminals_of tokens.now) (view_items items.items)) }
     ensures fault { IfErr result (λ f. (f ≡ ScriptFault.OutOfMemory) ⊎ IsFaultOf script tokens.now end f) }
@@ -75,7 +76,7 @@ pub fn parse(alloc: Global, tokens: &[Token<'_>], end: usize) -> Result<Vec<Item
     }
 }
 
-/// All tokens, as items.
+/// Parses all tokens as items.
 fn all_items(alloc: Global, tokens: &[Token<'_>]) -> Result<Vec<Item>, ReadError>
     ensures read { IfOk result (λ items. IsReadAs script (terminals_of tokens.now) (view_items items.items)) }
     ensures fault { IfErr result (λ e. Fails tokens.now e (fault (terminals_of tokens.now) (wanted.items ∷ []))) }
@@ -87,9 +88,9 @@ fn all_items(alloc: Global, tokens: &[Token<'_>]) -> Result<Vec<Item>, ReadError
     Ok(found)
 }
 
-/// The body of a routine, of all the tokens of a text that is to stand in its place. `end` is the text's length in bytes.
+/// Parses all tokens as the body of a routine. `end` is the length of the text in bytes.
 ///
-/// Errors as those of `parse`, of which the first from the left is answered.
+/// Returns the same errors as `parse`.
 pub fn parse_body(alloc: Global, tokens: &[Token<'_>], end: usize) -> Result<Row, ScriptFault>
     ensures read { IfOk result (λ r. IsReadAs body (terminals_of tokens.now) (view_row r)) }
     ensures fault { IfErr result (λ f. (f ≡ ScriptFault.OutOfMemory) ⊎ IsFaultOf body tokens.now end f) }
@@ -100,7 +101,7 @@ pub fn parse_body(alloc: Global, tokens: &[Token<'_>], end: usize) -> Result<Row
     }
 }
 
-/// All tokens, as the body of a routine.
+/// Parses all tokens as the body of a routine.
 fn whole_body(alloc: Global, tokens: &[Token<'_>]) -> Result<Row, ReadError>
     ensures read { IfOk result (λ r. IsReadAs body (terminals_of tokens.now) (view_row r)) }
     ensures fault { IfErr result (λ e. Fails tokens.now e (fault (terminals_of tokens.now) (first_stack body))) }
@@ -112,10 +113,9 @@ fn whole_body(alloc: Global, tokens: &[Token<'_>]) -> Result<Row, ReadError>
     Ok(found)
 }
 
-/// An among, of all the tokens of a text that is to stand in the place of one, at `depth`. `end` is the text's length in
-/// bytes.
+/// Parses all tokens as an among at nesting depth `depth`. `end` is the length of the text in bytes.
 ///
-/// Errors as those of `parse`, of which the first from the left is answered.
+/// Returns the same errors as `parse`.
 pub fn parse_among(
     alloc: Global,
     tokens: &[Token<'_>],
@@ -133,7 +133,7 @@ pub fn parse_among(
     }
 }
 
-/// All tokens, as an among at `depth`.
+/// Parses all tokens as an among at nesting depth `depth`.
 fn whole_among(alloc: Global, tokens: &[Token<'_>], depth: u8) -> Result<Among, ReadError>
     requires { depth ≤ max_depth }
     ensures read { IfOk result (λ a. IsReadAs (texts.among depth) (terminals_of tokens.now) (view_among a)) }
@@ -151,10 +151,10 @@ fn whole_among(alloc: Global, tokens: &[Token<'_>], depth: u8) -> Result<Among, 
     }
 }
 
-/// The terms of a grouping, the first and those after it, of all the tokens of a text that is to stand in their place.
-/// `end` is the text's length in bytes.
+/// Parses all tokens as the terms of a grouping and returns the first one and those after it. `end` is the length of
+/// the text in bytes.
 ///
-/// Errors as those of `parse`, of which the first from the left is answered.
+/// Returns the same errors as `parse`.
 pub fn parse_terms(
     alloc: Global,
     tokens: &[Token<'_>],
@@ -169,7 +169,7 @@ pub fn parse_terms(
     }
 }
 
-/// All tokens, as the terms of a grouping.
+/// Parses all tokens as the terms of a grouping.
 fn whole_terms(alloc: Global, tokens: &[Token<'_>]) -> Result<(Argument, Vec<Term>), ReadError>
     ensures read { IfOk result (λ x. IsReadAs texts.terms (terminals_of tokens.now) (view_argument x.0, map view_term x.1.items)) }
     ensures fault { IfErr result (λ e. Fails tokens.now e (fault (terminals_of tokens.now) (first_stack texts.terms))) }
@@ -182,20 +182,21 @@ fn whole_terms(alloc: Global, tokens: &[Token<'_>]) -> Result<(Argument, Vec<Ter
     Ok((first, others))
 }
 
-/// Two trees with the same tokens are one; so it is for the trees of each text that may stand for a part of a script.
+/// Two trees with the same tokens are equal. The same holds for the trees of each text that replaces a part of a
+/// script.
 pub fn one_tree()
     ensures script { (t u : List trees.Item) → written t ≡ written u → t ≡ u }
     ensures text { TreesAreOne }
     ensures places { PlacesAreWritten }
 {}
 
-/// A token and the part that it plays in the grammar determine one another.
+/// Each lexeme has one role in the grammar, and each role has one lexeme.
 pub fn one_part()
     ensures there { (x : Lexeme) → lexeme_as (terminal_of x) ≡ x }
     ensures back { (x : Terminal) → terminal_of (lexeme_as x) ≡ x }
 {}
 
-/// Some tokens have one fault, in one place, and those of a tree that stands nowhere too deep have none.
+/// Tokens have at most one fault, at one position; the tokens of a tree that is nowhere too deep have none.
 pub fn one_fault()
     ensures one { FaultIsOne }
     ensures none { TreeOrFault }

@@ -1,11 +1,11 @@
-//! The part that a token plays in the grammar.
+//! The role of a token in the grammar.
 
 use sbl_tree::{
     Additive, Assignment, Base, Comparison, Constant, Count, DeclarationKind, Joiner, Move,
     Multiplicative, Naming, Prefix, Simple, Splice,
 };
 
-/// What may come at one place of the grammar, without its text or its value.
+/// The role of a token in the grammar, without its text or its value.
 #[derive(Clone, Copy, Debug, PartialEq, Eq)]
 pub enum Role {
     /// `(`
@@ -34,7 +34,7 @@ pub enum Role {
     StringEscapes,
     /// `lenof`
     LenOf,
-    /// `strings` and its like
+    /// `strings` and the other words for declarations
     Declares(DeclarationKind),
     /// `hex` or `decimal`
     Base(Base),
@@ -42,15 +42,15 @@ pub enum Role {
     Joiner(Joiner),
     /// A command of one token.
     Simple(Simple),
-    /// `not` and its like
+    /// `not` and other words before a command
     Prefix(Prefix),
     /// `loop` or `atleast`
     Count(Count),
     /// `hop`, `atmark` or `tomark`
     Move(Move),
-    /// `set` and its like
+    /// `set` and other words or signs before the name of a variable
     Naming(Naming),
-    /// `<-` and its like
+    /// `<-` and other words or signs before a string
     Splice(Splice),
     /// `+` or `-`
     Additive(Additive),
@@ -60,7 +60,7 @@ pub enum Role {
     Assignment(Assignment),
     /// `==`, `!=`, `<`, `<=`, `>` or `>=`
     Comparison(Comparison),
-    /// `cursor` and its like
+    /// `cursor` and other words for a number
     Constant(Constant),
     /// A name.
     Name,
@@ -72,7 +72,7 @@ pub enum Role {
     Inserts,
     /// A macro's name.
     MacroName,
-    /// A word or sign that stands in no tree.
+    /// A word or sign that occurs in no tree.
     Other,
     /// No token is left.
     End,

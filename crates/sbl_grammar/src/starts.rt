@@ -1,11 +1,11 @@
-//! What begins a command or an item.
+//! The tokens that a command or an item can begin with.
 
 ghost use Rattle.std.specs.Prelude.{◌≡◌};
 ghost use Rattle.sbl_grammar.specs.Starts as spec;
 
 use crate::role::Role;
 
-/// Whether a command begins so.
+/// Returns whether a command can begin with this token.
 pub fn begins_command(role: Role) -> bool
     ensures { result ≡ spec.begins_command role }
 {
@@ -27,7 +27,7 @@ pub fn begins_command(role: Role) -> bool
     }
 }
 
-/// Whether an item that may stand in a `backwardmode` begins so.
+/// Returns whether an item that is allowed in a `backwardmode` can begin with this token.
 pub fn begins_plain(role: Role) -> bool
     ensures { result ≡ spec.begins_plain role }
 {
@@ -37,7 +37,7 @@ pub fn begins_plain(role: Role) -> bool
     }
 }
 
-/// Whether an item begins so.
+/// Returns whether an item can begin with this token.
 pub fn begins_item(role: Role) -> bool
     ensures { result ≡ spec.begins_item role }
 {
@@ -51,7 +51,7 @@ pub fn begins_item(role: Role) -> bool
     }
 }
 
-/// Whether a literal or a name comes.
+/// Returns whether the token is a literal or a name.
 pub fn begins_argument(role: Role) -> bool
     ensures { result ≡ spec.begins_argument role }
 {

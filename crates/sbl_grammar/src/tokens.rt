@@ -1,4 +1,5 @@
-//! Parts of one or two tokens.
+//! Parses parts of one or two tokens. Each function reads from the token at index `at`, and returns the index of the
+//! token after what it has read, or else the first fault, or `Memory` if an allocation fails.
 
 ghost use Rattle.std.specs.Prelude.{◌≡◌, ◌≤◌, ◌∷◌, [], string_bytes};
 ghost use Rattle.sbl_tree.specs.Terminal.{left};
@@ -16,7 +17,7 @@ use sbl_text::Token;
 use sbl_tree::{Argument, Comparison};
 use std::alloc::Global;
 
-/// `)`
+/// Parses `)`.
 pub fn close(tokens: &[Token<'_>], at: usize, depth: u8) -> Result<usize, ReadError>
     requires { depth ≤ max_depth }
     ensures { Gives tokens.now at (wanted.closing depth ∷ []) (λ x. t.close_ ∷ left tokens.now x) (λ x. x) result }
@@ -27,7 +28,7 @@ pub fn close(tokens: &[Token<'_>], at: usize, depth: u8) -> Result<usize, ReadEr
     }
 }
 
-/// `(`
+/// Parses `(`.
 pub fn open(tokens: &[Token<'_>], at: usize, depth: u8) -> Result<usize, ReadError>
     requires { depth ≤ max_depth }
     ensures { Gives tokens.now at (wanted.opening depth ∷ []) (λ x. t.open_ ∷ left tokens.now x) (λ x. x) result }
@@ -38,7 +39,7 @@ pub fn open(tokens: &[Token<'_>], at: usize, depth: u8) -> Result<usize, ReadErr
     }
 }
 
-/// `for`
+/// Parses `for`.
 pub fn for_word(tokens: &[Token<'_>], at: usize, depth: u8) -> Result<usize, ReadError>
     requires { depth ≤ max_depth }
     ensures { Gives tokens.now at (wanted.for_ depth ∷ []) (λ x. t.for_ ∷ left tokens.now x) (λ x. x) result }
@@ -49,7 +50,7 @@ pub fn for_word(tokens: &[Token<'_>], at: usize, depth: u8) -> Result<usize, Rea
     }
 }
 
-/// A name.
+/// Parses a name.
 pub fn name(
     alloc: Global,
     tokens: &[Token<'_>],
@@ -65,7 +66,7 @@ pub fn name(
     }
 }
 
-/// A literal or a name.
+/// Parses a literal or a name.
 pub fn argument(
     alloc: Global,
     tokens: &[Token<'_>],
@@ -85,7 +86,7 @@ pub fn argument(
     }
 }
 
-/// A sign that compares two numbers.
+/// Parses a sign that compares two numbers.
 pub fn comparison(
     tokens: &[Token<'_>],
     at: usize,

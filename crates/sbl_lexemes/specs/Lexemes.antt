@@ -1,4 +1,4 @@
--- A token without its place.
+-- A token without its position.
 use Rattle.std.specs.Prelude.{◌≡◌, ℕ, Bool, true, false, List, []}
 use Rattle.sbl_lexemes.specs.declared.signs.Sign.{Sign}
 use Rattle.sbl_lexemes.specs.declared.words.Word.{Word}
@@ -8,8 +8,8 @@ use Rattle.sbl_lexemes.specs.declared.token.Value.{Value}
 use Rattle.sbl_lexemes.specs.declared.token.Value.TheVariants as value
 use Rattle.sbl_lexemes.specs.declared.token.Token.{Token}
 
--- a name by the bytes of its text, a number by its value, a literal by the bytes of its spelling and its characters,
--- insert characters by the two, and the name of a macro by the bytes of its text
+-- a name and a macro name have the bytes of their text; a number has its value; a literal has the bytes of its spelling
+-- and its characters; insert characters have the two characters
 pub data Lexeme : Type 0 where
   word : Word → Lexeme
   sign : Sign → Lexeme
@@ -44,7 +44,7 @@ lexeme_by kind.Literal text v = literal (spelling_in v) (characters_in v)
 lexeme_by kind.Inserts text v = inserts (inserts_in v).0 (inserts_in v).1
 lexeme_by kind.MacroName text v = macro_name text
 
--- numbers, literals and insert characters say theirs, and no other kind says anything
+-- numbers, literals and insert characters have a value of their own kind; every other kind has no value
 abbrev pub fits : Kind → Value → Bool
 fits kind.Number (value.Number n) = true
 fits kind.Number v = false
@@ -55,7 +55,7 @@ fits kind.Inserts v = false
 fits k value.None = true
 fits k v = false
 
--- a token's value is that of its kind
+-- the value of the token fits its kind
 abbrev pub SaysFitting : Token → Type 0
 SaysFitting t = fits t.kind t.value ≡ true
 

@@ -1,4 +1,4 @@
--- what the contracts of public calls rest on
+-- definitions that public contracts depend on
 pub mod Words
 pub mod Signs
 pub mod SignCuts

@@ -1,9 +1,9 @@
--- The sign at the front of a text, and the sign that a text is.
+-- The longest sign at the start of a text, and the sign with a given text.
 use Rattle.std.specs.Prelude.{ℕ, ◌==◌, if◌then◌else◌, List, [], ◌∷◌, Option, Some, None, option_map}
 use Rattle.sbl_lexemes.specs.declared.signs.Sign.{Sign}
 use Rattle.sbl_lexemes.specs.declared.signs.Sign.TheVariants as sign
 
--- a sign of one character
+-- the sign of one character
 abbrev pub one : ℕ → Option Sign
 one a =
     if a == 40 then Some sign.Open else (if a == 41 then Some sign.Close
@@ -14,7 +14,7 @@ one a =
     else (if a == 63 then Some sign.Question else (if a == 60 then Some sign.Less
     else (if a == 62 then Some sign.Greater else None))))))))))))
 
--- the sign that ends in `=`
+-- the sign of two characters that ends in `=`
 abbrev pub with_equals : ℕ → Option Sign
 with_equals a =
     if a == 61 then Some sign.Same else (if a == 33 then Some sign.Differs
@@ -22,7 +22,7 @@ with_equals a =
     else (if a == 43 then Some sign.PlusEquals else (if a == 45 then Some sign.MinusEquals
     else (if a == 42 then Some sign.StarEquals else (if a == 47 then Some sign.SlashEquals else None)))))))
 
--- a sign of two characters
+-- the sign of two characters
 abbrev pub two : ℕ → ℕ → Option Sign
 two a b =
     if b == 61 then with_equals a
@@ -34,13 +34,13 @@ abbrev pub or_one : Option Sign → Option Sign → List ℕ → List ℕ → Op
 or_one (Some s) t short long = Some (s, short)
 or_one None t short long = option_map (λ s. (s, long)) t
 
--- the longest sign at the front, and what is left
+-- the longest sign at the start of the text, and the rest of the text
 unfoldable pub sign_front : List ℕ → Option (Sign × List ℕ)
 sign_front [] = None
 sign_front (a ∷ []) = option_map (λ s. (s, [])) (one a)
 sign_front (a ∷ b ∷ cs) = or_one (two a b) (one a) cs (b ∷ cs)
 
--- the sign that a text is
+-- the sign with exactly this text
 abbrev pub sign_of : List ℕ → Option Sign
 sign_of [] = None
 sign_of (a ∷ []) = one a

@@ -1,4 +1,4 @@
--- How the signs are written.
+-- The text of each sign.
 use Rattle.std.specs.Prelude.{ℕ, List, codes}
 use Rattle.sbl_lexemes.specs.declared.signs.Sign.{Sign}
 use Rattle.sbl_lexemes.specs.declared.signs.Sign.TheVariants as sign

@@ -1,10 +1,10 @@
--- The reserved words, and the word that a text is.
+-- The reserved words and their texts.
 use Rattle.std.specs.Prelude.{ℕ, if◌then◌else◌, List, [], ◌∷◌, codes, Option, Some, None}
 use Rattle.std.specs.Str.{bytes_eq}
 use Rattle.sbl_lexemes.specs.declared.words.Word.{Word}
 use Rattle.sbl_lexemes.specs.declared.words.Word.TheVariants as word
 
--- how a word is written
+-- the text of a reserved word
 abbrev pub word_text : Word → List ℕ
 word_text word.Among = codes "among"
 word_text word.And = codes "and"
@@ -62,7 +62,7 @@ word_text word.True = codes "true"
 word_text word.Try = codes "try"
 word_text word.Unset = codes "unset"
 
--- all of them
+-- all reserved words
 abbrev pub words : List Word
 words =
     word.Among ∷ word.And ∷ word.As ∷ word.AtLeast ∷ word.AtLimit ∷ word.AtMark ∷ word.Attach ∷ word.BackwardMode ∷
@@ -73,11 +73,11 @@ words =
     word.Set ∷ word.SetLimit ∷ word.SetMark ∷ word.Size ∷ word.SizeOf ∷ word.StringDef ∷ word.StringEscapes ∷ word.Strings ∷
     word.Substring ∷ word.Test ∷ word.ToLimit ∷ word.ToMark ∷ word.True ∷ word.Try ∷ word.Unset ∷ []
 
--- the first of some words that is written so
+-- the first of these words that has this text
 abbrev pub found_in : List Word → List ℕ → Option Word
 found_in [] text = None
 found_in (w ∷ ws) text = if bytes_eq (word_text w) text then Some w else found_in ws text
 
--- the word that a text is
+-- the reserved word with exactly this text
 unfoldable pub word_of : List ℕ → Option Word
 word_of text = found_in words text

@@ -1,4 +1,4 @@
-//! Words and signs, which of them a text is, and what a token is.
+//! Tokens: their kinds and values, the reserved words and the signs.
 #![tactic(auto)]
 
 mod front;

@@ -1,4 +1,4 @@
-//! The signs.
+//! The signs of the language.
 
 ghost use Rattle.std.specs.Prelude.{◌≡◌, ◌≤◌, ◌<◌, length, MatchOption, IfSome, Some, None};
 ghost use Rattle.std.specs.Str.{chars};
@@ -63,7 +63,7 @@ pub enum Sign {
 }
 
 impl Sign {
-    /// How the sign is written.
+    /// Returns the text of the sign.
     pub fn text(self) -> &'static str
         ensures { result.now ≡ sign_text self }
     {
@@ -156,7 +156,8 @@ fn two(a: char, b: char) -> Option<Sign>
     }
 }
 
-/// The longest sign at the front, and what is left; `None` where no sign begins the text (Snowball manual, "The language").
+/// Returns the longest sign that the text begins with and the text after it, or `None` if the text begins with no sign
+/// (Snowball manual, "The language").
 #[tactic(auto, unfolding(crate::specs::SignCuts::sign_front))]
 pub fn sign_front(text: &str) -> Option<(Sign, &str)>
     ensures value { MatchOption result (spec.sign_front (chars text.now) ≡ None) (λ p. spec.sign_front (chars text.now) ≡ Some (p.0, chars p.1.now)) }
@@ -174,7 +175,7 @@ pub fn sign_front(text: &str) -> Option<(Sign, &str)>
     }
 }
 
-/// The sign that the whole text is; `None` where it is none (Snowball manual, "The language").
+/// Returns the sign with exactly this text, or `None` if there is none (Snowball manual, "The language").
 pub fn sign_of(text: &str) -> Option<Sign>
     ensures { result ≡ spec.sign_of (chars text.now) }
 {

@@ -3,18 +3,18 @@
 use crate::signs::Sign;
 use crate::words::Word;
 
-/// What a token is.
+/// The kind of a token.
 #[derive(Clone, Copy, Debug, PartialEq, Eq)]
 pub enum Kind {
     /// A reserved word.
     Word(Word),
     /// A sign.
     Sign(Sign),
-    /// An ASCII letter, then ASCII letters, digits and underscores; no reserved word.
+    /// An ASCII letter, then ASCII letters, digits and underscores. Never a reserved word.
     Name,
-    /// Decimal digits.
+    /// One or more decimal digits.
     Number,
-    /// What stands in single quotes.
+    /// A string in single quotes.
     Literal,
     /// The two insert characters after `stringescapes`.
     Inserts,
@@ -22,35 +22,35 @@ pub enum Kind {
     MacroName,
 }
 
-/// What a token says beyond its kind and its text.
+/// What a token means beyond its kind and its text.
 #[derive(Debug, Drop)]
 pub enum Value<'a> {
-    /// Of a word, a sign, a name or the name of a macro.
+    /// The value of a word, a sign, a name or the name of a macro.
     None,
-    /// The number that the digits write, at most 2147483647.
+    /// The value of a number, at most 2147483647.
     Number(u32),
-    /// Of a literal.
+    /// The value of a literal.
     Literal {
-        /// What stands between the quotes.
+        /// The text between the quotes.
         spelling: &'a str,
-        /// The characters that it means.
+        /// The characters that the literal means.
         value: Vec<char>,
     },
     /// The two insert characters.
     Inserts(char, char),
 }
 
-/// A token, and where it stands in its source: its text is the slice `start..end`, in bytes.
+/// A token and its position: its text is the slice `start..end` of the source, in bytes.
 #[derive(Debug, Drop)]
 pub struct Token<'a> {
-    /// What it is.
+    /// The kind of the token.
     pub kind: Kind,
-    /// Its text.
+    /// The text of the token.
     pub text: &'a str,
-    /// How many bytes of the source stand before it.
+    /// The byte offset at which the token starts.
     pub start: usize,
-    /// How many bytes of the source stand before what follows it.
+    /// The byte offset at which the token ends (exclusive).
     pub end: usize,
-    /// What it says beyond its kind and its text.
+    /// What the token means beyond its kind and its text.
     pub value: Value<'a>,
 }

@@ -3,7 +3,7 @@
 ghost use Rattle.std.specs.Prelude.{◌≡◌};
 ghost use Rattle.sbl_lexemes.specs.Words as spec;
 
-/// A reserved word (Snowball manual, "The language"). A name is never one of them (our own choice).
+/// A reserved word (Snowball manual, "The language"). A name is never a reserved word (our own choice).
 #[derive(Clone, Copy, Debug, PartialEq, Eq)]
 pub enum Word {
     /// `among`
@@ -118,7 +118,7 @@ pub enum Word {
     Unset,
 }
 
-/// All of them.
+/// All reserved words.
 const WORDS: [Word; 55] = [
     Word::Among,
     Word::And,
@@ -178,7 +178,7 @@ const WORDS: [Word; 55] = [
 ];
 
 impl Word {
-    /// How the word is written.
+    /// Returns the text of the word.
     pub fn text(self) -> &'static str
         ensures { result.now ≡ spec.word_text self }
     {
@@ -254,7 +254,8 @@ fn lookup(mut words: &[Word], text: &str) -> Option<Word>
     None
 }
 
-/// The reserved word that the whole text is; `None` where it is none. Case matters (Snowball manual, "The language").
+/// Returns the reserved word with exactly this text, or `None` if there is none. Case matters (Snowball manual, "The
+/// language").
 pub fn word_of(text: &str) -> Option<Word>
     ensures { result ≡ spec.word_of text.now }
 {

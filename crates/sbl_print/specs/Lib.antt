@@ -1,5 +1,5 @@
--- what the contracts of public calls rest on
+-- definitions that public contracts depend on
 pub mod Canonical
 pub mod Spaced
--- what the functions inside the crate promise each other: nothing in these need be believed
+-- what the functions inside the crate promise each other; no public contract depends on these
 pub mod Adding

@@ -1,4 +1,4 @@
-//! Arithmetic expressions.
+//! Prints arithmetic expressions.
 
 ghost use Rattle.std.specs.Prelude.{OnOk, string_bytes};
 ghost use Rattle.sbl_tree.specs.Tree.{spelled_expression, spelled_factor, spelled_product, spelled_scales, spelled_sums};
@@ -11,7 +11,7 @@ use sbl_lexemes::{Sign, Word};
 use sbl_tree::{Added, Expression, Factor, Product, Scaled};
 use std::alloc::{AllocError, Global};
 
-/// Puts an expression. Want of memory is the one error.
+/// Appends an expression. Returns `AllocError` if an allocation fails.
 #[cycle(arithmetic)]
 pub fn put_expression(
     alloc: Global,

@@ -1,4 +1,4 @@
-//! Commands.
+//! Prints commands.
 
 ghost use Rattle.std.specs.Prelude.{◌≡◌, ◌++◌, ◌∷◌, List, OnOk, map, string_bytes};
 ghost use Rattle.sbl_tree.specs.Terminal.{Terminal};
@@ -21,7 +21,7 @@ use sbl_tree::{
 };
 use std::alloc::{AllocError, Global};
 
-/// Puts `non G`, or `non - G`. Want of memory is the one error.
+/// Appends `non G` or `non - G`. Returns `AllocError` if an allocation fails.
 fn put_non(out: &mut String, with_minus: bool, name: &String) -> Result<(), AllocError>
     ensures { OnOk result (Adds (string_bytes out.old) (string_bytes out.new) (spelled (trees.non_ with_minus (string_bytes name.now)))) }
 {
@@ -32,7 +32,7 @@ fn put_non(out: &mut String, with_minus: bool, name: &String) -> Result<(), Allo
     put_name(out, name)
 }
 
-/// Puts `hop E` and its like. Want of memory is the one error.
+/// Appends `hop E` and similar commands. Returns `AllocError` if an allocation fails.
 fn put_move(
     alloc: Global,
     out: &mut String,
@@ -45,7 +45,7 @@ fn put_move(
     put_expression(alloc, out, place)
 }
 
-/// Puts `set X` and its like. Want of memory is the one error.
+/// Appends `set X` and similar commands. Returns `AllocError` if an allocation fails.
 fn put_named(out: &mut String, word: Naming, name: &String) -> Result<(), AllocError>
     ensures { OnOk result (Adds (string_bytes out.old) (string_bytes out.new) (spelled (trees.named word (string_bytes name.now)))) }
 {
@@ -53,7 +53,7 @@ fn put_named(out: &mut String, word: Naming, name: &String) -> Result<(), AllocE
     put_name(out, name)
 }
 
-/// Puts `<- S` and its like. Want of memory is the one error.
+/// Appends `<- S` and similar commands. Returns `AllocError` if an allocation fails.
 fn put_splice(out: &mut String, word: Splice, string: &Argument) -> Result<(), AllocError>
     ensures { OnOk result (Adds (string_bytes out.old) (string_bytes out.new) (spelled (trees.splice_ word (view_argument string.now)))) }
 {
@@ -61,7 +61,7 @@ fn put_splice(out: &mut String, word: Splice, string: &Argument) -> Result<(), A
     put_argument(out, string)
 }
 
-/// Puts `$ X = E` and its like. Want of memory is the one error.
+/// Appends `$ X = E` and similar commands. Returns `AllocError` if an allocation fails.
 fn put_assign(
     alloc: Global,
     out: &mut String,
@@ -77,7 +77,7 @@ fn put_assign(
     put_expression(alloc, out, number)
 }
 
-/// Puts `$ X == E` and its like. Want of memory is the one error.
+/// Appends `$ X == E` and similar commands. Returns `AllocError` if an allocation fails.
 fn put_compare(
     alloc: Global,
     out: &mut String,
@@ -93,7 +93,7 @@ fn put_compare(
     put_expression(alloc, out, number)
 }
 
-/// Puts `$ ( E1 == E2 )` and its like. Want of memory is the one error.
+/// Appends `$ ( E1 == E2 )` and similar commands. Returns `AllocError` if an allocation fails.
 fn put_compare_values(
     alloc: Global,
     out: &mut String,
@@ -111,7 +111,7 @@ fn put_compare_values(
     put_sign(out, Sign::Close)
 }
 
-/// Puts a string of an among, with its condition. Want of memory is the one error.
+/// Appends a string of an among, with its condition. Returns `AllocError` if an allocation fails.
 fn put_entry(out: &mut String, entry: &Entry) -> Result<(), AllocError>
     ensures { OnOk result (Adds (string_bytes out.old) (string_bytes out.new) (spelled_entry (view_entry entry.now))) }
 {
@@ -122,7 +122,7 @@ fn put_entry(out: &mut String, entry: &Entry) -> Result<(), AllocError>
     }
 }
 
-/// Puts strings of an among. Want of memory is the one error.
+/// Appends strings of an among. Returns `AllocError` if an allocation fails.
 fn put_entries(out: &mut String, entries: &Vec<Entry>) -> Result<(), AllocError>
     ensures { OnOk result (Adds (string_bytes out.old) (string_bytes out.new) (spelled_entries (map view_entry entries.now.items))) }
 {
@@ -132,7 +132,7 @@ fn put_entries(out: &mut String, entries: &Vec<Entry>) -> Result<(), AllocError>
     Ok(())
 }
 
-/// Puts a command. Want of memory is the one error.
+/// Appends a command. Returns `AllocError` if an allocation fails.
 #[cycle(commands)]
 fn put_command(alloc: Global, out: &mut String, command: &Command) -> Result<(), AllocError>
     ensures { OnOk result (Adds (string_bytes out.old) (string_bytes out.new) (spelled (view_command command.now))) }
@@ -180,7 +180,7 @@ fn put_among(alloc: Global, out: &mut String, among: &Among) -> Result<(), Alloc
     put_sign(out, Sign::Close)
 }
 
-/// Puts what stands between the brackets of an among. Want of memory is the one error.
+/// Appends what is between the parentheses of an among. Returns `AllocError` if an allocation fails.
 #[cycle(commands)]
 fn put_parts(alloc: Global, out: &mut String, among: &Among) -> Result<(), AllocError>
     ensures { OnOk result (Adds (string_bytes out.old) (string_bytes out.new) (λ rest. spelled_starter (view_among among.now).0 (spelled_groups (view_among among.now).1 rest))) }
@@ -190,7 +190,7 @@ fn put_parts(alloc: Global, out: &mut String, among: &Among) -> Result<(), Alloc
     put_entries(out, &among.bare)
 }
 
-/// Puts the bracket before the first string, where there is one. Want of memory is the one error.
+/// Appends the starter of an among, if there is one. Returns `AllocError` if an allocation fails.
 #[cycle(commands)]
 fn put_starter(alloc: Global, out: &mut String, among: &Among) -> Result<(), AllocError>
     ensures { OnOk result (Adds (string_bytes out.old) (string_bytes out.new) (spelled_starter (view_among among.now).0)) }
@@ -201,7 +201,7 @@ fn put_starter(alloc: Global, out: &mut String, among: &Among) -> Result<(), All
     }
 }
 
-/// Puts groups, behind which strings without a bracket may stand. Want of memory is the one error.
+/// Appends groups of an among, which strings without commands may follow. Returns `AllocError` if an allocation fails.
 #[cycle(commands)]
 fn put_groups(alloc: Global, out: &mut String, groups: &Vec<Group>) -> Result<(), AllocError>
     ensures { OnOk result ((es : List trees.Entry) (rest : List Terminal) → string_bytes out.new ++ more (spelled_entries es rest) ≡ string_bytes out.old ++ more (spelled_groups (view_groups groups.now.items es) rest)) }
@@ -214,7 +214,7 @@ fn put_groups(alloc: Global, out: &mut String, groups: &Vec<Group>) -> Result<()
     Ok(())
 }
 
-/// Puts rows in their brackets. Want of memory is the one error.
+/// Appends rows in parentheses. Returns `AllocError` if an allocation fails.
 #[cycle(commands)]
 fn put_bracket(alloc: Global, out: &mut String, rows: &Vec<Row>) -> Result<(), AllocError>
     ensures { OnOk result (Adds (string_bytes out.old) (string_bytes out.new) (λ rest. t.open_ ∷ spelled_rows (view_rows rows.now.items) (t.close_ ∷ rest))) }
@@ -234,7 +234,7 @@ fn put_rows(alloc: Global, out: &mut String, rows: &Vec<Row>) -> Result<(), Allo
     Ok(())
 }
 
-/// Puts a row. Want of memory is the one error.
+/// Appends a row. Returns `AllocError` if an allocation fails.
 #[cycle(commands)]
 pub fn put_row(alloc: Global, out: &mut String, row: &Row) -> Result<(), AllocError>
     ensures { OnOk result (Adds (string_bytes out.old) (string_bytes out.new) (λ rest. spelled (view_row row.now).0 (spelled_others (view_row row.now).1 rest))) }

@@ -1,4 +1,4 @@
-//! Items, and the text of all of them.
+//! Prints items and whole scripts.
 
 ghost use Rattle.std.specs.Prelude.{◌≡◌, ◌++◌, ◌∷◌, [], IfOk, OnOk, map, string_bytes};
 ghost use Rattle.std.specs.List.{flat_map};
@@ -18,7 +18,7 @@ use sbl_lexemes::{Sign, Word};
 use sbl_tree::{Argument, Base, DeclarationKind, Item, Literal, Plain, Row, Term};
 use std::alloc::{AllocError, Global};
 
-/// Puts names. Want of memory is the one error.
+/// Appends names. Returns `AllocError` if an allocation fails.
 fn put_names(out: &mut String, names: &Vec<String>) -> Result<(), AllocError>
     ensures { OnOk result (Adds (string_bytes out.old) (string_bytes out.new) (spelled_names (map string_bytes names.now.items))) }
 {
@@ -28,7 +28,7 @@ fn put_names(out: &mut String, names: &Vec<String>) -> Result<(), AllocError>
     Ok(())
 }
 
-/// Puts `hex` or `decimal`, or nothing. Want of memory is the one error.
+/// Appends `hex`, `decimal` or nothing. Returns `AllocError` if an allocation fails.
 fn put_base(out: &mut String, base: Option<Base>) -> Result<(), AllocError>
     ensures { OnOk result (Adds (string_bytes out.old) (string_bytes out.new) (spelled_base base)) }
 {
@@ -38,7 +38,7 @@ fn put_base(out: &mut String, base: Option<Base>) -> Result<(), AllocError>
     }
 }
 
-/// Puts further terms of a grouping. Want of memory is the one error.
+/// Appends the terms after the first one of a grouping. Returns `AllocError` if an allocation fails.
 fn put_terms(out: &mut String, terms: &Vec<Term>) -> Result<(), AllocError>
     ensures { OnOk result (Adds (string_bytes out.old) (string_bytes out.new) (spelled_terms (map view_term terms.now.items))) }
 {
@@ -49,7 +49,7 @@ fn put_terms(out: &mut String, terms: &Vec<Term>) -> Result<(), AllocError>
     Ok(())
 }
 
-/// Begins the line of a declaration. Want of memory is the one error.
+/// Appends a declaration at the start of a line. Returns `AllocError` if an allocation fails.
 fn begin_declaration(
     out: &mut String,
     kind: DeclarationKind,
@@ -63,7 +63,8 @@ fn begin_declaration(
     put_sign(out, Sign::Close)
 }
 
-/// Begins the line of `stringescapes`. Want of memory is the one error.
+/// Appends `stringescapes` and its insert characters at the start of a line. Returns `AllocError` if an allocation
+/// fails.
 fn begin_escapes(out: &mut String, a: char, b: char) -> Result<(), AllocError>
     ensures { OnOk result (Begins (string_bytes out.old) (string_bytes out.new) (spelled_plain (trees.escapes a b) [])) }
 {
@@ -71,7 +72,7 @@ fn begin_escapes(out: &mut String, a: char, b: char) -> Result<(), AllocError>
     put_inserts(out, a, b)
 }
 
-/// Begins the line of `stringdef`. Want of memory is the one error.
+/// Appends `stringdef` and its macro at the start of a line. Returns `AllocError` if an allocation fails.
 fn begin_macro(
     out: &mut String,
     name: &String,
@@ -86,7 +87,7 @@ fn begin_macro(
     put_literal(out, value)
 }
 
-/// Begins the line of a routine. Want of memory is the one error.
+/// Appends the definition of a routine at the start of a line. Returns `AllocError` if an allocation fails.
 fn begin_routine(
     alloc: Global,
     out: &mut String,
@@ -101,7 +102,7 @@ fn begin_routine(
     put_row(alloc, out, body)
 }
 
-/// Begins the line of a grouping. Want of memory is the one error.
+/// Appends the definition of a grouping at the start of a line. Returns `AllocError` if an allocation fails.
 fn begin_grouping(
     out: &mut String,
     name: &String,
@@ -116,7 +117,7 @@ fn begin_grouping(
     put_terms(out, others)
 }
 
-/// Puts the line of an item that may stand in a `backwardmode`. Want of memory is the one error.
+/// Appends the line of an item that is allowed in a `backwardmode`. Returns `AllocError` if an allocation fails.
 fn put_plain(alloc: Global, out: &mut String, plain: &Plain) -> Result<(), AllocError>
     ensures { OnOk result (string_bytes out.new ≡ string_bytes out.old ++ plain_text (view_plain plain.now)) }
 {
@@ -134,7 +135,7 @@ fn put_plain(alloc: Global, out: &mut String, plain: &Plain) -> Result<(), Alloc
     out.push_str("\n")
 }
 
-/// Puts the lines of items that may stand in a `backwardmode`. Want of memory is the one error.
+/// Appends the lines of the items of a `backwardmode`. Returns `AllocError` if an allocation fails.
 fn put_plains(alloc: Global, out: &mut String, plains: &Vec<Plain>) -> Result<(), AllocError>
     ensures { OnOk result (string_bytes out.new ≡ string_bytes out.old ++ flat_map plain_text (map view_plain plains.now.items)) }
 {
@@ -144,7 +145,7 @@ fn put_plains(alloc: Global, out: &mut String, plains: &Vec<Plain>) -> Result<()
     Ok(())
 }
 
-/// Puts the lines of an item. Want of memory is the one error.
+/// Appends the lines of an item. Returns `AllocError` if an allocation fails.
 fn put_item(alloc: Global, out: &mut String, item: &Item) -> Result<(), AllocError>
     ensures { OnOk result (string_bytes out.new ≡ string_bytes out.old ++ item_text (view_item item.now)) }
 {
@@ -158,9 +159,11 @@ fn put_item(alloc: Global, out: &mut String, item: &Item) -> Result<(), AllocErr
     }
 }
 
-/// The canonical text of the items of a script (our own choice): each item is a line of its tokens with one space between
-/// each two, and a `backwardmode` is a line `backwardmode (`, its items and a line `)`. A literal is written by its
-/// spelling in quotes, a number by its value in decimal; comments and other blanks are gone. Want of memory is the one error.
+/// Returns the canonical text of the items of a script (our own choice): each item is one line of its tokens, separated
+/// by single spaces; a `backwardmode` is a line `backwardmode (`, the lines of its items and a line `)`. A literal is
+/// printed as its spelling in quotes, a number as its value in decimal. Comments and other white space are dropped.
+///
+/// Returns `AllocError` if an allocation fails.
 pub fn canonical_text(alloc: Global, items: &[Item]) -> Result<String, AllocError>
     ensures { IfOk result (λ text. string_bytes text ≡ canonical (view_items items.now)) }
 {

@@ -1,8 +1,8 @@
-//! What is shown of the canonical text.
+//! Laws of the canonical text.
 
 ghost use Rattle.sbl_print.specs.Spaced.{CanonicalIsSpaced};
 
-/// The canonical text of items is their tokens, in order, each followed by one white character.
+/// The canonical text of items consists of their tokens, in order, each followed by one white space character.
 pub fn canonical_is_spaced()
     ensures { CanonicalIsSpaced }
 {}

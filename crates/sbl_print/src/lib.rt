@@ -1,4 +1,4 @@
-//! The canonical text of a script.
+//! The printer: the canonical text of a script.
 #![tactic(auto)]
 
 mod arithmetic;

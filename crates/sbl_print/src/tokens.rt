@@ -1,4 +1,4 @@
-//! Tokens at the end of a line that has one.
+//! Appends tokens to a line that already has one.
 
 ghost use Rattle.std.specs.Prelude.{◌≡◌, ◌∷◌, OnOk, string_bytes};
 ghost use Rattle.sbl_tree.specs.Terminal as t;
@@ -13,7 +13,7 @@ use sbl_lexemes::{Sign, Word};
 use sbl_tree::{Argument, Literal};
 use std::alloc::{AllocError, Global};
 
-/// Puts a token that is written so. Want of memory is the one error.
+/// Appends a token with this text. Returns `AllocError` if an allocation fails.
 pub fn put(out: &mut String, text: &str) -> Result<(), AllocError>
     ensures { OnOk result ((x : Terminal) → token_text x ≡ text.now → Adds (string_bytes out.old) (string_bytes out.new) (λ rest. x ∷ rest)) }
 {
@@ -21,35 +21,35 @@ pub fn put(out: &mut String, text: &str) -> Result<(), AllocError>
     out.push_str(text)
 }
 
-/// Puts a reserved word. Want of memory is the one error.
+/// Appends a reserved word. Returns `AllocError` if an allocation fails.
 pub fn put_word(out: &mut String, word: Word) -> Result<(), AllocError>
     ensures { OnOk result ((x : Terminal) → lexeme_as x ≡ lexemes.word word → Adds (string_bytes out.old) (string_bytes out.new) (λ rest. x ∷ rest)) }
 {
     put(out, word.text())
 }
 
-/// Puts a sign. Want of memory is the one error.
+/// Appends a sign. Returns `AllocError` if an allocation fails.
 pub fn put_sign(out: &mut String, sign: Sign) -> Result<(), AllocError>
     ensures { OnOk result ((x : Terminal) → lexeme_as x ≡ lexemes.sign sign → Adds (string_bytes out.old) (string_bytes out.new) (λ rest. x ∷ rest)) }
 {
     put(out, sign.text())
 }
 
-/// Puts a name. Want of memory is the one error.
+/// Appends a name. Returns `AllocError` if an allocation fails.
 pub fn put_name(out: &mut String, name: &String) -> Result<(), AllocError>
     ensures { OnOk result (Adds (string_bytes out.old) (string_bytes out.new) (λ rest. t.name (string_bytes name.now) ∷ rest)) }
 {
     put(out, name.as_str())
 }
 
-/// Puts the name of a macro. Want of memory is the one error.
+/// Appends the name of a macro. Returns `AllocError` if an allocation fails.
 pub fn put_macro_name(out: &mut String, name: &String) -> Result<(), AllocError>
     ensures { OnOk result (Adds (string_bytes out.old) (string_bytes out.new) (λ rest. t.macro_name (string_bytes name.now) ∷ rest)) }
 {
     put(out, name.as_str())
 }
 
-/// Puts the two insert characters. Want of memory is the one error.
+/// Appends two insert characters. Returns `AllocError` if an allocation fails.
 pub fn put_inserts(out: &mut String, a: char, b: char) -> Result<(), AllocError>
     ensures { OnOk result (Adds (string_bytes out.old) (string_bytes out.new) (λ rest. t.inserts a b ∷ rest)) }
 {
@@ -58,7 +58,7 @@ pub fn put_inserts(out: &mut String, a: char, b: char) -> Result<(), AllocError>
     out.push(b)
 }
 
-/// Puts a number by its value. Want of memory is the one error.
+/// Appends a number as its value in decimal. Returns `AllocError` if an allocation fails.
 pub fn put_number(alloc: Global, out: &mut String, number: u32) -> Result<(), AllocError>
     ensures { OnOk result (Adds (string_bytes out.old) (string_bytes out.new) (λ rest. t.number number ∷ rest)) }
 {
@@ -66,7 +66,7 @@ pub fn put_number(alloc: Global, out: &mut String, number: u32) -> Result<(), Al
     put(out, text.as_str())
 }
 
-/// Puts a literal by its spelling. Want of memory is the one error.
+/// Appends a literal as its spelling in quotes. Returns `AllocError` if an allocation fails.
 pub fn put_literal(out: &mut String, literal: &Literal) -> Result<(), AllocError>
     ensures { OnOk result (Adds (string_bytes out.old) (string_bytes out.new) (λ rest. t.literal (view_literal literal.now) ∷ rest)) }
 {
@@ -75,7 +75,7 @@ pub fn put_literal(out: &mut String, literal: &Literal) -> Result<(), AllocError
     out.push_str("'")
 }
 
-/// Puts a literal, or a name in its place. Want of memory is the one error.
+/// Appends a literal or a name. Returns `AllocError` if an allocation fails.
 pub fn put_argument(out: &mut String, argument: &Argument) -> Result<(), AllocError>
     ensures { OnOk result (Adds (string_bytes out.old) (string_bytes out.new) (λ rest. argument_terminal (view_argument argument.now) ∷ rest)) }
 {

@@ -1,4 +1,4 @@
-//! How each word and sign of a tree is written.
+//! The text of each word and sign of a tree.
 
 ghost use Rattle.std.specs.Prelude.{◌≡◌};
 ghost use Rattle.sbl_tree.specs.Terminal as t;
@@ -10,7 +10,7 @@ use sbl_tree::{
     Multiplicative, Naming, Prefix, Simple, Splice,
 };
 
-/// How the word of a declaration is written.
+/// Returns the text of the word of a declaration.
 pub fn declaration_text(kind: DeclarationKind) -> &'static str
     ensures { result.now ≡ token_text (t.declares kind) }
 {
@@ -24,7 +24,7 @@ pub fn declaration_text(kind: DeclarationKind) -> &'static str
     }
 }
 
-/// How `hex` and `decimal` are written.
+/// Returns the text `hex` or `decimal`.
 pub fn base_text(base: Base) -> &'static str
     ensures { result.now ≡ token_text (t.base base) }
 {
@@ -34,7 +34,7 @@ pub fn base_text(base: Base) -> &'static str
     }
 }
 
-/// How `or` and `and` are written.
+/// Returns the text `or` or `and`.
 pub fn joiner_text(joiner: Joiner) -> &'static str
     ensures { result.now ≡ token_text (t.joiner joiner) }
 {
@@ -44,7 +44,7 @@ pub fn joiner_text(joiner: Joiner) -> &'static str
     }
 }
 
-/// How a command of one token is written.
+/// Returns the text of a command of one token.
 pub fn simple_text(simple: Simple) -> &'static str
     ensures { result.now ≡ token_text (t.simple simple) }
 {
@@ -61,7 +61,7 @@ pub fn simple_text(simple: Simple) -> &'static str
     }
 }
 
-/// How a word before a command is written.
+/// Returns the text of a word before a command.
 pub fn prefix_text(prefix: Prefix) -> &'static str
     ensures { result.now ≡ token_text (t.prefix prefix) }
 {
@@ -78,7 +78,7 @@ pub fn prefix_text(prefix: Prefix) -> &'static str
     }
 }
 
-/// How `loop` and `atleast` are written.
+/// Returns the text `loop` or `atleast`.
 pub fn count_text(count: Count) -> &'static str
     ensures { result.now ≡ token_text (t.count count) }
 {
@@ -88,7 +88,7 @@ pub fn count_text(count: Count) -> &'static str
     }
 }
 
-/// How a word before a place is written.
+/// Returns the text `hop`, `atmark` or `tomark`.
 pub fn move_text(word: Move) -> &'static str
     ensures { result.now ≡ token_text (t.move word) }
 {
@@ -99,7 +99,7 @@ pub fn move_text(word: Move) -> &'static str
     }
 }
 
-/// How a word or sign before the name of a variable is written.
+/// Returns the text of a word or sign before the name of a variable.
 pub fn naming_text(word: Naming) -> &'static str
     ensures { result.now ≡ token_text (t.naming word) }
 {
@@ -111,7 +111,7 @@ pub fn naming_text(word: Naming) -> &'static str
     }
 }
 
-/// How a word or sign before a string is written.
+/// Returns the text of a word or sign before a string.
 pub fn splice_text(word: Splice) -> &'static str
     ensures { result.now ≡ token_text (t.edit word) }
 {
@@ -123,7 +123,7 @@ pub fn splice_text(word: Splice) -> &'static str
     }
 }
 
-/// How a sign between two terms is written.
+/// Returns the text of a sign between two terms.
 pub fn additive_text(sign: Additive) -> &'static str
     ensures { result.now ≡ token_text (t.additive sign) }
 {
@@ -133,7 +133,7 @@ pub fn additive_text(sign: Additive) -> &'static str
     }
 }
 
-/// How a sign between two factors is written.
+/// Returns the text of a sign between two factors.
 pub fn multiplicative_text(sign: Multiplicative) -> &'static str
     ensures { result.now ≡ token_text (t.multiplicative sign) }
 {
@@ -143,7 +143,7 @@ pub fn multiplicative_text(sign: Multiplicative) -> &'static str
     }
 }
 
-/// How a sign that gives an integer a value is written.
+/// Returns the text of a sign that assigns a value to an integer.
 pub fn assignment_text(sign: Assignment) -> &'static str
     ensures { result.now ≡ token_text (t.assigns sign) }
 {
@@ -156,7 +156,7 @@ pub fn assignment_text(sign: Assignment) -> &'static str
     }
 }
 
-/// How a sign that compares two numbers is written.
+/// Returns the text of a sign that compares two numbers.
 pub fn comparison_text(sign: Comparison) -> &'static str
     ensures { result.now ≡ token_text (t.compares sign) }
 {
@@ -170,7 +170,7 @@ pub fn comparison_text(sign: Comparison) -> &'static str
     }
 }
 
-/// How a word that stands for a number is written.
+/// Returns the text of a word for a number.
 pub fn constant_text(constant: Constant) -> &'static str
     ensures { result.now ≡ token_text (t.constant constant) }
 {

@@ -7,17 +7,18 @@ use Rattle.sbl_text.specs.Escapes.{InForce}
 use Rattle.sbl_text.specs.Directives.{Directives, start_under}
 use Rattle.sbl_text.specs.Tokens.{Placed, ArePlacedFrom, IsFirstFaultFrom}
 use Rattle.sbl_amongs.specs.Amongs.{Held, amongs_of_body, nth_held}
-use Rattle.sbl_tree.specs.Tree.{Item}
+use Rattle.sbl_tree.specs.Tree.{Argument, Term, Plain, routine, grouping, Item}
 use Rattle.sbl_tree.specs.Texts.{TreeOf}
 use Rattle.sbl_tree.specs.View.{RowView}
 use Rattle.sbl_grammar.specs.Reading.{IsReadAs}
 use Rattle.sbl_script.specs.declared.edit_fault.EditFault.{EditFault}
 use Rattle.sbl_script.specs.declared.edit_fault.EditFault.TheVariants as edits
+use Rattle.sbl_script.specs.declared.edits.DefinitionKind.TheVariants as kinds
 use Rattle.sbl_script.specs.Parsed.{Source}
 use Rattle.sbl_checks.specs.Checks.{WellDeclared, fault_of}
 use Rattle.sbl_script.specs.Reading.{HasTokens, IsTextFault, IsUnread, first_left_out, max_script, terminals}
 use Rattle.sbl_script.specs.Refusals.{Refuses}
-use Rattle.sbl_script.specs.Edits.{ScriptEdit, body, among, Home, IsEditFault, IsFaultAt, IsSubstituted, home, home_in, home_of_among, home_of_body, home_of_held, items_with, routine_name, routine_of, state_before}
+use Rattle.sbl_script.specs.Edits.{ScriptEdit, body, among, terms, Home, IsEditFault, IsFaultAt, IsSubstituted, defines, first_of, home, home_in, home_of_among, home_of_body, home_of_held, home_of_terms}
 
 pub tokens_there : (e f : InForce) (text bytes : List ℕ) (ts : List Placed) → e ≡ f → text ≡ bytes → length bytes ≤ max_script → IsUtf8 bytes → ArePlacedFrom (start_under e) (chars text) ts → HasTokens (start_under f) bytes ts
 tokens_there e f text bytes ts same is short utf8 cut = record {
@@ -28,17 +29,26 @@ tokens_there e f text bytes ts same is short utf8 cut = record {
 
 -- ---- the home
 
-pub no_routine : (items : List Item) (e : ScriptEdit) → routine_of (routine_name e) items ≡ None → home items e ≡ Err edits.NoRoutine
-no_routine items e is = ap (λ (o : Option RowView). home_in o e) is
+pub no_routine : (items : List Item) (n : List ℕ) → first_of (defines kinds.Routine n) items ≡ None → home items (body n) ≡ Err edits.NoRoutine
+no_routine items n is = ap (λ (o : Option Plain). home_in items o (body n)) is
 
-pub body_home : (items : List Item) (n : List ℕ) (b : RowView) → routine_of n items ≡ Some b → home items (body n) ≡ Ok home_of_body
-body_home items n b is = ap (λ (o : Option RowView). home_in o (body n)) is
+pub no_routine_for_among : (items : List Item) (n : List ℕ) (k : ℕ) → first_of (defines kinds.Routine n) items ≡ None → home items (among n k) ≡ Err edits.NoRoutine
+no_routine_for_among items n k is = ap (λ (o : Option Plain). home_in items o (among n k)) is
 
-pub no_among : (items : List Item) (n : List ℕ) (k : ℕ) (b : RowView) → routine_of n items ≡ Some b → nth_held k (amongs_of_body b) ≡ None → home items (among n k) ≡ Err edits.NoAmong
-no_among items n k b is none = ap (λ (o : Option RowView). home_in o (among n k)) is ∙ ap (home_of_held b k) none
+pub no_grouping : (items : List Item) (n : List ℕ) → first_of (defines kinds.Grouping n) items ≡ None → home items (terms n) ≡ Err edits.NoGrouping
+no_grouping items n is = ap (λ (o : Option Plain). home_in items o (terms n)) is
 
-pub among_home : (items : List Item) (n : List ℕ) (k : ℕ) (b : RowView) (h : Held) → routine_of n items ≡ Some b → nth_held k (amongs_of_body b) ≡ Some h → home items (among n k) ≡ Ok (home_of_among b k h)
-among_home items n k b h is there = ap (λ (o : Option RowView). home_in o (among n k)) is ∙ ap (home_of_held b k) there
+pub body_home : (items : List Item) (n : List ℕ) (b : RowView) → first_of (defines kinds.Routine n) items ≡ Some (routine n b.0 b.1) → home items (body n) ≡ Ok (home_of_body items n)
+body_home items n b is = ap (λ (o : Option Plain). home_in items o (body n)) is
+
+pub no_among : (items : List Item) (n : List ℕ) (k : ℕ) (b : RowView) → first_of (defines kinds.Routine n) items ≡ Some (routine n b.0 b.1) → nth_held k (amongs_of_body b) ≡ None → home items (among n k) ≡ Err edits.NoAmong
+no_among items n k b is none = ap (λ (o : Option Plain). home_in items o (among n k)) is ∙ ap (home_of_held items n b k) none
+
+pub among_home : (items : List Item) (n : List ℕ) (k : ℕ) (b : RowView) (h : Held) → first_of (defines kinds.Routine n) items ≡ Some (routine n b.0 b.1) → nth_held k (amongs_of_body b) ≡ Some h → home items (among n k) ≡ Ok (home_of_among items n b k h)
+among_home items n k b h is there = ap (λ (o : Option Plain). home_in items o (among n k)) is ∙ ap (home_of_held items n b k) there
+
+pub terms_home : (items : List Item) (n : List ℕ) (a : Argument) (ts : List Term) → first_of (defines kinds.Grouping n) items ≡ Some (grouping n a ts) → home items (terms n) ≡ Ok (home_of_terms items n)
+terms_home items n a ts is = ap (λ (o : Option Plain). home_in items o (terms n)) is
 
 -- where there is a home nothing is missing
 pub not_missing : {X : Type 0} (items : List Item) (e : ScriptEdit) (h : Home) (r : Result X EditFault) → home items e ≡ Ok h → (f : EditFault) → home items e ≡ Err f → r ≡ Err f
@@ -56,29 +66,29 @@ missing_told items e g r is told f missing = told ∙ ap Err (err_same (home ite
 abbrev pub Refused : Source → ScriptEdit → List ℕ → EditFault → Type 0
 Refused s e text f = (f ≡ edits.OutOfMemory) ⊎ IsEditFault s e text f
 
-pub told_as : (s : Source) (e : ScriptEdit) (h : Home) (text : List ℕ) (f : ScriptFault) (g : EditFault) → home s.items e ≡ Ok h → Refuses f g → (f ≡ fault.OutOfMemory) ⊎ IsFaultAt s (routine_name e) h text f → Refused s e text g
+pub told_as : (s : Source) (e : ScriptEdit) (h : Home) (text : List ℕ) (f : ScriptFault) (g : EditFault) → home s.items e ≡ Ok h → Refuses f g → (f ≡ fault.OutOfMemory) ⊎ IsFaultAt s h text f → Refused s e text g
 told_as s e h text f g there (inl memory) x = inl memory.1
 told_as s e h text f g there (inr other) (inl memory) = absurd (other.0 memory)
 told_as s e h text f g there (inr other) (inr x) = inr (subst (IsEditFault s e text) (sym other.1) (h, there, x))
 
-pub text_told : (s : Source) (name : List ℕ) (h : Home) (text : List ℕ) (f : ScriptFault) → (f ≡ fault.OutOfMemory) ⊎ IsTextFault (state_before name s.items) text f → (f ≡ fault.OutOfMemory) ⊎ IsFaultAt s name h text f
-text_told s name h text f (inl m) = inl m
-text_told s name h text f (inr x) = inr (inl x)
+pub text_told : (s : Source) (h : Home) (text : List ℕ) (f : ScriptFault) → (f ≡ fault.OutOfMemory) ⊎ IsTextFault h.state text f → (f ≡ fault.OutOfMemory) ⊎ IsFaultAt s h text f
+text_told s h text f (inl m) = inl m
+text_told s h text f (inr x) = inr (inl x)
 
-pub unread_told : (s : Source) (name : List ℕ) (h : Home) (text : List ℕ) (ts : List Placed) (f : ScriptFault) → HasTokens (state_before name s.items) text ts → (f ≡ fault.OutOfMemory) ⊎ IsUnread h.text ts (length text) f → (f ≡ fault.OutOfMemory) ⊎ IsFaultAt s name h text f
-unread_told s name h text ts f tokens (inl m) = inl m
-unread_told s name h text ts f tokens (inr u) = inr (inr (inl (ts, tokens, u)))
+pub unread_told : (s : Source) (h : Home) (text : List ℕ) (ts : List Placed) (f : ScriptFault) → HasTokens h.state text ts → (f ≡ fault.OutOfMemory) ⊎ IsUnread h.text ts (length text) f → (f ≡ fault.OutOfMemory) ⊎ IsFaultAt s h text f
+unread_told s h text ts f tokens (inl m) = inl m
+unread_told s h text ts f tokens (inr u) = inr (inr (inl (ts, tokens, u)))
 
-pub check_told : (s : Source) (name : List ℕ) (h : Home) (text : List ℕ) (ts : List Placed) (x : TreeOf h.text) (f : ScriptFault) → HasTokens (state_before name s.items) text ts → first_left_out ts ≡ None → IsReadAs h.text (terminals ts) x
-    → (f ≡ fault.OutOfMemory) ⊎ (fault_of (items_with name (h.around x) s.items) s.external ≡ Some f) → (f ≡ fault.OutOfMemory) ⊎ IsFaultAt s name h text f
-check_told s name h text ts x f tokens offered read (inl m) = inl m
-check_told s name h text ts x f tokens offered read (inr g) = inr (inr (inr (ts, tokens, offered, record { tree = x; read = read; is = g })))
+pub check_told : (s : Source) (h : Home) (text : List ℕ) (ts : List Placed) (x : TreeOf h.text) (f : ScriptFault) → HasTokens h.state text ts → first_left_out ts ≡ None → IsReadAs h.text (terminals ts) x
+    → (f ≡ fault.OutOfMemory) ⊎ (fault_of (h.around x) s.external ≡ Some f) → (f ≡ fault.OutOfMemory) ⊎ IsFaultAt s h text f
+check_told s h text ts x f tokens offered read (inl m) = inl m
+check_told s h text ts x f tokens offered read (inr g) = inr (inr (inr (ts, tokens, offered, record { tree = x; read = read; is = g })))
 
 -- ---- the script
 
-pub substituted : (s t : Source) (name : List ℕ) (h : Home) (text : List ℕ) (ts : List Placed) (x : TreeOf h.text) (n : Bool) → HasTokens (state_before name s.items) text ts → first_left_out ts ≡ None → IsReadAs h.text (terminals ts) x
-    → t.items ≡ items_with name (h.around x) s.items → t.external ≡ s.external → WellDeclared t.items t.external → h.keeps_count x ≡ n → IsSubstituted s name h text n t
-substituted s t name h text ts x n tokens offered read items external well counted = record { placed = ts; tree = x; tokens = tokens; offered = offered; read = read; items_are = items; external_is = external; well_declared = well; counted = counted }
+pub substituted : (s t : Source) (h : Home) (text : List ℕ) (ts : List Placed) (x : TreeOf h.text) (n : Bool) → HasTokens h.state text ts → first_left_out ts ≡ None → IsReadAs h.text (terminals ts) x
+    → t.items ≡ h.around x → t.external ≡ s.external → WellDeclared t.items t.external → h.keeps_count x ≡ n → IsSubstituted s h text n t
+substituted s t h text ts x n tokens offered read items external well counted = record { placed = ts; tree = x; tokens = tokens; offered = offered; read = read; items_are = items; external_is = external; well_declared = well; counted = counted }
 
 -- ---- results
 

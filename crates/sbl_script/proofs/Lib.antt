@@ -1,5 +1,6 @@
 pub mod Places
 pub mod OneReading
+pub mod Found
 pub mod Editing
 pub mod Shallow
 pub mod Putting

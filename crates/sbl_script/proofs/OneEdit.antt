@@ -10,7 +10,7 @@ use Rattle.sbl_script.specs.declared.edit_fault.EditFault.TheVariants as edits
 use Rattle.sbl_script.specs.Parsed.{Source}
 use Rattle.sbl_checks.specs.Checks.{fault_of}
 use Rattle.sbl_script.specs.Reading.{IsUnread, terminals}
-use Rattle.sbl_script.specs.Edits.{ScriptEdit, Home, IsEdited, IsSubstituted, IsFaultAt, IsCheckFaultWith, IsEditFault, home, items_with, routine_name, state_before}
+use Rattle.sbl_script.specs.Edits.{ScriptEdit, Home, IsEdited, IsSubstituted, IsFaultAt, IsCheckFaultWith, IsEditFault, home}
 use Rattle.sbl_script.proofs.OneReading.{Known, placed_one, text_is_one, no_text_fault, unread_is_one, no_unread, some_one, some_none, same_source}
 
 tree_one : Known → (w : Text) (ts : List Placed) (x y : TreeOf w) → IsReadAs w (terminals ts) x → IsReadAs w (terminals ts) y → x ≡ y
@@ -18,55 +18,55 @@ tree_one k w ts x y h g = k.tree w x y (h.0 ∙ sym g.0)
 
 -- ---- at one home
 
-check_is_one : Known → (s : Source) (name : List ℕ) (h : Home) (ts : List Placed) (f g : ScriptFault) → IsCheckFaultWith s name h ts f → IsCheckFaultWith s name h ts g → f ≡ g
-check_is_one k s name h ts f g a b =
-    some_one f g (sym a.is ∙ ap (λ (x : TreeOf h.text). fault_of (items_with name (h.around x) s.items) s.external) (tree_one k h.text ts a.tree b.tree a.read b.read) ∙ b.is)
+check_is_one : Known → (s : Source) (h : Home) (ts : List Placed) (f g : ScriptFault) → IsCheckFaultWith s h ts f → IsCheckFaultWith s h ts g → f ≡ g
+check_is_one k s h ts f g a b =
+    some_one f g (sym a.is ∙ ap (λ (x : TreeOf h.text). fault_of (h.around x) s.external) (tree_one k h.text ts a.tree b.tree a.read b.read) ∙ b.is)
 
-fault_is_one : Known → (s : Source) (name : List ℕ) (h : Home) (text : List ℕ) (f g : ScriptFault) → IsFaultAt s name h text f → IsFaultAt s name h text g → f ≡ g
-fault_is_one k s name h text f g (inl a) (inl b) = text_is_one k (state_before name s.items) text f g a b
-fault_is_one k s name h text f g (inl a) (inr (inl b)) = absurd (no_text_fault k (state_before name s.items) text b.0 f b.1 a)
-fault_is_one k s name h text f g (inl a) (inr (inr b)) = absurd (no_text_fault k (state_before name s.items) text b.0 f b.1 a)
-fault_is_one k s name h text f g (inr (inl a)) (inl b) = absurd (no_text_fault k (state_before name s.items) text a.0 g a.1 b)
-fault_is_one k s name h text f g (inr (inr a)) (inl b) = absurd (no_text_fault k (state_before name s.items) text a.0 g a.1 b)
-fault_is_one k s name h text f g (inr (inl a)) (inr (inl b)) =
-    let same = placed_one k (state_before name s.items) text a.0 b.0 a.1 b.1 in
+fault_is_one : Known → (s : Source) (h : Home) (text : List ℕ) (f g : ScriptFault) → IsFaultAt s h text f → IsFaultAt s h text g → f ≡ g
+fault_is_one k s h text f g (inl a) (inl b) = text_is_one k h.state text f g a b
+fault_is_one k s h text f g (inl a) (inr (inl b)) = absurd (no_text_fault k h.state text b.0 f b.1 a)
+fault_is_one k s h text f g (inl a) (inr (inr b)) = absurd (no_text_fault k h.state text b.0 f b.1 a)
+fault_is_one k s h text f g (inr (inl a)) (inl b) = absurd (no_text_fault k h.state text a.0 g a.1 b)
+fault_is_one k s h text f g (inr (inr a)) (inl b) = absurd (no_text_fault k h.state text a.0 g a.1 b)
+fault_is_one k s h text f g (inr (inl a)) (inr (inl b)) =
+    let same = placed_one k h.state text a.0 b.0 a.1 b.1 in
     unread_is_one k h.text b.0 (length text) f g (subst (λ (ts : List Placed). IsUnread h.text ts (length text) f) same a.2) b.2
-fault_is_one k s name h text f g (inr (inl a)) (inr (inr b)) =
-    let same = placed_one k (state_before name s.items) text a.0 b.0 a.1 b.1 in
+fault_is_one k s h text f g (inr (inl a)) (inr (inr b)) =
+    let same = placed_one k h.state text a.0 b.0 a.1 b.1 in
     absurd (no_unread k h.text b.0 (length text) f b.3.tree b.2 b.3.read (subst (λ (ts : List Placed). IsUnread h.text ts (length text) f) same a.2))
-fault_is_one k s name h text f g (inr (inr a)) (inr (inl b)) =
-    let same = placed_one k (state_before name s.items) text b.0 a.0 b.1 a.1 in
+fault_is_one k s h text f g (inr (inr a)) (inr (inl b)) =
+    let same = placed_one k h.state text b.0 a.0 b.1 a.1 in
     absurd (no_unread k h.text a.0 (length text) g a.3.tree a.2 a.3.read (subst (λ (ts : List Placed). IsUnread h.text ts (length text) g) same b.2))
-fault_is_one k s name h text f g (inr (inr a)) (inr (inr b)) =
-    let same = placed_one k (state_before name s.items) text a.0 b.0 a.1 b.1 in
-    check_is_one k s name h b.0 f g (subst (λ (ts : List Placed). IsCheckFaultWith s name h ts f) same a.3) b.3
+fault_is_one k s h text f g (inr (inr a)) (inr (inr b)) =
+    let same = placed_one k h.state text a.0 b.0 a.1 b.1 in
+    check_is_one k s h b.0 f g (subst (λ (ts : List Placed). IsCheckFaultWith s h ts f) same a.3) b.3
 
 -- the tree and the script are one
-substituted_tree : Known → (s : Source) (name : List ℕ) (h : Home) (text : List ℕ) (m n : Bool) (t u : Source) (a : IsSubstituted s name h text m t) (b : IsSubstituted s name h text n u) → a.tree ≡ b.tree
-substituted_tree k s name h text m n t u a b =
-    let same = placed_one k (state_before name s.items) text a.placed b.placed a.tokens b.tokens in
+substituted_tree : Known → (s : Source) (h : Home) (text : List ℕ) (m n : Bool) (t u : Source) (a : IsSubstituted s h text m t) (b : IsSubstituted s h text n u) → a.tree ≡ b.tree
+substituted_tree k s h text m n t u a b =
+    let same = placed_one k h.state text a.placed b.placed a.tokens b.tokens in
     tree_one k h.text b.placed a.tree b.tree (subst (λ (ts : List Placed). IsReadAs h.text (terminals ts) a.tree) same a.read) b.read
 
-substituted_is_one : Known → (s : Source) (name : List ℕ) (h : Home) (text : List ℕ) (m n : Bool) (t u : Source) → IsSubstituted s name h text m t → IsSubstituted s name h text n u → t ≡ u
-substituted_is_one k s name h text m n t u a b =
-    same_source t u (a.items_are ∙ ap (λ (z : TreeOf h.text). items_with name (h.around z) s.items) (substituted_tree k s name h text m n t u a b) ∙ sym b.items_are) (a.external_is ∙ sym b.external_is)
+substituted_is_one : Known → (s : Source) (h : Home) (text : List ℕ) (m n : Bool) (t u : Source) → IsSubstituted s h text m t → IsSubstituted s h text n u → t ≡ u
+substituted_is_one k s h text m n t u a b =
+    same_source t u (a.items_are ∙ ap (λ (z : TreeOf h.text). h.around z) (substituted_tree k s h text m n t u a b) ∙ sym b.items_are) (a.external_is ∙ sym b.external_is)
 
-substituted_or_fault : Known → (s : Source) (name : List ℕ) (h : Home) (text : List ℕ) (m : Bool) (t : Source) (f : ScriptFault) → IsSubstituted s name h text m t → IsFaultAt s name h text f → ⊥
-substituted_or_fault k s name h text m t f a (inl b) = no_text_fault k (state_before name s.items) text a.placed f a.tokens b
-substituted_or_fault k s name h text m t f a (inr (inl b)) =
-    let same = placed_one k (state_before name s.items) text b.0 a.placed b.1 a.tokens in
+substituted_or_fault : Known → (s : Source) (h : Home) (text : List ℕ) (m : Bool) (t : Source) (f : ScriptFault) → IsSubstituted s h text m t → IsFaultAt s h text f → ⊥
+substituted_or_fault k s h text m t f a (inl b) = no_text_fault k h.state text a.placed f a.tokens b
+substituted_or_fault k s h text m t f a (inr (inl b)) =
+    let same = placed_one k h.state text b.0 a.placed b.1 a.tokens in
     no_unread k h.text a.placed (length text) f a.tree a.offered a.read (subst (λ (ts : List Placed). IsUnread h.text ts (length text) f) same b.2)
-substituted_or_fault k s name h text m t f a (inr (inr b)) =
-    let same = placed_one k (state_before name s.items) text a.placed b.0 a.tokens b.1 in
+substituted_or_fault k s h text m t f a (inr (inr b)) =
+    let same = placed_one k h.state text a.placed b.0 a.tokens b.1 in
     let one : a.tree ≡ b.3.tree = tree_one k h.text b.0 a.tree b.3.tree (subst (λ (ts : List Placed). IsReadAs h.text (terminals ts) a.tree) same a.read) b.3.read in
-    let items : t.items ≡ items_with name (h.around b.3.tree) s.items = a.items_are ∙ ap (λ (z : TreeOf h.text). items_with name (h.around z) s.items) one in
-    let named : fault_of t.items t.external ≡ fault_of (items_with name (h.around b.3.tree) s.items) s.external = ap (λ (is : List Item). fault_of is t.external) items ∙ ap (λ (n : List ℕ). fault_of (items_with name (h.around b.3.tree) s.items) n) a.external_is in
+    let items : t.items ≡ h.around b.3.tree = a.items_are ∙ ap (λ (z : TreeOf h.text). h.around z) one in
+    let named : fault_of t.items t.external ≡ fault_of (h.around b.3.tree) s.external = ap (λ (is : List Item). fault_of is t.external) items ∙ ap (λ (n : List ℕ). fault_of (h.around b.3.tree) n) a.external_is in
     some_none f (fault_of t.items t.external) a.well_declared (named ∙ b.3.is)
 
 -- there are as many amongs, or not
-kept_or_not : Known → (s : Source) (name : List ℕ) (h : Home) (text : List ℕ) (t u : Source) → IsSubstituted s name h text true t → IsSubstituted s name h text false u → ⊥
-kept_or_not k s name h text t u a b =
-    let clash : true ≡ false = sym a.counted ∙ ap h.keeps_count (substituted_tree k s name h text true false t u a b) ∙ b.counted in
+kept_or_not : Known → (s : Source) (h : Home) (text : List ℕ) (t u : Source) → IsSubstituted s h text true t → IsSubstituted s h text false u → ⊥
+kept_or_not k s h text t u a b =
+    let clash : true ≡ false = sym a.counted ∙ ap h.keeps_count (substituted_tree k s h text true false t u a b) ∙ b.counted in
     absurd cc
 
 -- ---- the home is one
@@ -83,46 +83,57 @@ err_one r f g a b = cc
 pub edit_is_one : Known → (s : Source) (e : ScriptEdit) (text : List ℕ) (t u : Source) → IsEdited s e text t → IsEdited s e text u → t ≡ u
 edit_is_one k s e text t u a b =
     let same = ok_one (home s.items e) a.0 b.0 a.1 b.1 in
-    substituted_is_one k s (routine_name e) a.0 text true true t u a.2 (subst (λ (z : Home). IsSubstituted s (routine_name e) z text true u) same b.2)
+    substituted_is_one k s a.0 text true true t u a.2 (subst (λ (z : Home). IsSubstituted s z text true u) same b.2)
 
 -- two faults at one home, of which one is the number of amongs
 count_or_fault : Known → (s : Source) (e : ScriptEdit) (text : List ℕ) (f : ScriptFault) → IsEditFault s e text edits.AmongCount → IsEditFault s e text (edits.Script f) → ⊥
 count_or_fault k s e text f a b =
     let same = ok_one (home s.items e) a.0 b.0 a.1 b.1 in
-    substituted_or_fault k s (routine_name e) a.0 text false a.2 f a.3 (subst (λ (z : Home). IsFaultAt s (routine_name e) z text f) same b.2)
+    substituted_or_fault k s a.0 text false a.2 f a.3 (subst (λ (z : Home). IsFaultAt s z text f) same b.2)
 
 pub edit_fault_is_one : Known → (s : Source) (e : ScriptEdit) (text : List ℕ) (f g : EditFault) → IsEditFault s e text f → IsEditFault s e text g → f ≡ g
 edit_fault_is_one k s e text edits.NoRoutine edits.NoRoutine a b = refl
+edit_fault_is_one k s e text edits.NoRoutine edits.NoGrouping a b = err_one (home s.items e) edits.NoRoutine edits.NoGrouping a b
 edit_fault_is_one k s e text edits.NoRoutine edits.NoAmong a b = err_one (home s.items e) edits.NoRoutine edits.NoAmong a b
 edit_fault_is_one k s e text edits.NoRoutine edits.AmongCount a b = absurd (ok_or_err (home s.items e) b.0 edits.NoRoutine b.1 a)
 edit_fault_is_one k s e text edits.NoRoutine (edits.Script g) a b = absurd (ok_or_err (home s.items e) b.0 edits.NoRoutine b.1 a)
+edit_fault_is_one k s e text edits.NoGrouping edits.NoRoutine a b = err_one (home s.items e) edits.NoGrouping edits.NoRoutine a b
+edit_fault_is_one k s e text edits.NoGrouping edits.NoGrouping a b = refl
+edit_fault_is_one k s e text edits.NoGrouping edits.NoAmong a b = err_one (home s.items e) edits.NoGrouping edits.NoAmong a b
+edit_fault_is_one k s e text edits.NoGrouping edits.AmongCount a b = absurd (ok_or_err (home s.items e) b.0 edits.NoGrouping b.1 a)
+edit_fault_is_one k s e text edits.NoGrouping (edits.Script g) a b = absurd (ok_or_err (home s.items e) b.0 edits.NoGrouping b.1 a)
 edit_fault_is_one k s e text edits.NoAmong edits.NoRoutine a b = err_one (home s.items e) edits.NoAmong edits.NoRoutine a b
+edit_fault_is_one k s e text edits.NoAmong edits.NoGrouping a b = err_one (home s.items e) edits.NoAmong edits.NoGrouping a b
 edit_fault_is_one k s e text edits.NoAmong edits.NoAmong a b = refl
 edit_fault_is_one k s e text edits.NoAmong edits.AmongCount a b = absurd (ok_or_err (home s.items e) b.0 edits.NoAmong b.1 a)
 edit_fault_is_one k s e text edits.NoAmong (edits.Script g) a b = absurd (ok_or_err (home s.items e) b.0 edits.NoAmong b.1 a)
 edit_fault_is_one k s e text edits.AmongCount edits.NoRoutine a b = absurd (ok_or_err (home s.items e) a.0 edits.NoRoutine a.1 b)
+edit_fault_is_one k s e text edits.AmongCount edits.NoGrouping a b = absurd (ok_or_err (home s.items e) a.0 edits.NoGrouping a.1 b)
 edit_fault_is_one k s e text edits.AmongCount edits.NoAmong a b = absurd (ok_or_err (home s.items e) a.0 edits.NoAmong a.1 b)
 edit_fault_is_one k s e text edits.AmongCount edits.AmongCount a b = refl
 edit_fault_is_one k s e text edits.AmongCount (edits.Script g) a b = absurd (count_or_fault k s e text g a b)
 edit_fault_is_one k s e text (edits.Script f) edits.NoRoutine a b = absurd (ok_or_err (home s.items e) a.0 edits.NoRoutine a.1 b)
+edit_fault_is_one k s e text (edits.Script f) edits.NoGrouping a b = absurd (ok_or_err (home s.items e) a.0 edits.NoGrouping a.1 b)
 edit_fault_is_one k s e text (edits.Script f) edits.NoAmong a b = absurd (ok_or_err (home s.items e) a.0 edits.NoAmong a.1 b)
 edit_fault_is_one k s e text (edits.Script f) edits.AmongCount a b = absurd (count_or_fault k s e text f b a)
 edit_fault_is_one k s e text (edits.Script f) (edits.Script g) a b =
     let same = ok_one (home s.items e) a.0 b.0 a.1 b.1 in
-    ap edits.Script (fault_is_one k s (routine_name e) a.0 text f g a.2 (subst (λ (z : Home). IsFaultAt s (routine_name e) z text g) same b.2))
+    ap edits.Script (fault_is_one k s a.0 text f g a.2 (subst (λ (z : Home). IsFaultAt s z text g) same b.2))
 edit_fault_is_one k s e text edits.OutOfMemory g a b = absurd a
 edit_fault_is_one k s e text edits.NoRoutine edits.OutOfMemory a b = absurd b
+edit_fault_is_one k s e text edits.NoGrouping edits.OutOfMemory a b = absurd b
 edit_fault_is_one k s e text edits.NoAmong edits.OutOfMemory a b = absurd b
 edit_fault_is_one k s e text edits.AmongCount edits.OutOfMemory a b = absurd b
 edit_fault_is_one k s e text (edits.Script f) edits.OutOfMemory a b = absurd b
 
 pub edit_or_fault : Known → (s : Source) (e : ScriptEdit) (text : List ℕ) (t : Source) (f : EditFault) → IsEdited s e text t → IsEditFault s e text f → ⊥
 edit_or_fault k s e text t edits.NoRoutine a b = ok_or_err (home s.items e) a.0 edits.NoRoutine a.1 b
+edit_or_fault k s e text t edits.NoGrouping a b = ok_or_err (home s.items e) a.0 edits.NoGrouping a.1 b
 edit_or_fault k s e text t edits.NoAmong a b = ok_or_err (home s.items e) a.0 edits.NoAmong a.1 b
 edit_or_fault k s e text t edits.AmongCount a b =
     let same = ok_one (home s.items e) a.0 b.0 a.1 b.1 in
-    kept_or_not k s (routine_name e) a.0 text t b.2 a.2 (subst (λ (z : Home). IsSubstituted s (routine_name e) z text false b.2) same b.3)
+    kept_or_not k s a.0 text t b.2 a.2 (subst (λ (z : Home). IsSubstituted s z text false b.2) same b.3)
 edit_or_fault k s e text t (edits.Script f) a b =
     let same = ok_one (home s.items e) a.0 b.0 a.1 b.1 in
-    substituted_or_fault k s (routine_name e) a.0 text true t f a.2 (subst (λ (z : Home). IsFaultAt s (routine_name e) z text f) same b.2)
+    substituted_or_fault k s a.0 text true t f a.2 (subst (λ (z : Home). IsFaultAt s z text f) same b.2)
 edit_or_fault k s e text t edits.OutOfMemory a b = b

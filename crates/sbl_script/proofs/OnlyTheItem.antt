@@ -1,5 +1,5 @@
 -- A check that fails for an edit tells the item that the edit changes.
-use Rattle.std.proofs.Common.{◌≡◌, ◌⊎◌, inl, inr, ℕ, ◌+◌, ◌≤◌, Bool, true, false, ◌&&◌, ◌||◌, nat_eq, List, [], ◌∷◌, ◌++◌, length, Option, Some, None, Ok, is_some, refl, sym, ap, subst, ◌∙◌, append_assoc, arith}
+use Rattle.std.proofs.Common.{◌≡◌, ◌⊎◌, inl, inr, ℕ, ◌+◌, ◌≤◌, Bool, true, false, ◌&&◌, ◌||◌, nat_eq, List, [], ◌∷◌, ◌++◌, length, Option, Some, None, Result, Ok, is_some, refl, sym, ap, subst, ◌∙◌, append_assoc, append-nil, arith}
 use Rattle.std.specs.Option.{option_or}
 use Rattle.std.proofs.lemmas.Bool.Decides.{nat_tests}
 use Rattle.std.proofs.lemmas.List.Folds.{list_any-append}
@@ -7,22 +7,28 @@ use Rattle.sbl_text.specs.declared.fault.ScriptFault.{ScriptFault}
 use Rattle.sbl_text.specs.declared.fault.ScriptFault.TheVariants as fault
 use Rattle.sbl_text.specs.Tokens.{Placed}
 use Rattle.sbl_tree.specs.Order.{in_order}
-use Rattle.sbl_tree.specs.Tree.{routine, Item}
-use Rattle.sbl_tree.specs.View.{RowView}
+use Rattle.sbl_tree.specs.Tree.{Plain, declaration, escapes, macro, routine, grouping, Item}
+use Rattle.sbl_tree.specs.Texts.{TreeOf}
+use Rattle.sbl_amongs.specs.Amongs.{Held, amongs_of_body, nth_held, put_in_body}
 use Rattle.sbl_checks.specs.declared.occurrences.Site.{Site}
 use Rattle.sbl_checks.specs.Occurrences.{Occurrence, Notice, declares, defines_routine, defines_grouping, uses, substring, among, string, backwards, region_end, noted_items, occurrences_of}
+use Rattle.sbl_script.specs.declared.edit_fault.EditFault.{EditFault}
 use Rattle.sbl_script.specs.Parsed.{Source}
 use Rattle.sbl_checks.specs.Bodies.{body_in}
 use Rattle.sbl_checks.specs.Checks.{declared_as, kind_of, defined_at, definition_of, waits_after, is_awaited, is_text, is_text_of, has_text, is_external, has_external, fault_at, fault_of, WellDeclared}
 use Rattle.sbl_checks.specs.Laws.{EachPasses, IsFirst}
-use Rattle.sbl_script.specs.Edits.{ScriptEdit, Home, home, home_in, routine_name, routine_of, items_with, state_before, IsFaultAt, IsCheckFaultWith}
+use Rattle.sbl_script.specs.declared.edits.DefinitionKind.{DefinitionKind}
+use Rattle.sbl_script.specs.declared.edits.DefinitionKind.TheVariants as kinds
+use Rattle.sbl_script.specs.Edits.{ScriptEdit, body, terms, Home, changes, defines, first_of, home, home_in, home_of_among, home_of_body, home_of_held, home_of_terms, items_with, IsFaultAt, IsCheckFaultWith}
+use Rattle.sbl_script.specs.Edits as script
 use Rattle.sbl_script.specs.OnlyTheItem.{item_of, number_of, OnlyTheItem, ExternalStays}
 use Rattle.sbl_checks.proofs.FirstFault as first
-use Rattle.sbl_script.proofs.Own.{Each, is_quiet, IsOfCommand, RoutineParts, routine_parts}
-use Rattle.sbl_script.proofs.RoundItem.{Closed, followed_same, decided_at, own, InItem, NotBefore, routine_sites, items_closed, items_sites, round_item}
+use Rattle.sbl_script.proofs.Found.{grouping_is, routine_is, same_name}
+use Rattle.sbl_script.proofs.Own.{Each, each_as, is_quiet, IsOfCommand, RoutineParts, routine_parts, is_use, IsUse, GroupingParts, grouping_parts}
+use Rattle.sbl_script.proofs.RoundItem.{Closed, followed_same, decided_at, own, InItem, NotBefore, plain_sites, routine_sites, items_closed, items_sites, round_item}
 use Rattle.sbl_script.proofs.TextFaults.{is_checked, text_fault, unread}
 use Rattle.sbl_script.proofs.SameFaults.{Same, same_fault, item_told}
-use Rattle.sbl_script.proofs.ItemParts.{Parts, the_routine, parts_of, still_defined}
+use Rattle.sbl_script.proofs.ItemParts.{Parts, at_mode, parts_of, still_defined}
 
 -- ---- some occurrences behind others
 
@@ -99,14 +105,79 @@ routine_definitions n p xs r x = ap (definition_of x) r.are ∙ ap (option_or (d
 routine_awaits : (n : List ℕ) (p : Site) (xs : List Occurrence) → RoutineParts n p xs → (w : Bool) → is_awaited xs w ≡ false
 routine_awaits n p xs r w = ap (λ l. is_awaited l w) r.are ∙ awaited_both r.commands (end_at p) w
 
-alike : (n : List ℕ) (p : Site) (xs ys : List Occurrence) → RoutineParts n p xs → RoutineParts n p ys → Alike p.item xs ys
-alike n p xs ys h g = record {
+routines_alike : (n : List ℕ) (p : Site) (xs ys : List Occurrence) → RoutineParts n p xs → RoutineParts n p ys → Alike p.item xs ys
+routines_alike n p xs ys h g = record {
   kinds = λ x. routine_kinds n p xs h x ∙ sym (routine_kinds n p ys g x);
   definitions = λ x. routine_definitions n p xs h x ∙ sym (routine_definitions n p ys g x);
   awaited = λ w. routine_awaits n p xs h w ∙ sym (routine_awaits n p ys g w);
   old_sites = routine_sites n p xs h;
   new_sites = routine_sites n p ys g;
 }
+
+-- ---- what two groupings of a name have in common
+
+use_is_quiet : (x : Notice) → is_use x ≡ true → is_quiet x ≡ true
+use_is_quiet (declares k x) e = absurd cc
+use_is_quiet (defines_routine x) e = absurd cc
+use_is_quiet (defines_grouping x) e = absurd cc
+use_is_quiet (uses u x) e = refl
+use_is_quiet substring e = refl
+use_is_quiet (among a b) e = refl
+use_is_quiet (string k t) e = refl
+use_is_quiet backwards e = refl
+use_is_quiet region_end e = refl
+
+use_waits : (x : Notice) → is_use x ≡ true → (w : Bool) → waits_after x w ≡ w
+use_waits (declares k x) e w = refl
+use_waits (defines_routine x) e w = refl
+use_waits (defines_grouping x) e w = refl
+use_waits (uses u x) e w = refl
+use_waits substring e w = absurd cc
+use_waits (among a b) e w = absurd cc
+use_waits (string k t) e w = refl
+use_waits backwards e w = refl
+use_waits region_end e w = absurd cc
+
+uses_wait : (i : ℕ) (xs : List Occurrence) → Each (IsUse i) xs → (w : Bool) → is_awaited xs w ≡ w
+uses_wait i [] h w = refl
+uses_wait i (x ∷ xs) h w = ap (is_awaited xs) (use_waits x.notice h.0.1 w) ∙ uses_wait i xs h.1 w
+
+module _ (n : List ℕ) (p : Site) (xs : List Occurrence) (r : GroupingParts n p xs) where
+  quiet : Each (IsOfCommand p.item) r.names
+  quiet = each_as (IsUse p.item) (IsOfCommand p.item) (λ m h. (h.0, use_is_quiet m.notice h.1)) r.names r.each
+
+  grouping_kinds : (x : List ℕ) → kind_of x xs ≡ None
+  grouping_kinds x = ap (kind_of x) r.are ∙ ap (kind_of x) (sym (append-nil r.names)) ∙ quiet_kinds p.item x r.names [] quiet
+
+  grouping_definitions : (x : List ℕ) → definition_of x xs ≡ option_or (defined_at x (record { site = p; notice = defines_grouping n })) None
+  grouping_definitions x =
+      let first = option_or (defined_at x (record { site = p; notice = defines_grouping n })) in
+      ap (definition_of x) r.are ∙ ap (λ l. first (definition_of x l)) (sym (append-nil r.names)) ∙ ap first (quiet_definitions p.item x r.names [] quiet)
+
+  grouping_awaits : (w : Bool) → is_awaited xs w ≡ w
+  grouping_awaits w = ap (λ l. is_awaited l w) r.are ∙ uses_wait p.item r.names r.each w
+
+groupings_alike : (n : List ℕ) (p : Site) (xs ys : List Occurrence) → GroupingParts n p xs → GroupingParts n p ys → Each (InItem p.item) xs → Each (InItem p.item) ys → Alike p.item xs ys
+groupings_alike n p xs ys h g old new = record {
+  kinds = λ x. grouping_kinds n p xs h x ∙ sym (grouping_kinds n p ys g x);
+  definitions = λ x. grouping_definitions n p xs h x ∙ sym (grouping_definitions n p ys g x);
+  awaited = λ w. grouping_awaits n p xs h w ∙ sym (grouping_awaits n p ys g w);
+  old_sites = old;
+  new_sites = new;
+}
+
+-- two definitions of a kind and a name
+alike : (d : DefinitionKind) (n : List ℕ) (x y : Plain) (p : Site) → defines d n x ≡ true → defines d n y ≡ true → Alike p.item (own x p) (own y p)
+alike kinds.Routine n x y p e f =
+    let a = routine_is n x e in
+    let b = routine_is n y f in
+    subst (λ (z : Plain). Alike p.item (own z p) (own y p)) (sym a.2) (subst (λ (z : Plain). Alike p.item (own (routine n a.0 a.1) p) (own z p)) (sym b.2)
+    (routines_alike n p (own (routine n a.0 a.1) p) (own (routine n b.0 b.1) p) (routine_parts n a.0 a.1 p) (routine_parts n b.0 b.1 p)))
+alike kinds.Grouping n x y p e f =
+    let a = grouping_is n x e in
+    let b = grouping_is n y f in
+    subst (λ (z : Plain). Alike p.item (own z p) (own y p)) (sym a.2) (subst (λ (z : Plain). Alike p.item (own (grouping n a.0 a.1) p) (own z p)) (sym b.2)
+    (groupings_alike n p (own (grouping n a.0 a.1) p) (own (grouping n b.0 b.1) p) (grouping_parts n a.0 a.1 p) (grouping_parts n b.0 b.1 p) (plain_sites (grouping n a.0 a.1) p) (plain_sites (grouping n b.0 b.1) p)))
 
 -- ---- where an occurrence stands
 
@@ -223,14 +294,11 @@ module _ (front mine other rest : List Occurrence) (i : ℕ) (closed : Closed fr
 
 -- ---- a script
 
-module _ (items : List Item) (external : List ℕ) (n : List ℕ) (b : RowView) (well : WellDeclared items external) (there : is_some (routine_of n items) ≡ true) where
+module _ (items : List Item) (external : List ℕ) (d : DefinitionKind) (n : List ℕ) (y : Plain) (same : defines d n y ≡ true) (well : WellDeclared items external) where
   abbrev edited : List Item
-  edited = items_with n b items
+  edited = items_with (defines d n) y items
 
-  parts : Parts n b (in_order items) (in_order edited)
-  parts = parts_of n b items there
-
-  told : (q : Parts n b (in_order items) (in_order edited)) (f : ScriptFault) → fault_of edited external ≡ Some f → (i : ℕ) × (item_of f ≡ Some i) × (number_of n items ≡ Some i)
+  told : (q : Parts (defines d n) y (in_order items) (in_order edited)) (f : ScriptFault) → fault_of edited external ≡ Some f → (i : ℕ) × (item_of f ≡ Some i) × (number_of (defines d n) items ≡ Some i)
   told q f bad = (i, at (first.fault_is_first edited external f bad), q.number 1)
     where
       i : ℕ
@@ -243,22 +311,22 @@ module _ (items : List Item) (external : List ℕ) (n : List ℕ) (b : RowView) 
       front = noted_items q.before 1 []
 
       mine : List Occurrence
-      mine = own (routine n q.first q.others) p
+      mine = own q.item p
 
       other : List Occurrence
-      other = own (routine n b.0 b.1) p
+      other = own y p
 
       rest : List Occurrence
       rest = noted_items q.after (1 + length q.before + 1) []
 
       old_is : occurrences_of items ≡ front ++ (mine ++ rest)
-      old_is = ap (λ l. noted_items l 1 []) q.old ∙ round_item q.before (the_routine q.mode n q.first q.others) q.after
+      old_is = ap (λ l. noted_items l 1 []) q.old ∙ round_item q.before (at_mode q.mode q.item) q.after
 
       new_is : occurrences_of edited ≡ front ++ (other ++ rest)
-      new_is = ap (λ l. noted_items l 1 []) q.new ∙ round_item q.before (the_routine q.mode n b.0 b.1) q.after
+      new_is = ap (λ l. noted_items l 1 []) q.new ∙ round_item q.before (at_mode q.mode y) q.after
 
       two : Alike (1 + length q.before) mine other
-      two = alike n p mine other (routine_parts n q.first q.others p) (routine_parts n b.0 b.1 p)
+      two = alike d n q.item y p q.passes same
 
       closed : Closed front
       closed = items_closed q.before 1
@@ -272,7 +340,7 @@ module _ (items : List Item) (external : List ℕ) (n : List ℕ) (b : RowView) 
       kept : has_external edited external (occurrences_of edited) ≡ true
       kept =
           ap (λ o. is_external o && is_some (body_in external edited)) (ap (kind_of external) new_is ∙ kinds_same front mine other rest (1 + length q.before) closed two later external rest ∙ sym (ap (kind_of external) old_is))
-          ∙ ap (λ c. is_external (kind_of external (occurrences_of items)) && c) (still_defined n b items external) ∙ fine.1
+          ∙ ap (λ c. is_external (kind_of external (occurrences_of items)) && c) (still_defined d n y same items external) ∙ fine.1
 
       at : IsFirst (occurrences_of edited) f ⊎ (EachPasses (occurrences_of edited) × (has_external edited external (occurrences_of edited) ≡ false) × (f ≡ fault.NoExternal)) → item_of f ≡ Some (1 + length q.before)
       at (inl h) = in_item front mine other rest (1 + length q.before) closed two later (subst EachPasses old_is fine.0) f (subst (λ l. IsFirst l f) new_is h)
@@ -281,17 +349,62 @@ module _ (items : List Item) (external : List ℕ) (n : List ℕ) (b : RowView) 
         true_false true h g = cc
         true_false false h g = cc
 
--- an edit that has a home changes a routine that there is
-has_routine : (o : Option RowView) (e : ScriptEdit) (h : Home) → home_in o e ≡ Ok h → is_some o ≡ true
-has_routine (Some b) e h r = refl
-has_routine None e h r = absurd cc
+-- an edit with a place puts another definition of the same kind and name in the place of the first that it changes
+pub record Replaces (items : List Item) (e : ScriptEdit) (h : Home) (x : TreeOf h.text) : Type 0 where
+  pub kind : DefinitionKind
+  pub name : List ℕ
+  pub item : Plain
+  pub which : changes e ≡ defines kind name
+  pub there : is_some (first_of (defines kind name) items) ≡ true
+  pub same : defines kind name item ≡ true
+  pub is : h.around x ≡ items_with (defines kind name) item items
+
+abbrev IsPlaced : List Item → ScriptEdit → Home → Type 0
+IsPlaced items e h = (x : TreeOf h.text) → Replaces items e h x
+
+is_there : (o : Option Plain) (x : Plain) → o ≡ Some x → is_some o ≡ true
+is_there o x e = ap is_some e
+
+home_one : (r : Result Home EditFault) (h g : Home) → r ≡ Ok h → r ≡ Ok g → h ≡ g
+home_one r h g a b = cc
+
+place_of : (items : List Item) (e : ScriptEdit) (h : Home) (o : Option Plain) → first_of (changes e) items ≡ o → home_in items o e ≡ Ok h → IsPlaced items e h
+place_of items (body n) h (Some (routine m c os)) at is =
+    subst (IsPlaced items (body n)) (home_one (home_in items (Some (routine m c os)) (body n)) (home_of_body items n) h refl is)
+    (λ b. record { kind = kinds.Routine; name = n; item = routine n b.0 b.1; which = refl; there = is_there (first_of (defines kinds.Routine n) items) (routine m c os) at; same = same_name n; is = refl })
+place_of items (script.among n k) h (Some (routine m c os)) at is = held (nth_held k (amongs_of_body (c, os))) is where
+  held : (o : Option Held) → home_of_held items n (c, os) k o ≡ Ok h → IsPlaced items (script.among n k) h
+  held None e = absurd cc
+  held (Some g) e =
+      subst (IsPlaced items (script.among n k)) (home_one (home_of_held items n (c, os) k (Some g)) (home_of_among items n (c, os) k g) h refl e)
+      (λ a. record { kind = kinds.Routine; name = n; item = routine n (put_in_body (c, os) k a).0 (put_in_body (c, os) k a).1; which = refl; there = is_there (first_of (defines kinds.Routine n) items) (routine m c os) at; same = same_name n; is = refl })
+place_of items (terms n) h (Some (grouping m a ts)) at is =
+    subst (IsPlaced items (terms n)) (home_one (home_in items (Some (grouping m a ts)) (terms n)) (home_of_terms items n) h refl is)
+    (λ x. record { kind = kinds.Grouping; name = n; item = grouping n x.0 x.1; which = refl; there = is_there (first_of (defines kinds.Grouping n) items) (grouping m a ts) at; same = same_name n; is = refl })
+place_of items (body n) h None at is = absurd cc
+place_of items (body n) h (Some (declaration d ns)) at is = absurd cc
+place_of items (body n) h (Some (escapes a b)) at is = absurd cc
+place_of items (body n) h (Some (macro m b q)) at is = absurd cc
+place_of items (body n) h (Some (grouping m a ts)) at is = absurd cc
+place_of items (script.among n k) h None at is = absurd cc
+place_of items (script.among n k) h (Some (declaration d ns)) at is = absurd cc
+place_of items (script.among n k) h (Some (escapes a b)) at is = absurd cc
+place_of items (script.among n k) h (Some (macro m b q)) at is = absurd cc
+place_of items (script.among n k) h (Some (grouping m a ts)) at is = absurd cc
+place_of items (terms n) h None at is = absurd cc
+place_of items (terms n) h (Some (declaration d ns)) at is = absurd cc
+place_of items (terms n) h (Some (escapes a b)) at is = absurd cc
+place_of items (terms n) h (Some (macro m b q)) at is = absurd cc
+place_of items (terms n) h (Some (routine m c os)) at is = absurd cc
 
 -- a check that fails tells the item
-check_tells : (s : Source) (e : ScriptEdit) (h : Home) (ts : List Placed) (f : ScriptFault) → WellDeclared s.items s.external → home s.items e ≡ Ok h → IsCheckFaultWith s (routine_name e) h ts f →
-    (i : ℕ) × (item_of f ≡ Some i) × (number_of (routine_name e) s.items ≡ Some i)
+check_tells : (s : Source) (e : ScriptEdit) (h : Home) (ts : List Placed) (f : ScriptFault) → WellDeclared s.items s.external → home s.items e ≡ Ok h → IsCheckFaultWith s h ts f →
+    (i : ℕ) × (item_of f ≡ Some i) × (number_of (changes e) s.items ≡ Some i)
 check_tells s e h ts f well there bad =
-    let routine_there = has_routine (routine_of (routine_name e) s.items) e h there in
-    told s.items s.external (routine_name e) (h.around bad.tree) well routine_there (parts s.items s.external (routine_name e) (h.around bad.tree) well routine_there) f bad.is
+    let r = place_of s.items e h (first_of (changes e) s.items) refl there bad.tree in
+    let parts = parts_of (defines r.kind r.name) r.item s.items r.there in
+    let tells = told s.items s.external r.kind r.name r.item r.same well parts f (ap (λ (is : List Item). fault_of is s.external) (sym r.is) ∙ bad.is) in
+    (tells.0, tells.1, ap (λ (p : Plain → Bool). number_of p s.items) r.which ∙ tells.2)
 
 -- a fault of a text tells none
 not_told : (f : ScriptFault) (i : ℕ) → is_checked f ≡ false → item_of f ≡ Some i → ⊥
@@ -305,8 +418,8 @@ same_number i j e = cc
 
 pub only_the_item : OnlyTheItem
 only_the_item s e text f i well bad tells = at bad.2 where
-  at : IsFaultAt s (routine_name e) bad.0 text f → number_of (routine_name e) s.items ≡ Some i
-  at (inl h) = absurd (not_told f i (text_fault (state_before (routine_name e) s.items) text f h) tells)
+  at : IsFaultAt s bad.0 text f → number_of (changes e) s.items ≡ Some i
+  at (inl h) = absurd (not_told f i (text_fault bad.0.state text f h) tells)
   at (inr (inl h)) = absurd (not_told f i (unread bad.0.text h.0 (length text) f h.2) tells)
   at (inr (inr h)) = let r = check_tells s e bad.0 h.0 f well bad.1 h.3 in r.2 ∙ ap Some (same_number r.0 i (sym r.1 ∙ tells))
 
@@ -318,7 +431,7 @@ external_stays s e text well bad = at bad.2 where
   no_item : (i : ℕ) → item_of fault.NoExternal ≡ Some i → ⊥
   no_item i h = cc
 
-  at : IsFaultAt s (routine_name e) bad.0 text fault.NoExternal → ⊥
-  at (inl h) = not_text (text_fault (state_before (routine_name e) s.items) text fault.NoExternal h)
+  at : IsFaultAt s bad.0 text fault.NoExternal → ⊥
+  at (inl h) = not_text (text_fault bad.0.state text fault.NoExternal h)
   at (inr (inl h)) = not_text (unread bad.0.text h.0 (length text) fault.NoExternal h.2)
   at (inr (inr h)) = let r = check_tells s e bad.0 h.0 fault.NoExternal well bad.1 h.3 in no_item r.0 r.1

@@ -257,17 +257,44 @@ names_own : (k : DeclarationKind) (ns : List (List ℕ)) (p : Site) → Own Any 
 names_own k [] p = same Any any_more (IsOfList p.item)
 names_own k (n ∷ ns) p = then_ Any any_more (IsOfList p.item) (put_own Any any_more (IsOfList p.item) (declares k n) p (refl, no_declaration k n)) (names_own k ns p)
 
-term_own : (a : Argument) (p : Site) → Own Any (IsOfList p.item) (λ s. noted_term a p s)
-term_own (written_out q) p = same Any any_more (IsOfList p.item)
-term_own (by_name n) p = put_own Any any_more (IsOfList p.item) (uses use_as.Term n) p (refl, no_use n)
+module _ (p : Site) (Q : Occurrence → Type 0) (q : (n : List ℕ) → Q (record { site = p; notice = uses use_as.Term n })) where
+  term_own : (a : Argument) → Own Any Q (λ s. noted_term a p s)
+  term_own (written_out l) = same Any any_more Q
+  term_own (by_name n) = put_own Any any_more Q (uses use_as.Term n) p (q n)
 
-terms_own : (ts : List Term) (p : Site) → Own Any (IsOfList p.item) (λ s. noted_terms ts p s)
-terms_own [] p = same Any any_more (IsOfList p.item)
-terms_own (term o a ∷ ts) p = then_ Any any_more (IsOfList p.item) (term_own a p) (terms_own ts p)
+  terms_own : (ts : List Term) → Own Any Q (λ s. noted_terms ts p s)
+  terms_own [] = same Any any_more Q
+  terms_own (term o a ∷ ts) = then_ Any any_more Q (term_own a) (terms_own ts)
 
 grouping_own : (n : List ℕ) (a : Argument) (ts : List Term) (p : Site) → Own Any (IsOfList p.item) (λ s. noted_plain (grouping n a ts) p s)
 grouping_own n a ts p =
-    then_ Any any_more (IsOfList p.item) (put_own Any any_more (IsOfList p.item) (defines_grouping n) p (refl, no_grouping n)) (then_ Any any_more (IsOfList p.item) (term_own a p) (terms_own ts p))
+    let q : (m : List ℕ) → IsOfList p.item (record { site = p; notice = uses use_as.Term m }) = λ m. (refl, no_use m) in
+    then_ Any any_more (IsOfList p.item) (put_own Any any_more (IsOfList p.item) (defines_grouping n) p (refl, no_grouping n)) (then_ Any any_more (IsOfList p.item) (term_own p (IsOfList p.item) q a) (terms_own p (IsOfList p.item) q ts))
+
+-- it is a use in this item
+abbrev pub is_use : Notice → Bool
+is_use (uses u n) = true
+is_use _ = false
+
+abbrev pub IsUse : ℕ → Occurrence → Type 0
+IsUse i m = (m.site.item ≡ i) × (is_use m.notice ≡ true)
+
+-- a grouping has its definition and its terms for occurrences
+pub record GroupingParts (n : List ℕ) (p : Site) (own : List Occurrence) : Type 0 where
+  pub names : List Occurrence
+  pub are : own ≡ (record { site = p; notice = defines_grouping n }) ∷ names
+  pub each : Each (IsUse p.item) names
+
+pub grouping_parts : (n : List ℕ) (a : Argument) (ts : List Term) (p : Site) → GroupingParts n p (noted_plain (grouping n a ts) p [])
+grouping_parts n a ts p =
+    let q : (m : List ℕ) → IsUse p.item (record { site = p; notice = uses use_as.Term m }) = λ m. (refl, refl) in
+    let names = then_ Any any_more (IsUse p.item) (term_own p (IsUse p.item) q a) (terms_own p (IsUse p.item) q ts) in
+    let start = put (defines_grouping n) p [] in
+    record {
+      names = names.more start;
+      are = names.is start;
+      each = names.each start;
+    }
 
 -- an item has the same occurrences whatever stands before it
 pub plain_alone : (x : Plain) (p : Site) (a s : List Occurrence) → noted_plain x p (a ++ s) ≡ a ++ noted_plain x p s

@@ -92,7 +92,7 @@ routine_sites n p xs r =
     subst (Each (InItem p.item)) (sym r.are)
     (refl, each_both (InItem p.item) r.commands ((record { site = p; notice = region_end }) ∷ []) (each_as (IsOfCommand p.item) (InItem p.item) (λ m h. h.0) r.commands r.each) (refl, tt))
 
-plain_sites : (x : Plain) (p : Site) → Each (InItem p.item) (own x p)
+pub plain_sites : (x : Plain) (p : Site) → Each (InItem p.item) (own x p)
 plain_sites (declaration k ns) p = each_as (IsOfList p.item) (InItem p.item) (λ m h. h.0) (own (declaration k ns) p) (names_are k ns p)
 plain_sites (escapes a b) p = tt
 plain_sites (macro n b q) p = tt

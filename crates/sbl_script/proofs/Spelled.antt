@@ -1,10 +1,8 @@
--- What a text can say, item by item, and with another body for a routine.
+-- What a text can say, item by item, and with another definition in the place of one.
 use Rattle.std.proofs.Common.{◌≡◌, ℕ, ◌+◌, Bool, true, false, List, [], ◌∷◌, ◌++◌, map, Option, Some, None, if◌then◌else◌, refl, sym, ap, subst, ◌∙◌}
 use Rattle.std.specs.Prelude.{◌||◌}
 use Rattle.std.specs.List.{list_any}
 use Rattle.std.specs.Option.{option_or}
-use Rattle.std.specs.Str.{bytes_eq}
-use Rattle.std.proofs.lemmas.Slice.Eq.{bytes_eq-Decides}
 use Rattle.sbl_text.specs.Escapes.{InForce, nothing_set}
 use Rattle.sbl_lexemes.specs.Lexemes.{Lexeme}
 use Rattle.sbl_text.specs.Directives.{Directives, after, settled, start}
@@ -15,7 +13,7 @@ use Rattle.sbl_text.proofs.Spaced.{tokens_said}
 use Rattle.sbl_tree.specs.declared.tree.Base.TheVariants as bases
 use Rattle.sbl_tree.specs.Terminal.{Terminal, lexeme_as, terminal_of}
 use Rattle.sbl_tree.specs.Terminal as t
-use Rattle.sbl_tree.specs.Tree.{Command, Others, Starter, Groups, among_, Plain, declaration, escapes, macro, routine, grouping, Item, plain, backward, lexemes_of}
+use Rattle.sbl_tree.specs.Tree.{Argument, Term, Starter, Groups, among_, Plain, declaration, escapes, macro, routine, grouping, Item, plain, backward, lexemes_of}
 use Rattle.sbl_tree.specs.View.{RowView}
 use Rattle.sbl_amongs.specs.Amongs.{put_in_body}
 use Rattle.sbl_tree.specs.Places.{AtDepth, placed, placed_plain, placed_plains, placed_items, places, tokens}
@@ -25,12 +23,15 @@ use Rattle.sbl_grammar.specs.Reading.{IsReadAs}
 use Rattle.sbl_tree.proofs.Behind.{IsBefore, plain_before}
 use Rattle.sbl_grammar.proofs.Faults.{tree_tokens, places_tokens}
 use Rattle.sbl_grammar.proofs.Parts.{there}
-use Rattle.sbl_script.specs.Edits.{Reached, body_if, escapes_behind, is_routine, items_with, plains_with, reached, reached_in, routine_in, routine_of, state_before}
+use Rattle.sbl_script.specs.declared.edits.DefinitionKind.{DefinitionKind}
+use Rattle.sbl_script.specs.declared.edits.DefinitionKind.TheVariants as kinds
+use Rattle.sbl_script.specs.Edits.{Reached, defines, escapes_before, escapes_behind, first_in, first_of, items_with, plain_if, plains_with, reached, reached_in, state_before}
 use Rattle.sbl_script.specs.Reading.{HasTokens, terminals}
-use Rattle.sbl_script.specs.Spelled.{AreSpelled, IsRowSpelled}
+use Rattle.sbl_script.specs.Spelled.{AreSpelled, IsSpelled}
 use Rattle.sbl_script.proofs.Putting.{Each, body_put}
 use Rattle.sbl_script.proofs.Quiet.{IsQuiet, among_quiet, body_quiet, names_quiet, terms_quiet}
-use Rattle.sbl_script.proofs.Shallow.{plains_before, some_body}
+use Rattle.sbl_script.proofs.Found.{some_plain}
+use Rattle.sbl_script.proofs.Shallow.{plains_before}
 
 abbrev Ps : Type 0
 Ps = List AtDepth
@@ -133,115 +134,114 @@ items_settle (backward xs ∷ is) e =
 behind_plain : (e : InForce) (x : Plain) (r : Ps) → Say (settled e) (placed_plain x r) → Say (settled (escapes_behind e x)) r
 behind_plain e x r h = subst (λ (s : Directives). Say s r) (plain_sets e x) (part_rest (placed_plain x) (plain_before x) (settled e) r h)
 
--- ---- with another body
+-- ---- with another definition
 
-routine_is : (n : List ℕ) (x : Plain) → is_routine n x ≡ true → (c : Command) × (os : Others) × (x ≡ routine n c os)
-routine_is n (routine m c os) h = (c, os, ap (λ (z : List ℕ). routine z c os) (sym ((bytes_eq-Decides n m).0 h)))
-routine_is n (declaration k ns) h = absurd cc
-routine_is n (escapes a b) h = absurd cc
-routine_is n (macro m b q) h = absurd cc
-routine_is n (grouping m a ts) h = absurd cc
-
-sets_nothing : (n : List ℕ) (x : Plain) (e : InForce) → is_routine n x ≡ true → escapes_behind e x ≡ e
-sets_nothing n x e h = ap (escapes_behind e) (routine_is n x h).2
+sets_nothing : (k : DefinitionKind) (n : List ℕ) (x : Plain) (e : InForce) → defines k n x ≡ true → escapes_behind e x ≡ e
+sets_nothing k n (routine m c os) e h = refl
+sets_nothing k n (grouping m a ts) e h = refl
+sets_nothing k n (declaration d ns) e h = refl
+sets_nothing kinds.Routine n (escapes a b) e h = absurd cc
+sets_nothing kinds.Grouping n (escapes a b) e h = absurd cc
+sets_nothing kinds.Routine n (macro m b q) e h = absurd cc
+sets_nothing kinds.Grouping n (macro m b q) e h = absurd cc
 
 step_same : (e : InForce) (x : Plain) (r q : Ps) → (Say (settled (escapes_behind e x)) r → Say (settled (escapes_behind e x)) q) → Say (settled e) (placed_plain x r) → Say (settled e) (placed_plain x q)
 step_same e x r q f h =
     part_with (placed_plain x) (plain_before x) (settled e) q (part_front (placed_plain x) (plain_before x) (settled e) r h) (subst (λ (s : Directives). Say s q) (sym (plain_sets e x)) (f (behind_plain e x r h)))
 
-step_new : (e : InForce) (n : List ℕ) (b : RowView) (x : Plain) (r q : Ps) → is_routine n x ≡ true → Say (settled e) (places_in body b) → (Say (settled e) r → Say (settled e) q) → Say (settled e) (placed_plain x r) → Say (settled e) (placed_plain (routine n b.0 b.1) q)
-step_new e n b x r q i hb f h =
-    let is = routine_is n x i in
-    let y = routine n b.0 b.1 in
-    let old : Say (settled e) (placed_plain (routine n is.0 is.1) []) = subst (λ (z : Plain). Say (settled e) (placed_plain z [])) is.2 (part_front (placed_plain x) (plain_before x) (settled e) r h) in
-    let after_it = subst (λ (g : InForce). Say (settled g) r) (sets_nothing n x e i) (behind_plain e x r h) in
-    part_with (placed_plain y) (plain_before y) (settled e) q (old.0, (old.1.0, (old.1.1.0, hb))) (subst (λ (s : Directives). Say s q) (sym (plain_sets e y)) (f after_it))
+step_new : (e : InForce) (x y : Plain) (r q : Ps) → escapes_behind e x ≡ e → escapes_behind e y ≡ e → Say (settled e) (placed_plain y []) → (Say (settled e) r → Say (settled e) q) → Say (settled e) (placed_plain x r) → Say (settled e) (placed_plain y q)
+step_new e x y r q i j hy f h =
+    let after_it = subst (λ (g : InForce). Say (settled g) r) i (behind_plain e x r h) in
+    part_with (placed_plain y) (plain_before y) (settled e) q hy (subst (λ (s : Directives). Say s q) (sym (plain_sets e y ∙ ap settled j)) (f after_it))
 
 plains_same : (xs : List Plain) (e : InForce) (r q : Ps) → (Say (settled (all_behind e xs)) r → Say (settled (all_behind e xs)) q) → Say (settled e) (placed_plains xs r) → Say (settled e) (placed_plains xs q)
 plains_same [] e r q f h = f h
 plains_same (x ∷ xs) e r q f h = step_same e x (placed_plains xs r) (placed_plains xs q) (λ z. plains_same xs (escapes_behind e x) r q f z) h
 
-abbrev InPlains : List ℕ → RowView → List Plain → InForce → Ps → Ps → Type 0
-InPlains n b xs e r q =
-    list_any (is_routine n) xs ≡ true → Say (settled (reached_in n xs e).0) (places_in body b) → Say (settled e) (placed_plains xs r) → Say (settled e) (placed_plains (plains_with n b xs) q)
+module _ (k : DefinitionKind) (n : List ℕ) (y : Plain) (new : defines k n y ≡ true) where
+  abbrev p : Plain → Bool
+  p = defines k n
 
-plains_new : (n : List ℕ) (b : RowView) (xs : List Plain) (e : InForce) (r q : Ps) → list_any (is_routine n) xs ≡ true → Say (settled (reached_in n xs e).0) (places_in body b) → (Say (settled (all_behind e xs)) r → Say (settled (all_behind e xs)) q)
-    → Say (settled e) (placed_plains xs r) → Say (settled e) (placed_plains (plains_with n b xs) q)
-plains_new n b [] e r q any hb f h = absurd cc
-plains_new n b (x ∷ xs) e r q any hb f h = go (is_routine n x) refl any hb (λ a k z. plains_new n b xs (escapes_behind e x) r q a k f z) where
-  go : (here : Bool) → is_routine n x ≡ here → here || list_any (is_routine n) xs ≡ true → Say (settled (if here then (e, true) else reached_in n xs (escapes_behind e x)).0) (places_in body b) → InPlains n b xs (escapes_behind e x) r q
-      → Say (settled e) (placed_plains (if here then routine n b.0 b.1 ∷ xs else x ∷ plains_with n b xs) q)
-  go true i a k more =
-      let g = subst (λ (z : InForce). Say (settled (all_behind z xs)) r → Say (settled (all_behind z xs)) q) (sets_nothing n x e i) f in
-      step_new e n b x (placed_plains xs r) (placed_plains xs q) i k (λ z. plains_same xs e r q g z) h
-  go false i a k more = step_same e x (placed_plains xs r) (placed_plains (plains_with n b xs) q) (λ z. more a k z) h
+  abbrev InPlains : List Plain → InForce → Ps → Ps → Type 0
+  InPlains xs e r q = list_any p xs ≡ true → Say (settled (reached_in p xs e).0) (placed_plain y []) → Say (settled e) (placed_plains xs r) → Say (settled e) (placed_plains (plains_with p y xs) q)
 
--- a routine is reached where it stands; where it does not, all items were gone through
-in_held : (n : List ℕ) (xs : List Plain) (e : InForce) → (reached_in n xs e).1 ≡ list_any (is_routine n) xs
-in_held n [] e = refl
-in_held n (x ∷ xs) e = go (is_routine n x) (in_held n xs (escapes_behind e x)) where
-  go : (here : Bool) → (reached_in n xs (escapes_behind e x)).1 ≡ list_any (is_routine n) xs → (if here then (e, true) else reached_in n xs (escapes_behind e x)).1 ≡ (here || list_any (is_routine n) xs)
+  plains_new : (xs : List Plain) (e : InForce) (r q : Ps) → list_any p xs ≡ true → Say (settled (reached_in p xs e).0) (placed_plain y []) → (Say (settled (all_behind e xs)) r → Say (settled (all_behind e xs)) q)
+      → Say (settled e) (placed_plains xs r) → Say (settled e) (placed_plains (plains_with p y xs) q)
+  plains_new [] e r q any hy f h = absurd cc
+  plains_new (x ∷ xs) e r q any hy f h = go (p x) refl any hy (λ a l z. plains_new xs (escapes_behind e x) r q a l f z) where
+    go : (here : Bool) → p x ≡ here → here || list_any p xs ≡ true → Say (settled (if here then (e, true) else reached_in p xs (escapes_behind e x)).0) (placed_plain y []) → InPlains xs (escapes_behind e x) r q
+        → Say (settled e) (placed_plains (if here then y ∷ xs else x ∷ plains_with p y xs) q)
+    go true i a l more =
+        let g = subst (λ (z : InForce). Say (settled (all_behind z xs)) r → Say (settled (all_behind z xs)) q) (sets_nothing k n x e i) f in
+        step_new e x y (placed_plains xs r) (placed_plains xs q) (sets_nothing k n x e i) (sets_nothing k n y e new) l (λ z. plains_same xs e r q g z) h
+    go false i a l more = step_same e x (placed_plains xs r) (placed_plains (plains_with p y xs) q) (λ z. more a l z) h
+
+-- an item that passes is reached; if none does, all items were gone through
+in_held : (p : Plain → Bool) (xs : List Plain) (e : InForce) → (reached_in p xs e).1 ≡ list_any p xs
+in_held p [] e = refl
+in_held p (x ∷ xs) e = go (p x) (in_held p xs (escapes_behind e x)) where
+  go : (here : Bool) → (reached_in p xs (escapes_behind e x)).1 ≡ list_any p xs → (if here then (e, true) else reached_in p xs (escapes_behind e x)).1 ≡ (here || list_any p xs)
   go true more = refl
   go false more = more
 
-not_held : (n : List ℕ) (xs : List Plain) (e : InForce) → list_any (is_routine n) xs ≡ false → (reached_in n xs e).0 ≡ all_behind e xs
-not_held n [] e h = refl
-not_held n (x ∷ xs) e h = go (is_routine n x) h (λ k. not_held n xs (escapes_behind e x) k) where
-  go : (here : Bool) → (here || list_any (is_routine n) xs) ≡ false → (list_any (is_routine n) xs ≡ false → (reached_in n xs (escapes_behind e x)).0 ≡ all_behind (escapes_behind e x) xs) → (if here then (e, true) else reached_in n xs (escapes_behind e x)).0 ≡ all_behind (escapes_behind e x) xs
-  go true k more = absurd cc
-  go false k more = more k
+not_held : (p : Plain → Bool) (xs : List Plain) (e : InForce) → list_any p xs ≡ false → (reached_in p xs e).0 ≡ all_behind e xs
+not_held p [] e h = refl
+not_held p (x ∷ xs) e h = go (p x) h (λ l. not_held p xs (escapes_behind e x) l) where
+  go : (here : Bool) → (here || list_any p xs) ≡ false → (list_any p xs ≡ false → (reached_in p xs (escapes_behind e x)).0 ≡ all_behind (escapes_behind e x) xs) → (if here then (e, true) else reached_in p xs (escapes_behind e x)).0 ≡ all_behind (escapes_behind e x) xs
+  go true l more = absurd cc
+  go false l more = more l
 
-abbrev InItems : List ℕ → RowView → List Item → InForce → Type 0
-InItems n b is e = Say (settled (reached n is e).0) (places_in body b) → Say (settled e) (placed_items is []) → Say (settled e) (placed_items (items_with n b is) [])
+module _ (k : DefinitionKind) (n : List ℕ) (y : Plain) (new : defines k n y ≡ true) where
+  abbrev q : Plain → Bool
+  q = defines k n
 
-items_said : (n : List ℕ) (b : RowView) (is : List Item) (e : InForce) → Say (settled (reached n is e).0) (places_in body b) → Say (settled e) (placed_items is []) → Say (settled e) (placed_items (items_with n b is) [])
-items_said n b [] e hb h = h
-items_said n b (plain x ∷ is) e hb h = go (is_routine n x) refl hb (λ k z. items_said n b is (escapes_behind e x) k z) where
-  go : (here : Bool) → is_routine n x ≡ here → Say (settled (if here then (e, true) else reached n is (escapes_behind e x)).0) (places_in body b) → InItems n b is (escapes_behind e x) → Say (settled e) (placed_items (if here then plain (routine n b.0 b.1) ∷ is else plain x ∷ items_with n b is) [])
-  go true i k more = step_new e n b x (placed_items is []) (placed_items is []) i k (λ z. z) h
-  go false i k more = step_same e x (placed_items is []) (placed_items (items_with n b is) []) (λ z. more k z) h
-items_said n b (backward xs ∷ is) e hb h = go (list_any (is_routine n) xs) refl (λ k z. items_said n b is (all_behind e xs) k z) where
-  found : (here : Bool) → list_any (is_routine n) xs ≡ here → Say (settled (if here then reached_in n xs e else reached n is (reached_in n xs e).0).0) (places_in body b)
-  found here i = subst (λ (u : Bool). Say (settled (if u then reached_in n xs e else reached n is (reached_in n xs e).0).0) (places_in body b)) (in_held n xs e ∙ i) hb
+  abbrev InItems : List Item → InForce → Type 0
+  InItems is e = Say (settled (reached q is e).0) (placed_plain y []) → Say (settled e) (placed_items is []) → Say (settled e) (placed_items (items_with q y is) [])
 
-  go : (here : Bool) → list_any (is_routine n) xs ≡ here → InItems n b is (all_behind e xs) → Say (settled e) (placed_items (if here then backward (plains_with n b xs) ∷ is else backward xs ∷ items_with n b is) [])
-  go true i more =
-      let rest = (t.close_, 0) ∷ placed_items is [] in
-      (h.0, (h.1.0, plains_new n b xs e rest rest i (found true i) (λ z. z) h.1.1))
-  go false i more =
-      let k = subst (λ (f : InForce). Say (settled (reached n is f).0) (places_in body b)) (not_held n xs e i) (found false i) in
-      (h.0, (h.1.0, plains_same xs e ((t.close_, 0) ∷ placed_items is []) ((t.close_, 0) ∷ placed_items (items_with n b is) []) (λ z. (z.0, more k z.1)) h.1.1))
+  items_said : (is : List Item) (e : InForce) → Say (settled (reached q is e).0) (placed_plain y []) → Say (settled e) (placed_items is []) → Say (settled e) (placed_items (items_with q y is) [])
+  items_said [] e hy h = h
+  items_said (plain x ∷ is) e hy h = go (q x) refl hy (λ l z. items_said is (escapes_behind e x) l z) where
+    go : (here : Bool) → q x ≡ here → Say (settled (if here then (e, true) else reached q is (escapes_behind e x)).0) (placed_plain y []) → InItems is (escapes_behind e x) → Say (settled e) (placed_items (if here then plain y ∷ is else plain x ∷ items_with q y is) [])
+    go true i l more = step_new e x y (placed_items is []) (placed_items is []) (sets_nothing k n x e i) (sets_nothing k n y e new) l (λ z. z) h
+    go false i l more = step_same e x (placed_items is []) (placed_items (items_with q y is) []) (λ z. more l z) h
+  items_said (backward xs ∷ is) e hy h = go (list_any q xs) refl (λ l z. items_said is (all_behind e xs) l z) where
+    found : (here : Bool) → list_any q xs ≡ here → Say (settled (if here then reached_in q xs e else reached q is (reached_in q xs e).0).0) (placed_plain y [])
+    found here i = subst (λ (u : Bool). Say (settled (if u then reached_in q xs e else reached q is (reached_in q xs e).0).0) (placed_plain y [])) (in_held q xs e ∙ i) hy
 
--- ---- a routine's body
+    go : (here : Bool) → list_any q xs ≡ here → InItems is (all_behind e xs) → Say (settled e) (placed_items (if here then backward (plains_with q y xs) ∷ is else backward xs ∷ items_with q y is) [])
+    go true i more =
+        let rest = (t.close_, 0) ∷ placed_items is [] in
+        (h.0, (h.1.0, plains_new k n y new xs e rest rest i (found true i) (λ z. z) h.1.1))
+    go false i more =
+        let l = subst (λ (f : InForce). Say (settled (reached q is f).0) (placed_plain y [])) (not_held q xs e i) (found false i) in
+        (h.0, (h.1.0, plains_same xs e ((t.close_, 0) ∷ placed_items is []) ((t.close_, 0) ∷ placed_items (items_with q y is) []) (λ z. (z.0, more l z.1)) h.1.1))
 
-or_either : (a p o : Option RowView) → option_or (option_or a p) o ≡ option_or a (option_or p o)
-or_either None p o = refl
-or_either (Some x) p o = refl
+-- ---- a definition that there is
 
-first_said : (n : List ℕ) (x : Plain) (e : InForce) (b : RowView) (o : Option RowView) (later : Reached) (F : Reached → Reached) → (Say (settled e) (places_in body b) → Say (settled (F (e, true)).0) (places_in body b)) → option_or (body_if n x) o ≡ Some b
-    → Say (settled e) (placed_plain x []) → (o ≡ Some b → Say (settled (F later).0) (places_in body b)) → Say (settled (F (if is_routine n x then (e, true) else later)).0) (places_in body b)
-first_said n (declaration k ns) e b o later F f is h more = more is
-first_said n (escapes c d) e b o later F f is h more = more is
-first_said n (macro m c q) e b o later F f is h more = more is
-first_said n (grouping m a ts) e b o later F f is h more = more is
-first_said n (routine m c os) e b o later F f is h more = go (bytes_eq n m) is where
-  go : (here : Bool) → option_or (if here then Some (c, os) else None) o ≡ Some b → Say (settled (F (if here then (e, true) else later)).0) (places_in body b)
-  go true g = f (subst (λ (z : RowView). Say (settled e) (places_in body z)) (some_body (c, os) b (Some b) (sym g) refl) h.1.1.1)
+or_either : (a b o : Option Plain) → option_or (option_or a b) o ≡ option_or a (option_or b o)
+or_either None b o = refl
+or_either (Some x) b o = refl
+
+first_said : (p : Plain → Bool) (x : Plain) (e : InForce) (y : Plain) (o : Option Plain) (later : Reached) (F : Reached → Reached) → (Say (settled e) (placed_plain y []) → Say (settled (F (e, true)).0) (placed_plain y [])) → option_or (plain_if p x) o ≡ Some y
+    → Say (settled e) (placed_plain x []) → (o ≡ Some y → Say (settled (F later).0) (placed_plain y [])) → Say (settled (F (if p x then (e, true) else later)).0) (placed_plain y [])
+first_said p x e y o later F f is h more = go (p x) is where
+  go : (here : Bool) → option_or (if here then Some x else None) o ≡ Some y → Say (settled (F (if here then (e, true) else later)).0) (placed_plain y [])
+  go true g = f (subst (λ (z : Plain). Say (settled e) (placed_plain z [])) (some_plain x y g) h)
   go false g = more g
 
-in_said : (n : List ℕ) (xs : List Plain) (e : InForce) (b : RowView) (o : Option RowView) (r : Ps) (later : InForce → Reached) → option_or (routine_in n xs) o ≡ Some b → Say (settled e) (placed_plains xs r)
-    → (o ≡ Some b → Say (settled (all_behind e xs)) r → Say (settled (later (all_behind e xs)).0) (places_in body b)) → Say (settled (if (reached_in n xs e).1 then reached_in n xs e else later (reached_in n xs e).0).0) (places_in body b)
-in_said n [] e b o r later is h more = more is h
-in_said n (x ∷ xs) e b o r later is h more =
-    first_said n x e b (option_or (routine_in n xs) o) (reached_in n xs (escapes_behind e x)) (λ (z : Reached). if z.1 then z else later z.0) (λ k. k) (sym (or_either (body_if n x) (routine_in n xs) o) ∙ is) (part_front (placed_plain x) (plain_before x) (settled e) (placed_plains xs r) h)
-    (λ i. in_said n xs (escapes_behind e x) b o r later i (behind_plain e x (placed_plains xs r) h) more)
+in_said : (p : Plain → Bool) (xs : List Plain) (e : InForce) (y : Plain) (o : Option Plain) (r : Ps) (later : InForce → Reached) → option_or (first_in p xs) o ≡ Some y → Say (settled e) (placed_plains xs r)
+    → (o ≡ Some y → Say (settled (all_behind e xs)) r → Say (settled (later (all_behind e xs)).0) (placed_plain y [])) → Say (settled (if (reached_in p xs e).1 then reached_in p xs e else later (reached_in p xs e).0).0) (placed_plain y [])
+in_said p [] e y o r later is h more = more is h
+in_said p (x ∷ xs) e y o r later is h more =
+    first_said p x e y (option_or (first_in p xs) o) (reached_in p xs (escapes_behind e x)) (λ (z : Reached). if z.1 then z else later z.0) (λ l. l) (sym (or_either (plain_if p x) (first_in p xs) o) ∙ is) (part_front (placed_plain x) (plain_before x) (settled e) (placed_plains xs r) h)
+    (λ i. in_said p xs (escapes_behind e x) y o r later i (behind_plain e x (placed_plains xs r) h) more)
 
-routine_said : (n : List ℕ) (is : List Item) (e : InForce) (b : RowView) → routine_of n is ≡ Some b → Say (settled e) (placed_items is []) → Say (settled (reached n is e).0) (places_in body b)
-routine_said n [] e b i h = absurd cc
-routine_said n (plain x ∷ is) e b i h =
-    first_said n x e b (routine_of n is) (reached n is (escapes_behind e x)) (λ (z : Reached). z) (λ k. k) i (part_front (placed_plain x) (plain_before x) (settled e) (placed_items is []) h)
-    (λ j. routine_said n is (escapes_behind e x) b j (behind_plain e x (placed_items is []) h))
-routine_said n (backward xs ∷ is) e b i h = in_said n xs e b (routine_of n is) ((t.close_, 0) ∷ placed_items is []) (λ (f : InForce). reached n is f) i h.1.1 (λ j z. routine_said n is (all_behind e xs) b j z.1)
+found_said : (p : Plain → Bool) (is : List Item) (e : InForce) (y : Plain) → first_of p is ≡ Some y → Say (settled e) (placed_items is []) → Say (settled (reached p is e).0) (placed_plain y [])
+found_said p [] e y i h = absurd cc
+found_said p (plain x ∷ is) e y i h =
+    first_said p x e y (first_of p is) (reached p is (escapes_behind e x)) (λ (z : Reached). z) (λ l. l) i (part_front (placed_plain x) (plain_before x) (settled e) (placed_items is []) h)
+    (λ j. found_said p is (escapes_behind e x) y j (behind_plain e x (placed_items is []) h))
+found_said p (backward xs ∷ is) e y i h = in_said p xs e y (first_of p is) ((t.close_, 0) ∷ placed_items is []) (λ (f : InForce). reached p is f) i h.1.1 (λ j z. found_said p is (all_behind e xs) y j z.1)
 
 -- ---- what is read
 
@@ -273,11 +273,27 @@ said_written items h = subst (λ (ts : List Terminal). AreSaid start (map lexeme
 pub script_said : (bytes : List ℕ) (ts : List Placed) (items : List Item) → HasTokens start bytes ts → IsReadAs script (terminals ts) items → AreSpelled items
 script_said bytes ts items has read = said_written items (read_said start bytes ts script items has read)
 
-pub body_replaced : (n : List ℕ) (b : RowView) (items : List Item) → AreSpelled items → IsRowSpelled (state_before n items) b → AreSpelled (items_with n b items)
-body_replaced n b items h hb = said_written (items_with n b items) (items_said n b items nothing_set hb (written_said items h))
+pub definition_replaced : (k : DefinitionKind) (n : List ℕ) (y : Plain) (items : List Item) → defines k n y ≡ true → AreSpelled items → IsSpelled (state_before (defines k n) items) y → AreSpelled (items_with (defines k n) y items)
+definition_replaced k n y items new h hy = said_written (items_with (defines k n) y items) (items_said k n y new items nothing_set hy (written_said items h))
 
-pub among_replaced : (n : List ℕ) (items : List Item) (b : RowView) (k : ℕ) (a : Starter × Groups) (d : ℕ) → AreSpelled items → routine_of n items ≡ Some b → AreSaid (state_before n items) (map lexeme_as (tokens_of (texts.among d) a)) → IsRowSpelled (state_before n items) (put_in_body b k a)
-among_replaced n items b k a d h is ha = put_said (reached n items nothing_set).0 b k a d (routine_said n items nothing_set b is (written_said items h)) ha
+-- a routine with another body, or with another among in it, and a grouping with other terms
+pub body_said : (n : List ℕ) (items : List Item) (b new : RowView) → AreSpelled items → first_of (defines kinds.Routine n) items ≡ Some (routine n b.0 b.1) → AreSaid (state_before (defines kinds.Routine n) items) (map lexeme_as (tokens_of body new))
+    → IsSpelled (state_before (defines kinds.Routine n) items) (routine n new.0 new.1)
+body_said n items b new h is said =
+    let old = found_said (defines kinds.Routine n) items nothing_set (routine n b.0 b.1) is (written_said items h) in
+    (old.0, (old.1.0, (old.1.1.0, said)))
+
+pub among_said : (n : List ℕ) (items : List Item) (b : RowView) (k : ℕ) (a : Starter × Groups) (d : ℕ) → AreSpelled items → first_of (defines kinds.Routine n) items ≡ Some (routine n b.0 b.1)
+    → AreSaid (state_before (defines kinds.Routine n) items) (map lexeme_as (tokens_of (texts.among d) a)) → IsSpelled (state_before (defines kinds.Routine n) items) (routine n (put_in_body b k a).0 (put_in_body b k a).1)
+among_said n items b k a d h is ha =
+    let old = found_said (defines kinds.Routine n) items nothing_set (routine n b.0 b.1) is (written_said items h) in
+    body_said n items b (put_in_body b k a) h is (put_said (escapes_before (defines kinds.Routine n) items) b k a d old.1.1.1 ha)
+
+pub terms_said : (n : List ℕ) (items : List Item) (a : Argument) (ts : List Term) (x : Argument × List Term) → AreSpelled items → first_of (defines kinds.Grouping n) items ≡ Some (grouping n a ts)
+    → AreSaid (state_before (defines kinds.Grouping n) items) (map lexeme_as (tokens_of texts.terms x)) → IsSpelled (state_before (defines kinds.Grouping n) items) (grouping n x.0 x.1)
+terms_said n items a ts x h is said =
+    let old = found_said (defines kinds.Grouping n) items nothing_set (grouping n a ts) is (written_said items h) in
+    (old.0, (old.1.0, said))
 
 -- a text may end behind a script
 pub ends : (items : List Item) → MayEnd (after_all start (lexemes_of items))

@@ -1,4 +1,4 @@
--- A text makes one script of a script, or has one fault.
+-- An edit has at most one resulting script and at most one fault.
 use Rattle.std.specs.Prelude.{◌≡◌, ℕ, List}
 use Rattle.sbl_script.specs.declared.edit_fault.EditFault.{EditFault}
 use Rattle.sbl_script.specs.Parsed.{Source}
@@ -10,6 +10,6 @@ EditIsOne = (s : Source) (e : ScriptEdit) (text : List ℕ) (t u : Source) → I
 abbrev pub EditFaultIsOne : Type 0
 EditFaultIsOne = (s : Source) (e : ScriptEdit) (text : List ℕ) (f g : EditFault) → IsEditFault s e text f → IsEditFault s e text g → f ≡ g
 
--- and never both
+-- an edit never has both a resulting script and a fault
 abbrev pub EditOrFault : Type 0
 EditOrFault = (s : Source) (e : ScriptEdit) (text : List ℕ) (t : Source) (f : EditFault) → IsEdited s e text t → IsEditFault s e text f → ⊥

@@ -1,15 +1,15 @@
--- A fault of an edit that tells an item tells the one that the edit changes.
-use Rattle.std.specs.Prelude.{◌≡◌, ℕ, ◌+◌, List, [], ◌∷◌, Option, Some, None, if◌then◌else◌}
+-- If a fault of an edit names an item, that item is the one that the edit changes.
+use Rattle.std.specs.Prelude.{◌≡◌, ℕ, ◌+◌, Bool, List, [], ◌∷◌, Option, Some, None, if◌then◌else◌}
 use Rattle.sbl_text.specs.declared.fault.ScriptFault.{ScriptFault}
 use Rattle.sbl_text.specs.declared.fault.ScriptFault.TheVariants as fault
 use Rattle.sbl_tree.specs.Order.{ItemInMode, in_order}
-use Rattle.sbl_tree.specs.Tree.{Item}
+use Rattle.sbl_tree.specs.Tree.{Plain, Item}
 use Rattle.sbl_script.specs.declared.edit_fault.EditFault.TheVariants as edits
 use Rattle.sbl_script.specs.Parsed.{Source}
 use Rattle.sbl_checks.specs.Checks.{WellDeclared}
-use Rattle.sbl_script.specs.Edits.{ScriptEdit, is_routine, routine_name, IsEditFault}
+use Rattle.sbl_script.specs.Edits.{ScriptEdit, changes, IsEditFault}
 
--- the number of the item that a fault tells
+-- the number of the item that a fault names, if it names one
 abbrev pub item_of : ScriptFault → Option ℕ
 item_of (fault.DeclaredTwice i) = Some i
 item_of (fault.Undeclared i) = Some i
@@ -24,20 +24,21 @@ item_of (fault.EmptyAmong i) = Some i
 item_of (fault.NestedBackwards i) = Some i
 item_of _ = None
 
--- the number of the first routine of this name, where the first of the items has number i
-abbrev pub number_from : List ℕ → List ItemInMode → ℕ → Option ℕ
-number_from n [] i = None
-number_from n (x ∷ xs) i = if is_routine n x.plain then Some i else number_from n xs (i + 1)
+-- the number of the first item that passes, if the first of these items has number i
+abbrev pub number_from : (Plain → Bool) → List ItemInMode → ℕ → Option ℕ
+number_from p [] i = None
+number_from p (x ∷ xs) i = if p x.plain then Some i else number_from p xs (i + 1)
 
--- the number of the item that holds the routine of this name: items are counted from 1 in text order, a backwardmode is not, but its items are
-abbrev pub number_of : List ℕ → List Item → Option ℕ
-number_of n items = number_from n (in_order items) 1
+-- The number of the first item that passes. Items are counted from 1 in text order. The items in a backwardmode count;
+-- the backwardmode itself does not.
+abbrev pub number_of : (Plain → Bool) → List Item → Option ℕ
+number_of p items = number_from p (in_order items) 1
 
--- in a script that is well declared a fault of an edit that tells an item tells the one that holds the routine that is changed
+-- in a well-declared script, if a fault of an edit names an item, that item is the one that the edit changes
 abbrev pub OnlyTheItem : Type 0
 OnlyTheItem = (s : Source) (e : ScriptEdit) (text : List ℕ) (f : ScriptFault) (i : ℕ) → WellDeclared s.items s.external → IsEditFault s e text (edits.Script f) → item_of f ≡ Some i →
-    number_of (routine_name e) s.items ≡ Some i
+    number_of (changes e) s.items ≡ Some i
 
--- and the external that is run stays one
+-- an edit of a well-declared script never has the fault that there is no such external
 abbrev pub ExternalStays : Type 0
 ExternalStays = (s : Source) (e : ScriptEdit) (text : List ℕ) → WellDeclared s.items s.external → IsEditFault s e text (edits.Script fault.NoExternal) → ⊥

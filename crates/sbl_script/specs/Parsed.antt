@@ -1,4 +1,4 @@
--- A script as it is kept: its items, and the name of the external that is run.
+-- A script: its items, and the name of the external that is run.
 use Rattle.std.specs.Prelude.{ℕ, List, Option}
 use Rattle.sbl_tree.specs.declared.tree.Item as declared
 use Rattle.sbl_tree.specs.Tree.{Item}
@@ -14,7 +14,7 @@ pub record Source : Type 0 where
   pub items : List Item
   pub external : List ℕ
 
--- the script without where it lies in memory
+-- the script that the code's value represents
 abbrev pub source_of : Parsed → Source
 source_of p = record { items = view_items p.items; external = p.external }
 

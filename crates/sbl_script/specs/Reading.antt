@@ -1,4 +1,4 @@
--- What reading a script is, and why bytes are no script.
+-- What it means to read a script, and why bytes are not a script.
 use Rattle.std.specs.Prelude.{◌≡◌, ◌⊎◌, ℕ, ◌<◌, ◌≤◌, List, [], ◌∷◌, ◌++◌, length, map, Option, Some, None, if◌then◌else◌}
 use Rattle.std.specs.Str.{IsUtf8, chars}
 use Rattle.sbl_text.specs.declared.fault.ScriptFault.{ScriptFault}
@@ -17,7 +17,7 @@ use Rattle.sbl_checks.specs.Checks.{WellDeclared, fault_of}
 abbrev pub max_script : ℕ
 max_script = 1048576
 
--- the bytes are a text, not too long, with these tokens where it begins in this state
+-- the bytes are UTF-8 text, not too long, and have these tokens if the text begins in state s
 pub record HasTokens (s : Directives) (bytes : List ℕ) (ts : List Placed) : Type 0 where
   pub short : length bytes ≤ max_script
   pub text : IsUtf8 bytes
@@ -26,15 +26,15 @@ pub record HasTokens (s : Directives) (bytes : List ℕ) (ts : List Placed) : Ty
 abbrev pub terminals : List Placed → List Terminal
 terminals ts = map (λ (t : Placed). terminal_of t.lexeme) ts
 
--- the place of the first token that is not offered here
+-- the position of the first token that this workbench does not support
 abbrev pub first_left_out : List Placed → Option ℕ
 first_left_out [] = None
 first_left_out (t ∷ ts) = if is_left_out t.lexeme then Some t.start else first_left_out ts
 
 -- ---- scripts
 
--- The bytes are read as this script, with this external to be run: they are a text, the tree's tokens are those of the text, none stands
--- too deep, and the script is well declared.
+-- The bytes are read as this script with this external. They are UTF-8 text. The tokens of the text are those of the
+-- tree. No token is too deep, and the script is well declared.
 pub record IsScriptOf (bytes external : List ℕ) (s : Source) : Type 0 where
   pub placed : List Placed
   pub tokens : HasTokens start bytes placed
@@ -43,21 +43,21 @@ pub record IsScriptOf (bytes external : List ℕ) (s : Source) : Type 0 where
   pub external_is : s.external ≡ external
   pub well_declared : WellDeclared s.items s.external
 
--- ---- faults, in the order in which they are looked for
+-- ---- faults, in the order of the checks
 
--- the bytes are too long, are no text, or have no tokens
+-- the bytes are too long, are not UTF-8, or have a part that is no token
 abbrev pub IsTextFault : Directives → List ℕ → ScriptFault → Type 0
 IsTextFault s bytes f =
     ((max_script < length bytes) × (f ≡ fault.ScriptTooLong))
     ⊎ ((length bytes ≤ max_script) × ¬ (IsUtf8 bytes) × (f ≡ fault.NotUtf8))
     ⊎ ((length bytes ≤ max_script) × IsUtf8 bytes × IsFirstFaultFrom s (chars bytes) f)
 
--- where the first of some tokens stands; the text's length where there is none
+-- the position of the first token, or the length of the text if there is none
 abbrev pub place_of : ℕ → List Placed → ℕ
 place_of end [] = end
 place_of end (t ∷ ts) = t.start
 
--- the tokens, in a text of that length, are those of no tree, or stand too deep
+-- the tokens, in a text of this length, form no tree, or one is too deep
 pub record IsGrammarFault (w : Text) (ts : List Placed) (end : ℕ) (f : ScriptFault) : Type 0 where
   pub before : List Placed
   pub rest : List Placed
@@ -67,17 +67,17 @@ pub record IsGrammarFault (w : Text) (ts : List Placed) (end : ℕ) (f : ScriptF
       ⊎ (IsTooDeepAt w (terminals ts) (terminals rest) × (f ≡ fault.TooDeep (place_of end rest)))
       ⊎ (IsOutOfProfileAt w (terminals ts) (terminals rest) × (f ≡ fault.OutOfProfile (place_of end rest)))
 
--- the tokens are those of this tree, and a check of it fails
+-- the tokens form a tree, and a check of it fails with fault f
 pub record IsCheckFault (ts : List Placed) (external : List ℕ) (f : ScriptFault) : Type 0 where
   pub items : List Item
   pub tree : IsReadAs script (terminals ts) items
   pub is : fault_of items external ≡ Some f
 
--- a token is left out, or the tokens are those of no tree
+-- a token is not supported, or the tokens form no tree
 abbrev pub IsUnread : Text → List Placed → ℕ → ScriptFault → Type 0
 IsUnread w ts end f = ((place : ℕ) × (first_left_out ts ≡ Some place) × (f ≡ fault.OutOfProfile place)) ⊎ ((first_left_out ts ≡ None) × IsGrammarFault w ts end f)
 
--- the bytes have this fault: as a text, else as tokens, else in a check
+-- f is the fault of these bytes: as bytes, else as tokens, else in a check
 abbrev pub IsFaultOf : List ℕ → List ℕ → ScriptFault → Type 0
 IsFaultOf bytes external f =
     IsTextFault start bytes f

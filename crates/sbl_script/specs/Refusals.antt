@@ -1,4 +1,4 @@
--- The fault of an edit whose text has a fault: want of memory is that of the edit.
+-- The error of an edit whose text has a fault; out of memory stays out of memory.
 use Rattle.std.specs.Prelude.{◌≡◌, ◌⊎◌}
 use Rattle.sbl_text.specs.declared.fault.ScriptFault.{ScriptFault}
 use Rattle.sbl_text.specs.declared.fault.ScriptFault.TheVariants as fault

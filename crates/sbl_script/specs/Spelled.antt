@@ -1,16 +1,15 @@
--- What a text can say: the tokens of a script, and those of a routine's body.
-use Rattle.std.specs.Prelude.{List, map}
+-- Whether the tokens of a script, or of an item, can be written as text.
+use Rattle.std.specs.Prelude.{List, [], map}
 use Rattle.sbl_text.specs.Directives.{Directives, start}
 use Rattle.sbl_text.specs.Spaced.{AreSaid}
 use Rattle.sbl_tree.specs.Terminal.{lexeme_as}
-use Rattle.sbl_tree.specs.Tree.{Item, lexemes_of}
-use Rattle.sbl_tree.specs.View.{RowView}
-use Rattle.sbl_tree.specs.Texts.{body, tokens_of}
+use Rattle.sbl_tree.specs.Tree.{Item, Plain, lexemes_of}
+use Rattle.sbl_tree.specs.Places.{placed_plain, tokens}
 
--- some text can say each token of the script under what those before it have set
+-- each token of the script can be written in some text, with what the tokens before it set in force
 abbrev pub AreSpelled : List Item → Type 0
 AreSpelled items = AreSaid start (lexemes_of items)
 
--- and so it is for the tokens of a row behind what has set this
-abbrev pub IsRowSpelled : Directives → RowView → Type 0
-IsRowSpelled s row = AreSaid s (map lexeme_as (tokens_of body row))
+-- the same for the tokens of an item, if the text before it leaves state s
+abbrev pub IsSpelled : Directives → Plain → Type 0
+IsSpelled s x = AreSaid s (map lexeme_as (tokens (placed_plain x [])))

@@ -7,19 +7,22 @@ use thiserror::Error;
 /// Why an edit is refused, with its number. Numbers and names are our own choice.
 #[derive(Debug, Clone, Copy, PartialEq, Eq, Error)]
 pub enum EditFault {
-    /// The name is not that of a routine or external that the script defines.
+    /// The script defines no routine or external with this name.
     #[error("45 NoRoutine")]
     NoRoutine,
-    /// The number is 0, or above the number of amongs in the routine.
+    /// The script defines no grouping with this name.
+    #[error("53 NoGrouping")]
+    NoGrouping,
+    /// The number is 0, or greater than the number of amongs in the routine.
     #[error("46 NoAmong")]
     NoAmong,
-    /// The new among, those inside it counted, holds another number of amongs than the one that it replaces.
+    /// The new among and the one it replaces hold different numbers of amongs, counting those inside them.
     #[error("47 AmongCount")]
     AmongCount,
-    /// The text, or the script with it, has a fault.
+    /// The text has a fault, or the script with the text in it has one.
     #[error("48 {0}")]
     Script(ScriptFault),
-    /// Memory was refused.
+    /// An allocation failed.
     #[error("49 OutOfMemory")]
     OutOfMemory,
 }

@@ -1,73 +1,111 @@
-//! A routine of a script, what is in force where it stands, and copies of items in which it has another body.
+//! Finds the definition of a routine or a grouping, finds what is in force before it, and copies items with another
+//! definition in its place.
 
 ghost use Rattle.std.specs.Prelude.{◌≡◌, MatchOption, None, Some, IfOk, IfErr, map};
 ghost use Rattle.std.specs.List.{list_any};
 ghost use Rattle.sbl_tree.specs.Tree as trees;
-ghost use Rattle.sbl_tree.specs.View.{view_item, view_items, view_plain, view_row};
+ghost use Rattle.sbl_tree.specs.View.{view_argument, view_item, view_items, view_plain, view_row, view_term};
+ghost use Rattle.sbl_script.specs.declared.edits.DefinitionKind.TheVariants as kinds;
 ghost use Rattle.sbl_script.specs.Edits as spec;
 
 use sbl_text::{Escapes, ScriptFault, read_codes};
-use sbl_tree::{Base, Item, Plain, Row, copy_plain, copy_row};
+use sbl_tree::{Argument, Base, Item, Plain, Row, Term, copy_plain};
 use std::alloc::{AllocError, Global};
 
-fn is_routine(plain: &Plain, name: &str) -> bool
-    ensures { result ≡ spec.is_routine name.now (view_plain plain.now) }
+/// The kind of a definition.
+#[derive(Clone, Copy)]
+pub enum DefinitionKind {
+    /// A routine or an external.
+    Routine,
+    /// A grouping.
+    Grouping,
+}
+
+/// Whether an item defines this name as this kind.
+fn defines(plain: &Plain, kind: DefinitionKind, name: &str) -> bool
+    ensures { result ≡ spec.defines kind name.now (view_plain plain.now) }
 {
-    match plain {
-        Plain::Routine {
-            name: defined,
-            body: _,
-        } => name == defined.as_str(),
-        _ => false,
+    match kind {
+        DefinitionKind::Routine => match plain {
+            Plain::Routine {
+                name: defined,
+                body: _,
+            } => name == defined.as_str(),
+            _ => false,
+        },
+        DefinitionKind::Grouping => match plain {
+            Plain::Grouping {
+                name: defined,
+                first: _,
+                others: _,
+            } => name == defined.as_str(),
+            _ => false,
+        },
     }
 }
 
-fn body_if<'a>(plain: &'a Plain, name: &str) -> Option<&'a Row>
-    ensures { MatchOption result (spec.body_if name.now (view_plain plain.now) ≡ None) (λ body. spec.body_if name.now (view_plain plain.now) ≡ Some (view_row body.now)) }
+fn plain_if<'a>(plain: &'a Plain, kind: DefinitionKind, name: &str) -> Option<&'a Plain>
+    ensures { MatchOption result (spec.plain_if (spec.defines kind name.now) (view_plain plain.now) ≡ None) (λ x. spec.plain_if (spec.defines kind name.now) (view_plain plain.now) ≡ Some (view_plain x.now)) }
 {
-    match plain {
-        Plain::Routine {
-            name: defined,
-            body,
-        } => {
-            if name == defined.as_str() {
-                Some(body)
-            } else {
-                None
-            }
+    if defines(plain, kind, name) {
+        Some(plain)
+    } else {
+        None
+    }
+}
+
+fn first_in<'a>(plains: &'a [Plain], kind: DefinitionKind, name: &str) -> Option<&'a Plain>
+    ensures { MatchOption result (spec.first_in (spec.defines kind name.now) (map view_plain plains.now) ≡ None) (λ x. spec.first_in (spec.defines kind name.now) (map view_plain plains.now) ≡ Some (view_plain x.now)) }
+{
+    for plain in plains {
+        if let Some(found) = plain_if(plain, kind, name) {
+            return Some(found);
         }
+    }
+    None
+}
+
+/// Returns the first definition of this kind and name, in text order; `None` if there is none.
+pub fn definition_of<'a>(items: &'a [Item], kind: DefinitionKind, name: &str) -> Option<&'a Plain>
+    ensures { MatchOption result (spec.first_of (spec.defines kind name.now) (view_items items.now) ≡ None) (λ x. spec.first_of (spec.defines kind name.now) (view_items items.now) ≡ Some (view_plain x.now)) }
+{
+    for item in items {
+        let found = match item {
+            Item::Plain(plain) => plain_if(plain, kind, name),
+            Item::BackwardMode(plains) => first_in(plains.as_slice(), kind, name),
+        };
+        if let Some(plain) = found {
+            return Some(plain);
+        }
+    }
+    None
+}
+
+/// Returns the body of the first routine or external with this name; `None` if there is none.
+pub fn routine_of<'a>(items: &'a [Item], name: &str) -> Option<&'a Row>
+    ensures { MatchOption result (spec.first_of (spec.defines kinds.Routine name.now) (view_items items.now) ≡ None) (λ body. spec.first_of (spec.defines kinds.Routine name.now) (view_items items.now) ≡ Some (trees.routine name.now (view_row body.now).0 (view_row body.now).1)) }
+{
+    match definition_of(items, DefinitionKind::Routine, name)? {
+        Plain::Routine { name: _, body } => Some(body),
         _ => None,
     }
 }
 
-fn routine_in<'a>(plains: &'a [Plain], name: &str) -> Option<&'a Row>
-    ensures { MatchOption result (spec.routine_in name.now (map view_plain plains.now) ≡ None) (λ body. spec.routine_in name.now (map view_plain plains.now) ≡ Some (view_row body.now)) }
+/// Returns the terms of the first grouping with this name; `None` if there is none.
+pub fn grouping_of<'a>(items: &'a [Item], name: &str) -> Option<(&'a Argument, &'a [Term])>
+    ensures { MatchOption result (spec.first_of (spec.defines kinds.Grouping name.now) (view_items items.now) ≡ None) (λ x. spec.first_of (spec.defines kinds.Grouping name.now) (view_items items.now) ≡ Some (trees.grouping name.now (view_argument x.0.now) (map view_term x.1.now))) }
 {
-    for plain in plains {
-        if let Some(body) = body_if(plain, name) {
-            return Some(body);
-        }
+    match definition_of(items, DefinitionKind::Grouping, name)? {
+        Plain::Grouping {
+            name: _,
+            first,
+            others,
+        } => Some((first, others.as_slice())),
+        _ => None,
     }
-    None
 }
 
-/// The body of the routine of this name.
-pub fn routine_of<'a>(items: &'a [Item], name: &str) -> Option<&'a Row>
-    ensures { MatchOption result (spec.routine_of name.now (view_items items.now) ≡ None) (λ body. spec.routine_of name.now (view_items items.now) ≡ Some (view_row body.now)) }
-{
-    for item in items {
-        let found = match item {
-            Item::Plain(plain) => body_if(plain, name),
-            Item::BackwardMode(plains) => routine_in(plains.as_slice(), name),
-        };
-        if let Some(body) = found {
-            return Some(body);
-        }
-    }
-    None
-}
-
-/// Sets what an item sets.
+/// Adds what an item sets to what is in force.
 fn set(alloc: Global, escapes: &mut Escapes, plain: &Plain) -> Result<(), ScriptFault>
     ensures set { IfOk result (λ _. escapes.new ≡ spec.escapes_behind escapes.old (view_plain plain.now)) }
     ensures fault { IfErr result (λ f. f ≡ ScriptFault.OutOfMemory) }
@@ -99,18 +137,19 @@ fn set(alloc: Global, escapes: &mut Escapes, plain: &Plain) -> Result<(), Script
     }
 }
 
-/// Sets what the items before the routine set, and says whether it was reached.
+/// Adds what the items before the definition set. Returns whether the definition was reached.
 fn reach_in(
     alloc: Global,
     plains: &[Plain],
+    kind: DefinitionKind,
     name: &str,
     escapes: &mut Escapes,
 ) -> Result<bool, ScriptFault>
-    ensures reached { IfOk result (λ found. (escapes.new, found) ≡ spec.reached_in name.now (map view_plain plains.now) escapes.old) }
+    ensures reached { IfOk result (λ found. (escapes.new, found) ≡ spec.reached_in (spec.defines kind name.now) (map view_plain plains.now) escapes.old) }
     ensures fault { IfErr result (λ f. f ≡ ScriptFault.OutOfMemory) }
 {
     for plain in plains {
-        if is_routine(plain, name) {
+        if defines(plain, kind, name) {
             return Ok(true);
         }
         set(alloc, escapes, plain)?;
@@ -121,22 +160,23 @@ fn reach_in(
 fn reach(
     alloc: Global,
     items: &[Item],
+    kind: DefinitionKind,
     name: &str,
     escapes: &mut Escapes,
 ) -> Result<bool, ScriptFault>
-    ensures reached { IfOk result (λ found. (escapes.new, found) ≡ spec.reached name.now (view_items items.now) escapes.old) }
+    ensures reached { IfOk result (λ found. (escapes.new, found) ≡ spec.reached (spec.defines kind name.now) (view_items items.now) escapes.old) }
     ensures fault { IfErr result (λ f. f ≡ ScriptFault.OutOfMemory) }
 {
     for item in items {
         match item {
             Item::Plain(plain) => {
-                if is_routine(plain, name) {
+                if defines(plain, kind, name) {
                     return Ok(true);
                 }
                 set(alloc, escapes, plain)?;
             }
             Item::BackwardMode(plains) => {
-                if reach_in(alloc, plains.as_slice(), name, escapes)? {
+                if reach_in(alloc, plains.as_slice(), kind, name, escapes)? {
                     return Ok(true);
                 }
             }
@@ -145,40 +185,62 @@ fn reach(
     Ok(false)
 }
 
-/// What is in force in the body of the routine of this name.
-pub fn escapes_before(alloc: Global, items: &[Item], name: &str) -> Result<Escapes, ScriptFault>
-    ensures escapes { IfOk result (λ e. e ≡ spec.escapes_before name.now (view_items items.now)) }
+/// Returns what is in force where the first definition of this kind and name begins.
+pub fn escapes_before(
+    alloc: Global,
+    items: &[Item],
+    kind: DefinitionKind,
+    name: &str,
+) -> Result<Escapes, ScriptFault>
+    ensures escapes { IfOk result (λ e. e ≡ spec.escapes_before (spec.defines kind name.now) (view_items items.now)) }
     ensures fault { IfErr result (λ f. f ≡ ScriptFault.OutOfMemory) }
 {
     let mut escapes = Escapes::new(alloc);
-    reach(alloc, items, name, &mut escapes)?;
+    reach(alloc, items, kind, name, &mut escapes)?;
     Ok(escapes)
 }
 
-/// The routine of this name, with this body.
-fn routine(alloc: Global, name: &str, body: &Row) -> Result<Plain, AllocError>
-    ensures { IfOk result (λ x. view_plain x ≡ trees.routine name.now (view_row body.now).0 (view_row body.now).1) }
+/// Returns a routine with this name and this body.
+pub fn routine(alloc: Global, name: &str, body: Row) -> Result<Plain, AllocError>
+    ensures { IfOk result (λ x. view_plain x ≡ trees.routine name.now (view_row body).0 (view_row body).1) }
 {
     Ok(Plain::Routine {
         name: String::from_str(alloc, name)?,
-        body: copy_row(alloc, body)?,
+        body,
+    })
+}
+
+/// Returns a grouping with this name and these terms.
+pub fn grouping(
+    alloc: Global,
+    name: &str,
+    terms: (Argument, Vec<Term>),
+) -> Result<Plain, AllocError>
+    ensures { IfOk result (λ x. view_plain x ≡ trees.grouping name.now (view_argument terms.0) (map view_term terms.1.items)) }
+{
+    let (first, others) = terms;
+    Ok(Plain::Grouping {
+        name: String::from_str(alloc, name)?,
+        first,
+        others,
     })
 }
 
 fn plains_with(
     alloc: Global,
     plains: &[Plain],
+    kind: DefinitionKind,
     name: &str,
-    body: &Row,
+    new: &Plain,
 ) -> Result<Vec<Plain>, AllocError>
-    ensures { IfOk result (λ x. map view_plain x.items ≡ spec.plains_with name.now (view_row body.now) (map view_plain plains.now)) }
+    ensures { IfOk result (λ x. map view_plain x.items ≡ spec.plains_with (spec.defines kind name.now) (view_plain new.now) (map view_plain plains.now)) }
 {
     let mut copies = Vec::new(alloc);
     let mut is_put = false;
     for plain in plains {
-        let copy = if !is_put && is_routine(plain, name) {
+        let copy = if !is_put && defines(plain, kind, name) {
             is_put = true;
-            routine(alloc, name, body)?
+            copy_plain(alloc, new)?
         } else {
             copy_plain(alloc, plain)?
         };
@@ -187,28 +249,28 @@ fn plains_with(
     Ok(copies)
 }
 
-/// Whether the routine stands in the item.
-fn holds_routine(item: &Item, name: &str) -> bool
-    ensures { result ≡ spec.holds_routine name.now (view_item item.now) }
+/// Whether the definition is this item, or inside it.
+fn holds(item: &Item, kind: DefinitionKind, name: &str) -> bool
+    ensures { result ≡ spec.holds (spec.defines kind name.now) (view_item item.now) }
 {
     match item {
-        Item::Plain(plain) => is_routine(plain, name),
-        Item::BackwardMode(plains) => has_routine(plains.as_slice(), name),
+        Item::Plain(plain) => defines(plain, kind, name),
+        Item::BackwardMode(plains) => any_defines(plains.as_slice(), kind, name),
     }
 }
 
-fn has_routine(plains: &[Plain], name: &str) -> bool
-    ensures { result ≡ list_any (spec.is_routine name.now) (map view_plain plains.now) }
+fn any_defines(plains: &[Plain], kind: DefinitionKind, name: &str) -> bool
+    ensures { result ≡ list_any (spec.defines kind name.now) (map view_plain plains.now) }
 {
     for plain in plains {
-        if is_routine(plain, name) {
+        if defines(plain, kind, name) {
             return true;
         }
     }
     false
 }
 
-/// A copy of an item.
+/// Returns a copy of an item.
 fn copy_item(alloc: Global, item: &Item) -> Result<Item, AllocError>
     ensures { IfOk result (λ x. view_item x ≡ view_item item.now) }
 {
@@ -231,35 +293,43 @@ fn copy_plains(alloc: Global, plains: &[Plain]) -> Result<Vec<Plain>, AllocError
     Ok(copies)
 }
 
-fn item_with(alloc: Global, item: &Item, name: &str, body: &Row) -> Result<Item, AllocError>
-    ensures { IfOk result (λ x. view_item x ≡ spec.item_with name.now (view_row body.now) (view_item item.now)) }
+fn item_with(
+    alloc: Global,
+    item: &Item,
+    kind: DefinitionKind,
+    name: &str,
+    new: &Plain,
+) -> Result<Item, AllocError>
+    ensures { IfOk result (λ x. view_item x ≡ spec.item_with (spec.defines kind name.now) (view_plain new.now) (view_item item.now)) }
 {
     match item {
-        Item::Plain(_) => Ok(Item::Plain(routine(alloc, name, body)?)),
+        Item::Plain(_) => Ok(Item::Plain(copy_plain(alloc, new)?)),
         Item::BackwardMode(plains) => Ok(Item::BackwardMode(plains_with(
             alloc,
             plains.as_slice(),
+            kind,
             name,
-            body,
+            new,
         )?)),
     }
 }
 
-/// A copy of the items with another body for the routine of this name, the first where there are several.
+/// Returns a copy of the items with `new` in place of the first definition of this kind and name.
 pub fn items_with(
     alloc: Global,
     items: &[Item],
+    kind: DefinitionKind,
     name: &str,
-    body: &Row,
+    new: &Plain,
 ) -> Result<Vec<Item>, AllocError>
-    ensures { IfOk result (λ x. view_items x.items ≡ spec.items_with name.now (view_row body.now) (view_items items.now)) }
+    ensures { IfOk result (λ x. view_items x.items ≡ spec.items_with (spec.defines kind name.now) (view_plain new.now) (view_items items.now)) }
 {
     let mut copies = Vec::new(alloc);
     let mut is_put = false;
     for item in items {
-        let copy = if !is_put && holds_routine(item, name) {
+        let copy = if !is_put && holds(item, kind, name) {
             is_put = true;
-            item_with(alloc, item, name, body)?
+            item_with(alloc, item, kind, name, new)?
         } else {
             copy_item(alloc, item)?
         };

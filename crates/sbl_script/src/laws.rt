@@ -1,4 +1,4 @@
-//! What is shown of scripts.
+//! Laws of scripts.
 
 ghost use Rattle.sbl_script.specs.OneEdit.{EditFaultIsOne, EditIsOne, EditOrFault};
 ghost use Rattle.sbl_script.specs.OnlyTheItem.{ExternalStays, OnlyTheItem};
@@ -7,6 +7,7 @@ ghost use Rattle.sbl_script.specs.Parsed.{source_of};
 ghost use Rattle.sbl_script.specs.Printed.{CanonicalIsOne, CanonicalIsRead};
 
 use crate::script::Script;
+pub use crate::script::{is_shallow, is_spelled, is_well_declared};
 pub use sbl_checks::laws::{
     amongs_are_sound, fault_is_first, names_resolve, substrings_are_paired, well_declared_passes,
 };
@@ -14,8 +15,8 @@ use sbl_grammar::{one_fault, one_part, one_tree};
 use sbl_print::laws::canonical_is_spaced;
 use sbl_text::laws::{first_fault_is_one, spaced_are_read, tokens_are_one};
 
-/// Bytes are read as one script, or they have one fault, and never both: `Script::parse` is a function of its bytes and
-/// of the external, want of memory aside.
+/// For given bytes and a given external there is at most one script and at most one fault, and never both. So
+/// `Script::parse` is a function of these two, unless an allocation fails.
 pub fn one_reading()
     ensures script { ScriptIsOne }
     ensures fault { FaultIsOne }
@@ -27,8 +28,9 @@ pub fn one_reading()
     one_fault();
 }
 
-/// A text makes one script of a script, or it has one fault as an edit, and never both: `Script::with_routine` and
-/// `Script::with_among` are functions of the script, of what is replaced and of the text, want of memory aside.
+/// For a given script, a given place and a given text there is at most one edited script and at most one fault, and
+/// never both. So `Script::with_routine`, `Script::with_among` and `Script::with_grouping` are functions of these
+/// three, unless an allocation fails.
 pub fn one_edit()
     ensures script { EditIsOne }
     ensures fault { EditFaultIsOne }
@@ -40,16 +42,17 @@ pub fn one_edit()
     one_fault();
 }
 
-/// A fault of an edit of a script, by `Script::with_routine` or `Script::with_among`, that tells an item tells the one that is
-/// changed: that which holds the routine. No check fails in another item, and the external that is run stays one.
+/// If a fault of `Script::with_routine`, `Script::with_among` or `Script::with_grouping` names an item, that item is
+/// the one that changes: the definition of the routine or of the grouping. No check fails in another item, and the edit
+/// never makes the script lose its external.
 pub fn only_the_item()
     ensures item { OnlyTheItem }
     ensures external { ExternalStays }
 {}
 
-/// A text that is the canonical text of a script (`Script::print`), one that edits have made too, and has at most 1,048,576
-/// bytes, is read as that same script under the same external: by `one_reading` `Script::parse` answers this script for it,
-/// or want of memory.
+/// If a text is the canonical text of a script (`Script::print`) and has at most 1,048,576 bytes, it is read as the
+/// same script with the same external. This holds for scripts after edits too. By `one_reading`, `Script::parse`
+/// returns this script for it, unless an allocation fails.
 pub fn canonical_is_read(script: &Script, text: &str)
     ensures { CanonicalIsRead (source_of script.now) text.now }
 {
@@ -57,13 +60,13 @@ pub fn canonical_is_read(script: &Script, text: &str)
     canonical_is_spaced();
     one_part();
     one_tree();
-    script.is_well_declared();
-    script.is_shallow();
-    script.is_spelled();
+    is_well_declared(script);
+    is_shallow(script);
+    is_spelled(script);
     let _ = text;
 }
 
-/// Two scripts with one canonical text have the same items, however long that text is.
+/// If two scripts have the same canonical text, of any length, they have the same items.
 pub fn canonical_is_one(script: &Script, other: &Script)
     ensures { CanonicalIsOne (source_of script.now) (source_of other.now) }
 {
@@ -72,6 +75,6 @@ pub fn canonical_is_one(script: &Script, other: &Script)
     canonical_is_spaced();
     one_part();
     one_tree();
-    script.is_spelled();
-    other.is_spelled();
+    is_spelled(script);
+    is_spelled(other);
 }

@@ -8,8 +8,10 @@ use crate::script::Script;
 use std::alloc::{AllocError, Global};
 
 impl Script {
-    /// Whether two scripts are the same: the same items in the same order, and the same external. Their canonical texts are
-    /// made and compared; want of memory is the one error.
+    /// Whether two scripts are the same: the same items in the same order, and the same external. Compares their
+    /// canonical texts, which it allocates.
+    ///
+    /// Returns `AllocError` if an allocation fails.
     #[tactic(auto, using(crate::proofs::Compared::sources_same))]
     pub fn is_same(&self, alloc: Global, other: &Script) -> Result<bool, AllocError>
         ensures { IfOk result (λ same. IsTrue same ↔ (source_of self.now ≡ source_of other.now)) }

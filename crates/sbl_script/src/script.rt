@@ -1,34 +1,37 @@
 //! A checked script.
 
-ghost use Rattle.std.specs.Prelude.{◌≡◌, ◌⊎◌, ◌≤◌, None, Some, length, map, IfOk, IfErr};
+ghost use Rattle.std.specs.Prelude.{◌≡◌, ◌⊎◌, ◌≤◌, None, Some, true, [], length, map, IfOk, IfErr};
 ghost use Rattle.std.specs.Str.{IsUtf8};
-ghost use Rattle.sbl_tree.specs.Places.{AreShallow, places, max_depth};
+ghost use Rattle.sbl_tree.specs.Places.{AreShallow, placed_plain, places, max_depth};
 ghost use Rattle.sbl_grammar.specs.Reading.{IsReadAs};
 ghost use Rattle.sbl_tree.specs.Texts as texts;
-ghost use Rattle.sbl_tree.specs.View.{view_among, view_items, view_row};
+ghost use Rattle.sbl_tree.specs.View.{view_among, view_argument, view_items, view_plain, view_row, view_term};
 ghost use Rattle.sbl_tree.specs.Counts.{count_in_among};
 ghost use Rattle.sbl_checks.specs.Checks.{WellDeclared, fault_of};
-ghost use Rattle.sbl_script.specs.Spelled.{AreSpelled, IsRowSpelled};
+ghost use Rattle.sbl_script.specs.Spelled.{AreSpelled, IsSpelled};
 ghost use Rattle.sbl_text.specs.Directives.{start, Directives};
-ghost use Rattle.sbl_text.specs.Tokens.{placed_of};
+ghost use Rattle.sbl_text.specs.Spaced.{after_all};
+ghost use Rattle.sbl_text.specs.Tokens.{MayEnd, placed_of};
+ghost use Rattle.sbl_tree.specs.Tree.{lexemes_of};
+ghost use Rattle.sbl_script.specs.Parsed.{source_of};
 ghost use Rattle.sbl_script.specs.Reading as spec;
 
 use crate::edit_fault::EditFault;
 use crate::edits;
-use crate::edits::{escapes_before, items_with};
+use crate::edits::{DefinitionKind, escapes_before, items_with};
 use sbl_amongs::{has_as_many_amongs, nth_among, put_in_place};
 use sbl_checks::{body_in, check};
-use sbl_grammar::{is_left_out, parse, parse_among, parse_body};
+use sbl_grammar::{is_left_out, parse, parse_among, parse_body, parse_terms};
 use sbl_print::canonical_text;
 use sbl_text::{ScriptFault, Token, tokens, tokens_under};
-use sbl_tree::{Among, Item, Row};
+use sbl_tree::{Among, Argument, Item, Plain, Row, Term};
 use std::alloc::{AllocError, Global};
 use std::marker::Model;
 
 /// The most bytes of a script (our own choice).
 pub const MAX_SCRIPT: usize = 1_048_576;
 
-/// The place of the first token that is not offered here.
+/// Returns the position of the first token that this workbench does not support; `None` if it supports all.
 fn first_left_out(tokens: &[Token]) -> Option<usize>
     ensures { result ≡ spec.first_left_out (map placed_of tokens.now) }
 {
@@ -40,7 +43,7 @@ fn first_left_out(tokens: &[Token]) -> Option<usize>
     None
 }
 
-/// The text of some bytes.
+/// Returns the bytes as text. The fault is `ScriptTooLong` or `NotUtf8`.
 fn text_of(bytes: &[u8]) -> Result<&str, ScriptFault>
     ensures ok { IfOk result (λ s. (s.now ≡ bytes.now) × (length bytes.now ≤ spec.max_script) × IsUtf8 bytes.now) }
     ensures fault { IfErr result (λ f. (s : Directives) → spec.IsTextFault s bytes.now f) }
@@ -54,7 +57,7 @@ fn text_of(bytes: &[u8]) -> Result<&str, ScriptFault>
     }
 }
 
-/// The tree of some tokens, in a text of so many bytes.
+/// Returns the tree of these tokens. `end` is the length of their text in bytes.
 fn tree_of(alloc: Global, tokens: &[Token], end: usize) -> Result<Vec<Item>, ScriptFault>
     ensures offered { IfOk result (λ items. spec.first_left_out (map placed_of tokens.now) ≡ None) }
     ensures tree { IfOk result (λ items. IsReadAs texts.script (spec.terminals (map placed_of tokens.now)) (view_items items.items)) }
@@ -66,7 +69,7 @@ fn tree_of(alloc: Global, tokens: &[Token], end: usize) -> Result<Vec<Item>, Scr
     parse(alloc, tokens, end)
 }
 
-/// The body that some tokens are, in a text of so many bytes that is to stand in the place of a routine's.
+/// Returns the body that these tokens form, as a routine's. `end` is the length of their text in bytes.
 fn body_of_tokens(alloc: Global, tokens: &[Token], end: usize) -> Result<Row, ScriptFault>
     ensures offered { IfOk result (λ row. spec.first_left_out (map placed_of tokens.now) ≡ None) }
     ensures tree { IfOk result (λ row. IsReadAs texts.body (spec.terminals (map placed_of tokens.now)) (view_row row)) }
@@ -78,7 +81,7 @@ fn body_of_tokens(alloc: Global, tokens: &[Token], end: usize) -> Result<Row, Sc
     parse_body(alloc, tokens, end)
 }
 
-/// The among that some tokens are, in a text of so many bytes that is to stand in the place of one at `depth`.
+/// Returns the among that these tokens form, as one at `depth`. `end` is the length of their text in bytes.
 fn among_of_tokens(
     alloc: Global,
     tokens: &[Token],
@@ -97,7 +100,23 @@ fn among_of_tokens(
     parse_among(alloc, tokens, end, depth)
 }
 
-/// A script that has passed all checks, and the name of the external that is run.
+/// Returns the terms that these tokens form, as a grouping's. `end` is the length of their text in bytes.
+fn terms_of_tokens(
+    alloc: Global,
+    tokens: &[Token],
+    end: usize,
+) -> Result<(Argument, Vec<Term>), ScriptFault>
+    ensures offered { IfOk result (λ x. spec.first_left_out (map placed_of tokens.now) ≡ None) }
+    ensures tree { IfOk result (λ x. IsReadAs texts.terms (spec.terminals (map placed_of tokens.now)) (view_argument x.0, map view_term x.1.items)) }
+    ensures fault { IfErr result (λ f. (f ≡ ScriptFault.OutOfMemory) ⊎ spec.IsUnread texts.terms (map placed_of tokens.now) end f) }
+{
+    if let Some(place) = first_left_out(tokens) {
+        return Err(ScriptFault::OutOfProfile { place });
+    }
+    parse_terms(alloc, tokens, end)
+}
+
+/// A script that has passed all checks, with the name of the external that is run.
 #[derive(Drop)]
 pub struct Script {
     items: Vec<Item>,
@@ -124,19 +143,16 @@ impl Model for Script {
 }
 
 impl Script {
-    ghost use Rattle.sbl_script.specs.Parsed.{source_of, body_of};
+    ghost use Rattle.sbl_script.specs.Parsed.{body_of};
     ghost use Rattle.std.specs.Prelude.{Err};
     ghost use Rattle.sbl_tree.specs.Places.{places, AreShallow};
     ghost use Rattle.sbl_tree.specs.Texts.{places_in};
     ghost use Rattle.std.specs.Prelude.{string_bytes};
     ghost use Rattle.sbl_print.specs.Canonical.{canonical};
-    ghost use Rattle.sbl_text.specs.Spaced.{after_all};
-    ghost use Rattle.sbl_text.specs.Tokens.{MayEnd, placed_of};
-    ghost use Rattle.sbl_tree.specs.Tree.{lexemes_of};
     ghost use Rattle.sbl_script.specs.Reading.{HasTokens};
-    ghost use Rattle.sbl_script.specs.Edits.{IsEditFault, IsEdited, among, body, home, items_with, state_before};
+    ghost use Rattle.sbl_script.specs.Edits.{IsEditFault, IsEdited, among, body, defines, home, items_with, state_before, terms};
 
-    /// The script of a tree.
+    /// Checks a tree and returns its script, or the fault of the first check that fails.
     fn checked(alloc: Global, items: Vec<Item>, external: &str) -> Result<Script, ScriptFault>
         requires shallow { AreShallow (places (view_items items.items)) }
         requires spelled { AreSpelled (view_items items.items) }
@@ -149,11 +165,12 @@ impl Script {
         Ok(Script { items, external })
     }
 
-    /// The script of a text (UTF-8, at most 1,048,576 bytes), with the external that is run.
+    /// Parses a script: `bytes` is UTF-8 text of at most 1,048,576 bytes, and `external` names the external that is
+    /// run.
     ///
-    /// Answers the first fault in this order: the text is too long; it is not UTF-8; something in it is no token; a token is
-    /// left out of what is offered here; a token cannot follow those before it or stands too deep; a check fails. Besides
-    /// `OutOfMemory` where memory was refused.
+    /// Returns the first fault in this order: the text is too long; it is not UTF-8; it has a part that is no token; it
+    /// has a token that this workbench does not support; a token cannot follow those before it or is too deep; a check
+    /// fails. Returns `OutOfMemory` if an allocation fails.
     pub fn parse(alloc: Global, bytes: &[u8], external: &str) -> Result<Script, ScriptFault>
         ensures script { IfOk result (λ s. spec.IsScriptOf bytes.now external.now (source_of s)) }
         ensures fault { IfErr result (λ f. (f ≡ ScriptFault.OutOfMemory) ⊎ spec.IsFaultOf bytes.now external.now f) }
@@ -164,12 +181,12 @@ impl Script {
         Script::checked(alloc, items, external)
     }
 
-    /// The script in which the routine of this name has the text for its body: a row of the grammar, which is read at
-    /// depth 1 under what the items before the routine set. This script stays as it is.
+    /// Returns the script with `text` as the body of the routine `name`. The text is one row of the grammar. It is read
+    /// at depth 1, with what the items before the routine set in force. This script does not change.
     ///
-    /// Errors: `NoRoutine` exactly where the script defines no routine of this name, which takes no memory; else `Script`
-    /// with the first fault of the text, its place counted in the text, or with the fault of the check that fails in the
-    /// script with the text; `OutOfMemory` where memory was refused.
+    /// Returns `NoRoutine` exactly if the script defines no routine with this name; this does not allocate. Returns
+    /// `Script` with the first fault of the text, with its position in the text, or with the fault of the check that
+    /// fails in the script with the text. Returns `OutOfMemory` if an allocation fails.
     pub fn with_routine(&self, alloc: Global, name: &str, text: &str) -> Result<Script, EditFault>
         ensures script { IfOk result (λ s. IsEdited (source_of self.now) (body name.now) text.now (source_of s)) }
         ensures fault { IfErr result (λ f. (f ≡ EditFault.OutOfMemory) ⊎ IsEditFault (source_of self.now) (body name.now) text.now f) }
@@ -178,21 +195,22 @@ impl Script {
         let Some(_replaced) = edits::routine_of(&self.items, name) else {
             return Err(EditFault::NoRoutine);
         };
-        let found = self.tokens_in(alloc, name, text)?;
+        let found = self.tokens_in(alloc, DefinitionKind::Routine, name, text)?;
         let body = body_of_tokens(alloc, &found, text.len())?;
-        let script = self.with_body(alloc, name, &body)?;
+        let new = edits::routine(alloc, name, body)?;
+        let script = self.with_definition(alloc, DefinitionKind::Routine, name, &new)?;
         Ok(script)
     }
 
-    /// The script in which the text stands in the place of the `k`-th among of a routine, counted from 1 in the order of
-    /// the words `among`. The text is one whole `among ( .. )`, which is read at the depth of the one that it replaces,
-    /// under what the items before the routine set. This script stays as it is.
+    /// Returns the script with `text` in place of the `k`-th among of a routine, counted from 1 in the order of the
+    /// words `among`. The text is one whole `among ( .. )`. It is read at the depth of the among that it replaces, with
+    /// what the items before the routine set in force. This script does not change.
     ///
-    /// Errors, the first of them: `NoRoutine` exactly where the script defines no routine of this name, and `NoAmong`
-    /// exactly where this routine has no such among, which take no memory; `Script` with the first fault of the text, its
-    /// place counted in the text, or with the fault of the check that fails in the script with the text; `AmongCount` where
-    /// the text, amongs inside it counted, holds another number of amongs than what it replaces; `OutOfMemory` where
-    /// memory was refused.
+    /// Returns the first of these errors: `NoRoutine` exactly if the script defines no routine with this name, and
+    /// `NoAmong` exactly if this routine has no among with this number; these do not allocate. `Script` with the first
+    /// fault of the text, with its position in the text, or with the fault of the check that fails in the script with
+    /// the text. `AmongCount` if the new among and the old one hold different numbers of amongs, counting those inside
+    /// them. Returns `OutOfMemory` if an allocation fails.
     pub fn with_among(
         &self,
         alloc: Global,
@@ -210,10 +228,11 @@ impl Script {
         let Some((depth, replaced)) = nth_among(body, k) else {
             return Err(EditFault::NoAmong);
         };
-        let found = self.tokens_in(alloc, routine, text)?;
+        let found = self.tokens_in(alloc, DefinitionKind::Routine, routine, text)?;
         let among = among_of_tokens(alloc, &found, text.len(), depth)?;
         let body = put_in_place(alloc, body, k, &among)?;
-        let script = self.with_body(alloc, routine, &body)?;
+        let new = edits::routine(alloc, routine, body)?;
+        let script = self.with_definition(alloc, DefinitionKind::Routine, routine, &new)?;
         if has_as_many_amongs(&among, replaced) {
             Ok(script)
         } else {
@@ -221,59 +240,91 @@ impl Script {
         }
     }
 
-    /// The tokens of a text that is to stand in the routine.
+    /// Returns the script with `text` as the terms of the grouping `name`. The text is what follows the name in the
+    /// definition of a grouping. It is read with what the items before the grouping set in force. This script does not
+    /// change.
+    ///
+    /// Returns `NoGrouping` exactly if the script defines no grouping with this name; this does not allocate. Returns
+    /// `Script` with the first fault of the text, with its position in the text, or with the fault of the check that
+    /// fails in the script with the text. Returns `OutOfMemory` if an allocation fails.
+    pub fn with_grouping(&self, alloc: Global, name: &str, text: &str) -> Result<Script, EditFault>
+        ensures script { IfOk result (λ s. IsEdited (source_of self.now) (terms name.now) text.now (source_of s)) }
+        ensures fault { IfErr result (λ f. (f ≡ EditFault.OutOfMemory) ⊎ IsEditFault (source_of self.now) (terms name.now) text.now f) }
+        ensures missing { (f : EditFault) → home (source_of self.now).items (terms name.now) ≡ Err f → result ≡ Err f }
+    {
+        let Some(_replaced) = edits::grouping_of(&self.items, name) else {
+            return Err(EditFault::NoGrouping);
+        };
+        let found = self.tokens_in(alloc, DefinitionKind::Grouping, name, text)?;
+        let terms = terms_of_tokens(alloc, &found, text.len())?;
+        let new = edits::grouping(alloc, name, terms)?;
+        let script = self.with_definition(alloc, DefinitionKind::Grouping, name, &new)?;
+        Ok(script)
+    }
+
+    /// Returns the tokens of a text, read where the definition of this kind and name begins.
     fn tokens_in<'a>(
         &self,
         alloc: Global,
-        routine: &str,
+        kind: DefinitionKind,
+        name: &str,
         text: &'a str,
     ) -> Result<Vec<Token<'a>>, ScriptFault>
-        ensures tokens { IfOk result (λ ts. HasTokens (state_before routine.now (source_of self.now).items) text.now (map placed_of ts.items)) }
-        ensures fault { IfErr result (λ f. (f ≡ ScriptFault.OutOfMemory) ⊎ spec.IsTextFault (state_before routine.now (source_of self.now).items) text.now f) }
+        ensures tokens { IfOk result (λ ts. HasTokens (state_before (defines kind name.now) (source_of self.now).items) text.now (map placed_of ts.items)) }
+        ensures fault { IfErr result (λ f. (f ≡ ScriptFault.OutOfMemory) ⊎ spec.IsTextFault (state_before (defines kind name.now) (source_of self.now).items) text.now f) }
     {
         let text = text_of(text.as_bytes())?;
-        let escapes = escapes_before(alloc, &self.items, routine)?;
+        let escapes = escapes_before(alloc, &self.items, kind, name)?;
         tokens_under(alloc, text, escapes)
     }
 
-    /// The script in which the routine has this body.
-    fn with_body(&self, alloc: Global, routine: &str, body: &Row) -> Result<Script, ScriptFault>
-        requires shallow { AreShallow (places_in texts.body (view_row body.now)) }
-        requires spelled { IsRowSpelled (state_before routine.now (source_of self.now).items) (view_row body.now) }
-        ensures items { IfOk result (λ s. (source_of s).items ≡ items_with routine.now (view_row body.now) (source_of self.now).items) }
+    /// Returns the script with `new` in place of the first definition of this kind and name.
+    fn with_definition(
+        &self,
+        alloc: Global,
+        kind: DefinitionKind,
+        name: &str,
+        new: &Plain,
+    ) -> Result<Script, ScriptFault>
+        requires same { defines kind name.now (view_plain new.now) ≡ true }
+        requires shallow { AreShallow (placed_plain (view_plain new.now) []) }
+        requires spelled { IsSpelled (state_before (defines kind name.now) (source_of self.now).items) (view_plain new.now) }
+        ensures items { IfOk result (λ s. (source_of s).items ≡ items_with (defines kind name.now) (view_plain new.now) (source_of self.now).items) }
         ensures external { IfOk result (λ s. (source_of s).external ≡ (source_of self.now).external) }
         ensures well_declared { IfOk result (λ s. WellDeclared (source_of s).items (source_of s).external) }
-        ensures fault { IfErr result (λ f. (f ≡ ScriptFault.OutOfMemory) ⊎ (fault_of (items_with routine.now (view_row body.now) (source_of self.now).items) (source_of self.now).external ≡ Some f)) }
+        ensures fault { IfErr result (λ f. (f ≡ ScriptFault.OutOfMemory) ⊎ (fault_of (items_with (defines kind name.now) (view_plain new.now) (source_of self.now).items) (source_of self.now).external ≡ Some f)) }
     {
-        let items = items_with(alloc, &self.items, routine, body)?;
+        let items = items_with(alloc, &self.items, kind, name, new)?;
         Script::checked(alloc, items, self.external())
     }
 
-    /// The canonical text of the script (our own choice): each item is a line of its tokens with one space between each two,
-    /// and a `backwardmode` is a line `backwardmode (`, its items and a line `)`. Literals are written by their spelling,
-    /// numbers by their value. Where it has at most 1,048,576 bytes, `parse` reads it as this script (law
-    /// `canonical_is_read`). Want of memory is the one error.
+    /// Returns the canonical text of the script (our own choice). Each item is a line of its tokens, with one space
+    /// between two tokens. A `backwardmode` is a line `backwardmode (`, its items, and a line `)`. Literals keep their
+    /// spelling; numbers are written by their value. If the text has at most 1,048,576 bytes, `parse` reads it as this
+    /// script (law `canonical_is_read`).
+    ///
+    /// Returns `AllocError` if an allocation fails.
     pub fn print(&self, alloc: Global) -> Result<String, AllocError>
         ensures { IfOk result (λ text. string_bytes text ≡ canonical (source_of self.now).items) }
     {
         canonical_text(alloc, &self.items)
     }
 
-    /// The items, in text order.
+    /// Returns the items, in text order.
     pub fn items(&self) -> &[Item]
         ensures { result.now ≡ self.now.items }
     {
         self.items.as_slice()
     }
 
-    /// The name of the external that is run.
+    /// Returns the name of the external that is run.
     pub fn external(&self) -> &str
         ensures { result.now ≡ self.now.external }
     {
         self.external.as_str()
     }
 
-    /// The body of the external that is run.
+    /// Returns the body of the external that is run.
     pub fn body(&self) -> &Row
         ensures { body_of (source_of self.now) ≡ Some (view_row result.now) }
     {
@@ -283,29 +334,30 @@ impl Script {
         }
     }
 
-    /// A script is well declared: nothing that uses it checks it again.
-    pub fn is_well_declared(&self)
-        ensures { WellDeclared (source_of self.now).items (source_of self.now).external }
-    {
-        let _ = &self.external;
-    }
-
-    /// Gives the script up, and its memory back, as a drop does. What drops a tree proves all the destructors of trees once more;
-    /// a crate above that calls this in place of it does not. Takes no memory.
+    /// Frees the script, as a drop does. A crate that drops a tree has to prove all destructors of trees again; a crate
+    /// that calls this instead does not. Does not allocate.
     pub fn discard(self) {}
+}
 
-    /// Nothing in a script stands deeper than 64.
-    pub fn is_shallow(&self)
-        ensures { AreShallow (places (source_of self.now).items) }
-    {
-        let _ = &self.external;
-    }
+/// A script is well declared, so nothing that uses it has to check it again.
+pub fn is_well_declared(script: &Script)
+    ensures { WellDeclared (source_of script.now).items (source_of script.now).external }
+{
+    let _ = &script.external;
+}
 
-    /// Some text can say each token of a script under the escapes in force there, and may end behind the last.
-    pub fn is_spelled(&self)
-        ensures spelled { AreSpelled (source_of self.now).items }
-        ensures ends { MayEnd (after_all start (lexemes_of (source_of self.now).items)) }
-    {
-        let _ = &self.external;
-    }
+/// No token of a script is deeper than 64.
+pub fn is_shallow(script: &Script)
+    ensures { AreShallow (places (source_of script.now).items) }
+{
+    let _ = &script.external;
+}
+
+/// Each token of a script can be written in some text with the escapes in force there, and the text may end after the
+/// last one.
+pub fn is_spelled(script: &Script)
+    ensures spelled { AreSpelled (source_of script.now).items }
+    ensures ends { MayEnd (after_all start (lexemes_of (source_of script.now).items)) }
+{
+    let _ = &script.external;
 }

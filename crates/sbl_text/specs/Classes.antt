@@ -1,4 +1,4 @@
--- The classes of characters.
+-- Classes of characters.
 use Rattle.std.specs.Prelude.{ℕ, Bool, ◌&&◌, ◌||◌, ◌==◌, nat_le}
 
 -- the characters that begin and end literals, comments and lines

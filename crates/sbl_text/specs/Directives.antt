@@ -1,4 +1,4 @@
--- What the tokens so far have set.
+-- The state of the lexer that earlier tokens have set.
 use Rattle.std.specs.Str.{chars}
 use Rattle.std.specs.Prelude.{ℕ, true, false, List, Option, Some, None}
 use Rattle.sbl_text.specs.declared.pieces.Wanted.{Wanted}
@@ -12,12 +12,12 @@ use Rattle.sbl_text.specs.Escapes.{InForce, nothing_set, with_inserts, with_macr
 use Rattle.sbl_lexemes.specs.Lexemes.{Lexeme, word, literal, inserts, macro_name}
 use Rattle.sbl_text.specs.Pieces.{Setting, setting}
 
--- a macro whose value is still to come
+-- a macro whose value has not been read yet
 pub record Defining : Type 0 where
   pub name : List ℕ
   pub coding : Coding
 
--- what is in force in literals, what may come next, and the macro that is being defined
+-- the insert characters and macros in force, what may come next, and the macro that is being defined
 pub record Directives : Type 0 where
   pub escapes : InForce
   pub wanted : Wanted
@@ -46,7 +46,7 @@ abbrev pub recoded_by : List ℕ → Coding → Coding → Option Defining
 recoded_by n coding.Plain k = Some (record { name = n; coding = k })
 recoded_by n _ k = None
 
--- `hex` or `decimal` before the literal
+-- after `hex` or `decimal`, which come before the literal
 abbrev pub recoded : Option Defining → Coding → Option Defining
 recoded None k = None
 recoded (Some d) k = recoded_by d.name d.coding k
@@ -69,7 +69,7 @@ abbrev pub defined_by : InForce → Option Defining → List ℕ → InForce
 defined_by e None v = e
 defined_by e (Some d) v = defined_as e d.name (coded d.coding v)
 
--- what a token sets: a word asks for insert characters or a macro's name, which ask for its literal
+-- the state after a token: some words require insert characters or a macro's name next; a literal may define a macro
 abbrev pub after : Directives → Lexeme → Directives
 after s (word w) = after_word s w
 after s (literal spelling v) = settled (defined_by s.escapes s.defining v)

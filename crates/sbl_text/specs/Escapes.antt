@@ -1,4 +1,4 @@
--- What is in force in literals: the insert characters and the macros.
+-- The insert characters and macros in force.
 use Rattle.std.specs.Prelude.{ℕ, Bool, false, ◌==◌, if◌then◌else◌, List, [], ◌∷◌, ◌++◌, Option, Some, None}
 use Rattle.std.specs.Str.{bytes_eq}
 use Rattle.sbl_text.specs.declared.escapes.Inserts.{Inserts}
@@ -16,7 +16,7 @@ pub record Definition : Type 0 where
   pub name : List ℕ
   pub value : List ℕ
 
--- the macros stand in the order of their definitions
+-- the macros are in the order of their definitions
 pub record InForce : Type 0 where
   pub inserts : Option Inserts
   pub macros : List Definition
@@ -34,7 +34,7 @@ abbrev pub first_some : Option (List ℕ) → Option (List ℕ) → Option (List
 first_some (Some v) o = Some v
 first_some None o = o
 
--- the value of a macro, by its last definition
+-- the value of the last definition of a macro
 abbrev pub find : List Definition → List ℕ → Option (List ℕ)
 find [] name = None
 find (d ∷ ds) name = first_some (find ds name) (if bytes_eq d.name name then Some d.value else None)

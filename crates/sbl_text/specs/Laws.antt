@@ -1,4 +1,4 @@
--- What is shown of the tokens of a text.
+-- Laws of the lexer.
 use Rattle.std.specs.Prelude.{true, ◌≡◌, ◌⊎◌, ℕ, List, [], ◌∷◌, Result, Ok, Err, Option, Some, None}
 use Rattle.sbl_text.specs.declared.fault.ScriptFault.{ScriptFault}
 use Rattle.sbl_text.specs.declared.fault.ScriptFault.TheVariants as fault
@@ -15,53 +15,53 @@ use Rattle.sbl_text.specs.Literals.{IsLiteral}
 use Rattle.sbl_text.specs.Spaced.{after_all, AreSaid, Spaced, lexemes_of, are_white, spaced_text}
 use Rattle.std.specs.Str.{chars, IsUtf8}
 
--- a text has one list of tokens
+-- a text has at most one list of tokens
 abbrev pub TokensAreOne : Type 0
 TokensAreOne = (s : Directives) (text : List ℕ) (ls ms : List Lexeme) → AreTokensFrom s text ls → AreTokensFrom s text ms → ls ≡ ms
 
--- with one list of places
+-- a text has at most one list of tokens with positions
 abbrev pub PlacesAreOne : Type 0
 PlacesAreOne = (s : Directives) (text : List ℕ) (ts us : List Placed) → ArePlacedFrom s text ts → ArePlacedFrom s text us → ts ≡ us
 
--- or it has one first fault
+-- a text has at most one first fault
 abbrev pub FirstFaultIsOne : Type 0
 FirstFaultIsOne = (s : Directives) (text : List ℕ) (f g : ScriptFault) → IsFirstFaultFrom s text f → IsFirstFaultFrom s text g → f ≡ g
 
--- and never both
+-- a text with a first fault has no list of tokens
 abbrev pub TokensOrFault : Type 0
 TokensOrFault = (s : Directives) (text : List ℕ) (ls : List Lexeme) (f : ScriptFault) → AreTokensFrom s text ls → IsFirstFaultFrom s text f → ⊥
 
--- after a fault comes the same fault, whatever memory is left
+-- after a fault the next call returns the same fault, unless the fault was `OutOfMemory`
 abbrev pub SameFaultAgain : Type 0
 SameFaultAgain =
     (r s t : Reading) (f : ScriptFault) (next : Result (Option Token) ScriptFault) → IsNext r s (Err f) → IsNext s t next → (f ≡ fault.OutOfMemory) ⊎ ((next ≡ Err f) × (t ≡ s))
 
--- a word is read from how it is written
+-- a word is read from its own text
 abbrev pub WordsAreRead : Type 0
 WordsAreRead = (w : Word) → word_of (word_text w) ≡ Some w
 
--- and no two signs are written alike
+-- no two signs have the same text
 abbrev pub SignsDiffer : Type 0
 SignsDiffer = (s t : Sign) → sign_text s ≡ sign_text t → s ≡ t
 
--- lexemes that are said, each followed by a white character, are the tokens of that text
+-- lexemes that can be written, each followed by a white space character, are the tokens of that text
 abbrev pub SpacedAreRead : Type 0
 SpacedAreRead =
     (s : Directives) (ps : List Spaced) → are_white ps ≡ true → AreSaid s (lexemes_of ps) → MayEnd (after_all s (lexemes_of ps)) → AreTokensFrom s (chars (spaced_text ps)) (lexemes_of ps)
 
--- and the tokens of a text are said
+-- the tokens of a text can be written
 abbrev pub TokensAreSaid : Type 0
 TokensAreSaid = (s : Directives) (text : List ℕ) (ls : List Lexeme) → IsUtf8 text → AreTokensFrom s (chars text) ls → AreSaid s ls × MayEnd (after_all s ls)
 
--- a spelling means one list of characters, or it has one fault
+-- the spelling of a literal has at most one result: a value or a fault
 abbrev pub LiteralIsOne : Type 0
 LiteralIsOne = (e : InForce) (spelling : List ℕ) (a b : Result (List ℕ) ScriptFault) → IsLiteral e spelling a → IsLiteral e spelling b → a ≡ b
 
--- the token that comes next, before the tokens of what is left then, is a text's first
+-- the next token, followed by the tokens of the text after it, are the tokens of the text
 abbrev pub NextIsFirst : Type 0
 NextIsFirst =
     (r t : Reading) (token : Token) (ls : List Lexeme) → IsNext r t (Ok (Some token)) → AreTokensFrom t.state t.rest ls → AreTokensFrom r.state r.rest (lexeme_of token ∷ ls)
 
--- and where none comes there is none
+-- if there is no next token, the text has no tokens
 abbrev pub NoneIsLast : Type 0
 NoneIsLast = (r t : Reading) → IsNext r t (Ok None) → AreTokensFrom r.state r.rest []

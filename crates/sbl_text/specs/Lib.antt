@@ -1,4 +1,4 @@
--- what the contracts of public calls rest on
+-- definitions that public contracts depend on
 pub mod Classes
 pub mod Escapes
 pub mod Codes
@@ -8,7 +8,7 @@ pub mod Directives
 pub mod Tokens
 pub mod Spaced
 pub mod Laws
--- what the functions inside the crate promise each other: nothing in these need be believed
+-- what the functions inside the crate promise each other; no public contract depends on these
 pub mod Skip
 pub mod Scan
 pub mod Latest

@@ -1,20 +1,20 @@
--- What the spelling of a literal means.
+-- The characters that the spelling of a literal means.
 use Rattle.std.specs.Prelude.{◌≡◌, ◌⊎◌, ℕ, ◌+◌, Bool, true, false, not, ◌&&◌, ◌||◌, ◌==◌, if◌then◌else◌, List, [], ◌∷◌, ◌++◌, length, encode_utf8_all, Option, Some, None, Result, Ok, Err}
 use Rattle.std.specs.List.{list_all}
 use Rattle.sbl_text.specs.declared.escapes.Inserts.{Inserts}
 use Rattle.sbl_text.specs.declared.fault.ScriptFault.{ScriptFault}
 use Rattle.sbl_text.specs.declared.fault.ScriptFault.TheVariants as fault
 use Rattle.sbl_text.specs.Classes.{is_white, line_feed, quote}
-use Rattle.sbl_text.specs.Codes.{code_of}
+use Rattle.sbl_text.specs.Codes.{code_of, max_hex_digits}
 use Rattle.sbl_text.specs.Escapes.{InForce, opens, closes, find}
 
--- how many bytes a text has
+-- the length of a text in UTF-8 bytes
 abbrev pub byte_length : List ℕ → ℕ
 byte_length text = length (encode_utf8_all text)
 
--- ---- an insertion's name
+-- ---- the name in an insertion
 
--- a fault that lacks its place
+-- a fault without its byte offset
 abbrev pub Refusal : Type 0
 Refusal = ℕ → ScriptFault
 
@@ -26,7 +26,7 @@ code_or_fault (Some c) = Ok c
 abbrev pub character_named : Option Inserts → List ℕ → Result ℕ Refusal
 character_named e [] = Err fault.UnknownEscape
 character_named e (c ∷ []) = if c == quote || opens e c then Ok c else Err fault.UnknownEscape
-character_named e (c ∷ d ∷ cs) = if c == 85 && d == 43 then code_or_fault (code_of 16 6 cs) else Err fault.UnknownEscape
+character_named e (c ∷ d ∷ cs) = if c == 85 && d == 43 then code_or_fault (code_of 16 max_hex_digits cs) else Err fault.UnknownEscape
 
 abbrev pub alone : Result ℕ Refusal → Result (List ℕ) Refusal
 alone (Ok c) = Ok (c ∷ [])
@@ -36,19 +36,19 @@ abbrev pub value_or_character : Option (List ℕ) → Result ℕ Refusal → Res
 value_or_character (Some v) c = Ok v
 value_or_character None c = alone c
 
--- What an insertion gives: white space nothing, a macro its value, and else the character that is named.
+-- The value of an insertion: nothing for white space, the value of a macro, otherwise the character that is named.
 abbrev pub inserted : InForce → List ℕ → Result (List ℕ) Refusal
 inserted e name =
     if list_all is_white name then Ok [] else value_or_character (find e.macros name) (character_named e.inserts name)
 
 -- ---- parts of a spelling
 
--- an opening character, a name, and the next closing one
+-- an opening character, a name without a closing character, and a closing character
 abbrev pub IsInsertion : InForce → List ℕ → List ℕ → Type 0
 IsInsertion e x name =
     (a : ℕ) × (b : ℕ) × (x ≡ a ∷ (name ++ b ∷ [])) × (a == quote ≡ false) × (opens e.inserts a ≡ true) × (closes e.inserts b ≡ true) × (list_all (λ c. not (closes e.inserts c)) name ≡ true)
 
--- a character that stands for itself
+-- a character that means itself
 abbrev pub IsPlain : InForce → List ℕ → List ℕ → Type 0
 IsPlain e x v = (c : ℕ) × (x ≡ c ∷ []) × (c == quote ≡ false) × (opens e.inserts c ≡ false) × (v ≡ c ∷ [])
 
@@ -59,7 +59,7 @@ pub record Part : Type 0 where
 abbrev pub IsPart : InForce → Part → Type 0
 IsPart e p = IsPlain e p.text p.value ⊎ ((name : List ℕ) × IsInsertion e p.text name × (inserted e name ≡ Ok p.value))
 
--- the parts stand one after another at the front of the spelling, before the rest
+-- the spelling begins with these parts, one after another, and the rest follows
 abbrev pub AreParts : InForce → List ℕ → List Part → List ℕ → Type 0
 AreParts e text [] rest = text ≡ rest
 AreParts e text (p ∷ ps) rest = (behind : List ℕ) × (text ≡ p.text ++ behind) × IsPart e p × AreParts e behind ps rest
@@ -72,24 +72,24 @@ values (p ∷ ps) = p.value ++ values ps
 abbrev pub Means : InForce → List ℕ → List ℕ → Type 0
 Means e spelling v = (ps : List Part) × AreParts e spelling ps [] × (v ≡ values ps)
 
--- a quote that ends the literal too early, or an insertion that gives nothing
+-- a quote that ends the literal too early, or an insertion that has no value
 abbrev pub IsWrong : InForce → List ℕ → ℕ → ScriptFault → Type 0
 IsWrong e text place f =
     ((more : List ℕ) × (text ≡ quote ∷ more) × (f ≡ fault.BadCharacter place))
     ⊎ ((x : List ℕ) × (name : List ℕ) × (more : List ℕ) × (text ≡ x ++ more) × IsInsertion e x name × (g : Refusal) × (inserted e name ≡ Err g) × (f ≡ g place))
 
--- the first fault of a spelling that begins at a place
+-- the first fault of a spelling that begins at this byte offset
 abbrev pub FirstWrong : InForce → List ℕ → ℕ → ScriptFault → Type 0
 FirstWrong e spelling place f =
     (before : List ℕ) × (rest : List ℕ) × (ps : List Part) × (spelling ≡ before ++ rest) × AreParts e spelling ps rest × IsWrong e rest (place + byte_length before) f
 
--- each insertion has an end, and outside of them stands no line feed
+-- each insertion has an end, and there is no line feed outside of insertions
 abbrev pub is_closed : Option Inserts → Bool → List ℕ → Bool
 is_closed e inside [] = not inside
 is_closed e true (c ∷ cs) = is_closed e (not (closes e c)) cs
 is_closed e false (c ∷ cs) = if c == quote then is_closed e false cs else (if c == line_feed then false else is_closed e (opens e c) cs)
 
--- what a spelling without its quotes gives
+-- the result for a spelling without its quotes
 abbrev pub IsLiteral : InForce → List ℕ → Result (List ℕ) ScriptFault → Type 0
 IsLiteral e spelling (Ok v) = (is_closed e.inserts false spelling ≡ true) × Means e spelling v
 IsLiteral e spelling (Err f) =

@@ -1,4 +1,4 @@
--- The pieces of a text: blanks, comments and tokens.
+-- The pieces of a text: a piece is one token, one comment or one white space character.
 use Rattle.std.specs.Prelude.{◌≡◌, ℕ, ◌≤◌, Bool, true, false, not, ◌&&◌, ◌||◌, ◌==◌, if◌then◌else◌, List, [], ◌∷◌, ◌++◌, length, Option}
 use Rattle.std.specs.List.{list_all}
 use Rattle.sbl_lexemes.specs.declared.signs.Sign.{Sign}
@@ -11,14 +11,14 @@ use Rattle.sbl_text.specs.declared.pieces.Wanted.TheVariants as wanted
 use Rattle.sbl_lexemes.specs.Signs.{sign_text}
 use Rattle.sbl_text.specs.Escapes.{opens, closes}
 
--- The text can stand between the quotes of a literal. `inside` says that an insertion has begun.
+-- The text may come between the quotes of a literal. `inside`: an insertion has begun.
 abbrev pub is_inner : Option Inserts → Bool → List ℕ → Bool
 is_inner e inside [] = not inside
 is_inner e true (c ∷ cs) = is_inner e (not (closes e c)) cs
 is_inner e false (c ∷ cs) =
     if c == quote || c == line_feed then false else is_inner e (opens e c) cs
 
--- `*/` stands somewhere in the text
+-- the text begins with `/`; `has_end`: the text contains `*/`
 abbrev pub starts_slash : List ℕ → Bool
 starts_slash [] = false
 starts_slash (c ∷ cs) = c == slash
@@ -39,7 +39,7 @@ Has e shape.Literal x = (inner : List ℕ) × (x ≡ quote ∷ (inner ++ quote �
 Has e shape.Inserts x = (a : ℕ) × (b : ℕ) × (x ≡ a ∷ b ∷ []) × (a == quote ≡ false) × (is_white a ≡ false) × (is_white b ≡ false)
 Has e shape.MacroName x = (c : ℕ) × (cs : List ℕ) × (x ≡ c ∷ cs) × (is_white c ≡ false) × (list_all (λ d. not (is_white d)) cs ≡ true)
 
--- which shapes may come: after the word that asks for insert characters or for a macro's name, white space and that
+-- the shapes that may come: after a word that requires insert characters or a macro's name, only those and white space
 abbrev pub may_come : Wanted → Shape → Bool
 may_come wanted.Inserts shape.Blank = true
 may_come wanted.Inserts shape.Inserts = true
@@ -62,18 +62,18 @@ setting i w = record { inserts = i; wanted = w }
 abbrev pub BeginsComment : List ℕ → Type 0
 BeginsComment text = (c : ℕ) × (more : List ℕ) × (text ≡ slash ∷ c ∷ more) × (c == slash || c == star ≡ true)
 
--- The text x is of the shape, may come, and stands before the rest. No sign begins where a comment does.
+-- The text x has the shape k, may come, and is followed by the rest. If a comment begins here, x is not a sign.
 pub record Stands (e : Setting) (k : Shape) (x rest : List ℕ) : Type 0 where
   pub has : Has e.inserts k x
   pub comes : may_come e.wanted k ≡ true
   pub no_comment : k ≡ shape.Sign → BeginsComment (x ++ rest) → ⊥
 
--- and no longer one does
+-- x is the longest such text
 pub record IsPiece (e : Setting) (k : Shape) (x rest : List ℕ) : Type 0 where
   pub stands : Stands e k x rest
   pub longest : (j : Shape) (y more : List ℕ) → x ++ rest ≡ y ++ more → Stands e j y more → length y ≤ length x
 
--- nothing stands at the front
+-- the text does not begin with a piece
 abbrev pub NoPiece : Setting → List ℕ → Type 0
 NoPiece e text = (j : Shape) (y more : List ℕ) → text ≡ y ++ more → Stands e j y more → ⊥
 
@@ -88,7 +88,7 @@ pub record Gap : Type 0 where
   pub shape : Shape
   pub text : List ℕ
 
--- white space and comments alone stand before the rest
+-- only these pieces of white space and comments are before the rest
 abbrev pub AreGaps : Setting → List ℕ → List Gap → List ℕ → Type 0
 AreGaps e text [] rest = text ≡ rest
 AreGaps e text (g ∷ gs) rest = (behind : List ℕ) × (text ≡ g.text ++ behind) × IsPiece e g.shape g.text behind × (is_gap g.shape ≡ true) × AreGaps e behind gs rest

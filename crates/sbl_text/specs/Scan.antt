@@ -1,5 +1,5 @@
--- How a piece is found: by its first character, and then to its end. Nothing here need be believed: it is what functions
--- inside the crate promise each other.
+-- Finds the end of a piece, starting from its first character. Internal: only functions inside the crate use these
+-- definitions in their contracts.
 use Rattle.std.specs.Prelude.{◌≡◌, ◌++◌, ℕ, Bool, true, false, not, ◌&&◌, ◌||◌, ◌==◌, if◌then◌else◌, List, [], ◌∷◌, drop, Option, Some, None, option_map}
 use Rattle.sbl_text.specs.declared.pieces.Shape.{Shape}
 use Rattle.sbl_text.specs.declared.pieces.Shape.TheVariants as shape
@@ -19,19 +19,19 @@ start_of c =
     if is_white c then start.White else (if is_letter c then start.Letter else (if is_digit c then start.Digit
     else (if c == quote then start.Quote else (if c == slash then start.Slash else start.Other))))
 
--- what is left after the quote that ends the literal
+-- the text after the quote that ends the literal
 abbrev pub past_literal : Option Inserts → Bool → List ℕ → Option (List ℕ)
 past_literal e inside [] = None
 past_literal e true (c ∷ cs) = past_literal e (not (closes e c)) cs
 past_literal e false (c ∷ cs) =
     if c == quote then Some cs else (if c == line_feed then None else past_literal e (opens e c) cs)
 
--- what is left after the `*/`
+-- the text after the `*/`
 abbrev pub past_block : List ℕ → Option (List ℕ)
 past_block [] = None
 past_block (c ∷ cs) = if c == star && starts_slash cs then Some (drop 1 cs) else past_block cs
 
--- a shape, and what is left after it
+-- the shape of a piece, and the text after it
 abbrev pub Cut : Type 0
 Cut = Option (Shape × List ℕ)
 
@@ -41,7 +41,7 @@ cut_as k rest = option_map (λ r. (k, r)) rest
 abbrev pub sign_cut : List ℕ → Cut
 sign_cut text = option_map (λ p. (shape.Sign, p.1)) (sign_front text)
 
--- a text that begins with a slash, and what follows the slash
+-- the first piece of a text that begins with a slash; the second argument is the text after the slash
 abbrev pub slash_cut : List ℕ → List ℕ → Cut
 slash_cut text [] = sign_cut text
 slash_cut text (c ∷ cs) =
@@ -60,7 +60,7 @@ unfoldable pub cut : Option Inserts → List ℕ → Cut
 cut e [] = None
 cut e (c ∷ cs) = cut_at e (start_of c) c cs
 
--- two characters that are not white, the first no quote
+-- two characters that are not white space, the first not a quote
 abbrev pub pair_from : ℕ → List ℕ → Cut
 pair_from a [] = None
 pair_from a (b ∷ cs) = if a == quote || is_white b then None else Some (shape.Inserts, cs)
@@ -78,11 +78,11 @@ cut_in e wanted.Token text = cut e text
 cut_in e wanted.Inserts text = pair_cut text
 cut_in e wanted.MacroName text = name_cut text
 
--- what is cut from the front of a text is the longest piece there
+-- the result of cutting the text is its longest first piece
 abbrev pub IsCutFrom : Setting → List ℕ → Option (Shape × List ℕ) → Type 0
 IsCutFrom e text None = NoPiece e text
 IsCutFrom e text (Some p) = (x : List ℕ) × (text ≡ x ++ p.1) × IsPiece e p.0 x p.1
 
--- a piece stands at the front of the text, and nothing of it is longer
+-- the text begins with a piece, the longest there, and the rest follows
 abbrev pub Piece_at : Setting → Shape → List ℕ → List ℕ → Type 0
 Piece_at e k text rest = (x : List ℕ) × (text ≡ x ++ rest) × IsPiece e k x rest

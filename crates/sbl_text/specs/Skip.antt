@@ -1,5 +1,4 @@
--- How the characters of a class are skipped. Nothing here need be believed: it is what functions inside the crate promise
--- each other.
+-- Skips the characters of a class. Internal: only functions inside the crate use these definitions in their contracts.
 use Rattle.std.specs.Prelude.{ℕ, Bool, not, ◌==◌, if◌then◌else◌, List, [], ◌∷◌}
 use Rattle.sbl_text.specs.declared.classes.Class.{Class}
 use Rattle.sbl_text.specs.declared.classes.Class.TheVariants as class
@@ -13,7 +12,7 @@ is_in class.Digit c = is_digit c
 is_in class.Line c = not (c == line_feed)
 is_in class.Black c = not (is_white c)
 
--- what is left after the characters that pass
+-- the text after its leading characters that satisfy p
 abbrev pub past : (ℕ → Bool) → List ℕ → List ℕ
 past p [] = []
 past p (c ∷ cs) = if p c then past p cs else c ∷ cs

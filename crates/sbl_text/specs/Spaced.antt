@@ -1,4 +1,4 @@
--- How a lexeme is written, which lexemes can be said, and texts whose tokens stand apart.
+-- How a lexeme is written, which lexemes can be written, and texts whose tokens are separated by white space.
 use Rattle.std.specs.Prelude.{◌≡◌, ℕ, Bool, true, List, [], ◌∷◌, ◌++◌, map, encode_utf8_all}
 use Rattle.std.specs.List.{list_all}
 use Rattle.std.specs.Str.{chars, IsUtf8}
@@ -12,7 +12,7 @@ use Rattle.sbl_lexemes.specs.Lexemes.{Lexeme, word, sign, name, number, literal,
 use Rattle.sbl_text.specs.Directives.{Directives, after}
 use Rattle.sbl_text.specs.Tokens.{Says}
 
--- How a lexeme is written, as UTF-8 bytes: a number in decimal, a literal by its spelling in quotes.
+-- The text of a lexeme, as UTF-8 bytes: a number in decimal, a literal as its spelling in quotes.
 abbrev pub lexeme_text : Lexeme → List ℕ
 lexeme_text (word w) = word_text w
 lexeme_text (sign g) = sign_text g
@@ -22,25 +22,25 @@ lexeme_text (literal spelling v) = quote ∷ (spelling ++ quote ∷ [])
 lexeme_text (inserts a b) = encode_utf8_all (a ∷ b ∷ [])
 lexeme_text (macro_name n) = n
 
--- the text is of the shape, which may come in this state, and says the lexeme
+-- the text has this shape, may come in this state, and reads as the lexeme
 abbrev pub IsSaidBy : Directives → Lexeme → Shape → List ℕ → Type 0
 IsSaidBy s l k text = IsUtf8 text × Has s.escapes.inserts k (chars text) × (may_come s.wanted k ≡ true) × Says s k (chars text) l
 
--- some text says it
+-- some text reads as the lexeme
 abbrev pub IsSaid : Directives → Lexeme → Type 0
 IsSaid s l = (k : Shape) × (text : List ℕ) × IsSaidBy s l k text
 
--- what some lexemes set, one after another
+-- the state after these lexemes
 abbrev pub after_all : Directives → List Lexeme → Directives
 after_all s [] = s
 after_all s (l ∷ ls) = after_all (after s l) ls
 
--- each is said under what those before it have set
+-- each lexeme can be written in the state after those before it
 abbrev pub AreSaid : Directives → List Lexeme → Type 0
 AreSaid s [] = Unit {0}
 AreSaid s (l ∷ ls) = IsSaid s l × AreSaid (after s l) ls
 
--- a lexeme, and the white character that is written after it
+-- a lexeme, and the white space character written after it
 pub record Spaced : Type 0 where
   pub lexeme : Lexeme
   pub space : ℕ

@@ -1,4 +1,4 @@
--- The tokens of a text, and the first thing that is wrong with it.
+-- The tokens of a text, and its first fault.
 use Rattle.std.specs.Prelude.{◌≡◌, ◌⊎◌, ℕ, ◌<◌, ◌≤◌, ◌+◌, ◌-◌, ◌*◌, Bool, true, false, ◌&&◌, ◌==◌, if◌then◌else◌, List, [], ◌∷◌, ◌++◌, encode_utf8_all, Option, Some, None, Result, Ok, Err}
 use Rattle.sbl_lexemes.specs.declared.signs.Sign.{Sign}
 use Rattle.sbl_lexemes.specs.declared.words.Word.{Word}
@@ -17,7 +17,7 @@ use Rattle.sbl_text.specs.Literals.{byte_length, Means, FirstWrong}
 use Rattle.sbl_lexemes.specs.Lexemes.{Lexeme, word, sign, name, number, literal, inserts, macro_name, lexeme_of, SaysFitting}
 use Rattle.sbl_text.specs.Classes.{quote, slash, star}
 
--- the number that digits write, after digits that write n
+-- the number that the digits write, after digits that write n
 abbrev pub digits_value : ℕ → List ℕ → ℕ
 digits_value n [] = n
 digits_value n (c ∷ cs) = digits_value (n * 10 + (c - 48)) cs
@@ -29,7 +29,7 @@ abbrev pub word_or_name : Option Word → List ℕ → Lexeme
 word_or_name None text = name text
 word_or_name (Some w) text = word w
 
--- a shape that says nothing, and one that says what a lexeme tells
+-- the lexeme that a text of this shape means; white space and comments mean none
 abbrev pub Told : Directives → Shape → List ℕ → Lexeme → Type 0
 Told s shape.Word x l = l ≡ word_or_name (word_of (encode_utf8_all x)) (encode_utf8_all x)
 Told s shape.Number x l = (number_of x ≤ 2147483647) × (l ≡ number (number_of x))
@@ -44,16 +44,17 @@ abbrev pub HasValue : Directives → Lexeme → Type 0
 HasValue s (literal spelling v) = (w : List ℕ) × (value_for s.defining v ≡ Some w)
 HasValue s _ = Unit {0}
 
--- and one that has none
+-- a literal after `stringdef` has no value for the macro
 abbrev pub LacksValue : Directives → Lexeme → Type 0
 LacksValue s (literal spelling v) = value_for s.defining v ≡ None
 LacksValue s _ = ⊥
 
--- What a token says: a reserved word is no name, a number is at most 2147483647, a literal means its characters.
+-- The meaning of a token: a reserved word is not a name, a number is at most 2147483647, a literal means its
+-- characters.
 abbrev pub Says : Directives → Shape → List ℕ → Lexeme → Type 0
 Says s k x l = Told s k x l × HasValue s l
 
--- a piece, and what it says, if it is no gap
+-- a piece, and its lexeme unless it is white space or a comment
 pub record Piece : Type 0 where
   pub shape : Shape
   pub text : List ℕ
@@ -67,7 +68,8 @@ abbrev pub after_piece : Directives → Option Lexeme → Directives
 after_piece s None = s
 after_piece s (Some l) = after s l
 
--- The pieces stand one after another at the front of the text, each the longest under what those before it have set.
+-- The text begins with these pieces, one after another, each the longest in the state after those before it. s is the
+-- state before them, t the state after them.
 abbrev pub AreCut : Directives → List ℕ → List Piece → Directives → List ℕ → Type 0
 AreCut s text [] t rest = (text ≡ rest) × (s ≡ t)
 AreCut s text (p ∷ ps) t rest =
@@ -77,12 +79,12 @@ abbrev pub and_more : Option Lexeme → List Lexeme → List Lexeme
 and_more None ls = ls
 and_more (Some l) ls = l ∷ ls
 
--- what the pieces say, in order
+-- the lexemes of the pieces, in order
 abbrev pub said : List Piece → List Lexeme
 said [] = []
 said (p ∷ ps) = and_more p.lexeme (said ps)
 
--- the text may end here: no insert characters are wanted
+-- the text may end here: no insert characters are expected
 abbrev pub MayEnd : Directives → Type 0
 MayEnd s = s.wanted ≡ wanted.Inserts → ⊥
 
@@ -93,9 +95,9 @@ AreTokensFrom s text ls = (ps : List Piece) × (t : Directives) × AreCut s text
 abbrev pub AreTokens : List ℕ → List Lexeme → Type 0
 AreTokens text ls = AreTokensFrom start text ls
 
--- ---- places
+-- ---- positions
 
--- a token's lexeme, the bytes of its text, and the byte places where it begins and ends
+-- a lexeme, the bytes of its text, and the byte offsets of its start and end
 pub record Placed : Type 0 where
   pub lexeme : Lexeme
   pub text : List ℕ
@@ -109,12 +111,12 @@ abbrev pub put_placed : ℕ → List ℕ → Option Lexeme → List Placed → L
 put_placed place x None ts = ts
 put_placed place x (Some l) ts = record { lexeme = l; text = encode_utf8_all x; start = place; end = place + byte_length x } ∷ ts
 
--- the tokens among the pieces from a place on
+-- the tokens among the pieces, starting at this byte offset
 abbrev pub placed_from : ℕ → List Piece → List Placed
 placed_from place [] = []
 placed_from place (p ∷ ps) = put_placed place p.text p.lexeme (placed_from (place + byte_length p.text) ps)
 
--- the tokens of a text with their places
+-- the tokens of a text with their positions
 abbrev pub ArePlacedFrom : Directives → List ℕ → List Placed → Type 0
 ArePlacedFrom s text ts = (ps : List Piece) × (t : Directives) × AreCut s text ps t [] × MayEnd t × (ts ≡ placed_from 0 ps)
 
@@ -127,7 +129,7 @@ abbrev pub starts_star : List ℕ → Bool
 starts_star [] = false
 starts_star (c ∷ cs) = c == star
 
--- where two insert characters are wanted: a quote, or what stands after the first one
+-- if two insert characters are expected: the fault is at a quote, or after the first character
 abbrev pub pair_fault : List ℕ → ℕ → ScriptFault
 pair_fault [] place = fault.BadCharacter place
 pair_fault (c ∷ cs) place = if c == quote then fault.BadCharacter place else fault.BadCharacter (place + byte_length (c ∷ []))
@@ -138,12 +140,12 @@ token_fault (c ∷ cs) place =
     if c == quote then fault.UnclosedString place
     else (if c == slash && starts_star cs then fault.UnclosedComment place else fault.BadCharacter place)
 
--- the fault where no piece stands
+-- the fault if there is no piece
 abbrev pub fault_at : Wanted → List ℕ → ℕ → ScriptFault
 fault_at wanted.Inserts text place = pair_fault text place
 fault_at _ text place = token_fault text place
 
--- a number that is too large, a literal with a bad insertion, or one that gives no value to its macro
+-- a number that is too large, a literal with a bad insertion, or a literal that gives no value to its macro
 abbrev pub IsRefused : Directives → Shape → List ℕ → ℕ → ScriptFault → Type 0
 IsRefused s shape.Number x place f = (2147483647 < number_of x) × (f ≡ fault.NumberTooLarge place)
 IsRefused s shape.Literal x place f =
@@ -151,13 +153,13 @@ IsRefused s shape.Literal x place f =
     × (FirstWrong s.escapes inner (place + 1) f ⊎ ((v : List ℕ) × Means s.escapes inner v × (value_for s.defining v ≡ None) × (f ≡ fault.BadCode place)))
 IsRefused s _ x place f = ⊥
 
--- no piece stands at the front of the text, and there is something or insert characters are wanted; or the piece is refused
+-- the text does not begin with a piece, and it is not empty or insert characters are expected; or the piece is refused
 abbrev pub IsFault : Directives → List ℕ → ℕ → ScriptFault → Type 0
 IsFault s text place f =
     ((text ≡ [] → s.wanted ≡ wanted.Inserts) × NoPiece (setting_of s) text × (f ≡ fault_at s.wanted text place))
     ⊎ ((k : Shape) × (x : List ℕ) × (rest : List ℕ) × (text ≡ x ++ rest) × IsPiece (setting_of s) k x rest × IsRefused s k x place f)
 
--- the first fault of a text: tokens without fault stand before it, and its place counts the bytes before it
+-- the first fault of a text: the pieces before it have no fault, and its position is the number of bytes before it
 abbrev pub IsFirstFaultFrom : Directives → List ℕ → ScriptFault → Type 0
 IsFirstFaultFrom s text f =
     (before : List ℕ) × (rest : List ℕ) × (ps : List Piece) × (t : Directives) × (text ≡ before ++ rest) × AreCut s text ps t rest × IsFault t rest (byte_length before) f
@@ -167,17 +169,17 @@ IsFirstFault text f = IsFirstFaultFrom start text f
 
 -- ---- one token after another
 
--- the token's text is x, which stands after `before`
+-- the text of the token is x, and it starts after `before`
 abbrev pub IsAt : List ℕ → List ℕ → Token → Type 0
 IsAt before x t = (t.text.now ≡ encode_utf8_all x) × (t.start ≡ byte_length before) × (t.end ≡ byte_length before + byte_length x)
 
--- after gaps a fault stands
+-- there is a fault after white space and comments
 abbrev pub Stops : List ℕ → Directives → List ℕ → ScriptFault → Type 0
 Stops text s from f =
     (before : List ℕ) × (at : List ℕ) × (text ≡ before ++ at) × AfterGaps (setting_of s) from at × IsFault s at (byte_length before) f
 
--- The token stands in the text after gaps: its own text is the longest piece there, tells what the token says, and stands
--- at its places.
+-- The token comes after white space and comments: its text is the longest piece there, has the token's meaning, and is
+-- at the token's position.
 pub record IsToken (text : List ℕ) (s : Directives) (from rest : List ℕ) (token : Token) : Type 0 where
   pub before : List ℕ
   pub own : List ℕ
@@ -189,29 +191,29 @@ pub record IsToken (text : List ℕ) (s : Directives) (from rest : List ℕ) (to
   pub place : IsAt before own token
   pub fitting : SaysFitting token
 
--- What stands in the text from `from` on: gaps, then the end or a token. What is left is `rest`.
+-- What comes from `from` on: white space and comments, then the end or a token. `rest` is the text after it.
 abbrev pub Comes : List ℕ → Directives → List ℕ → List ℕ → Option Token → Type 0
 Comes text s from rest None = AfterGaps (setting_of s) from [] × MayEnd s × (rest ≡ [])
 Comes text s from rest (Some token) = IsToken text s from rest token
 
--- The token that comes next, or the end, or a fault. What is set then is t.
+-- The next token, or the end, or a fault. t is the state after it.
 abbrev pub Advances : List ℕ → Directives → List ℕ → Directives → List ℕ → Result (Option Token) ScriptFault → Type 0
 Advances text s from t rest (Ok None) = Comes text s from rest None × (t ≡ s)
 Advances text s from t rest (Ok (Some token)) = Comes text s from rest (Some token) × HasValue s (lexeme_of token) × (t ≡ after s (lexeme_of token))
 Advances text s from t rest (Err f) = (rest ≡ from) × (t ≡ s) × ((f ≡ fault.OutOfMemory) ⊎ Stops text s from f)
 
--- a text that is being read, what of it is left, what was set, and the fault that was answered
+-- the text that is being read, the rest of it, the state, and the fault that was returned
 pub record Reading : Type 0 where
   pub text : List ℕ
   pub rest : List ℕ
   pub state : Directives
   pub fault : Option ScriptFault
 
--- at a text's front
+-- at the start of a text
 abbrev pub beginning : Directives → List ℕ → Reading
 beginning s text = record { text = text; rest = text; state = s; fault = None }
 
--- what comes next, where no fault was answered: a fault is kept, and want of memory is not
+-- what comes next if no fault was returned so far: a fault is kept, but `OutOfMemory` is not
 abbrev pub IsFresh : Reading → Reading → Result (Option Token) ScriptFault → Type 0
 IsFresh r t (Ok o) = Advances r.text r.state r.rest t.state t.rest (Ok o) × (t.fault ≡ None)
 IsFresh r t (Err f) =
@@ -221,6 +223,6 @@ abbrev pub IsAnswer : Option ScriptFault → Reading → Reading → Result (Opt
 IsAnswer None r t result = IsFresh r t result
 IsAnswer (Some f) r t result = (result ≡ Err f) × (t ≡ r)
 
--- What is answered next: the fault that was answered before, and nothing changes; or what comes next in the text.
+-- What the next call returns: the fault that was returned before, with nothing changed; or what comes next in the text.
 abbrev pub IsNext : Reading → Reading → Result (Option Token) ScriptFault → Type 0
 IsNext r t result = IsAnswer r.fault r t result

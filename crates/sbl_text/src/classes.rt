@@ -1,4 +1,4 @@
-//! The classes of characters.
+//! Classes of characters.
 
 ghost use Rattle.std.specs.Prelude.{◌≡◌, ◌≤◌, length};
 ghost use Rattle.std.specs.Str.{chars};
@@ -7,7 +7,7 @@ ghost use Rattle.sbl_text.specs.Skip as spec;
 
 use sbl_lexemes::split_first;
 
-/// What characters are skipped.
+/// A class of characters that the lexer skips over.
 #[derive(Clone, Copy, Debug)]
 pub enum Class {
     White,
@@ -24,7 +24,7 @@ fn is_white(c: char) -> bool
     ('\t' <= c && c <= '\r') || (c == ' ' || c == '\u{feff}')
 }
 
-/// Whether a character is in a class.
+/// Returns whether the character is in the class.
 pub fn is_in(class: Class, c: char) -> bool
     ensures { result ≡ spec.is_in class c }
 {
@@ -41,7 +41,7 @@ pub fn is_in(class: Class, c: char) -> bool
     }
 }
 
-/// What is left after the characters of the class.
+/// Skips the leading characters that are in the class and returns the rest of the text.
 pub fn past(class: Class, mut text: &str) -> &str
     ensures value { chars result.now ≡ spec.past (spec.is_in class) (chars text.entry.now) }
     ensures within { length result.now ≤ length text.entry.now }

@@ -1,4 +1,4 @@
-//! Characters by their codes.
+//! Characters written as numbers, for `stringdef` and `U+`.
 
 ghost use Rattle.std.specs.Prelude.{◌+◌, ◌∷◌, drop, ◌≡◌, ◌≤◌, ◌<◌, ◌⊎◌, MatchResult, Some, None, true, false, length};
 ghost use Rattle.std.specs.List.{position};
@@ -9,10 +9,17 @@ use crate::classes::{Class, is_in};
 use crate::fault::ScriptFault;
 use std::alloc::Global;
 
-/// The largest code of a character.
+/// The largest code point.
 const LARGEST: u32 = 0x10FFFF;
 
-/// The character whose code the digits write, if there are at least one and at most so many, all of the base.
+/// The most digits of a hexadecimal code.
+pub(crate) const MAX_HEX_DIGITS: usize = 6;
+
+/// The most digits of a decimal code.
+pub(crate) const MAX_DECIMAL_DIGITS: usize = 7;
+
+/// Returns the character whose code point the digits write in this base, or `None` if there are no digits, more than
+/// `most`, a character that is no digit of the base, or if the number is not the code point of a character.
 pub fn code(base: u32, most: usize, mut digits: &[char]) -> Option<char>
     requires low { 2 ≤ base }
     requires high { base ≤ 16 }
@@ -35,14 +42,14 @@ pub fn code(base: u32, most: usize, mut digits: &[char]) -> Option<char>
     char::from_u32(value)
 }
 
-/// The place of the first white character.
+/// Returns the index of the first white space character.
 fn first_white(chars: &[char]) -> Option<usize>
     ensures { result ≡ position is_white chars.now }
 {
     chars.iter().position(|c| is_in(Class::White, *c))
 }
 
-/// What stands before the first white character, and what stands from there on.
+/// Splits the characters before the first white space character.
 fn split_run(chars: &[char]) -> (&[char], &[char])
     ensures number { (length result.0.now ≡ 0 → ⊥) → spec.numbers_in chars.now ≡ result.0.now ∷ spec.numbers_in result.1.now }
     ensures white { length result.0.now ≡ 0 → 0 < length chars.now → spec.numbers_in chars.now ≡ spec.numbers_in (drop 1 chars.now) }
@@ -52,7 +59,8 @@ fn split_run(chars: &[char]) -> (&[char], &[char])
     chars.split_at(end)
 }
 
-/// The characters of the numbers that white space separates; `BadCode` at the place where something else stands.
+/// Reads numbers that are separated by white space and returns the characters with these code points. Returns `BadCode`
+/// at `place` if anything else is found, and `OutOfMemory` if an allocation fails.
 pub fn codes(
     alloc: Global,
     base: u32,
@@ -80,16 +88,17 @@ pub fn codes(
     Ok(value)
 }
 
-/// The value of a macro from the characters of its `hex` (else `decimal`) literal: numbers of 1 to 6 hexadecimal or 1
-/// to 7 decimal digits, with white space between them, each the code of a character.
+/// Returns the value of a macro, given the characters of its `hex` (otherwise `decimal`) literal: numbers of 1 to 6
+/// hexadecimal or 1 to 7 decimal digits, separated by white space, each the code point of a character.
 ///
-/// Answers `BadCode` at 0 where anything else stands (Snowball manual, "stringdef"; the limits are our own choice).
+/// Returns `BadCode` at 0 if anything else is found (Snowball manual, "stringdef"; the limits are our own choice), and
+/// `OutOfMemory` if an allocation fails.
 pub fn read_codes(alloc: Global, hex: bool, chars: &[char]) -> Result<Vec<char>, ScriptFault>
     ensures { MatchResult result (λ v. spec.codes_of hex chars.now ≡ Some v.items) (λ f. (f ≡ ScriptFault.OutOfMemory) ⊎ ((spec.codes_of hex chars.now ≡ None) × (f ≡ ScriptFault.BadCode 0))) }
 {
     if hex {
-        codes(alloc, 16, 6, chars, 0)
+        codes(alloc, 16, MAX_HEX_DIGITS, chars, 0)
     } else {
-        codes(alloc, 10, 7, chars, 0)
+        codes(alloc, 10, MAX_DECIMAL_DIGITS, chars, 0)
     }
 }

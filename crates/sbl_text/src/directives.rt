@@ -1,4 +1,4 @@
-//! What the tokens so far have set.
+//! The state of the lexer that earlier tokens have set.
 
 ghost use Rattle.std.specs.Prelude.{◌≡◌, ◌⊎◌, List, ℕ, MatchResult, option_map, Some, None};
 ghost use Rattle.std.specs.Str.{chars};
@@ -6,7 +6,7 @@ ghost use Rattle.sbl_lexemes.specs.Lexemes.{characters_in, inserts_in};
 ghost use Rattle.sbl_text.specs.Escapes.{with_inserts};
 ghost use Rattle.sbl_text.specs.Directives as spec;
 
-use crate::codes::codes;
+use crate::codes::{MAX_DECIMAL_DIGITS, MAX_HEX_DIGITS, codes};
 use crate::escapes::Escapes;
 use crate::fault::ScriptFault;
 use crate::pieces::Wanted;
@@ -14,7 +14,7 @@ use sbl_lexemes::{Kind, Token, Value, Word};
 use std::alloc::Global;
 use std::marker::Model;
 
-/// How the literal of a macro is read: as it stands, or as the codes of characters.
+/// How the literal of a macro is read: as it is, or as code points.
 #[derive(Clone, Copy, Debug, PartialEq, Eq)]
 pub enum Coding {
     Plain,
@@ -22,14 +22,14 @@ pub enum Coding {
     Decimal,
 }
 
-/// A macro whose value is still to come.
+/// A macro whose value has not been read yet.
 #[derive(Clone, Copy, Debug)]
 struct Defining<'a> {
     name: &'a str,
     coding: Coding,
 }
 
-/// What is in force in literals, what may come next, and the macro that is being defined.
+/// The insert characters and macros in force, what may come next, and the macro that is being defined.
 #[derive(Drop)]
 pub struct Directives<'a> {
     escapes: Escapes,
@@ -57,7 +57,7 @@ fn recoded<'a>(defining: Option<Defining<'a>>, coding: Coding) -> Option<Definin
     }
 }
 
-/// The value that a literal gives to a macro.
+/// Returns the value that a literal gives to a macro.
 fn coded(
     alloc: Global,
     coding: Coding,
@@ -71,12 +71,12 @@ fn coded(
             Ok(value) => Ok(value),
             Err(_) => Err(ScriptFault::OutOfMemory),
         },
-        Coding::Hex => codes(alloc, 16, 6, characters, place),
-        Coding::Decimal => codes(alloc, 10, 7, characters, place),
+        Coding::Hex => codes(alloc, 16, MAX_HEX_DIGITS, characters, place),
+        Coding::Decimal => codes(alloc, 10, MAX_DECIMAL_DIGITS, characters, place),
     }
 }
 
-/// The characters of a literal.
+/// Returns the characters of a literal, or none for another value.
 fn characters_of<'b>(value: &'b Value<'_>) -> &'b [char]
     ensures { result.now ≡ characters_in value.now }
 {
@@ -86,7 +86,7 @@ fn characters_of<'b>(value: &'b Value<'_>) -> &'b [char]
     }
 }
 
-/// The two insert characters.
+/// Returns the two insert characters.
 fn inserts_of(value: &Value<'_>) -> (char, char)
     ensures { result ≡ inserts_in value.now }
 {
@@ -100,7 +100,7 @@ impl<'a> Directives<'a> {
     ghost use Rattle.sbl_lexemes.specs.Lexemes.{lexeme_of};
     ghost use Rattle.sbl_text.specs.Tokens.{HasValue, LacksValue};
 
-    /// At the front of a text.
+    /// Returns the state at the start of a text.
     pub fn new(escapes: Escapes) -> Directives<'a>
         ensures { result ≡ spec.start_under escapes }
     {
@@ -111,14 +111,14 @@ impl<'a> Directives<'a> {
         }
     }
 
-    /// What is in force in literals.
+    /// Returns the insert characters and macros in force.
     pub fn escapes(&self) -> &Escapes
         ensures { result.now ≡ self.now.escapes }
     {
         &self.escapes
     }
 
-    /// What may come next.
+    /// Returns what may come next.
     pub fn wanted(&self) -> Wanted
         ensures { result ≡ self.now.wanted }
     {
@@ -132,7 +132,7 @@ impl<'a> Directives<'a> {
         self.defining = None;
     }
 
-    /// After a reserved word.
+    /// Updates the state after a reserved word.
     pub fn after_word(&mut self, word: Word)
         ensures { self.new ≡ spec.after_word self.old word }
     {
@@ -157,7 +157,7 @@ impl<'a> Directives<'a> {
         }
     }
 
-    /// After the insert characters.
+    /// Updates the state after two insert characters.
     pub fn after_inserts(&mut self, pair: (char, char))
         ensures { self.new ≡ spec.settled (with_inserts self.old.escapes pair.0 pair.1) }
     {
@@ -165,7 +165,7 @@ impl<'a> Directives<'a> {
         self.settle();
     }
 
-    /// After the name of a macro.
+    /// Updates the state after the name of a macro.
     pub fn after_name(&mut self, name: &'a str)
         ensures { self.new ≡ record { escapes = self.old.escapes; wanted = Wanted.Token; defining = Some (record { name = chars name.now; coding = Coding.Plain }) } }
     {
@@ -176,7 +176,9 @@ impl<'a> Directives<'a> {
         });
     }
 
-    /// After a literal that means these characters: it may define a macro.
+    /// Updates the state after a literal with these characters, which may define a macro. Returns `BadCode` at `place`
+    /// if the literal gives no value to its macro, and `OutOfMemory` if an allocation fails. On an error the state is
+    /// unchanged.
     pub fn after_literal(
         &mut self,
         alloc: Global,
@@ -199,8 +201,8 @@ impl<'a> Directives<'a> {
         }
     }
 
-    /// After a token. Where it is the literal of a macro and gives it no value, `BadCode` at its front, and nothing is
-    /// set; nothing is set either where memory is refused.
+    /// Updates the state after a token. Returns `BadCode` at the start of the token if it is the literal of a macro and
+    /// gives it no value, and `OutOfMemory` if an allocation fails. On an error the state is unchanged.
     pub fn after_token(&mut self, alloc: Global, token: &Token<'a>) -> Result<(), ScriptFault>
         ensures { MatchResult result (λ _. HasValue self.old (lexeme_of token.now) × (self.new ≡ spec.after self.old (lexeme_of token.now))) (λ f. (self.new ≡ self.old) × ((f ≡ ScriptFault.OutOfMemory) ⊎ (LacksValue self.old (lexeme_of token.now) × (f ≡ ScriptFault.BadCode token.now.start)))) }
     {

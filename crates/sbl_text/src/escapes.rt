@@ -1,4 +1,4 @@
-//! The insert characters and the macros in force.
+//! The insert characters and macros in force.
 
 ghost use Rattle.std.specs.Prelude.{◌≡◌, IfOk, if◌then◌else◌, is_ok, map, option_map, List, ℕ};
 ghost use Rattle.std.specs.Str.{chars};
@@ -9,16 +9,16 @@ use crate::macros::Macros;
 use std::alloc::{AllocError, Global};
 use std::marker::Model;
 
-/// The characters between which a name is inserted into a literal.
+/// The characters that enclose a name inserted into a literal.
 #[derive(Clone, Copy, Debug, PartialEq, Eq)]
 pub struct Inserts {
-    /// Before the name.
+    /// The character before the name.
     pub opening: char,
-    /// After the name.
+    /// The character after the name.
     pub closing: char,
 }
 
-/// The character opens an insertion.
+/// Returns whether the character opens an insertion.
 pub fn opens(inserts: Option<Inserts>, c: char) -> bool
     ensures { result ≡ spec.opens inserts c }
 {
@@ -28,7 +28,7 @@ pub fn opens(inserts: Option<Inserts>, c: char) -> bool
     }
 }
 
-/// The character closes an insertion.
+/// Returns whether the character closes an insertion.
 pub fn closes(inserts: Option<Inserts>, c: char) -> bool
     ensures { result ≡ spec.closes inserts c }
 {
@@ -38,8 +38,7 @@ pub fn closes(inserts: Option<Inserts>, c: char) -> bool
     }
 }
 
-/// What is in force in a literal: the insert characters, and the macros (Snowball manual, "stringescapes" and
-/// "stringdef").
+/// The insert characters and macros that apply to a literal (Snowball manual, "stringescapes" and "stringdef").
 #[derive(Drop)]
 pub struct Escapes {
     alloc: Global,
@@ -54,7 +53,7 @@ impl Model for Escapes {
 }
 
 impl Escapes {
-    /// No insert characters and no macros. The allocator is kept for macros.
+    /// Returns escapes with no insert characters and no macros. `alloc` is used for macros later.
     pub fn new(alloc: Global) -> Escapes
         ensures { result ≡ spec.nothing_set }
     {
@@ -65,7 +64,7 @@ impl Escapes {
         }
     }
 
-    /// Puts insert characters in force; the macros stay. A quote never opens an insertion.
+    /// Sets the insert characters; the macros are unchanged. A quote never opens an insertion.
     pub fn set(&mut self, a: char, b: char)
         ensures { self.new ≡ spec.with_inserts self.old a b }
     {
@@ -75,7 +74,8 @@ impl Escapes {
         });
     }
 
-    /// Defines a macro; an earlier one of the same name counts no more. Where memory is refused, nothing changes.
+    /// Defines a macro, which replaces an earlier macro of the same name. Returns `AllocError` if an allocation fails;
+    /// then nothing is changed.
     pub fn define(&mut self, name: &str, value: &[char]) -> Result<(), AllocError>
         ensures { self.new ≡ (if is_ok result then spec.with_macro self.old (chars name.now) value.now else self.old) }
     {
@@ -83,21 +83,21 @@ impl Escapes {
         self.macros.define(self.alloc, &letters, value)
     }
 
-    /// The insert characters.
+    /// Returns the insert characters.
     pub fn inserts(&self) -> Option<Inserts>
         ensures { result ≡ self.now.inserts }
     {
         self.inserts
     }
 
-    /// The characters that a macro stands for.
+    /// Returns the characters that a macro stands for, or `None` if there is no macro of this name.
     pub fn find(&self, name: &[char]) -> Option<&[char]>
         ensures { option_map (λ v. v.now) result ≡ spec.find self.now.macros name.now }
     {
         self.macros.find(name)
     }
 
-    /// The same insert characters and macros once more.
+    /// Returns a copy with the same insert characters and macros. Returns `AllocError` if an allocation fails.
     pub fn copy(&self) -> Result<Escapes, AllocError>
         ensures { IfOk result (λ e. e ≡ self.now) }
     {

@@ -1,4 +1,4 @@
-//! Why a script is refused.
+//! The faults of a script.
 
 ghost use Rattle.std.specs.Prelude.{◌≡◌};
 ghost use Rattle.sbl_text.specs.declared.fault.ScriptFault.TheVariants.{OutOfMemory};
@@ -6,40 +6,40 @@ ghost use Rattle.sbl_text.specs.declared.fault.ScriptFault.TheVariants.{OutOfMem
 use std::alloc::{AllocError, AllocFailed};
 use thiserror::Error;
 
-/// The first thing that is wrong with a script, with its number and its place.
+/// The first fault of a script, with its number and its position.
 ///
-/// A `place` counts the bytes of the text before it. An `item` is counted from 1 in the order of the text.
-/// Numbers, names and order are our own choice.
+/// A `place` is a byte offset in the text. An `item` is the number of an item, counted from 1 in the order of the text.
+/// Numbers, names and order of the faults are our own choice.
 #[derive(Debug, Clone, Copy, PartialEq, Eq, Error)]
 pub enum ScriptFault {
-    /// No token begins with the character at the place.
+    /// No token begins at the byte offset.
     #[error("1 BadCharacter at {place}")]
     BadCharacter { place: usize },
-    /// The literal whose opening quote is at the place has no end.
+    /// The literal whose opening quote is at the byte offset has no end.
     #[error("2 UnclosedString at {place}")]
     UnclosedString { place: usize },
-    /// The comment that begins at the place has no `*/`.
+    /// The comment that begins at the byte offset has no `*/`.
     #[error("3 UnclosedComment at {place}")]
     UnclosedComment { place: usize },
-    /// A literal inserts a name that nothing defines.
+    /// A literal inserts a name that is not defined.
     #[error("4 UnknownEscape at {place}")]
     UnknownEscape { place: usize },
-    /// A code is no character.
+    /// A number is not the code point of a character.
     #[error("5 BadCode at {place}")]
     BadCode { place: usize },
-    /// The number that begins at the place is above 2147483647.
+    /// The number at the byte offset is above 2147483647.
     #[error("6 NumberTooLarge at {place}")]
     NumberTooLarge { place: usize },
-    /// The token at the place cannot follow those before it, or more is needed at the end.
+    /// The token at the byte offset cannot follow the tokens before it, or more tokens are needed at the end.
     #[error("7 Syntax at {place}")]
     Syntax { place: usize },
-    /// The token at the place stands too deep.
+    /// The token at the byte offset is nested too deep.
     #[error("8 TooDeep at {place}")]
     TooDeep { place: usize },
     /// A name is declared twice.
     #[error("9 DeclaredTwice in item {item}")]
     DeclaredTwice { item: usize },
-    /// A name is declared nowhere before.
+    /// A name is not declared before its use.
     #[error("10 Undeclared in item {item}")]
     Undeclared { item: usize },
     /// A name is of a kind that is not allowed there.
@@ -48,10 +48,10 @@ pub enum ScriptFault {
     /// A name is defined twice.
     #[error("12 DefinedTwice in item {item}")]
     DefinedTwice { item: usize },
-    /// A routine or grouping is used and not defined.
+    /// A routine or grouping is used but not defined.
     #[error("13 Undefined in item {item}")]
     Undefined { item: usize },
-    /// A routine is used in the other mode than it is defined in.
+    /// A routine is defined in one mode and used in the other.
     #[error("14 WrongMode in item {item}")]
     WrongMode { item: usize },
     /// A `substring` has no `among`.
@@ -60,19 +60,19 @@ pub enum ScriptFault {
     /// An `among` after a `substring` has a starter.
     #[error("16 Starter in item {item}")]
     Starter { item: usize },
-    /// Two strings of an `among` are the same.
+    /// Two strings of an `among` are equal.
     #[error("17 RepeatedString in item {item}")]
     RepeatedString { item: usize },
     /// An `among` has no string.
     #[error("18 EmptyAmong in item {item}")]
     EmptyAmong { item: usize },
-    /// A `backwards` stands in backward mode.
+    /// A `backwards` is used in backward mode.
     #[error("19 NestedBackwards in item {item}")]
     NestedBackwards { item: usize },
-    /// The token at the place is of the language, and not of what is offered here.
+    /// The token at the byte offset belongs to a part of the language that is not supported.
     #[error("20 OutOfProfile at {place}")]
     OutOfProfile { place: usize },
-    /// The external asked for is not declared and defined as one.
+    /// The requested external is not declared as an external or not defined.
     #[error("21 NoExternal")]
     NoExternal,
     /// The bytes are not UTF-8.
@@ -81,7 +81,7 @@ pub enum ScriptFault {
     /// The script is longer than 1,048,576 bytes.
     #[error("24 ScriptTooLong")]
     ScriptTooLong,
-    /// Memory was refused.
+    /// An allocation failed.
     #[error("49 OutOfMemory")]
     OutOfMemory,
 }

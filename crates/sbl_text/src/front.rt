@@ -1,11 +1,11 @@
-//! The front of a text.
+//! The start of a text, up to a given rest.
 
 ghost use Rattle.std.specs.Prelude.{◌+◌, ◌^◌, ◌≤◌, ◌≡◌, ◌<◌, ◌∷◌, ◌++◌, [], List, ℕ, length, encode_utf8_all};
 ghost use Rattle.std.specs.Str.{chars};
 
 use sbl_lexemes::split_first;
 
-/// The front of a text, up to a text that ends it.
+/// Returns the part of `text` before `rest`, which is a suffix of `text`.
 pub fn front_before<'a>(text: &'a str, rest: &str) -> &'a str
     requires { (x : List ℕ) × (chars text.now ≡ x ++ chars rest.now) }
     ensures characters { (x : List ℕ) → chars text.now ≡ x ++ chars rest.now → chars result.now ≡ x }
@@ -15,7 +15,7 @@ pub fn front_before<'a>(text: &'a str, rest: &str) -> &'a str
     &text[..text.len() - rest.len()]
 }
 
-/// The byte place in a text where a text that ends it begins.
+/// Returns the byte offset in `source` of `rest`, which is a suffix of `source`.
 pub fn place_of(source: &str, rest: &str) -> usize
     requires { (x : List ℕ) × (chars source.now ≡ x ++ chars rest.now) }
     ensures place { (x : List ℕ) → chars source.now ≡ x ++ chars rest.now → result ≡ length (encode_utf8_all x) }
@@ -25,7 +25,7 @@ pub fn place_of(source: &str, rest: &str) -> usize
     source.len() - rest.len()
 }
 
-/// What stands between the quotes of a literal.
+/// Returns the text between the quotes of a literal.
 pub fn between_quotes(text: &str) -> &str
     requires { (x : List ℕ) × (chars text.now ≡ 39 ∷ (x ++ 39 ∷ [])) }
     ensures characters { (x : List ℕ) → chars text.now ≡ 39 ∷ (x ++ 39 ∷ []) → chars result.now ≡ x }

@@ -1,4 +1,4 @@
-//! The tokens of a text, one at a time.
+//! The lexer: returns the tokens of a text one at a time.
 
 ghost use Rattle.std.specs.Prelude.{◌≡◌, ◌≤◌, ◌<◌, ◌⊎◌, length, MatchOption, MatchResult, IfOk, IfErr, Some, None, Bool, true, false, ◌∷◌, [], List, ℕ, ◌++◌, map};
 ghost use Rattle.std.specs.Str.{chars};
@@ -38,7 +38,7 @@ impl<'a> Model for Lexer<'a> {
     ghost invariant = { λ s. (x : List ℕ) × (chars s.source.now ≡ x ++ chars s.rest.now) };
 }
 
-/// The text after white space and comments, and the token that is cut there.
+/// Skips white space and comments. Returns the text after them, and the token there as its shape and the text after it.
 fn cut_after<'a>(state: &Directives<'_>, from: &'a str) -> (&'a str, Option<(Shape, &'a str)>)
     ensures gaps { pieces.AfterGaps (setting_of state.now) (chars from.now) (chars result.0.now) }
     ensures next { MatchOption result.1 (pieces.NoPiece (setting_of state.now) (chars result.0.now)) (λ p. pieces.is_gap p.0 ≡ false × Piece_at (setting_of state.now) p.0 (chars result.0.now) (chars p.1.now)) }
@@ -46,7 +46,7 @@ fn cut_after<'a>(state: &Directives<'_>, from: &'a str) -> (&'a str, Option<(Sha
     past_gaps(state.escapes().inserts(), state.wanted(), from)
 }
 
-/// The token that comes next in a text from a place on, and what is left after it; at the end no token.
+/// Returns the next token of `source` at or after `from`, and the text after it; `None` at the end of the text.
 fn token_after<'a>(
     alloc: Global,
     state: &Directives<'_>,
@@ -84,15 +84,16 @@ fn token_after<'a>(
 impl<'a> Lexer<'a> {
     ghost use Rattle.sbl_text.specs.Directives.{start};
 
-    /// Begins at the text's front, with no insert characters and no macros. The allocator is kept for what tokens mean.
+    /// Starts at the beginning of the text, with no insert characters and no macros. `alloc` is used for the values of
+    /// tokens.
     pub fn new(alloc: Global, text: &'a str) -> Lexer<'a>
         ensures { result ≡ spec.beginning start (chars text.now) }
     {
         Lexer::under(alloc, text, Escapes::new(alloc))
     }
 
-    /// Begins at the text's front, with copies of the insert characters and macros; `OutOfMemory` where memory is
-    /// refused for them. The allocator is kept for what tokens mean.
+    /// Starts at the beginning of the text, with copies of the insert characters and macros. Returns `OutOfMemory` if
+    /// an allocation for them fails. `alloc` is used for the values of tokens.
     pub fn with_escapes(
         alloc: Global,
         text: &'a str,
@@ -104,7 +105,7 @@ impl<'a> Lexer<'a> {
         Ok(Lexer::under(alloc, text, escapes.copy()?))
     }
 
-    /// Begins at the text's front, with insert characters and macros.
+    /// Starts at the beginning of the text, with these insert characters and macros.
     fn under(alloc: Global, text: &'a str, escapes: Escapes) -> Lexer<'a>
         ensures { result ≡ spec.beginning (start_under escapes) (chars text.now) }
     {
@@ -117,7 +118,7 @@ impl<'a> Lexer<'a> {
         }
     }
 
-    /// What comes next from where the lexer stands. Where it is refused, the lexer stays where it stands.
+    /// Reads the next token. On an error the lexer is unchanged.
     fn advance(&mut self) -> Result<Option<Token<'a>>, ScriptFault>
         ensures next { spec.Advances self.old.text self.old.state self.old.rest self.new.state self.new.rest result }
         ensures same_text { self.new.text ≡ self.old.text }
@@ -141,12 +142,15 @@ impl<'a> Lexer<'a> {
         }
     }
 
-    /// The next token, or nothing at the end.
+    /// Returns the next token, or `None` at the end.
     ///
-    /// White space and comments before it are skipped; it is the longest token there under the insert characters and
-    /// macros that the tokens before it have set (Snowball manual, "The language"). Where no token stands, where a
-    /// number is too large, and where a literal inserts what is not defined, the fault with its place; from then on
-    /// each call answers this fault, whatever memory is left. After `OutOfMemory` the same token is read again.
+    /// Skips white space and comments, then takes the longest token under the insert characters and macros that the
+    /// earlier tokens have set (Snowball manual, "The language").
+    ///
+    /// Returns a fault with its position if no token begins there, a number is too large, or a literal inserts
+    /// something that is not defined or gives no value to its macro. After that each call returns the same fault,
+    /// whether or not memory is left. Returns `OutOfMemory` if an allocation fails; the next call reads the same token
+    /// again.
     pub fn next(&mut self) -> Result<Option<Token<'a>>, ScriptFault>
         ensures next { spec.IsNext self.old self.new result }
         ensures same_text { self.new.text ≡ self.old.text }
@@ -166,10 +170,10 @@ impl<'a> Lexer<'a> {
     }
 }
 
-/// All the tokens of a text, in order.
+/// Returns all tokens of a text, in order.
 ///
-/// Answers the first fault where something that is no token stands (Snowball manual, "The language"; places and
-/// numbers are our own choice), and `OutOfMemory` where memory was refused.
+/// Returns the first fault if the text has one (Snowball manual, "The language"; positions and numbers are our own
+/// choice), and `OutOfMemory` if an allocation fails.
 pub fn tokens<'a>(alloc: Global, text: &'a str) -> Result<Vec<Token<'a>>, ScriptFault>
     ensures fitting { IfOk result (λ ts. All SaysFitting ts.items) }
     ensures all { IfOk result (λ ts. spec.AreTokens (chars text.now) (map lexeme_of ts.items)) }
@@ -179,7 +183,7 @@ pub fn tokens<'a>(alloc: Global, text: &'a str) -> Result<Vec<Token<'a>>, Script
     tokens_under(alloc, text, Escapes::new(alloc))
 }
 
-/// All the tokens of a text that stands under insert characters and macros; as `tokens`.
+/// Returns all tokens of a text that is read with these insert characters and macros; otherwise like `tokens`.
 pub fn tokens_under<'a>(
     alloc: Global,
     text: &'a str,

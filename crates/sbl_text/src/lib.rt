@@ -1,4 +1,4 @@
-//! The tokens of a Snowball script.
+//! The lexer: reads the tokens of a Snowball script.
 #![tactic(auto)]
 
 mod classes;

@@ -1,4 +1,4 @@
-//! What the spelling of a literal means.
+//! The characters that a literal means.
 
 ghost use Rattle.std.specs.Prelude.{◌≡◌, ◌<◌, ◌+◌, ◌^◌, ◌⊎◌, ◌++◌, ◌∷◌, List, ℕ, MatchOption, MatchResult, Ok, Err, true, false, not, length};
 ghost use Rattle.std.specs.List.{list_all, position};
@@ -8,12 +8,12 @@ ghost use Rattle.sbl_text.specs.Escapes as escaping;
 ghost use Rattle.sbl_text.specs.Literals as spec;
 
 use crate::classes::{Class, is_in};
-use crate::codes::code;
+use crate::codes::{MAX_HEX_DIGITS, code};
 use crate::escapes::{Escapes, Inserts, closes, opens};
 use crate::fault::ScriptFault;
 use std::alloc::Global;
 
-/// Each insertion has an end, and outside of them stands no line feed.
+/// Returns whether each insertion has an end and there is no line feed outside of insertions.
 pub fn is_closed(inserts: Option<Inserts>, mut chars: &[char]) -> bool
     ensures { result ≡ spec.is_closed inserts false chars.entry.now }
 {
@@ -39,7 +39,8 @@ fn is_blank(name: &[char]) -> bool
     name.iter().all(|c| is_in(Class::White, *c))
 }
 
-/// The character that an insertion names: a quote, the opening character, or one with its code.
+/// Returns the character that an insertion names: a quote, the opening insert character, or the character with the code
+/// point after `U+`.
 fn character(inserts: Option<Inserts>, name: &[char], place: usize) -> Result<char, ScriptFault>
     ensures { MatchResult result (λ c. spec.character_named inserts name.now ≡ Ok c) (λ f. (g : spec.Refusal) × (spec.character_named inserts name.now ≡ Err g) × (f ≡ g place)) }
 {
@@ -51,7 +52,7 @@ fn character(inserts: Option<Inserts>, name: &[char], place: usize) -> Result<ch
         }
         [u, plus, digits @ ..] => {
             if *u == 'U' && *plus == '+' {
-                return match code(16, 6, digits) {
+                return match code(16, MAX_HEX_DIGITS, digits) {
                     Some(c) => Ok(c),
                     None => Err(ScriptFault::BadCode { place }),
                 };
@@ -62,7 +63,7 @@ fn character(inserts: Option<Inserts>, name: &[char], place: usize) -> Result<ch
     Err(ScriptFault::UnknownEscape { place })
 }
 
-/// Puts what an insertion gives after a value.
+/// Appends to `value` the characters of an insertion.
 fn insert(
     value: &mut Vec<char>,
     escapes: &Escapes,
@@ -89,7 +90,7 @@ fn first_closing(inserts: Option<Inserts>, chars: &[char]) -> Option<usize>
     chars.iter().position(|c| closes(inserts, *c))
 }
 
-/// The name of an insertion, the character that closes it, and what stands after that.
+/// Splits the text after an opening insert character into the name, the closing character and the text after it.
 fn split_name(inserts: Option<Inserts>, chars: &[char]) -> Option<(&[char], char, &[char])>
     ensures { MatchOption result (spec.is_closed inserts true chars.now ≡ false) (λ p. (chars.now ≡ p.0.now ++ p.1 ∷ p.2.now) × (escaping.closes inserts p.1 ≡ true) × (list_all (λ c. not (escaping.closes inserts c)) p.0.now ≡ true) × (spec.is_closed inserts true chars.now ≡ spec.is_closed inserts false p.2.now)) }
 {
@@ -101,7 +102,7 @@ fn split_name(inserts: Option<Inserts>, chars: &[char]) -> Option<(&[char], char
     }
 }
 
-/// How many bytes the characters have.
+/// Returns the length of the characters in UTF-8 bytes.
 fn bytes_of(mut chars: &[char]) -> usize
     requires { spec.byte_length chars.now < 2 ^ 64 }
     ensures { result ≡ spec.byte_length chars.entry.now }
@@ -114,7 +115,7 @@ fn bytes_of(mut chars: &[char]) -> usize
     total
 }
 
-/// The characters that a spelling means, or its first fault, where the spelling begins at a place.
+/// Returns the characters that a spelling means, or its first fault. `place` is the byte offset of the spelling.
 pub fn literal_value(
     alloc: Global,
     escapes: &Escapes,
@@ -149,11 +150,12 @@ pub fn literal_value(
     Ok(value)
 }
 
-/// The characters of a literal, from its spelling without the outer quotes.
+/// Returns the characters of a literal, given its spelling without the outer quotes.
 ///
-/// Answers `UnclosedString` at 0 where an insertion has no end or a line feed stands outside of them, before any other
-/// fault; then the first of `BadCharacter` at a quote outside of insertions, `UnknownEscape` and `BadCode` at the
-/// character that opens the insertion (Snowball manual, "stringescapes"; what is refused is our own choice).
+/// Returns `UnclosedString` at 0 if an insertion has no end or there is a line feed outside of insertions. Otherwise
+/// returns the first of these faults: `BadCharacter` at a quote outside of insertions, `UnknownEscape` or `BadCode` at
+/// the character that opens the insertion (Snowball manual, "stringescapes"; what is refused is our own choice).
+/// Returns `OutOfMemory` if an allocation fails.
 pub fn read_literal(
     alloc: Global,
     escapes: &Escapes,

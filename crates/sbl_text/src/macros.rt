@@ -1,4 +1,4 @@
-//! The macros, by their names.
+//! The macros, by name.
 
 ghost use Rattle.std.specs.Prelude.{◌≡◌, ◌++◌, ◌∷◌, [], IfOk, if◌then◌else◌, is_ok, map, option_map, List, ℕ};
 ghost use Rattle.sbl_text.specs.Escapes.{Definition, find};
@@ -8,14 +8,14 @@ use std::alloc::{AllocError, Global};
 use std::collections::BTreeMap;
 use std::marker::Model;
 
-/// A name, and the characters that it stands for.
+/// A macro: its name and the characters that it stands for.
 #[derive(Drop)]
 struct Macro {
     name: Vec<char>,
     value: Vec<char>,
 }
 
-/// The definitions of macros in their order, and where the last one of each name stands among them.
+/// The definitions of macros in order, and for each name the index of its last definition.
 #[derive(Drop)]
 pub struct Macros {
     definitions: Vec<Macro>,
@@ -31,7 +31,7 @@ impl Model for Macros {
 }
 
 impl Macros {
-    /// No macros.
+    /// Returns an empty set of macros.
     pub fn new(alloc: Global) -> Macros
         ensures { result ≡ [] }
     {
@@ -41,7 +41,7 @@ impl Macros {
         }
     }
 
-    /// Puts a definition behind the others. Where memory is refused, nothing changes.
+    /// Appends a definition. Returns `AllocError` if an allocation fails; then nothing is changed.
     pub fn define(&mut self, alloc: Global, name: &[char], value: &[char]) -> Result<(), AllocError>
         ensures { self.new ≡ (if is_ok result then self.old ++ record { name = name.now; value = value.now } ∷ [] else self.old) }
     {
@@ -61,7 +61,7 @@ impl Macros {
         }
     }
 
-    /// The characters that a macro stands for, by its last definition.
+    /// Returns the value of the last definition of this name, or `None` if there is none.
     pub fn find(&self, name: &[char]) -> Option<&[char]>
         ensures { option_map (λ v. v.now) result ≡ find self.now name.now }
     {
@@ -71,7 +71,7 @@ impl Macros {
         }
     }
 
-    /// The same definitions once more.
+    /// Returns a copy. Returns `AllocError` if an allocation fails.
     pub fn copy(&self, alloc: Global) -> Result<Macros, AllocError>
         ensures { IfOk result (λ m. m ≡ self.now) }
     {

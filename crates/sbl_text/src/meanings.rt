@@ -1,4 +1,4 @@
-//! What a piece means, and what is wrong where no piece stands.
+//! The meaning of a piece, and the fault if there is no piece.
 
 ghost use Rattle.std.specs.Prelude.{◌+◌, ◌^◌, length, ◌≡◌, ◌≤◌, ◌<◌, ◌⊎◌, MatchOption, MatchResult, IfOk, Some, None, Bool, true, false, ◌∷◌, [], List, ℕ, ◌++◌};
 ghost use Rattle.std.specs.Str.{chars};
@@ -15,10 +15,10 @@ use crate::pieces::{Shape, Wanted};
 use sbl_lexemes::{Kind, Value, sign_of, split_first, word_of};
 use std::alloc::Global;
 
-/// The largest number of a script (our own choice: the largest that 32 bits with a sign hold).
+/// The largest number in a script (our own choice: the largest 32-bit signed integer).
 const MOST: u64 = 2147483647;
 
-/// The number that digits write, unless it is too large.
+/// Returns the number that the digits write, or `None` if it is too large.
 fn number(mut text: &str) -> Option<u32>
     ensures { MatchOption result (2147483647 < spec.number_of (chars text.entry.now)) (λ n. (n ≡ spec.number_of (chars text.entry.now)) × (n ≤ 2147483647)) }
 {
@@ -33,7 +33,7 @@ fn number(mut text: &str) -> Option<u32>
     Some(value as u32)
 }
 
-/// A literal's spelling, and the characters that it means.
+/// Returns the value of a literal: its spelling and its characters.
 fn literal<'a>(
     alloc: Global,
     state: &Directives<'_>,
@@ -73,7 +73,7 @@ fn sign(state: &Directives<'_>, text: &str) -> Kind
     }
 }
 
-/// The name of a macro is told by its text.
+/// Returns the kind of a macro's name; such a token has no value beyond its text.
 fn macro_name(text: &str) -> Kind
     ensures told { (s : states.Directives) (v : Value) → spec.Told s Shape.MacroName (chars text.now) (lexeme_by result text.now v) }
     ensures fits { fits result Value.None ≡ true }
@@ -81,7 +81,7 @@ fn macro_name(text: &str) -> Kind
     Kind::MacroName
 }
 
-/// The two insert characters.
+/// Returns the two insert characters.
 fn pair<'a>(text: &str) -> Value<'a>
     requires { pieces.Has None Shape.Inserts (chars text.now) }
     ensures told { (s : states.Directives) → spec.Told s Shape.Inserts (chars text.now) (lexeme_by Kind.Inserts text.now result) }
@@ -95,7 +95,8 @@ fn pair<'a>(text: &str) -> Value<'a>
     Value::None
 }
 
-/// What the text of a token means; a number may be too large, and a literal may have a bad insertion.
+/// Returns the kind and value of a token. Returns a fault if a number is too large or a literal has a bad insertion,
+/// and `OutOfMemory` if an allocation fails.
 pub fn meaning<'a>(
     alloc: Global,
     state: &Directives<'_>,
@@ -134,7 +135,7 @@ fn starts_star(text: &str) -> bool
     }
 }
 
-/// The fault where insert characters are wanted and do not stand.
+/// Returns the fault if insert characters are expected but not there.
 fn pair_fault(text: &str, place: usize) -> ScriptFault
     requires { place + length text.now < 2 ^ 64 }
     ensures { result ≡ spec.pair_fault (chars text.now) place }
@@ -153,7 +154,8 @@ fn pair_fault(text: &str, place: usize) -> ScriptFault
     }
 }
 
-/// At the end nothing, if no insert characters are wanted; elsewhere the fault of a place where no piece stands.
+/// Returns `Ok` if the text is at its end and no insert characters are expected, otherwise the fault of a text that
+/// does not begin with a piece.
 pub fn end_or_fault(wanted: Wanted, text: &str, place: usize) -> Result<(), ScriptFault>
     requires { place + length text.now < 2 ^ 64 }
     ensures { MatchResult result (λ _. (chars text.now ≡ []) × (wanted ≡ Wanted.Inserts → ⊥)) (λ f. (chars text.now ≡ [] → wanted ≡ Wanted.Inserts) × (f ≡ spec.fault_at wanted (chars text.now) place)) }

@@ -1,4 +1,4 @@
-//! The piece at the front of a text.
+//! The first piece of a text. A piece is one token, one comment or one white space character.
 
 ghost use Rattle.std.specs.Prelude.{◌≡◌, ◌≤◌, ◌<◌, length, MatchOption, IfSome, Some, None, Bool, true, false, ◌∷◌, [], List, ℕ};
 ghost use Rattle.std.specs.Str.{chars};
@@ -9,7 +9,7 @@ use crate::classes::{Class, is_in, past};
 use crate::escapes::{Inserts, closes, opens};
 use sbl_lexemes::{sign_front, split_first};
 
-/// What is cut from a text.
+/// The shape of a piece.
 #[derive(Clone, Copy, Debug, PartialEq, Eq)]
 pub enum Shape {
     Blank,
@@ -23,7 +23,7 @@ pub enum Shape {
     MacroName,
 }
 
-/// What may come next beside white space: an ordinary piece, or what a word before it asks for.
+/// What may come next, apart from white space: an ordinary piece, or what a word before it requires.
 #[derive(Clone, Copy, Debug, PartialEq, Eq)]
 pub enum Wanted {
     Token,
@@ -31,7 +31,7 @@ pub enum Wanted {
     MacroName,
 }
 
-/// How a character can begin a piece.
+/// The class of the first character of a piece.
 #[derive(Clone, Copy, Debug)]
 pub enum Start {
     White,
@@ -129,7 +129,7 @@ fn slash<'a>(text: &'a str, rest: &'a str) -> Option<(Shape, &'a str)>
     }
 }
 
-/// What is cut from the front, and what is left.
+/// Returns the shape of the ordinary piece at the start of the text and the text after it, or `None` if there is none.
 #[tactic(auto, unfolding(crate::specs::Scan::cut))]
 pub fn cut(inserts: Option<Inserts>, text: &str) -> Option<(Shape, &str)>
     ensures value { MatchOption result (spec.cut inserts (chars text.now) ≡ None) (λ p. spec.cut inserts (chars text.now) ≡ Some (p.0, chars p.1.now)) }
@@ -149,7 +149,7 @@ pub fn cut(inserts: Option<Inserts>, text: &str) -> Option<(Shape, &str)>
     }
 }
 
-/// Two insert characters, or white space.
+/// Reads two insert characters or a white space character.
 #[tactic(auto, unfolding(crate::specs::Scan::pair_cut))]
 fn pair_cut(text: &str) -> Option<(Shape, &str)>
     ensures value { MatchOption result (spec.pair_cut (chars text.now) ≡ None) (λ p. spec.pair_cut (chars text.now) ≡ Some (p.0, chars p.1.now)) }
@@ -167,7 +167,7 @@ fn pair_cut(text: &str) -> Option<(Shape, &str)>
     }
 }
 
-/// A macro's name, or white space.
+/// Reads the name of a macro or a white space character.
 #[tactic(auto, unfolding(crate::specs::Scan::name_cut))]
 fn name_cut(text: &str) -> Option<(Shape, &str)>
     ensures value { MatchOption result (spec.name_cut (chars text.now) ≡ None) (λ p. spec.name_cut (chars text.now) ≡ Some (p.0, chars p.1.now)) }
@@ -192,7 +192,7 @@ fn cut_in(inserts: Option<Inserts>, wanted: Wanted, text: &str) -> Option<(Shape
     }
 }
 
-/// The longest piece at the front, and what is left.
+/// Returns the shape of the longest piece at the start of the text and the text after it, or `None` if there is none.
 pub fn piece(inserts: Option<Inserts>, wanted: Wanted, text: &str) -> Option<(Shape, &str)>
     ensures value { MatchOption result (pieces.NoPiece (pieces.setting inserts wanted) (chars text.now)) (λ p. spec.Piece_at (pieces.setting inserts wanted) p.0 (chars text.now) (chars p.1.now)) }
     ensures within { IfSome result (λ p. length p.1.now < length text.now) }
@@ -209,7 +209,7 @@ fn is_gap(shape: Shape) -> bool
     }
 }
 
-/// The text after white space and comments, and the token that is cut there.
+/// Skips white space and comments. Returns the text after them, and the token there as its shape and the text after it.
 pub fn past_gaps(
     inserts: Option<Inserts>,
     wanted: Wanted,

@@ -1,4 +1,4 @@
--- How many amongs a tree has.
+-- The number of amongs in a tree.
 use Rattle.std.specs.Prelude.{ℕ, ◌+◌}
 use Rattle.sbl_tree.specs.Tree.{Command, bracket, prefixed, counted, setlimit_, among_, Rows, no_rows, row, Others, no_others, joined, Starter, no_starter, starter, Groups, bare, group}
 
@@ -27,6 +27,6 @@ abbrev mutual
   count_in_groups (bare es) = 0
   count_in_groups (group e es rs gs) = count_in_rows rs + count_in_groups gs
 
--- an among with all that are inside it
+-- an among and all amongs inside it
 abbrev pub count_in_among : Starter × Groups → ℕ
 count_in_among a = 1 + (count_in_starter a.0 + count_in_groups a.1)

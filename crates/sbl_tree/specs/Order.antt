@@ -1,4 +1,4 @@
--- The items of a script in text order, each with the mode in which it stands.
+-- The items of a script in text order, each with its mode.
 use Rattle.std.specs.Prelude.{List, [], ◌∷◌, ◌++◌, map}
 use Rattle.sbl_tree.specs.Tree.{Plain, Item, plain, backward}
 use Rattle.sbl_tree.specs.View.{view_plain}
@@ -6,7 +6,7 @@ use Rattle.sbl_tree.specs.declared.mode.Mode.{Mode}
 use Rattle.sbl_tree.specs.declared.mode.Mode.TheVariants.{Forward, Backward}
 use Rattle.sbl_tree.specs.declared.order.ItemInMode as declared
 
--- an item with the mode in which it stands
+-- an item with its mode
 pub record ItemInMode : Type 0 where
   pub mode : Mode
   pub plain : Plain
@@ -15,12 +15,12 @@ pub record ItemInMode : Type 0 where
 abbrev pub in_mode : Mode → List Plain → List ItemInMode
 in_mode m xs = map (λ (x : Plain). record { mode = m; plain = x }) xs
 
--- the items in text order, those of a `backwardmode` in its place
+-- the items in text order; a `backwardmode` is replaced by its items
 abbrev pub in_order : List Item → List ItemInMode
 in_order [] = []
 in_order (plain x ∷ is) = (record { mode = Forward; plain = x }) ∷ in_order is
 in_order (backward xs ∷ is) = in_mode Backward xs ++ in_order is
 
--- an item without where it lies in memory
+-- an item without memory addresses
 abbrev pub view_in_mode : declared.ItemInMode → ItemInMode
 view_in_mode x = record { mode = x.mode; plain = view_plain x.plain.now }

@@ -1,4 +1,4 @@
--- The tokens of a tree with the depth at which each stands, and then the rest.
+-- The tokens of a tree, each with its nesting depth, followed by the rest.
 use Rattle.std.specs.Prelude.{ℕ, true, false, ◌+◌, ◌≤◌, List, [], ◌∷◌, map, Option, Some, None}
 use Rattle.std.specs.List.{AllByRecursion}
 use Rattle.sbl_tree.specs.declared.tree.Base.{Base}
@@ -7,19 +7,19 @@ use Rattle.sbl_tree.specs.Terminal.{Terminal}
 use Rattle.sbl_tree.specs.Terminal as t
 use Rattle.sbl_tree.specs.Tree.{Expression, expression, Sums, no_sums, sum, Product, product, Scales, no_scales, scale, Factor, negated, bracketed, numeral, variable, fixed, length_of, Entry, entry, Command, bracket, simple_, literal_, name_, non_, prefixed, counted, move_, named, splice_, setlimit_, assign_, compare_, compare_values_, among_, Rows, no_rows, row, Others, no_others, joined, Starter, no_starter, starter, Groups, bare, group, Term, term, Plain, declaration, escapes, macro, routine, grouping, Item, plain, backward, argument_terminal}
 
--- how deep a token may stand
+-- the greatest nesting depth of a token
 abbrev pub max_depth : ℕ
 max_depth = 64
 
--- a token with the depth at which it stands
+-- a token with its nesting depth
 abbrev pub AtDepth : Type 0
 AtDepth = Terminal × ℕ
 
--- none stands too deep
+-- no token is nested too deep
 abbrev pub AreShallow : List AtDepth → Type 0
 AreShallow ps = AllByRecursion (λ p. p.1 ≤ max_depth) ps
 
--- an arithmetic bracket or minus stands one deeper than what holds it
+-- parentheses or a minus in an arithmetic expression are one level deeper than what contains them
 abbrev mutual
   pub placed_expression : Expression → ℕ → List AtDepth → List AtDepth
   placed_expression (expression p ss) d rest = placed_product p d (placed_sums ss d rest)
@@ -51,7 +51,8 @@ abbrev pub placed_entries : List Entry → ℕ → List AtDepth → List AtDepth
 placed_entries [] d rest = rest
 placed_entries (e ∷ es) d rest = placed_entry e d (placed_entries es d rest)
 
--- a command inside a command stands one deeper; so does a group's or starter's bracket; a row adds nothing
+-- a command inside a command is one level deeper, and so are the parentheses of a group or a starter; a row adds no
+-- level
 abbrev mutual
   pub placed : Command → ℕ → List AtDepth → List AtDepth
   placed (bracket rs) d rest = (t.open_, d) ∷ placed_rows rs (d + 1) ((t.close_, d) ∷ rest)
@@ -100,7 +101,7 @@ abbrev pub placed_terms : List Term → List AtDepth → List AtDepth
 placed_terms [] rest = rest
 placed_terms (term o a ∷ ts) rest = (t.additive o, 0) ∷ (argument_terminal a, 0) ∷ placed_terms ts rest
 
--- a routine's body stands at depth 1, what is no command at 0
+-- the body of a routine is at depth 1, everything else in an item at depth 0
 abbrev pub placed_plain : Plain → List AtDepth → List AtDepth
 placed_plain (declaration k ns) rest = (t.declares k, 0) ∷ (t.open_, 0) ∷ placed_names ns ((t.close_, 0) ∷ rest)
 placed_plain (escapes a b) rest = (t.string_escapes, 0) ∷ (t.inserts a b, 0) ∷ rest

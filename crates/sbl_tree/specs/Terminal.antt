@@ -1,4 +1,4 @@
--- A token as the grammar sees it: the part that it plays.
+-- A token as the grammar sees it: its role.
 use Rattle.std.specs.Prelude.{ℕ, List, [], ◌∷◌, map, drop}
 use Rattle.sbl_lexemes.specs.Lexemes.{Lexeme, word, sign, lexeme_of}
 use Rattle.sbl_lexemes.specs.Lexemes as lexemes
@@ -36,12 +36,12 @@ use Rattle.sbl_tree.specs.declared.tree.Comparison.TheVariants as comparisons
 use Rattle.sbl_tree.specs.declared.tree.Constant.{Constant}
 use Rattle.sbl_tree.specs.declared.tree.Constant.TheVariants as constants
 
--- a literal: its spelling, as UTF-8 bytes, and the characters that it stands for
+-- a literal: its spelling, as UTF-8 bytes, and the characters that it means
 pub record Quoted : Type 0 where
   pub spelling : List ℕ
   pub value : List ℕ
 
--- words and signs that stand in no tree
+-- words and signs that occur in no tree
 pub data Other : Type 0 where
   get reverse size size_of question equals_greater : Other
 
@@ -69,7 +69,7 @@ pub data Terminal : Type 0 where
   macro_name : List ℕ → Terminal
   other : Other → Terminal
 
--- ---- the part that each lexeme plays
+-- ---- the role of each lexeme
 
 abbrev pub word_terminal : Word → Terminal
 word_terminal w.Among = among
@@ -167,11 +167,11 @@ terminal_of (lexemes.macro_name n) = macro_name n
 abbrev pub terminals_of : List Token → List Terminal
 terminals_of ts = map (λ t. terminal_of (lexeme_of t)) ts
 
--- those from a place on
+-- the tokens from index `at` on
 abbrev pub left : List Token → ℕ → List Terminal
 left ts at = terminals_of (drop at ts)
 
--- ---- and the lexeme of each part
+-- ---- the lexeme of each role
 
 abbrev pub declares_lexeme : DeclarationKind → Lexeme
 declares_lexeme declarations.Booleans = word w.Booleans

@@ -1,22 +1,22 @@
--- The texts that are read: a whole script, or what is to stand in the place of a part of one.
+-- The texts that are parsed: a whole script, or a replacement for a part of one.
 use Rattle.std.specs.Prelude.{ℕ, List, [], ◌∷◌}
 use Rattle.sbl_tree.specs.Terminal.{Terminal}
 use Rattle.sbl_tree.specs.Tree.{Item, Command, Others, Starter, Groups, among_, Argument, Term, argument_terminal}
 use Rattle.sbl_tree.specs.Places.{AtDepth, placed, placed_others, placed_terms, places, tokens}
 
--- a script; the body of a routine; the terms of a grouping; an among, at the depth where it comes to stand
+-- a script; the body of a routine; the terms of a grouping; an among at a nesting depth
 pub data Text : Type 0 where
   script body terms : Text
   among : ℕ → Text
 
--- what each is read as
+-- the tree of each text
 abbrev pub TreeOf : Text → Type 0
 TreeOf script = List Item
 TreeOf body = Command × Others
 TreeOf terms = Argument × List Term
 TreeOf (among d) = Starter × Groups
 
--- its tokens with the depth at which each stands
+-- the tokens of the tree with their nesting depths
 abbrev pub places_in : (t : Text) → TreeOf t → List AtDepth
 places_in script is = places is
 places_in body b = placed b.0 1 (placed_others b.1 1 [])

@@ -1,4 +1,4 @@
--- The trees of the grammar, and the tokens of each.
+-- The trees of the grammar, and the tokens of each tree.
 use Rattle.std.specs.Prelude.{ℕ, Bool, true, false, List, [], ◌∷◌, map, Option, Some, None}
 use Rattle.sbl_lexemes.specs.Lexemes.{Lexeme}
 use Rattle.sbl_tree.specs.declared.tree.DeclarationKind.{DeclarationKind}
@@ -19,12 +19,12 @@ use Rattle.sbl_tree.specs.declared.tree.Constant.{Constant}
 use Rattle.sbl_tree.specs.Terminal.{Terminal, Quoted, lexeme_as}
 use Rattle.sbl_tree.specs.Terminal as t
 
--- a literal, or a name in its place; names are UTF-8 bytes
+-- a literal, or a name that is used instead; names are UTF-8 bytes
 pub data Argument : Type 0 where
   written_out : Quoted → Argument
   by_name : List ℕ → Argument
 
--- ---- arithmetic: products that are added from the left, each of factors that are multiplied from the left
+-- ---- arithmetic: products that are added from left to right, each with factors that are multiplied from left to right
 
 mutual
   pub data Expression : Type 0 where
@@ -73,7 +73,7 @@ mutual
     compare_values_ : Expression → Comparison → Expression → Command
     among_ : Starter → Groups → Command
 
-  -- each row is a first command and those joined to it
+  -- each row is a first command and the commands that are joined to it
   pub data Rows : Type 0 where
     no_rows : Rows
     row : Command → Others → Rows → Rows
@@ -82,12 +82,12 @@ mutual
     no_others : Others
     joined : Joiner → Command → Others → Others
 
-  -- the bracket before the first string of an among
+  -- the parentheses before the first string of an among
   pub data Starter : Type 0 where
     no_starter : Starter
     starter : Rows → Starter
 
-  -- a group is a first string, more strings and a bracket; strings without a bracket may stand behind the last
+  -- a group is a first string, more strings and parentheses; strings without parentheses may follow the last group
   pub data Groups : Type 0 where
     bare : List Entry → Groups
     group : Entry → List Entry → Rows → Groups → Groups
@@ -108,7 +108,7 @@ pub data Item : Type 0 where
   plain : Plain → Item
   backward : List Plain → Item
 
--- ---- the tokens of a tree, and then the rest
+-- ---- the tokens of a tree, followed by the rest
 
 abbrev pub argument_terminal : Argument → Terminal
 argument_terminal (written_out q) = t.literal q

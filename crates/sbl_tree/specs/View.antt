@@ -1,4 +1,4 @@
--- A tree without where it lies in memory.
+-- A tree without memory addresses.
 use Rattle.std.specs.Prelude.{ℕ, List, [], ◌∷◌, map, Option, Some, None, String, string_bytes}
 use Rattle.std.specs.Global.{Global, Vec}
 use Rattle.sbl_tree.specs.declared.tree.Literal.{Literal}
@@ -53,7 +53,7 @@ abbrev pub scales_of : List ScaledView → trees.Scales
 scales_of [] = trees.no_scales
 scales_of (s ∷ ss) = trees.scale s.0 s.1 (scales_of ss)
 
--- one level, with the view of each child in its place
+-- one level, with the view of each child
 abbrev pub added_step : Added-F trees.Factor AddedView trees.Expression trees.Product ScaledView → AddedView
 added_step a = (a.operator, a.product)
 
@@ -104,7 +104,7 @@ view_name (Some n) = Some (string_bytes n)
 abbrev pub view_entry : Entry → trees.Entry
 view_entry e = trees.entry (view_literal e.string) (view_name e.condition)
 
--- an among, a row, a joined command and a group, before they stand in a tree
+-- an among, a row, a joined command and a group, before they become part of a tree
 abbrev pub AmongView : Type 0
 AmongView = trees.Starter × trees.Groups
 
@@ -179,7 +179,7 @@ view_joined = fold-Joined trees.Command AmongView GroupView JoinedView RowView c
 abbrev pub view_row : Row → RowView
 view_row = fold-Row trees.Command AmongView GroupView JoinedView RowView command_step among_step group_step joined_step row_step
 
--- what was read so far of a list
+-- the rows that were read so far
 abbrev pub view_rows : List Row → trees.Rows
 view_rows rs = rows_of (map view_row rs)
 

@@ -9,14 +9,14 @@ use crate::tree::{
 };
 use std::alloc::{AllocError, Global};
 
-/// A copy of a name. Want of memory is its one error.
+/// Returns a copy of a name. Returns `AllocError` if an allocation fails.
 pub fn copy_name(alloc: Global, name: &String) -> Result<String, AllocError>
     ensures { IfOk result (λ copy. string_bytes copy ≡ string_bytes name.now) }
 {
     String::from_str(alloc, name.as_str())
 }
 
-/// A copy of a literal: its spelling and its characters. Want of memory is its one error.
+/// Returns a copy of a literal, with its spelling and its characters. Returns `AllocError` if an allocation fails.
 pub fn copy_literal(alloc: Global, literal: &Literal) -> Result<Literal, AllocError>
     ensures { IfOk result (λ copy. view_literal copy ≡ view_literal literal.now) }
 {
@@ -25,7 +25,7 @@ pub fn copy_literal(alloc: Global, literal: &Literal) -> Result<Literal, AllocEr
     Ok(Literal { spelling, value })
 }
 
-/// A copy of a literal, or of a name in its place. Want of memory is its one error.
+/// Returns a copy of a literal or a name. Returns `AllocError` if an allocation fails.
 pub fn copy_argument(alloc: Global, argument: &Argument) -> Result<Argument, AllocError>
     ensures { IfOk result (λ copy. view_argument copy ≡ view_argument argument.now) }
 {
@@ -35,7 +35,7 @@ pub fn copy_argument(alloc: Global, argument: &Argument) -> Result<Argument, All
     }
 }
 
-/// A copy of an arithmetic expression.
+/// Returns a copy of an arithmetic expression. Returns `AllocError` if an allocation fails.
 #[cycle(arithmetic_copies)]
 #[tactic(auto, using(crate::proofs::Views::view_of_expression))]
 pub fn copy_expression(alloc: Global, expression: &Expression) -> Result<Expression, AllocError>
@@ -105,7 +105,7 @@ fn copy_factor(alloc: Global, factor: &Factor) -> Result<Factor, AllocError>
     }
 }
 
-/// A copy of a string of an among, with its condition. Want of memory is its one error.
+/// Returns a copy of a string of an among, with its condition. Returns `AllocError` if an allocation fails.
 pub fn copy_entry(alloc: Global, entry: &Entry) -> Result<Entry, AllocError>
     ensures { IfOk result (λ copy. view_entry copy ≡ view_entry entry.now) }
 {
@@ -117,7 +117,7 @@ pub fn copy_entry(alloc: Global, entry: &Entry) -> Result<Entry, AllocError>
     Ok(Entry { string, condition })
 }
 
-/// A copy of strings of an among. Want of memory is its one error.
+/// Returns a copy of strings of an among. Returns `AllocError` if an allocation fails.
 pub fn copy_entries(alloc: Global, entries: &Vec<Entry>) -> Result<Vec<Entry>, AllocError>
     ensures { IfOk result (λ copy. map view_entry copy.items ≡ map view_entry entries.now.items) }
 {
@@ -129,7 +129,7 @@ pub fn copy_entries(alloc: Global, entries: &Vec<Entry>) -> Result<Vec<Entry>, A
     Ok(copies)
 }
 
-/// A copy of a command.
+/// Returns a copy of a command. Returns `AllocError` if an allocation fails.
 #[cycle(copies)]
 pub fn copy_command(alloc: Global, command: &Command) -> Result<Command, AllocError>
     ensures { IfOk result (λ copy. view_command copy ≡ view_command command.now) }
@@ -181,7 +181,7 @@ pub fn copy_command(alloc: Global, command: &Command) -> Result<Command, AllocEr
     }
 }
 
-/// A copy of an among.
+/// Returns a copy of an among. Returns `AllocError` if an allocation fails.
 #[cycle(copies)]
 pub fn copy_among(alloc: Global, among: &Among) -> Result<Among, AllocError>
     ensures { IfOk result (λ copy. view_among copy ≡ view_among among.now) }
@@ -229,7 +229,7 @@ fn copy_rows(alloc: Global, rows: &Vec<Row>) -> Result<Vec<Row>, AllocError>
     Ok(copies)
 }
 
-/// A copy of a row.
+/// Returns a copy of a row. Returns `AllocError` if an allocation fails.
 #[cycle(copies)]
 pub fn copy_row(alloc: Global, row: &Row) -> Result<Row, AllocError>
     ensures { IfOk result (λ copy. view_row copy ≡ view_row row.now) }
@@ -254,7 +254,7 @@ fn copy_others(alloc: Global, others: &Vec<Joined>) -> Result<Vec<Joined>, Alloc
     Ok(copies)
 }
 
-/// A copy of names. Want of memory is its one error.
+/// Returns a copy of names. Returns `AllocError` if an allocation fails.
 pub fn copy_names(alloc: Global, names: &Vec<String>) -> Result<Vec<String>, AllocError>
     ensures { IfOk result (λ copy. map string_bytes copy.items ≡ map string_bytes names.now.items) }
 {
@@ -266,7 +266,7 @@ pub fn copy_names(alloc: Global, names: &Vec<String>) -> Result<Vec<String>, All
     Ok(copies)
 }
 
-/// A copy of further terms of a grouping. Want of memory is its one error.
+/// Returns a copy of the terms after the first one of a grouping. Returns `AllocError` if an allocation fails.
 pub fn copy_terms(alloc: Global, terms: &Vec<Term>) -> Result<Vec<Term>, AllocError>
     ensures { IfOk result (λ copy. map view_term copy.items ≡ map view_term terms.now.items) }
 {
@@ -281,7 +281,7 @@ pub fn copy_terms(alloc: Global, terms: &Vec<Term>) -> Result<Vec<Term>, AllocEr
     Ok(copies)
 }
 
-/// A copy of an item that may stand in a `backwardmode`.
+/// Returns a copy of an item that is allowed in a `backwardmode`. Returns `AllocError` if an allocation fails.
 pub fn copy_plain(alloc: Global, plain: &Plain) -> Result<Plain, AllocError>
     ensures { IfOk result (λ copy. view_plain copy ≡ view_plain plain.now) }
 {

@@ -1,5 +1,5 @@
-//! The trees of Snowball scripts, the tokens that each is written with, copies of trees, the two modes, and the items of a
-//! script in order.
+//! The AST of Snowball scripts: its types, the tokens that each tree is written with, copies of trees, the two modes,
+//! and the items of a script in order.
 #![tactic(auto)]
 
 mod copies;

@@ -1,10 +1,10 @@
 //! The two modes.
 
-/// Which way a command goes through the text.
+/// The direction in which a command moves through the text.
 #[derive(Clone, Copy, Debug, PartialEq, Eq)]
 pub enum Mode {
-    /// From the left to the right.
+    /// From left to right.
     Forward,
-    /// From the right to the left: in a `backwardmode` or inside `backwards`.
+    /// From right to left: in a `backwardmode` or inside `backwards`.
     Backward,
 }

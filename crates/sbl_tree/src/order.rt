@@ -1,4 +1,4 @@
-//! The items of a script in text order, each with the mode in which it stands.
+//! The items of a script in text order, each with its mode.
 
 ghost use Rattle.std.specs.Prelude.{◌≡◌, [], ◌∷◌, ◌++◌, map, OnOk, IfOk};
 ghost use Rattle.sbl_tree.specs.Order.{in_mode, in_order, view_in_mode};
@@ -8,16 +8,16 @@ use crate::mode::Mode;
 use crate::tree::{Item, Plain};
 use std::alloc::{AllocError, Global};
 
-/// An item with the mode in which it stands.
+/// An item with its mode.
 #[derive(Clone, Copy)]
 pub struct ItemInMode<'a> {
-    /// The mode in which it stands.
+    /// The mode of the item.
     pub mode: Mode,
     /// The item.
     pub plain: &'a Plain,
 }
 
-// Items of this mode, behind those so far.
+// Appends items of this mode to `placed`.
 fn put_in_mode<'a>(
     mode: Mode,
     plains: &'a Vec<Plain>,
@@ -41,7 +41,8 @@ fn put_forward<'a>(plain: &'a Plain, placed: &mut Vec<ItemInMode<'a>>) -> Result
     Ok(())
 }
 
-/// The items in text order, those of a `backwardmode` in its place.
+/// Returns the items in text order; a `backwardmode` is replaced by its items. Returns `AllocError` if an allocation
+/// fails.
 pub fn items_in_order<'a>(
     alloc: Global,
     items: &'a [Item],

@@ -1,6 +1,6 @@
-//! The tree of a script (Snowball manual, "Syntax of Snowball"). A tree holds no places.
+//! The AST of a script (Snowball manual, "Syntax of Snowball"). A tree has no source positions.
 
-/// What a declaration declares its names as.
+/// The kind of the names in a declaration.
 #[derive(Clone, Copy, Debug, PartialEq, Eq)]
 pub enum DeclarationKind {
     /// `strings`
@@ -17,7 +17,7 @@ pub enum DeclarationKind {
     Groupings,
 }
 
-/// How the numbers of a macro's value are written.
+/// The base of the numbers in a macro's value.
 #[derive(Clone, Copy, Debug, PartialEq, Eq)]
 pub enum Base {
     /// `hex`
@@ -26,7 +26,7 @@ pub enum Base {
     Decimal,
 }
 
-/// What stands between two commands of a row.
+/// The word between two commands of a row.
 #[derive(Clone, Copy, Debug, PartialEq, Eq)]
 pub enum Joiner {
     /// `or`
@@ -35,7 +35,7 @@ pub enum Joiner {
     And,
 }
 
-/// A command of one token that names nothing.
+/// A command of one token, other than a name.
 #[derive(Clone, Copy, Debug, PartialEq, Eq)]
 pub enum Simple {
     /// `[`
@@ -58,7 +58,7 @@ pub enum Simple {
     False,
 }
 
-/// A word that is put before a command.
+/// A word before a command.
 #[derive(Clone, Copy, Debug, PartialEq, Eq)]
 pub enum Prefix {
     /// `not`
@@ -81,7 +81,7 @@ pub enum Prefix {
     Backwards,
 }
 
-/// A word that is put before a number of times and a command.
+/// A word before a repeat count and a command.
 #[derive(Clone, Copy, Debug, PartialEq, Eq)]
 pub enum Count {
     /// `loop`
@@ -90,7 +90,7 @@ pub enum Count {
     AtLeast,
 }
 
-/// A word that is put before a place.
+/// A word before an arithmetic expression.
 #[derive(Clone, Copy, Debug, PartialEq, Eq)]
 pub enum Move {
     /// `hop`
@@ -101,7 +101,7 @@ pub enum Move {
     ToMark,
 }
 
-/// A word or sign that is put before the name of a variable.
+/// A word or sign before the name of a variable.
 #[derive(Clone, Copy, Debug, PartialEq, Eq)]
 pub enum Naming {
     /// `setmark`
@@ -114,7 +114,7 @@ pub enum Naming {
     Arrow,
 }
 
-/// A word or sign that is put before a string.
+/// A word or sign before a string.
 #[derive(Clone, Copy, Debug, PartialEq, Eq)]
 pub enum Splice {
     /// `<-`
@@ -145,7 +145,7 @@ pub enum Multiplicative {
     Over,
 }
 
-/// A sign that gives a value to an integer.
+/// A sign that assigns a value to an integer.
 #[derive(Clone, Copy, Debug, PartialEq, Eq)]
 pub enum Assignment {
     /// `=`
@@ -177,7 +177,7 @@ pub enum Comparison {
     AtLeast,
 }
 
-/// A word that stands for a number.
+/// A word for a number.
 #[derive(Clone, Copy, Debug, PartialEq, Eq)]
 pub enum Constant {
     /// `maxint`
@@ -195,22 +195,22 @@ pub enum Constant {
 /// A literal string.
 #[derive(Debug, Drop)]
 pub struct Literal {
-    /// As it is written, between the quotes.
+    /// The text between the quotes.
     pub spelling: String,
-    /// The characters that it stands for.
+    /// The characters that the literal means.
     pub value: Vec<char>,
 }
 
-/// A literal, or a name in its place.
+/// A literal, or a name that can be used instead.
 #[derive(Debug, Drop)]
 pub enum Argument {
-    /// The literal itself.
+    /// A literal.
     Literal(Literal),
     /// The name of a string or a grouping.
     Name(String),
 }
 
-/// An arithmetic expression: products that are added and taken away from the left.
+/// An arithmetic expression: products that are added and subtracted from left to right.
 #[cycle(arithmetic)]
 #[derive(Drop)]
 pub struct Expression {
@@ -220,7 +220,7 @@ pub struct Expression {
     pub others: Vec<Added>,
 }
 
-/// A further product of an expression.
+/// A product after the first one of an expression.
 #[cycle(arithmetic)]
 #[derive(Drop)]
 pub struct Added {
@@ -230,7 +230,7 @@ pub struct Added {
     pub product: Product,
 }
 
-/// Factors that are multiplied and divided from the left.
+/// A product: factors that are multiplied and divided from left to right.
 #[cycle(arithmetic)]
 #[derive(Drop)]
 pub struct Product {
@@ -240,7 +240,7 @@ pub struct Product {
     pub others: Vec<Scaled>,
 }
 
-/// A further factor of a product.
+/// A factor after the first one of a product.
 #[cycle(arithmetic)]
 #[derive(Drop)]
 pub struct Scaled {
@@ -282,12 +282,12 @@ pub enum Command {
     Name(String),
     /// `non G`, or `non - G` with the minus.
     Non {
-        /// Whether the minus is written.
+        /// Whether the minus sign is written.
         with_minus: bool,
-        /// The grouping's name.
+        /// The name of the grouping.
         name: String,
     },
-    /// `not C` and its like
+    /// `not C` and similar commands
     Prefixed(Prefix, Box<Command>),
     /// `loop E C`, `atleast E C`
     Counted(Count, Expression, Box<Command>),
@@ -299,17 +299,17 @@ pub enum Command {
     Splice(Splice, Argument),
     /// `setlimit C1 for C2`
     SetLimit(Box<Command>, Box<Command>),
-    /// `$ X = E` and its like
+    /// `$ X = E` and similar commands
     Assign(String, Assignment, Expression),
-    /// `$ X == E` and its like
+    /// `$ X == E` and similar commands
     Compare(String, Comparison, Expression),
-    /// `$ ( E1 == E2 )` and its like
+    /// `$ ( E1 == E2 )` and similar commands
     CompareValues(Expression, Comparison, Expression),
     /// `among ( .. )`
     Among(Among),
 }
 
-/// Commands with a joiner between each two.
+/// A row: commands with `or` or `and` between them.
 #[cycle(tree)]
 #[derive(Drop)]
 pub struct Row {
@@ -319,7 +319,7 @@ pub struct Row {
     pub others: Vec<Joined>,
 }
 
-/// A further command of a row.
+/// A command after the first one of a row.
 #[cycle(tree)]
 #[derive(Drop)]
 pub struct Joined {
@@ -329,19 +329,19 @@ pub struct Joined {
     pub command: Command,
 }
 
-/// The starter and the groups of an `among`, and the strings behind the last bracket, which have no commands.
+/// An `among`: its starter, its groups, and the strings after the last `)`, which have no commands.
 #[cycle(tree)]
 #[derive(Drop)]
 pub struct Among {
-    /// The bracket before the first string.
+    /// The starter: the commands in parentheses before the first string.
     pub starter: Option<Vec<Row>>,
-    /// The groups, each with its bracket.
+    /// The groups: strings with commands in parentheses after them.
     pub groups: Vec<Group>,
-    /// The strings of a last group without a bracket.
+    /// The strings after the last group, which have no commands.
     pub bare: Vec<Entry>,
 }
 
-/// Strings of an `among`, and the commands that are run where one of them is chosen.
+/// Strings of an `among`, and the commands that run if one of them is chosen.
 #[cycle(tree)]
 #[derive(Drop)]
 pub struct Group {
@@ -349,54 +349,54 @@ pub struct Group {
     pub first: Entry,
     /// The strings after it.
     pub others: Vec<Entry>,
-    /// What stands in the group's bracket.
+    /// The commands in the parentheses of the group.
     pub rows: Vec<Row>,
 }
 
-/// One string of an `among`.
+/// A string of an `among`.
 #[derive(Debug, Drop)]
 pub struct Entry {
     /// The string.
     pub string: Literal,
-    /// The name of the routine that must signal t.
+    /// The name of the routine that must signal t for the string to match.
     pub condition: Option<String>,
 }
 
-/// A further term of a grouping.
+/// A term after the first one of a grouping.
 #[derive(Debug, Drop)]
 pub struct Term {
-    /// Whether its characters are added or taken away.
+    /// Whether the characters are added or removed.
     pub operator: Additive,
-    /// The characters.
+    /// The characters to add or remove.
     pub argument: Argument,
 }
 
-/// An item that may stand in a `backwardmode`.
+/// An item that is allowed in a `backwardmode`.
 #[derive(Drop)]
 pub enum Plain {
-    /// `routines ( A B .. )` and its like
+    /// `routines ( A B .. )` and similar declarations
     Declaration(DeclarationKind, Vec<String>),
     /// `stringescapes AB`
     StringEscapes(char, char),
     /// `stringdef M 'abc'`, with `hex` or `decimal` before the literal
     StringDef {
-        /// The macro's name.
+        /// The name of the macro.
         name: String,
-        /// How the literal is to be understood.
+        /// The base of the numbers in the literal; `None` if the literal is the value itself.
         base: Option<Base>,
         /// The literal.
         value: Literal,
     },
     /// `define NAME as R`
     Routine {
-        /// The routine's name.
+        /// The name of the routine.
         name: String,
-        /// Its body.
+        /// The body of the routine.
         body: Row,
     },
     /// `define NAME T1 + T2 - T3 ..`
     Grouping {
-        /// The grouping's name.
+        /// The name of the grouping.
         name: String,
         /// The first term.
         first: Argument,
@@ -408,7 +408,7 @@ pub enum Plain {
 /// An item of a script.
 #[derive(Drop)]
 pub enum Item {
-    /// An item that stands in no `backwardmode`.
+    /// An item outside a `backwardmode`.
     Plain(Plain),
     /// `backwardmode ( .. )`
     BackwardMode(Vec<Plain>),

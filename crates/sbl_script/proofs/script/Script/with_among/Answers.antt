@@ -1,30 +1,34 @@
-use Rattle.std.proofs.Common.{rules, ◌≡◌, ◌⊎◌, List, None, Some, true, false, length, map, inr, sym, ap, subst, ◌∙◌}
+use Rattle.std.proofs.Common.{rules, ◌≡◌, ◌⊎◌, List, [], None, Some, true, false, length, map, inr, sym, ap, subst, ◌∙◌}
 use Rattle.std.proofs.lemmas.Result.{err_from_is_err_and}
 use Rattle.sbl_text.specs.declared.fault.ScriptFault.TheVariants as fault
 use Rattle.sbl_lexemes.specs.declared.token.Token.{Token}
 use Rattle.sbl_text.specs.Tokens.{placed_of}
 use Rattle.sbl_amongs.specs.Amongs.{Held, amongs_of_body}
-use Rattle.sbl_tree.specs.Places.{places, AreShallow}
+use Rattle.sbl_tree.specs.Places.{placed_plain, places, AreShallow}
 use Rattle.sbl_grammar.specs.Reading.{IsReadAs}
 use Rattle.sbl_tree.specs.Texts as texts
-use Rattle.sbl_tree.specs.Tree.{Item}
+use Rattle.sbl_tree.specs.Tree.{Item, Plain, routine}
 use Rattle.sbl_tree.specs.View.{RowView, view_among, view_items, view_row}
 use Rattle.sbl_checks.specs.Checks.{fault_of}
 use Rattle.sbl_script.specs.Parsed.{source_of}
 use Rattle.sbl_script.specs.Reading.{IsUnread, first_left_out, terminals}
-use Rattle.sbl_script.specs.Edits.{among, home_of_among, items_with, routine_of, state_before}
+use Rattle.sbl_script.specs.declared.edits.DefinitionKind.TheVariants as kinds
+use Rattle.sbl_script.specs.Edits.{among, defines, first_of, home_of_among, items_with, state_before}
 use Rattle.sbl_script.proofs.Editing as editing
-use Rattle.sbl_script.specs.Spelled.{AreSpelled, IsRowSpelled}
-use Rattle.sbl_script.proofs.Shallow.{fits, routine_shallow}
-use Rattle.sbl_script.proofs.Spelled.{among_replaced, read_said}
+use Rattle.sbl_script.specs.Spelled.{AreSpelled, IsSpelled}
+use Rattle.sbl_script.proofs.Found.{same_name}
+use Rattle.sbl_script.proofs.Shallow.{body_shallow, fits, routine_shallow}
+use Rattle.sbl_script.proofs.Spelled.{among_said, read_said}
 use Rattle.sbl_script.proofs.script.Script.with_among.Goals as goal
 
 pub nth_among-requires : goal.nth_among-requires
 nth_among-requires c =
     let items = (source_of c.args.self.now).items in
-    let found : routine_of c.args.routine.now items ≡ Some (view_row c.in-Some.body.now) = search rules in
+    let n = c.args.routine.now in
+    let b = view_row c.in-Some.body.now in
+    let found : first_of (defines kinds.Routine n) items ≡ Some (routine n b.0 b.1) = search rules in
     let own : view_items c.self.inside.items.items ≡ items = search rules in
-    routine_shallow c.args.routine.now items (view_row c.in-Some.body.now) (subst (λ (is : List Item). AreShallow (places is)) own c.self.invariant.1) found
+    body_shallow n items b (subst (λ (is : List Item). AreShallow (places is)) own c.self.invariant.1) found
 
 pub returns-in_err-found-clause-fault : goal.returns-in_err-found-clause-fault
 returns-in_err-found-clause-fault c =
@@ -36,10 +40,10 @@ returns-in_err-found-clause-fault c =
     let b = view_row c.in-Some.body.now in
     let old = view_among c.in-Some-nth_among.replaced.now in
     let d : Held = (c.in-Some-nth_among.depth, old.0, old.1) in
-    let h = home_of_among b k d in
-    let found : routine_of n s.items ≡ Some b = search rules in
+    let h = home_of_among s.items n b k d in
+    let found : first_of (defines kinds.Routine n) s.items ≡ Some (routine n b.0 b.1) = search rules in
     let there = editing.among_home s.items n k b d found c.in-Some-nth_among.ensures.held in
-    rw p.1 (editing.told_as s (among n k) h text _ p.0 there p.2 (editing.text_told s n h text _ c.in_err-found.ensures.fault))
+    rw p.1 (editing.told_as s (among n k) h text _ p.0 there p.2 (editing.text_told s h text _ c.in_err-found.ensures.fault))
 
 pub returns-in_err-among-clause-fault : goal.returns-in_err-among-clause-fault
 returns-in_err-among-clause-fault c =
@@ -51,37 +55,45 @@ returns-in_err-among-clause-fault c =
     let b = view_row c.in-Some.body.now in
     let old = view_among c.in-Some-nth_among.replaced.now in
     let d : Held = (c.in-Some-nth_among.depth, old.0, old.1) in
-    let h = home_of_among b k d in
-    let found : routine_of n s.items ≡ Some b = search rules in
+    let h = home_of_among s.items n b k d in
+    let found : first_of (defines kinds.Routine n) s.items ≡ Some (routine n b.0 b.1) = search rules in
     let there = editing.among_home s.items n k b d found c.in-Some-nth_among.ensures.held in
     let f = c.in_err-among.field-0.0 in
     let ts = map placed_of c.in_ok-found.found.items in
     let unread = subst (λ (xs : List Token). (f ≡ fault.OutOfMemory) ⊎ IsUnread (texts.among c.in-Some-nth_among.depth) (map placed_of xs) (length text) f) c.deref-2.ensures.value c.in_err-among.ensures.fault in
-    rw p.1 (editing.told_as s (among n k) h text f p.0 there p.2 (editing.unread_told s n h text ts f c.in_ok-found.ensures.tokens unread))
+    rw p.1 (editing.told_as s (among n k) h text f p.0 there p.2 (editing.unread_told s h text ts f c.in_ok-found.ensures.tokens unread))
 
-pub with_body-requires-clause-shallow : goal.with_body-requires-clause-shallow
-with_body-requires-clause-shallow c =
+pub with_definition-requires-clause-same : goal.with_definition-requires-clause-same
+with_definition-requires-clause-same c =
+    subst (λ (y : Plain). defines kinds.Routine c.args.routine.now y ≡ true) (sym c.in_ok-new.ensures) (same_name c.args.routine.now)
+
+pub with_definition-requires-clause-shallow : goal.with_definition-requires-clause-shallow
+with_definition-requires-clause-shallow c =
     let items = (source_of c.args.self.now).items in
+    let n = c.args.routine.now in
     let b = view_row c.in-Some.body.now in
     let old = view_among c.in-Some-nth_among.replaced.now in
     let d : Held = (c.in-Some-nth_among.depth, old.0, old.1) in
-    let found : routine_of c.args.routine.now items ≡ Some b = search rules in
+    let found : first_of (defines kinds.Routine n) items ≡ Some (routine n b.0 b.1) = search rules in
     let own : view_items c.self.inside.items.items ≡ items = search rules in
-    let shallow = routine_shallow c.args.routine.now items b (subst (λ (is : List Item). AreShallow (places is)) own c.self.invariant.1) found in
-    c.in_ok-body.ensures.shallow shallow (fits c.args.k (amongs_of_body b) d (view_among c.in_ok-among.among) c.in-Some-nth_among.ensures.held c.in_ok-among.ensures.tree.1)
+    let shallow = body_shallow n items b (subst (λ (is : List Item). AreShallow (places is)) own c.self.invariant.1) found in
+    let put = c.in_ok-body.ensures.shallow shallow (fits c.args.k (amongs_of_body b) d (view_among c.in_ok-among.among) c.in-Some-nth_among.ensures.held c.in_ok-among.ensures.tree.1) in
+    subst (λ (y : Plain). AreShallow (placed_plain y [])) (sym c.in_ok-new.ensures) (routine_shallow n (view_row c.in_ok-body.body) put)
 
-pub with_body-requires-clause-spelled : goal.with_body-requires-clause-spelled
-with_body-requires-clause-spelled c =
+pub with_definition-requires-clause-spelled : goal.with_definition-requires-clause-spelled
+with_definition-requires-clause-spelled c =
     let s = source_of c.args.self.now in
     let n = c.args.routine.now in
     let b = view_row c.in-Some.body.now in
     let x = view_among c.in_ok-among.among in
     let d = c.in-Some-nth_among.depth in
-    let found : routine_of n s.items ≡ Some b = search rules in
+    let there = state_before (defines kinds.Routine n) s.items in
+    let found : first_of (defines kinds.Routine n) s.items ≡ Some (routine n b.0 b.1) = search rules in
     let own : view_items c.self.inside.items.items ≡ s.items = search rules in
     let read = subst (λ (xs : List Token). IsReadAs (texts.among d) (terminals (map placed_of xs)) x) c.deref-2.ensures.value c.in_ok-among.ensures.tree in
-    let said = read_said (state_before n s.items) c.args.text.now (map placed_of c.in_ok-found.found.items) (texts.among d) x c.in_ok-found.ensures.tokens read in
-    subst (IsRowSpelled (state_before n s.items)) (sym c.in_ok-body.ensures.put) (among_replaced n s.items b c.args.k x d (subst AreSpelled own c.self.invariant.2) found said)
+    let said = read_said there c.args.text.now (map placed_of c.in_ok-found.found.items) (texts.among d) x c.in_ok-found.ensures.tokens read in
+    let new = c.in_ok-new.ensures ∙ ap (λ (r : RowView). routine n r.0 r.1) c.in_ok-body.ensures.put in
+    subst (IsSpelled there) (sym new) (among_said n s.items b c.args.k x d (subst AreSpelled own c.self.invariant.2) found said)
 
 pub returns-in_err-script-clause-fault : goal.returns-in_err-script-clause-fault
 returns-in_err-script-clause-fault c =
@@ -93,16 +105,17 @@ returns-in_err-script-clause-fault c =
     let b = view_row c.in-Some.body.now in
     let old = view_among c.in-Some-nth_among.replaced.now in
     let d : Held = (c.in-Some-nth_among.depth, old.0, old.1) in
-    let h = home_of_among b k d in
-    let found : routine_of n s.items ≡ Some b = search rules in
+    let h = home_of_among s.items n b k d in
+    let found : first_of (defines kinds.Routine n) s.items ≡ Some (routine n b.0 b.1) = search rules in
     let there = editing.among_home s.items n k b d found c.in-Some-nth_among.ensures.held in
     let ts = map placed_of c.in_ok-found.found.items in
     let x = view_among c.in_ok-among.among in
     let offered = subst (λ (xs : List Token). first_left_out (map placed_of xs) ≡ None) c.deref-2.ensures.value c.in_ok-among.ensures.offered in
     let read = subst (λ (xs : List Token). IsReadAs (texts.among c.in-Some-nth_among.depth) (terminals (map placed_of xs)) x) c.deref-2.ensures.value c.in_ok-among.ensures.tree in
     let f = c.in_err-script.field-0.0 in
-    let failed = subst (λ (r : RowView). (f ≡ fault.OutOfMemory) ⊎ (fault_of (items_with n r s.items) s.external ≡ Some f)) c.in_ok-body.ensures.put c.in_err-script.ensures.fault in
-    rw p.1 (editing.told_as s (among n k) h text f p.0 there p.2 (editing.check_told s n h text ts x f c.in_ok-found.ensures.tokens offered read failed))
+    let new = c.in_ok-new.ensures ∙ ap (λ (r : RowView). routine n r.0 r.1) c.in_ok-body.ensures.put in
+    let failed = subst (λ (y : Plain). (f ≡ fault.OutOfMemory) ⊎ (fault_of (items_with (defines kinds.Routine n) y s.items) s.external ≡ Some f)) new c.in_err-script.ensures.fault in
+    rw p.1 (editing.told_as s (among n k) h text f p.0 there p.2 (editing.check_told s h text ts x f c.in_ok-found.ensures.tokens offered read failed))
 
 pub returns-then-has_as_many_amongs-clause-script : goal.returns-then-has_as_many_amongs-clause-script
 returns-then-has_as_many_amongs-clause-script c =
@@ -113,17 +126,18 @@ returns-then-has_as_many_amongs-clause-script c =
     let b = view_row c.in-Some.body.now in
     let old = view_among c.in-Some-nth_among.replaced.now in
     let d : Held = (c.in-Some-nth_among.depth, old.0, old.1) in
-    let h = home_of_among b k d in
-    let found : routine_of n s.items ≡ Some b = search rules in
+    let h = home_of_among s.items n b k d in
+    let found : first_of (defines kinds.Routine n) s.items ≡ Some (routine n b.0 b.1) = search rules in
     let there = editing.among_home s.items n k b d found c.in-Some-nth_among.ensures.held in
     let ts = map placed_of c.in_ok-found.found.items in
     let x = view_among c.in_ok-among.among in
     let offered = subst (λ (xs : List Token). first_left_out (map placed_of xs) ≡ None) c.deref-2.ensures.value c.in_ok-among.ensures.offered in
     let read = subst (λ (xs : List Token). IsReadAs (texts.among c.in-Some-nth_among.depth) (terminals (map placed_of xs)) x) c.deref-2.ensures.value c.in_ok-among.ensures.tree in
     let u = source_of c.in_ok-script.script in
-    let items = c.in_ok-script.ensures.items ∙ ap (λ (r : RowView). items_with n r s.items) c.in_ok-body.ensures.put in
+    let new = c.in_ok-new.ensures ∙ ap (λ (r : RowView). routine n r.0 r.1) c.in_ok-body.ensures.put in
+    let items = c.in_ok-script.ensures.items ∙ ap (λ (y : Plain). items_with (defines kinds.Routine n) y s.items) new in
     let counted : h.keeps_count x ≡ true = search rules in
-    (h, there, editing.substituted s u n h text ts x true c.in_ok-found.ensures.tokens offered read items c.in_ok-script.ensures.external c.in_ok-script.ensures.well_declared counted)
+    (h, there, editing.substituted s u h text ts x true c.in_ok-found.ensures.tokens offered read items c.in_ok-script.ensures.external c.in_ok-script.ensures.well_declared counted)
 
 pub returns-clause-fault : goal.returns-clause-fault
 returns-clause-fault c =
@@ -134,14 +148,15 @@ returns-clause-fault c =
     let b = view_row c.in-Some.body.now in
     let old = view_among c.in-Some-nth_among.replaced.now in
     let d : Held = (c.in-Some-nth_among.depth, old.0, old.1) in
-    let h = home_of_among b k d in
-    let found : routine_of n s.items ≡ Some b = search rules in
+    let h = home_of_among s.items n b k d in
+    let found : first_of (defines kinds.Routine n) s.items ≡ Some (routine n b.0 b.1) = search rules in
     let there = editing.among_home s.items n k b d found c.in-Some-nth_among.ensures.held in
     let ts = map placed_of c.in_ok-found.found.items in
     let x = view_among c.in_ok-among.among in
     let offered = subst (λ (xs : List Token). first_left_out (map placed_of xs) ≡ None) c.deref-2.ensures.value c.in_ok-among.ensures.offered in
     let read = subst (λ (xs : List Token). IsReadAs (texts.among c.in-Some-nth_among.depth) (terminals (map placed_of xs)) x) c.deref-2.ensures.value c.in_ok-among.ensures.tree in
     let u = source_of c.in_ok-script.script in
-    let items = c.in_ok-script.ensures.items ∙ ap (λ (r : RowView). items_with n r s.items) c.in_ok-body.ensures.put in
+    let new = c.in_ok-new.ensures ∙ ap (λ (r : RowView). routine n r.0 r.1) c.in_ok-body.ensures.put in
+    let items = c.in_ok-script.ensures.items ∙ ap (λ (y : Plain). items_with (defines kinds.Routine n) y s.items) new in
     let counted : h.keeps_count x ≡ false = search rules in
-    inr (h, there, u, editing.substituted s u n h text ts x false c.in_ok-found.ensures.tokens offered read items c.in_ok-script.ensures.external c.in_ok-script.ensures.well_declared counted)
+    inr (h, there, u, editing.substituted s u h text ts x false c.in_ok-found.ensures.tokens offered read items c.in_ok-script.ensures.external c.in_ok-script.ensures.well_declared counted)

@@ -1,6 +1,6 @@
 use Rattle.sbl_script.specs.Parsed.{source_of}
 use Rattle.sbl_script.proofs.Spelled.{ends}
-use Rattle.sbl_script.proofs.script.Script.is_spelled.Goals as goal
+use Rattle.sbl_script.proofs.script.is_spelled.Goals as goal
 
 pub returns-clause-ends : goal.returns-clause-ends
-returns-clause-ends c = ends (source_of c.args.self.now).items
+returns-clause-ends c = ends (source_of c.args.script.now).items

@@ -1,0 +1,7 @@
+use Rattle.std.proofs.Common.{◌≡◌, drop}
+use Rattle.sbl_tree.specs.View.{view_items}
+use Rattle.sbl_script.specs.Edits as spec
+use Rattle.sbl_script.proofs.edits.definition_of.Given as goal
+
+abbrev pub invariant-loop-item : goal.invariant-loop-item
+invariant-loop-item l = spec.first_of (spec.defines l.kind l.name) (view_items (drop l.item-index l.items)) ≡ spec.first_of (spec.defines l.kind l.name) (view_items l.items)

@@ -1,0 +1,7 @@
+use Rattle.std.proofs.Common.{◌≡◌, drop, map}
+use Rattle.sbl_tree.specs.View.{view_plain}
+use Rattle.sbl_script.specs.Edits as spec
+use Rattle.sbl_script.proofs.edits.first_in.Given as goal
+
+abbrev pub invariant-loop-plain : goal.invariant-loop-plain
+invariant-loop-plain l = spec.first_in (spec.defines l.kind l.name) (map view_plain (drop l.plain-index l.plains)) ≡ spec.first_in (spec.defines l.kind l.name) (map view_plain l.plains)

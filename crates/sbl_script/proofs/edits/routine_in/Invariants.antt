@@ -1,7 +1,0 @@
-use Rattle.std.proofs.Common.{◌≡◌, drop, map}
-use Rattle.sbl_tree.specs.View.{view_plain}
-use Rattle.sbl_script.specs.Edits as spec
-use Rattle.sbl_script.proofs.edits.routine_in.Given as goal
-
-abbrev pub invariant-loop-plain : goal.invariant-loop-plain
-invariant-loop-plain l = spec.routine_in l.name (map view_plain (drop l.plain-index l.plains)) ≡ spec.routine_in l.name (map view_plain l.plains)
