@@ -10,15 +10,15 @@ use Rattle.std.specs.Option.{option_to_list}
 use Rattle.sbl_bench.specs.Kept.{KeptWord, AreFresh, IsFresh, words_in}
 use Rattle.sbl_bench.specs.Pairs.{Text, find}
 use Rattle.sbl_bench.specs.Changes.{AreAllFresh, AreAnew, AreRun, is_changed}
-use Rattle.sbl_script.specs.Parsed.{Source}
+use Rattle.sbl_bench.specs.Setting.{Setting}
 use Rattle.sbl_machine.specs.declared.outcome.Traced.{Traced}
 use Rattle.sbl_bench.specs.declared.change.Change.{Change}
 
-abbrev Run : Source → List KeptWord → Change → Type 0
+abbrev Run : Setting → List KeptWord → Change → Type 0
 Run script es c = IsFresh script c.word.items c.traced × IsSome (find c.word.items es)
 
 -- what remains to be done after the last change is made
-pub anew_step : (script : Source) (es fs : List KeptWord) (c : Change) (cs rest : List Change) → cs ≡ rest ++ option_to_list (Some c) → AreAnew script es cs
+pub anew_step : (script : Setting) (es fs : List KeptWord) (c : Change) (cs rest : List Change) → cs ≡ rest ++ option_to_list (Some c) → AreAnew script es cs
     → ((w : Text) → find w.items fs ≡ cond (bytes_eq c.word.items w.items) (Some c.traced) (find w.items es))
     → AreAnew script fs rest
 anew_step script es fs c cs rest split anew finds = record {
@@ -54,7 +54,7 @@ anew_step script es fs c cs rest split anew finds = record {
             or-nothing false false h p = p
 
 -- the word of the last change is there
-pub anew_there : (script : Source) (es : List KeptWord) (c : Change) (cs rest : List Change) → cs ≡ rest ++ option_to_list (Some c) → AreAnew script es cs → IsSome (find c.word.items es)
+pub anew_there : (script : Setting) (es : List KeptWord) (c : Change) (cs rest : List Change) → cs ≡ rest ++ option_to_list (Some c) → AreAnew script es cs → IsSome (find c.word.items es)
 anew_there script es c cs rest split anew = (All-pop (Run script es) cs rest (Some c) split anew.run).1.1
 
 nil_of : {X : Type 0} (xs : List X) → length xs ≡ 0 → xs ≡ []
@@ -62,7 +62,7 @@ nil_of [] h = refl
 nil_of (x ∷ xs) h = absurd (omega (arith, h))
 
 -- no change is left
-pub anew_done : (script : Source) (es : List KeptWord) (cs : List Change) → length cs ≡ 0 → AreAnew script es cs → AreAllFresh script es
+pub anew_done : (script : Setting) (es : List KeptWord) (cs : List Change) → length cs ≡ 0 → AreAnew script es cs → AreAllFresh script es
 anew_done script es cs none anew = λ w. at (find w.items es) w (subst (λ (l : List Change). Fresh l w (find w.items es)) (nil_of cs none) (anew.fresh w))
   where
     Fresh : List Change → Text → Option Traced → Type 0
@@ -75,7 +75,7 @@ anew_done script es cs none anew = λ w. at (find w.items es) w (subst (λ (l : 
 
 -- ---- from the look-ups to the list
 
-pub fresh_list : (script : Source) (es : List KeptWord) → IsDistinct (λ (x y : Text). bytes_eq x.items y.items) (keys_of es) → AreAllFresh script es → AreFresh script es
+pub fresh_list : (script : Setting) (es : List KeptWord) → IsDistinct (λ (x y : Text). bytes_eq x.items y.items) (keys_of es) → AreAllFresh script es → AreFresh script es
 unfolding IsDistinct
 fresh_list script [] unique fresh = tt
 fresh_list script (e ∷ es) unique fresh = (

@@ -14,7 +14,7 @@ use Rattle.std.proofs.lemmas.List.Elements.{All-head, All-tail, All-cons, All-ma
 use Rattle.std.proofs.lemmas.Map.Views.{All-insert_key}
 use Rattle.std.proofs.lemmas.Slice.Eq.{bytes_eq-Decides}
 use Rattle.std.proofs.lemmas.Map.Text.{is_eq-slice_cmp}
-use Rattle.sbl_script.specs.Parsed.{Source}
+use Rattle.sbl_bench.specs.Setting.{Setting}
 use Rattle.sbl_machine.specs.Outcome.{Outcome', Stem, Refused, outcome_of}
 use Rattle.sbl_machine.specs.declared.outcome.Outcome.{Outcome}
 use Rattle.sbl_machine.specs.declared.outcome.Traced.{Traced}
@@ -124,7 +124,7 @@ mem-plain [] q = refl
 mem-plain (k ∷ ks) q = ap (λ (b : Bool). is_eq (key_cmp q k) || b) (mem-plain ks q)
 
 -- the pairs that are kept are those of the rows in order
-pub kept_sorted : (script : Source) (es : List KeptWord) (set : BTreeSet Key) → AreFresh script es → IsDistinct (λ (x y : Text). bytes_eq x.items y.items) (keys_of es)
+pub kept_sorted : (script : Setting) (es : List KeptWord) (set : BTreeSet Key) → AreFresh script es → IsDistinct (λ (x y : Text). bytes_eq x.items y.items) (keys_of es)
     → ArePaired es set → IsStrictlySortedBy key_cmp set.keys → All (λ k. has set k ≡ true) set.keys
     → map plain set.keys ≡ sorted (stem_pairs (rows_of script (words_in es)))
 kept_sorted script es set fresh unique paired ordered found =
@@ -145,7 +145,7 @@ kept_sorted script es set fresh unique paired ordered found =
 -- ---- the class of one word
 
 -- the row of a word that has an entry
-pub row_found : (script : Source) (word : List ℕ) (es : List KeptWord) → AreFresh script es → find_row (λ (r : Row). bytes_eq word r.word) (rows_of script (words_in es)) ≡ option_map (λ t. record { word = word; outcome = outcome_of t.outcome }) (find word es)
+pub row_found : (script : Setting) (word : List ℕ) (es : List KeptWord) → AreFresh script es → find_row (λ (r : Row). bytes_eq word r.word) (rows_of script (words_in es)) ≡ option_map (λ t. record { word = word; outcome = outcome_of t.outcome }) (find word es)
 row_found script word [] fresh = refl
 row_found script word (e ∷ es) fresh = by (bytes_eq word e.0.items) refl (row_found script word es fresh.1)
   where
@@ -155,7 +155,7 @@ row_found script word (e ∷ es) fresh = by (bytes_eq word e.0.items) refl (row_
     by false other rest = rw other rest
 
 -- the class of a word by what its entry holds
-pub class_found : (script : Source) (es : List KeptWord) (word : List ℕ) → AreFresh script es → (o : Option Traced) → o ≡ find word es
+pub class_found : (script : Setting) (es : List KeptWord) (word : List ℕ) → AreFresh script es → (o : Option Traced) → o ≡ find word es
     → option_map (class_with (rows_of script (words_in es))) (option_and_then (λ t. stem_of (outcome_of t.outcome)) o) ≡ class_of (rows_of script (words_in es)) word
 class_found script es word fresh o is =
     ap (λ (x : Option (List ℕ)). option_map (class_with (rows_of script (words_in es))) x)
@@ -166,7 +166,7 @@ class_found script es word fresh o is =
     by (Some t) = refl
 
 -- the words with a stem among the pairs that are kept are those of its class
-pub words_kept : (script : Source) (es : List KeptWord) (set : BTreeSet Key) (stem : List ℕ) → AreFresh script es → IsDistinct (λ (x y : Text). bytes_eq x.items y.items) (keys_of es)
+pub words_kept : (script : Setting) (es : List KeptWord) (set : BTreeSet Key) (stem : List ℕ) → AreFresh script es → IsDistinct (λ (x y : Text). bytes_eq x.items y.items) (keys_of es)
     → ArePaired es set → IsStrictlySortedBy key_cmp set.keys → All (λ k. has set k ≡ true) set.keys
     → words_paired stem (map plain set.keys) ≡ in_order (words_with stem (rows_of script (words_in es)))
 words_kept script es set stem fresh unique paired ordered found =

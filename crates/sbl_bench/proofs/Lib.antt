@@ -14,3 +14,5 @@ pub mod Meeting
 pub mod Tracing
 pub mod OneVerdict
 pub mod Replacing
+pub mod Reruns
+pub mod Bringing

@@ -1,92 +1,120 @@
 -- Which words an edit of the script meets, and what their runs change.
-use Rattle.std.proofs.Common.{◌≡◌, ◌∙◌, ◌⊎◌, ◌||◌, inl, inr, ◌++◌, ℕ, suc, Bool, true, false, cond, List, [], ◌∷◌, Option, Some, None, IfSome, IsSome, slice_index_or, length, map, arith, append_assoc, refl, sym, ap, subst}
+use Rattle.std.proofs.Common.{◌≡◌, ◌∙◌, ◌⊎◌, ◌||◌, ◌<◌, ◌≤◌, inl, inr, ◌++◌, ℕ, zero, suc, Bool, true, false, cond, List, [], ◌∷◌, Option, Some, None, IfSome, IsSome, slice_index_or, length, map, arith, append_assoc, refl, sym, ap, subst}
 use Rattle.std.specs.List.{All, filter, list_any}
 use Rattle.std.specs.Str.{bytes_eq}
 use Rattle.std.proofs.lemmas.Slice.Eq.{bytes_eq-Decides}
+use Rattle.std.proofs.lemmas.List.{length-map}
 use Rattle.std.proofs.lemmas.List.Elements.{All-cons, All-head, All-tail}
-use Rattle.sbl_machine.specs.Frame.{StaysAsItWas, UntouchedStay}
-use Rattle.sbl_machine.specs.Outcome.{run_of, touches_of}
-use Rattle.sbl_machine.specs.Touched.{Item', named, replaced, routine_names, same_item, touches}
+use Rattle.std.proofs.Math.Path.{fun_ext}
+use Rattle.std.specs.Prelude.{if◌then◌else◌}
+use Rattle.sbl_machine.specs.Outcome.{run_of, touches_of, used_of}
 use Rattle.sbl_machine.specs.declared.outcome.Traced.{Traced}
-use Rattle.sbl_run.specs.declared.touch.Touch.{Touch}
-use Rattle.sbl_script.specs.Edits.{ScriptEdit, IsEdited}
-use Rattle.sbl_script.specs.Parsed.{Source}
-use Rattle.sbl_bench.specs.Changes.{AreAnew, AreRun, AreStill, Rerun, changes_of, is_changed, is_met, rerun_of, view_change, with_change}
-use Rattle.sbl_bench.specs.Edits.{Replace, runs_needed}
-use Rattle.sbl_bench.specs.Kept.{KeptWord, AreFresh, IsFresh, words_in}
+use Rattle.sbl_bench.specs.Affected.{Affected, is_affected, is_affected_run}
+use Rattle.sbl_bench.specs.Changes.{AreAnew, AreRun, AreStill, Brings, Rerun, is_changed, is_met, met_words, rerun_of, reruns, view_change}
+use Rattle.sbl_bench.specs.Contents.{Contents}
+use Rattle.sbl_bench.specs.Edits.{Edit, met, runs_needed}
+use Rattle.sbl_bench.specs.Kept.{KeptWord, AreFresh, IsFresh, IsWord, words_in}
 use Rattle.sbl_bench.specs.Pairs.{Text, find}
-use Rattle.sbl_bench.specs.Rows.{max_steps}
+use Rattle.sbl_bench.specs.Setting.{Setting, RunsSame}
 use Rattle.sbl_bench.specs.declared.change.Change.{Change}
 
 -- ---- which words are met
 
--- a word's last run touched what a fresh one touches
-met_fresh : (p : Source) (x : Item') (e : KeptWord) → IsFresh p e.0.items e.1 → is_met p x e ≡ touches x p e.0.items max_steps
-unfolding touches
-met_fresh p x e h = ap (λ (ts : List Touch). list_any (same_item x) (map (named (routine_names p)) ts)) h.touches
+-- a word's last run is affected if a fresh one is
+met_fresh : (s : Setting) (a : Affected) (e : KeptWord) → IsFresh s e.0.items e.1 → is_met a e ≡ is_affected s a e.0.items
+met_fresh s a e h = λ i. is_affected_run a (h.touches i) (h.used i)
 
 -- as many entries are met as words of the vocabulary
-pub met_words : (p : Source) (x : Item') (es : List KeptWord) → AreFresh p es
-    → length (filter (is_met p x) es) ≡ length (filter (λ w. touches x p w max_steps) (words_in es))
-met_words p x [] h = refl
-met_words p x (e ∷ es) h = by (is_met p x e) refl (met_words p x es h.1)
+pub met_count : (s : Setting) (a : Affected) (es : List KeptWord) → AreFresh s es
+    → length (met_words a es) ≡ length (filter (is_affected s a) (words_in es))
+met_count s a [] h = refl
+met_count s a (e ∷ es) h = by (is_met a e) refl (met_count s a es h.1)
   where
-    by : (b : Bool) → is_met p x e ≡ b → length (filter (is_met p x) es) ≡ length (filter (λ w. touches x p w max_steps) (words_in es))
-        → length (filter (is_met p x) (e ∷ es)) ≡ length (filter (λ w. touches x p w max_steps) (words_in (e ∷ es)))
-    by true k rest = rw (k, sym (met_fresh p x e h.0) ∙ k) (ap suc rest)
-    by false k rest = rw (k, sym (met_fresh p x e h.0) ∙ k) rest
+    by : (b : Bool) → is_met a e ≡ b → length (met_words a es) ≡ length (filter (is_affected s a) (words_in es))
+        → length (met_words a (e ∷ es)) ≡ length (filter (is_affected s a) (words_in (e ∷ es)))
+    by true k rest = rw (k, sym (met_fresh s a e h.0) ∙ k) (ap suc rest)
+    by false k rest = rw (k, sym (met_fresh s a e h.0) ∙ k) rest
 
 -- so many runs does the edit need
-pub needed_is : (p : Source) (count n : ℕ) (what : ScriptEdit) (text : List ℕ) (x : Item') (es : List KeptWord) → x ≡ replaced what → AreFresh p es
-    → n ≡ length (filter (is_met p x) es) → n ≡ runs_needed (record { script = p; words = words_in es; count = count }) (Replace what text)
-needed_is p count n what text x es same fresh h =
-    h ∙ met_words p x es fresh ∙ ap (λ (y : Item'). length (filter (λ w. touches y p w max_steps) (words_in es))) same
+pub needed_is : (s : Contents) (e : Edit) (t : Setting) (a : Affected) (es : List KeptWord) → Brings s e t a → s.words ≡ words_in es → AreFresh s.setting es
+    → length (met_words a es) ≡ runs_needed s e t
+needed_is s e t a es b words fresh =
+    met_count s.setting a es fresh
+    ∙ sym (ap (λ (met : List ℕ → Bool). length (filter met (words_in es))) (fun_ext b.met_is))
+    ∙ sym (ap (λ (ws : List (List ℕ)). length (filter (met s e t) ws)) (b.words ∙ words))
 
--- what the law says of a word that is not met
-pub still : UntouchedStay → (p q : Source) (what : ScriptEdit) (text : List ℕ) → IsEdited p what text q → (x : Item') → x ≡ replaced what
-    → (es : List KeptWord) → AreFresh p es → AreStill (is_met p x) q es
-still law p q what text edited x same [] h = tt
-still law p q what text edited x same (e ∷ es) h = (
-  λ unmet. stays e.1 (law p q what text edited e.0.items max_steps (ap (λ (y : Item'). touches y p e.0.items max_steps) (sym same) ∙ sym (met_fresh p x e h.0) ∙ unmet)) h.0,
-  still law p q what text edited x same es h.1,
-)
+-- a word that is not met runs as before
+pub still : (s t : Setting) (a : Affected) → ((w : List ℕ) → is_affected s a w ≡ false → RunsSame s t w) → (es : List KeptWord) → AreFresh s es → AreStill (is_met a) t es
+still s t a law [] h = tt
+still s t a law (e ∷ es) h = (λ unmet. stays e.1 (law e.0.items (sym (met_fresh s a e h.0) ∙ unmet)) h.0, still s t a law es h.1)
   where
-    stays : (t : Traced) → StaysAsItWas p q e.0.items max_steps → IsFresh p e.0.items t → IsFresh q e.0.items t
-    stays t s f = record { outcome = f.outcome ∙ sym s.alike.outcome; touches = f.touches ∙ sym s.touches }
+    stays : (r : Traced) → RunsSame s t e.0.items → IsFresh s e.0.items r → IsFresh t e.0.items r
+    stays r x f = record { outcome = f.outcome ∙ sym x.outcome; touches = f.touches ∙ sym x.touches; used = f.used ∙ sym x.used }
 
 -- ---- one word after another
 
--- what the machine tells of the touches of an entry
-pub told : (p : Source) (x : Item') (e : KeptWord) (ts : List Touch) (b : Bool) → ts ≡ e.1.touches.items → b ≡ list_any (same_item x) (map (named (routine_names p)) ts) → is_met p x e ≡ b
-told p x e ts b same is = ap (λ (us : List Touch). list_any (same_item x) (map (named (routine_names p)) us)) (sym same) ∙ sym is
-
-pub count_other : (met : KeptWord → Bool) (es rest : List KeptWord) (e : KeptWord) → es ≡ e ∷ rest → met e ≡ false → length (filter met es) ≡ length (filter met rest)
-count_other met es rest e split off = ap (λ (l : List KeptWord). length (filter met l)) split ∙ ap (λ (b : Bool). length (cond b (e ∷ filter met rest) (filter met rest))) off
-
-pub count_one : (met : KeptWord → Bool) (es rest : List KeptWord) (e : KeptWord) → es ≡ e ∷ rest → met e ≡ true → length (filter met es) ≡ suc (length (filter met rest))
-count_one met es rest e split on = ap (λ (l : List KeptWord). length (filter met l)) split ∙ ap (λ (b : Bool). length (cond b (e ∷ filter met rest) (filter met rest))) on
-
 -- one more entry is looked at, and its word is not met
-pub not_met : (met : KeptWord → Bool) (script : Source) (before all : List Rerun) (es rest : List KeptWord) (e : KeptWord) → before ++ changes_of met script es ≡ all
-    → es ≡ e ∷ rest → met e ≡ false → before ++ changes_of met script rest ≡ all
-not_met met script before all es rest e so split off =
-    ap (λ (b : Bool). before ++ with_change b (rerun_of script e.0.items) (changes_of met script rest)) (sym off)
-    ∙ ap (λ (l : List KeptWord). before ++ changes_of met script l) (sym split) ∙ so
+pub not_met : (a : Affected) (before : List (List ℕ)) (es rest all : List KeptWord) (e : KeptWord) → before ++ met_words a es ≡ met_words a all
+    → es ≡ e ∷ rest → is_met a e ≡ false → before ++ met_words a rest ≡ met_words a all
+not_met a before es rest all e so split off =
+    ap (λ (b : Bool). before ++ words_in (cond b (e ∷ filter (is_met a) rest) (filter (is_met a) rest))) (sym off)
+    ∙ ap (λ (l : List KeptWord). before ++ met_words a l) (sym split) ∙ so
 
--- one more entry is looked at, and its word is run
-pub run_again : (met : KeptWord → Bool) (script : Source) (before more all : List Rerun) (es rest : List KeptWord) (e : KeptWord) (r : Rerun) → before ++ changes_of met script es ≡ all
-    → es ≡ e ∷ rest → met e ≡ true → r ≡ rerun_of script e.0.items → more ≡ before ++ r ∷ [] → more ++ changes_of met script rest ≡ all
-run_again met script before more all es rest e r so split on is next =
-    ap (λ (l : List Rerun). l ++ changes_of met script rest) (next ∙ ap (λ (x : Rerun). before ++ x ∷ []) is)
-    ∙ append_assoc before (rerun_of script e.0.items ∷ []) (changes_of met script rest)
-    ∙ ap (λ (b : Bool). before ++ with_change b (rerun_of script e.0.items) (changes_of met script rest)) (sym on)
-    ∙ ap (λ (l : List KeptWord). before ++ changes_of met script l) (sym split) ∙ so
+-- one more entry is looked at, and its word is met
+pub one_met : (a : Affected) (before more : List (List ℕ)) (es rest all : List KeptWord) (e : KeptWord) → before ++ met_words a es ≡ met_words a all
+    → es ≡ e ∷ rest → is_met a e ≡ true → more ≡ before ++ e.0.items ∷ [] → more ++ met_words a rest ≡ met_words a all
+one_met a before more es rest all e so split on next =
+    ap (λ (l : List (List ℕ)). l ++ met_words a rest) next
+    ∙ append_assoc before (e.0.items ∷ []) (met_words a rest)
+    ∙ ap (λ (b : Bool). before ++ words_in (cond b (e ∷ filter (is_met a) rest) (filter (is_met a) rest))) (sym on)
+    ∙ ap (λ (l : List KeptWord). before ++ met_words a l) (sym split) ∙ so
+
+-- the words that are met are words
+pub met_sound : (a : Affected) (es : List KeptWord) → All IsWord (words_in es) → All IsWord (met_words a es)
+met_sound a [] h = h
+met_sound a (e ∷ es) h = by (is_met a e) (met_sound a es (All-tail IsWord e.0.items (words_in es) h))
+  where
+    by : (b : Bool) → All IsWord (met_words a es) → All IsWord (words_in (cond b (e ∷ filter (is_met a) es) (filter (is_met a) es)))
+    by true rest = All-cons IsWord e.0.items (met_words a es) (All-head IsWord e.0.items (words_in es) h) rest
+    by false rest = rest
+
+at_mapped : {A B : Type 0} (f : A → B) (xs : List A) (k : ℕ) (d : A) → slice_index_or (map f xs) k (f d) ≡ f (slice_index_or xs k d)
+at_mapped f [] k d = refl
+at_mapped f (x ∷ xs) zero d = refl
+at_mapped f (x ∷ xs) (suc k) d = at_mapped f xs k d
+
+-- so each of them is short enough to be run
+pub short_at : {A : Type 0} (f : A → List ℕ) (ws : List A) (k : ℕ) (d : A) → All IsWord (map f ws) → k < length ws → length (f (slice_index_or ws k d)) ≤ 255
+short_at f ws k d words below =
+    let same = length-map ws f in
+    let w : IsWord (slice_index_or (map f ws) k (f d)) = words k (f d) (omega (arith, same, below)) in
+    subst (λ (t : List ℕ). length t ≤ 255) (at_mapped f ws k d) w.1
+
+-- ---- what is met, and the words that it has
+
+-- a word that is not met is not run
+abbrev with_change : Bool → Rerun → List Rerun → List Rerun
+with_change met r rs = if met then r ∷ rs else rs
+
+abbrev changes_of : (KeptWord → Bool) → Setting → List KeptWord → List Rerun
+changes_of met script [] = []
+changes_of met script (e ∷ es) = with_change (met e) (rerun_of script e.0.items) (changes_of met script es)
+
+changes_are : (met : KeptWord → Bool) (script : Setting) (es : List KeptWord) → reruns script (words_in (filter met es)) ≡ changes_of met script es
+changes_are met script [] = refl
+changes_are met script (e ∷ es) = by (met e) (changes_are met script es)
+  where
+    by : (b : Bool) → reruns script (words_in (filter met es)) ≡ changes_of met script es
+        → reruns script (words_in (cond b (e ∷ filter met es) (filter met es))) ≡ with_change b (rerun_of script e.0.items) (changes_of met script es)
+    by true rest = ap (λ (rs : List Rerun). rerun_of script e.0.items ∷ rs) rest
+    by false rest = rest
 
 -- ---- from the list of the changes to what is anew
 
-record RunOf (script : Source) (es : List KeptWord) (r : Rerun) : Type 0 where
-  pub outcome : r.outcome ≡ run_of script r.word max_steps
-  pub touches : r.touches ≡ touches_of script r.word max_steps
+record RunOf (script : Setting) (es : List KeptWord) (r : Rerun) : Type 0 where
+  pub outcome : r.outcome ≡ run_of script.script r.word script.limit
+  pub touches : r.touches ≡ touches_of script.script r.word script.limit
+  pub used : r.used ≡ used_of script.script r.word script.limit
   pub there : IsSome (find r.word es)
 
 found_later : (word : List ℕ) (e : KeptWord) (es : List KeptWord) → IsSome (find word es) → IsSome (find word (e ∷ es))
@@ -96,19 +124,19 @@ found_later word e es h = by (bytes_eq word e.0.items)
     by true = refl
     by false = h
 
-run_later : (script : Source) (e : KeptWord) (es : List KeptWord) (rs : List Rerun) → All (RunOf script es) rs → All (RunOf script (e ∷ es)) rs
+run_later : (script : Setting) (e : KeptWord) (es : List KeptWord) (rs : List Rerun) → All (RunOf script es) rs → All (RunOf script (e ∷ es)) rs
 run_later script e es rs a = λ k d h.
     let p = a k d h in
-    record { outcome = p.outcome; touches = p.touches; there = found_later (slice_index_or rs k d).word e es p.there }
+    record { outcome = p.outcome; touches = p.touches; used = p.used; there = found_later (slice_index_or rs k d).word e es p.there }
 
 -- each change is that of a word that is there, with its new run
-runs_there : (met : KeptWord → Bool) (script : Source) (es : List KeptWord) → All (RunOf script es) (changes_of met script es)
+runs_there : (met : KeptWord → Bool) (script : Setting) (es : List KeptWord) → All (RunOf script es) (changes_of met script es)
 runs_there met script [] = λ k d h. absurd (omega (arith, h))
 runs_there met script (e ∷ es) = by (met e) (run_later script e es (changes_of met script es) (runs_there met script es))
   where
     by : (b : Bool) → All (RunOf script (e ∷ es)) (changes_of met script es) → All (RunOf script (e ∷ es)) (with_change b (rerun_of script e.0.items) (changes_of met script es))
     by false rest = rest
-    by true rest = All-cons (RunOf script (e ∷ es)) (rerun_of script e.0.items) (changes_of met script es) (record { outcome = refl; touches = refl; there = here }) rest
+    by true rest = All-cons (RunOf script (e ∷ es)) (rerun_of script e.0.items) (changes_of met script es) (record { outcome = refl; touches = refl; used = refl; there = here }) rest
       where
         here : IsSome (find e.0.items (e ∷ es))
         here = rw ((bytes_eq-Decides e.0.items e.0.items).1 refl) refl
@@ -121,7 +149,7 @@ or_true true = refl
 or_true false = refl
 
 -- a run is fresh, or its word is run again
-fresh_or_rerun : (met : KeptWord → Bool) (script : Source) (es : List KeptWord) (w : List ℕ) → AreStill met script es
+fresh_or_rerun : (met : KeptWord → Bool) (script : Setting) (es : List KeptWord) (w : List ℕ) → AreStill met script es
     → IfSome (find w es) (λ t. IsFresh script w t ⊎ (is_rerun (changes_of met script es) w ≡ true))
 fresh_or_rerun met script [] w still = tt
 fresh_or_rerun met script (e ∷ es) w still = by (bytes_eq w e.0.items) refl (met e) refl (fresh_or_rerun met script es w still.1)
@@ -144,20 +172,20 @@ changed_view : (cs : List Change) (w : List ℕ) → is_rerun (map view_change c
 changed_view [] w = refl
 changed_view (c ∷ cs) w = ap (λ (b : Bool). bytes_eq c.word.items w || b) (changed_view cs w)
 
-abbrev Run : Source → List KeptWord → Change → Type 0
+abbrev Run : Setting → List KeptWord → Change → Type 0
 Run script es c = IsFresh script c.word.items c.traced × IsSome (find c.word.items es)
 
-run_view : (script : Source) (es : List KeptWord) (cs : List Change) → All (RunOf script es) (map view_change cs) → AreRun script es cs
+run_view : (script : Setting) (es : List KeptWord) (cs : List Change) → All (RunOf script es) (map view_change cs) → AreRun script es cs
 run_view script es [] a = λ k d h. absurd (omega (arith, h))
 run_view script es (c ∷ cs) a = All-cons (Run script es) c cs (one (All-head (RunOf script es) (view_change c) (map view_change cs) a)) (run_view script es cs (All-tail (RunOf script es) (view_change c) (map view_change cs) a))
   where
     one : RunOf script es (view_change c) → Run script es c
-    one r = (record { outcome = r.outcome; touches = r.touches }, r.there)
+    one r = (record { outcome = r.outcome; touches = r.touches; used = r.used }, r.there)
 
 -- the words that are not met stay, and those that are met are run: then all is anew
-pub anew : (met : KeptWord → Bool) (script : Source) (es : List KeptWord) (cs : List Change) → map view_change cs ≡ changes_of met script es
+anew_by : (met : KeptWord → Bool) (script : Setting) (es : List KeptWord) (cs : List Change) → map view_change cs ≡ changes_of met script es
     → AreStill met script es → AreAnew script es cs
-anew met script es cs is still = record {
+anew_by met script es cs is still = record {
   run = run_view script es cs (subst (All (RunOf script es)) (sym is) (runs_there met script es));
   fresh = λ w. at w (find w.items es) (fresh_or_rerun met script es w.items still);
 }
@@ -167,3 +195,7 @@ anew met script es cs is still = record {
     at w None h = tt
     at w (Some t) (inl p) = inl p
     at w (Some t) (inr p) = inr (sym (changed_view cs w.items) ∙ ap (λ (rs : List Rerun). is_rerun rs w.items) is ∙ p)
+
+pub anew : (a : Affected) (script : Setting) (es : List KeptWord) (cs : List Change) → map view_change cs ≡ reruns script (met_words a es)
+    → AreStill (is_met a) script es → AreAnew script es cs
+anew a script es cs is still = anew_by (is_met a) script es cs (is ∙ changes_are (is_met a) script es) still

@@ -1,10 +1,12 @@
 -- Each edit has one verdict, since each text makes one script or has one fault.
-use Rattle.std.proofs.Common.{◌≡◌, ◌∙◌, ◌⊎◌, Option, Some, None, refl, sym, ap, inl, inr}
+use Rattle.std.proofs.Common.{◌≡◌, ◌∙◌, ◌⊎◌, false, Option, Some, None, refl, sym, ap, inl, inr}
+use Rattle.std.proofs.lemmas.Bool.{true≢false}
 use Rattle.std.proofs.lemmas.Option.{none-some, same_Some}
 use Rattle.sbl_script.specs.OneEdit.{EditFaultIsOne, EditIsOne, EditOrFault}
-use Rattle.sbl_script.specs.Parsed.{Source}
+use Rattle.sbl_bench.specs.Setting.{Setting}
 use Rattle.sbl_bench.specs.declared.fault.EditFault.{EditFault}
-use Rattle.sbl_bench.specs.Edits.{Edit, Add, Remove, Replace, IsAccepted, IsMeterFull, IsRefused, IsScriptAfter, IsVerdict, edited, fault_of_script}
+use Rattle.sbl_bench.specs.declared.fault.EditFault.TheVariants as fault
+use Rattle.sbl_bench.specs.Edits.{Edit, Add, Remove, Replace, Limit, IsAccepted, IsMeterFull, IsRefused, IsSettingAfter, IsVerdict, edited, fault_of_script, lacks_counts}
 use Rattle.sbl_bench.specs.Contents.{Contents}
 
 -- the laws of the edits of a script
@@ -13,33 +15,42 @@ pub record Known : Type 0 where
   pub fault : EditFaultIsOne
   pub either : EditOrFault
 
-script_is_one : Known → (s : Contents) (e : Edit) (p q : Source) → IsScriptAfter s e p → IsScriptAfter s e q → p ≡ q
-script_is_one k s (Add word) p q h j = h.1 ∙ sym j.1
-script_is_one k s (Remove word) p q h j = h.1 ∙ sym j.1
-script_is_one k s (Replace what text) p q h j = k.script s.script what text p q h j
+both : {p q : Setting} → p.script ≡ q.script → p.limit ≡ q.limit → p ≡ q
+both a b = λ i. record { script = a i; limit = b i }
+
+setting_is_one : Known → (s : Contents) (e : Edit) (p q : Setting) → IsSettingAfter s e p → IsSettingAfter s e q → p ≡ q
+setting_is_one k s (Add word) p q h j = h.1 ∙ sym j.1
+setting_is_one k s (Remove word) p q h j = h.1 ∙ sym j.1
+setting_is_one k s (Replace what text) p q h j = both (k.script s.setting.script what text p.script q.script h.0 j.0) (h.1 ∙ sym j.1)
+setting_is_one k s (Limit n) p q h j = both (h.1 ∙ sym j.1) (h.2 ∙ sym j.2)
 
 refusal_is_one : Known → (s : Contents) (e : Edit) (f g : EditFault) → IsRefused s e f → IsRefused s e g → f ≡ g
 refusal_is_one k s (Add word) f g h j = same_Some f g (sym h ∙ j)
 refusal_is_one k s (Remove word) f g h j = h.1 ∙ sym j.1
-refusal_is_one k s (Replace what text) f g h j = h.2 ∙ ap fault_of_script (k.fault s.script what text h.0 j.0 h.1 j.1) ∙ sym j.2
+refusal_is_one k s (Replace what text) f g h j = h.2 ∙ ap fault_of_script (k.fault s.setting.script what text h.0 j.0 h.1 j.1) ∙ sym j.2
+refusal_is_one k s (Limit n) f g h j = h.1 ∙ sym j.1
 
-script_or_refusal : Known → (s : Contents) (e : Edit) (p : Source) (f : EditFault) → IsScriptAfter s e p → IsRefused s e f → ⊥
+script_or_refusal : Known → (s : Contents) (e : Edit) (p : Setting) (f : EditFault) → IsSettingAfter s e p → IsRefused s e f → ⊥
 script_or_refusal k s (Add word) p f h j = none-some f (sym h.0 ∙ j)
 script_or_refusal k s (Remove word) p f h j = cc
-script_or_refusal k s (Replace what text) p f h j = k.either s.script what text p j.0 h j.1
+script_or_refusal k s (Replace what text) p f h j = k.either s.setting.script what text p.script j.0 h.0 j.1
+script_or_refusal k s (Limit n) p f h j = cc (sym h.0 ∙ j.0)
 
 accepted_or_refused : Known → (s : Contents) (e : Edit) (t : Contents) (f : EditFault) → IsAccepted s e t → IsRefused s e f ⊎ IsMeterFull s e f → ⊥
-accepted_or_refused k s e t f h (inl j) = script_or_refusal k s e h.script f h.after j
-accepted_or_refused k s e t f h (inr j) = let yes = h.counts in let no = j.counts in cc
+accepted_or_refused k s e t f h (inl j) = script_or_refusal k s e h.setting f h.after j
+accepted_or_refused k s e t f h (inr j) =
+    let same = setting_is_one k s e h.setting j.setting h.after j.after in
+    let no : lacks_counts s e j.setting ≡ false = sym (ap (lacks_counts s e) same) ∙ h.counts in
+    absurd (true≢false (sym j.counts ∙ no))
 
 fault_is_one : Known → (s : Contents) (e : Edit) (f g : EditFault) → IsRefused s e f ⊎ IsMeterFull s e f → IsRefused s e g ⊎ IsMeterFull s e g → f ≡ g
 fault_is_one k s e f g (inl h) (inl j) = refusal_is_one k s e f g h j
-fault_is_one k s e f g (inl h) (inr j) = absurd (script_or_refusal k s e j.script f j.after h)
-fault_is_one k s e f g (inr h) (inl j) = absurd (script_or_refusal k s e h.script g h.after j)
+fault_is_one k s e f g (inl h) (inr j) = absurd (script_or_refusal k s e j.setting f j.after h)
+fault_is_one k s e f g (inr h) (inl j) = absurd (script_or_refusal k s e h.setting g h.after j)
 fault_is_one k s e f g (inr h) (inr j) = h.is ∙ sym j.is
 
 pub verdict_is_one : Known → (s : Contents) (e : Edit) (v w : Option EditFault) (t u : Contents) → IsVerdict s e v t → IsVerdict s e w u → (v ≡ w) × (t ≡ u)
-verdict_is_one k s e None None t u h j = (refl, h.is ∙ ap (edited s e) (script_is_one k s e h.script j.script h.after j.after) ∙ sym j.is)
+verdict_is_one k s e None None t u h j = (refl, h.is ∙ ap (edited s e) (setting_is_one k s e h.setting j.setting h.after j.after) ∙ sym j.is)
 verdict_is_one k s e None (Some g) t u h j = absurd (accepted_or_refused k s e t g h j.0)
 verdict_is_one k s e (Some f) None t u h j = absurd (accepted_or_refused k s e u f j h.0)
 verdict_is_one k s e (Some f) (Some g) t u h j = (ap Some (fault_is_one k s e f g h.0 j.0), h.1 ∙ sym j.1)

@@ -8,12 +8,12 @@ use Rattle.std.specs.Str.{bytes_eq}
 use Rattle.std.proofs.lemmas.Bool.Decides.{nat_tests}
 use Rattle.std.proofs.lemmas.List.{length-map}
 use Rattle.std.proofs.lemmas.Option.{none-some}
-use Rattle.sbl_script.specs.Parsed.{Source}
+use Rattle.sbl_bench.specs.Setting.{Setting}
 use Rattle.sbl_bench.specs.Kept.{KeptWord, words_in}
 use Rattle.sbl_bench.specs.declared.fault.EditFault.{EditFault}
 use Rattle.sbl_bench.specs.declared.fault.EditFault.TheVariants as fault
 use Rattle.sbl_bench.specs.Contents.{Contents, max_runs}
-use Rattle.sbl_bench.specs.Edits.{Edit, Edits, Add, Remove, IsScriptAfter, edited, lacks_counts, refusal_of_add, runs_needed, wants_memory, words_after}
+use Rattle.sbl_bench.specs.Edits.{Edit, Edits, Add, Remove, IsSettingAfter, edited, lacks_counts, refusal_of_add, runs_needed, wants_memory, words_after}
 use Rattle.sbl_bench.specs.Stops.{IsStop}
 use Rattle.sbl_bench.specs.Vocabulary.{is_word, without}
 
@@ -24,11 +24,11 @@ accepted s [] h most new room = absurd (omega (arith, h))
 accepted s (c ∷ cs) h most new room = rw (le-ltb 255 (length (c ∷ cs)) most, new, lt-leb 100000 (length s.words) room) refl
 
 -- the same of the words of some entries, by what the tests answered
-pub accepted_among : (script : Source) (es : List KeptWord) (count : ℕ) (word : List ℕ) (known : Bool) (n : ℕ) → 0 < length word → length word ≤ 255
+pub accepted_among : (script : Setting) (es : List KeptWord) (count : ℕ) (word : List ℕ) (known : Bool) (n : ℕ) → 0 < length word → length word ≤ 255
     → known ≡ is_word word (words_in es) → known ≡ false → n ≡ length es → n < 100000
-    → refusal_of_add (record { script = script; words = words_in es; count = count }) word ≡ None
+    → refusal_of_add (record { setting = script; words = words_in es; count = count }) word ≡ None
 accepted_among script es count word known n some most there new size room =
-    accepted (record { script = script; words = words_in es; count = count }) word some most (sym there ∙ new)
+    accepted (record { setting = script; words = words_in es; count = count }) word some most (sym there ∙ new)
     (subst (λ (m : ℕ). m < 100000) (size ∙ sym (length-map es _)) room)
 
 -- ---- runs
@@ -40,7 +40,7 @@ filter_none word (w ∷ words) h =
     rw p.0 (filter_none word words p.1)
 
 -- a new word is the one that is run
-pub one_run : (s : Contents) (word : List ℕ) → is_word word s.words ≡ false → runs_needed s (Add word) ≡ 1
+pub one_run : (s : Contents) (word : List ℕ) → is_word word s.words ≡ false → runs_needed s (Add word) s.setting ≡ 1
 one_run s word new =
     ap length (filter-append (bytes_eq word) s.words (word ∷ []) ∙ ap (λ (ws : List (List ℕ)). ws ++ filter (bytes_eq word) (word ∷ [])) (filter_none word s.words new))
     ∙ rw ((bytes_eq-Decides word word).1 refl) refl
@@ -50,7 +50,7 @@ filter_off : (words : List (List ℕ)) → filter (λ w. false) words ≡ []
 filter_off [] = refl
 filter_off (w ∷ words) = filter_off words
 
-pub no_run : (s : Contents) (word : List ℕ) → runs_needed s (Remove word) ≡ 0
+pub no_run : (s : Contents) (word : List ℕ) → runs_needed s (Remove word) s.setting ≡ 0
 no_run s word = ap length (filter_off (without word s.words))
 
 -- ---- adding a word
@@ -62,10 +62,10 @@ edits_nothing s word free = record { wanted = refl; is = inl (λ f refused. absu
 -- where no run can be counted any more
 pub counts_no_more : (s : Contents) (word : List ℕ) → refusal_of_add s word ≡ None → is_word word s.words ≡ false → s.count ≡ max_runs
     → Edits (Err fault.MeterFull) s (Add word) s
-counts_no_more s word free new full = (inr (record { script = s.script; after = (free, refl); counts = rw (one_run s word new, full) refl; is = refl }), refl)
+counts_no_more s word free new full = (inr (record { setting = s.setting; after = (free, refl); counts = rw (one_run s word new, full) refl; is = refl }), refl)
 
 -- where one more run can be counted
-one_left : (s : Contents) (word : List ℕ) → is_word word s.words ≡ false → s.count < max_runs → lacks_counts s (Add word) ≡ false
+one_left : (s : Contents) (word : List ℕ) → is_word word s.words ≡ false → s.count < max_runs → lacks_counts s (Add word) s.setting ≡ false
 one_left s word new small = rw (one_run s word new) (le-ltb (max_runs - s.count) 1 (omega (arith, small)))
 
 -- the answer of the last step, which runs the word and puts it last
@@ -75,23 +75,23 @@ pub adds : (r : Result (Unit {0}) EditFault) (s : Contents) (word : List ℕ) (w
     → OnErr r (words ≡ s.words) → IfErr r (λ f. IsStop 1 f s.count count)
     → Edits r s (Add word) (record s { words = words; count = count })
 adds (Ok u) s word words count free new small last counts _ _ = record {
-  script = s.script;
+  setting = s.setting;
   after = (free, refl);
   counts = one_left s word new small;
-  is = λ i. record { script = s.script; words = last i; count = (counts ∙ ap (λ (n : ℕ). s.count + n) (sym (one_run s word new))) i };
+  is = λ i. record { setting = s.setting; words = last i; count = (counts ∙ ap (λ (n : ℕ). s.count + n) (sym (one_run s word new))) i };
 }
 adds (Err fault.OutOfMemory) s word words count free new small _ _ same stop = record {
   wanted = refl;
   is = inr (record {
-    made = edited s (Add word) s.script;
-    accepted = record { script = s.script; after = (free, refl); counts = one_left s word new small; is = refl };
+    made = edited s (Add word) s.setting;
+    accepted = record { setting = s.setting; after = (free, refl); counts = one_left s word new small; is = refl };
     runs = stop.0;
     bound = rw (one_run s word new) stop.1;
     is = λ i. record s { words = same i; count = stop.2 i };
   });
 }
 adds (Err fault.MeterFull) s word words count free new small _ _ same stop = (
-  inr (record { script = s.script; after = (free, refl); counts = rw (one_run s word new, stop.0) refl; is = refl }),
+  inr (record { setting = s.setting; after = (free, refl); counts = rw (one_run s word new, stop.0) refl; is = refl }),
   λ i. record s { words = same i; count = stop.1 i },
 )
 adds (Err fault.Present) s word words count free new small _ _ same stop = absurd stop
@@ -101,6 +101,8 @@ adds (Err fault.WordTooLong) s word words count free new small _ _ same stop = a
 adds (Err fault.Full) s word words count free new small _ _ same stop = absurd stop
 adds (Err fault.NoRoutine) s word words count free new small _ _ same stop = absurd stop
 adds (Err fault.NoAmong) s word words count free new small _ _ same stop = absurd stop
+adds (Err fault.BadLimit) s word words count free new small _ _ same stop = absurd stop
+adds (Err fault.NoGrouping) s word words count free new small _ _ same stop = absurd stop
 adds (Err fault.AmongCount) s word words count free new small _ _ same stop = absurd stop
 adds (Err (fault.Script f)) s word words count free new small _ _ same stop = absurd stop
 
@@ -112,50 +114,50 @@ no_word s word absent = (inl (absent, refl), refl)
 pub removes : (s : Contents) (word : List ℕ) (words : List (List ℕ)) → is_word word s.words ≡ true → words ≡ without word s.words
     → Edits (Ok tt) s (Remove word) (record s { words = words })
 removes s word words there gone = record {
-  script = s.script;
+  setting = s.setting;
   after = (there, refl);
   counts = rw (no_run s word) (le-ltb (max_runs - s.count) 0 (omega arith));
-  is = λ i. record { script = s.script; words = gone i; count = kept i };
+  is = λ i. record { setting = s.setting; words = gone i; count = kept i };
 }
   where
-    kept : s.count ≡ s.count + runs_needed s (Remove word)
+    kept : s.count ≡ s.count + runs_needed s (Remove word) s.setting
     kept = rw (no_run s word) (omega arith)
 
 -- ---- editing the script
 
 -- where enough counts are left for the words that it has to run
-enough : (s : Contents) (e : Edit) (before needed : ℕ) → before ≡ s.count → needed ≡ runs_needed s e → needed ≤ max_runs - before → lacks_counts s e ≡ false
-enough s e before needed so many room = rw (sym so, sym many) (le-ltb (max_runs - before) needed room)
+enough : (s : Contents) (e : Edit) (t : Setting) (before needed : ℕ) → before ≡ s.count → needed ≡ runs_needed s e t → needed ≤ max_runs - before → lacks_counts s e t ≡ false
+enough s e t before needed so many room = rw (sym so, sym many) (le-ltb (max_runs - before) needed room)
 
 -- where fewer counts are left than that
-pub replaces_never : (s : Contents) (e : Edit) (p : Source) (count needed : ℕ) → IsScriptAfter s e p
-    → count ≡ s.count → needed ≡ runs_needed s e → max_runs - count < needed → Edits (Err fault.MeterFull) s e s
+pub replaces_never : (s : Contents) (e : Edit) (p : Setting) (count needed : ℕ) → IsSettingAfter s e p
+    → count ≡ s.count → needed ≡ runs_needed s e p → max_runs - count < needed → Edits (Err fault.MeterFull) s e s
 replaces_never s e p count needed after so many full =
     let test : nat_lt (max_runs - count) needed ≡ true = grind (arith, nat_tests) in
-    (inr (record { script = p; after = after; counts = rw (sym so, sym many) test; is = refl }), refl)
+    (inr (record { setting = p; after = after; counts = rw (sym so, sym many) test; is = refl }), refl)
 
 -- where memory was refused after some runs
-pub replaces_nothing : (s : Contents) (e : Edit) (p : Source) (words : List (List ℕ)) (before needed count : ℕ) → wants_memory e ≡ true → IsScriptAfter s e p
-    → before ≡ s.count → needed ≡ runs_needed s e → needed ≤ max_runs - before → words ≡ s.words
-    → ((n : ℕ) × (n ≤ runs_needed s e) × (count ≡ s.count + n))
+pub replaces_nothing : (s : Contents) (e : Edit) (p : Setting) (words : List (List ℕ)) (before needed count : ℕ) → wants_memory e ≡ true → IsSettingAfter s e p
+    → before ≡ s.count → needed ≡ runs_needed s e p → needed ≤ max_runs - before → words ≡ s.words
+    → ((n : ℕ) × (n ≤ runs_needed s e p) × (count ≡ s.count + n))
     → Edits (Err fault.OutOfMemory) s e (record s { words = words; count = count })
 replaces_nothing s e p words before needed count wanted after so many room same ran = record {
   wanted = wanted;
   is = inr (record {
     made = edited s e p;
-    accepted = record { script = p; after = after; counts = enough s e before needed so many room; is = refl };
+    accepted = record { setting = p; after = after; counts = enough s e p before needed so many room; is = refl };
     runs = ran.0;
     bound = ran.1;
-    is = λ i. record { script = s.script; words = same i; count = ran.2 i };
+    is = λ i. record { setting = s.setting; words = same i; count = ran.2 i };
   });
 }
 
-pub replaces : (s : Contents) (e : Edit) (p : Source) (words : List (List ℕ)) (before needed count : ℕ) → IsScriptAfter s e p
-    → before ≡ s.count → needed ≡ runs_needed s e → needed ≤ max_runs - before
-    → words ≡ words_after s e → count ≡ s.count + runs_needed s e → Edits (Ok tt) s e (record { script = p; words = words; count = count })
+pub replaces : (s : Contents) (e : Edit) (p : Setting) (words : List (List ℕ)) (before needed count : ℕ) → IsSettingAfter s e p
+    → before ≡ s.count → needed ≡ runs_needed s e p → needed ≤ max_runs - before
+    → words ≡ words_after s e → count ≡ s.count + runs_needed s e p → Edits (Ok tt) s e (record { setting = p; words = words; count = count })
 replaces s e p words before needed count after so many room same counts = record {
-  script = p;
+  setting = p;
   after = after;
-  counts = enough s e before needed so many room;
-  is = λ i. record { script = p; words = same i; count = counts i };
+  counts = enough s e p before needed so many room;
+  is = λ i. record { setting = p; words = same i; count = counts i };
 }

@@ -6,7 +6,7 @@ use Rattle.std.specs.Str.{bytes_eq}
 use Rattle.std.specs.declared.vec.Vec.{Vec}
 use Rattle.std.specs.declared.alloc.Global.{Global}
 use Rattle.std.specs.Map.{lookup, remove_entry}
-use Rattle.sbl_script.specs.Parsed.{Source}
+use Rattle.sbl_bench.specs.Setting.{Setting}
 use Rattle.sbl_machine.specs.declared.outcome.Traced.{Traced}
 use Rattle.sbl_machine.specs.Outcome.{outcome_of}
 use Rattle.sbl_bench.specs.declared.fault.EditFault.{EditFault}
@@ -39,12 +39,12 @@ pub words-push : (es : List KeptWord) (e : KeptWord) → words_in (es ++ e ∷ [
 words-push [] e = refl
 words-push (x ∷ es) e = ap (λ (ws : List (List ℕ)). x.0.items ∷ ws) (words-push es e)
 
-fresh-push : (script : Source) (es : List KeptWord) (e : KeptWord) → AreFresh script es → IsFresh script e.0.items e.1 → AreFresh script (es ++ e ∷ [])
+fresh-push : (script : Setting) (es : List KeptWord) (e : KeptWord) → AreFresh script es → IsFresh script e.0.items e.1 → AreFresh script (es ++ e ∷ [])
 fresh-push script [] e h p = (p, tt)
 fresh-push script (x ∷ es) e h p = (h.0, fresh-push script es e h.1 p)
 
 -- a word that is run and put last
-pub kept-push : (script : Source) (es : List KeptWord) (e : KeptWord) → IsKept script es → IsWord e.0.items → length es < 100000
+pub kept-push : (script : Setting) (es : List KeptWord) (e : KeptWord) → IsKept script es → IsWord e.0.items → length es < 100000
     → IsFresh script e.0.items e.1 → IsKept script (es ++ e ∷ [])
 kept-push script es e h word room ran = record {
   fresh = fresh-push script es e h.fresh ran;
@@ -57,12 +57,12 @@ abbrev pub shown : KeptWord → Row
 shown e = record { word = e.0.items; outcome = outcome_of e.1.outcome }
 
 -- fresh entries show the rows of their words
-pub rows_shown : (script : Source) (es : List KeptWord) → AreFresh script es → map shown es ≡ rows_of script (words_in es)
+pub rows_shown : (script : Setting) (es : List KeptWord) → AreFresh script es → map shown es ≡ rows_of script (words_in es)
 rows_shown script [] h = refl
 rows_shown script (e ∷ es) h = λ i. record { word = e.0.items; outcome = h.0.outcome i } ∷ rows_shown script es h.1 i
 
 -- entries that are kept, whether a word was put last or not
-pub kept_either : (script : Source) (es new : List KeptWord) (r : Result (Unit {0}) EditFault) → IsKept script es
+pub kept_either : (script : Setting) (es new : List KeptWord) (r : Result (Unit {0}) EditFault) → IsKept script es
     → OnOk r (IsKept script new) → OnErr r (new ≡ es) → IsKept script new
 kept_either script es new (Ok u) kept more same = more
 kept_either script es new (Err f) kept more same = subst (IsKept script) (sym same) kept
@@ -78,7 +78,7 @@ words-remove word (e ∷ es) = by (is_key word e.0) refl (words-remove word es)
     by true h rest = rw h refl
     by false h rest = rw h (ap (λ (ws : List (List ℕ)). e.0.items ∷ ws) rest)
 
-fresh-remove : (script : Source) (word : List ℕ) (es : List KeptWord) → AreFresh script es → AreFresh script (remove_entry (is_key word) es)
+fresh-remove : (script : Setting) (word : List ℕ) (es : List KeptWord) → AreFresh script es → AreFresh script (remove_entry (is_key word) es)
 fresh-remove script word [] h = tt
 fresh-remove script word (e ∷ es) h = by (is_key word e.0) refl (fresh-remove script word es h.1)
   where
@@ -102,7 +102,7 @@ short-remove word (e ∷ es) = by (is_key word e.0) refl (short-remove word es)
     by true k rest = rw k (omega arith)
     by false k rest = rw k (omega (arith, rest))
 
-pub kept-remove : (script : Source) (word : List ℕ) (es : List KeptWord) → IsKept script es → IsKept script (remove_entry (is_key word) es)
+pub kept-remove : (script : Setting) (word : List ℕ) (es : List KeptWord) → IsKept script es → IsKept script (remove_entry (is_key word) es)
 kept-remove script word es h = record {
   fresh = fresh-remove script word es h.fresh;
   sound = subst (All IsWord) (sym (words-remove word es)) (all-without IsWord word (words_in es) h.sound);

@@ -1,64 +1,91 @@
--- What an edit of the script is about to change.
-use Rattle.std.specs.Prelude.{◌≡◌, ◌⊎◌, ℕ, Bool, true, false, List, [], ◌∷◌, map, ⊤, IfSome, IsSome, if◌then◌else◌}
-use Rattle.std.specs.List.{All, list_any}
+-- The changes that an edit of the setting is about to make.
+use Rattle.std.specs.Prelude.{◌≡◌, ◌⊎◌, ℕ, nat_lt, Bool, true, false, List, [], ◌∷◌, map, ⊤, IfSome, IsSome, if◌then◌else◌}
+use Rattle.std.specs.List.{All, filter, list_any}
 use Rattle.std.specs.Str.{bytes_eq}
+use Rattle.sbl_script.specs.Edits.{ScriptEdit, IsEdited}
 use Rattle.sbl_script.specs.Parsed.{Source}
+use Rattle.sbl_machine.specs.Touched.{Item', replaced}
 use Rattle.sbl_machine.specs.declared.outcome.Traced.{Traced}
 use Rattle.sbl_run.specs.declared.touch.Touch.{Touch}
-use Rattle.sbl_machine.specs.Outcome.{Outcome', outcome_of, run_of, touches_of}
-use Rattle.sbl_machine.specs.Touched.{Item', named, routine_names, same_item}
-use Rattle.sbl_bench.specs.Kept.{KeptWord, IsFresh}
+use Rattle.sbl_machine.specs.Outcome.{Outcome', outcome_of, run_of, touches_of, used_of}
+use Rattle.sbl_bench.specs.Kept.{KeptWord, IsFresh, words_in}
 use Rattle.sbl_bench.specs.Pairs.{Text, find}
-use Rattle.sbl_bench.specs.Rows.{max_steps}
+use Rattle.sbl_bench.specs.Setting.{Setting, RunsSame}
+use Rattle.sbl_bench.specs.Affected.{Affected, Touching, Above, is_affected, is_affected_run}
+use Rattle.sbl_bench.specs.Contents.{Contents}
+use Rattle.sbl_bench.specs.Edits.{Edit, Replace, IsSettingAfter, PassesTests, met, wants_memory, words_after}
+use Rattle.sbl_bench.specs.declared.affected.Affected as declared
+use Rattle.sbl_bench.specs.declared.affected.Affected.TheVariants as code
 use Rattle.sbl_bench.specs.declared.change.Change.{Change}
 
--- whether the last run of a word, which was one of this script, touched an item
-abbrev pub is_met : Source → Item' → KeptWord → Bool
-is_met script x e = list_any (same_item x) (map (named (routine_names script)) e.1.touches.items)
+-- the words that are affected, without memory addresses
+abbrev pub affected_of : declared.Affected → Affected
+affected_of (code.Touching marks) = Touching marks
+affected_of (code.Above n) = Above n
 
--- a word with what a run of it gives and touches
+-- whether the last run of a word is affected
+abbrev pub is_met : Affected → KeptWord → Bool
+is_met a e = is_affected_run a e.1.touches.items e.1.used
+
+-- the words that are affected, in their order
+abbrev pub met_words : Affected → List KeptWord → List (List ℕ)
+met_words a entries = words_in (filter (is_met a) entries)
+
+-- a word with the outcome of a run, what the run touches, and the steps that it uses
 pub record Rerun : Type 0 where
   pub word : List ℕ
   pub outcome : Outcome'
   pub touches : List Touch
+  pub used : ℕ
 
-abbrev pub rerun_of : Source → List ℕ → Rerun
-rerun_of script word = record { word = word; outcome = run_of script word max_steps; touches = touches_of script word max_steps }
+abbrev pub rerun_of : Setting → List ℕ → Rerun
+rerun_of s word = record { word = word; outcome = run_of s.script word s.limit; touches = touches_of s.script word s.limit; used = used_of s.script word s.limit }
 
 abbrev pub view_run : List ℕ → Traced → Rerun
-view_run word t = record { word = word; outcome = outcome_of t.outcome; touches = t.touches.items }
+view_run word t = record { word = word; outcome = outcome_of t.outcome; touches = t.touches.items; used = t.used }
 
--- a change without where it lies in memory
+-- a change without memory addresses
 abbrev pub view_change : Change → Rerun
 view_change c = view_run c.word.items c.traced
 
--- a word that is not met is not run
-abbrev pub with_change : Bool → Rerun → List Rerun → List Rerun
-with_change met r reruns = if met then r ∷ reruns else reruns
+-- words, with their runs in this setting
+abbrev pub reruns : Setting → List (List ℕ) → List Rerun
+reruns s words = map (rerun_of s) words
 
--- the words that are met, in their order, with their runs under this script
-abbrev pub changes_of : (KeptWord → Bool) → Source → List KeptWord → List Rerun
-changes_of met script [] = []
-changes_of met script (e ∷ es) = with_change (met e) (rerun_of script e.0.items) (changes_of met script es)
-
--- the last run of each word that is not met is as fresh under this script
-abbrev pub AreStill : (KeptWord → Bool) → Source → List KeptWord → Type 0
+-- the last run of each word that is not met is fresh in this setting too
+abbrev pub AreStill : (KeptWord → Bool) → Setting → List KeptWord → Type 0
 AreStill met script [] = ⊤
 AreStill met script (e ∷ es) = (met e ≡ false → IsFresh script e.0.items e.1) × AreStill met script es
 
--- whether the word is to change
+-- whether one of the changes is a change of this word
 abbrev pub is_changed : List Change → List ℕ → Bool
 is_changed changes word = list_any (λ c. bytes_eq c.word.items word) changes
 
--- each change is that of a word in the vocabulary, with a run under the script
-abbrev pub AreRun : Source → List KeptWord → List Change → Type 0
+-- each change is one of a word in the vocabulary, with a fresh run in this setting
+abbrev pub AreRun : Setting → List KeptWord → List Change → Type 0
 AreRun script entries changes = All (λ c. IsFresh script c.word.items c.traced × IsSome (find c.word.items entries)) changes
 
--- once the changes are made, each run is fresh
-pub record AreAnew (script : Source) (entries : List KeptWord) (changes : List Change) : Type 0 where
+-- each change has a fresh run, and the last run of each other word is fresh
+pub record AreAnew (script : Setting) (entries : List KeptWord) (changes : List Change) : Type 0 where
   pub run : AreRun script entries changes
   pub fresh : (w : Text) → IfSome (find w.items entries) (λ t. IsFresh script w.items t ⊎ (is_changed changes w.items ≡ true))
 
--- each run is fresh
-abbrev pub AreAllFresh : Source → List KeptWord → Type 0
+-- the last run of each word is fresh
+abbrev pub AreAllFresh : Setting → List KeptWord → Type 0
 AreAllFresh script entries = (w : Text) → IfSome (find w.items entries) (λ t. IsFresh script w.items t)
+
+-- An edit of the setting with the setting after it: the edit passes all tests but those of its text, it has to run exactly the
+-- words that are affected, and each other word runs as before.
+pub record Brings (s : Contents) (e : Edit) (t : Setting) (a : Affected) : Type 0 where
+  pub after : IsSettingAfter s e t
+  pub passes : PassesTests s e
+  pub wants : wants_memory e ≡ true
+  pub words : words_after s e ≡ s.words
+  pub met_is : (w : List ℕ) → met s e t w ≡ is_affected s.setting a w
+  pub stays : (w : List ℕ) → is_affected s.setting a w ≡ false → RunsSame s.setting t w
+
+-- An edit made this script by replacing this item, and passes all tests but those of its text.
+pub record IsTaken (s : Contents) (e : ScriptEdit) (text : List ℕ) (t : Source) (x : Item') : Type 0 where
+  pub edited : IsEdited s.setting.script e text t
+  pub replaces : x ≡ replaced e
+  pub passes : PassesTests s (Replace e text)

@@ -1,5 +1,5 @@
--- The classes of the rows: their stems in code point order, a front first, each with its words in that order. No refused word is
--- in one.
+-- The classes of the rows: their stems in code point order, a prefix first, each with its words in that order. A word whose run
+-- is refused is in no class.
 use Rattle.std.specs.Prelude.{ℕ, Bool, false, List, [], ◌∷◌, map, Option, Some, None}
 use Rattle.std.specs.List.{filter, filter_map, find}
 use Rattle.std.specs.Option.{option_and_then, option_map}
@@ -17,7 +17,7 @@ pub record Class : Type 0 where
   pub stem : List ℕ
   pub words : List (List ℕ)
 
--- the texts in code point order, a front first, and each once
+-- the texts in code point order, a prefix first, without repeats
 abbrev pub in_order : List (List ℕ) → List (List ℕ)
 in_order [] = []
 in_order (text ∷ texts) = insert_key (slice_cmp nat_cmp) (in_order texts) text
@@ -47,7 +47,7 @@ class_with rows stem = record { stem = stem; words = in_order (words_with stem r
 abbrev pub classes_of : List Row → List Class
 classes_of rows = map (class_with rows) (in_order (stems_in rows))
 
--- the class of a word among the rows, which is that of its stem; a word that is refused or not there has none
+-- the class of a word among the rows: that of its stem; none if the word is refused or not in the rows
 abbrev pub class_of : List Row → List ℕ → Option Class
 class_of rows word = option_map (class_with rows) (option_and_then (λ r. stem_of r.outcome) (find (λ r. bytes_eq word r.word) rows))
 

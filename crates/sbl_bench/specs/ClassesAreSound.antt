@@ -1,4 +1,4 @@
--- What holds of the classes of any rows.
+-- Properties of the classes of any rows.
 use Rattle.std.specs.Prelude.{◌≡◌, ◌&&◌, ◌<◌, ℕ, List, map, length, All}
 use Rattle.std.specs.List.{list_any}
 use Rattle.std.specs.List.Sorted.{IsStrictlySortedBy}
@@ -8,15 +8,15 @@ use Rattle.std.specs.Str.{bytes_eq}
 use Rattle.sbl_bench.specs.Classes.{classes_of, is_stem}
 use Rattle.sbl_bench.specs.Rows.{Row}
 
--- each text is before the next in code point order, a front first
+-- each text is before the next in code point order; a prefix comes first
 abbrev pub Rise : List (List ℕ) → Type 0
 Rise texts = IsStrictlySortedBy (slice_cmp nat_cmp) texts
 
--- The stems rise, and so do the words of each class, of which there is at least one.
+-- The stems are in strictly ascending order, and so are the words of each class. Each class has at least one word.
 abbrev pub ClassesRise : Type 0
 ClassesRise = (rows : List Row) → Rise (map (λ c. c.stem) (classes_of rows)) × All (λ c. Rise c.words × (0 < length c.words)) (classes_of rows)
 
--- There is a class of this stem with this word exactly where there is a row of this word with this stem.
+-- There is a class of this stem with this word exactly if there is a row of this word with this stem.
 abbrev pub ClassesAreOfRows : Type 0
 ClassesAreOfRows =
     (rows : List Row) (stem word : List ℕ)

@@ -1,14 +1,16 @@
--- What a bench is, and what opening it does.
+-- The contents of a bench, and what opening it does.
 use Rattle.std.specs.Prelude.{◌≡◌, ℕ, ◌-◌, ◌^◌, Bool, List, [], ◌∷◌, length, Option, Some, None, Result, Ok, Err, nat_lt, nat_le, if◌then◌else◌}
 use Rattle.std.specs.Option.{option_or}
 use Rattle.sbl_script.specs.Parsed.{Source}
+use Rattle.sbl_machine.specs.Limit.{default_limit}
+use Rattle.sbl_bench.specs.Setting.{Setting, under}
 use Rattle.sbl_bench.specs.declared.fault.EditFault.{EditFault}
 use Rattle.sbl_bench.specs.declared.fault.EditFault.TheVariants as fault
 use Rattle.sbl_bench.specs.Vocabulary.{is_skipped, with_word, vocabulary}
 
--- the current script, the current vocabulary, and the runs made so far
+-- the current setting, the current vocabulary, and the number of runs made so far
 pub record Contents : Type 0 where
-  pub script : Source
+  pub setting : Setting
   pub words : List (List ℕ)
   pub count : ℕ
 
@@ -18,7 +20,7 @@ max_word_length = 255
 abbrev pub max_words : ℕ
 max_words = 100000
 
--- the most runs that are counted
+-- the maximum count of runs
 abbrev pub max_runs : ℕ
 max_runs = 2 ^ 64 - 1
 
@@ -27,28 +29,28 @@ is_full words = nat_le max_words (length words)
 
 -- ---- opening
 
--- The fault of one word, taken behind those that are there: it is too long, or it is new where no further word has room.
+-- The fault of one word after the words before it: it is too long, or it is new and the vocabulary is full.
 abbrev pub word_fault : List (List ℕ) → List ℕ → Option EditFault
 word_fault words w =
     if nat_lt max_word_length (length w) then Some fault.WordTooLong
     else (if is_skipped w words then None
     else (if is_full words then Some fault.Full else None))
 
--- the first fault of a list of words, each taken in turn behind those that are there
+-- the first fault of a list of words, taken in turn
 abbrev pub opening_fault : List (List ℕ) → List (List ℕ) → Option EditFault
 opening_fault words [] = None
 opening_fault words (w ∷ ws) = option_or (word_fault words w) (opening_fault (with_word words w) ws)
 
 -- the bench of a script and a list of words: each word of the vocabulary is run once
 abbrev pub opened : Source → List (List ℕ) → Contents
-opened script words = record { script = script; words = vocabulary words; count = length (vocabulary words) }
+opened script words = record { setting = under script default_limit; words = vocabulary words; count = length (vocabulary words) }
 
--- the fault is this one, or memory was refused
+-- the fault is this one, or an allocation failed
 abbrev pub IsFaultOrMemory : Option EditFault → EditFault → Type 0
 IsFaultOrMemory verdict fault.OutOfMemory = Unit {0}
 IsFaultOrMemory verdict f = verdict ≡ Some f
 
--- what opening answers
+-- the result of opening
 abbrev pub Opens : {B : Type 0} → Source → List (List ℕ) → (B → Contents) → Result B EditFault → Type 0
 Opens script words state (Ok bench) = (opening_fault [] words ≡ None) × (state bench ≡ opened script words)
 Opens script words state (Err f) = IsFaultOrMemory (opening_fault [] words) f

@@ -1,23 +1,25 @@
--- The edits of a bench: what each is refused for, which words it runs, and what the bench is after it.
-use Rattle.std.specs.Prelude.{◌≡◌, ◌≤◌, ◌⊎◌, ℕ, ◌+◌, ◌-◌, Bool, true, false, List, [], ◌∷◌, ◌++◌, length, Option, Some, None, Result, Ok, Err, nat_lt, if◌then◌else◌}
+-- The edits of a bench: when each is refused, which words it runs, and the bench after it.
+use Rattle.std.specs.Prelude.{◌≡◌, ◌≤◌, ◌⊎◌, ◌&&◌, ℕ, ◌+◌, ◌-◌, Bool, true, false, List, [], ◌∷◌, ◌++◌, length, Option, Some, None, Result, Ok, Err, nat_le, nat_lt, if◌then◌else◌}
 use Rattle.std.specs.List.{filter}
 use Rattle.std.specs.Str.{bytes_eq}
 use Rattle.sbl_script.specs.declared.edit_fault.EditFault as declared
 use Rattle.sbl_script.specs.declared.edit_fault.EditFault.TheVariants as script
-use Rattle.sbl_script.specs.Edits.{ScriptEdit, body, among, IsEdited, IsEditFault}
-use Rattle.sbl_script.specs.Parsed.{Source}
+use Rattle.sbl_script.specs.Edits.{ScriptEdit, body, among, terms, IsEdited, IsEditFault}
 use Rattle.sbl_bench.specs.Contents.{Contents, is_full, max_word_length, max_runs}
-use Rattle.sbl_bench.specs.Rows.{max_steps}
+use Rattle.sbl_bench.specs.Setting.{Setting}
 use Rattle.sbl_bench.specs.Vocabulary.{is_word, without}
-use Rattle.sbl_machine.specs.Touched.{replaced, touches}
+use Rattle.sbl_machine.specs.BuiltFrom.{meets}
+use Rattle.sbl_machine.specs.Outcome.{used_of}
+use Rattle.sbl_machine.specs.Touched.{replaced}
 use Rattle.sbl_bench.specs.declared.fault.EditFault.{EditFault}
 use Rattle.sbl_bench.specs.declared.fault.EditFault.TheVariants as fault
 
--- a word is added or removed, or a text replaces something in the script
+-- a word is added or removed, a text replaces something in the script, or the limit of steps is set
 pub data Edit : Type 0 where
   Add : List ℕ → Edit
   Remove : List ℕ → Edit
   Replace : ScriptEdit → List ℕ → Edit
+  Limit : ℕ → Edit
 
 -- the body of the routine of this name is replaced
 abbrev pub Routine : List ℕ → List ℕ → Edit
@@ -27,7 +29,11 @@ Routine name text = Replace (body name) text
 abbrev pub Among : List ℕ → ℕ → List ℕ → Edit
 Among name k text = Replace (among name k) text
 
--- ---- what refuses an edit
+-- the terms of the grouping of this name are replaced
+abbrev pub Grouping : List ℕ → List ℕ → Edit
+Grouping name text = Replace (terms name) text
+
+-- ---- refusals of an edit
 
 abbrev pub refusal_of_add : Contents → List ℕ → Option EditFault
 refusal_of_add s [] = Some fault.EmptyWord
@@ -36,117 +42,132 @@ refusal_of_add s word =
     else (if is_word word s.words then Some fault.Present
     else (if is_full s.words then Some fault.Full else None))
 
--- the fault of an edit of a script, as the bench answers it
+-- the fault of an edit of a script, as a fault of the bench
 abbrev pub fault_of_script : declared.EditFault → EditFault
 fault_of_script script.NoRoutine = fault.NoRoutine
+fault_of_script script.NoGrouping = fault.NoGrouping
 fault_of_script script.NoAmong = fault.NoAmong
 fault_of_script script.AmongCount = fault.AmongCount
 fault_of_script (script.Script f) = fault.Script f
 fault_of_script script.OutOfMemory = fault.OutOfMemory
 
--- the edit is refused for this, whatever the count of runs is
+-- the limits that may be set
+abbrev pub is_limit : ℕ → Bool
+is_limit n = nat_le 1 n && nat_le n 10000000
+
+-- the edit is refused with this fault, whatever the count of runs is
 abbrev pub IsRefused : Contents → Edit → EditFault → Type 0
 IsRefused s (Add word) f = refusal_of_add s word ≡ Some f
 IsRefused s (Remove word) f = (is_word word s.words ≡ false) × (f ≡ fault.Absent)
-IsRefused s (Replace what text) f = (g : declared.EditFault) × IsEditFault s.script what text g × (f ≡ fault_of_script g)
+IsRefused s (Replace what text) f = (g : declared.EditFault) × IsEditFault s.setting.script what text g × (f ≡ fault_of_script g)
+IsRefused s (Limit n) f = (is_limit n ≡ false) × (f ≡ fault.BadLimit)
 
--- the edit is not refused so, and this is the script after it
-abbrev pub IsScriptAfter : Contents → Edit → Source → Type 0
-IsScriptAfter s (Add word) p = (refusal_of_add s word ≡ None) × (p ≡ s.script)
-IsScriptAfter s (Remove word) p = (is_word word s.words ≡ true) × (p ≡ s.script)
-IsScriptAfter s (Replace what text) p = IsEdited s.script what text p
+-- the edit is not refused in this way, and this is the setting after it
+abbrev pub IsSettingAfter : Contents → Edit → Setting → Type 0
+IsSettingAfter s (Add word) t = (refusal_of_add s word ≡ None) × (t ≡ s.setting)
+IsSettingAfter s (Remove word) t = (is_word word s.words ≡ true) × (t ≡ s.setting)
+IsSettingAfter s (Replace what text) t = IsEdited s.setting.script what text t.script × (t.limit ≡ s.setting.limit)
+IsSettingAfter s (Limit n) t = (is_limit n ≡ true) × (t.script ≡ s.setting.script) × (t.limit ≡ n)
 
 -- whether it is an edit of the script
 abbrev pub is_of_script : Edit → Bool
 is_of_script (Add word) = false
 is_of_script (Remove word) = false
 is_of_script (Replace what text) = true
+is_of_script (Limit n) = false
 
 -- ---- words and runs
 
--- an added word stands last, and a removal closes the gap
+-- an added word comes last, and a removal closes the gap
 abbrev pub words_after : Contents → Edit → List (List ℕ)
 words_after s (Add word) = s.words ++ word ∷ []
 words_after s (Remove word) = without word s.words
 words_after s (Replace what text) = s.words
+words_after s (Limit n) = s.words
 
--- whether the edit has to run this word: the added one alone, and for an edit of the script each word whose run, before it, touches
--- what is replaced
-abbrev pub met : Contents → Edit → List ℕ → Bool
-met s (Add word) w = bytes_eq word w
-met s (Remove word) w = false
-met s (Replace what text) w = touches (replaced what) s.script w max_steps
+abbrev pub smaller : ℕ → ℕ → ℕ
+smaller m n = if nat_le m n then m else n
 
--- how many words of the vocabulary after it the edit has to run
-abbrev pub runs_needed : Contents → Edit → ℕ
-runs_needed s e = length (filter (met s e) (words_after s e))
+-- Whether an edit has to run this word; t is the setting after the edit. An added word: only that word. A replacement: each
+-- word whose run before the edit touches the replaced item or, if that is a grouping, one that is built from it in the script
+-- before the edit. A limit: each word whose run used more steps than the smaller of the old limit and the new one.
+abbrev pub met : Contents → Edit → Setting → List ℕ → Bool
+met s (Add word) t w = bytes_eq word w
+met s (Remove word) t w = false
+met s (Replace what text) t w = meets (replaced what) s.setting.script w s.setting.limit
+met s (Limit n) t w = nat_lt (smaller s.setting.limit n) (used_of s.setting.script w s.setting.limit)
+
+-- how many words of the vocabulary after the edit have to be run
+abbrev pub runs_needed : Contents → Edit → Setting → ℕ
+runs_needed s e t = length (filter (met s e t) (words_after s e))
 
 -- whether fewer counts are left than the edit has words to run
-abbrev pub lacks_counts : Contents → Edit → Bool
-lacks_counts s e = nat_lt (max_runs - s.count) (runs_needed s e)
+abbrev pub lacks_counts : Contents → Edit → Setting → Bool
+lacks_counts s e t = nat_lt (max_runs - s.count) (runs_needed s e t)
 
--- the bench with so many more runs made
+-- the bench with n more runs counted
 abbrev pub counted : ℕ → Contents → Contents
 counted n s = record s { count = s.count + n }
 
--- the bench after an accepted edit that makes this the script: each word that the edit has to run was run once
-abbrev pub edited : Contents → Edit → Source → Contents
-edited s e p = record { script = p; words = words_after s e; count = s.count + runs_needed s e }
+-- the bench after an accepted edit with this setting after it: each word that the edit has to run was run once
+abbrev pub edited : Contents → Edit → Setting → Contents
+edited s e t = record { setting = t; words = words_after s e; count = s.count + runs_needed s e t }
 
 -- ---- the verdict
 
 -- the edit is accepted, and this is the bench after it
 pub record IsAccepted (s : Contents) (e : Edit) (t : Contents) : Type 0 where
-  pub script : Source
-  pub after : IsScriptAfter s e script
-  pub counts : lacks_counts s e ≡ false
-  pub is : t ≡ edited s e script
+  pub setting : Setting
+  pub after : IsSettingAfter s e setting
+  pub counts : lacks_counts s e setting ≡ false
+  pub is : t ≡ edited s e setting
 
--- only the counts are too few for it
+-- only the number of counts that are left is too low for the edit
 pub record IsMeterFull (s : Contents) (e : Edit) (f : EditFault) : Type 0 where
-  pub script : Source
-  pub after : IsScriptAfter s e script
-  pub counts : lacks_counts s e ≡ true
+  pub setting : Setting
+  pub after : IsSettingAfter s e setting
+  pub counts : lacks_counts s e setting ≡ true
   pub is : f ≡ fault.MeterFull
 
--- the verdict on the edit, none where it is accepted, and the bench after it: a refused edit changes nothing
+-- the verdict on the edit, none if it is accepted, and the bench after it; a refused edit changes nothing
 abbrev pub IsVerdict : Contents → Edit → Option EditFault → Contents → Type 0
 IsVerdict s e None t = IsAccepted s e t
 IsVerdict s e (Some f) t = (IsRefused s e f ⊎ IsMeterFull s e f) × (t ≡ s)
 
 -- ---- memory
 
--- whether the edit may want memory
+-- whether the edit may need memory
 abbrev pub wants_memory : Edit → Bool
 wants_memory (Add word) = true
 wants_memory (Remove word) = false
 wants_memory (Replace what text) = true
+wants_memory (Limit n) = true
 
--- whether it is for its text that the edit is refused; to find any other refusal takes no memory
+-- whether the edit is refused for its text; every other refusal is found without an allocation
 abbrev pub is_of_text : EditFault → Bool
 is_of_text fault.AmongCount = true
 is_of_text (fault.Script f) = true
 is_of_text f = false
 
--- the edit is refused for its text, if it is
+-- if the edit is refused, it is refused for its text
 abbrev pub PassesTests : Contents → Edit → Type 0
 PassesTests s e = (f : EditFault) → IsRefused s e f → is_of_text f ≡ true
 
--- the edit is accepted, but this is the bench after some only of the runs that it needs
+-- the edit is accepted, but only some of the runs that it needs were made
 pub record IsBrokenOff (s : Contents) (e : Edit) (t : Contents) : Type 0 where
   pub made : Contents
   pub accepted : IsAccepted s e made
   pub runs : ℕ
-  pub bound : runs ≤ runs_needed s e
+  pub bound : runs ≤ runs_needed s e accepted.setting
   pub is : t ≡ counted runs s
 
--- Memory was refused, which is in the place of an acceptance, of a refusal for the text or of too few counts: nothing is changed,
--- but that some runs may have been made where the edit would have been accepted.
+-- An allocation failed, instead of an acceptance, of a refusal for the text or of too few counts. Nothing is changed, except
+-- that some runs may have been counted if the edit would have been accepted.
 pub record IsOutOfMemory (s : Contents) (e : Edit) (t : Contents) : Type 0 where
   pub wanted : wants_memory e ≡ true
   pub is : (PassesTests s e × (t ≡ s)) ⊎ IsBrokenOff s e t
 
--- ---- what an edit answers, and what the bench is after it
+-- ---- the result of an edit, and the bench after it
 
 abbrev pub Edits : Result (Unit {0}) EditFault → Contents → Edit → Contents → Type 0
 Edits (Ok u) s e t = IsVerdict s e None t

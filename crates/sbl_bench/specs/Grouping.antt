@@ -1,4 +1,4 @@
--- How the classes are made: the pairs of a stem and a word in order, one after another.
+-- How the classes are made: from the pairs of a stem and a word, taken one after another in order.
 use Rattle.std.specs.Prelude.{ℕ, Bool, false, List, [], ◌∷◌, ◌++◌, map, if◌then◌else◌}
 use Rattle.std.specs.List.{filter}
 use Rattle.std.specs.declared.cmp.Ordering.{Ordering}
@@ -23,7 +23,7 @@ abbrev pub stem_pairs : List Row → List Pair
 stem_pairs [] = []
 stem_pairs (r ∷ rows) = with_pair r.outcome r.word (stem_pairs rows)
 
--- by the stem, then by the word, both in code point order, a front first
+-- by the stem, then by the word, both in code point order; a prefix comes first
 abbrev pub pair_cmp : Pair → Pair → Ordering
 pair_cmp p q = ordering_then (slice_cmp nat_cmp p.0 q.0) (slice_cmp nat_cmp p.1 q.1)
 
@@ -38,7 +38,7 @@ words_paired stem pairs = map (λ p. p.1) (filter (λ p. bytes_eq stem p.0) pair
 abbrev pub class_paired : List Pair → List ℕ → Class
 class_paired pairs stem = record { stem = stem; words = words_paired stem pairs }
 
--- the classes of pairs that are in order
+-- the classes of pairs that are in this order
 abbrev pub classes_paired : List Pair → List Class
 classes_paired pairs = map (class_paired pairs) (in_order (map (λ p. p.0) pairs))
 
@@ -55,7 +55,7 @@ put_in_last [] word = []
 put_in_last (c ∷ []) word = record { stem = c.stem; words = c.words ++ word ∷ [] } ∷ []
 put_in_last (c ∷ d ∷ classes) word = c ∷ put_in_last (d ∷ classes) word
 
--- The word goes last in the last class, if that has its stem, and else into a class of its own.
+-- Appends the word to the last class, if that class has its stem, and otherwise appends a new class with this word.
 abbrev pub put_last : List Class → Pair → List Class
 put_last classes p = if is_last p.0 classes then put_in_last classes p.1 else classes ++ one_word p ∷ []
 

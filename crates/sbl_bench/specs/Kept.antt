@@ -1,23 +1,27 @@
--- What a bench keeps: its words in their order, each with what its last run gave and touched.
+-- The representation of a bench: its words in their order, each with the outcome and the touches of its last run.
 use Rattle.std.specs.Prelude.{◌≡◌, ◌≤◌, ◌<◌, ℕ, List, [], ◌∷◌, map, length, All, ⊤}
 use Rattle.std.specs.declared.vec.Vec.{Vec}
 use Rattle.std.specs.declared.alloc.Global.{Global}
-use Rattle.sbl_script.specs.Parsed.{Parsed, Source, source_of}
+use Rattle.sbl_script.specs.Parsed.{Parsed, source_of}
 use Rattle.sbl_machine.specs.declared.outcome.Traced.{Traced}
-use Rattle.sbl_machine.specs.Outcome.{outcome_of, run_of, touches_of}
-use Rattle.sbl_bench.specs.Rows.{max_steps}
+use Rattle.sbl_machine.specs.Outcome.{outcome_of, run_of, touches_of, used_of}
+use Rattle.sbl_bench.specs.Setting.{Setting, under}
 use Rattle.sbl_bench.specs.Contents.{Contents, max_word_length, max_words}
 
 pub record Kept : Type 0 where
   pub script : Parsed
+  pub limit : ℕ
   pub words : List (List ℕ)
   pub count : ℕ
 
--- the bench without where it lies in memory
-abbrev pub contents_of : Kept → Contents
-contents_of k = record { script = source_of k.script; words = k.words; count = k.count }
+abbrev pub setting_of : Kept → Setting
+setting_of k = under (source_of k.script) k.limit
 
--- a word and its last run, as they lie in memory
+-- the bench without memory addresses
+abbrev pub contents_of : Kept → Contents
+contents_of k = record { setting = setting_of k; words = k.words; count = k.count }
+
+-- a word and its last run, as represented in memory
 abbrev pub KeptWord : Type 0
 KeptWord = Vec ℕ Global × Traced
 
@@ -28,17 +32,18 @@ words_in entries = map (λ e. e.0.items) entries
 abbrev pub IsWord : List ℕ → Type 0
 IsWord word = (0 < length word) × (length word ≤ max_word_length)
 
--- a fresh run of the word gives and touches the same
-pub record IsFresh (script : Source) (word : List ℕ) (traced : Traced) : Type 0 where
-  pub outcome : outcome_of traced.outcome ≡ run_of script word max_steps
-  pub touches : traced.touches.items ≡ touches_of script word max_steps
+-- a fresh run of the word has the same outcome, touches the same, and uses the same number of steps
+pub record IsFresh (s : Setting) (word : List ℕ) (traced : Traced) : Type 0 where
+  pub outcome : outcome_of traced.outcome ≡ run_of s.script word s.limit
+  pub touches : traced.touches.items ≡ touches_of s.script word s.limit
+  pub used : traced.used ≡ used_of s.script word s.limit
 
-abbrev pub AreFresh : Source → List KeptWord → Type 0
-AreFresh script [] = ⊤
-AreFresh script (e ∷ entries) = IsFresh script e.0.items e.1 × AreFresh script entries
+abbrev pub AreFresh : Setting → List KeptWord → Type 0
+AreFresh s [] = ⊤
+AreFresh s (e ∷ entries) = IsFresh s e.0.items e.1 × AreFresh s entries
 
--- what holds of the entries at all times
-pub record IsKept (script : Source) (entries : List KeptWord) : Type 0 where
-  pub fresh : AreFresh script entries
+-- the invariant of the entries
+pub record IsKept (s : Setting) (entries : List KeptWord) : Type 0 where
+  pub fresh : AreFresh s entries
   pub sound : All IsWord (words_in entries)
   pub room : length entries ≤ max_words

@@ -1,4 +1,5 @@
--- what the contracts of public calls rest on
+-- definitions that the contracts of public functions use
+pub mod Setting
 pub mod Vocabulary
 pub mod Rows
 pub mod Traces
@@ -13,4 +14,5 @@ pub mod Kept
 pub mod Pairs
 pub mod Grouping
 pub mod Stops
+pub mod Affected
 pub mod Changes

@@ -3,7 +3,7 @@ use Rattle.std.specs.Prelude.{ℕ, List, codes}
 use Rattle.sbl_text.specs.declared.fault.ScriptFault.{ScriptFault}
 use Rattle.sbl_text.specs.declared.fault.ScriptFault.TheVariants as script
 
--- the name of a fault of a script, without its place or item
+-- the name of a fault of a script, without its position or item
 abbrev pub script_name : ScriptFault → List ℕ
 script_name (script.BadCharacter p) = codes "BadCharacter"
 script_name (script.UnclosedString p) = codes "UnclosedString"

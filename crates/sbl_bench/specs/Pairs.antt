@@ -1,4 +1,4 @@
--- The set of pairs of a stem and a word that has it, beside the words and their runs.
+-- The set of pairs of a stem and a word that has it, next to the words and their runs.
 use Rattle.std.specs.Prelude.{◌≡◌, ◌&&◌, ℕ, Bool, false, List, Option, Some, None}
 use Rattle.std.specs.declared.vec.Vec.{Vec}
 use Rattle.std.specs.declared.alloc.Global.{Global}
@@ -28,7 +28,7 @@ abbrev pub has_stem : List ℕ → Option Traced → Bool
 has_stem s None = false
 has_stem s (Some t) = is_stem s (outcome_of t.outcome)
 
--- by the stem, then by the word, both in code point order, a front first
+-- by the stem, then by the word, both in code point order; a prefix comes first
 abbrev pub key_cmp : Key → Key → Ordering
 key_cmp x y = ordering_then (slice_cmp nat_cmp x.0.items y.0.items) (slice_cmp nat_cmp x.1.items y.1.items)
 
@@ -43,6 +43,6 @@ has set q = contains key_cmp set q
 abbrev pub ArePaired : List KeptWord → BTreeSet Key → Type 0
 ArePaired entries set = (q : Key) → has set q ≡ has_stem q.0.items (find q.1.items entries)
 
--- a pair without where it lies in memory
+-- a pair without memory addresses
 abbrev pub plain : Key → List ℕ × List ℕ
 plain k = (k.0.items, k.1.items)

@@ -1,4 +1,4 @@
-//! The bench, and what it is asked.
+//! The bench and its queries.
 
 ghost use Rattle.std.specs.Prelude.{◌≡◌, ◌≤◌, ◌+◌, ◌^◌, ◌↔◌, IsTrue, false, length, map, None, Ok, IfOk, slice_get};
 
@@ -11,19 +11,24 @@ use std::collections::BTreeSet;
 use std::marker::Model;
 use std::mem::forget;
 
-/// The most characters of a word (our own choice).
+/// The maximum number of characters of a word (our own choice).
 pub const MAX_WORD_LENGTH: usize = 255;
 
-/// The most words of a vocabulary (our own choice).
+/// The maximum number of words of a vocabulary (our own choice).
 pub const MAX_WORDS: usize = 100_000;
 
-/// A script, a vocabulary, and what the script makes of each of its words.
+/// The highest limit of steps that you can set (our own choice).
+pub const MAX_LIMIT: u64 = 10_000_000;
+
+/// A script, a vocabulary, and the run of the script on each word.
 #[derive(Drop)]
 pub struct Bench {
     pub(crate) alloc: Global,
     pub(crate) script: Script,
     pub(crate) machine: Machine<Table>,
-    // each word's last run, which a fresh run would not differ from
+    // the maximum number of steps of a run
+    pub(crate) limit: u32,
+    // the last run of each word; a fresh run would be equal
     pub(crate) traces: IndexMap<Vec<char>, Traced>,
     pub(crate) meter: Meter,
 }
@@ -34,42 +39,43 @@ impl Model for Bench {
     ghost use Rattle.sbl_script.specs.Parsed.{source_of};
     ghost use Rattle.sbl_machine.specs.MachineOf.{IsLinkedMachineOf};
     ghost use Rattle.sbl_bench.specs.Kept.{Kept, words_in, IsKept};
+    ghost use Rattle.sbl_bench.specs.Setting.{under};
 
     ghost Value = { Kept };
 
     ghost coded = { Prim.hlevel (codes, e.the_row.coded) };
 
-    ghost view = { λ b. record { script = b.script; words = words_in b.traces.entries; count = b.meter } };
+    ghost view = { λ b. record { script = b.script; limit = b.limit; words = words_in b.traces.entries; count = b.meter } };
 
-    ghost invariant = { λ b. IsLinkedMachineOf b.machine (source_of b.script) × IsKept (source_of b.script) b.traces.entries };
+    ghost invariant = { λ b. IsLinkedMachineOf b.machine (source_of b.script) × IsKept (under (source_of b.script) b.limit) b.traces.entries };
 }
 
 impl Bench {
     ghost use Rattle.std.specs.Option.{option_map};
-    ghost use Rattle.sbl_script.specs.Parsed.{source_of};
+    ghost use Rattle.sbl_bench.specs.Kept.{setting_of};
     ghost use Rattle.sbl_machine.specs.Touched.{items_in};
     ghost use Rattle.sbl_bench.specs.Rows.{rows_of, view_row};
     ghost use Rattle.sbl_bench.specs.Traces.{trace_of};
     ghost use Rattle.sbl_bench.specs.Vocabulary.{is_word};
 
-    /// How many words the vocabulary has. Takes no memory.
+    /// Returns the number of words of the vocabulary. Does not allocate.
     pub fn len(&self) -> usize
         ensures { result ≡ length self.now.words }
     {
         self.traces.len()
     }
 
-    /// Whether the vocabulary has no word. Takes no memory.
+    /// Returns whether the vocabulary has no word. Does not allocate.
     pub fn is_empty(&self) -> bool
         ensures { IsTrue result ↔ (length self.now.words ≡ 0) }
     {
         self.traces.is_empty()
     }
 
-    /// The row of the word at place `i`, counted from 0 in vocabulary order. None exactly where `i` is not below the number of
-    /// words. Takes no memory.
+    /// Returns the row of the word at index `i`, counted from 0 in vocabulary order; `None` exactly if `i` is not below the
+    /// number of words. Does not allocate.
     pub fn row(&self, i: usize) -> Option<Row<'_>>
-        ensures { option_map view_row result ≡ slice_get (rows_of (source_of self.now.script) self.now.words) i }
+        ensures { option_map view_row result ≡ slice_get (rows_of (setting_of self.now) self.now.words) i }
     {
         let (word, traced) = self.traces.get_index(i)?;
         Some(Row {
@@ -78,9 +84,9 @@ impl Bench {
         })
     }
 
-    /// The rows, in vocabulary order. It answers AllocError where a growth is refused.
+    /// Returns the rows, in vocabulary order. Returns `AllocError` if an allocation fails.
     pub fn rows(&self) -> Result<Vec<Row<'_>>, AllocError>
-        ensures { IfOk result (λ rows. map view_row rows.items ≡ rows_of (source_of self.now.script) self.now.words) }
+        ensures { IfOk result (λ rows. map view_row rows.items ≡ rows_of (setting_of self.now) self.now.words) }
     {
         let mut rows = Vec::with_capacity(self.alloc, self.len())?;
         for (word, traced) in self.traces.iter() {
@@ -93,11 +99,12 @@ impl Bench {
         Ok(rows)
     }
 
-    /// What the run of a word touches: the routines whose bodies it enters and the amongs whose searches it pays, each once,
-    /// routines by name in code point order, then amongs by name and number. None exactly where the word is not in the
-    /// vocabulary; that takes no memory. It answers AllocError where a growth is refused.
+    /// Returns the items that the run of a word touches, each once: the routines whose bodies it enters, by name in code point
+    /// order, then the amongs whose searches it pays for, by name and number, then the groupings whose tests it pays for, by
+    /// name. Returns `None` exactly if the word is not in the vocabulary; this does not allocate. Returns `AllocError` if an
+    /// allocation fails.
     pub fn touched(&self, word: &[char]) -> Result<Option<BTreeSet<Item>>, AllocError>
-        ensures touched { IfOk result (λ items. option_map items_in items ≡ trace_of (source_of self.now.script) self.now.words word.now) }
+        ensures touched { IfOk result (λ items. option_map items_in items ≡ trace_of (setting_of self.now) self.now.words word.now) }
         ensures absent { is_word word.now self.now.words ≡ false → result ≡ Ok None }
     {
         match self.traces.get(word) {
@@ -109,20 +116,28 @@ impl Bench {
         }
     }
 
-    /// How many runs the bench has made, those of its opening too. Takes no memory.
+    /// Returns the number of runs that the bench has made, including those when it was opened. Does not allocate.
     pub fn runs(&self) -> u64
         ensures { result ≡ self.now.count }
     {
         self.meter.count()
     }
 
-    /// Gives the bench up. Its memory is not given back piece by piece, but when the program ends: this is for a bench that is used
-    /// until then. No destructor is proved once more where this is called. Takes no memory.
-    pub fn discard(self) {
+    /// Returns the maximum number of steps of a run. Does not allocate.
+    pub fn limit(&self) -> u32
+        ensures { result ≡ self.now.limit }
+    {
+        self.limit
+    }
+
+    /// Ends the use of the bench without freeing its memory. The system takes the memory back when the program ends, so call
+    /// this for a bench that is used until then. A bench that is dropped is freed. A crate that calls this need not prove the
+    /// destructors of a bench. Does not allocate.
+    pub fn leak(self) {
         forget(self);
     }
 
-    /// The script. Takes no memory.
+    /// Returns the script. Does not allocate.
     pub fn script(&self) -> &Script
         ensures { result.now ≡ self.now.script }
     {

@@ -1,32 +1,35 @@
-//! What an edit of the script changes: worked out first, and then made without memory.
+//! The changes that an edit of the script or of the limit makes. They are computed first, and then applied without an
+//! allocation.
 
-ghost use Rattle.std.specs.Prelude.{◌≡◌, ◌≤◌, ◌+◌, ◌++◌, ◌∷◌, ℕ, [], length, map, OnOk, OnErr, IfOk, IfSome, IsSome, Some, All, if◌then◌else◌};
-ghost use Rattle.std.specs.List.{filter};
+ghost use Rattle.std.specs.Prelude.{◌≡◌, ◌≤◌, ◌+◌, ◌-◌, ◌++◌, ◌∷◌, ℕ, [], length, map, OnOk, OnErr, IfOk, IfErr, IfSome, IsSome, Some, All, if◌then◌else◌};
 ghost use Rattle.std.specs.Str.{bytes_eq};
 ghost use Rattle.indexmap.specs.IndexMap.{keys, IsUnique};
 ghost use Rattle.sbl_script.specs.Parsed.{Source};
 ghost use Rattle.sbl_machine.specs.MachineOf.{IsLinkedMachineOf};
-ghost use Rattle.sbl_machine.specs.Touched.{item_of};
 ghost use Rattle.sbl_bench.specs.Changes as spec;
-ghost use Rattle.sbl_bench.specs.Changes.{is_met, view_change, view_run, AreAllFresh, AreAnew};
+ghost use Rattle.sbl_bench.specs.Changes.{affected_of, reruns, view_change, view_run, AreAllFresh, AreAnew};
 ghost use Rattle.sbl_bench.specs.Kept.{words_in, AreFresh, IsWord};
 ghost use Rattle.sbl_bench.specs.Pairs.{Text, find};
 ghost use Rattle.sbl_bench.specs.Contents.{max_runs};
+ghost use Rattle.sbl_bench.specs.Setting.{Setting, under};
+ghost use Rattle.sbl_bench.specs.Stops.{IsStopOf};
 
-use crate::traces::MAX_STEPS;
+use crate::affected::{Affected, is_affected};
+use crate::fault::EditFault;
+use crate::traces::words_are_unique;
 use indexmap::IndexMap;
-use sbl_machine::{Item, Machine, Meter, Table, Traced};
+use sbl_machine::{Machine, Meter, Table, Traced};
 use std::alloc::{AllocError, Global};
 use std::mem::replace;
 
-/// A word that an edit of the script met, and its new run.
+/// A word that an edit affects, and its new run.
 #[derive(Drop)]
 pub(crate) struct Change {
     pub(crate) word: Vec<char>,
     pub(crate) traced: Traced,
 }
 
-/// Writes the run of a word that is there, and answers the one before. Takes no memory.
+/// Replaces the run of a word of the vocabulary, and returns the old run. Does not allocate.
 fn swap_traced(
     traces: &mut IndexMap<Vec<char>, Traced>,
     word: &[char],
@@ -42,7 +45,7 @@ fn swap_traced(
     }
 }
 
-/// Makes one change. Takes no memory.
+/// Applies one change. Does not allocate.
 fn commit_one(traces: &mut IndexMap<Vec<char>, Traced>, change: Change)
     requires { IsSome (find change.word.items traces.old.entries) }
     ensures finds { (w : Text) → find w.items traces.new.entries ≡ (if bytes_eq change.word.items w.items then Some change.traced else find w.items traces.old.entries) }
@@ -52,10 +55,10 @@ fn commit_one(traces: &mut IndexMap<Vec<char>, Traced>, change: Change)
     swap_traced(traces, word.as_slice(), traced);
 }
 
-/// Makes all changes. Takes no memory.
+/// Applies all changes. Does not allocate.
 fn commit(traces: &mut IndexMap<Vec<char>, Traced>, changes: Vec<Change>)
-    requires { (script : Source) × AreAnew script traces.old.entries changes.items }
-    ensures fresh { (script : Source) → AreAnew script traces.old.entries changes.items → AreAllFresh script traces.new.entries }
+    requires { (script : Setting) × AreAnew script traces.old.entries changes.items }
+    ensures fresh { (script : Setting) → AreAnew script traces.old.entries changes.items → AreAllFresh script traces.new.entries }
     ensures keys { keys traces.new ≡ keys traces.old }
 {
     let mut changes = changes;
@@ -64,7 +67,7 @@ fn commit(traces: &mut IndexMap<Vec<char>, Traced>, changes: Vec<Change>)
     }
 }
 
-/// The change of a word. It answers AllocError where a growth is refused.
+/// Appends the change of a word. Returns `AllocError` if an allocation fails.
 fn push_change(
     alloc: Global,
     changes: &mut Vec<Change>,
@@ -79,62 +82,84 @@ fn push_change(
         .map_err(|_| AllocError)
 }
 
-/// How many words touched the item in their last runs, which were those of this machine. Takes no memory.
-pub(crate) fn count_met(
-    before: &Machine<Table>,
-    item: &Item,
-    traces: &IndexMap<Vec<char>, Traced>,
-) -> u64
-    ensures { (p : Source) → IsLinkedMachineOf before.now p → result ≡ length (filter (is_met p (item_of item.now)) traces.now.entries) }
-{
-    // The count says besides that there is room for it.
-    let _count = traces.len();
-    let mut met = 0;
-    for (_, last) in traces.iter() {
-        if before.touched(last.touches.as_slice(), item) {
-            met += 1;
-        }
-    }
-    met
-}
-
-/// Runs each word whose last run, which was one of the machine before, touched the item, under the machine of another script,
-/// and answers what that changes. A word that did not touch it is not run and takes no memory. It answers AllocError where a
-/// growth is refused.
-pub(crate) fn changes_of(
+/// Returns the words that are affected, judged by their last runs, in vocabulary order. Returns `AllocError` if an allocation
+/// fails. Does not allocate if no word is affected.
+fn met_words<'a>(
     alloc: Global,
-    before: &Machine<Table>,
-    after: &Machine<Table>,
-    item: &Item,
-    meter: &mut Meter,
-    traces: &IndexMap<Vec<char>, Traced>,
-) -> Result<Vec<Change>, AllocError>
-    requires sound { All IsWord (words_in traces.now.entries) }
-    requires room { (p : Source) → IsLinkedMachineOf before.now p → meter.old + length (filter (is_met p (item_of item.now)) traces.now.entries) ≤ max_runs }
-    ensures changes { (p q : Source) → IsLinkedMachineOf before.now p → IsLinkedMachineOf after.now q → IfOk result (λ changes. map view_change changes.items ≡ spec.changes_of (is_met p (item_of item.now)) q traces.now.entries) }
-    ensures counted { (p : Source) → IsLinkedMachineOf before.now p → OnOk result (meter.new ≡ meter.old + length (filter (is_met p (item_of item.now)) traces.now.entries)) }
-    ensures some { (p : Source) → IsLinkedMachineOf before.now p → OnErr result ((n : ℕ) × (n ≤ length (filter (is_met p (item_of item.now)) traces.now.entries)) × (meter.new ≡ meter.old + n)) }
+    affected: &Affected,
+    traces: &'a IndexMap<Vec<char>, Traced>,
+) -> Result<Vec<&'a [char]>, AllocError>
+    ensures words { IfOk result (λ words. map (λ w. w.now) words.items ≡ spec.met_words (affected_of affected.now) traces.now.entries) }
     ensures unique { IsUnique (λ (x y : Text). bytes_eq x.items y.items) traces.now }
 {
-    // The count says besides that no word stands twice.
-    let _count = traces.len();
+    words_are_unique(traces);
+    let mut words = Vec::new(alloc);
+    for (word, last) in traces.iter() {
+        if is_affected(affected, last) {
+            words.push(word.as_slice()).map_err(|_| AllocError)?;
+        }
+    }
+    Ok(words)
+}
+
+/// Runs each of the words, and returns the changes. Returns `AllocError` if an allocation fails.
+fn run_words(
+    alloc: Global,
+    machine: &Machine<Table>,
+    limit: u32,
+    words: &[&[char]],
+    meter: &mut Meter,
+) -> Result<Vec<Change>, AllocError>
+    requires sound { All IsWord (map (λ w. w.now) words.now) }
+    requires room { meter.old + length words.now ≤ max_runs }
+    ensures changes { (s : Source) → IsLinkedMachineOf machine.now s → IfOk result (λ changes. map view_change changes.items ≡ reruns (under s limit) (map (λ w. w.now) words.now)) }
+    ensures counted { OnOk result (meter.new ≡ meter.old + length words.now) }
+    ensures some { OnErr result ((n : ℕ) × (n ≤ length words.now) × (meter.new ≡ meter.old + n)) }
+{
     let mut changes = Vec::new(alloc);
-    for (word, traced) in traces.iter() {
-        if before.touched(traced.touches.as_slice(), item) {
-            match after.trace(alloc, meter, word.as_slice(), MAX_STEPS) {
-                Ok(again) => push_change(alloc, &mut changes, word.as_slice(), again)?,
-                Err(_) => return Err(AllocError),
-            }
+    for word in words {
+        match machine.trace(alloc, meter, word, limit) {
+            Ok(traced) => push_change(alloc, &mut changes, word, traced)?,
+            Err(_) => return Err(AllocError),
         }
     }
     Ok(changes)
 }
 
-/// Makes the changes that another script brings. Takes no memory.
+/// Runs each affected word once, and returns the changes. Runs no other word.
+///
+/// # Errors
+///
+/// Returns `MeterFull` if fewer counts of runs are left than there are words to run; nothing is run then. Returns `OutOfMemory`
+/// if an allocation fails.
+pub(crate) fn rerun(
+    alloc: Global,
+    machine: &Machine<Table>,
+    limit: u32,
+    affected: &Affected,
+    meter: &mut Meter,
+    traces: &IndexMap<Vec<char>, Traced>,
+) -> Result<Vec<Change>, EditFault>
+    requires sound { All IsWord (words_in traces.now.entries) }
+    ensures changes { (s : Source) → IsLinkedMachineOf machine.now s → IfOk result (λ changes. map view_change changes.items ≡ reruns (under s limit) (spec.met_words (affected_of affected.now) traces.now.entries)) }
+    ensures counted { OnOk result (meter.new ≡ meter.old + length (spec.met_words (affected_of affected.now) traces.now.entries)) }
+    ensures room { OnOk result (length (spec.met_words (affected_of affected.now) traces.now.entries) ≤ max_runs - meter.old) }
+    ensures stop { IfErr result (λ f. IsStopOf (length (spec.met_words (affected_of affected.now) traces.now.entries)) f meter.old meter.new) }
+    ensures unique { IsUnique (λ (x y : Text). bytes_eq x.items y.items) traces.now }
+{
+    let words = met_words(alloc, affected, traces)?;
+    if u64::MAX - meter.count() < words.len() as u64 {
+        return Err(EditFault::MeterFull);
+    }
+    let changes = run_words(alloc, machine, limit, &words, meter)?;
+    Ok(changes)
+}
+
+/// Applies the changes of an edit. Does not allocate.
 pub(crate) fn make_changes(traces: &mut IndexMap<Vec<char>, Traced>, changes: Vec<Change>)
-    requires changes { (script : Source) × AreAnew script traces.old.entries changes.items }
+    requires changes { (script : Setting) × AreAnew script traces.old.entries changes.items }
     requires unique { IsUnique (λ (x y : Text). bytes_eq x.items y.items) traces.old }
-    ensures fresh { (script : Source) → AreAnew script traces.old.entries changes.items → AreFresh script traces.new.entries }
+    ensures fresh { (script : Setting) → AreAnew script traces.old.entries changes.items → AreFresh script traces.new.entries }
     ensures words { words_in traces.new.entries ≡ words_in traces.old.entries }
 {
     commit(traces, changes);

@@ -9,11 +9,12 @@ ghost use Rattle.sbl_bench.specs.Pairs.{has, key_cmp, plain};
 
 use crate::bench::Bench;
 use crate::pairs::pairs_of;
+use crate::traces::words_are_unique;
 use sbl_machine::Outcome;
 use std::alloc::{AllocError, Global};
 use std::collections::BTreeSet;
 
-/// A stem, and the words that have it, in code point order, a front first.
+/// A stem and the words that have it, in code point order. A prefix comes first.
 #[derive(Debug, Drop)]
 pub struct Class {
     /// The stem.
@@ -23,17 +24,16 @@ pub struct Class {
 }
 
 impl Bench {
-    ghost use Rattle.sbl_script.specs.Parsed.{source_of};
+    ghost use Rattle.sbl_bench.specs.Kept.{setting_of};
     ghost use Rattle.sbl_bench.specs.Rows.{rows_of};
     ghost use Rattle.sbl_bench.specs.Classes.{class_of, classes_of};
 
-    /// The classes, by stem in code point order, a front first. A refused word is in no class, and no class is empty. It answers
-    /// AllocError where a growth is refused.
+    /// Returns the classes, by stem in code point order; a prefix comes first. A word whose run is refused is in no class, and
+    /// no class is empty. Returns `AllocError` if an allocation fails.
     pub fn classes(&self) -> Result<Vec<Class>, AllocError>
-        ensures { IfOk result (λ classes. map view_class classes.items ≡ classes_of (rows_of (source_of self.now.script) self.now.words)) }
+        ensures { IfOk result (λ classes. map view_class classes.items ≡ classes_of (rows_of (setting_of self.now) self.now.words)) }
     {
-        // The count says besides that no word stands twice.
-        let _count = self.traces.len();
+        words_are_unique(&self.traces);
         let pairs = pairs_of(self.alloc, &self.traces)?;
         let mut classes = Vec::new(self.alloc);
         for pair in pairs.iter() {
@@ -47,13 +47,12 @@ impl Bench {
         Ok(classes)
     }
 
-    /// The class of a word. None where the word is not in the vocabulary or its run is refused. It answers AllocError where a growth
-    /// is refused.
+    /// Returns the class of a word; `None` if the word is not in the vocabulary or its run is refused. Returns `AllocError` if
+    /// an allocation fails.
     pub fn class_of(&self, word: &[char]) -> Result<Option<Class>, AllocError>
-        ensures { IfOk result (λ class. option_map view_class class ≡ class_of (rows_of (source_of self.now.script) self.now.words) word.now) }
+        ensures { IfOk result (λ class. option_map view_class class ≡ class_of (rows_of (setting_of self.now) self.now.words) word.now) }
     {
-        // The count says besides that no word stands twice.
-        let _count = self.traces.len();
+        words_are_unique(&self.traces);
         let Some(traced) = self.traces.get(word) else {
             return Ok(None);
         };
@@ -69,7 +68,7 @@ impl Bench {
     }
 }
 
-/// The words among the pairs that have this stem, in order. It answers AllocError where a growth is refused.
+/// Returns the words of the pairs that have this stem, in order. Returns `AllocError` if an allocation fails.
 fn words_with(
     alloc: Global,
     stem: &[char],
@@ -88,7 +87,7 @@ fn words_with(
     Ok(words)
 }
 
-/// Whether the last class has this stem. Takes no memory.
+/// Returns whether the last class has this stem. Does not allocate.
 fn is_last(stem: &[char], classes: &[Class]) -> bool
     ensures { result ≡ spec.is_last stem.now (map view_class classes.now) }
 {
@@ -98,7 +97,7 @@ fn is_last(stem: &[char], classes: &[Class]) -> bool
     }
 }
 
-/// Puts a word last in the last class. It answers AllocError where a growth is refused.
+/// Appends a word to the last class. Returns `AllocError` if an allocation fails.
 fn put_in_last(classes: &mut Vec<Class>, word: Vec<char>) -> Result<(), AllocError>
     ensures { OnOk result (map view_class classes.new.items ≡ spec.put_in_last (map view_class classes.old.items) word.items) }
 {
@@ -108,14 +107,14 @@ fn put_in_last(classes: &mut Vec<Class>, word: Vec<char>) -> Result<(), AllocErr
     }
 }
 
-/// Puts a word last. It answers AllocError where a growth is refused.
+/// Appends a word. Returns `AllocError` if an allocation fails.
 fn push_word(words: &mut Vec<Vec<char>>, word: Vec<char>) -> Result<(), AllocError>
     ensures { OnOk result (words_of words.new.items ≡ words_of words.old.items ++ word.items ∷ []) }
 {
     words.push(word).map_err(|_| AllocError)
 }
 
-/// A class of one word. It answers AllocError where a growth is refused.
+/// Returns a class of one word. Returns `AllocError` if an allocation fails.
 fn one_word(alloc: Global, stem: &[char], word: Vec<char>) -> Result<Class, AllocError>
     ensures { IfOk result (λ class. view_class class ≡ spec.one_word (stem.now, word.items)) }
 {
@@ -125,8 +124,8 @@ fn one_word(alloc: Global, stem: &[char], word: Vec<char>) -> Result<Class, Allo
     Ok(Class { stem, words })
 }
 
-/// Puts a word last in the last class, if that has its stem, and else into a class of its own. It answers AllocError where a
-/// growth is refused.
+/// Appends a word to the last class, if that class has the word's stem, and otherwise appends a new class with this word.
+/// Returns `AllocError` if an allocation fails.
 fn put_last(
     alloc: Global,
     classes: &mut Vec<Class>,

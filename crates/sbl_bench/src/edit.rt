@@ -1,29 +1,33 @@
 //! Edits of a bench.
 
-ghost use Rattle.std.specs.Prelude.{◌≡◌, ◌≤◌, ◌<◌, ◌+◌, ◌^◌, ℕ, List, true};
+ghost use Rattle.std.specs.Prelude.{◌≡◌, ◌≤◌, ◌<◌, ◌+◌, ◌^◌, ℕ, List, MatchOption, true, false};
+ghost use Rattle.sbl_bench.specs.Edits.{is_limit};
 
-use crate::bench::{Bench, MAX_WORD_LENGTH, MAX_WORDS};
-use crate::change::{changes_of, count_met, make_changes};
+use crate::affected::{Affected, above_smaller};
+use crate::bench::{Bench, MAX_LIMIT, MAX_WORD_LENGTH, MAX_WORDS};
+use crate::change::{make_changes, rerun};
 use crate::fault::EditFault;
 use crate::traces::{has_word, put_last};
-use sbl_machine::laws::untouched_stay;
+use sbl_machine::laws::{edits_agree, untouched_stay, used_steps_suffice};
 use sbl_machine::{Item, Machine};
 use sbl_script::Script;
+use sbl_script::laws::is_well_declared;
 
 impl Bench {
     ghost use Rattle.sbl_bench.specs.Kept.{contents_of};
-    ghost use Rattle.sbl_bench.specs.Edits.{Edits, Add, Remove, Replace, Routine, Among};
-    ghost use Rattle.sbl_machine.specs.Touched.{item_of, replaced};
-    ghost use Rattle.sbl_script.specs.Edits.{IsEdited, ScriptEdit};
+    ghost use Rattle.sbl_bench.specs.Changes.{IsTaken};
+    ghost use Rattle.sbl_bench.specs.Edits.{Edits, Add, Grouping, Limit, Remove, Replace, Routine, Among};
+    ghost use Rattle.sbl_machine.specs.Touched.{item_of};
+    ghost use Rattle.sbl_script.specs.Edits.{ScriptEdit};
     ghost use Rattle.sbl_script.specs.Parsed.{source_of};
 
-    /// Puts a word last in the vocabulary and runs it once.
+    /// Appends a word to the vocabulary and runs it once.
     ///
-    /// It answers EmptyWord where the word has no character, WordTooLong where it has more than 255, Present where it is in the
-    /// vocabulary and Full where that has 100,000 words, in this order; these take no memory. Then it answers MeterFull
-    /// where the count of runs is at its end, and OutOfMemory where a growth is refused. Whatever it answers but `Ok`,
-    /// script, vocabulary, rows and classes are left as they were, and the count of runs too, but that it may be one higher
-    /// at OutOfMemory. (Our own choice.)
+    /// Returns `EmptyWord` if the word has no character, `WordTooLong` if it has more than 255, `Present` if it is in the
+    /// vocabulary, and `Full` if the vocabulary has 100,000 words, checked in this order and without an allocation. Then
+    /// returns `MeterFull` if the count of runs is at its maximum, and `OutOfMemory` if an allocation fails. After an error,
+    /// the script, vocabulary, rows and classes are unchanged. The count of runs is unchanged too, except that it may be higher
+    /// by one after `OutOfMemory`. (Our own choice.)
     pub fn add(&mut self, word: &[char]) -> Result<(), EditFault>
         ensures { Edits result (contents_of self.old) (Add word.now) (contents_of self.new) }
     {
@@ -46,14 +50,15 @@ impl Bench {
         put_last(
             self.alloc,
             &self.machine,
+            self.limit,
             &mut self.meter,
             &mut self.traces,
             word,
         )
     }
 
-    /// Takes a word out of the vocabulary and closes the gap. It answers Absent where the word is not there, and then changes
-    /// nothing. Takes no memory.
+    /// Removes a word from the vocabulary; the words after it move up. Returns `Absent` if the word is not in the vocabulary,
+    /// and then changes nothing. Does not allocate.
     pub fn remove(&mut self, word: &[char]) -> Result<(), EditFault>
         ensures { Edits result (contents_of self.old) (Remove word.now) (contents_of self.new) }
     {
@@ -63,69 +68,128 @@ impl Bench {
         Ok(())
     }
 
-    /// Gives the routine or external of this name the text for its body, and runs each word once whose run entered it before.
-    /// The text is a row of the grammar, and is read in the mode and under the escapes that are in force where the routine stands.
+    /// Replaces the body of the routine or external of this name by the text, and runs each word once whose run entered the
+    /// body before. The text is one row of the grammar. It is read in the mode and with the escapes that are in force at the
+    /// routine.
     ///
-    /// It answers NoRoutine where the script defines no routine of this name; that takes no memory. Then it answers Script
-    /// with the fault of the text or of the script with it, and then MeterFull where fewer counts of runs are left than
-    /// there are words to run. It may answer OutOfMemory, where a growth is refused, in place of all but NoRoutine. Whatever it
-    /// answers but `Ok`, script, vocabulary, rows and classes are left as they were, and the count of runs too, but that
-    /// it may be higher at OutOfMemory, by at most the number of words to run, if the edit would have been accepted. (Our own
-    /// choice.)
+    /// Returns `NoRoutine` if the script defines no routine of this name, without an allocation. Then returns `Script` with the
+    /// fault of the text or of the script with it, and then `MeterFull` if fewer counts of runs are left than there are words
+    /// to run. If an allocation fails, may return `OutOfMemory` instead of any result but `NoRoutine`. After an error, the
+    /// script, vocabulary, rows and classes are unchanged. The count of runs is unchanged too, except that after `OutOfMemory`
+    /// it may be higher by at most the number of words to run, if the edit would have been accepted. (Our own choice.)
     pub fn replace_routine(&mut self, name: &str, text: &str) -> Result<(), EditFault>
         ensures { Edits result (contents_of self.old) (Routine name.now text.now) (contents_of self.new) }
     {
         let script = self.script.with_routine(self.alloc, name, text)?;
         let item = Item::Routine(String::from_str(self.alloc, name)?);
-        self.replace_script(script, &item)
+        self.take_script(script, &item)
     }
 
-    /// Puts the text in the place of the `k`-th among of the routine or external of this name, counted from 1 in the order of the
-    /// words `among`, and runs each word once whose run searched that among before. The text is one whole `among ( .. )`, and is
-    /// read in the mode, under the escapes and at the depth of the among that it replaces.
+    /// Replaces the `k`-th among of the routine or external of this name by the text, and runs each word once whose run
+    /// searched that among before. Amongs are counted from 1 in the order of the words `among`. The text is one whole `among (
+    /// .. )`. It is read in the mode, with the escapes and at the depth of the among that it replaces.
     ///
-    /// It answers NoRoutine where the script defines no routine of this name, and NoAmong where `k` is 0 or above the number of
-    /// amongs in it; these take no memory. Then it answers Script with the fault of the text or of the script with it,
-    /// AmongCount where the text, amongs inside it counted, holds another number of amongs than what it replaces, and
-    /// MeterFull where fewer counts of runs are left than there are words to run. It may answer OutOfMemory, where a growth is
-    /// refused, in place of all but NoRoutine and NoAmong. Whatever it answers but `Ok`, script, vocabulary, rows and classes
-    /// are left as they were, and the count of runs too, but that it may be higher at OutOfMemory, by at most the number of
-    /// words to run, if the edit would have been accepted. (Our own choice.)
+    /// Returns `NoRoutine` if the script defines no routine of this name, and `NoAmong` if `k` is 0 or above the number of
+    /// amongs in it, both without an allocation. Then returns `Script` with the fault of the text or of the script with it,
+    /// `AmongCount` if the text and the among that it replaces have different numbers of amongs, including those inside, and
+    /// `MeterFull` if fewer counts of runs are left than there are words to run. If an allocation fails, may return
+    /// `OutOfMemory` instead of any result but `NoRoutine` and `NoAmong`. After an error, the script, vocabulary, rows and
+    /// classes are unchanged. The count of runs is unchanged too, except that after `OutOfMemory` it may be higher by at most
+    /// the number of words to run, if the edit would have been accepted. (Our own choice.)
     pub fn replace_among(&mut self, name: &str, k: u64, text: &str) -> Result<(), EditFault>
         ensures { Edits result (contents_of self.old) (Among name.now k text.now) (contents_of self.new) }
     {
         let script = self.script.with_among(self.alloc, name, k, text)?;
         let item = Item::Among(String::from_str(self.alloc, name)?, k);
-        self.replace_script(script, &item)
+        self.take_script(script, &item)
     }
 
-    /// Puts the script after an edit, which has replaced this item, in the place of the current one, and runs each word once whose
-    /// run touched the item before.
+    /// Replaces the terms of a grouping by a text, and runs each word once whose run before tested this grouping or one that is
+    /// built from it, directly or through others. The text is what follows the name in the definition of a grouping. It is read
+    /// with the escapes and macros of the items before it.
     ///
-    /// It answers MeterFull where fewer counts of runs are left than there are words to run; that takes no memory. Then it
-    /// answers OutOfMemory where a growth is refused. Whatever it answers but `Ok`, script, vocabulary, rows and classes are left
-    /// as they were, and the count of runs too, but that it may be higher at OutOfMemory, by at most the number of words to run.
-    fn replace_script(&mut self, script: Script, item: &Item) -> Result<(), EditFault>
-        requires { (what : ScriptEdit) × (text : List ℕ) × (item_of item.now ≡ replaced what) × IsEdited (source_of self.old.script) what text (source_of script) }
-        ensures { (what : ScriptEdit) (text : List ℕ) → item_of item.now ≡ replaced what → IsEdited (source_of self.old.script) what text (source_of script) → Edits result (contents_of self.old) (Replace what text) (contents_of self.new) }
+    /// # Errors
+    ///
+    /// Returns `NoGrouping` if the script defines no grouping of this name, without an allocation. Then returns `Script` with
+    /// the fault of the text or of the script with it, and then `MeterFull` if fewer counts of runs are left than there are
+    /// words to run. If an allocation fails, may return `OutOfMemory` instead of any result but `NoGrouping`. After an error,
+    /// the script, limit, vocabulary, rows and classes are unchanged. The count of runs is unchanged too, except that after
+    /// `OutOfMemory` it may be higher by at most the number of words to run, if the edit would have been accepted. (Our own
+    /// choice.)
+    pub fn replace_grouping(&mut self, name: &str, text: &str) -> Result<(), EditFault>
+        ensures { Edits result (contents_of self.old) (Grouping name.now text.now) (contents_of self.new) }
     {
-        let met = count_met(&self.machine, item, &self.traces);
-        if u64::MAX - self.meter.count() < met {
-            return Err(EditFault::MeterFull);
-        }
-        let after = Machine::new(self.alloc, &script)?;
-        let changes = changes_of(
+        let script = self.script.with_grouping(self.alloc, name, text)?;
+        let item = Item::Grouping(String::from_str(self.alloc, name)?);
+        self.take_script(script, &item)
+    }
+
+    /// Sets the maximum number of steps of a run, and runs each word once whose run used more steps than the smaller of the old
+    /// limit and the new one. A run that was refused for its steps has used one step more than its limit.
+    ///
+    /// Returns `BadLimit` if the limit is 0 or above 10,000,000, without an allocation. Then returns `MeterFull` if fewer
+    /// counts of runs are left than there are words to run. If an allocation fails, may return `OutOfMemory` instead of any
+    /// result but `BadLimit`. After an error, the script, limit, vocabulary, rows and classes are unchanged. The count of runs
+    /// is unchanged too, except that after `OutOfMemory` it may be higher by at most the number of words to run. (Our own
+    /// choice.)
+    pub fn set_limit(&mut self, number: u64) -> Result<(), EditFault>
+        ensures { Edits result (contents_of self.old) (Limit number) (contents_of self.new) }
+    {
+        let Some(limit) = limit_of(number) else {
+            return Err(EditFault::BadLimit);
+        };
+        used_steps_suffice();
+        let affected = above_smaller(self.limit, limit);
+        let changes = rerun(
             self.alloc,
             &self.machine,
-            &after,
-            item,
+            limit,
+            &affected,
             &mut self.meter,
             &self.traces,
         )?;
+        make_changes(&mut self.traces, changes);
+        self.limit = limit;
+        Ok(())
+    }
+
+    /// Installs a script that was made by replacing an item, and runs each word once whose run before met the item.
+    ///
+    /// # Errors
+    ///
+    /// Returns `MeterFull` if fewer counts of runs are left than there are words to run, and `OutOfMemory` if an allocation
+    /// fails. Then the script, vocabulary, rows and classes are unchanged. The count of runs is unchanged too, except that
+    /// after `OutOfMemory` it may be higher by at most the number of words to run.
+    fn take_script(&mut self, script: Script, item: &Item) -> Result<(), EditFault>
+        requires { (e : ScriptEdit) × (text : List ℕ) × IsTaken (contents_of self.old) e text (source_of script) (item_of item.now) }
+        ensures { (e : ScriptEdit) (text : List ℕ) → IsTaken (contents_of self.old) e text (source_of script) (item_of item.now) → Edits result (contents_of self.old) (Replace e text) (contents_of self.new) }
+    {
+        edits_agree();
         untouched_stay();
+        is_well_declared(&self.script);
+        let marks = self.machine.affected(self.alloc, &self.script, item)?;
+        let after = Machine::new(self.alloc, &script)?;
+        let changes = rerun(
+            self.alloc,
+            &after,
+            self.limit,
+            &Affected::Touching(marks),
+            &mut self.meter,
+            &self.traces,
+        )?;
         make_changes(&mut self.traces, changes);
         self.machine = after;
         self.script = script;
         Ok(())
     }
+}
+
+/// Returns the number as a limit; `None` if it is 0 or above 10,000,000.
+fn limit_of(number: u64) -> Option<u32>
+    ensures { MatchOption result (is_limit number ≡ false) (λ n. (n ≡ number) × (is_limit number ≡ true)) }
+{
+    if number == 0 || MAX_LIMIT < number {
+        return None;
+    }
+    u32::try_from(number).ok()
 }

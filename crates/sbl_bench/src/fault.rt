@@ -8,9 +8,9 @@ use sbl_script::ScriptFault;
 use std::alloc::AllocError;
 use thiserror::Error;
 
-/// Why an edit is refused. A refused edit changes nothing; only the count of runs may have risen, and only at `OutOfMemory`.
-/// To find any refusal but `AmongCount`, `Script`, `OutOfMemory` and `MeterFull` takes no memory. The numbers and names are our own
-/// choice.
+/// Why an edit is refused. A refused edit changes nothing, except that the count of runs may be higher after `OutOfMemory`.
+/// Every error but `AmongCount`, `Script`, `OutOfMemory` and `MeterFull` is found without an allocation. The numbers and names
+/// are our own choice.
 #[derive(Debug, Drop, Clone, Copy, PartialEq, Eq, Error)]
 pub enum EditFault {
     /// The word is in the vocabulary.
@@ -34,21 +34,27 @@ pub enum EditFault {
     /// The routine has no among of this number.
     #[error("46 NoAmong")]
     NoAmong,
-    /// The text holds another number of amongs than the among in whose place it is to stand.
+    /// The text and the among that it replaces have different numbers of amongs.
     #[error("47 AmongCount")]
     AmongCount,
-    /// The text, or the script with it, has this fault. It is displayed by its name alone, without its place or item.
+    /// The text, or the script with it, has this fault. `Display` shows the name of the fault, without its position or item.
     #[error("48 {}", script_name(*.0))]
     Script(ScriptFault),
-    /// A growth was refused.
+    /// An allocation failed.
     #[error("49 OutOfMemory")]
     OutOfMemory,
-    /// The count of runs has no room for the runs of the edit.
+    /// Fewer counts of runs are left than the edit has words to run.
     #[error("50 MeterFull")]
     MeterFull,
+    /// The limit is 0 or above 10,000,000.
+    #[error("51 BadLimit")]
+    BadLimit,
+    /// The script defines no grouping of this name.
+    #[error("53 NoGrouping")]
+    NoGrouping,
 }
 
-/// The name of a fault of a script, without its place or item.
+/// Returns the name of a fault of a script, without its position or item.
 pub fn script_name(fault: ScriptFault) -> &'static str
     ensures { result.now ≡ spec.script_name fault }
 {
@@ -100,6 +106,7 @@ impl From<sbl_script::EditFault> for EditFault {
     fn from(fault: sbl_script::EditFault) -> EditFault {
         match fault {
             sbl_script::EditFault::NoRoutine => EditFault::NoRoutine,
+            sbl_script::EditFault::NoGrouping => EditFault::NoGrouping,
             sbl_script::EditFault::NoAmong => EditFault::NoAmong,
             sbl_script::EditFault::AmongCount => EditFault::AmongCount,
             sbl_script::EditFault::Script(fault) => EditFault::Script(fault),

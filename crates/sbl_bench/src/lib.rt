@@ -1,9 +1,10 @@
-//! A vocabulary and what a script makes of each of its words, kept under edits.
+//! A vocabulary with the result of a script for each of its words, kept up to date under edits.
 //!
-//! A [`Bench`] is opened over a script and a list of words. Each of its rows is what a fresh run of the script over the
-//! row's word gives, at any time.
+//! You open a [`Bench`] with a script and a list of words. At any time, each row holds the outcome of a fresh run of the script
+//! on the row's word.
 #![tactic(auto)]
 
+mod affected;
 mod bench;
 mod change;
 mod class;
@@ -15,9 +16,8 @@ mod pairs;
 mod row;
 mod traces;
 
-pub use bench::{Bench, MAX_WORD_LENGTH, MAX_WORDS};
+pub use bench::{Bench, MAX_LIMIT, MAX_WORD_LENGTH, MAX_WORDS};
 pub use class::Class;
 pub use fault::EditFault;
 pub use row::Row;
 pub use sbl_script::ScriptFault;
-pub use traces::MAX_STEPS;

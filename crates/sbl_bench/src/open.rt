@@ -8,13 +8,15 @@ ghost use Rattle.indexmap.specs.Entry.{entry_map};
 ghost use Rattle.sbl_bench.specs.Vocabulary.{is_word, with_word};
 ghost use Rattle.sbl_bench.specs.Contents.{is_full, word_fault, IsFaultOrMemory};
 ghost use Rattle.sbl_bench.specs.Kept.{words_in, IsKept};
+ghost use Rattle.sbl_machine.specs.Limit.{default_limit};
+ghost use Rattle.sbl_bench.specs.Setting.{under};
 
 use crate::bench::{Bench, MAX_WORD_LENGTH, MAX_WORDS};
 use crate::fault::EditFault;
-use crate::traces::{MAX_STEPS, has_word};
+use crate::traces::has_word;
 use indexmap::IndexMap;
 use indexmap::map::{Entry, OccupiedEntry};
-use sbl_machine::{Machine, Meter, Table, Traced};
+use sbl_machine::{DEFAULT_LIMIT, Machine, Meter, Table, Traced};
 use sbl_script::Script;
 use std::alloc::Global;
 
@@ -23,11 +25,11 @@ impl Bench {
     ghost use Rattle.sbl_bench.specs.Contents.{Opens};
     ghost use Rattle.sbl_script.specs.Parsed.{source_of};
 
-    /// The bench of a script and a list of words. The words are taken in order: empty words and repeats are skipped, so that a
-    /// word's first place is kept, and each word of the vocabulary is run once.
+    /// Returns the bench of a script and a list of words. The words are taken in order. Empty words and repeats are skipped, so
+    /// a word keeps its first position. Each word of the vocabulary is run once.
     ///
-    /// It answers WordTooLong at a word of more than 255 characters, a repeat too, and Full at a new word behind 100,000
-    /// others, whichever is met first, and OutOfMemory where a growth is refused. Then there is no bench. (Our own choice.)
+    /// Returns `WordTooLong` at a word of more than 255 characters, even if it is a repeat, and `Full` at a new word after
+    /// 100,000 others, whichever comes first. Returns `OutOfMemory` if an allocation fails. (Our own choice.)
     pub fn open(alloc: Global, script: Script, words: Vec<Vec<char>>) -> Result<Bench, EditFault>
         ensures { Opens (source_of script) (map (λ w. w.items) words.items) (λ b. contents_of b) result }
     {
@@ -41,6 +43,7 @@ impl Bench {
             alloc,
             script,
             machine,
+            limit: DEFAULT_LIMIT,
             traces,
             meter,
         })
@@ -54,8 +57,8 @@ fn has_no_room(traces: &IndexMap<Vec<char>, Traced>, word: &[char]) -> bool
     traces.len() >= MAX_WORDS && !has_word(traces, word)
 }
 
-/// Takes one word of the list that a bench is opened over: skips it where it is empty or one of those that are kept, or runs it and
-/// puts it last. It answers WordTooLong, Full or OutOfMemory as `Bench::open` does.
+/// Takes one word of the list. Skips the word if it is empty or in the vocabulary; otherwise runs it and appends it. Returns
+/// `WordTooLong`, `Full` or `OutOfMemory` as `Bench::open` does.
 fn take_word(
     alloc: Global,
     machine: &Machine<Table>,
@@ -66,7 +69,7 @@ fn take_word(
     requires counted { meter.old ≡ length traces.old.entries }
     requires room { length traces.old.entries ≤ 100000 }
     ensures words { OnOk result (words_in traces.new.entries ≡ with_word (words_in traces.old.entries) word.items) }
-    ensures kept { OnOk result ((s : Source) → IsLinkedMachineOf machine.now s → IsKept s traces.old.entries → IsKept s traces.new.entries) }
+    ensures kept { OnOk result ((s : Source) → IsLinkedMachineOf machine.now s → IsKept (under s default_limit) traces.old.entries → IsKept (under s default_limit) traces.new.entries) }
     ensures counted { OnOk result (meter.new ≡ length traces.new.entries) }
     ensures ok { OnOk result (word_fault (words_in traces.old.entries) word.items ≡ None) }
     ensures fault { IfErr result (λ f. IsFaultOrMemory (word_fault (words_in traces.old.entries) word.items) f) }
@@ -86,15 +89,15 @@ fn take_word(
     match entry {
         Entry::Occupied(entry) => leave(entry),
         Entry::Vacant(entry) => {
-            let traced = machine.trace(alloc, meter, entry.key().as_slice(), MAX_STEPS)?;
+            let traced = machine.trace(alloc, meter, entry.key().as_slice(), DEFAULT_LIMIT)?;
             entry.insert(traced);
         }
     }
     Ok(())
 }
 
-// Leaves a word's entry, and the others, as they are. (The map promises this of an entry that is swapped with itself, but nothing of
-// one that is dropped.)
+// Leaves the entry of a word, and the others, unchanged. (The map promises this for an entry that is swapped with itself, but
+// promises nothing for an entry that is dropped.)
 fn leave(entry: OccupiedEntry<'_, Vec<char>, Traced>)
     ensures { entry.exit.0.now.entries ≡ (entry_map (Occupied entry.entry)).entries }
 {

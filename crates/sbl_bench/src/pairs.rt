@@ -1,23 +1,23 @@
-//! The set of pairs of a stem and a word that has it: the classes of the vocabulary, in order.
+//! The set of pairs of a stem and a word that has it. In order, it gives the classes of the vocabulary.
 
 ghost use Rattle.std.specs.Prelude.{◌≡◌, ◌||◌, IfOk, OnOk, OnErr};
 ghost use Rattle.sbl_machine.specs.Outcome.{outcome_of};
 ghost use Rattle.sbl_bench.specs.Pairs.{ArePaired, Key, has, is_pair_of};
 
+use crate::traces::words_are_unique;
 use indexmap::IndexMap;
 use sbl_machine::{Outcome, Traced};
 use std::alloc::{AllocError, Global};
 use std::collections::BTreeSet;
 
-/// The pairs of the words that have a stem. It answers AllocError where a growth is refused.
+/// Returns the pairs of the words that have a stem. Returns `AllocError` if an allocation fails.
 pub(crate) fn pairs_of(
     alloc: Global,
     traces: &IndexMap<Vec<char>, Traced>,
 ) -> Result<BTreeSet<(Vec<char>, Vec<char>)>, AllocError>
     ensures { IfOk result (λ pairs. ArePaired traces.now.entries pairs) }
 {
-    // The count says besides that no word stands twice.
-    let _count = traces.len();
+    words_are_unique(traces);
     let mut pairs = BTreeSet::new(alloc);
     for (word, traced) in traces.iter() {
         insert_pair(alloc, &mut pairs, word.as_slice(), &traced.outcome)?;
@@ -25,8 +25,8 @@ pub(crate) fn pairs_of(
     Ok(pairs)
 }
 
-/// The set gains the pair of this word, if it has a stem. It answers AllocError where a growth is refused; then it has what it
-/// had.
+/// Inserts the pair of this word into the set, if the word has a stem. Returns `AllocError` if an allocation fails; the set is
+/// unchanged then.
 fn insert_pair(
     alloc: Global,
     pairs: &mut BTreeSet<(Vec<char>, Vec<char>)>,

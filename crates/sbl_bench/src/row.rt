@@ -1,4 +1,4 @@
-//! A row: a word and what the script makes of it.
+//! A row: a word and the outcome of its run.
 
 use sbl_machine::Outcome;
 
@@ -7,6 +7,6 @@ use sbl_machine::Outcome;
 pub struct Row<'a> {
     /// The word's characters.
     pub word: &'a [char],
-    /// Its stem, or why its run is refused.
+    /// Its stem, or the fault of its run.
     pub outcome: &'a Outcome,
 }

@@ -1,10 +1,14 @@
-//! The words that a bench keeps, each with its last run, outside the bench itself.
+//! The words of a bench, each with its last run, apart from the bench itself.
 
 ghost use Rattle.std.specs.Prelude.{◌≡◌, ◌≤◌, ◌<◌, ◌+◌, ◌^◌, ◌++◌, [], ◌∷◌, false, length, OnOk, OnErr, IfErr};
+ghost use Rattle.std.specs.Str.{bytes_eq};
+ghost use Rattle.indexmap.specs.IndexMap.{IsUnique};
 ghost use Rattle.sbl_script.specs.Parsed.{Source};
 ghost use Rattle.sbl_machine.specs.MachineOf.{IsLinkedMachineOf};
 ghost use Rattle.sbl_bench.specs.Vocabulary.{is_word};
 ghost use Rattle.sbl_bench.specs.Kept.{words_in, IsWord, IsKept};
+ghost use Rattle.sbl_bench.specs.Pairs.{Text};
+ghost use Rattle.sbl_bench.specs.Setting.{under};
 ghost use Rattle.sbl_bench.specs.Stops.{IsStop};
 
 use crate::fault::EditFault;
@@ -12,21 +16,26 @@ use indexmap::IndexMap;
 use sbl_machine::{Machine, Meter, Table, Traced};
 use std::alloc::Global;
 
-/// The most steps of a run (our own choice).
-pub const MAX_STEPS: u32 = 100_000;
+/// A map does not contain a word twice.
+pub(crate) fn words_are_unique(traces: &IndexMap<Vec<char>, Traced>)
+    ensures { IsUnique (λ (x y : Text). bytes_eq x.items y.items) traces.now }
+{
+    let _count = traces.len();
+}
 
-/// Whether the word is one of those that are kept. Takes no memory.
+/// Returns whether the word is in the vocabulary. Does not allocate.
 pub(crate) fn has_word(traces: &IndexMap<Vec<char>, Traced>, word: &[char]) -> bool
     ensures { result ≡ is_word word.now (words_in traces.now.entries) }
 {
     traces.contains_key(word)
 }
 
-/// Runs a new word once and puts it last, with its run. It answers OutOfMemory where a growth is refused and MeterFull where
-/// no run can be counted any more; then the words and their runs are left as they were, and at MeterFull the count.
+/// Runs a new word once and appends it, with its run. Returns `OutOfMemory` if an allocation fails and `MeterFull` if no
+/// further run can be counted. Then the words and their runs are unchanged, and after `MeterFull` the count too.
 pub(crate) fn put_last(
     alloc: Global,
     machine: &Machine<Table>,
+    limit: u32,
     meter: &mut Meter,
     traces: &mut IndexMap<Vec<char>, Traced>,
     word: Vec<char>,
@@ -35,13 +44,13 @@ pub(crate) fn put_last(
     requires new { is_word word.items (words_in traces.old.entries) ≡ false }
     requires room { length traces.old.entries < 100000 }
     ensures words { OnOk result (words_in traces.new.entries ≡ words_in traces.old.entries ++ word.items ∷ []) }
-    ensures kept { OnOk result ((s : Source) → IsLinkedMachineOf machine.now s → IsKept s traces.old.entries → IsKept s traces.new.entries) }
+    ensures kept { OnOk result ((s : Source) → IsLinkedMachineOf machine.now s → IsKept (under s limit) traces.old.entries → IsKept (under s limit) traces.new.entries) }
     ensures counted { OnOk result (meter.new ≡ meter.old + 1) }
     ensures err { OnErr result (traces.new.entries ≡ traces.old.entries) }
     ensures stop { IfErr result (λ f. IsStop 1 f meter.old meter.new) }
 {
     traces.reserve(1)?;
-    let traced = machine.trace(alloc, meter, word.as_slice(), MAX_STEPS)?;
+    let traced = machine.trace(alloc, meter, word.as_slice(), limit)?;
     traces.insert(word, traced).unwrap();
     Ok(())
 }

@@ -1,6 +1,6 @@
 use Rattle.std.proofs.Common.{◌≡◌, ◌∙◌, cond, Some, length, refl, arith}
 use Rattle.std.specs.Str.{bytes_eq}
-use Rattle.sbl_script.specs.Parsed.{Source}
+use Rattle.sbl_bench.specs.Setting.{Setting}
 use Rattle.sbl_bench.specs.Changes.{AreAnew}
 use Rattle.sbl_bench.specs.Pairs.{Text, find}
 use Rattle.sbl_bench.proofs.ChangeFacts.{anew_done, anew_step, anew_there}
@@ -11,7 +11,7 @@ loop-change-init c = record { anew = λ script anew. anew; some = c.requires; ke
 
 pub loop-change-preserved : goal.loop-change-preserved
 loop-change-preserved c =
-    let step : (script : Source) → AreAnew script c.loop-change.traces.entries c.loop-change.changes.items
+    let step : (script : Setting) → AreAnew script c.loop-change.traces.entries c.loop-change.changes.items
     → ((w : Text) → find w.items c.commit_one.new.traces.entries ≡ cond (bytes_eq c.in-Some.change.word.items w.items) (Some c.in-Some.change.traced) (find w.items c.loop-change.traces.entries))
     → AreAnew script c.commit_one.new.traces.entries c.pop.new.self.items = λ script. anew_step script c.loop-change.traces.entries c.commit_one.new.traces.entries c.in-Some.change c.loop-change.changes.items c.pop.new.self.items c.in-Some.ensures.items in
     record {

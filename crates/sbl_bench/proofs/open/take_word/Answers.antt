@@ -4,9 +4,10 @@ use Rattle.indexmap.specs.declared.map.entry.Entry.TheVariants.{Vacant}
 use Rattle.indexmap.specs.Entry.{map_with_value}
 use Rattle.sbl_script.specs.Parsed.{Source}
 use Rattle.sbl_machine.specs.MachineOf.{IsLinkedMachineOf}
-use Rattle.sbl_machine.specs.Outcome.{run_of, touches_of}
+use Rattle.sbl_machine.specs.Outcome.{run_of, touches_of, used_of}
 use Rattle.sbl_bench.specs.Kept.{words_in, IsKept, IsWord}
-use Rattle.sbl_bench.specs.Rows.{max_steps}
+use Rattle.sbl_machine.specs.Limit.{default_limit}
+use Rattle.sbl_bench.specs.Setting.{under}
 use Rattle.sbl_bench.specs.Vocabulary.{with_word}
 use Rattle.sbl_bench.proofs.Words.{found_word, words-push, kept-push}
 use Rattle.sbl_bench.proofs.Taking.{comes_home, goes_last, skips, takes}
@@ -44,8 +45,9 @@ returns-in_ok-traced-in-Vacant-clause-kept c =
     let room : length old < 100000 = grind (arith, tests, new, c.has_no_room.ensures, c.if-has_no_room.false, length-map) in
     let some : nat_eq (length c.args.word.items) 0 ≡ false = ap (λ (n : ℕ). nat_eq n 0) (sym c.args.word.ok.0) ∙ sym c.is_empty.ensures ∙ c.if-is_empty.false in
     let sound : IsWord c.args.word.items = (grind (arith, tests, some), grind (arith, tests, c.args.word.ok.0, c.len.ensures, c.if-len-gt-MAX_WORD_LENGTH.false)) in
-    search (comes_home {left = map_with_value (Vacant c.in-Vacant.entry) c.insert.result.now} (λ es. (s : Source) → IsLinkedMachineOf c.args.machine.now s → IsKept s old → IsKept s es) _ home put
-    (λ s made kept. kept-push s old (c.args.word, c.in_ok-traced-in-Vacant.traced) kept sound room (record {
-      outcome = c.in_ok-traced-in-Vacant.ensures.outcome s made ∙ ap (λ w. run_of s w max_steps) read;
-      touches = c.in_ok-traced-in-Vacant.ensures.touches s made ∙ ap (λ w. touches_of s w max_steps) read;
+    search (comes_home {left = map_with_value (Vacant c.in-Vacant.entry) c.insert.result.now} (λ es. (s : Source) → IsLinkedMachineOf c.args.machine.now s → IsKept (under s default_limit) old → IsKept (under s default_limit) es) _ home put
+    (λ s made kept. kept-push (under s default_limit) old (c.args.word, c.in_ok-traced-in-Vacant.traced) kept sound room (record {
+      outcome = c.in_ok-traced-in-Vacant.ensures.outcome s made ∙ ap (λ w. run_of s w default_limit) read;
+      touches = c.in_ok-traced-in-Vacant.ensures.touches s made ∙ ap (λ w. touches_of s w default_limit) read;
+      used = c.in_ok-traced-in-Vacant.ensures.used s made ∙ ap (λ w. used_of s w default_limit) read;
     })))

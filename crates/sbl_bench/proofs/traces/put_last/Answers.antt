@@ -3,9 +3,9 @@ use Rattle.std.specs.Map.{lookup}
 use Rattle.std.specs.Str.{bytes_eq}
 use Rattle.std.specs.declared.vec.Vec.{Vec}
 use Rattle.std.specs.declared.alloc.Global.{Global}
-use Rattle.sbl_machine.specs.Outcome.{run_of, touches_of}
+use Rattle.sbl_machine.specs.Outcome.{run_of, touches_of, used_of}
 use Rattle.sbl_bench.specs.Kept.{KeptWord, words_in, IsKept}
-use Rattle.sbl_bench.specs.Rows.{max_steps}
+use Rattle.sbl_bench.specs.Setting.{under}
 use Rattle.indexmap.proofs.CallerLemmas.{insert_entry-new}
 use Rattle.sbl_bench.proofs.Words.{is_key, not_found, words-push, kept-push}
 use Rattle.sbl_bench.proofs.traces.put_last.Goals as goal
@@ -25,9 +25,10 @@ returns-clause-words c = ap words_in (goes_last c) ∙ words-push c.args.traces.
 
 pub returns-clause-kept : goal.returns-clause-kept
 returns-clause-kept c s made kept =
-    subst (IsKept s) (sym (goes_last c))
-    (kept-push s c.args.traces.now.entries (c.args.word, c.in_ok-traced.traced) kept c.requires.sound c.requires.room
+    subst (IsKept (under s c.args.limit)) (sym (goes_last c))
+    (kept-push (under s c.args.limit) c.args.traces.now.entries (c.args.word, c.in_ok-traced.traced) kept c.requires.sound c.requires.room
     (record {
-      outcome = c.in_ok-traced.ensures.outcome s made ∙ ap (λ (w : List ℕ). run_of s w max_steps) c.as_slice.ensures.value;
-      touches = c.in_ok-traced.ensures.touches s made ∙ ap (λ (w : List ℕ). touches_of s w max_steps) c.as_slice.ensures.value;
+      outcome = c.in_ok-traced.ensures.outcome s made ∙ ap (λ (w : List ℕ). run_of s w c.args.limit) c.as_slice.ensures.value;
+      touches = c.in_ok-traced.ensures.touches s made ∙ ap (λ (w : List ℕ). touches_of s w c.args.limit) c.as_slice.ensures.value;
+      used = c.in_ok-traced.ensures.used s made ∙ ap (λ (w : List ℕ). used_of s w c.args.limit) c.as_slice.ensures.value;
     }))

@@ -1,10 +1,11 @@
 use Rattle.std.proofs.Common.{◌∙◌, List, ℕ, Some, None, ap, map, option_map, sym}
 use Rattle.sbl_script.specs.Parsed.{source_of}
+use Rattle.sbl_bench.specs.Setting.{under}
 use Rattle.sbl_machine.specs.declared.outcome.Outcome.{Outcome}
 use Rattle.sbl_machine.specs.Outcome.{outcome_of}
 use Rattle.sbl_bench.specs.Classes.{class_of, class_with, stem_of}
 use Rattle.sbl_bench.specs.Grouping.{words_paired}
-use Rattle.sbl_bench.specs.Kept.{Kept, words_in}
+use Rattle.sbl_bench.specs.Kept.{setting_of, Kept, words_in}
 use Rattle.sbl_bench.specs.Pairs.{plain}
 use Rattle.sbl_bench.specs.Rows.{rows_of}
 use Rattle.sbl_bench.proofs.ClassFacts.{class_found, words_kept}
@@ -13,27 +14,27 @@ use Rattle.sbl_bench.proofs.bench.Bench.class_of.Goals as goal
 pub returns-in_ok-stem-in-Stem : goal.returns-in_ok-stem-in-Stem
 returns-in_ok-stem-in-Stem c =
     let b = c.self.inside in
-    let rows = rows_of (source_of b.script) (words_in b.traces.entries) in
+    let rows = rows_of (under (source_of b.script) b.limit) (words_in b.traces.entries) in
     let stem = c.in-Stem.stem.items in
     (λ i. Some (record {
       stem = (c.in_ok-stem-in-Stem.ensures.items ∙ c.as_slice-in-Stem.ensures.value) i;
       words =
           (c.in_ok-words-in-Stem.ensures.words ∙ ap (λ (s : List ℕ). words_paired s (map plain c.in_ok-pairs-in-Stem.pairs.keys)) c.as_slice.ensures.value
-          ∙ words_kept (source_of b.script) b.traces.entries c.in_ok-pairs-in-Stem.pairs stem c.self.invariant.1.fresh c.len-count.ensures.unique c.in_ok-pairs-in-Stem.ensures c.words_with.ensures.ordered c.words_with.ensures.found) i;
+          ∙ words_kept (under (source_of b.script) b.limit) b.traces.entries c.in_ok-pairs-in-Stem.pairs stem c.self.invariant.1.fresh c.words_are_unique.ensures c.in_ok-pairs-in-Stem.ensures c.words_with.ensures.ordered c.words_with.ensures.found) i;
     }))
     ∙ ap (λ (o : Outcome). option_map (class_with rows) (stem_of (outcome_of o))) (sym c.in-Stem.is)
-    ∙ class_found (source_of b.script) b.traces.entries c.args.word.now c.self.invariant.1.fresh (Some c.in-Some.traced.now) c.in-Some.ensures.value
-    ∙ ap (λ (k : Kept). class_of (rows_of (source_of k.script) k.words) c.args.word.now) c.self.view_is
+    ∙ class_found (under (source_of b.script) b.limit) b.traces.entries c.args.word.now c.self.invariant.1.fresh (Some c.in-Some.traced.now) c.in-Some.ensures.value
+    ∙ ap (λ (k : Kept). class_of (rows_of (setting_of k) k.words) c.args.word.now) c.self.view_is
 
 pub returns-in-Refused : goal.returns-in-Refused
 returns-in-Refused c =
     let b = c.self.inside in
-    ap (λ (o : Outcome). option_map (class_with (rows_of (source_of b.script) (words_in b.traces.entries))) (stem_of (outcome_of o))) (sym c.in-Refused.is)
-    ∙ class_found (source_of b.script) b.traces.entries c.args.word.now c.self.invariant.1.fresh (Some c.in-Some.traced.now) c.in-Some.ensures.value
-    ∙ ap (λ (k : Kept). class_of (rows_of (source_of k.script) k.words) c.args.word.now) c.self.view_is
+    ap (λ (o : Outcome). option_map (class_with (rows_of (under (source_of b.script) b.limit) (words_in b.traces.entries))) (stem_of (outcome_of o))) (sym c.in-Refused.is)
+    ∙ class_found (under (source_of b.script) b.limit) b.traces.entries c.args.word.now c.self.invariant.1.fresh (Some c.in-Some.traced.now) c.in-Some.ensures.value
+    ∙ ap (λ (k : Kept). class_of (rows_of (setting_of k) k.words) c.args.word.now) c.self.view_is
 
 pub returns-in_default : goal.returns-in_default
 returns-in_default c =
     let b = c.self.inside in
-    class_found (source_of b.script) b.traces.entries c.args.word.now c.self.invariant.1.fresh None c.in_default.ensures.value
-    ∙ ap (λ (k : Kept). class_of (rows_of (source_of k.script) k.words) c.args.word.now) c.self.view_is
+    class_found (under (source_of b.script) b.limit) b.traces.entries c.args.word.now c.self.invariant.1.fresh None c.in_default.ensures.value
+    ∙ ap (λ (k : Kept). class_of (rows_of (setting_of k) k.words) c.args.word.now) c.self.view_is

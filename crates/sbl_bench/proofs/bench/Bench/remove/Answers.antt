@@ -4,6 +4,7 @@ use Rattle.sbl_bench.specs.declared.fault.EditFault.TheVariants.{Absent}
 use Rattle.sbl_bench.specs.Edits.{Edits, Remove}
 use Rattle.sbl_bench.specs.Kept.{IsKept, Kept, contents_of, words_in}
 use Rattle.sbl_bench.specs.Contents.{Contents}
+use Rattle.sbl_bench.specs.Setting.{under}
 use Rattle.sbl_bench.proofs.Refusals.{no_word, removes}
 use Rattle.sbl_bench.proofs.Words.{found_word, kept-remove, words-remove}
 use Rattle.sbl_bench.proofs.bench.Bench.remove.Goals as goal
@@ -12,10 +13,10 @@ pub returns-in_default : goal.returns-in_default
 returns-in_default c =
     let es = c.self.inside.traces.entries in
     let word = c.args.word.now in
-    let s : Contents = record { script = source_of c.self.inside.script; words = words_in es; count = c.self.inside.meter } in
+    let s : Contents = record { setting = under (source_of c.self.inside.script) c.self.inside.limit; words = words_in es; count = c.self.inside.meter } in
     let same : words_in c.shift_remove_entry.new.self.entries ≡ words_in es = ap words_in c.in_default.ensures.unchanged in
     let absent = sym (found_word word es) ∙ ap is_some (sym c.in_default.ensures.value) in
-    subst (λ (k : Kept). Edits (Err Absent) (contents_of k) (Remove word) (record { script = source_of c.self.inside.script; words = words_in c.shift_remove_entry.new.self.entries; count = c.self.inside.meter })) c.self.view_is
+    subst (λ (k : Kept). Edits (Err Absent) (contents_of k) (Remove word) (record { setting = under (source_of c.self.inside.script) c.self.inside.limit; words = words_in c.shift_remove_entry.new.self.entries; count = c.self.inside.meter })) c.self.view_is
     (subst (λ (ws : List (List ℕ)). Edits (Err Absent) s (Remove word) (record s { words = ws })) (sym same) (no_word s word absent))
 
 pub invariant_of-self-2 : goal.invariant_of-self-2
@@ -23,14 +24,14 @@ invariant_of-self-2 c =
     let word = c.args.word.now in
     let es = c.self.inside.traces.entries in (
       c.self.invariant.0,
-      subst (IsKept (source_of c.self.inside.script)) (sym c.in-Some.ensures.entries) (kept-remove (source_of c.self.inside.script) word es c.self.invariant.1),
+      subst (IsKept (under (source_of c.self.inside.script) c.self.inside.limit)) (sym c.in-Some.ensures.entries) (kept-remove (under (source_of c.self.inside.script) c.self.inside.limit) word es c.self.invariant.1),
     )
 
 pub returns : goal.returns
 returns c =
     let es = c.self.inside.traces.entries in
     let word = c.args.word.now in
-    subst (λ (k : Kept). Edits (Ok tt) (contents_of k) (Remove word) (record { script = source_of c.self.inside.script; words = words_in c.shift_remove_entry.new.self.entries; count = c.self.inside.meter })) c.self.view_is
-    (removes (record { script = source_of c.self.inside.script; words = words_in es; count = c.self.inside.meter }) word (words_in c.shift_remove_entry.new.self.entries)
+    subst (λ (k : Kept). Edits (Ok tt) (contents_of k) (Remove word) (record { setting = under (source_of c.self.inside.script) c.self.inside.limit; words = words_in c.shift_remove_entry.new.self.entries; count = c.self.inside.meter })) c.self.view_is
+    (removes (record { setting = under (source_of c.self.inside.script) c.self.inside.limit; words = words_in es; count = c.self.inside.meter }) word (words_in c.shift_remove_entry.new.self.entries)
     (sym (found_word word es) ∙ ap is_some (sym c.in-Some.ensures.value))
     (ap words_in c.in-Some.ensures.entries ∙ words-remove word es))

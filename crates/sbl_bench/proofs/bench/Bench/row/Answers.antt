@@ -2,9 +2,10 @@ use Rattle.std.proofs.Common.{◌∙◌, List, ℕ, Some, Option, slice_get, ap,
 use Rattle.std.specs.Option.{option_map}
 use Rattle.std.proofs.lemmas.Option.{slice_get-map}
 use Rattle.sbl_script.specs.Parsed.{source_of}
+use Rattle.sbl_bench.specs.Setting.{under}
 use Rattle.sbl_machine.specs.declared.outcome.Outcome.{Outcome}
 use Rattle.sbl_machine.specs.Outcome.{outcome_of}
-use Rattle.sbl_bench.specs.Kept.{Kept}
+use Rattle.sbl_bench.specs.Kept.{setting_of, Kept}
 use Rattle.sbl_bench.specs.Rows.{Row, rows_of}
 use Rattle.sbl_bench.proofs.Words.{shown, rows_shown}
 use Rattle.sbl_bench.proofs.bench.Bench.row.Goals as goal
@@ -19,5 +20,5 @@ returns c =
     ap (λ (w : List ℕ). row_with w c.in_ok-word.traced.now.outcome) c.as_slice.ensures.value
     ∙ ap (option_map shown) c.in_ok-word.ensures.entry
     ∙ sym (slice_get-map shown es c.args.i)
-    ∙ ap (λ (rows : List Row). slice_get rows c.args.i) (rows_shown (source_of c.self.inside.script) es c.self.invariant.1.fresh)
-    ∙ ap (λ (k : Kept). slice_get (rows_of (source_of k.script) k.words) c.args.i) c.self.view_is
+    ∙ ap (λ (rows : List Row). slice_get rows c.args.i) (rows_shown (under (source_of c.self.inside.script) c.self.inside.limit) es c.self.invariant.1.fresh)
+    ∙ ap (λ (k : Kept). slice_get (rows_of (setting_of k) k.words) c.args.i) c.self.view_is

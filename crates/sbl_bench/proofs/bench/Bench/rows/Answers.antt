@@ -1,6 +1,7 @@
 use Rattle.std.proofs.Common.{◌∙◌, List, ap, map}
 use Rattle.sbl_script.specs.Parsed.{source_of}
-use Rattle.sbl_bench.specs.Kept.{KeptWord, Kept}
+use Rattle.sbl_bench.specs.Setting.{under}
+use Rattle.sbl_bench.specs.Kept.{setting_of, KeptWord, Kept}
 use Rattle.sbl_bench.specs.Rows.{rows_of}
 use Rattle.sbl_bench.proofs.Words.{shown, rows_shown}
 use Rattle.sbl_bench.proofs.bench.Bench.rows.Goals as goal
@@ -10,5 +11,5 @@ loop-word-init c =
     let es = c.self.inside.traces.entries in
     rw c.in_ok-rows.ensures.items (
     ap (λ (l : List KeptWord). map shown l) (c.into_iter-word-iterator.ensures.into_iter_gives ∙ c.iter-word-items.ensures.rest)
-    ∙ rows_shown (source_of c.self.inside.script) es c.self.invariant.1.fresh
-    ∙ ap (λ (k : Kept). rows_of (source_of k.script) k.words) c.self.view_is)
+    ∙ rows_shown (under (source_of c.self.inside.script) c.self.inside.limit) es c.self.invariant.1.fresh
+    ∙ ap (λ (k : Kept). rows_of (setting_of k) k.words) c.self.view_is)

@@ -1,8 +1,9 @@
 use Rattle.std.proofs.Common.{◌∙◌, List, ap}
-use Rattle.sbl_machine.specs.Touched.{items_in, items_of, routine_names}
+use Rattle.sbl_machine.specs.Touched.{items_in, items_of, names_of}
 use Rattle.sbl_run.specs.declared.touch.Touch.{Touch}
 use Rattle.sbl_script.specs.Parsed.{source_of}
-use Rattle.sbl_bench.specs.Kept.{Kept}
+use Rattle.sbl_bench.specs.Kept.{Kept, setting_of}
+use Rattle.sbl_bench.specs.Setting.{under}
 use Rattle.sbl_bench.specs.Traces.{trace_of}
 use Rattle.sbl_bench.proofs.Tracing.{no_trace, not_absent, trace_found}
 use Rattle.sbl_bench.proofs.bench.Bench.touched.Goals as goal
@@ -15,9 +16,9 @@ pub returns-in_ok-items-in-Some-clause-touched : goal.returns-in_ok-items-in-Som
 returns-in_ok-items-in-Some-clause-touched c =
     let b = c.self.inside in
     let script = source_of b.script in
-    trace_found script c.args.word.now b.traces.entries c.in-Some.traced.now (items_in c.in_ok-items-in-Some.items) c.self.invariant.1.fresh c.in-Some.ensures.value
-    (c.in_ok-items-in-Some.ensures script c.self.invariant.0 ∙ ap (λ (ts : List Touch). items_of (routine_names script) ts) c.as_slice.ensures.value)
-    ∙ ap (λ (k : Kept). trace_of (source_of k.script) k.words c.args.word.now) c.self.view_is
+    trace_found (under script b.limit) c.args.word.now b.traces.entries c.in-Some.traced.now (items_in c.in_ok-items-in-Some.items) c.self.invariant.1.fresh c.in-Some.ensures.value
+    (c.in_ok-items-in-Some.ensures script c.self.invariant.0 ∙ ap (λ (ts : List Touch). items_of (names_of script) ts) c.as_slice.ensures.value)
+    ∙ ap (λ (k : Kept). trace_of (setting_of k) k.words c.args.word.now) c.self.view_is
 
 pub returns-in_ok-items-in-Some-clause-absent : goal.returns-in_ok-items-in-Some-clause-absent
 returns-in_ok-items-in-Some-clause-absent c = λ absent.
@@ -26,5 +27,5 @@ returns-in_ok-items-in-Some-clause-absent c = λ absent.
 pub returns-in-None-clause-touched : goal.returns-in-None-clause-touched
 returns-in-None-clause-touched c =
     let b = c.self.inside in
-    no_trace (source_of b.script) c.args.word.now b.traces.entries c.in-None.ensures.value
-    ∙ ap (λ (k : Kept). trace_of (source_of k.script) k.words c.args.word.now) c.self.view_is
+    no_trace (under (source_of b.script) b.limit) c.args.word.now b.traces.entries c.in-None.ensures.value
+    ∙ ap (λ (k : Kept). trace_of (setting_of k) k.words c.args.word.now) c.self.view_is

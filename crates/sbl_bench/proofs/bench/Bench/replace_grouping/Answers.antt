@@ -1,0 +1,55 @@
+use Rattle.std.proofs.Common.{Err, subst, ap, ℕ, List}
+use Rattle.std.proofs.lemmas.Result.{err_from_is_err_and}
+use Rattle.sbl_script.specs.Edits.{ScriptEdit, terms}
+use Rattle.sbl_script.specs.Parsed.{source_of}
+use Rattle.sbl_bench.specs.Contents.{Contents}
+use Rattle.sbl_bench.specs.Setting.{under}
+use Rattle.sbl_bench.specs.Edits.{Edits, Grouping, fault_of_script}
+use Rattle.sbl_bench.specs.Kept.{Kept, contents_of, words_in}
+use Rattle.sbl_bench.specs.declared.fault.EditFault.TheVariants.{OutOfMemory}
+use Rattle.sbl_machine.specs.declared.item.Item.TheVariants as code
+use Rattle.sbl_machine.specs.Touched as items
+use Rattle.sbl_machine.specs.Touched.{item_of}
+use Rattle.sbl_bench.specs.Changes.{IsTaken}
+use Rattle.sbl_bench.proofs.Replacing.{nothing_made, passes, refused}
+use Rattle.sbl_bench.proofs.bench.Bench.replace_grouping.Goals as goal
+
+pub returns-in_err-script : goal.returns-in_err-script
+returns-in_err-script c =
+    let s : Contents = record { setting = under (source_of c.self.inside.script) c.self.inside.limit; words = words_in c.self.inside.traces.entries; count = c.self.inside.meter } in
+    let g = c.in_err-script.field-0.0 in
+    let p = err_from_is_err_and c.from_residual.result c.from_residual.ensures.1 in
+    rw (p.1, p.2) (subst (λ (k : Kept). Edits (Err (fault_of_script g)) (contents_of k) (Grouping c.args.name.now c.args.text.now) (contents_of k)) c.self.view_is
+    (refused s (terms c.args.name.now) c.args.text.now c.with_grouping.result c.with_grouping.ensures.missing g c.in_err-script.was c.in_err-script.ensures.fault))
+
+pub returns-in_err-from_str : goal.returns-in_err-from_str
+returns-in_err-from_str c =
+    let s : Contents = record { setting = under (source_of c.self.inside.script) c.self.inside.limit; words = words_in c.self.inside.traces.entries; count = c.self.inside.meter } in
+    let p = err_from_is_err_and c.from_residual-in_err-from_str.result c.from_residual-in_err-from_str.ensures.1 in
+    rw (p.1, p.2) (subst (λ (k : Kept). Edits (Err OutOfMemory) (contents_of k) (Grouping c.args.name.now c.args.text.now) (contents_of k)) c.self.view_is
+    (nothing_made s (terms c.args.name.now) c.args.text.now c.with_grouping.result c.with_grouping.ensures.missing c.in_ok-script.script c.in_ok-script.was))
+
+pub take_script-requires : goal.take_script-requires
+take_script-requires c =
+    let q = source_of c.in_ok-script.script in
+    let s : Contents = record { setting = under (source_of c.self.inside.script) c.self.inside.limit; words = words_in c.self.inside.traces.entries; count = c.self.inside.meter } in
+    let e : ScriptEdit = terms c.args.name.now in (
+      e,
+      c.args.text.now,
+      subst (λ (k : Kept). IsTaken (contents_of k) e c.args.text.now q (item_of (code.Grouping c.in_ok-from_str.field-0))) c.self.view_is (record {
+        edited = c.in_ok-script.ensures.script;
+        replaces = ap items.Grouping c.in_ok-from_str.ensures.ok;
+        passes = passes s e c.args.text.now c.with_grouping.result c.with_grouping.ensures.missing c.in_ok-script.script c.in_ok-script.was;
+      }),
+    )
+
+pub returns : goal.returns
+returns c =
+    let q = source_of c.in_ok-script.script in
+    let s : Contents = record { setting = under (source_of c.self.inside.script) c.self.inside.limit; words = words_in c.self.inside.traces.entries; count = c.self.inside.meter } in
+    let e : ScriptEdit = terms c.args.name.now in
+    c.take_script.ensures e c.args.text.now (subst (λ (k : Kept). IsTaken (contents_of k) e c.args.text.now q (item_of (code.Grouping c.in_ok-from_str.field-0))) c.self.view_is (record {
+      edited = c.in_ok-script.ensures.script;
+      replaces = ap items.Grouping c.in_ok-from_str.ensures.ok;
+      passes = passes s e c.args.text.now c.with_grouping.result c.with_grouping.ensures.missing c.in_ok-script.script c.in_ok-script.was;
+    }))

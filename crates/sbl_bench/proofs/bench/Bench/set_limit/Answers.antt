@@ -1,0 +1,91 @@
+use Rattle.std.proofs.Common.{◌≡◌, ℕ, true, List, All, Ok, Err, inl, length, ap, sym, refl, subst, arith}
+use Rattle.std.proofs.lemmas.List.{length-map}
+use Rattle.std.proofs.lemmas.Result.{err_from_is_err_and}
+use Rattle.sbl_script.specs.Parsed.{source_of}
+use Rattle.sbl_bench.specs.Changes.{Brings, affected_of}
+use Rattle.sbl_bench.specs.Edits.{Edit, Edits, Limit, is_limit}
+use Rattle.sbl_bench.specs.Kept.{KeptWord, IsWord, Kept, contents_of, words_in}
+use Rattle.sbl_bench.specs.Contents.{Contents}
+use Rattle.sbl_bench.specs.Setting.{under}
+use Rattle.sbl_bench.proofs.Bringing.{limit_brings}
+use Rattle.sbl_bench.proofs.Meeting.{anew, still}
+use Rattle.sbl_bench.proofs.Reruns.{made, stopped}
+use Rattle.sbl_bench.proofs.bench.Bench.set_limit.Goals as goal
+
+words_length : (es : List KeptWord) → length (words_in es) ≡ length es
+words_length es = length-map es _
+
+pub returns-in_default : goal.returns-in_default
+returns-in_default c = (inl (c.in_default.ensures, refl), refl)
+
+pub returns-in_err-changes : goal.returns-in_err-changes
+returns-in_err-changes c =
+    let p = source_of c.self.inside.script in
+    let l = c.self.inside.limit in
+    let n = c.in-Some.limit in
+    let es = c.self.inside.traces.entries in
+    let a = affected_of c.above_smaller-affected.result in
+    let e : Edit = Limit n in
+    let t = under p n in
+    let s : Contents = record { setting = under p l; words = words_in es; count = c.self.inside.meter } in
+    let ok : is_limit n ≡ true = subst (λ (m : ℕ). is_limit m ≡ true) (sym c.in-Some.ensures.0) c.in-Some.ensures.1 in
+    let b : Brings s e t a = subst (Brings s e t) (sym c.above_smaller-affected.ensures) (limit_brings c.used_steps_suffice.ensures.suffice c.used_steps_suffice.ensures.touch s n ok) in
+    let g = c.in_err-changes.field-0.0 in
+    let f = err_from_is_err_and c.from_residual.result c.from_residual.ensures.1 in
+    let after : Contents = record { setting = under p l; words = words_in es; count = c.rerun.new.meter } in
+    rw (f.1, f.2) (subst (λ (m : ℕ). Edits (Err g) (contents_of c.args.self.now) (Limit m) after) c.in-Some.ensures.0
+    (subst (λ (k : Kept). Edits (Err g) (contents_of k) e after) c.self.view_is
+    (stopped s e t a es b refl c.self.invariant.1.fresh g c.rerun.new.meter c.in_err-changes.ensures.stop)))
+
+pub make_changes-requires-clause-changes : goal.make_changes-requires-clause-changes
+make_changes-requires-clause-changes c =
+    let p = source_of c.self.inside.script in
+    let l = c.self.inside.limit in
+    let n = c.in-Some.limit in
+    let es = c.self.inside.traces.entries in
+    let a = affected_of c.above_smaller-affected.result in
+    let e : Edit = Limit n in
+    let t = under p n in
+    let s : Contents = record { setting = under p l; words = words_in es; count = c.self.inside.meter } in
+    let ok : is_limit n ≡ true = subst (λ (m : ℕ). is_limit m ≡ true) (sym c.in-Some.ensures.0) c.in-Some.ensures.1 in
+    let b : Brings s e t a = subst (Brings s e t) (sym c.above_smaller-affected.ensures) (limit_brings c.used_steps_suffice.ensures.suffice c.used_steps_suffice.ensures.touch s n ok) in
+    (t, anew a t es c.in_ok-changes.changes.items (c.in_ok-changes.ensures.changes p c.self.invariant.0) (still s.setting t a b.stays es c.self.invariant.1.fresh))
+
+pub invariant_of-self-2 : goal.invariant_of-self-2
+invariant_of-self-2 c =
+    let p = source_of c.self.inside.script in
+    let l = c.self.inside.limit in
+    let n = c.in-Some.limit in
+    let es = c.self.inside.traces.entries in
+    let a = affected_of c.above_smaller-affected.result in
+    let e : Edit = Limit n in
+    let t = under p n in
+    let s : Contents = record { setting = under p l; words = words_in es; count = c.self.inside.meter } in
+    let ok : is_limit n ≡ true = subst (λ (m : ℕ). is_limit m ≡ true) (sym c.in-Some.ensures.0) c.in-Some.ensures.1 in
+    let b : Brings s e t a = subst (Brings s e t) (sym c.above_smaller-affected.ensures) (limit_brings c.used_steps_suffice.ensures.suffice c.used_steps_suffice.ensures.touch s n ok) in
+    let fs = c.make_changes.new.traces.entries in
+    let words = c.make_changes.ensures.words in (
+      c.self.invariant.0,
+      record {
+        fresh = c.make_changes.ensures.fresh t (anew a t es c.in_ok-changes.changes.items (c.in_ok-changes.ensures.changes p c.self.invariant.0) (still s.setting t a b.stays es c.self.invariant.1.fresh));
+        sound = subst (All IsWord) (sym words) c.self.invariant.1.sound;
+        room = let x = words_length fs in let y = words_length es in let z = ap length words in let r = c.self.invariant.1.room in omega arith;
+      },
+    )
+
+pub returns : goal.returns
+returns c =
+    let p = source_of c.self.inside.script in
+    let l = c.self.inside.limit in
+    let n = c.in-Some.limit in
+    let es = c.self.inside.traces.entries in
+    let a = affected_of c.above_smaller-affected.result in
+    let e : Edit = Limit n in
+    let t = under p n in
+    let s : Contents = record { setting = under p l; words = words_in es; count = c.self.inside.meter } in
+    let ok : is_limit n ≡ true = subst (λ (m : ℕ). is_limit m ≡ true) (sym c.in-Some.ensures.0) c.in-Some.ensures.1 in
+    let b : Brings s e t a = subst (Brings s e t) (sym c.above_smaller-affected.ensures) (limit_brings c.used_steps_suffice.ensures.suffice c.used_steps_suffice.ensures.touch s n ok) in
+    let after : Contents = record { setting = t; words = words_in c.make_changes.new.traces.entries; count = c.rerun.new.meter } in
+    subst (λ (m : ℕ). Edits (Ok tt) (contents_of c.args.self.now) (Limit m) after) c.in-Some.ensures.0
+    (subst (λ (k : Kept). Edits (Ok tt) (contents_of k) e after) c.self.view_is
+    (made s e t a es b refl c.self.invariant.1.fresh c.make_changes.new.traces.entries c.rerun.new.meter c.make_changes.ensures.words c.in_ok-changes.ensures.room c.in_ok-changes.ensures.counted))

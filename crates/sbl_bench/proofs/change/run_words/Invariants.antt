@@ -1,0 +1,15 @@
+use Rattle.std.proofs.Common.{◌≡◌, ◌+◌, ◌++◌, ◌≤◌, drop, length, map}
+use Rattle.sbl_script.specs.Parsed.{Source}
+use Rattle.sbl_machine.specs.MachineOf.{IsLinkedMachineOf}
+use Rattle.sbl_bench.specs.Changes.{reruns, view_change}
+use Rattle.sbl_bench.specs.Setting.{under}
+use Rattle.sbl_bench.proofs.change.run_words.Given as goal
+
+-- the changes so far, and those of the words still to come; each word before these was run once
+abbrev pub invariant-loop-word : goal.invariant-loop-word
+invariant-loop-word l = record {
+  changes : (s : Source) → IsLinkedMachineOf l.machine s
+      → map view_change l.changes.items ++ reruns (under s l.limit) (map (λ w. w.now) (drop l.word-index l.words)) ≡ reruns (under s l.limit) (map (λ w. w.now) l.words);
+  counted : l.meter + length (drop l.word-index l.words) ≡ l.fn.meter + length l.words;
+  more : l.fn.meter ≤ l.meter;
+}
