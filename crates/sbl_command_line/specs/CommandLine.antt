@@ -1,14 +1,14 @@
--- The command line as a definition of `clap`, and what a list of words asks for by it.
+-- The command line as a definition of `clap`, and its result for a list of words.
 use Rattle.std.specs.Prelude.{true, List, [], ◌∷◌, Option, Some, codes, option_map, option_and_then}
 use Rattle.clap.specs.Words.{App, Rule, Text, first_of, new_app, new_rule, subcommand_of, with_rule, with_subcommand}
 use Rattle.sbl_command_line.specs.declared.command_line.Verb.{Verb}
 use Rattle.sbl_command_line.specs.declared.command_line.Verb.TheVariants.{Session, Stem, Check}
 
--- `--external NAME`, with one name for its one value, and `stem` where it is not given
+-- `--external NAME`: an option with one value, by default `stem`
 abbrev pub external : Rule
 external = record (new_rule (codes "external")) { long = Some (codes "external"); value_names = 1; defaults = codes "stem" ∷ [] }
 
--- a subcommand with that option
+-- a subcommand with this option
 abbrev pub verb_app : Text → App
 verb_app name = with_rule (new_app name) external
 
@@ -16,7 +16,7 @@ verb_app name = with_rule (new_app name) external
 abbrev pub top : App
 top = new_app (codes "snowbench")
 
--- with no word behind the program's name it gives its help, and else a subcommand has to stand there
+-- with no word after its name the program prints its help; otherwise a subcommand is required
 abbrev pub asking : App
 asking = record top { top = record top.top { subcommand_required = true; arg_required_else_help = true } }
 
@@ -25,12 +25,12 @@ program = with_subcommand (with_subcommand (with_subcommand
     asking
     (verb_app (codes "session")).top) (verb_app (codes "stem")).top) (verb_app (codes "check")).top
 
--- the name of a verb's subcommand
+-- the name of a subcommand
 abbrev pub verb_name : Verb → Text
 verb_name Session = codes "session"
 verb_name Stem = codes "stem"
 verb_name Check = codes "check"
 
--- the subcommand that the words name, and the value of its option
+-- the subcommand in these words, and the value of its option
 abbrev pub wanted_of : List Text → Option (Text × Text)
 wanted_of words = option_and_then (λ p. option_map (λ name. (p.0, name)) (first_of (codes "external") p.1)) (subcommand_of program words)

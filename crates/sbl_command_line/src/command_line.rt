@@ -1,4 +1,4 @@
-//! The words of the command line, through `clap`.
+//! The command line, defined with `clap`.
 ghost use Rattle.std.specs.Prelude.{◌≡◌, IfOk, Some, map};
 ghost use Rattle.std.specs.String.{string_bytes};
 ghost use Rattle.clap.specs.Words.{app_of};
@@ -8,31 +8,31 @@ use clap::error::ErrorKind;
 use clap::{Arg, Command, Error};
 use std::alloc::{AllocError, Global};
 
-/// What the program is asked to do.
+/// The subcommands of the program.
 #[derive(Clone, Copy, Debug, PartialEq, Eq)]
 pub enum Verb {
-    /// To answer the commands of a session.
+    /// Runs the commands of a session.
     Session,
-    /// To give the stem of each word of a vocabulary.
+    /// Writes the stem of each word of a vocabulary.
     Stem,
-    /// To hold stems against those that are expected.
+    /// Compares stems with the expected stems.
     Check,
 }
 
-/// What a command line asks for: a verb, and the external that is run.
+/// What a command line asks for: a subcommand and the external to run.
 #[derive(Debug, Drop)]
 pub struct Wanted {
-    /// What is to be done.
+    /// The subcommand.
     pub verb: Verb,
-    /// The external that is run.
+    /// The external to run.
     pub external: String,
 }
 
-/// The first lines of the program's help.
+/// The first lines of the help of the program.
 const ABOUT: &str =
     "Runs Snowball stemmers over a vocabulary, and keeps the answers true while the script is edited";
 
-/// The last lines of the program's help.
+/// The last lines of the help of the program.
 const READ_ON: &str = "\
 Everything is read from standard input. A script stands first, up to a line that is only a point.
 Answers go to standard output; a fault is one line on standard error, and ends with status 1.
@@ -44,10 +44,10 @@ Example:
 'snowbench COMMAND --help' says what each command reads and writes. To read on: README.md,
 docs/LANGUAGE.md (the language of scripts), docs/SESSION.md (input, commands, faults, limits).";
 
-/// The first lines of help on `session`.
+/// The first lines of the help of `session`.
 const ABOUT_SESSION: &str = "Answers commands that add words and edit the script";
 
-/// The last lines of help on `session`.
+/// The last lines of the help of `session`.
 const HELP_SESSION: &str = "\
 In:   the lines of a script, a line '.', words (one a line), a line '.', and then commands.
 Out:  the answer to each command, before the next line is read: 'ok' or 'no' and the reason
@@ -63,10 +63,10 @@ writes
 
 To read on: docs/SESSION.md has every command with its answers.";
 
-/// The first lines of help on `stem`.
+/// The first lines of the help of `stem`.
 const ABOUT_STEM: &str = "Writes the stem of each word";
 
-/// The last lines of help on `stem`.
+/// The last lines of the help of `stem`.
 const HELP_STEM: &str = "\
 In:   the lines of a script, a line '.', and words (one a line) up to a line '.' or the end.
 Out:  a row for each word, 'WORD,stem,STEM', or 'WORD,refused,NAME' where its run is refused.
@@ -81,10 +81,10 @@ writes
 
 To read on: docs/LANGUAGE.md for scripts, docs/SESSION.md for rows and refusals.";
 
-/// The first lines of help on `check`.
+/// The first lines of the help of `check`.
 const ABOUT_CHECK: &str = "Writes where stems differ from those that are expected";
 
-/// The last lines of help on `check`.
+/// The last lines of the help of `check`.
 const HELP_CHECK: &str = "\
 In:   the lines of a script, a line '.', words (one a line), a line '.', and the expected stems,
       one for each word, to the end of input.
@@ -100,7 +100,7 @@ writes
 
 To read on: docs/SESSION.md.";
 
-/// The definition of a subcommand: `--external NAME`, and `stem` where it is not given.
+/// Returns the definition of a subcommand, with the option `--external NAME` and its default `stem`.
 fn verb_command<'a>(
     alloc: Global,
     name: &'a str,
@@ -118,7 +118,7 @@ fn verb_command<'a>(
     Ok(command.about(about).after_help(help))
 }
 
-/// The definition of the command line: one of three subcommands.
+/// Returns the definition of the command line, with three subcommands.
 fn make_program<'a>(alloc: Global) -> Result<Command<'a>, AllocError>
     ensures { IfOk result (λ c. app_of c ≡ program) }
 {
@@ -133,13 +133,14 @@ fn make_program<'a>(alloc: Global) -> Result<Command<'a>, AllocError>
         .subcommand(verb_command(alloc, "check", ABOUT_CHECK, HELP_CHECK)?)
 }
 
-/// What the words of a command line ask for, the program's name the first of them: one of the subcommands `session`, `stem`
-/// and `check`, and the value of its option `--external`, `stem` where it is not given, all as `clap` reads them.
+/// Parses the words of a command line, the first of which is the name of the program: one of the subcommands `session`,
+/// `stem` and `check`, and the value of its option `--external`, by default `stem`. `clap` does the parsing.
 ///
 /// # Errors
 ///
-/// Whatever `clap` refuses: no subcommand or an unknown word, an option without its value or given twice, and also each
-/// request for help, whose text is then the error's. A refused growth is an error of its own kind.
+/// Returns an error if `clap` refuses the words: there is no subcommand or an unknown word, or an option has no value
+/// or is given twice. A request for help is also an error, with the help as its text. A failed allocation is an error
+/// of its own kind.
 pub fn read_words<'a>(alloc: Global, words: &'a [String]) -> Result<Wanted, Error>
     ensures { IfOk result (λ wanted. wanted_of (map string_bytes words.now) ≡ Some (verb_name wanted.verb, string_bytes wanted.external)) }
 {

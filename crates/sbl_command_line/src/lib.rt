@@ -1,4 +1,4 @@
-//! The words of the command line: what they ask for, through `clap`, and the help that they are answered with.
+//! The command line, defined with `clap`: its arguments and its help.
 #![tactic(auto)]
 
 mod command_line;

@@ -9,8 +9,8 @@ use Rattle.std.specs.Io.KnownBytes.{Appends}
 use Rattle.std.specs.declared.vec.Vec.{Vec}
 use Rattle.std.specs.declared.alloc.Global.{Global}
 use Rattle.sbl_script.specs.Parsed.{Source}
+use Rattle.sbl_machine.specs.Limit.{default_limit}
 use Rattle.sbl_machine.specs.Outcome.{Outcome', run_of}
-use Rattle.sbl_bench.specs.Rows.{max_steps}
 use Rattle.sbl_differences.specs.Checking.{Compared, ComparesPair, IsRow, count}
 use Rattle.sbl_differences.specs.Differences.{Got, Refused, IsChecked, all_differences, difference, differences, ending, line_fault, made_of, of_outcome, pair_fault, row_of}
 use Rattle.sbl_lines.specs.LinesOf.{lines_of}
@@ -23,7 +23,7 @@ use Rattle.sbl_lines.specs.declared.faults.ServeFault.TheVariants as fault
 pub made_too_long : (script : Source) (word : List ℕ) → 255 < length word → Refused (codes "WordTooLong") ≡ made_of script word
 made_too_long script word long = let test : nat_lt 255 (length word) ≡ true = grind (arith, nat_tests) in rw test refl
 
-pub made_by_run : (script : Source) (word : List ℕ) (o : Outcome') → length word ≤ 255 → o ≡ run_of script word max_steps → of_outcome o ≡ made_of script word
+pub made_by_run : (script : Source) (word : List ℕ) (o : Outcome') → length word ≤ 255 → o ≡ run_of script word default_limit → of_outcome o ≡ made_of script word
 made_by_run script word o fits is = let test : nat_lt 255 (length word) ≡ false = grind (arith, nat_tests) in rw test (ap of_outcome is)
 
 -- ---- one line

@@ -6,8 +6,8 @@ use Rattle.std.specs.Io.KnownBytes.{Appends}
 use Rattle.sbl_script.specs.Parsed.{Source}
 use Rattle.sbl_run.specs.Names.{name_of}
 use Rattle.sbl_machine.specs.Outcome as machine
+use Rattle.sbl_machine.specs.Limit.{default_limit}
 use Rattle.sbl_machine.specs.Outcome.{Outcome', run_of}
-use Rattle.sbl_bench.specs.Rows.{max_steps}
 use Rattle.sbl_bench.specs.Contents.{max_word_length}
 use Rattle.sbl_lines.specs.LinesOf.{lines_of, max_line}
 use Rattle.sbl_records.specs.Records.{records_text}
@@ -29,7 +29,7 @@ of_outcome (machine.Refused f) = Refused (name_of f)
 abbrev pub made_of : Source → List ℕ → Got
 made_of script word =
     if nat_lt max_word_length (length word) then Refused (codes "WordTooLong")
-    else of_outcome (run_of script word max_steps)
+    else of_outcome (run_of script word default_limit)
 
 -- as a row shows it
 abbrev pub shown : Got → List ℕ

@@ -1,4 +1,4 @@
-//! Stems held against those that are expected.
+//! Compares stems with the expected stems.
 ghost use Rattle.std.specs.Prelude.{◌≡◌, None, Some, IfOk, IfErr, OnOk, string_bytes};
 ghost use Rattle.std.specs.Str.{chars};
 ghost use Rattle.sbl_machine.specs.MachineOf.{IsLinkedMachineOf};
@@ -9,23 +9,23 @@ ghost use Rattle.sbl_differences.specs.Differences as spec;
 ghost use Rattle.sbl_differences.specs.Differences.{IsChecked};
 
 use csv::ByteRecord;
-use sbl_bench::{MAX_STEPS, MAX_WORD_LENGTH};
+use sbl_bench::MAX_WORD_LENGTH;
 use sbl_lines::{MAX_LINE, ServeFault, Sink, first_line, write_all};
-use sbl_machine::{Machine, Meter, Outcome, Table, Traced};
+use sbl_machine::{DEFAULT_LIMIT, Machine, Meter, Outcome, Table, Traced};
 use sbl_records::{record_line, text_of};
 use sbl_script::Script;
 use std::alloc::{AllocError, Global};
 
-/// What a script makes of a word.
+/// The result of a script for a word.
 #[derive(Debug, Drop)]
 pub(crate) enum Got {
-    /// Its stem.
+    /// The stem of the word.
     Stem(String),
     /// The name of the refusal.
     Refused(&'static str),
 }
 
-/// Runs the script over a word. One of more than 255 characters is refused without a run.
+/// Runs the script on a word. A word of more than 255 characters is refused without a run.
 fn run_word(
     alloc: Global,
     machine: &Machine<Table>,
@@ -38,8 +38,8 @@ fn run_word(
     if characters.len() > MAX_WORD_LENGTH {
         return Ok(Got::Refused("WordTooLong"));
     }
-    // No list has as many lines as a meter counts, so only memory can be refused.
-    let Ok(traced) = machine.trace(alloc, meter, characters.as_slice(), MAX_STEPS) else {
+    // A list cannot have more lines than a meter counts, so the only error is a failed allocation.
+    let Ok(traced) = machine.trace(alloc, meter, characters.as_slice(), DEFAULT_LIMIT) else {
         return Err(AllocError);
     };
     let Traced {
@@ -54,7 +54,7 @@ fn run_word(
 }
 
 impl Got {
-    /// Whether it is the stem that is expected.
+    /// Returns whether the result is the expected stem.
     fn is(&self, expected: &str) -> bool
         ensures { result ≡ spec.is_expected expected.now (view_got self.now) }
     {
@@ -64,7 +64,7 @@ impl Got {
         }
     }
 
-    /// As a row shows it.
+    /// Returns the text for a row.
     fn shown(self, alloc: Global) -> Result<String, AllocError>
         ensures { IfOk result (λ text. string_bytes text ≡ spec.shown (view_got self)) }
     {
@@ -79,7 +79,7 @@ impl Got {
     }
 }
 
-/// The row of a line, if what the script makes of its word is not the expected stem.
+/// Returns the row of a line if the result for its word is not the expected stem.
 fn row_of(
     alloc: Global,
     number: u64,
@@ -106,7 +106,7 @@ fn row_of(
     Ok(Some(record_line(alloc, &record)?))
 }
 
-/// A line as text: `LineTooLong` where it has more than 65,536 bytes, `NotText` where it is not UTF-8.
+/// Returns a line as text. Returns `LineTooLong` if it has more than 65,536 bytes, `NotText` if it is not UTF-8.
 fn text_line(line: &[u8]) -> Result<&str, ServeFault>
     ensures text { IfOk result (λ text. (text.now ≡ line.now) × (spec.line_fault line.now ≡ None)) }
     ensures fault { IfErr result (λ fault. spec.line_fault line.now ≡ Some fault) }
@@ -120,7 +120,7 @@ fn text_line(line: &[u8]) -> Result<&str, ServeFault>
     }
 }
 
-/// Compares two lines, and writes the row of their difference, if there is one.
+/// Compares the lines of a word and its expected stem. If they differ, writes a row and returns `true`.
 fn compare<W: Sink>(
     alloc: Global,
     machine: &Machine<Table>,
@@ -148,18 +148,21 @@ fn compare<W: Sink>(
     }
 }
 
-/// Runs the script over each line of `words`, empty lines and repeats too, and compares what comes with the same line of
-/// `expected`. Writes a row `LINE,WORD,EXPECTED,GOT` for each difference, lines counted from 1, and answers how many there are.
-/// GOT is the stem, or `refused NAME` where the run is refused, `WordTooLong` at a word of more than 255 characters; a refusal
-/// is always a difference. A line ends at a line feed or at the end of its list, and one carriage return before its end is
-/// dropped.
+/// Runs the script on each line of `words`, also on empty lines and repeated words, and compares the result with the
+/// same line of `expected`. Writes a row `LINE,WORD,EXPECTED,GOT` for each difference, with lines counted from 1, and
+/// returns the number of differences. GOT is the stem, or `refused NAME` if the run is refused; a word of more than 255
+/// characters is `refused WordTooLong`. A refusal is always a difference. A line ends at a line feed or at the end of
+/// its list; one carriage return before the end is dropped.
 ///
 /// # Errors
 ///
-/// The rows of the lines before it are written, and no more: `LineTooLong` at a line of more than 65,536 bytes and `NotText` at
-/// one that is not UTF-8, as far as both lists go, the word's before the expected stem's; `LengthsDiffer` where one list has
-/// ended and the other has not. `Write` where the writer failed or was interrupted more than 1,000 times in a row, and
-/// `OutOfMemory` where a growth was refused; then a front of the rows is written.
+/// The following errors are returned after the rows of all lines before them are written:
+/// * `LineTooLong` if a line has more than 65,536 bytes, and `NotText` if it is not UTF-8; the word is checked before the
+///   expected stem, and both only as far as both lists have lines;
+/// * `LengthsDiffer` if one list has ended and the other has not.
+///
+/// With the other errors a prefix of the rows is written: `Write` if the writer fails or is interrupted more than 1,000
+/// times in a row, and `OutOfMemory` if an allocation fails.
 pub fn check<W: Sink>(
     alloc: Global,
     script: &Script,

@@ -1,4 +1,4 @@
-//! Stems held against those that are expected: where they differ.
+//! Compares stems with the expected stems.
 #![tactic(auto)]
 
 mod checking;

@@ -1,4 +1,4 @@
--- The fault of a session that a line's fault is, and the fault that the lines then hold.
+-- The fault of a session for the fault of a line, and the fault that the lines keep.
 use Rattle.std.specs.Prelude.{Option, Some, None, Result, Ok, Err}
 use Rattle.sbl_lines.specs.declared.faults.LineFault.{LineFault}
 use Rattle.sbl_lines.specs.declared.faults.LineFault.TheVariants.{Read, TooLong}
@@ -9,13 +9,13 @@ abbrev pub serve_fault_of : LineFault → ServeFault
 serve_fault_of Read = serve.Read
 serve_fault_of TooLong = serve.LineTooLong
 
--- the line's fault that it is, if it is one
+-- the fault of a line for the fault of a session, if there is one
 abbrev pub line_fault_of : ServeFault → Option LineFault
 line_fault_of serve.Read = Some Read
 line_fault_of serve.LineTooLong = Some TooLong
 line_fault_of f = None
 
--- the fault that the lines hold after what ended so
+-- the fault that the lines keep after this result
 abbrev pub left_by : {A : Type 0} → Result A ServeFault → Option LineFault
 left_by (Ok a) = None
 left_by (Err f) = line_fault_of f

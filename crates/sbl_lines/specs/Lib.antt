@@ -1,4 +1,4 @@
--- what the contracts of public calls rest on
+-- definitions that public contracts depend on
 pub mod Devices
 pub mod Counted
 pub mod Faults

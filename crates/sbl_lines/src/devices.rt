@@ -1,4 +1,4 @@
-//! What is read from and written to: devices that may fail or be interrupted, and are counted at it.
+//! Readers and writers that may fail or be interrupted. Failures, interruptions and reads are counted.
 ghost use Rattle.std.specs.Prelude.{◌≡◌, ◌≤◌, ◌<◌, ◌^◌, ◌-◌, ◌||◌, ℕ, Bool, false, List, Option, length, IfOk, Err};
 ghost use Rattle.std.specs.Io.KnownBytes.{Keeps};
 ghost use Rattle.sbl_lines.specs.Devices.{Reads, Writes, Counts, CountsRead, CountsRow, Judged, JudgedWrite, is_late_read, is_late_write, max_reads, max_tries, tells_end};
@@ -6,43 +6,44 @@ ghost use Rattle.sbl_lines.specs.Devices.{Reads, Writes, Counts, CountsRead, Cou
 use std::io;
 use std::io::{ErrorKind, Read, Write};
 
-/// How many reads one reader is asked for (our own choice).
+/// The greatest number of reads of one reader (our own choice).
 pub(crate) const MAX_READS: u64 = 1_099_511_627_776;
 
-/// How often one read or write is tried: 1,000 interruptions in a row are borne (our own choice).
+/// The greatest number of tries of one read or write, which allows 1,000 interruptions in a row (our own choice).
 pub(crate) const MAX_TRIES: u16 = 1_001;
 
 /// Why a read or a write did nothing.
 #[derive(Clone, Copy, Debug, PartialEq, Eq)]
 pub enum Stop {
-    /// It was interrupted: nothing was done, and it may be asked again.
+    /// It was interrupted: nothing was done, and it may be tried again.
     Interrupted,
     /// It failed.
     Failed,
 }
 
-/// What bytes are read from.
+/// A source of bytes.
 pub trait Source {
-    /// The bytes left, or nothing of them.
+    /// The bytes that are left, or `None` if they are not known.
     ghost left: { Self → Option (List ℕ) };
 
-    /// How often a read has failed.
+    /// The number of reads that failed.
     ghost failures: { Self → ℕ };
 
-    /// How many reads in a row were interrupted last, up to 1001.
+    /// The number of the latest reads in a row that were interrupted, up to 1001.
     ghost interruptions: { Self → ℕ };
 
-    /// How many reads it was asked for, up to 1,099,511,627,776.
+    /// The number of reads, up to 1,099,511,627,776.
     ghost reads: { Self → ℕ };
 
-    /// Whether a read has told the end of its bytes.
+    /// Whether a read has returned the end of the bytes.
     ghost ended: { Self → Bool };
 
-    /// Whether it was asked for a read after its end was told, after 1,001 interruptions in a row, or after 1,099,511,627,776 reads.
+    /// Whether there was a read after the end was returned, after 1,001 interruptions in a row, or after
+    /// 1,099,511,627,776 reads.
     ghost late: { Self → Bool };
 
-    /// Takes bytes from the front of those left into `buf`, and answers how many: 0 into some room is their end. A stop
-    /// takes none.
+    /// Reads the next bytes into `buf` and returns their number; 0 with a `buf` that is not empty means the end of the
+    /// bytes. Reads no bytes if it is stopped.
     fn read(&mut self, buf: &mut [u8]) -> Result<usize, Stop>
         ensures bound { IfOk result (λ n. n ≤ length buf.new) }
         ensures bytes { Reads (left self.old) (left self.new) result buf.new }
@@ -53,21 +54,22 @@ pub trait Source {
         ensures late { late self.new ≡ (late self.old || is_late_read (ended self.old) (interruptions self.old) (reads self.old)) };
 }
 
-/// What bytes are written to.
+/// A sink for bytes.
 pub trait Sink {
-    /// The bytes held, or nothing of them.
+    /// The bytes that the sink holds, or `None` if they are not known.
     ghost held: { Self → Option (List ℕ) };
 
-    /// How often a write has failed.
+    /// The number of writes that failed.
     ghost failures: { Self → ℕ };
 
-    /// How many writes in a row were interrupted last, up to 1001.
+    /// The number of the latest writes in a row that were interrupted, up to 1001.
     ghost interruptions: { Self → ℕ };
 
-    /// Whether it was asked for a write after 1,001 interruptions in a row.
+    /// Whether there was a write after 1,001 interruptions in a row.
     ghost late: { Self → Bool };
 
-    /// Takes a front of `bytes`, at least one of some, and answers how many. A stop takes none.
+    /// Writes a prefix of `bytes`, at least one byte unless `bytes` is empty, and returns its length. Writes nothing if
+    /// it is stopped.
     fn write(&mut self, bytes: &[u8]) -> Result<usize, Stop>
         ensures bound { IfOk result (λ n. n ≤ length bytes.now) }
         ensures bytes { Writes (held self.old) (held self.new) result bytes.now }
@@ -76,17 +78,17 @@ pub trait Sink {
         ensures late { late self.new ≡ (late self.old || is_late_write (interruptions self.old)) };
 }
 
-/// A reader or a writer of std. An error whose kind is `Interrupted` is an interruption, and every other a failure; so is a write
-/// of some bytes that takes none. Failures are counted in 64 bits; once that count is full each stop is an interruption (our own
-/// choice).
+/// A reader or a writer of `std::io`. An error of kind `Interrupted` is an interruption, and every other error is a
+/// failure; so is a write that takes none of some bytes. Failures are counted in 64 bits; if that count is full, each
+/// stop is an interruption (our own choice).
 #[derive(Drop)]
 pub struct Device<D> {
     inner: D,
     stops: Stops,
 }
 
-/// How often a device has failed, how often in a row it was interrupted last, how many reads it was asked for, whether one of them
-/// told the end, and whether it was asked for more than it should be.
+/// The counts of a device: its failures, its latest interruptions in a row, its reads, whether a read has returned the
+/// end, and whether it was used past one of its limits.
 #[derive(Clone, Copy)]
 pub(crate) struct Stops {
     pub(crate) failures: u64,
@@ -99,7 +101,7 @@ pub(crate) struct Stops {
 }
 
 impl Stops {
-    /// No stop, and no read.
+    /// Returns the counts of a device that was not used yet.
     pub(crate) fn new() -> Stops
         ensures failures { result.failures ≡ 0 }
         ensures interruptions { result.interruptions ≡ 0 }
@@ -116,7 +118,7 @@ impl Stops {
         }
     }
 
-    /// Counts one more read.
+    /// Counts one more read, and records whether it is past a limit.
     pub(crate) fn ask_read(&mut self)
         ensures late { self.new.late ≡ (self.old.late || is_late_read self.old.ended self.old.interruptions self.old.reads) }
         ensures reads { CountsRead self.old.reads self.new.reads }
@@ -130,7 +132,7 @@ impl Stops {
         self.reads = (self.reads + 1).min(MAX_READS);
     }
 
-    /// Counts one more write.
+    /// Records whether one more write is past the limit on interruptions.
     pub(crate) fn ask_write(&mut self)
         ensures late { self.new.late ≡ (self.old.late || is_late_write self.old.interruptions) }
         ensures failures { self.new.failures ≡ self.old.failures }
@@ -141,7 +143,7 @@ impl Stops {
         }
     }
 
-    /// Counts what a read or a write was judged as.
+    /// Counts the result of a read or a write.
     pub(crate) fn count(&mut self, judged: Result<usize, Stop>)
         requires { judged ≡ Err Stop.Failed → self.old.failures < 2 ^ 64 - 1 }
         ensures counts { Counts self.old.failures self.new.failures judged }
@@ -163,8 +165,9 @@ impl Stops {
     }
 }
 
-/// What a read of std answered, as a device that has failed so often answers it: an error whose kind is `Interrupted` is an
-/// interruption, and every other a failure; but once 64 bits count no further failure, each error is an interruption.
+/// Converts the result of a read of `std::io`, for a device with this number of failures. An error of kind
+/// `Interrupted` is an interruption, every other error is a failure; but if `failures` is the greatest `u64`, each
+/// error is an interruption.
 pub fn judge_read(failures: u64, answer: io::Result<usize>) -> Result<usize, Stop>
     ensures judged { Judged failures answer result }
     ensures counted { result ≡ Err Stop.Failed → failures < 2 ^ 64 - 1 }
@@ -177,8 +180,8 @@ pub fn judge_read(failures: u64, answer: io::Result<usize>) -> Result<usize, Sto
     }
 }
 
-/// What a write of std of these bytes answered, judged like a read, but that a write of some bytes that took none is an error
-/// whose kind is `WriteZero`.
+/// Converts the result of a write of these bytes in the same way. A write that takes none of some bytes is an error of
+/// kind `WriteZero`.
 pub fn judge_write(failures: u64, bytes: &[u8], answer: io::Result<usize>) -> Result<usize, Stop>
     ensures judged { JudgedWrite failures bytes.now answer result }
     ensures counted { result ≡ Err Stop.Failed → failures < 2 ^ 64 - 1 }
@@ -195,7 +198,7 @@ pub fn judge_write(failures: u64, bytes: &[u8], answer: io::Result<usize>) -> Re
 impl<D> Device<D> {
     ghost use Rattle.sbl_lines.specs.Counted.{failures_of, has_ended, inner_of, interruptions_of, is_late, reads_of};
 
-    /// A device that has not failed, was not interrupted and was asked for no read.
+    /// Returns a device with no failures, interruptions or reads.
     pub fn new(inner: D) -> Device<D>
         ensures inner { inner_of result ≡ inner }
         ensures failures { failures_of result ≡ 0 }
@@ -208,7 +211,7 @@ impl<D> Device<D> {
         Device { inner, stops }
     }
 
-    /// The reader or writer that it was made with, as it is now.
+    /// Returns the inner reader or writer, in its current state.
     pub fn into_inner(self) -> D
         ensures { result ≡ inner_of self }
     {

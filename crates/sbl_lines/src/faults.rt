@@ -1,23 +1,23 @@
-//! Why lines are not taken, and why what stands on them ends early.
+//! Why there is no next line, and why a session ends early.
 ghost use Rattle.sbl_lines.specs.Faults.{serve_fault_of};
 ghost use Rattle.std.specs.Prelude.{◌≡◌};
 
 use std::alloc::AllocError;
 use thiserror::Error;
 
-/// Why no line was taken.
+/// Why there is no next line.
 #[derive(Clone, Copy, Debug, PartialEq, Eq)]
 pub enum LineFault {
-    /// The reader failed, or a bound on reads or on interruptions was met.
+    /// The reader failed, or the limit on reads or on interruptions was reached.
     Read,
     /// The line has more than 65,536 bytes.
     TooLong,
 }
 
-/// Why a session ended early. Each is shown as its number and its name.
+/// Why a session ended early. Each fault is displayed as its number and its name.
 #[derive(Clone, Copy, Debug, PartialEq, Eq, Drop, Error)]
 pub enum ServeFault {
-    /// The reader failed, or a bound on reads or on interruptions was met.
+    /// The reader failed, or the limit on reads or on interruptions was reached.
     #[error("70 Read")]
     Read,
     /// The writer failed, or it was interrupted more than 1,000 times in a row.
@@ -32,10 +32,10 @@ pub enum ServeFault {
     /// One of two lists has more lines than the other.
     #[error("74 LengthsDiffer")]
     LengthsDiffer,
-    /// A line of words or of stems is not UTF-8.
+    /// A word or an expected stem is not UTF-8.
     #[error("75 NotText")]
     NotText,
-    /// A growth was refused.
+    /// An allocation failed.
     #[error("49 OutOfMemory")]
     OutOfMemory,
 }

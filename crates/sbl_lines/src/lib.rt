@@ -1,4 +1,4 @@
-//! Readers and writers of bytes, and the lines of a reader: what they give, when they fail, and what is left of them.
+//! Readers and writers of bytes, and the lines of a reader: what they return, when they fail, and what is left to read.
 #![tactic(auto)]
 
 mod devices;

@@ -1,4 +1,4 @@
-//! Lines of a reader, in buffers of their own that do not grow.
+//! The lines of a reader, in buffers of fixed size.
 ghost use Rattle.std.specs.Prelude.{◌≡◌, ◌≢◌, ◌+◌, ◌≤◌, ◌<◌, ◌⊎◌, ℕ, List, Option, [], ◌∷◌, vec_len, vec_capacity, OnOk, OnErr, IfOk, IfErr, MatchOption, Some, None, Ok, Err, true, false, length, IsSome};
 ghost use Rattle.std.specs.Io.KnownBytes.{Consumes, IsAtEnd, Keeps};
 ghost use Rattle.sbl_lines.specs.LinesOf.{chomped, max_line};
@@ -8,24 +8,24 @@ use crate::faults::LineFault;
 use crate::text_lines::first_feed;
 use std::alloc::{AllocError, Global};
 
-/// The longest line in bytes, its end not counted (our own choice).
+/// The greatest length of a line in bytes, without its line end (our own choice).
 pub const MAX_LINE: usize = 65_536;
 
-/// How many bytes are asked for at a read (our own choice).
+/// The size of the buffer for a read in bytes (our own choice).
 const CHUNK: usize = 4_096;
 
-/// What ended a line: a line feed, the end of input, or nothing within the longest line.
+/// How a line ended.
 #[derive(Clone, Copy, Debug, PartialEq, Eq)]
 enum LineEnd {
-    /// A line feed.
+    /// At a line feed.
     Feed,
-    /// The end of input.
+    /// At the end of input.
     Input,
-    /// Nothing: the line has more bytes than it may.
+    /// Not at all: the line has too many bytes.
     Beyond,
 }
 
-/// The lines of a reader. A line ends at a line feed or at the end of input; one carriage return before its end is
+/// The lines of a reader. A line ends at a line feed or at the end of input; one carriage return before the end is
 /// dropped.
 #[derive(Drop)]
 pub struct Lines<R> {
@@ -48,8 +48,8 @@ impl<R: Source + Drop> Lines<R> {
     ghost use Rattle.sbl_lines.specs.Devices.{IsUnasked, max_reads};
     ghost use Rattle.sbl_lines.specs.Held.{fuel_of, line_of, fault_of, input_of, reads_bound, AsksInTime, BeginsLong, BreaksOff, HasCause, InTime, IsDrained, KeepsTime, StaysEnded, TakesFeeds, TakesLine, NoFeed, GivesLine};
 
-    /// The lines of `reader`, which is asked for at most 1,099,511,627,776 reads. Takes its buffers at once; a refused
-    /// growth is the one error.
+    /// Returns the lines of `reader`, which is read at most 1,099,511,627,776 times. Allocates all buffers. Returns
+    /// `AllocError` if an allocation fails.
     pub fn new(alloc: Global, reader: R) -> Result<Lines<R>, AllocError>
         ensures input { IfOk result (λ lines. input_of R.left lines ≡ R.left reader) }
         ensures fault { IfOk result (λ lines. fault_of lines ≡ None) }
@@ -59,7 +59,7 @@ impl<R: Source + Drop> Lines<R> {
         Lines::with_reads(alloc, reader, MAX_READS)
     }
 
-    /// Takes its buffers at once.
+    /// Does the same with `most` as the limit on reads.
     fn with_reads(alloc: Global, reader: R, most: u64) -> Result<Lines<R>, AllocError>
         ensures input { IfOk result (λ lines. input_of R.left lines ≡ R.left reader) }
         ensures fault { IfOk result (λ lines. fault_of lines ≡ None) }
@@ -80,20 +80,21 @@ impl<R: Source + Drop> Lines<R> {
         })
     }
 
-    /// The allocator that the buffers were made with.
+    /// Returns the allocator of the buffers.
     pub fn alloc(&self) -> Global {
         self.alloc
     }
 
-    /// The line that was taken last.
+    /// Returns the last line that was read, without its line end.
     pub fn line(&self) -> &[u8]
         ensures { result.now ≡ line_of self.now }
     {
         self.line.as_slice()
     }
 
-    /// Reads some more bytes into the chunk, all of which were taken. None come at the end of input alone; once a read has told
-    /// that end, none is asked for.
+    /// Reads more bytes into the chunk, after all bytes in it were used. It reads none only at the end of input. After
+    /// a read has returned the end, the reader is not read again. Returns `Read` if the reader fails or a limit is
+    /// reached.
     fn fill(&mut self) -> Result<(), LineFault>
         requires { self.old.at ≡ self.old.end }
         ensures input { Keeps (input_of R.left self.old) (input_of R.left self.new) }
@@ -133,7 +134,7 @@ impl<R: Source + Drop> Lines<R> {
         Err(LineFault::Read)
     }
 
-    /// The next byte, if there is one.
+    /// Returns the next byte, or `None` at the end of input. Returns `Read` if the reader fails or a limit is reached.
     fn next_byte(&mut self) -> Result<Option<u8>, LineFault>
         ensures byte { IfOk result (λ o. MatchOption o (IsAtEnd (input_of R.left self.new) × Keeps (input_of R.left self.old) (input_of R.left self.new)) (λ b. Consumes (input_of R.left self.old) (input_of R.left self.new) (b ∷ []))) }
         ensures err { OnErr result (Keeps (input_of R.left self.old) (input_of R.left self.new)) }
@@ -162,8 +163,8 @@ impl<R: Source + Drop> Lines<R> {
         Ok(Some(byte))
     }
 
-    /// Takes what the chunk holds of a line onto the line, up to a line feed, and at most until the line has one byte more than a line
-    /// may have.
+    /// Moves bytes from the chunk to the line, up to a line feed or until the line has one byte more than a line may
+    /// have.
     fn take_held(&mut self)
         requires { length (line_of self.old) ≤ max_line + 1 }
         ensures takes { (whole : Option (List ℕ)) → Consumes whole (input_of R.left self.old) (line_of self.old) → Consumes whole (input_of R.left self.new) (line_of self.new) }
@@ -180,7 +181,7 @@ impl<R: Source + Drop> Lines<R> {
         self.at += count;
     }
 
-    /// Takes the bytes of a line, up to a line feed, the end of input or more than a line may hold.
+    /// Reads the bytes of a line, up to a line feed, the end of input or too many bytes.
     fn take_line(&mut self) -> Result<LineEnd, LineFault>
         ensures takes { IfOk result (λ end. TakesLine (input_of R.left self.old) (input_of R.left self.new) (line_of self.new) end) }
         ensures no_feed { OnOk result (NoFeed (line_of self.new)) }
@@ -214,7 +215,7 @@ impl<R: Source + Drop> Lines<R> {
         }
     }
 
-    /// Takes the next line, or says that the input has ended.
+    /// Reads the next line, or returns `false` at the end of input.
     fn take_whole(&mut self) -> Result<bool, LineFault>
         ensures more { IfOk result (λ more. more ≡ true → GivesLine (input_of R.left self.old) (input_of R.left self.new) (line_of self.new)) }
         ensures fits { IfOk result (λ more. more ≡ true → length (line_of self.new) ≤ max_line) }
@@ -247,8 +248,11 @@ impl<R: Source + Drop> Lines<R> {
         Ok(true)
     }
 
-    /// Takes the next line and answers true, or answers false at the end of input. A fault is remembered: every later
-    /// call answers it again, and takes nothing.
+    /// Reads the next line and returns `true`, or returns `false` at the end of input.
+    ///
+    /// Returns `Read` if the reader fails or the limit on reads or on interruptions is reached, and `TooLong` if the
+    /// line has more than 65,536 bytes without its line end. After a fault every later call returns the same fault and
+    /// reads nothing.
     pub fn next_line(&mut self) -> Result<bool, LineFault>
         ensures more { IfOk result (λ more. more ≡ true → GivesLine (input_of R.left self.old) (input_of R.left self.new) (line_of self.new)) }
         ensures fits { IfOk result (λ more. more ≡ true → length (line_of self.new) ≤ max_line) }
@@ -281,7 +285,7 @@ impl<R: Source + Drop> Lines<R> {
     }
 }
 
-/// A carriage return at the end of a line goes.
+/// Removes one carriage return at the end of the line.
 fn chomp(line: &mut Vec<u8>)
     ensures items { line.new.items ≡ chomped line.old.items }
     ensures capacity { vec_capacity line.new ≡ vec_capacity line.old }

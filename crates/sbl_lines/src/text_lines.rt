@@ -1,9 +1,9 @@
-//! The lines of a text that is there whole, and where the first of its lines ends.
+//! The lines of a text in memory.
 ghost use Rattle.std.specs.Prelude.{◌≡◌, ◌≤◌, ◌<◌, MatchOption, [], ◌∷◌, length, take, slice_index};
 ghost use Rattle.sbl_lines.specs.Held.{NoFeed};
 ghost use Rattle.sbl_lines.specs.LinesOf.{chomped, lines_of};
 
-/// Where the first line feed stands, or how many bytes there are.
+/// Returns the index of the first line feed, or the number of bytes if there is none.
 pub(crate) fn first_feed(bytes: &[u8]) -> usize
     ensures inside { result ≤ length bytes.now }
     ensures free { NoFeed (take result bytes.now) }
@@ -17,7 +17,7 @@ pub(crate) fn first_feed(bytes: &[u8]) -> usize
     bytes.len()
 }
 
-/// A line without the carriage return at its end.
+/// Returns the line without a carriage return at its end.
 fn without_return(line: &[u8]) -> &[u8]
     ensures { result.now ≡ chomped line.now }
 {
@@ -27,7 +27,7 @@ fn without_return(line: &[u8]) -> &[u8]
     }
 }
 
-/// The first line of a text, and the text after it; or nothing, where there is none.
+/// Returns the first line of a text and the text after it, or `None` if the text is empty.
 pub fn first_line(text: &[u8]) -> Option<(&[u8], &[u8])>
     ensures lines { MatchOption result (lines_of text.now ≡ []) (λ p. lines_of text.now ≡ p.0.now ∷ lines_of p.1.now) }
     ensures fewer { MatchOption result (text.now ≡ []) (λ p. length p.1.now < length text.now) }

@@ -1,4 +1,4 @@
-//! Writing a whole text to a sink.
+//! Writes whole texts to a sink.
 ghost use Rattle.std.specs.Prelude.{◌≡◌, ◌≤◌, ◌<◌, ℕ, IfOk, IfErr, OnOk, OnErr, length, take};
 ghost use Rattle.std.specs.Io.KnownBytes.{Appends, Keeps};
 ghost use Rattle.sbl_lines.specs.Devices.{HasStopped, WritesInTime};
@@ -6,7 +6,8 @@ ghost use Rattle.sbl_lines.specs.Devices.{HasStopped, WritesInTime};
 use crate::devices::{MAX_TRIES, Sink, Stop};
 use crate::faults::ServeFault;
 
-/// Writes a front of some bytes, and answers how many. Bears 1,000 interruptions in a row; the next ends it.
+/// Writes a prefix of the bytes, at least one, and returns its length. Returns `Write` if the writer fails or is
+/// interrupted more than 1,000 times in a row; then nothing is written.
 fn write_some<W: Sink>(writer: &mut W, bytes: &[u8]) -> Result<usize, ServeFault>
     requires { 0 < length bytes.now }
     ensures some { IfOk result (λ n. (0 < n) × (n ≤ length bytes.now)) }
@@ -28,8 +29,8 @@ fn write_some<W: Sink>(writer: &mut W, bytes: &[u8]) -> Result<usize, ServeFault
     Err(ServeFault::Write)
 }
 
-/// Writes all the bytes, or a front of them and answers `Write`: the writer failed, or it was interrupted more than 1,000
-/// times in a row.
+/// Writes all bytes. Returns `Write` if the writer fails or is interrupted more than 1,000 times in a row; then a
+/// prefix of the bytes is written.
 pub fn write_all<W: Sink>(writer: &mut W, bytes: &[u8]) -> Result<(), ServeFault>
     ensures all { OnOk result (Appends (W.held writer.old) (W.held writer.new) bytes.now) }
     ensures front { (n : ℕ) × Appends (W.held writer.old) (W.held writer.new) (take n bytes.now) }

@@ -1,2 +1,2 @@
--- what the contracts of public calls rest on
+-- definitions that public contracts depend on
 pub mod Records

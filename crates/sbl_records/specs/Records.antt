@@ -1,4 +1,4 @@
--- The text of records, as a flexible and otherwise default writer of `csv` writes it.
+-- The text of records, as written by a `csv` writer that is flexible and otherwise has the default settings.
 use Rattle.std.specs.Prelude.{ℕ, true, List}
 use Rattle.std.specs.List.{flat_map}
 use Rattle.csv.specs.Writing.{default_writer, with_flexible, row_text}

@@ -1,4 +1,4 @@
-//! The text of records, as `csv` writes them, and their fields as UTF-8.
+//! CSV records as text, and characters as UTF-8.
 #![tactic(auto)]
 
 mod records;

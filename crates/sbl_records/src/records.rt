@@ -1,4 +1,4 @@
-//! The text of a record, through `csv`.
+//! The text of a record, written with `csv`.
 ghost use Rattle.std.specs.Prelude.{◌≡◌, IfOk, OnOk, string_bytes};
 ghost use Rattle.std.specs.Str.{encode_utf8_all};
 ghost use Rattle.csv.specs.Records.{fields_of};
@@ -7,7 +7,7 @@ ghost use Rattle.sbl_records.specs.Records as spec;
 use csv::{ByteRecord, WriterBuilder};
 use std::alloc::{AllocError, Global};
 
-/// Some characters as UTF-8. A refused growth is the one error.
+/// Returns the characters as UTF-8. Returns `AllocError` if an allocation fails.
 pub fn text_of(alloc: Global, characters: &[char]) -> Result<String, AllocError>
     ensures { IfOk result (λ text. string_bytes text ≡ encode_utf8_all characters.now) }
 {
@@ -16,7 +16,7 @@ pub fn text_of(alloc: Global, characters: &[char]) -> Result<String, AllocError>
     Ok(text)
 }
 
-/// Makes a text that of some characters, in place of what it was. A refused growth is the one error.
+/// Replaces the text by these characters. Returns `AllocError` if an allocation fails.
 pub fn set_text(text: &mut String, characters: &[char]) -> Result<(), AllocError>
     ensures { OnOk result (string_bytes text.new ≡ encode_utf8_all characters.now) }
 {
@@ -27,7 +27,8 @@ pub fn set_text(text: &mut String, characters: &[char]) -> Result<(), AllocError
     Ok(())
 }
 
-/// The text of one record: its fields, quoted where `csv` quotes, and a line feed. A refused growth is the one error.
+/// Returns the text of one record: its fields, quoted if `csv` quotes them, and a line feed. Returns `AllocError` if an
+/// allocation fails.
 pub fn record_line(alloc: Global, row: &ByteRecord) -> Result<Vec<u8>, AllocError>
     ensures { IfOk result (λ text. text.items ≡ spec.record_line (fields_of row.now)) }
 {

@@ -1,8 +1,16 @@
--- The command word of a line, found byte by byte.
-use Rattle.std.proofs.Common.{◌≡◌, ◌⊎◌, inl, inr, ◌<◌, ◌≤◌, ◌+◌, ℕ, true, false, List, length, take, get_or, sym, ap, subst, arith}
+-- The command word of a line, found byte by byte, and what a line with a block wants replaced.
+use Rattle.std.proofs.Common.{◌≡◌, ◌⊎◌, inl, inr, ◌∙◌, ◌<◌, ◌≤◌, ◌+◌, ℕ, Bool, true, false, List, Option, Some, None, Result, Ok, Err, IfOk, OnErr, if◌then◌else◌, length, take, get_or, refl, sym, ap, subst, arith}
 use Rattle.std.proofs.lemmas.Bool.{cases_lt}
 use Rattle.std.proofs.lemmas.List.Sums.{position_or_len_is}
-use Rattle.sbl_sessions.specs.Words.{command_word, is_space}
+use Rattle.std.proofs.lemmas.Str.{IsUtf8-from_is_utf8}
+use Rattle.std.specs.Option.{is_some, option_and_then}
+use Rattle.std.specs.Str.{IsUtf8, is_utf8}
+use Rattle.std.specs.declared.alloc.AllocError.{AllocError}
+use Rattle.sbl_sessions.specs.CommandViews.{FindsTarget, view_found}
+use Rattle.sbl_sessions.specs.Commands.{target_by, target_of, target_of_text}
+use Rattle.sbl_sessions.specs.Requests.{BlockWord, block_word}
+use Rattle.sbl_sessions.specs.Words.{argument, command_word, is_space}
+use Rattle.sbl_sessions.specs.declared.commands.Target.{Target}
 
 -- no space stands before this place
 abbrev pub NoSpace : List ℕ → ℕ → Type 0
@@ -17,3 +25,26 @@ no_space-more line i none here k within = by (cases_lt k i)
 
 pub word_before : (line : List ℕ) (i : ℕ) → i ≤ length line → NoSpace line i → (i < length line → is_space (get_or line i 0) ≡ true) → take i line ≡ command_word line
 word_before line i within none here = ap (λ (n : ℕ). take n line) (sym (position_or_len_is is_space line i 0 within none here))
+
+-- ---- what a line with a block wants replaced
+
+-- bytes that are no text
+pub not_text : (bytes : List ℕ) → ¬ (IsUtf8 bytes) → is_utf8 bytes ≡ false
+not_text bytes none = by (is_utf8 bytes) refl
+  where
+    by : (t : Bool) → is_utf8 bytes ≡ t → is_utf8 bytes ≡ false
+    by true e = absurd (none (IsUtf8-from_is_utf8 bytes e))
+    by false e = e
+
+pub finds_none : (line : List ℕ) → is_utf8 line ≡ false → None ≡ target_of line
+finds_none line bytes = rw bytes refl
+
+target_is : (line given : List ℕ) (word : BlockWord) → is_utf8 line ≡ true → block_word line ≡ Some word → given ≡ argument line → target_by word given ≡ target_of line
+target_is line given word utf8 asked is =
+    ap (target_by word) is ∙ sym (ap (λ (b : Bool). if b then target_of_text line else None) utf8 ∙ ap (option_and_then (λ (w : BlockWord). target_by w (argument line))) asked)
+
+-- what was found for the word and the argument is what the line wants
+pub finds : (r : Result (Option Target) AllocError) (line given : List ℕ) (word : BlockWord) → is_utf8 line ≡ true → block_word line ≡ Some word → given ≡ argument line
+    → IfOk r (λ found. view_found found ≡ target_by word given) → OnErr r (is_some (target_by word given) ≡ true) → FindsTarget r line
+finds (Ok o) line given word utf8 asked is found refused = found ∙ target_is line given word utf8 asked is
+finds (Err e) line given word utf8 asked is found refused = sym (ap is_some (target_is line given word utf8 asked is)) ∙ refused

@@ -2,8 +2,8 @@
 use Rattle.std.proofs.Common.{codes, if◌then◌else◌, ◌≡◌, ◌⊎◌, inl, inr, ◌∙◌, ◌≤◌, ◌<◌, ◌+◌, ℕ, Bool, true, false, List, [], ◌∷◌, length, take, Option, Some, None, Result, Ok, Err, refl, sym, ap, subst, arith, nat_lt, length-take}
 use Rattle.std.proofs.lemmas.Bool.Decides.{nat_tests}
 use Rattle.std.proofs.lemmas.Grind.{common_steps}
-use Rattle.std.proofs.lemmas.Str.{IsUtf8-from_is_utf8, chars-encodes, length-le-encodes}
-use Rattle.std.specs.Str.{IsUtf8, chars, is_utf8}
+use Rattle.std.specs.Option.{is_some}
+use Rattle.std.specs.Str.{is_utf8}
 use Rattle.sbl_bench.specs.Contents.{Contents}
 use Rattle.sbl_bench.specs.Edits.{Edit, Edits, Add, Replace, IsAccepted, IsBrokenOff, IsMeterFull, IsOutOfMemory, IsRefused, IsVerdict, PassesTests, refusal_of_add}
 use Rattle.sbl_bench.specs.declared.fault.EditFault.{EditFault}
@@ -14,7 +14,7 @@ use Rattle.sbl_text.specs.declared.fault.ScriptFault.TheVariants as script
 use Rattle.sbl_sessions.specs.Answers.{BlockRefused, Enough, RefusedAfter, edit_text, ended}
 use Rattle.sbl_sessions.specs.Block.{HasText, made_text, max_script}
 use Rattle.sbl_sessions.specs.CommandViews.{IsEditAnswer, IsTextAnswer}
-use Rattle.sbl_sessions.specs.Commands.{Command, block_command, target_of, target_of_text, text_of_block, with_target, with_text}
+use Rattle.sbl_sessions.specs.Commands.{Command, block_command, target_of, text_of_block, with_target, with_text}
 use Rattle.sbl_sessions.specs.Edits.{fault_in}
 
 -- where memory was refused
@@ -41,6 +41,17 @@ answered (Err fault.NoAmong) s t e h = (Enough, (Some fault.NoAmong, h, refl))
 answered (Err fault.AmongCount) s t e h = (Enough, (Some fault.AmongCount, h, refl))
 answered (Err (fault.Script f)) s t e h = (Enough, (Some (fault.Script f), h, refl))
 answered (Err fault.MeterFull) s t e h = (Enough, (Some fault.MeterFull, h, refl))
+answered (Err fault.BadLimit) s t e h = (Enough, (Some fault.BadLimit, h, refl))
+answered (Err fault.NoGrouping) s t e h = (Enough, (Some fault.NoGrouping, h, refl))
+
+-- a text that replaces something, by what is replaced and its bytes
+pub replaced_text : (r : Result (Unit {0}) EditFault) (s t : Contents) (named what : ScriptEdit) (text bytes answer : List ℕ) → named ≡ what → text ≡ bytes
+    → Edits r s (Replace named text) t → answer ≡ edit_text (fault_in r) → IsEditAnswer s (Replace what bytes) answer t
+replaced_text r s t named what text bytes answer is same h told =
+    let a : IsEditAnswer s (Replace named text) (edit_text (fault_in r)) t = answered r s t (Replace named text) h in
+    let b : IsEditAnswer s (Replace what text) (edit_text (fault_in r)) t = subst (λ (e : ScriptEdit). IsEditAnswer s (Replace e text) (edit_text (fault_in r)) t) is a in
+    let d : IsEditAnswer s (Replace what bytes) (edit_text (fault_in r)) t = subst (λ (x : List ℕ). IsEditAnswer s (Replace what x) (edit_text (fault_in r)) t) same b in
+    subst (λ (x : List ℕ). IsEditAnswer s (Replace what bytes) x t) (sym told) d
 
 -- ---- a word that is added, by its first characters
 
@@ -82,6 +93,8 @@ refused_long (Err fault.NoAmong) s t word cut long short h = verdict_long s t wo
 refused_long (Err fault.AmongCount) s t word cut long short h = verdict_long s t word cut fault.AmongCount long short h
 refused_long (Err (fault.Script f)) s t word cut long short h = verdict_long s t word cut (fault.Script f) long short h
 refused_long (Err fault.MeterFull) s t word cut long short h = verdict_long s t word cut fault.MeterFull long short h
+refused_long (Err fault.BadLimit) s t word cut long short h = verdict_long s t word cut fault.BadLimit long short h
+refused_long (Err fault.NoGrouping) s t word cut long short h = verdict_long s t word cut fault.NoGrouping long short h
 
 all_of : (n : ℕ) (xs : List ℕ) → length xs ≤ n → take n xs ≡ xs
 all_of n xs h = grind (arith, common_steps)
@@ -100,20 +113,6 @@ by_first r s t word h = by (nat_lt 256 (length word)) refl
         let whole : take 256 word ≡ word = all_of 256 word short in
         subst (λ (w : List ℕ). Edits r s (Add w) t) whole h
 
--- ---- the characters of a line
-
--- a text has no more characters than bytes
-chars_fit : (bytes : List ℕ) → IsUtf8 bytes → length (chars bytes) ≤ length bytes
-chars_fit bytes valid =
-    let x = valid.0 in
-    let same : chars bytes ≡ x = rw (← valid.1.1) (chars-encodes x valid.1.0) in
-    let bound = length-le-encodes x in
-    rw (same, ← valid.1.1) bound
-
--- so many of them are all
-pub all_chars : (n : ℕ) (bytes : List ℕ) → IsUtf8 bytes → length bytes ≤ n → take n (chars bytes) ≡ chars bytes
-all_chars n bytes valid few = let fit : length (chars bytes) ≤ length bytes = chars_fit bytes valid in all_of n (chars bytes) (omega (arith, fit, few))
-
 -- ---- an edit of the script
 
 -- the text of a block that is one
@@ -124,47 +123,37 @@ text_is lines few b is = let test : nat_lt max_script (length (made_text lines))
 text_long : (lines : List (List ℕ)) → max_script < length (made_text lines) → text_of_block lines ≡ Err script.ScriptTooLong
 text_long lines long = let test : nat_lt max_script (length (made_text lines)) ≡ true = grind (arith, nat_tests) in rw test refl
 
--- the line is no command
-bad_target : (s : Contents) (line : List ℕ) (lines : List (List ℕ)) → target_of line ≡ None → IsTextAnswer s (block_command line lines) (ended (codes "no 52 BadCommand")) s
-bad_target s line lines none = subst (λ (c : Command). IsTextAnswer s c (ended (codes "no 52 BadCommand")) s) (sym (ap (λ (t : Option ScriptEdit). with_target t lines) none)) (Enough, (refl, refl))
+-- the line is bad, whatever its block is
+pub bad_line : (s : Contents) (line : List ℕ) (lines : List (List ℕ)) → None ≡ target_of line → IsTextAnswer s (block_command line lines) (ended (codes "no 52 BadCommand")) s
+bad_line s line lines none = subst (λ (c : Command). IsTextAnswer s c (ended (codes "no 52 BadCommand")) s) (ap (λ (t : Option ScriptEdit). with_target t lines) none) (Enough, (refl, refl))
 
--- the line is no text, whatever its block is
-pub bad_line : (s : Contents) (line : List ℕ) (lines : List (List ℕ)) → is_utf8 line ≡ false → IsTextAnswer s (block_command line lines) (ended (codes "no 52 BadCommand")) s
-bad_line s line lines bytes = bad_target s line lines (rw bytes refl)
-
--- what is replaced, by a line that is text
-target_is : (line : List ℕ) (t : Option ScriptEdit) → is_utf8 line ≡ true → t ≡ target_of_text line → target_of line ≡ t
-target_is line t utf8 is = rw utf8 (sym is)
-
--- the line is text, and no command, whatever its block is
-pub bad_argument : (s : Contents) (line : List ℕ) (lines : List (List ℕ)) → is_utf8 line ≡ true → None ≡ target_of_text line → IsTextAnswer s (block_command line lines) (ended (codes "no 52 BadCommand")) s
-bad_argument s line lines utf8 none = bad_target s line lines (target_is line None utf8 none)
-
-command_is : (line : List ℕ) (lines : List (List ℕ)) (what : ScriptEdit) → is_utf8 line ≡ true → Some what ≡ target_of_text line → block_command line lines ≡ with_text what (text_of_block lines)
-command_is line lines what utf8 is = ap (λ (t : Option ScriptEdit). with_target t lines) (target_is line (Some what) utf8 is)
+command_is : (line : List ℕ) (lines : List (List ℕ)) (what : ScriptEdit) → Some what ≡ target_of line → block_command line lines ≡ with_text what (text_of_block lines)
+command_is line lines what is = ap (λ (t : Option ScriptEdit). with_target t lines) (sym is)
 
 -- the block is too long
-pub block_too_long : (s : Contents) (line : List ℕ) (lines : List (List ℕ)) (what : ScriptEdit) → is_utf8 line ≡ true → Some what ≡ target_of_text line → max_script < length (made_text lines)
+pub block_too_long : (s : Contents) (line : List ℕ) (lines : List (List ℕ)) (what : ScriptEdit) → Some what ≡ target_of line → max_script < length (made_text lines)
     → IsTextAnswer s (block_command line lines) (edit_text (Some (fault.Script script.ScriptTooLong))) s
-block_too_long s line lines what utf8 is long =
+block_too_long s line lines what is long =
     subst (λ (c : Command). IsTextAnswer s c (edit_text (Some (fault.Script script.ScriptTooLong))) s)
-    (sym (command_is line lines what utf8 is ∙ ap (with_text what) (text_long lines long))) (Enough, (refl, refl))
+    (sym (command_is line lines what is ∙ ap (with_text what) (text_long lines long))) (Enough, (refl, refl))
 
--- the memory of the block was refused
-pub block_refused : (s : Contents) (line : List ℕ) (lines : List (List ℕ)) (what : ScriptEdit) → is_utf8 line ≡ true → Some what ≡ target_of_text line
-    → IsTextAnswer s (block_command line lines) (edit_text (Some fault.OutOfMemory)) s
-block_refused s line lines what utf8 is =
-    subst (λ (c : Command). IsTextAnswer s c (edit_text (Some fault.OutOfMemory)) s) (sym (command_is line lines what utf8 is)) (by (text_of_block lines))
+text_refused : (s : Contents) (what : ScriptEdit) (r : Result (List ℕ) ScriptFault) → IsTextAnswer s (with_text what r) (edit_text (Some fault.OutOfMemory)) s
+text_refused s what (Ok text) = (BlockRefused, (Some fault.OutOfMemory, (refl, refl, refl), refl))
+text_refused s what (Err f) = (BlockRefused, (refl, refl))
+
+-- the memory of the name that the line has was refused
+pub name_refused : (s : Contents) (line : List ℕ) (lines : List (List ℕ)) → is_some (target_of line) ≡ true → IsTextAnswer s (block_command line lines) (edit_text (Some fault.OutOfMemory)) s
+name_refused s line lines some = by (target_of line) some
   where
-    by : (r : Result (List ℕ) ScriptFault) → IsTextAnswer s (with_text what r) (edit_text (Some fault.OutOfMemory)) s
-    by (Ok text) = (BlockRefused, (Some fault.OutOfMemory, (refl, refl, refl), refl))
-    by (Err f) = (BlockRefused, (refl, refl))
+    by : (t : Option ScriptEdit) → is_some t ≡ true → IsTextAnswer s (with_target t lines) (edit_text (Some fault.OutOfMemory)) s
+    by None e = let no : false ≡ true = e in absurd (cc no)
+    by (Some what) e = text_refused s what (text_of_block lines)
 
 -- the block is held: it is a text, or it is not UTF-8
-pub block_held : (s t : Contents) (line bytes answer : List ℕ) (lines : List (List ℕ)) (what : ScriptEdit) → is_utf8 line ≡ true → Some what ≡ target_of_text line
+pub block_held : (s t : Contents) (line bytes answer : List ℕ) (lines : List (List ℕ)) (what : ScriptEdit) → Some what ≡ target_of line
     → HasText None bytes lines → (is_utf8 bytes ≡ true → IsEditAnswer s (Replace what bytes) answer t)
     → (is_utf8 bytes ≡ false → (answer ≡ edit_text (Some (fault.Script script.NotUtf8))) × (t ≡ s)) → IsTextAnswer s (block_command line lines) answer t
-block_held s t line bytes answer lines what utf8 target holds text bad = by (is_utf8 bytes) refl
+block_held s t line bytes answer lines what target holds text bad = by (is_utf8 bytes) refl
   where
     same : (b : Bool) → is_utf8 bytes ≡ b → is_utf8 (made_text lines) ≡ b
     same b is = ap is_utf8 (sym holds.0) ∙ is
@@ -172,16 +161,8 @@ block_held s t line bytes answer lines what utf8 target holds text bad = by (is_
     by : (b : Bool) → is_utf8 bytes ≡ b → IsTextAnswer s (block_command line lines) answer t
     by true is =
         subst (λ (c : Command). IsTextAnswer s c answer t)
-        (sym (command_is line lines what utf8 target ∙ ap (with_text what) (text_is lines holds.1 true (same true is) ∙ ap Ok (sym holds.0)))) (text is)
+        (sym (command_is line lines what target ∙ ap (with_text what) (text_is lines holds.1 true (same true is) ∙ ap Ok (sym holds.0)))) (text is)
     by false is =
         let refused = bad is in
         subst (λ (c : Command). IsTextAnswer s c answer t)
-        (sym (command_is line lines what utf8 target ∙ ap (with_text what) (text_is lines holds.1 false (same false is)))) (Enough, (refused.0, refused.1))
-
--- bytes that are no text
-pub not_text : (bytes : List ℕ) → ¬ (IsUtf8 bytes) → is_utf8 bytes ≡ false
-not_text bytes none = by (is_utf8 bytes) refl
-  where
-    by : (t : Bool) → is_utf8 bytes ≡ t → is_utf8 bytes ≡ false
-    by true e = absurd (none (IsUtf8-from_is_utf8 bytes e))
-    by false e = e
+        (sym (command_is line lines what target ∙ ap (with_text what) (text_is lines holds.1 false (same false is)))) (Enough, (refused.0, refused.1))

@@ -1,5 +1,6 @@
 pub mod BlockFacts
 pub mod EditFacts
+pub mod FirstFacts
 pub mod LoadFacts
 pub mod ReportFacts
 pub mod SessionFacts

@@ -126,3 +126,5 @@ bench_refused old between new external s words state edit.AmongCount begins read
 bench_refused old between new external s words state (edit.Script f) begins reads fault = words_given old between new external s words (edit.Script f) begins reads fault
 bench_refused old between new external s words state edit.OutOfMemory begins reads fault = (s, reads.0, (between, begins, reads.1))
 bench_refused old between new external s words state edit.MeterFull begins reads fault = words_given old between new external s words edit.MeterFull begins reads fault
+bench_refused old between new external s words state edit.BadLimit begins reads fault = words_given old between new external s words edit.BadLimit begins reads fault
+bench_refused old between new external s words state edit.NoGrouping begins reads fault = words_given old between new external s words edit.NoGrouping begins reads fault

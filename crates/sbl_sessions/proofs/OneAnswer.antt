@@ -7,7 +7,7 @@ use Rattle.sbl_bench.specs.declared.fault.EditFault.{EditFault}
 use Rattle.sbl_bench.specs.declared.fault.EditFault.TheVariants as fault
 use Rattle.sbl_print.specs.Canonical.{canonical}
 use Rattle.sbl_sessions.specs.Answers.{Answers, BlockRefused, Enough, IsEdit, IsNoText, IsReplyTo, IsReport, IsReportOrAbsent, Memory, RefusedAfter, Tells, edit_text, ended}
-use Rattle.sbl_sessions.specs.Commands.{Command, Nothing, Makes, Stems, Classes, Script, Class, Trace, Runs, HasNoText, Bad, command_of}
+use Rattle.sbl_sessions.specs.Commands.{Command, Nothing, Makes, Stems, Classes, Script, Class, Trace, Runs, HasNoNumber, HasNoText, Bad, command_of}
 use Rattle.sbl_sessions.specs.OneAnswer.{AnswersAreOne}
 use Rattle.sbl_sessions.specs.Rows.{class_text, classes_text, stems_text}
 use Rattle.sbl_sessions.specs.Traces.{trace_text}
@@ -41,10 +41,11 @@ reply-one one s (Makes e) m a b t u p q =
     (p.2 ∙ ap edit_text o.0 ∙ sym q.2, o.1)
 reply-one one s Stems m a b t u p q = report-one s (stems_text s) m a b t u p q
 reply-one one s Classes m a b t u p q = report-one s (classes_text s) m a b t u p q
-reply-one one s Script m a b t u p q = report-one s (canonical s.script.items) m a b t u p q
+reply-one one s Script m a b t u p q = report-one s (canonical s.setting.script.items) m a b t u p q
 reply-one one s (Class word) m a b t u p q = report_or_absent-one s (class_text s word) m a b t u p q
 reply-one one s (Trace word) m a b t u p q = report_or_absent-one s (trace_text s word) m a b t u p q
 reply-one one s Runs m a b t u p q = report-one s (ended (decimal s.count)) m a b t u p q
+reply-one one s HasNoNumber m a b t u p q = tells-one s (edit_text (Some fault.BadLimit)) a b t u p q
 reply-one one s (HasNoText f) m a b t u p q = no_text-one s (fault.Script f) m a b t u p q
 reply-one one s Bad m a b t u p q = tells-one s (ended (codes "no 52 BadCommand")) a b t u p q
 

@@ -10,7 +10,7 @@ use Rattle.std.proofs.lemmas.List.{map-append, take_more}
 use Rattle.std.specs.Option.{option_map}
 use Rattle.std.specs.Str.{bytes_eq, encode_utf8_all}
 use Rattle.sbl_bench.specs.Classes.{Class, class_of, words_of}
-use Rattle.sbl_bench.specs.Rows.{Row, max_steps}
+use Rattle.sbl_bench.specs.Rows.{Row}
 use Rattle.sbl_bench.specs.Traces.{trace_of}
 use Rattle.sbl_bench.specs.Vocabulary.{is_word}
 use Rattle.sbl_bench.specs.declared.fault.EditFault.TheVariants as fault
@@ -97,12 +97,12 @@ word_field words i w first old new lt is before more =
 
 -- ---- the trace of a word
 
-pub trace_text_is : (s : Contents) (word : List ℕ) (items : Option (List Item')) → items ≡ trace_of s.script s.words word → trace_text s word ≡ option_map items_text items
+pub trace_text_is : (s : Contents) (word : List ℕ) (items : Option (List Item')) → items ≡ trace_of s.setting s.words word → trace_text s word ≡ option_map items_text items
 unfolding trace_text
 trace_text_is s word items is = ap (option_map items_text) (sym is)
 
 -- its items, or want of memory for their text
-pub trace_answer : (s : Contents) (word : List ℕ) (items : List Item') (r : Result (Vec ℕ Global) AllocError) (reply : Reply) → Some items ≡ trace_of s.script s.words word
+pub trace_answer : (s : Contents) (word : List ℕ) (items : List Item') (r : Result (Vec ℕ Global) AllocError) (reply : Reply) → Some items ≡ trace_of s.setting s.words word
     → IfOk r (λ text. text.items ≡ items_text items) → IfOk r (λ made. IsReply reply made.items) → OnErr r (IsReply reply (edit_text (Some fault.OutOfMemory)))
     → (memory : Memory) × (text : List ℕ) × IsReply reply text × IsReportOrAbsent s (trace_text s word) memory text s
 trace_answer s word items r reply is text made refused =
@@ -110,7 +110,7 @@ trace_answer s word items r reply is text made refused =
     (report_answer r reply s (items_text items) text made refused)
 
 -- the word is not there
-pub trace_absent : (s : Contents) (word told : List ℕ) → None ≡ trace_of s.script s.words word → told ≡ edit_text (Some fault.Absent)
+pub trace_absent : (s : Contents) (word told : List ℕ) → None ≡ trace_of s.setting s.words word → told ≡ edit_text (Some fault.Absent)
     → (memory : Memory) × (text : List ℕ) × (told ≡ text) × IsReportOrAbsent s (trace_text s word) memory text s
 trace_absent s word told is absent =
     subst (λ (o : Option (List ℕ)). (memory : Memory) × (text : List ℕ) × (told ≡ text) × IsReportOrAbsent s o memory text s) (sym (trace_text_is s word None is)) (Enough, told, refl, (absent, refl))
@@ -123,7 +123,7 @@ trace_refused s word reply there refused = by (is_word word s.words) refl
     by : (b : Bool) → is_word word s.words ≡ b → (memory : Memory) × (text : List ℕ) × IsReply reply text × IsReportOrAbsent s (trace_text s word) memory text s
     by false absent = absurd (there absent)
     by true e =
-        let items = touched_of s.script word max_steps in
-        let is : Some items ≡ trace_of s.script s.words word = rw e refl in
+        let items = touched_of s.setting.script word s.setting.limit in
+        let is : Some items ≡ trace_of s.setting s.words word = rw e refl in
         subst (λ (o : Option (List ℕ)). (memory : Memory) × (text : List ℕ) × IsReply reply text × IsReportOrAbsent s o memory text s) (sym (trace_text_is s word (Some items) is))
         (RefusedAfter 0, edit_text (Some fault.OutOfMemory), refused, (refl, refl))

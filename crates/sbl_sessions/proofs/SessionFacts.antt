@@ -4,6 +4,7 @@ use Rattle.std.proofs.lemmas.List.{append-nil}
 use Rattle.std.proofs.lemmas.List.Elements.{All-append, All-cons, All-nil}
 use Rattle.std.proofs.lemmas.Grind.{flat_map-append}
 use Rattle.std.specs.Io.KnownBytes.{Appends, IsAtEnd, Keeps}
+use Rattle.std.specs.Option.{is_some}
 use Rattle.std.proofs.KnownBytes.{Appends-nil, Appends-trans}
 use Rattle.sbl_bench.specs.Contents.{Contents}
 use Rattle.sbl_sessions.specs.Answers.{Answers, IsReplyTo, Memory}
@@ -11,7 +12,7 @@ use Rattle.sbl_sessions.specs.Block.{BlockLines, Breaks, HoldsText, ReadsBlock, 
 use Rattle.sbl_sessions.specs.CommandViews.{IsAnswer, IsAnswered, IsReply, IsTextAnswer}
 use Rattle.sbl_sessions.specs.Commands.{block_command, command_of, line_command}
 use Rattle.sbl_lines.specs.Held.{AllFit, BeginsLong, BreaksOff, GivesLine, Took, TookWhole}
-use Rattle.sbl_sessions.specs.Requests.{HasBlock, IsBegun, IsRequest, Request, TookRequests, asks_block, block_lines, lines_in, lines_in_all}
+use Rattle.sbl_sessions.specs.Requests.{BlockWord, HasBlock, IsBegun, IsRequest, Request, TookRequests, asks_block, block_lines, block_word, lines_in, lines_in_all}
 use Rattle.sbl_sessions.specs.Session.{Answered, HalfAnswered, IsSession, Served}
 use Rattle.sbl_sessions.specs.declared.block_text.BlockText.{BlockText}
 use Rattle.sbl_lines.specs.Faults.{serve_fault_of}
@@ -130,6 +131,12 @@ session_at_write a b c d h i j s t u line reply n so gives fits is writes = (
 )
 
 -- ---- the answer to a request
+
+pub asks : (line : List ℕ) {word : BlockWord} → block_word line ≡ Some word → asks_block line ≡ true
+asks line is = ap is_some is
+
+pub asks_none : (line : List ℕ) → block_word line ≡ None → asks_block line ≡ false
+asks_none line is = ap is_some is
 
 -- a line that asks for no block
 pub answered_line : (a : Option (List ℕ)) (line : List ℕ) (s t : Contents) (reply : Reply) → asks_block line ≡ false → IsAnswer s (line_command line) reply t → IsAnswered a a line s reply t

@@ -1,4 +1,4 @@
--- The answers of a session to its requests.
+-- The replies of a session to its requests.
 use Rattle.std.specs.Prelude.{◌≡◌, ℕ, true, List, [], ◌∷◌, ◌++◌, codes, decimal, Option, Some, None}
 use Rattle.sbl_bench.specs.Contents.{Contents}
 use Rattle.sbl_bench.specs.Edits.{Edit, IsOutOfMemory, IsVerdict, counted, is_of_script}
@@ -6,7 +6,7 @@ use Rattle.sbl_bench.specs.Names.{script_name}
 use Rattle.sbl_bench.specs.declared.fault.EditFault.{EditFault}
 use Rattle.sbl_bench.specs.declared.fault.EditFault.TheVariants as fault
 use Rattle.sbl_print.specs.Canonical.{canonical}
-use Rattle.sbl_sessions.specs.Commands.{Command, Nothing, Makes, Stems, Classes, Script, Class, Trace, Runs, HasNoText, Bad, command_of}
+use Rattle.sbl_sessions.specs.Commands.{Command, Nothing, Makes, Stems, Classes, Script, Class, Trace, Runs, HasNoNumber, HasNoText, Bad, command_of}
 use Rattle.sbl_sessions.specs.Requests.{Request}
 use Rattle.sbl_sessions.specs.Rows.{class_text, classes_text, stems_text}
 use Rattle.sbl_sessions.specs.Traces.{trace_text}
@@ -15,7 +15,7 @@ use Rattle.sbl_sessions.specs.Traces.{trace_text}
 abbrev pub ended : List ℕ → List ℕ
 ended text = text ++ 10 ∷ []
 
--- the answer to an edit: `ok`, or the refusal's number and name
+-- the reply to an edit: `ok`, or `no` with the number and name of the fault
 abbrev pub edit_text : Option EditFault → List ℕ
 edit_text None = ended (codes "ok")
 edit_text (Some fault.Present) = ended (codes "no 40 Present")
@@ -29,9 +29,11 @@ edit_text (Some fault.AmongCount) = ended (codes "no 47 AmongCount")
 edit_text (Some (fault.Script f)) = ended (codes "no 48 " ++ script_name f)
 edit_text (Some fault.OutOfMemory) = ended (codes "no 49 OutOfMemory")
 edit_text (Some fault.MeterFull) = ended (codes "no 50 MeterFull")
+edit_text (Some fault.BadLimit) = ended (codes "no 51 BadLimit")
+edit_text (Some fault.NoGrouping) = ended (codes "no 53 NoGrouping")
 
--- Whether the memory of a request sufficed; or that of its block was refused; or that of its edit or report, after so many of
--- the runs that the edit needs.
+-- The memory of a request: no allocation fails; or one for its name or block fails; or one for its edit or report fails, after
+-- this many of the runs that the edit needs.
 pub data Memory : Type 0 where
   Enough : Memory
   BlockRefused : Memory
@@ -41,45 +43,46 @@ pub data Memory : Type 0 where
 abbrev pub Tells : Contents → List ℕ → List ℕ → Contents → Type 0
 Tells s expected text t = (text ≡ expected) × (t ≡ s)
 
--- An edit has its verdict, and the bench is the one after it. Where memory was refused, that is its fault, and of the bench the
--- count alone may have changed: it tells the runs that were made.
+-- An edit has its verdict, and the bench is the one after it. If an allocation fails, the fault is `OutOfMemory`, and only the
+-- count of runs may change, by the number of runs that were made.
 abbrev pub IsEdit : Contents → Edit → Memory → Option EditFault → Contents → Type 0
 IsEdit s e Enough f t = IsVerdict s e f t
 IsEdit s e BlockRefused f t = (is_of_script e ≡ true) × (f ≡ Some fault.OutOfMemory) × (t ≡ s)
 IsEdit s e (RefusedAfter n) f t = (f ≡ Some fault.OutOfMemory) × (t ≡ counted n s) × IsOutOfMemory s e t
 
--- A report is written whole, or its memory was refused.
+-- A report is written whole, or an allocation for it fails.
 abbrev pub IsReport : Contents → List ℕ → Memory → List ℕ → Contents → Type 0
 IsReport s report Enough text t = Tells s report text t
 IsReport s report BlockRefused text t = ⊥
 IsReport s report (RefusedAfter n) text t = Tells s (edit_text (Some fault.OutOfMemory)) text t
 
--- a report of a word; of one that is not there it says so, and wants no memory
+-- a report of a word, or `no 41 Absent` if the word is not in the vocabulary; the latter does not allocate
 abbrev pub IsReportOrAbsent : Contents → Option (List ℕ) → Memory → List ℕ → Contents → Type 0
 IsReportOrAbsent s None memory text t = Tells s (edit_text (Some fault.Absent)) text t
 IsReportOrAbsent s (Some report) memory text t = IsReport s report memory text t
 
--- a block that is no text is refused for that, or its memory was refused
+-- a block that is not a text is refused for that, or an allocation for it fails
 abbrev pub IsNoText : Contents → EditFault → Memory → List ℕ → Contents → Type 0
 IsNoText s f Enough text t = Tells s (edit_text (Some f)) text t
 IsNoText s f BlockRefused text t = Tells s (edit_text (Some fault.OutOfMemory)) text t
 IsNoText s f (RefusedAfter n) text t = ⊥
 
--- the answer to a command, and the bench after it
+-- the reply to a command, and the bench after it
 abbrev pub IsReplyTo : Contents → Command → Memory → List ℕ → Contents → Type 0
 IsReplyTo s Nothing memory text t = Tells s [] text t
 IsReplyTo s (Makes e) memory text t = (f : Option EditFault) × IsEdit s e memory f t × (text ≡ edit_text f)
 IsReplyTo s Stems memory text t = IsReport s (stems_text s) memory text t
 IsReplyTo s Classes memory text t = IsReport s (classes_text s) memory text t
-IsReplyTo s Script memory text t = IsReport s (canonical s.script.items) memory text t
+IsReplyTo s Script memory text t = IsReport s (canonical s.setting.script.items) memory text t
 IsReplyTo s (Class word) memory text t = IsReportOrAbsent s (class_text s word) memory text t
 IsReplyTo s (Trace word) memory text t = IsReportOrAbsent s (trace_text s word) memory text t
 IsReplyTo s Runs memory text t = IsReport s (ended (decimal s.count)) memory text t
+IsReplyTo s HasNoNumber memory text t = Tells s (edit_text (Some fault.BadLimit)) text t
 IsReplyTo s (HasNoText f) memory text t = IsNoText s (fault.Script f) memory text t
 IsReplyTo s Bad memory text t = Tells s (ended (codes "no 52 BadCommand")) text t
 
--- The whole text of a session of these requests, which begins with this bench, and the bench after it. m says of each request in
--- turn whether its memory sufficed.
+-- The whole text of a session with these requests that starts with this bench, and the bench after it. The list gives the
+-- memory of each request in turn.
 abbrev pub Answers : Contents → List Request → List Memory → List ℕ → Contents → Type 0
 Answers s [] [] text t = Tells s [] text t
 Answers s (request ∷ requests) (memory ∷ m) text t =

@@ -1,15 +1,20 @@
--- A command and a reply, without where they lie in memory.
-use Rattle.std.specs.Prelude.{◌≡◌, ◌≤◌, ℕ, true, List, Option, Some, None, ⊤, length}
+-- A command and a reply, without memory addresses.
+use Rattle.std.specs.Prelude.{◌≡◌, ℕ, true, List, Option, Some, None, Result, Ok, Err, string_bytes}
+use Rattle.std.specs.Option.{is_some, option_map}
 use Rattle.std.specs.Str.{chars}
 use Rattle.sbl_bench.specs.Edits as edits
-use Rattle.sbl_script.specs.Edits.{ScriptEdit, among, body}
+use Rattle.std.specs.declared.alloc.AllocError.{AllocError}
+use Rattle.sbl_script.specs.Edits.{ScriptEdit, among, body, terms}
 use Rattle.sbl_sessions.specs.Commands as command
 use Rattle.sbl_bench.specs.Contents.{Contents}
 use Rattle.sbl_sessions.specs.Answers.{IsReplyTo, Memory}
 use Rattle.sbl_sessions.specs.Block.{BlockLines, Breaks}
 use Rattle.sbl_lines.specs.Held.{AllFit, Took}
+use Rattle.sbl_sessions.specs.Requests as request
 use Rattle.sbl_sessions.specs.Requests.{IsRequest, asks_block, block_lines}
 use Rattle.sbl_lines.specs.declared.faults.ServeFault.{ServeFault}
+use Rattle.sbl_sessions.specs.declared.commands.BlockWord.{BlockWord}
+use Rattle.sbl_sessions.specs.declared.commands.BlockWord.TheVariants as word
 use Rattle.sbl_sessions.specs.declared.commands.Command.{Command}
 use Rattle.sbl_sessions.specs.declared.commands.Command.TheVariants as variants
 use Rattle.sbl_sessions.specs.declared.commands.Target.{Target}
@@ -21,6 +26,8 @@ abbrev pub view_command : Command → command.Command
 view_command variants.Nothing = command.Nothing
 view_command (variants.Add word) = command.Makes (edits.Add (chars word.now))
 view_command (variants.Remove word) = command.Makes (edits.Remove (chars word.now))
+view_command (variants.Limit n) = command.Makes (edits.Limit n)
+view_command variants.HasNoNumber = command.HasNoNumber
 view_command variants.Stems = command.Stems
 view_command variants.Classes = command.Classes
 view_command variants.Script = command.Script
@@ -29,28 +36,35 @@ view_command (variants.Trace word) = command.Trace (chars word.now)
 view_command variants.Runs = command.Runs
 view_command variants.Bad = command.Bad
 
--- what is to be replaced in the script
+-- the part of the script that is replaced
 abbrev pub view_target : Target → ScriptEdit
-view_target (targets.Body name) = body name.now
-view_target (targets.Among name k) = among name.now k
+view_target (targets.Body name) = body (string_bytes name)
+view_target (targets.Among name k) = among (string_bytes name) k
+view_target (targets.Terms name) = terms (string_bytes name)
 
--- none where the line is bad
+-- none if the line is bad
 abbrev pub view_found : Option Target → Option ScriptEdit
 view_found None = None
 view_found (Some target) = Some (view_target target)
 
--- its word has at most so many bytes
-abbrev pub WordFits : Command → ℕ → Type 0
-WordFits (variants.Remove word) n = length word.now ≤ n
-WordFits (variants.Class word) n = length word.now ≤ n
-WordFits (variants.Trace word) n = length word.now ≤ n
-WordFits command n = ⊤
+-- what a line that asks for a block replaces, or an allocation for its name failed
+abbrev pub FindsTarget : Result (Option Target) AllocError → List ℕ → Type 0
+FindsTarget (Ok found) line = view_found found ≡ command.target_of line
+FindsTarget (Err e) line = is_some (command.target_of line) ≡ true
+
+abbrev pub view_word : BlockWord → request.BlockWord
+view_word word.Routine = request.Routine
+view_word word.Among = request.Among
+view_word word.Grouping = request.Grouping
+
+abbrev pub view_asked : Option BlockWord → Option request.BlockWord
+view_asked asked = option_map view_word asked
 
 abbrev pub IsReply : Reply → List ℕ → Type 0
 IsReply (reply.Report v) text = v.items ≡ text
 IsReply (reply.Fixed s) text = s.now ≡ text
 
--- the text that answers a command, and the bench after it, for some memory
+-- the text of the reply to a command, and the bench after it, for some memory
 abbrev pub IsTextAnswer : Contents → command.Command → List ℕ → Contents → Type 0
 IsTextAnswer s c text t = (memory : Memory) × IsReplyTo s c memory text t
 
@@ -61,7 +75,7 @@ IsEditAnswer s e text t = IsTextAnswer s (command.Makes e) text t
 abbrev pub IsAnswer : Contents → command.Command → Reply → Contents → Type 0
 IsAnswer s c r t = (memory : Memory) × (text : List ℕ) × IsReply r text × IsReplyTo s c memory text t
 
--- the line and its block, where it asks for one, have this reply; the block was taken from the front of the input
+-- the line with its block, if it asks for one, has this reply; the block was taken from the input
 pub record IsAnswered (input new_input : Option (List ℕ)) (line : List ℕ) (s : Contents) (r : Reply) (t : Contents) : Type 0 where
   pub block : Option (List (List ℕ))
   pub formed : IsRequest (record { line = line; block = block })

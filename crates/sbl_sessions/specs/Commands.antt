@@ -1,17 +1,18 @@
--- What a request asks for.
+-- The commands of requests.
 use Rattle.std.specs.Prelude.{ℕ, List, [], ◌∷◌, codes, if◌then◌else◌, length, nat_lt, Option, Some, None, Result, Ok, Err}
+use Rattle.std.specs.Option.{option_and_then}
 use Rattle.std.specs.Str.{bytes_eq, chars, is_utf8}
 use Rattle.sbl_bench.specs.Edits as edits
-use Rattle.sbl_script.specs.Edits.{ScriptEdit, among, body}
+use Rattle.sbl_script.specs.Edits.{ScriptEdit, among, body, terms}
 use Rattle.sbl_text.specs.declared.fault.ScriptFault.{ScriptFault}
 use Rattle.sbl_text.specs.declared.fault.ScriptFault.TheVariants as fault
 use Rattle.sbl_sessions.specs.Block.{made_text, max_script}
 use Rattle.sbl_sessions.specs.Numbers.{number_in}
-use Rattle.sbl_sessions.specs.Requests.{Request}
+use Rattle.sbl_sessions.specs.Requests.{BlockWord, Request, Routine, Among, Grouping, block_word}
 use Rattle.sbl_sessions.specs.Words.{argument, command_word}
 
--- nothing, an edit, the rows, the classes, the script, the class of a word, what its run touches, the count of runs, an edit whose block
--- is no text, or nothing that is known
+-- nothing, an edit, the rows, the classes, the script, the class of a word, what its run touches, the number of runs, a limit
+-- that is not a number, an edit whose block is not a text, or an unknown command
 pub data Command : Type 0 where
   Nothing : Command
   Makes : edits.Edit → Command
@@ -21,31 +22,38 @@ pub data Command : Type 0 where
   Class : List ℕ → Command
   Trace : List ℕ → Command
   Runs : Command
+  HasNoNumber : Command
   HasNoText : ScriptFault → Command
   Bad : Command
 
 -- ---- a line alone
 
--- the command of a line that is text
+-- a limit, written in decimal digits
+abbrev pub limit_command : Option ℕ → Command
+limit_command None = HasNoNumber
+limit_command (Some n) = Makes (edits.Limit n)
+
+-- the command of a line that is UTF-8
 abbrev pub text_command : List ℕ → Command
 text_command line =
     if bytes_eq (command_word line) (codes "add") then Makes (edits.Add (chars (argument line)))
     else (if bytes_eq (command_word line) (codes "remove") then Makes (edits.Remove (chars (argument line)))
     else (if bytes_eq (command_word line) (codes "class") then Class (chars (argument line))
     else (if bytes_eq (command_word line) (codes "trace") then Trace (chars (argument line))
+    else (if bytes_eq (command_word line) (codes "limit") then limit_command (number_in (argument line))
     else (if bytes_eq line (codes "stems") then Stems
     else (if bytes_eq line (codes "classes") then Classes
     else (if bytes_eq line (codes "script") then Script
-    else (if bytes_eq line (codes "runs") then Runs else Bad)))))))
+    else (if bytes_eq line (codes "runs") then Runs else Bad))))))))
 
--- an empty line asks for nothing, and a line that is not UTF-8 for nothing that is known
+-- an empty line has no command, and a line that is not UTF-8 has an unknown one
 unfoldable pub line_command : List ℕ → Command
 line_command [] = Nothing
 line_command (b ∷ line) = if is_utf8 (b ∷ line) then text_command (b ∷ line) else Bad
 
 -- ---- a line and its block
 
--- the text of a block, or why it is none
+-- the text of a block, or why it has none
 abbrev pub text_of_block : List (List ℕ) → Result (List ℕ) ScriptFault
 text_of_block lines =
     if nat_lt max_script (length (made_text lines)) then Err fault.ScriptTooLong
@@ -56,12 +64,16 @@ abbrev pub numbered : List ℕ → Option ℕ → Option ScriptEdit
 numbered name None = None
 numbered name (Some k) = Some (among name k)
 
--- what a line that is text asks to have replaced: the body of the routine that is its argument; or an among, where the argument
--- is a name, a space and a number; none where the line is bad
+-- what a block word and its argument replace: the body of the routine of this name; an among, with a name, a space and a number
+-- as the argument; the terms of the grouping of this name; none if the line is bad
+abbrev pub target_by : BlockWord → List ℕ → Option ScriptEdit
+target_by Routine name = Some (body name)
+target_by Among text = numbered (command_word text) (number_in (argument text))
+target_by Grouping name = Some (terms name)
+
+-- what a line that is UTF-8 replaces
 abbrev pub target_of_text : List ℕ → Option ScriptEdit
-target_of_text line =
-    if bytes_eq (command_word line) (codes "among") then numbered (command_word (argument line)) (number_in (argument (argument line)))
-    else Some (body (argument line))
+target_of_text line = option_and_then (λ word. target_by word (argument line)) (block_word line)
 
 -- a line that is not UTF-8 is bad
 abbrev pub target_of : List ℕ → Option ScriptEdit

@@ -1,4 +1,4 @@
--- What an edit answered.
+-- The fault in the result of an edit.
 use Rattle.std.specs.Prelude.{Option, Some, None, Result, Ok, Err}
 use Rattle.sbl_bench.specs.declared.fault.EditFault.{EditFault}
 

@@ -1,4 +1,4 @@
--- what the contracts of public calls rest on
+-- definitions that the contracts of public functions use
 pub mod Faults
 pub mod Words
 pub mod Numbers

@@ -1,4 +1,4 @@
--- What loading makes of an input: a script block, up to a point, and then words, one a line, up to a point or the end.
+-- The result of loading an input: a script block, up to a line `.`, and then words, one per line, up to a line `.` or the end.
 use Rattle.std.specs.Prelude.{◌≡◌, ◌≢◌, ◌⊎◌, ◌<◌, ◌≤◌, ℕ, false, List, [], ◌∷◌, ◌++◌, Option, Some, None, Result, Ok, Err, length, map}
 use Rattle.std.specs.Str.{chars, is_utf8}
 use Rattle.std.specs.Io.KnownBytes.{IsAtEnd}
@@ -21,11 +21,11 @@ use Rattle.sbl_lines.specs.declared.faults.ServeFault.TheVariants as fault
 
 -- ---- the words
 
--- lines of words are lines of a block, and UTF-8 too
+-- the lines of words are lines of a block, and UTF-8 too
 abbrev pub WordLines : List (List ℕ) → Type 0
 WordLines lines = BlockLines lines × AllText lines
 
--- Words stand at the front: lines of words, and then a point or the end of input.
+-- Words were taken from the input: lines of words, and then a line `.` or the end of input.
 abbrev pub TookWords : Option (List ℕ) → Option (List ℕ) → List (List ℕ) → Type 0
 TookWords old new words = WordLines words × (Took old new (words ++ point ∷ []) ⊎ (Took old new words × IsAtEnd new))
 
@@ -41,7 +41,8 @@ TookSome old new = (lines : List (List ℕ)) × BlockLines lines × Took old new
 
 -- ---- reading
 
--- the text of the script block; or it is too long, or its memory was refused, though it was read to its end; or it has no end
+-- the text of the script block; or a block that was read to its end is too long or an allocation for it failed; or the block
+-- has no end
 abbrev pub ReadsScript : Option (List ℕ) → Option (List ℕ) → Result (Vec ℕ Global) LoadFault → Type 0
 ReadsScript old new (Ok text) = (lines : List (List ℕ)) × TookBlock old new lines × (text.items ≡ made_text lines) × (length (made_text lines) ≤ max_script)
 ReadsScript old new (Err (Script script.ScriptTooLong)) = (lines : List (List ℕ)) × TookBlock old new lines × (max_script < length (made_text lines))
@@ -66,23 +67,23 @@ abbrev pub TookSource : Option (List ℕ) → Option (List ℕ) → List ℕ →
 TookSource old new external s =
     (lines : List (List ℕ)) × TookBlock old new lines × IsScriptOf (made_text lines) external s
 
--- A script block was taken, and with this external its text has this fault; or memory was refused.
+-- A script block was taken, and with this external its text has this fault; or an allocation failed.
 abbrev pub TookFault : Option (List ℕ) → Option (List ℕ) → List ℕ → ScriptFault → Type 0
 TookFault old new external f =
     (lines : List (List ℕ)) × TookBlock old new lines × ((f ≡ script.OutOfMemory) ⊎ IsFaultOf (made_text lines) external f)
 
--- An input is a script block that is read as this script with this external, and then these words.
+-- An input is a script block that is read as this script with this external, followed by these words.
 abbrev pub IsInput : Option (List ℕ) → Option (List ℕ) → List ℕ → Source → List (List ℕ) → Type 0
 IsInput old new external s words =
     (between : Option (List ℕ)) × TookSource old between external s × TookWords between new words
 
--- An input is a script block that is read as a script with this external, and then something else.
+-- An input is a script block that is read as a script with this external, followed by something else.
 abbrev pub AfterSource : Option (List ℕ) → List ℕ → (Option (List ℕ) → Type 0) → Type 0
 AfterSource old external P = (s : Source) × (between : Option (List ℕ)) × TookSource old between external s × P between
 
--- What loading answers: the bench of the script and the words, or why there is none, and what was taken. The script block is read
--- to its end before it is judged, the script is judged before the words are read, and the words are all read before they are
--- judged. A fault of the words stands after a script block that is read as a script.
+-- The result of loading: the bench of the script and the words, or why there is none, and what was taken from the input. The
+-- script block is read to its end before it is checked, the script is checked before the words are read, and all words are read
+-- before they are checked. A fault of the words comes after a script block that is read as a script.
 abbrev pub IsLoaded : {B : Type 0} → Option (List ℕ) → Option (List ℕ) → List ℕ → (B → Contents) → Result B LoadFault → Type 0
 IsLoaded old new external state (Ok bench) =
     (s : Source) × (words : List (List ℕ)) × IsInput old new external s words
@@ -97,6 +98,6 @@ IsLoaded old new external state (Err (Input fault.OutOfMemory)) =
     ((lines : List (List ℕ)) × TookBlock old new lines) ⊎ AfterSource old external (λ between. TookSome between new)
 IsLoaded old new external state (Err (Input f)) = Breaks BlockLines old new f ⊎ AfterSource old external (λ between. Breaks WordLines between new f)
 
--- a fault of reading has its cause in the reader or a bound, or is one that the lines answer again
+-- a fault of reading is caused by the reader or a bound, or the lines returned it before
 abbrev pub HasReason : {R : Type 0} → (R → ℕ) → (R → ℕ) → (R → ℕ) → Lines R → Lines R → LoadFault → Type 0
 HasReason failures row reads lines new_lines f = f ≡ Input fault.Read → HasCause failures row reads lines new_lines ⊎ (fault_of lines ≡ Some line.Read)

@@ -4,8 +4,8 @@ use Rattle.std.specs.List.{list_all}
 use Rattle.sbl_text.specs.Classes.{is_digit}
 use Rattle.sbl_text.specs.Tokens.{number_of}
 
--- The largest number that is told apart; it stands for all above it too. It counts among amongs, and so many of them, which a memory
--- would have to hold, no script has: each of these numbers names none.
+-- The largest number; every larger number is read as this one. No script has this many amongs, so as the number of an among it
+-- names none. As a limit it is too high.
 abbrev pub max_number : ℕ
 max_number = 18446744073709551615
 

@@ -1,4 +1,4 @@
--- The answers to some requests are one text, and leave one bench, for the memory that each of them was given.
+-- The replies to a list of requests are one text, and leave one bench, for the memory of each request.
 use Rattle.std.specs.Prelude.{◌≡◌, ℕ, List}
 use Rattle.sbl_bench.specs.Contents.{Contents}
 use Rattle.sbl_sessions.specs.Answers.{Answers, Memory}

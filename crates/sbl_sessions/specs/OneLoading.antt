@@ -1,4 +1,4 @@
--- An input has one loading.
+-- Loading an input has one result.
 use Rattle.std.specs.Prelude.{◌≡◌, ℕ, List, Option, Some, Result, Ok, Err, ⊤}
 use Rattle.sbl_bench.specs.Contents.{Contents}
 use Rattle.sbl_bench.specs.declared.fault.EditFault.TheVariants as edit
@@ -8,7 +8,7 @@ use Rattle.sbl_sessions.specs.declared.faults.LoadFault.{LoadFault}
 use Rattle.sbl_sessions.specs.declared.faults.LoadFault.TheVariants.{Input, Open, Script}
 use Rattle.sbl_lines.specs.declared.faults.ServeFault.TheVariants as fault
 
--- the bytes alone tell the ending: the reader did not stop, and no memory was refused
+-- the bytes alone determine the result: the reader did not stop, and no allocation failed
 abbrev pub IsToldByBytes : Result Contents LoadFault → Type 0
 IsToldByBytes (Ok s) = ⊤
 IsToldByBytes (Err (Script script.OutOfMemory)) = ⊥
@@ -17,13 +17,13 @@ IsToldByBytes (Err (Input fault.OutOfMemory)) = ⊥
 IsToldByBytes (Err (Input fault.Read)) = ⊥
 IsToldByBytes (Err f) = ⊤
 
--- the same bytes have one bench with the same external, or one fault, and never both
+-- with the same external, the same bytes always give one bench, or always one fault
 abbrev pub LoadingIsOne : Type 0
 LoadingIsOne =
     (bytes external : List ℕ) (a b : Option (List ℕ)) (r q : Result Contents LoadFault) → IsToldByBytes r → IsToldByBytes q
     → IsLoaded (Some bytes) a external (λ s. s) r → IsLoaded (Some bytes) b external (λ s. s) q → r ≡ q
 
--- and the same bytes stand behind the words of a bench
+-- and the same bytes are left after the words of a bench
 abbrev pub RestIsOne : Type 0
 RestIsOne =
     (bytes external : List ℕ) (a b : Option (List ℕ)) (s t : Contents) → IsLoaded (Some bytes) a external (λ s. s) (Ok s)

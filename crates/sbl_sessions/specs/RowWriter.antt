@@ -1,4 +1,4 @@
--- A writer of rows in the midst of its work.
+-- The state of a writer between two rows.
 use Rattle.std.specs.Prelude.{◌≡◌, ℕ, List, Some, false}
 use Rattle.csv.specs.Writing.{writer_setup, fields_written, has_written, text_written}
 use Rattle.csv.specs.declared.writer.Writer.{Writer}
@@ -6,7 +6,7 @@ use Rattle.std.specs.declared.vec.Vec.{Vec}
 use Rattle.std.specs.declared.alloc.Global.{Global}
 use Rattle.sbl_records.specs.Records.{flexible}
 
--- it writes over a `Vec`, has no row begun, and has been given this text
+-- the writer writes to a `Vec`, has not begun a row, and has been given this text
 pub record HasWritten (writer : Writer (Vec ℕ Global)) (text : List ℕ) : Type 0 where
   pub told : text_written (λ v. Some v.items) writer ≡ Some text
   pub setup : writer_setup writer ≡ flexible

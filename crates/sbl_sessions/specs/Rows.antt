@@ -10,7 +10,7 @@ use Rattle.sbl_bench.specs.Rows.{Row, rows_of}
 use Rattle.sbl_bench.specs.Contents.{Contents}
 use Rattle.sbl_records.specs.Records.{records_text}
 
--- the fields of a row: the word, and its stem or the name of its run's fault
+-- the fields of a row: the word, and its stem or the name of the fault of its run
 abbrev pub outcome_fields : Outcome' → List (List ℕ)
 outcome_fields (Stem text) = codes "stem" ∷ encode_utf8_all text ∷ []
 outcome_fields (Refused f) = codes "refused" ∷ name_of f ∷ []
@@ -18,9 +18,9 @@ outcome_fields (Refused f) = codes "refused" ∷ name_of f ∷ []
 unfoldable pub row_fields : Row → List (List ℕ)
 row_fields row = encode_utf8_all row.word ∷ outcome_fields row.outcome
 
--- the rows of the current script over the current vocabulary
+-- the rows of the current script for the current vocabulary, under the current limit
 abbrev pub rows_now : Contents → List Row
-rows_now s = rows_of s.script s.words
+rows_now s = rows_of s.setting s.words
 
 unfoldable pub stems_text : Contents → List ℕ
 stems_text s = records_text (map row_fields (rows_now s))
@@ -33,7 +33,7 @@ class_fields c = map encode_utf8_all (c.stem ∷ c.words)
 unfoldable pub classes_text : Contents → List ℕ
 classes_text s = records_text (map class_fields (classes_of (rows_now s)))
 
--- the fields of a word's class, or of its row where its run is refused and it has no class
+-- the fields of a word's class, or of its row if its run is refused and it has no class
 abbrev pub class_or_row : Option Class → Row → List (List ℕ)
 class_or_row (Some class) row = class_fields class
 class_or_row None row = row_fields row
@@ -41,6 +41,6 @@ class_or_row None row = row_fields row
 abbrev pub class_or_row_text : Contents → List ℕ → Row → List ℕ
 class_or_row_text s word row = records_text (class_or_row (class_of (rows_now s) word) row ∷ [])
 
--- what tells of a word's class, and of no word that is not there
+-- the report of a word's class; none if the word is not in the vocabulary
 unfoldable pub class_text : Contents → List ℕ → Option (List ℕ)
 class_text s word = option_map (class_or_row_text s word) (find (λ row. bytes_eq word row.word) (rows_now s))

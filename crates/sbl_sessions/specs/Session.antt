@@ -1,4 +1,4 @@
--- A session: what is written, and what the bench is then, by the bytes of the input.
+-- A session: what is written, and the bench after it, as a function of the bytes of the input.
 use Rattle.std.specs.Prelude.{◌≡◌, ◌⊎◌, ◌++◌, ℕ, List, [], ◌∷◌, Option, Some, Result, Ok, Err, ⊤, take}
 use Rattle.std.specs.Io.KnownBytes.{Appends, IsAtEnd}
 use Rattle.sbl_bench.specs.Contents.{Contents}
@@ -13,15 +13,15 @@ use Rattle.sbl_lines.specs.declared.faults.LineFault.TheVariants as line
 use Rattle.sbl_lines.specs.declared.faults.ServeFault.{ServeFault}
 use Rattle.sbl_lines.specs.declared.faults.ServeFault.TheVariants as fault
 
--- These requests, and no more, were answered: for some list m, which says of each whether its memory sufficed, the answers to them
--- were written, and the bench is the one after them.
+-- Exactly these requests have their replies: for some list m of the memory of each, the replies were written, and the bench is
+-- the one after them.
 pub record Answered (s : Contents) (requests : List Request) (held new_held : Option (List ℕ)) (t : Contents) : Type 0 where
   pub m : List Memory
   pub text : List ℕ
   pub answers : Answers s requests m text t
   pub written : Appends held new_held text
 
--- After these requests were answered, the edit of one more was made, and a front of its answer was written.
+-- After the replies to these requests, the edit of one more was made, and a prefix of its reply was written.
 pub record HalfAnswered (s : Contents) (requests : List Request) (request : Request) (held new_held : Option (List ℕ)) (t : Contents) : Type 0 where
   pub m : List Memory
   pub text : List ℕ
@@ -33,15 +33,15 @@ pub record HalfAnswered (s : Contents) (requests : List Request) (request : Requ
   pub count : ℕ
   pub written : Appends held new_held (text ++ take count reply)
 
--- Requests were taken from the front of the input, and these, and no more, were answered.
+-- Requests were taken from the input, and exactly these have their replies.
 abbrev pub Served : Option (List ℕ) → Option (List ℕ) → Option (List ℕ) → Option (List ℕ) → Contents → Contents → Type 0
 Served input new_input held new_held s t = (requests : List Request) × TookRequests input new_input requests × Answered s requests held new_held t
 
--- What a session of this input writes, and what the bench is after it, by how it ends, and what input it leaves then. At the end
--- of input all requests are answered. Where the input ends inside a block, a line is too long, or the reader stops, all requests
--- before that are answered, and no line feed ends the request that it broke off; where the reader stops, a line feed ends the last
--- request that was answered. Where the writer stops, the edit of the
--- request in hand is made and its answer broken off.
+-- What a session of this input writes, the bench after it, and the input that is left, by the result of the session. At the end
+-- of input, all requests have their replies. If the input ends inside a block, a line is too long, or the reader stops, all
+-- requests before that have their replies, and no line feed ends the request that is cut off. If the reader stops, a line feed
+-- ends the last request with a reply. If the writer stops, the edit of the current request is made, and a prefix of its reply
+-- is written.
 abbrev pub IsSession : Option (List ℕ) → Option (List ℕ) → Option (List ℕ) → Option (List ℕ) → Contents → Contents → Result (Unit {0}) ServeFault → Type 0
 IsSession input new_input held new_held s t (Ok u) = Served input new_input held new_held s t × IsAtEnd new_input
 IsSession input new_input held new_held s t (Err fault.Write) =
@@ -53,8 +53,8 @@ IsSession input new_input held new_held s t (Err fault.Read) =
 IsSession input new_input held new_held s t (Err f) =
     (between : Option (List ℕ)) × Served input between held new_held s t × Breaks IsBegun between new_input f
 
--- Why a session may end: a fault of reading or writing has its cause in the device or a bound, or is one that the lines
--- answer again; a line that is too long, or a block that the end of input cuts, stands in the input, which is told above.
+-- Why a session may end. A fault of reading or writing is caused by the device or a bound, or the lines returned it before. A
+-- line that is too long, or a block that the end of input cuts off, is in the input, as defined above.
 abbrev pub Ends : {R W : Type 0} → (R → ℕ) → (R → ℕ) → (R → ℕ) → (W → ℕ) → (W → ℕ) → Lines R → Lines R → W → W → Result (Unit {0}) ServeFault → Type 0
 Ends read_failures read_row reads write_failures write_row lines new_lines writer new_writer (Ok u) = ⊤
 Ends read_failures read_row reads write_failures write_row lines new_lines writer new_writer (Err fault.Read) =

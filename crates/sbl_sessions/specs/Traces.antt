@@ -3,17 +3,18 @@ use Rattle.std.specs.Prelude.{ℕ, List, [], ◌∷◌, codes, decimal, map, Opt
 use Rattle.std.specs.Option.{option_map}
 use Rattle.sbl_bench.specs.Contents.{Contents}
 use Rattle.sbl_bench.specs.Traces.{trace_of}
-use Rattle.sbl_machine.specs.Touched.{Item', Routine, Among}
+use Rattle.sbl_machine.specs.Touched.{Item', Routine, Among, Grouping}
 use Rattle.sbl_records.specs.Records.{records_text}
 
--- the fields of an item: what it is, its routine's name, and the number of an among
+-- the fields of an item: its kind, its name or that of its routine, and the number of an among
 abbrev pub item_fields : Item' → List (List ℕ)
 item_fields (Routine name) = codes "routine" ∷ name ∷ []
 item_fields (Among name k) = codes "among" ∷ name ∷ decimal k ∷ []
+item_fields (Grouping name) = codes "grouping" ∷ name ∷ []
 
 abbrev pub items_text : List Item' → List ℕ
 items_text items = records_text (map item_fields items)
 
--- a row for each item that a fresh run of the word touches; nothing tells of a word that is not there
+-- a row for each item that a fresh run of the word touches; none if the word is not in the vocabulary
 unfoldable pub trace_text : Contents → List ℕ → Option (List ℕ)
-trace_text s word = option_map items_text (trace_of s.script s.words word)
+trace_text s word = option_map items_text (trace_of s.setting s.words word)

@@ -1,4 +1,4 @@
-//! The text of a block: lines up to a line that is a single point.
+//! The text of a block: the lines up to a line `.`.
 ghost use Rattle.std.specs.Prelude.{◌≡◌, ◌<◌, ◌≤◌, ◌++◌, [], ◌∷◌, List, ℕ, OnOk, IfOk, IfErr, None, Some, length};
 ghost use Rattle.std.specs.Io.KnownBytes.{Keeps};
 ghost use Rattle.sbl_sessions.specs.Block.{HasText, HoldsText, ReadsBlock, made_text, max_script};
@@ -13,13 +13,13 @@ use std::alloc::{AllocError, Global};
 /// Why a block that was read to its end has no text.
 #[derive(Clone, Copy, Debug, PartialEq, Eq)]
 pub(crate) enum BlockFault {
-    /// It has more than 1,048,576 bytes.
+    /// The text has more than 1,048,576 bytes.
     TooLong,
-    /// A growth was refused.
+    /// An allocation failed.
     OutOfMemory,
 }
 
-/// The text so far. At a fault it is let go, and only the fault is known.
+/// The text so far. After a fault, only the fault is kept.
 #[derive(Drop)]
 pub(crate) struct BlockText {
     bytes: Vec<u8>,
@@ -27,7 +27,7 @@ pub(crate) struct BlockText {
 }
 
 impl BlockText {
-    /// The text of no line.
+    /// Returns the text of no lines.
     fn new(alloc: Global) -> BlockText
         ensures { HoldsText result [] }
     {
@@ -37,7 +37,7 @@ impl BlockText {
         }
     }
 
-    /// Puts a line and a line feed at the end.
+    /// Appends a line and a line feed.
     fn push_line(&mut self, line: &[u8])
         ensures { (lines : List (List ℕ)) → HoldsText self.old lines → HoldsText self.new (lines ++ line.now ∷ []) }
     {
@@ -55,7 +55,7 @@ impl BlockText {
         }
     }
 
-    /// The text, or why there is none.
+    /// Returns the text, or the fault.
     pub(crate) fn whole(self) -> Result<Vec<u8>, BlockFault>
         ensures text { IfOk result (λ text. (lines : List (List ℕ)) → HoldsText self lines → HasText None text.items lines) }
         ensures fault { IfErr result (λ fault. (lines : List (List ℕ)) → HoldsText self lines → HasText (Some fault) [] lines) }
@@ -67,7 +67,7 @@ impl BlockText {
     }
 }
 
-/// Puts a line and a line feed at the end.
+/// Appends a line and a line feed. Returns `AllocError` if an allocation fails.
 fn push_ended(bytes: &mut Vec<u8>, line: &[u8]) -> Result<(), AllocError>
     ensures { OnOk result (bytes.new.items ≡ bytes.old.items ++ (line.now ++ 10 ∷ [])) }
 {
@@ -76,8 +76,8 @@ fn push_ended(bytes: &mut Vec<u8>, line: &[u8]) -> Result<(), AllocError>
     Ok(())
 }
 
-/// The text of a block. It is read to its point, also where it has no text. It answers `Cut` where the input ended before the
-/// point, `Read` and `LineTooLong` as the lines do.
+/// Reads the text of a block, up to and including its line `.`, even if the block has no text. Returns `Cut` if the input ends
+/// before that line, and `Read` and `LineTooLong` as the lines return them.
 pub(crate) fn read_block<R: Source + Drop>(lines: &mut Lines<R>) -> Result<BlockText, ServeFault>
     ensures reads { fault_of lines.old ≡ None → ReadsBlock (input_of R.left lines.old) (input_of R.left lines.new) result }
     ensures ready { OnOk result (fault_of lines.old ≡ None) }

@@ -1,40 +1,47 @@
 //! The commands of a session.
-ghost use Rattle.std.specs.Prelude.{◌≡◌, length};
+ghost use Rattle.std.specs.Prelude.{◌≡◌, IfOk, OnErr, Some, true};
+ghost use Rattle.std.specs.Option.{is_some};
 ghost use Rattle.sbl_sessions.specs.Commands as spec;
 ghost use Rattle.sbl_sessions.specs.Requests as requests;
 ghost use Rattle.sbl_sessions.specs.Words as words;
-ghost use Rattle.sbl_sessions.specs.CommandViews.{WordFits, view_command, view_found};
+ghost use Rattle.sbl_sessions.specs.CommandViews.{FindsTarget, view_asked, view_command, view_found, view_word};
 ghost use Rattle.sbl_sessions.specs.Numbers as numbers;
 
-/// What a line without a block asks for.
+use std::alloc::{AllocError, Global};
+
+/// The command on a line that no block follows.
 #[derive(Debug, Drop)]
 pub(crate) enum Command<'a> {
-    /// Nothing: the line is empty.
+    /// No command: the line is empty.
     Nothing,
-    /// That a word be added.
+    /// Adds a word.
     Add(&'a str),
-    /// That a word be removed.
+    /// Removes a word.
     Remove(&'a str),
-    /// The rows of all words.
+    /// Sets the limit of steps.
+    Limit(u64),
+    /// Sets a limit that is not a number.
+    HasNoNumber,
+    /// Reports the rows of all words.
     Stems,
-    /// The classes of all words.
+    /// Reports the classes of all words.
     Classes,
-    /// The canonical text of the script.
+    /// Reports the canonical text of the script.
     Script,
-    /// The class of a word.
+    /// Reports the class of a word.
     Class(&'a str),
-    /// What the run of a word touches.
+    /// Reports the items that the run of a word touches.
     Trace(&'a str),
-    /// The count of runs.
+    /// Reports the number of runs.
     Runs,
-    /// Nothing that is known.
+    /// An unknown command.
     Bad,
 }
 
-/// The command of a line. The command word ends at the first space, and the rest after it is the argument (our own choice).
+/// Returns the command of a line. The command word ends at the first space, and the rest after it is the argument (our own
+/// choice).
 pub(crate) fn command_of(line: &[u8]) -> Command<'_>
-    ensures command { view_command result ≡ spec.line_command line.now }
-    ensures fits { WordFits result (length line.now) }
+    ensures { view_command result ≡ spec.line_command line.now }
 {
     if line.is_empty() {
         return Command::Nothing;
@@ -45,10 +52,9 @@ pub(crate) fn command_of(line: &[u8]) -> Command<'_>
     }
 }
 
-/// The command of a line that is text.
+/// Returns the command of a line that is UTF-8.
 fn text_command(text: &str) -> Command<'_>
-    ensures command { view_command result ≡ spec.text_command text.now }
-    ensures fits { WordFits result (length text.now) }
+    ensures { view_command result ≡ spec.text_command text.now }
 {
     let (word, argument) = match text.split_once(' ') {
         Some((word, argument)) => (word, argument),
@@ -66,6 +72,9 @@ fn text_command(text: &str) -> Command<'_>
     if word == "trace" {
         return Command::Trace(argument);
     }
+    if word == "limit" {
+        return limit_command(argument);
+    }
     if text == "stems" {
         return Command::Stems;
     }
@@ -81,30 +90,93 @@ fn text_command(text: &str) -> Command<'_>
     Command::Bad
 }
 
-/// What a line with a block asks to have replaced by the block's text.
-#[derive(Debug, Drop)]
-pub(crate) enum Target<'a> {
-    /// The body of the routine or external of this name.
-    Body(&'a str),
-    /// The among of this number in the routine or external of this name.
-    Among(&'a str, u64),
-}
-
-/// What a line that is text and asks for a block wants replaced; `None` where it is a bad command: the argument of `among` is a
-/// name, a space and a number.
-pub(crate) fn target_of(line: &str) -> Option<Target<'_>>
-    ensures { view_found result ≡ spec.target_of_text line.now }
+/// Returns the command that sets the limit of steps to the number in the argument.
+fn limit_command(argument: &str) -> Command<'static>
+    ensures { view_command result ≡ spec.limit_command (numbers.number_in argument.now) }
 {
-    let argument = argument_of(line);
-    if command_word(line.as_bytes()) != b"among".as_slice() {
-        return Some(Target::Body(argument));
+    match number_in(argument.as_bytes()) {
+        Some(number) => Command::Limit(number),
+        None => Command::HasNoNumber,
     }
-    let (name, digits) = argument.split_once(' ')?;
-    Some(Target::Among(name, number_in(digits.as_bytes())?))
 }
 
-/// The number that one or more decimal digits write, and `u64::MAX` for each above it; `None` where the bytes are no such
-/// number.
+/// The command word of a line that a block follows: the word of an edit of the script.
+#[derive(Clone, Copy, Debug, PartialEq, Eq)]
+pub(crate) enum BlockWord {
+    /// `routine NAME`
+    Routine,
+    /// `among NAME K`
+    Among,
+    /// `grouping NAME`
+    Grouping,
+}
+
+/// Returns the command word of a line if a block follows the line, whatever else the line contains.
+pub(crate) fn block_word(line: &[u8]) -> Option<BlockWord>
+    ensures { view_asked result ≡ requests.block_word line.now }
+{
+    let word = command_word(line);
+    if word == b"routine".as_slice() {
+        return Some(BlockWord::Routine);
+    }
+    if word == b"among".as_slice() {
+        return Some(BlockWord::Among);
+    }
+    if word == b"grouping".as_slice() {
+        return Some(BlockWord::Grouping);
+    }
+    None
+}
+
+/// The part of the script that the text of a block replaces.
+#[derive(Debug, Drop)]
+pub(crate) enum Target {
+    /// The body of the routine or external of this name.
+    Body(String),
+    /// The among of this number in the routine or external of this name.
+    Among(String, u64),
+    /// The terms of the grouping of this name.
+    Terms(String),
+}
+
+/// Returns what a line with this block word replaces; `None` if the line is bad: it is not UTF-8, or the argument of `among` is
+/// not a name, a space and a number. Returns `AllocError` if an allocation fails. Does not allocate for a bad line.
+pub(crate) fn target_of(
+    alloc: Global,
+    word: BlockWord,
+    line: &[u8],
+) -> Result<Option<Target>, AllocError>
+    requires { requests.block_word line.now ≡ Some (view_word word) }
+    ensures { FindsTarget result line.now }
+{
+    let Ok(line) = str::from_utf8(line) else {
+        return Ok(None);
+    };
+    target_by(alloc, word, argument_of(line))
+}
+
+/// Returns what a block word and its argument replace, as `target_of` does.
+fn target_by(alloc: Global, word: BlockWord, argument: &str) -> Result<Option<Target>, AllocError>
+    ensures found { IfOk result (λ found. view_found found ≡ spec.target_by (view_word word) argument.now) }
+    ensures refused { OnErr result (is_some (spec.target_by (view_word word) argument.now) ≡ true) }
+{
+    match word {
+        BlockWord::Routine => Ok(Some(Target::Body(String::from_str(alloc, argument)?))),
+        BlockWord::Among => {
+            let Some((name, digits)) = argument.split_once(' ') else {
+                return Ok(None);
+            };
+            let Some(k) = number_in(digits.as_bytes()) else {
+                return Ok(None);
+            };
+            Ok(Some(Target::Among(String::from_str(alloc, name)?, k)))
+        }
+        BlockWord::Grouping => Ok(Some(Target::Terms(String::from_str(alloc, argument)?))),
+    }
+}
+
+/// Returns the number that one or more decimal digits write, and `u64::MAX` for each larger number; `None` if the bytes are not
+/// one or more decimal digits.
 fn number_in(digits: &[u8]) -> Option<u64>
     ensures { result ≡ numbers.number_in digits.now }
 {
@@ -123,7 +195,7 @@ fn number_in(digits: &[u8]) -> Option<u64>
     Some(number)
 }
 
-/// The argument of a line: what stands after its first space.
+/// Returns the argument of a line: the text after its first space.
 fn argument_of(line: &str) -> &str
     ensures { result.now ≡ words.argument line.now }
 {
@@ -133,7 +205,7 @@ fn argument_of(line: &str) -> &str
     }
 }
 
-/// The command word of a line: what stands before its first space.
+/// Returns the command word of a line: the bytes before its first space.
 fn command_word(line: &[u8]) -> &[u8]
     ensures { result.now ≡ words.command_word line.now }
 {
@@ -143,12 +215,4 @@ fn command_word(line: &[u8]) -> &[u8]
         }
     }
     line
-}
-
-/// Whether a block follows the line, whatever else the line holds: its command word is that of an edit of the script.
-pub(crate) fn asks_block(line: &[u8]) -> bool
-    ensures { result ≡ requests.asks_block line.now }
-{
-    let word = command_word(line);
-    word == b"routine".as_slice() || word == b"among".as_slice()
 }

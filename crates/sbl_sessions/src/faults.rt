@@ -8,11 +8,11 @@ use sbl_script::ScriptFault;
 use std::alloc::{AllocError, AllocFailed};
 use thiserror::Error;
 
-/// Why there is no bench. Each is shown as its number and its name, and where it has one its place or item.
+/// Why there is no bench. `Display` shows the number and the name of the fault, and its position or item if it has one.
 #[derive(Clone, Copy, Debug, PartialEq, Eq, Drop, Error)]
 pub enum LoadFault {
-    /// The input could not be read, ended inside the script block, or has a line that is too long or no text; or a growth
-    /// was refused.
+    /// The input could not be read, ended inside the script block, or has a line that is too long or not UTF-8; or an
+    /// allocation failed.
     #[error(transparent)]
     Input(ServeFault),
     /// The script is refused: its first fault.

@@ -1,5 +1,5 @@
-//! Sessions over a Snowball script and a vocabulary: a script block and words come from a reader, then commands; their
-//! answers go to a writer.
+//! Sessions over a Snowball script and a vocabulary. A reader gives a script block and words, and then commands. The replies go
+//! to a writer.
 #![tactic(auto)]
 
 mod block_text;

@@ -1,4 +1,4 @@
-//! A bench from an input: a script block, and then words.
+//! Loading a bench from an input: a script block, and then words.
 ghost use Rattle.std.specs.Prelude.{◌≡◌, ◌⊎◌, ◌≤◌, None, Some, Err, IfOk, IfErr, OnOk, true, false};
 ghost use Rattle.std.specs.Str.{chars, is_utf8};
 ghost use Rattle.sbl_bench.specs.Kept.{contents_of};
@@ -16,13 +16,14 @@ use sbl_lines::{Lines, ServeFault, Source};
 use sbl_script::{Script, ScriptFault};
 use std::alloc::Global;
 
-/// The text of the script block: its lines up to a line `.`, each followed by a line feed. The block is read to its end before it is
-/// judged.
+/// Reads the text of the script block: its lines up to a line `.`, each followed by a line feed. The block is read to its end
+/// before it is checked.
 ///
 /// # Errors
 ///
-/// `Cut` where the input ended before the point; `Read` and `LineTooLong`, which the lines remember and answer again, and then nothing
-/// is taken; `ScriptTooLong` and `OutOfMemory`, after which the lines stand behind the block.
+/// Returns `Cut` if the input ends before the line `.`. Returns `Read` and `LineTooLong` as the lines do; the lines keep these
+/// two faults, return them again, and then read nothing. Returns `ScriptTooLong` or `OutOfMemory` after the whole block was
+/// read.
 pub fn read_script<R: Source + Drop>(lines: &mut Lines<R>) -> Result<Vec<u8>, LoadFault>
     ensures reads { fault_of lines.old ≡ None → ReadsScript (input_of R.left lines.old) (input_of R.left lines.new) result }
     ensures ready { OnOk result (fault_of lines.old ≡ None) }
@@ -45,7 +46,7 @@ pub fn read_script<R: Source + Drop>(lines: &mut Lines<R>) -> Result<Vec<u8>, Lo
     }
 }
 
-/// The characters of a line, or `NotText`.
+/// Returns the characters of a line, or `NotText` if it is not UTF-8.
 fn characters_of(alloc: Global, line: &[u8]) -> Result<Vec<char>, LoadFault>
     ensures text { IfOk result (λ word. (is_utf8 line.now ≡ true) × (word.items ≡ chars line.now)) }
     ensures none { IfErr result (λ fault. ((fault ≡ LoadFault.Input ServeFault.NotText) × (is_utf8 line.now ≡ false)) ⊎ (fault ≡ LoadFault.Input ServeFault.OutOfMemory)) }
@@ -58,7 +59,7 @@ fn characters_of(alloc: Global, line: &[u8]) -> Result<Vec<char>, LoadFault>
     Ok(word)
 }
 
-/// The words, up to a point or the end of input.
+/// Reads the words, up to a line `.` or the end of input.
 fn read_words<R: Source + Drop>(lines: &mut Lines<R>) -> Result<Vec<Vec<char>>, LoadFault>
     ensures reads { fault_of lines.old ≡ None → ReadsWords (input_of R.left lines.old) (input_of R.left lines.new) result }
     ensures remembered { fault_of lines.new ≡ left_by_load result }
@@ -79,18 +80,21 @@ fn read_words<R: Source + Drop>(lines: &mut Lines<R>) -> Result<Vec<Vec<char>>, 
     Ok(words)
 }
 
-/// The bench of an input: a script block, which is the lines up to a line `.`, each followed by a line feed, read with this
-/// external; and then words, one a line, up to a line `.` or the end of input. The lines then stand after that.
+/// Loads the bench of an input. The input is a script block and then words. The script block is the lines up to a line `.`,
+/// each followed by a line feed; it is read as a script with this external. The words are one per line, up to a line `.` or the
+/// end of input. The lines after that are left.
 ///
 /// # Errors
 ///
-/// The script block is read to its end before it is judged: `Read`, `LineTooLong`, and `Cut` where the input ended before
-/// the point. Then the first fault of the script, with its place or item; no word is read then. All words are read before they
-/// are judged: `Read`, `LineTooLong`, and `NotText` at a line that is not UTF-8. Then the vocabulary's faults, `WordTooLong`
-/// and `Full`. A refused growth is `OutOfMemory`, in the script block once that is read to its end. After `Cut` the lines stand at
-/// the end of input, after a fault of the script behind the point of its block, and after `NotText` behind the line that is no
-/// text. `Read` and `LineTooLong` are remembered: the lines answer them again, and so does every later `load`, which then takes
-/// nothing.
+/// The script block is read to its end before it is checked: returns `Read`, `LineTooLong`, or `Cut` if the input ends before
+/// the line `.`. Then returns the first fault of the script, with its position or item; no word is read then. All words are
+/// read before they are checked: returns `Read`, `LineTooLong`, or `NotText` at a line that is not UTF-8. Then returns the
+/// faults of the vocabulary, `WordTooLong` and `Full`. Returns `OutOfMemory` if an allocation fails; in the script block, only
+/// after the block was read to its end.
+///
+/// After `Cut`, the input is at its end. After a fault of the script, the next line is the one after its block. After
+/// `NotText`, it is the one after the line that is not UTF-8. The lines keep `Read` and `LineTooLong` and return them again,
+/// and so does every later `load`, which then reads nothing.
 pub fn load<R: Source + Drop>(lines: &mut Lines<R>, external: &str) -> Result<Bench, LoadFault>
     ensures loaded { fault_of lines.old ≡ None → IsLoaded (input_of R.left lines.old) (input_of R.left lines.new) external.now (λ b. contents_of b) result }
     ensures later { R.failures lines.old.reader ≤ R.failures lines.new.reader }

@@ -1,4 +1,4 @@
-//! The text of rows, classes and items as records, through `csv`.
+//! The text of rows, classes and items as records, written with `csv`.
 ghost use Rattle.std.specs.Prelude.{◌≡◌, ◌++◌, ◌∷◌, [], ℕ, List, IfOk, OnOk, map};
 ghost use Rattle.std.specs.Str.{encode_utf8_all};
 ghost use Rattle.csv.specs.Records.{fields_of, partial_of};
@@ -15,12 +15,13 @@ use sbl_machine::{Item, Outcome};
 use sbl_records::set_text;
 use std::alloc::{AllocError, Global};
 
-/// What is written as one record.
+/// A value that is written as one record.
 pub(crate) trait Record {
     /// Its fields, as bytes.
     ghost fields: { Self → List (List ℕ) };
 
-    /// Puts its fields into an empty record, each by way of a text that is used again. A refused growth is the one error.
+    /// Appends its fields to an empty record. `text` is a buffer that is reused for each field. Returns `AllocError` if an
+    /// allocation fails.
     fn fill(&self, text: &mut String, csv_record: &mut ByteRecord) -> Result<(), AllocError>
         requires empty { fields_of csv_record.old ≡ [] }
         requires whole { partial_of csv_record.old ≡ [] }
@@ -71,11 +72,15 @@ impl Record for Item {
                 csv_record.push_field(name.as_bytes())?;
                 csv_record.push_field(number.as_bytes())
             }
+            Item::Grouping(name) => {
+                csv_record.push_field(b"grouping")?;
+                csv_record.push_field(name.as_bytes())
+            }
         }
     }
 }
 
-/// Puts some characters at the end of a record, as a field. A refused growth is the one error.
+/// Appends characters to a record, as one field. Returns `AllocError` if an allocation fails.
 fn push_text(
     text: &mut String,
     csv_record: &mut ByteRecord,
@@ -89,7 +94,7 @@ fn push_text(
     csv_record.push_field(text.as_bytes())
 }
 
-/// Puts words at the end of a record, each as a field. A refused growth is the one error.
+/// Appends words to a record, each as one field. Returns `AllocError` if an allocation fails.
 fn push_words(
     text: &mut String,
     csv_record: &mut ByteRecord,
@@ -104,8 +109,8 @@ fn push_words(
     Ok(())
 }
 
-/// The text of these records, whole: a line of the fields of each, quoted where `csv` quotes. A refused growth is the one
-/// error.
+/// Returns the text of these records: for each a line with its fields, quoted as `csv` quotes them. Returns `AllocError` if an
+/// allocation fails.
 pub(crate) fn records_text<T: Record>(alloc: Global, records: &[T]) -> Result<Vec<u8>, AllocError>
     ensures { IfOk result (λ text. text.items ≡ texts.records_text (map T.fields records.now)) }
 {

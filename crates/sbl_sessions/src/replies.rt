@@ -1,4 +1,4 @@
-//! The answers to commands.
+//! The replies to commands.
 ghost use Rattle.std.specs.Prelude.{◌≡◌, ◌≤◌, ℕ, List, Some, IfErr, IfOk, OnErr, OnOk, take};
 ghost use Rattle.std.specs.Io.KnownBytes.{Appends};
 ghost use Rattle.sbl_sessions.specs.Answers as spec;
@@ -11,19 +11,19 @@ use sbl_lines::{ServeFault, Sink, write_all};
 use sbl_script::ScriptFault;
 use std::alloc::AllocError;
 
-/// An answer: a report that was made, or a text of the program.
+/// A reply: a report that was made, or a fixed text.
 #[derive(Debug, Drop)]
 pub(crate) enum Reply {
     /// A report.
     Report(Vec<u8>),
-    /// A text of the program.
+    /// A fixed text.
     Fixed(&'static str),
 }
 
-/// The answer to a line that is no command.
+/// The reply to an unknown command.
 pub(crate) const BAD_COMMAND: &str = "no 52 BadCommand\n";
 
-/// The answer that is a report: its text, or that its memory was refused.
+/// Returns the reply with a report: its text, or `no 49 OutOfMemory` if its allocation failed.
 pub(crate) fn report(text: Result<Vec<u8>, AllocError>) -> Reply
     ensures made { IfOk text (λ made. IsReply result made.items) }
     ensures refused { OnErr text (IsReply result (spec.edit_text (Some EditFault.OutOfMemory))) }
@@ -34,7 +34,7 @@ pub(crate) fn report(text: Result<Vec<u8>, AllocError>) -> Reply
     }
 }
 
-/// The answer to an edit: `ok`, or the refusal's number and name.
+/// Returns the reply to an edit: `ok`, or `no` with the number and name of the fault.
 pub(crate) fn edit_text(answer: Result<(), EditFault>) -> &'static str
     ensures { result.now ≡ spec.edit_text (fault_in answer) }
 {
@@ -51,10 +51,12 @@ pub(crate) fn edit_text(answer: Result<(), EditFault>) -> &'static str
         Err(EditFault::Script(fault)) => script_fault_text(fault),
         Err(EditFault::OutOfMemory) => "no 49 OutOfMemory\n",
         Err(EditFault::MeterFull) => "no 50 MeterFull\n",
+        Err(EditFault::BadLimit) => "no 51 BadLimit\n",
+        Err(EditFault::NoGrouping) => "no 53 NoGrouping\n",
     }
 }
 
-/// The answer to an edit whose text has this fault: the fault's name, without its place or item.
+/// Returns the reply to an edit whose text has this fault: the name of the fault, without its position or item.
 fn script_fault_text(fault: ScriptFault) -> &'static str
     ensures { result.now ≡ spec.edit_text (Some (EditFault.Script fault)) }
 {
@@ -86,8 +88,8 @@ fn script_fault_text(fault: ScriptFault) -> &'static str
     }
 }
 
-/// Writes an answer, or a front of it and answers `Write`: the writer failed, or it was interrupted more than 1,000 times
-/// in a row.
+/// Writes a reply. Returns `Write` if the writer fails or is interrupted more than 1,000 times in a row; then a prefix of the
+/// reply is written.
 pub(crate) fn write_reply<W: Sink>(writer: &mut W, reply: &Reply) -> Result<(), ServeFault>
     ensures all { OnOk result ((text : List ℕ) → IsReply reply.now text → Appends (W.held writer.old) (W.held writer.new) text) }
     ensures front { (n : ℕ) × ((text : List ℕ) → IsReply reply.now text → Appends (W.held writer.old) (W.held writer.new) (take n text)) }

@@ -1,5 +1,5 @@
-//! Reports of a bench, as a session asks for them.
-ghost use Rattle.std.specs.Prelude.{◌≡◌, ◌≤◌, IfOk, decimal, length};
+//! Reports of a bench on request of a session.
+ghost use Rattle.std.specs.Prelude.{◌≡◌, IfOk, decimal};
 ghost use Rattle.std.specs.List.{find};
 ghost use Rattle.std.specs.Option.{option_map};
 ghost use Rattle.std.specs.Str.{bytes_eq, chars};
@@ -10,20 +10,19 @@ ghost use Rattle.sbl_print.specs.Canonical.{canonical};
 ghost use Rattle.sbl_sessions.specs.Answers.{ended};
 ghost use Rattle.sbl_sessions.specs.CommandViews.{IsAnswer};
 ghost use Rattle.sbl_sessions.specs.Commands.{Class, Trace};
-ghost use Rattle.sbl_lines.specs.LinesOf.{max_line};
 ghost use Rattle.sbl_sessions.specs.Rows as spec;
 ghost use Rattle.sbl_sessions.specs.Traces as traces;
 
-use crate::edits::first_characters;
+use crate::edits::{MAX_LOOKED_AT, first_characters};
 use crate::records::records_text;
 use crate::replies::{Reply, edit_text, report};
+use sbl_bench::laws::words_fit;
 use sbl_bench::{Bench, EditFault, Row};
-use sbl_lines::MAX_LINE;
 use sbl_machine::Item;
 use std::alloc::{AllocError, Global};
 use std::collections::BTreeSet;
 
-/// The report of all rows. A refused growth is the one error.
+/// Returns the report of all rows. Returns `AllocError` if an allocation fails.
 pub fn stems_text(alloc: Global, bench: &Bench) -> Result<Vec<u8>, AllocError>
     ensures { IfOk result (λ text. text.items ≡ spec.stems_text (contents_of bench.now)) }
 {
@@ -31,7 +30,7 @@ pub fn stems_text(alloc: Global, bench: &Bench) -> Result<Vec<u8>, AllocError>
     records_text(alloc, &rows)
 }
 
-/// The report of all classes. A refused growth is the one error.
+/// Returns the report of all classes. Returns `AllocError` if an allocation fails.
 pub(crate) fn classes_text(alloc: Global, bench: &Bench) -> Result<Vec<u8>, AllocError>
     ensures { IfOk result (λ text. text.items ≡ spec.classes_text (contents_of bench.now)) }
 {
@@ -39,15 +38,16 @@ pub(crate) fn classes_text(alloc: Global, bench: &Bench) -> Result<Vec<u8>, Allo
     records_text(alloc, &classes)
 }
 
-/// The report of the script: its canonical text. A refused growth is the one error.
+/// Returns the report of the script: its canonical text. Returns `AllocError` if an allocation fails.
 pub(crate) fn script_text(alloc: Global, bench: &Bench) -> Result<Vec<u8>, AllocError>
-    ensures { IfOk result (λ text. text.items ≡ canonical (contents_of bench.now).script.items) }
+    ensures { IfOk result (λ text. text.items ≡ canonical (contents_of bench.now).setting.script.items) }
 {
     let text = bench.script().print(alloc)?;
     Ok(text.into_bytes())
 }
 
-/// The report of the count of runs: the number in decimal, and a line feed. A refused growth is the one error.
+/// Returns the report of the number of runs: the number in decimal, and a line feed. Returns `AllocError` if an allocation
+/// fails.
 pub(crate) fn runs_text(alloc: Global, bench: &Bench) -> Result<Vec<u8>, AllocError>
     ensures { IfOk result (λ text. text.items ≡ ended (decimal (contents_of bench.now).count)) }
 {
@@ -56,7 +56,7 @@ pub(crate) fn runs_text(alloc: Global, bench: &Bench) -> Result<Vec<u8>, AllocEr
     Ok(line.into_bytes())
 }
 
-/// The row of a word, if the word is there. Takes no memory.
+/// Returns the row of a word, if the word is in the vocabulary. Does not allocate.
 fn row_with<'b>(bench: &'b Bench, word: &[char]) -> Option<Row<'b>>
     ensures { option_map view_row result ≡ find (λ row. bytes_eq word.now row.word) (spec.rows_now (contents_of bench.now)) }
 {
@@ -69,7 +69,7 @@ fn row_with<'b>(bench: &'b Bench, word: &[char]) -> Option<Row<'b>>
     None
 }
 
-/// The report of a word's class, or of its row where its run is refused. A refused growth is the one error.
+/// Returns the report of a word's class, or of its row if its run is refused. Returns `AllocError` if an allocation fails.
 fn class_or_row_text(
     alloc: Global,
     bench: &Bench,
@@ -84,12 +84,12 @@ fn class_or_row_text(
     }
 }
 
-/// The answer that tells of a word's class; of a word that is not there it says so, and takes no memory.
+/// Returns the reply with a word's class, or `no 41 Absent` if the word is not in the vocabulary; the latter does not allocate.
 pub(crate) fn class_reply(alloc: Global, bench: &Bench, word: &str) -> Reply
-    requires { length word.now ≤ max_line }
     ensures { IsAnswer (contents_of bench.now) (Class (chars word.now)) result (contents_of bench.now) }
 {
-    let mut room = ['\0'; MAX_LINE];
+    words_fit(bench);
+    let mut room = ['\0'; MAX_LOOKED_AT];
     let count = first_characters(word, &mut room);
     let word = &room[..count];
     match row_with(bench, word) {
@@ -98,7 +98,7 @@ pub(crate) fn class_reply(alloc: Global, bench: &Bench, word: &str) -> Reply
     }
 }
 
-/// The text of some items: a row for each, in their order. A refused growth is the one error.
+/// Returns the text of some items: a row for each, in their order. Returns `AllocError` if an allocation fails.
 fn items_text(alloc: Global, items: BTreeSet<Item>) -> Result<Vec<u8>, AllocError>
     ensures { IfOk result (λ text. text.items ≡ traces.items_text (items_in items)) }
 {
@@ -106,12 +106,13 @@ fn items_text(alloc: Global, items: BTreeSet<Item>) -> Result<Vec<u8>, AllocErro
     records_text(alloc, &items)
 }
 
-/// The answer that tells what the run of a word touches; of a word that is not there it says so, and takes no memory.
+/// Returns the reply with the items that the run of a word touches, or `no 41 Absent` if the word is not in the vocabulary; the
+/// latter does not allocate.
 pub(crate) fn trace_reply(alloc: Global, bench: &Bench, word: &str) -> Reply
-    requires { length word.now ≤ max_line }
     ensures { IsAnswer (contents_of bench.now) (Trace (chars word.now)) result (contents_of bench.now) }
 {
-    let mut room = ['\0'; MAX_LINE];
+    words_fit(bench);
+    let mut room = ['\0'; MAX_LOOKED_AT];
     let count = first_characters(word, &mut room);
     match bench.touched(&room[..count]) {
         Ok(Some(items)) => report(items_text(alloc, items)),

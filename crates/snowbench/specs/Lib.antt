@@ -1,2 +1,2 @@
--- what the functions inside the crate promise each other: nothing in these need be believed
+-- what the functions inside the crate promise each other; no public contract depends on these
 pub mod Stemmed

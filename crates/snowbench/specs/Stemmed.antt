@@ -1,4 +1,4 @@
--- What the rows of an input are: those of its vocabulary, and of nothing that follows it.
+-- The rows of an input: those of its vocabulary, and of nothing after it.
 use Rattle.std.specs.Prelude.{◌≡◌, ◌⊎◌, ℕ, List, [], Option, None, Result, Ok, Err, map, take}
 use Rattle.std.specs.Str.{chars}
 use Rattle.std.specs.Io.KnownBytes.{Appends}
@@ -11,8 +11,9 @@ use Rattle.sbl_sessions.specs.declared.faults.LoadFault.{LoadFault}
 use Rattle.sbl_sessions.specs.declared.faults.LoadFault.TheVariants.{Input}
 use Rattle.sbl_lines.specs.declared.faults.ServeFault.TheVariants as fault
 
--- The rows of the vocabulary are written, and the input stands behind it; a front of them, where the writer failed; and else
--- nothing, with the fault of the loading, or because memory was refused, at the loading or behind it.
+-- The rows of the vocabulary are written, and the input is left after the vocabulary. If the writer failed, a prefix of
+-- the rows is written. Otherwise nothing is written: loading failed with this fault, or an allocation failed during or
+-- after loading.
 abbrev pub IsStemmed : Option (List ℕ) → Option (List ℕ) → List ℕ → Option (List ℕ) → Option (List ℕ) → Result (Unit {0}) LoadFault → Type 0
 IsStemmed old new external held new_held (Ok u) =
     (s : Source) × (words : List (List ℕ)) × IsInput old new external s words × (opening_fault [] (map chars words) ≡ None)

@@ -1,5 +1,5 @@
-//! The program over readers and writers: its command line, sessions, the stems of a vocabulary, and stems held against those
-//! that are expected.
+//! The program over readers and writers: its command line, sessions, the stems of a vocabulary, and the comparison of
+//! stems with the expected stems.
 #![tactic(auto)]
 
 mod program;

@@ -1,4 +1,4 @@
-//! The program, over the lines of a reader and two writers.
+//! The program over the lines of a reader and two writers.
 ghost use Rattle.std.specs.Prelude.{◌≡◌, ◌≤◌, None, IfOk};
 ghost use Rattle.sbl_lines.specs.Devices.{WritesInTime};
 ghost use Rattle.sbl_lines.specs.Held.{KeepsTime, fault_of, input_of};
@@ -12,16 +12,16 @@ use sbl_sessions::{LoadFault, load, read_script, serve, stems_text};
 use std::alloc::AllocError;
 use std::fmt::InlineText;
 
-/// How many bytes the line of a fault has at most: the longest has fewer.
+/// The greatest length of the line of a fault in bytes; the longest line is shorter.
 const MAX_FAULT_LINE: usize = 96;
 
-/// The whole program: does what the command line asks for, reads these lines, writes to `writer`, and answers the exit
-/// status: 0, or 1 for a fault or a difference. A fault is one line in `errors`: `snowbench: ` and what the fault shows. What
-/// was answered before it stays with `writer`.
+/// Runs the whole program: does what the command line asks for, reads `lines`, writes to `writer`, and returns the exit
+/// status: 0, or 1 after a fault or a difference. A fault is one line in `errors`: `snowbench: ` and the text of the
+/// fault. What was written before the fault stays in `writer`.
 ///
-/// `session` loads a bench and answers the commands after it; `stem` loads one and writes the row of each word; `check` reads a
-/// script block, a block of words and the expected stems to the end of input, all before it runs anything, and then writes a
-/// row for each difference.
+/// `session` loads a bench and answers the commands after it. `stem` loads a bench and writes the row of each word.
+/// `check` reads a script block, a block of words and the expected stems up to the end of input, all before it runs
+/// anything, and then writes a row for each difference.
 pub fn run<R: Source + Drop, W: Sink, E: Sink>(
     wanted: &Wanted,
     lines: &mut Lines<R>,
@@ -38,14 +38,14 @@ pub fn run<R: Source + Drop, W: Sink, E: Sink>(
         Ok(_) => 1,
         Err(fault) => {
             let line = InlineText::<MAX_FAULT_LINE>::of(format_args!("snowbench: {fault}\n"));
-            // The status tells of the fault even where its line can't be written.
+            // The status reports the fault even if its line cannot be written.
             let _ = write_all(errors, line.as_str().as_bytes());
             1
         }
     }
 }
 
-/// Does what is wanted, and answers the number of differences.
+/// Does what the command line asks for, and returns the number of differences.
 fn answer<R: Source + Drop, W: Sink>(
     wanted: &Wanted,
     lines: &mut Lines<R>,
@@ -59,7 +59,7 @@ fn answer<R: Source + Drop, W: Sink>(
         Verb::Session => {
             let mut bench = load(lines, external)?;
             let served = serve(&mut bench, lines, writer);
-            bench.discard();
+            bench.leak();
             served?;
             Ok(0)
         }
@@ -71,7 +71,7 @@ fn answer<R: Source + Drop, W: Sink>(
     }
 }
 
-/// Loads a bench and writes its rows. What follows the vocabulary is not read.
+/// Loads a bench and writes its rows. The input after the vocabulary is not read.
 fn stem<R: Source + Drop, W: Sink>(
     lines: &mut Lines<R>,
     external: &str,
@@ -83,13 +83,13 @@ fn stem<R: Source + Drop, W: Sink>(
 {
     let bench = load(lines, external)?;
     let text = stems_text(lines.alloc(), &bench);
-    bench.discard();
+    bench.leak();
     write_all(writer, &text?)?;
     Ok(())
 }
 
-/// Reads a script block, a block of words and the expected stems, and compares what the script makes of the words with these.
-/// Answers how many differ.
+/// Reads a script block, a block of words and the expected stems, runs the script on the words and compares the results
+/// with the expected stems. Returns the number of differences.
 fn check_input<R: Source + Drop, W: Sink>(
     lines: &mut Lines<R>,
     external: &str,
@@ -108,8 +108,8 @@ fn check_input<R: Source + Drop, W: Sink>(
     differences
 }
 
-/// Reads a block of words and the expected stems, and compares what the script makes of the words with these. Answers how many
-/// differ.
+/// Reads a block of words and the expected stems, runs the script on the words and compares the results with the
+/// expected stems. Returns the number of differences.
 fn check_lists<R: Source + Drop, W: Sink>(
     lines: &mut Lines<R>,
     script: &Script,
@@ -123,7 +123,8 @@ fn check_lists<R: Source + Drop, W: Sink>(
     Ok(check(lines.alloc(), script, &words, &expected, writer)?)
 }
 
-/// The lines up to a line `.`, each as `push_line` puts it.
+/// Reads the lines up to a line `.` and returns them, each as `push_line` appends it. Returns `Cut` if the input ends
+/// before.
 fn read_block<R: Source + Drop>(lines: &mut Lines<R>) -> Result<Vec<u8>, LoadFault>
     ensures in_time { KeepsTime R.ended R.late R.interruptions R.reads lines.old lines.new }
 {
@@ -137,7 +138,7 @@ fn read_block<R: Source + Drop>(lines: &mut Lines<R>) -> Result<Vec<u8>, LoadFau
     Err(LoadFault::Input(ServeFault::Cut))
 }
 
-/// The lines up to the end of input, each as `push_line` puts it.
+/// Reads the lines up to the end of input and returns them, each as `push_line` appends it.
 fn read_rest<R: Source + Drop>(lines: &mut Lines<R>) -> Result<Vec<u8>, LoadFault>
     ensures in_time { KeepsTime R.ended R.late R.interruptions R.reads lines.old lines.new }
 {
@@ -148,8 +149,8 @@ fn read_rest<R: Source + Drop>(lines: &mut Lines<R>) -> Result<Vec<u8>, LoadFaul
     Ok(text)
 }
 
-/// Puts a line at the end of a text, with a carriage return and a line feed behind it: so one of its own that ends the line
-/// stays when the text is cut into lines again.
+/// Appends a line, a carriage return and a line feed. If the line itself ends with a carriage return, that one is kept
+/// when the text is split into lines again.
 fn push_line(text: &mut Vec<u8>, line: &[u8]) -> Result<(), AllocError> {
     text.extend_from_slice(line)?;
     text.extend_from_slice(b"\r\n")?;

@@ -1,4 +1,4 @@
-//! The program `snowbench`: reads the words of its command line, and runs over standard input, output and error.
+//! The program `snowbench`: parses its command line, and runs on standard input, output and error.
 #![tactic(auto)]
 
 use clap::error::ErrorKind;
@@ -6,10 +6,10 @@ use snowbench::{Device, Lines, read_words, run};
 use std::io;
 use std::process::ExitCode;
 
-/// The status where the command line is refused. Help ends with it too.
+/// The exit status if the command line is refused, and also after help.
 const REFUSED: u8 = 2;
 
-/// What is printed where memory is refused before anything was read.
+/// The text that is printed if an allocation fails before anything was read.
 const NO_MEMORY: &str = "snowbench: 49 OutOfMemory";
 
 fn main(rt: HostRuntime) -> io::Result<ExitCode> {

@@ -23,12 +23,12 @@ of_bytes (b ∷ line) some not = by (is_utf8 (b ∷ line)) refl
     by true e = absurd (not (IsUtf8-from_is_utf8 (b ∷ line) e))
     by false e = rw e refl
 
-pub returns-then-is_empty-clause-command : goal.returns-then-is_empty-clause-command
-returns-then-is_empty-clause-command c = of_none c.args.line.now (search rules)
+pub returns-then-is_empty : goal.returns-then-is_empty
+returns-then-is_empty c = of_none c.args.line.now (search rules)
 
-pub returns-in-Ok-clause-command : goal.returns-in-Ok-clause-command
-returns-in-Ok-clause-command c =
-    c.text_command.ensures.command ∙ ap spec.text_command c.in-Ok.ensures.cases.0 ∙ sym (of_text c.args.line.now (search rules) c.in-Ok.ensures.cases.1)
+pub returns-in-Ok : goal.returns-in-Ok
+returns-in-Ok c =
+    c.text_command.ensures ∙ ap spec.text_command c.in-Ok.ensures.cases.0 ∙ sym (of_text c.args.line.now (search rules) c.in-Ok.ensures.cases.1)
 
-pub returns-in-Err-clause-command : goal.returns-in-Err-clause-command
-returns-in-Err-clause-command c = sym (of_bytes c.args.line.now (search rules) c.in-Err.ensures.cases.0)
+pub returns-in-Err : goal.returns-in-Err
+returns-in-Err c = sym (of_bytes c.args.line.now (search rules) c.in-Err.ensures.cases.0)

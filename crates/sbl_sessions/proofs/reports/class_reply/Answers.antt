@@ -6,7 +6,7 @@ use Rattle.sbl_bench.specs.Rows.{Row, view_row}
 use Rattle.sbl_sessions.specs.Answers.{Enough, IsReportOrAbsent, Memory}
 use Rattle.sbl_sessions.specs.CommandViews.{IsReply}
 use Rattle.sbl_sessions.specs.Rows.{class_or_row_text, class_text, rows_now}
-use Rattle.sbl_sessions.proofs.EditFacts.{all_chars}
+use Rattle.sbl_sessions.proofs.FirstFacts.{looks, row_first, whole_of}
 use Rattle.sbl_sessions.proofs.ReportFacts.{class_text_is, report_answer}
 use Rattle.sbl_sessions.proofs.reports.class_reply.Goals as goal
 
@@ -15,15 +15,17 @@ returns-in-Some c =
     let s = contents_of c.args.bench.now in
     let word = chars c.args.word.now in
     let row : Row = view_row c.in-Some.row in
-    let room : length c.first_characters-count.new.room ≡ 65536 = search rules in
-    let first : take c.first_characters-count.result c.first_characters-count.new.room ≡ word =
-    subst (λ (n : ℕ). take c.first_characters-count.result c.first_characters-count.new.room ≡ take n word) room c.first_characters-count.ensures.first
-    ∙ all_chars 65536 c.args.word.now c.utf8.word c.requires in
-    let here : Some row ≡ find (λ (r : Row). bytes_eq word r.word) (rows_now s) =
+    let room : length c.first_characters-count.new.room ≡ 256 = search rules in
+    let first : take c.first_characters-count.result c.first_characters-count.new.room ≡ take 256 word =
+    subst (λ (n : ℕ). take c.first_characters-count.result c.first_characters-count.new.room ≡ take n word) room c.first_characters-count.ensures.first in
+    let cut : Some row ≡ find (λ (r : Row). bytes_eq (take 256 word) r.word) (rows_now s) =
     subst (λ (w : List ℕ). Some row ≡ find (λ (r : Row). bytes_eq w r.word) (rows_now s)) first c.in-Some.ensures in
+    let seen = looks s.words c.words_fit.ensures word in
+    let here : Some row ≡ find (λ (r : Row). bytes_eq word r.word) (rows_now s) = cut ∙ row_first s.setting s.words word seen in
     let text : class_text s word ≡ Some (class_or_row_text s word row) = class_text_is s word (Some row) (sym here) in
+    let same : take 256 word ≡ word = whole_of s.setting s.words word row seen here in
     let made : IfOk c.class_or_row_text.result (λ t. t.items ≡ class_or_row_text s word row) =
-    subst (λ (w : List ℕ). IfOk c.class_or_row_text.result (λ t. t.items ≡ class_or_row_text s w row)) first c.class_or_row_text.ensures in
+    subst (λ (w : List ℕ). IfOk c.class_or_row_text.result (λ t. t.items ≡ class_or_row_text s w row)) (first ∙ same) c.class_or_row_text.ensures in
     subst (λ (o : Option (List ℕ)). (memory : Memory) × (text : List ℕ) × IsReply c.report.result text × IsReportOrAbsent s o memory text s) (sym text)
     (report_answer c.class_or_row_text.result c.report.result s (class_or_row_text s word row) made c.report.ensures.made c.report.ensures.refused)
 
@@ -31,12 +33,12 @@ pub returns-in-None : goal.returns-in-None
 returns-in-None c =
     let s = contents_of c.args.bench.now in
     let word = chars c.args.word.now in
-    let room : length c.first_characters-count.new.room ≡ 65536 = search rules in
-    let first : take c.first_characters-count.result c.first_characters-count.new.room ≡ word =
-    subst (λ (n : ℕ). take c.first_characters-count.result c.first_characters-count.new.room ≡ take n word) room c.first_characters-count.ensures.first
-    ∙ all_chars 65536 c.args.word.now c.utf8.word c.requires in
-    let here : None ≡ find (λ (r : Row). bytes_eq word r.word) (rows_now s) =
+    let room : length c.first_characters-count.new.room ≡ 256 = search rules in
+    let first : take c.first_characters-count.result c.first_characters-count.new.room ≡ take 256 word =
+    subst (λ (n : ℕ). take c.first_characters-count.result c.first_characters-count.new.room ≡ take n word) room c.first_characters-count.ensures.first in
+    let cut : None ≡ find (λ (r : Row). bytes_eq (take 256 word) r.word) (rows_now s) =
     subst (λ (w : List ℕ). None ≡ find (λ (r : Row). bytes_eq w r.word) (rows_now s)) first c.in-None.ensures in
+    let here : None ≡ find (λ (r : Row). bytes_eq word r.word) (rows_now s) = cut ∙ row_first s.setting s.words word (looks s.words c.words_fit.ensures word) in
     let text : class_text s word ≡ None = class_text_is s word None (sym here) in
     let told = c.edit_text.result.now in
     subst (λ (o : Option (List ℕ)). (memory : Memory) × (text : List ℕ) × (told ≡ text) × IsReportOrAbsent s o memory text s) (sym text) (Enough, told, refl, (c.edit_text.ensures, refl))

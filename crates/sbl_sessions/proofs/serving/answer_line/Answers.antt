@@ -1,13 +1,14 @@
-use Rattle.std.proofs.Common.{decimal, refl, subst}
+use Rattle.std.proofs.Common.{List, ℕ, decimal, refl, subst, sym}
 use Rattle.std.specs.Str.{chars}
 use Rattle.sbl_bench.specs.Edits as edits
 use Rattle.sbl_bench.specs.Kept.{contents_of}
 use Rattle.sbl_print.specs.Canonical.{canonical}
 use Rattle.sbl_sessions.specs.Answers.{ended}
-use Rattle.sbl_sessions.specs.CommandViews.{IsAnswer}
+use Rattle.sbl_sessions.specs.CommandViews.{IsAnswer, IsEditAnswer}
 use Rattle.sbl_sessions.specs.Commands.{Classes, Command, Makes, Runs, Script, Stems}
 use Rattle.sbl_sessions.specs.Rows.{classes_text, stems_text}
 use Rattle.sbl_sessions.specs.declared.replies.Reply.TheVariants as reply
+use Rattle.sbl_sessions.proofs.EditFacts.{answered}
 use Rattle.sbl_sessions.proofs.ReportFacts.{report_answer}
 use Rattle.sbl_sessions.proofs.serving.answer_line.Goals as goal
 
@@ -17,7 +18,7 @@ returns-in-Add c =
     let t = contents_of c.add_word.new.bench in
     let h = c.add_word.ensures in
     let a : IsAnswer s (Makes (edits.Add (chars c.in-Add.word.now))) (reply.Fixed c.add_word.result) t = (h.0, c.add_word.result.now, refl, h.1) in
-    subst (λ (x : Command). IsAnswer s x (reply.Fixed c.add_word.result) t) c.in-Add.ensures.command a
+    subst (λ (x : Command). IsAnswer s x (reply.Fixed c.add_word.result) t) c.in-Add.ensures a
 
 pub returns-in-Remove : goal.returns-in-Remove
 returns-in-Remove c =
@@ -25,38 +26,47 @@ returns-in-Remove c =
     let t = contents_of c.remove_word.new.bench in
     let h = c.remove_word.ensures in
     let a : IsAnswer s (Makes (edits.Remove (chars c.in-Remove.word.now))) (reply.Fixed c.remove_word.result) t = (h.0, c.remove_word.result.now, refl, h.1) in
-    subst (λ (x : Command). IsAnswer s x (reply.Fixed c.remove_word.result) t) c.in-Remove.ensures.command a
+    subst (λ (x : Command). IsAnswer s x (reply.Fixed c.remove_word.result) t) c.in-Remove.ensures a
+
+pub returns-in-Limit : goal.returns-in-Limit
+returns-in-Limit c =
+    let s = contents_of c.args.bench.now in
+    let t = contents_of c.set_limit.new.self in
+    let h : IsEditAnswer s (edits.Limit c.in-Limit.number) c.edit_text.result.now t =
+    subst (λ (text : List ℕ). IsEditAnswer s (edits.Limit c.in-Limit.number) text t) (sym c.edit_text.ensures) (answered c.set_limit.result s t (edits.Limit c.in-Limit.number) c.set_limit.ensures) in
+    let a : IsAnswer s (Makes (edits.Limit c.in-Limit.number)) (reply.Fixed c.edit_text.result) t = (h.0, c.edit_text.result.now, refl, h.1) in
+    subst (λ (x : Command). IsAnswer s x (reply.Fixed c.edit_text.result) t) c.in-Limit.ensures a
 
 pub returns-in-Stems : goal.returns-in-Stems
 returns-in-Stems c =
     let s = contents_of c.args.bench.now in
     let a : IsAnswer s Stems c.report.result s = report_answer c.stems_text.result c.report.result s (stems_text s) c.stems_text.ensures c.report.ensures.made c.report.ensures.refused in
-    subst (λ (x : Command). IsAnswer s x c.report.result s) c.in-Stems.ensures.command a
+    subst (λ (x : Command). IsAnswer s x c.report.result s) c.in-Stems.ensures a
 
 pub returns-in-Classes : goal.returns-in-Classes
 returns-in-Classes c =
     let s = contents_of c.args.bench.now in
     let a : IsAnswer s Classes c.report-in-Classes.result s = report_answer c.classes_text.result c.report-in-Classes.result s (classes_text s) c.classes_text.ensures c.report-in-Classes.ensures.made c.report-in-Classes.ensures.refused in
-    subst (λ (x : Command). IsAnswer s x c.report-in-Classes.result s) c.in-Classes.ensures.command a
+    subst (λ (x : Command). IsAnswer s x c.report-in-Classes.result s) c.in-Classes.ensures a
 
 pub returns-in-Script : goal.returns-in-Script
 returns-in-Script c =
     let s = contents_of c.args.bench.now in
-    let a : IsAnswer s Script c.report-in-Script.result s = report_answer c.script_text.result c.report-in-Script.result s (canonical s.script.items) c.script_text.ensures c.report-in-Script.ensures.made c.report-in-Script.ensures.refused in
-    subst (λ (x : Command). IsAnswer s x c.report-in-Script.result s) c.in-Script.ensures.command a
+    let a : IsAnswer s Script c.report-in-Script.result s = report_answer c.script_text.result c.report-in-Script.result s (canonical s.setting.script.items) c.script_text.ensures c.report-in-Script.ensures.made c.report-in-Script.ensures.refused in
+    subst (λ (x : Command). IsAnswer s x c.report-in-Script.result s) c.in-Script.ensures a
 
 pub returns-in-Class : goal.returns-in-Class
 returns-in-Class c =
     let s = contents_of c.args.bench.now in
-    subst (λ (x : Command). IsAnswer s x c.class_reply.result s) c.in-Class.ensures.command c.class_reply.ensures
+    subst (λ (x : Command). IsAnswer s x c.class_reply.result s) c.in-Class.ensures c.class_reply.ensures
 
 pub returns-in-Trace : goal.returns-in-Trace
 returns-in-Trace c =
     let s = contents_of c.args.bench.now in
-    subst (λ (x : Command). IsAnswer s x c.trace_reply.result s) c.in-Trace.ensures.command c.trace_reply.ensures
+    subst (λ (x : Command). IsAnswer s x c.trace_reply.result s) c.in-Trace.ensures c.trace_reply.ensures
 
 pub returns-in-Runs : goal.returns-in-Runs
 returns-in-Runs c =
     let s = contents_of c.args.bench.now in
     let a : IsAnswer s Runs c.report-in-Runs.result s = report_answer c.runs_text.result c.report-in-Runs.result s (ended (decimal s.count)) c.runs_text.ensures c.report-in-Runs.ensures.made c.report-in-Runs.ensures.refused in
-    subst (λ (x : Command). IsAnswer s x c.report-in-Runs.result s) c.in-Runs.ensures.command a
+    subst (λ (x : Command). IsAnswer s x c.report-in-Runs.result s) c.in-Runs.ensures a
