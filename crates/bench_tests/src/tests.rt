@@ -3,3 +3,5 @@
 mod bench;
 mod bench_edits;
 mod characters;
+mod groupings;
+mod limits;

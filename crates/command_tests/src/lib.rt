@@ -1,4 +1,4 @@
-//! Tests of checks and of command lines. Nothing but tests stands here.
+//! Tests of checks and of command lines. This crate has only tests.
 #![tactic(auto)]
 
 #[cfg(test)]

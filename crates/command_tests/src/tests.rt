@@ -1,4 +1,4 @@
-//! Checks and command lines, each file by what it tries.
+//! Tests of checks and command lines, one file for each subject.
 
 mod checks;
 mod command_lines;

@@ -1,4 +1,4 @@
-//! Tests of the program: what it does as a whole. Nothing but tests stands here.
+//! Tests of the whole program. This crate has only tests.
 #![tactic(auto)]
 
 #[cfg(test)]

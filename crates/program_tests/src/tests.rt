@@ -1,3 +1,3 @@
-//! The program, over devices that stop as a test wants.
+//! Tests of the program, on devices that stop as a test requires.
 
 mod program;

@@ -7,3 +7,4 @@ mod slices;
 mod stems;
 mod tables;
 mod touched;
+mod whys;

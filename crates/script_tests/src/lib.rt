@@ -1,4 +1,4 @@
-//! Tests of tokens, trees, scripts, their edits and their canonical texts. Nothing but tests stands here.
+//! Tests of tokens, trees, scripts, edits of scripts and canonical texts. This crate has only tests.
 #![tactic(auto)]
 
 #[cfg(test)]

@@ -1,4 +1,4 @@
-//! Tests of sessions, and of the lines beside them. Nothing but tests stands here.
+//! Tests of sessions and of lines. This crate has only tests.
 #![tactic(auto)]
 
 #[cfg(test)]

@@ -1,4 +1,4 @@
-//! Lines and sessions, each file by what it tries.
+//! Tests of lines and sessions, one file for each subject.
 
 mod lines;
 mod sessions;

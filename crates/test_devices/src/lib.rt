@@ -1,4 +1,4 @@
-//! Readers and writers in pieces, which are interrupted and fail as a test wants.
+//! Readers and writers that handle a few bytes at a time, and that are interrupted and fail as a test requires.
 #![tactic(auto)]
 
 ghost use Rattle.std.specs.Prelude.{◌≡◌, ◌<◌};
@@ -6,7 +6,8 @@ ghost use Rattle.std.specs.Prelude.{◌≡◌, ◌<◌};
 use std::io;
 use std::io::{ErrorKind, Read, Write};
 
-/// When a device stops: how often it is interrupted before each call that it answers, and at which of these it fails.
+/// When a device stops: the number of interruptions before each call that is completed, and the number of the call that
+/// fails.
 #[derive(Drop)]
 struct Plan {
     interruptions: u64,
@@ -16,7 +17,7 @@ struct Plan {
 }
 
 impl Plan {
-    // The stop of this call, if there is one.
+    // Returns the stop of this call, if there is one.
     fn next(&mut self) -> Option<ErrorKind> {
         if self.waited < self.interruptions {
             self.waited += 1;
@@ -31,10 +32,10 @@ impl Plan {
     }
 }
 
-/// A reader or a writer that takes only so many bytes at a time.
+/// A reader or a writer that handles a limited number of bytes at a time.
 #[derive(Drop)]
 pub struct Pieces<D> {
-    /// What it reads from or writes to.
+    /// The inner reader or writer.
     pub inner: D,
     piece: usize,
     plan: Plan,
@@ -69,8 +70,8 @@ impl<D: Write> Write for Pieces<D> {
     }
 }
 
-/// A reader or a writer that takes at most `piece` bytes at a time, is interrupted so often before each call that it answers, and
-/// fails at one of these, counted from 1, 0 for never.
+/// Returns a reader or a writer that handles at most `piece` bytes at a time, is interrupted `interruptions` times
+/// before each call that is completed, and fails at call `fails_at`, counted from 1 (0 for never).
 pub fn in_pieces<D>(inner: D, piece: usize, fails_at: u64, interruptions: u64) -> Pieces<D>
     requires { 0 < piece }
     ensures inner { result.inner ≡ inner }

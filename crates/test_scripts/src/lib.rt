@@ -1,20 +1,21 @@
-//! Whole scripts for tests, what stands before the body that a test gives, and a call that gives a tree up.
+//! Scripts for tests, a prefix for the body that a test gives, and a function that drops a tree.
 #![tactic(auto)]
 
 use sbl_tree::Item;
 
-/// Gives a tree up, and its memory back, as a drop does. A crate of tests that calls this in place of it proves no destructor of
-/// trees: they are proved here, before the crates that it tries are.
+/// Drops a tree and frees its memory. A test crate that calls this function does not have to prove the destructors of
+/// trees again: they are proved here.
 pub fn discard(_items: Vec<Item>) {}
 
-/// A body stands behind it at byte 34.
+/// The start of a script. The body of `stem` follows at byte 34.
 pub const FRONT: &str = "externals ( stem ) define stem as ";
 
-/// Takes `un` or `re` off a word's front.
+/// Removes the prefix `un` or `re` of a word.
 pub const PREFIXES: &str =
     "externals ( stem ) define stem as ( [ among ( 'un' () 're' () ) ] delete )";
 
-/// Takes plural endings off, and then an `e`: three routines in a `backwardmode`, one with an among, one a condition of it.
+/// Removes plural endings and then an `e`. It has three routines in a `backwardmode`: one has an among, one is a
+/// condition in it.
 pub const PLURALS: &str = "externals ( stem )
 routines ( tail last sib )
 backwardmode (
@@ -24,7 +25,7 @@ backwardmode (
 )
 define stem as ( backwards ( do tail do ( test 'e' last ) ) )";
 
-/// After the published stemmer of Porter.
+/// Based on the published Porter stemmer.
 pub const PORTER: &str = "integers ( p1 p2 )
 booleans ( Y_found )
 

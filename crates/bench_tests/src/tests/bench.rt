@@ -52,7 +52,7 @@ fn words_that_are_refused_change_nothing(rt: HostRuntime) -> Result<(), Fail> {
     assert_eq!(rt; bench.runs(), 1);
     assert_eq!(rt; bench.add(&['a'; 255]), Ok(()));
     assert_eq!(rt; bench.runs(), 2);
-    bench.discard();
+    bench.leak();
     Ok(())
 }
 
@@ -82,7 +82,7 @@ fn a_refused_growth_changes_nothing(rt: HostRuntime) -> Result<(), Fail> {
         return Ok(());
     };
     let taken = takes_a_word(&rt, &mut bench);
-    bench.discard();
+    bench.leak();
     taken
 }
 
@@ -104,6 +104,8 @@ fn faults_are_printed_with_their_numbers(rt: HostRuntime) -> Result<(), Fail> {
         (EditFault::Script(ScriptFault::NoExternal), "48 NoExternal"),
         (EditFault::OutOfMemory, "49 OutOfMemory"),
         (EditFault::MeterFull, "50 MeterFull"),
+        (EditFault::BadLimit, "51 BadLimit"),
+        (EditFault::NoGrouping, "53 NoGrouping"),
     ] {
         assert_eq!(rt; format!(in rt.alloc(); "{fault}")?.as_str(), text);
     }

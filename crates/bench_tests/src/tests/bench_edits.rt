@@ -18,7 +18,7 @@ fn an_among_without_its_command_takes_nothing_off(rt: HostRuntime) -> Result<(),
     assert_eq!(rt; bench.replace_among("tail", 1, "among ( 's' () )"), Ok(()));
     let shown = rows_shown(alloc, &bench);
     let runs = bench.runs();
-    bench.discard();
+    bench.leak();
     assert_eq!(rt;
         shown?.as_str(),
         "cats cats;boxes boxes;cakes cakes;cake cak;dog dog;"

@@ -1,4 +1,4 @@
-//! Checks over writers in memory. More of what a check answers stands in tests/cases.
+//! Tests of checks with writers in memory. tests/cases has more of them.
 
 use sbl_differences::check;
 use sbl_lines::{Device, ServeFault};
@@ -10,7 +10,7 @@ use test_devices::{Pieces, in_pieces};
 const PREFIXES: &[u8] =
     b"externals ( stem )\ndefine stem as ( [ among ( 'un' () 're' () ) ] delete )\n";
 
-/// A writer in memory that takes four bytes a write and fails at one write, 0 for never.
+/// Returns a writer in memory that takes four bytes at each write and fails at write `fails_at` (0 for never).
 fn writer(alloc: Global, fails_at: u64) -> Device<Pieces<Vec<u8>>> {
     Device::new(in_pieces(Vec::new(alloc), 4, fails_at, 0))
 }
@@ -33,10 +33,10 @@ fn check_of(alloc: Global, script: &[u8], words: &[u8], expected: &[u8]) -> Resu
     })
 }
 
-/// Two lists of lines, and what a check of them writes and answers.
+/// Two lists of lines, and what a check of them writes and returns.
 type Row<'a> = (&'a [u8], &'a [u8], &'a [u8], Result<u64, ServeFault>);
 
-// Whether each check of this script writes its rows and ends as it is told.
+// Returns whether each check of this script writes its rows and ends as expected.
 fn checks_so(alloc: Global, script: &[u8], rows: &[Row]) -> Result<bool, Fail> {
     for (words, expected, text, ending) in rows {
         let checked = check_of(alloc, script, words, expected)?;
@@ -52,7 +52,7 @@ fn a_check_writes_a_row_for_each_difference(rt: HostRuntime) -> Result<(), Fail>
     let rows: [Row; 4] = [
         (b"undo\ndo\n", b"do\nda\n", b"2,do,da,do\n", Ok(1)),
         (b"", b"", b"", Ok(0)),
-        // Empty lines and repeats are words like any other, and a carriage return belongs to a line's end.
+        // Empty lines and repeats are words like any other, and a carriage return belongs to the end of a line.
         (
             b"\r\n\nundo\nundo\r\nundo",
             b"\n\nx\ndo\r\ny",

@@ -1,10 +1,10 @@
-//! Command lines: what they ask for, and which are refused.
+//! Tests of command lines: what they ask for, and which are refused.
 
 use sbl_command_line::{Verb, read_words};
 use std::alloc::Global;
 use std::test::Fail;
 
-/// The words of a command line, the program's name the first of them.
+/// Returns the words of a command line, the first of which is the name of the program.
 fn line_of(alloc: Global, words: &[&str]) -> Result<Vec<String>, Fail> {
     let mut line = Vec::new(alloc);
     line.push(String::from_str(alloc, "snowbench")?)?;

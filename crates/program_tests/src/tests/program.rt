@@ -1,11 +1,11 @@
-//! The whole program over a reader and writers in memory. More of what it answers stands in tests/cases.
+//! Tests of the whole program with a reader and writers in memory. tests/cases has more of them.
 
 use snowbench::{Device, Lines, Verb, Wanted, run};
 use std::alloc::Global;
 use std::test::Fail;
 use test_devices::{Pieces, in_pieces};
 
-/// A writer in memory that takes four bytes a write and fails at one write, 0 for never.
+/// Returns a writer in memory that takes four bytes at each write and fails at write `fails_at` (0 for never).
 fn writer(alloc: Global, fails_at: u64) -> Device<Pieces<Vec<u8>>> {
     Device::new(in_pieces(Vec::new(alloc), 4, fails_at, 0))
 }
@@ -38,10 +38,10 @@ fn run_of(
     })
 }
 
-/// An input of the program, and the status, the text and the line of a fault that come of it.
+/// An input of the program, and the expected status, text and line of a fault.
 type Run<'a> = (&'a [u8], u8, &'a [u8], &'a [u8]);
 
-// Whether each run of this verb ends and writes as it is told.
+// Returns whether each run of this subcommand ends and writes as expected.
 fn runs_so(alloc: Global, verb: Verb, rows: &[Run]) -> Result<bool, Fail> {
     for (input, status, text, errors) in rows {
         let ran = run_of(alloc, verb, "stem", input, 0)?;
@@ -84,7 +84,7 @@ fn stems_are_written_for_a_vocabulary_alone(rt: HostRuntime) -> Result<(), Fail>
             b"undo,stem,do\nredo,stem,do\n",
             b"",
         ),
-        // What follows the vocabulary is not read.
+        // The input after the vocabulary is not read.
         (
             b"externals ( stem )\ndefine stem as repeat true\n.\na\n.\nadd b\n\xff\n",
             0,

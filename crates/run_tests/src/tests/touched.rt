@@ -18,6 +18,7 @@ fn told(alloc: Global, items: &BTreeSet<Item>) -> Result<String, AllocError> {
         let part = match item {
             Item::Routine(name) => format!(in alloc; "{name},")?,
             Item::Among(name, number) => format!(in alloc; "{name} {number},")?,
+            Item::Grouping(name) => format!(in alloc; "-{name},")?,
         };
         text.push_str(part.as_str())?;
     }
@@ -125,4 +126,33 @@ fn a_routine_that_is_too_deep_is_not_touched(rt: HostRuntime) -> Result<(), Fail
     )?;
     let below = format!(in alloc; "{front} ( $n += 1 ( $n == 32 deep ) or stem )")?;
     touches(&rt, alloc, below.as_str(), &[("a", 100_000, 0, "stem,")])
+}
+
+#[test]
+fn a_grouping_is_touched_once_its_test_is_paid(rt: HostRuntime) -> Result<(), Fail> {
+    let alloc = rt.alloc();
+    let front = "groupings ( g h ) externals ( stem ) define g 'a' define h g + 'b' define stem as";
+    // by its name or by `non`, whatever it finds and if nothing is ahead; not if it is only named in the terms of another
+    let both = format!(in alloc; "{front} ( do h do non-g do h )")?;
+    touches(
+        &rt,
+        alloc,
+        both.as_str(),
+        &[
+            ("ab", 100_000, 0, "stem,-g,-h,"),
+            ("xy", 100_000, 0, "stem,-g,-h,"),
+            ("", 100_000, 0, "stem,-g,-h,"),
+        ],
+    )?;
+    let one = format!(in alloc; "{front} h")?;
+    touches(
+        &rt,
+        alloc,
+        one.as_str(),
+        &[
+            ("a", 1, 1, "stem,-h,"),
+            ("x", 1, 1, "stem,-h,"),
+            ("a", 0, 1, "stem,"),
+        ],
+    )
 }

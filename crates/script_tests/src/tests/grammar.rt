@@ -1,4 +1,4 @@
-//! The trees of texts, and faults of the grammar. More of them stand in tests/cases.
+//! Tests of the trees of texts, and of faults of the grammar. tests/cases has more of them.
 
 use sbl_grammar::{one_fault, one_part, one_tree, parse};
 use sbl_script::{Command, Item, Plain};
@@ -12,7 +12,7 @@ fn read(alloc: Global, text: &str) -> Result<Vec<Item>, ScriptFault> {
     parse(alloc, &tokens, text.len())
 }
 
-/// The number of items, or the fault.
+/// Returns the number of items, or the fault, as text.
 fn shown(alloc: Global, text: &str) -> Result<String, AllocError> {
     match read(alloc, text) {
         Ok(items) => {
@@ -30,7 +30,7 @@ fn after_front(alloc: Global, body: &str) -> Result<String, AllocError> {
     shown(alloc, &text)
 }
 
-/// As many opening brackets.
+/// Returns `depth` opening brackets.
 fn deep(alloc: Global, depth: usize) -> Result<String, AllocError> {
     let mut text = String::new(alloc);
     for _ in 0..depth {
@@ -100,7 +100,7 @@ fn the_first_fault_of_the_grammar_is_answered(rt: HostRuntime) -> Result<(), Fai
     Ok(())
 }
 
-/// Whether the first item's body is a `non` with the minus.
+/// Returns whether the body of the first item is a `non` with the minus.
 fn minus_of(alloc: Global, text: &str) -> Result<Option<bool>, ScriptFault> {
     let items = read(alloc, text)?;
     let minus = match items.first() {

@@ -1,11 +1,11 @@
-//! Canonical texts of scripts.
+//! Tests of the canonical texts of scripts.
 
 use sbl_script::Script;
 use sbl_script::laws::canonical_is_read;
 use std::alloc::Global;
 use test_scripts::{PLURALS, PORTER, PREFIXES};
 
-/// The canonical text of a script with the external `stem`.
+/// Returns the canonical text of a script with the external `stem`.
 fn printed(alloc: Global, text: &str) -> Option<String> {
     let script = Script::parse(alloc, text.as_bytes(), "stem").ok()?;
     let printed = script.print(alloc).ok();

@@ -1,16 +1,16 @@
-//! Scripts as they are parsed: each way to be refused once, depth, length, and what a script keeps.
-//! Rows of single checks stand in tests/cases.
+//! Tests of parsing scripts: each kind of refusal once, depth, length, and what a script keeps. tests/cases has rows of
+//! single checks.
 
 use sbl_script::laws::{
-    amongs_are_sound, fault_is_first, names_resolve, one_edit, one_reading, substrings_are_paired,
-    well_declared_passes,
+    amongs_are_sound, fault_is_first, is_well_declared, names_resolve, one_edit, one_reading,
+    substrings_are_paired, well_declared_passes,
 };
 use sbl_script::{Script, ScriptFault};
 use std::alloc::Global;
 use std::process::Abort;
 use test_scripts::PORTER;
 
-/// The fault of what gives a script; `None` where it gives one, which is given up.
+/// Returns the fault, or `None` for a script, which is discarded.
 pub(crate) fn fault_in<E>(made: Result<Script, E>) -> Option<E> {
     match made {
         Ok(script) => {
@@ -21,7 +21,7 @@ pub(crate) fn fault_in<E>(made: Result<Script, E>) -> Option<E> {
     }
 }
 
-/// The fault of a script; `None` where it is accepted.
+/// Returns the fault of a script, or `None` if it is accepted.
 fn fault_of(alloc: Global, text: &str) -> Option<ScriptFault> {
     fault_in(Script::parse(alloc, text.as_bytes(), "stem"))
 }
@@ -101,7 +101,7 @@ fn a_script_keeps_what_was_read(rt: HostRuntime) {
     );
     assert_eq!(rt; script.external(), "stem");
     assert_eq!(rt; script.items().len(), 2);
-    script.is_well_declared();
+    is_well_declared(&script);
     assert_eq!(rt; script.body().others.len(), 0);
     script.discard();
     for external in ["", "2x", "next", "Stem"] {

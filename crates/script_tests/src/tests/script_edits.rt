@@ -1,4 +1,5 @@
-//! Edits of scripts, and why they are refused, with places and items. What sessions can show of them stands in tests/cases.
+//! Tests of edits of scripts and of their refusals, with positions and items. What sessions can show of them is tested
+//! in tests/cases.
 
 use crate::tests::script::fault_in;
 use sbl_script::{EditFault, Script, ScriptFault};
@@ -6,8 +7,8 @@ use std::alloc::Global;
 use std::process::Abort;
 use test_scripts::{FRONT, PLURALS, PORTER};
 
-/// Why a text is refused in the place of an among of the external, or of its body where the number is 0; `None` where it is
-/// taken.
+/// Replaces among `k` of the external, or its body if `k` is 0, by the text. Returns why the edit is refused, or `None`
+/// if it is accepted.
 fn refused(rt: &impl Abort, alloc: Global, body: &str, k: u64, text: &str) -> Option<EditFault> {
     let script = format!(in alloc; "{FRONT}{body}").expect(rt, "memory");
     let script = Script::parse(alloc, script.as_bytes(), "stem").expect(rt, "a script");
@@ -20,10 +21,10 @@ fn refused(rt: &impl Abort, alloc: Global, body: &str, k: u64, text: &str) -> Op
     fault_in(taken)
 }
 
-/// A body, the number of an among or 0, a text, and the fault of the script for which it is refused.
+/// A body, the number of an among or 0, a text, and the fault of the script for which the text is refused.
 type Row<'a> = (&'a str, u64, &'a str, ScriptFault);
 
-/// Whether each text is refused for its fault; the first that is not is told.
+/// Asserts that each text is refused with its fault; the message names the first one that is not.
 fn are_refused(rt: &impl Abort, alloc: Global, rows: &[Row]) {
     for (body, k, text, want) in rows {
         let found = refused(rt, alloc, body, *k, text);
@@ -239,8 +240,8 @@ fn a_routine_is_found_by_its_name(rt: HostRuntime) {
     script.discard();
 }
 
-/// Whether a script with this text in the place of the among, or of the routine's body where the number is 0, is the script
-/// that it was.
+/// Returns whether the script is unchanged after the edit that puts the text in place of the among, or of the routine's
+/// body if the number is 0.
 fn stays(
     rt: &impl Abort,
     alloc: Global,

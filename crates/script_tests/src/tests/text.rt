@@ -1,4 +1,4 @@
-//! The tokens of texts, literals and codes, and what is printed of their faults. Rows of faults stand in tests/cases.
+//! Tests of the tokens of texts, of literals and codes, and of the text of faults. tests/cases has rows of faults.
 
 use sbl_text::{
     Escapes, Kind, Lexer, ScriptFault, Sign, Token, Value, Word, read_codes, read_literal, tokens,
@@ -6,7 +6,7 @@ use sbl_text::{
 use std::alloc::{AllocError, Global};
 use std::test::Fail;
 
-/// The texts of the tokens with a space after each, or the fault.
+/// Returns the texts of the tokens with a space after each, or the fault.
 fn cut(alloc: Global, text: &str) -> Result<String, AllocError> {
     let mut shown = String::new(alloc);
     match tokens(alloc, text) {
@@ -164,7 +164,7 @@ fn faults_are_printed_with_number_and_place(rt: HostRuntime) -> Result<(), Fail>
     Ok(())
 }
 
-/// The characters of the last literal.
+/// Returns the characters of the last literal.
 fn last_value(alloc: Global, text: &str) -> Result<String, ScriptFault> {
     let mut shown = String::new(alloc);
     for token in &tokens(alloc, text)? {

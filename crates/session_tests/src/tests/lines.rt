@@ -1,4 +1,4 @@
-//! Lines of a reader, and its faults.
+//! Tests of the lines of a reader, and of its faults.
 
 use sbl_lines::{Device, LineFault, Lines};
 use std::test::Fail;
@@ -24,7 +24,7 @@ fn lines_are_the_same_in_pieces_of_every_size(rt: HostRuntime) -> Result<(), Fai
 
 #[test]
 fn a_read_fault_is_answered_again(rt: HostRuntime) -> Result<(), Fail> {
-    // Reads 1 to 3 give `a`, `b` and the line feed, read 5 fails.
+    // Reads 1 to 3 return `a`, `b` and the line feed; read 5 fails.
     let mut lines = Lines::new(
         rt.alloc(),
         Device::new(in_pieces(b"ab\ncd\n".as_slice(), 1, 5, 0)),
@@ -32,7 +32,7 @@ fn a_read_fault_is_answered_again(rt: HostRuntime) -> Result<(), Fail> {
     assert!(rt; lines.next_line() == Ok(true));
     assert!(rt; lines.next_line() == Err(LineFault::Read));
     assert!(rt; lines.next_line() == Err(LineFault::Read));
-    // A thousand interruptions in a row are borne, and no more.
+    // A thousand interruptions in a row are allowed, and no more.
     let mut patient = Lines::new(
         rt.alloc(),
         Device::new(in_pieces(b"ab".as_slice(), 2, 0, 1000)),

@@ -1,4 +1,4 @@
-//! Whole sessions, by what they write and how they end, and devices that fail. More of them stand in tests/cases.
+//! Tests of whole sessions, what they write and how they end, and of devices that fail. tests/cases has more of them.
 
 use sbl_bench::EditFault;
 use sbl_lines::{Device, Lines, ServeFault};
@@ -15,14 +15,15 @@ struct Ended {
     ending: Result<(), LoadFault>,
 }
 
-// A session of this input, whose reader fails at a read and whose writer fails at a write, both counted from 1, 0 for never.
+// Runs a session on this input. The reader fails at read `read` and the writer at write `write`, both counted from 1 (0
+// for never).
 fn session(alloc: Global, input: &[u8], read: u64, write: u64) -> Result<Ended, Fail> {
     let mut writer = Device::new(in_pieces(Vec::new(alloc), 4, write, 0));
     let mut lines = Lines::new(alloc, Device::new(in_pieces(input, 16, read, 0)))?;
     let ending = match load(&mut lines, "stem") {
         Ok(mut bench) => {
             let served = serve(&mut bench, &mut lines, &mut writer);
-            bench.discard();
+            bench.leak();
             served.map_err(LoadFault::Input)
         }
         Err(fault) => Err(fault),
@@ -38,14 +39,14 @@ const UN: &[u8] =
 
 const A: &[u8] = b"externals ( stem ) define stem as ( [ 'a' ] <- 'bc' )\n.\n";
 
-// A script block and what follows it.
+// Returns a script block followed by `rest`.
 fn after(alloc: Global, script: &[u8], rest: &[u8]) -> Result<Vec<u8>, Fail> {
     let mut input = Vec::from_slice(alloc, script)?;
     input.extend_from_slice(rest)?;
     Ok(input)
 }
 
-// A session over a script that takes prefixes off, with this behind the script block.
+// Runs a session on a script that removes prefixes, with `rest` after the script block.
 fn prefixes(alloc: Global, rest: &[u8]) -> Result<Ended, Fail> {
     let input = after(alloc, UN, rest)?;
     session(alloc, input.as_slice(), 0, 0)
@@ -53,7 +54,7 @@ fn prefixes(alloc: Global, rest: &[u8]) -> Result<Ended, Fail> {
 
 #[test]
 fn a_session_answers_its_lines(rt: HostRuntime) -> Result<(), Fail> {
-    let rows: [(&[u8], &[u8], &[u8]); 8] = [
+    let rows: [(&[u8], &[u8], &[u8]); 9] = [
         (
             UN,
             b".\nadd undo\nadd redo\nstems\n",
@@ -75,6 +76,11 @@ fn a_session_answers_its_lines(rt: HostRuntime) -> Result<(), Fail> {
             UN,
             b"\r\nundo\r\n\nundo\n.\r\nadd  x\r\nadd x \r\nadd \"\r\nstems\r\n",
             b"ok\nok\nok\nundo,stem,do\n x,stem, x\nx ,stem,x \n\"\"\"\",stem,\"\"\"\"\n",
+        ),
+        (
+            b"groupings ( v ) externals ( stem ) define v 'a' define stem as ( [ v ] delete )\n.\n",
+            b"ab\nb\n.\ngrouping v\n'b'\n.\nlimit 4\nlimit\nstems\nruns\n",
+            b"ok\nok\nno 51 BadLimit\nab,stem,ab\nb,refused,Steps\n5\n",
         ),
         (
             b"externals ( stem ) define stem as ( 'a' [ delete )\n.\n",
@@ -99,8 +105,12 @@ fn a_session_answers_its_lines(rt: HostRuntime) -> Result<(), Fail> {
 #[test]
 fn a_line_too_long_ends_a_session(rt: HostRuntime) -> Result<(), Fail> {
     let line = vec![in rt.alloc(); b'a'; 65_537]?;
-    // The second stands inside a block.
-    let rows: [&[u8]; 2] = [b".\nadd undo\n", b".\nadd undo\nroutine stem\n"];
+    // The second is inside a block, and so is the third, whose command is bad.
+    let rows: [&[u8]; 3] = [
+        b".\nadd undo\n",
+        b".\nadd undo\nroutine stem\n",
+        b".\nadd undo\ngrouping \xff\n",
+    ];
     for front in rows {
         let rest = after(rt.alloc(), front, line.as_slice())?;
         let ended = prefixes(rt.alloc(), rest.as_slice())?;
@@ -164,7 +174,7 @@ fn a_script_has_at_most_1048576_bytes(rt: HostRuntime) -> Result<(), Fail> {
     let mut lines = Lines::new(rt.alloc(), Device::new(block.as_slice()))?;
     match load(&mut lines, "stem") {
         Ok(bench) => {
-            bench.discard();
+            bench.leak();
             assert!(rt; false);
         }
         Err(fault) => {
@@ -178,10 +188,10 @@ fn a_script_has_at_most_1048576_bytes(rt: HostRuntime) -> Result<(), Fail> {
 fn a_fault_of_reading_or_writing_ends_a_session(rt: HostRuntime) -> Result<(), Fail> {
     let input = after(rt.alloc(), UN, b".\nadd undo\nadd redo\nstems\n")?;
     let rows: [(u64, u64, ServeFault, &[u8]); 3] = [
-        // Sixteen bytes a read: the sixth ends in the midst of the second edit, which is not made.
+        // Each read returns 16 bytes: the sixth ends in the middle of the second edit, which is not made.
         (7, 0, ServeFault::Read, b"ok\n"),
         (1, 0, ServeFault::Read, b""),
-        // Four bytes a write: the fourth breaks the report off.
+        // Each write takes four bytes: the fourth fails in the middle of the report.
         (0, 4, ServeFault::Write, b"ok\nok\nundo"),
     ];
     for (read, write, fault, text) in rows {
@@ -237,7 +247,7 @@ fn a_writer_may_be_interrupted_a_thousand_times_in_a_row(rt: HostRuntime) -> Res
         let mut lines = Lines::new(rt.alloc(), Device::new(input.as_slice()))?;
         let mut bench = load(&mut lines, "stem")?;
         let ended = serve(&mut bench, &mut lines, &mut writer).map_err(LoadFault::Input);
-        bench.discard();
+        bench.leak();
         assert!(rt; ended == ending, "{interruptions}");
         assert!(rt;
             writer.into_inner().inner.as_slice() == text,

@@ -1,0 +1,54 @@
+//! What a run does, event by event.
+
+use crate::tests::runs::machine_of;
+use sbl_machine::{Event, Machine, Meter, Table};
+use std::alloc::{AllocError, Global};
+use std::process::Abort;
+use std::test::Fail;
+
+/// The events in order, a semicolon after each.
+fn text_of(alloc: Global, events: &[Event]) -> Result<String, AllocError> {
+    let mut text = String::new(alloc);
+    for event in events {
+        let part = match event {
+            Event::Enters(routine) => format!(in alloc; "in {routine};")?,
+            Event::Leaves(signal) => format!(in alloc; "out {signal};")?,
+            Event::Searches(among, cursor) => format!(in alloc; "among {among} at {cursor};")?,
+            Event::Finds(among, Some(length)) => format!(in alloc; "{among} takes {length};")?,
+            Event::Finds(among, None) => format!(in alloc; "{among} takes none;")?,
+            Event::Puts(from, to, put) => format!(in alloc; "{from} to {to} {};", put.len())?,
+        };
+        text.push_str(part.as_str())?;
+    }
+    Ok(text)
+}
+
+#[test]
+fn why_tells_calls_searches_and_changes(rt: HostRuntime) -> Result<(), Fail> {
+    let alloc = rt.alloc();
+    let script =
+        "externals ( stem ) routines ( c ) define c as 'x' define stem as ( [ among ( 'a' () 'ab' c () ) ] delete )";
+    let machine: Machine<Table> = machine_of(alloc, script)?;
+    let rows = [
+        (
+            "abx",
+            "in 1;among 0 at 0;in 0;out true;0 takes 2;0 to 2 0;out true;",
+        ),
+        (
+            "aby",
+            "in 1;among 0 at 0;in 0;out false;0 takes 1;0 to 1 0;out true;",
+        ),
+        ("b", "in 1;among 0 at 0;0 takes none;out false;"),
+    ];
+    for (text, want) in rows {
+        let word: Vec<char> = text.chars().collect(alloc)?;
+        assert!(rt; word.len() <= 255);
+        let why = machine.why(alloc, &word, 100)?;
+        let events = text_of(alloc, &why.events)?;
+        assert_eq!(rt; events.as_str(), want, "{text}");
+        let ran = machine.run(alloc, &mut Meter::new(), &word, 100)?;
+        assert_eq!(rt; &why.outcome, &ran.outcome, "{text}");
+        assert_eq!(rt; why.used, ran.used, "{text}");
+    }
+    Ok(())
+}
