@@ -1,5 +1,5 @@
 # Cuts files of cases (tests/README.md has their form) into the files of a run: ROOM/N.title, .words (one a line), .in, .out,
-# .err and .status for the Nth case, counted from the first number, .launcher where the launcher is tried, and .proved where the
+# .err and .status for the Nth case, counted from the first number, .launcher if the launcher is tried, and .proved if the
 # case is not for a program that was compiled without proofs.
 #   LC_ALL=C awk -v room=ROOM -v first=0 -f tests/cases.awk FILE..
 BEGIN { number = first - 1 }
@@ -51,7 +51,7 @@ function again(text, count,   half) {
   half = again(text, int(count / 2))
   return half half (count % 2 == 1 ? text : "")
 }
-# The bytes that an escaped line means: \r, \t, \\ and \xHH; a line feed follows but where \c stands at its end.
+# The bytes that an escaped line means: \r, \t, \\ and \xHH; a line feed follows, unless \c is at its end.
 function meant(text,   all, at, next_one) {
   all = ""
   while ((at = index(text, "\\")) > 0) {

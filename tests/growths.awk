@@ -1,7 +1,7 @@
-# Whether what a session answered where one growth was refused (the second file) fits what it answers with ample memory (the first);
+# Whether what a session answered when one growth was refused (the second file) fits what it answers with ample memory (the first);
 # see tests/growths. An answer ends with that to a line that is no command. There are so many reports, the command's answer and the
 # count of runs, the reports again, the command's answer and the count again, and the reports once more. What is steady has no
-# answer for want of memory but a report's.
+# answer 'no 49 OutOfMemory', except a report.
 BEGIN { refusal = "no 49 OutOfMemory\n"; end = "no 52 BadCommand" }
 FNR == 1 { part++ }
 FNR == NR && part == 1 {
@@ -23,13 +23,13 @@ END {
   exit wrong
 }
 
-# The parts of an answer: the command's, and the count of runs behind it, its last line.
+# The parts of an answer: the command's, and the count of runs after it, its last line.
 function said(text) { sub(/[0-9]+\n$|no 49 OutOfMemory\n$/, "", text); return text }
 function counted(text) { sub(/\n$/, "", text); sub(/^.*\n/, "", text); return text + 0 }
 
 function was_refused() { return !steady && said(answer[command]) == refusal && said(expected[command]) != refusal }
 
-# The command was refused for want of memory, and made again.
+# The command was refused for memory, and made again.
 function changes_nothing(   i) {
   for (i = 1; i <= reports; i++)
     if (answer[i] != expected[i] || answer[command + i] != expected[i] || answer[again + i] != expected[command + i]) return 0
@@ -37,7 +37,7 @@ function changes_nothing(   i) {
   return said(answer[again]) == said(expected[command])
 }
 
-# How many other answers are other than with ample memory, each for want of it; two where one is so for another reason.
+# How many other answers differ from those with ample memory, each refused for memory; two if one differs for another reason.
 function others_refused(   i, refused) {
   for (i = 1; i <= wanted; i++)
     if (answer[i] != expected[i]) {

@@ -1,5 +1,5 @@
 /* Refuses memory to a program that is started with it (LD_PRELOAD): of the growths of the program's own buffers the one with the
-   number GROWTH is refused, and no other; none where GROWTH is 0. Growths are counted from the first read of standard input on.
+   number GROWTH is refused, and no other; none if GROWTH is 0. Growths are counted from the first read of standard input on.
    At the end their number is written into the file GROWTHS. */
 #define _GNU_SOURCE
 #include <errno.h>

@@ -1,8 +1,8 @@
 # Finds what pages say of the program, and prints it as cases (tests/README.md has their form):
-# - `SCRIPT`: `ANSWER`, `ANSWER` ..    the rows of words, or the fault of the script, or 'accepted' where it has none; X stands
+# - `SCRIPT`: `ANSWER`, `ANSWER` ..    the rows of words, or the fault of the script, or 'accepted' if it has none; X is short
 #                                      for 'externals ( stem ) define stem as';
 # - | `SCRIPT`: `ANSWER` | N |         the same, and the run over the answer's word pays N steps;
-# - fenced blocks 'session', and then 'output' or 'errors': what is typed in, and what the program writes to it; behind them
+# - fenced blocks 'session', and then 'output' or 'errors': what is typed in, and what the program writes to it; after them
 #   'shown': what ./snowbench writes besides. With 'check' in the place of 'session' it is what the program's check reads.
 #   LC_ALL=C awk -f tests/pages.awk PAGE..
 BEGIN { most = 100000 }

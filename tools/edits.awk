@@ -1,4 +1,4 @@
-# Reads the wrong bodies of a crate and says of each why it cannot be applied: each old text has to stand exactly once in
+# Reads the wrong bodies of a crate and says of each why it cannot be applied: each old text has to be exactly once in
 # its file, as the pairs before it have left that file.
 #   LC_ALL=C awk -f tools/edits.awk -v crate=crates/NAME EDIT..
 FNR == 1 { finish(); edit = FILENAME; path = ""; old = ""; pairs = 0; why = ""; delete text }

@@ -1,4 +1,4 @@
-# Shows where a script's fault stands: its line and column, the line, and a caret below it. Of a fault with an item it shows
+# Shows where a script's fault is: its line and column, the line, and a caret below it. Of a fault with an item it shows
 # where the item begins. Columns count characters, from 1.
 #   LC_ALL=C awk -v fault='snowbench: 10 Undeclared in item 4' -v verb=session -f tools/place.awk SESSION
 # The session is read up to the line that ends its script, in lines as the program takes them.
