@@ -1,0 +1,7 @@
+pub mod Loops
+pub mod Sorting
+pub mod OrderFacts
+pub mod GroupFacts
+pub mod LastFacts
+pub mod SetFacts
+pub mod ChangeFacts

@@ -1,0 +1,7 @@
+-- definitions that the contracts of public functions use
+pub mod Rows
+pub mod Classes
+pub mod Changes
+-- what the functions inside the crate promise each other: nothing in these need be believed
+pub mod Known
+pub mod Grouping
