@@ -5,3 +5,4 @@ pub mod GroupFacts
 pub mod LastFacts
 pub mod SetFacts
 pub mod ChangeFacts
+pub mod FigureFacts

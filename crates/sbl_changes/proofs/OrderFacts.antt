@@ -13,14 +13,14 @@ use Rattle.std.proofs.lemmas.Cmp.{nat_list_cmp_total, on_total, then_total}
 use Rattle.std.proofs.lemmas.Map.Lookups.{CmpEqualImpliesEq, btree_set_from_contains, exact_bytes, exact_pairs}
 use Rattle.std.proofs.lemmas.Map.Text.{is_eq-slice_cmp}
 use Rattle.std.proofs.lemmas.Slice.Eq.{bytes_eq-Decides}
-use Rattle.sbl_changes.specs.Classes.{Move, in_order, others_of}
-use Rattle.sbl_changes.specs.Grouping.{move_cmp, sorted}
+use Rattle.sbl_changes.specs.Classes.{Pair, in_order, members_of}
+use Rattle.sbl_changes.specs.Grouping.{pair_cmp, sorted}
 use Rattle.sbl_changes.proofs.Sorting.{any_inserted, first_below, mem, sorted-insert}
 
-pub total : IsTotalOrder move_cmp
-total = then_total (on_total (λ (p : Move). p.0) nat_list_cmp_total) (on_total (λ (p : Move). p.1) nat_list_cmp_total)
+pub total : IsTotalOrder pair_cmp
+total = then_total (on_total (λ (p : Pair). p.0) nat_list_cmp_total) (on_total (λ (p : Pair). p.1) nat_list_cmp_total)
 
-pub exact : CmpEqualImpliesEq move_cmp
+pub exact : CmpEqualImpliesEq pair_cmp
 exact = exact_pairs (slice_cmp nat_cmp) (slice_cmp nat_cmp) exact_bytes exact_bytes
 
 abbrev pub text_cmp : List ℕ → List ℕ → Ordering
@@ -47,47 +47,47 @@ unfolding IsStrictlySortedBy
 in_order-stays [] s = refl
 in_order-stays (t ∷ ts) s = ap (λ (l : List (List ℕ)). insert_key text_cmp l t) (in_order-stays ts s.1) ∙ first_below text_cmp nat_list_cmp_total exact_bytes t ts s.0
 
--- ---- the moves in order have the same stems, and the same others with a stem
+-- ---- the pairs in order have the same stems, and the same members with a stem
 
-pub any-sorted : (test : Move → Bool) (ps : List Move) → list_any test (sorted ps) ≡ list_any test ps
+pub any-sorted : (test : Pair → Bool) (ps : List Pair) → list_any test (sorted ps) ≡ list_any test ps
 any-sorted test [] = refl
-any-sorted test (p ∷ ps) = any_inserted move_cmp total exact test (sorted ps) p ∙ ap (λ (b : Bool). test p || b) (any-sorted test ps)
+any-sorted test (p ∷ ps) = any_inserted pair_cmp total exact test (sorted ps) p ∙ ap (λ (b : Bool). test p || b) (any-sorted test ps)
 
-any-stems : (test : List ℕ → Bool) (ps : List Move) → list_any test (map (λ p. p.0) ps) ≡ list_any (λ p. test p.0) ps
+any-stems : (test : List ℕ → Bool) (ps : List Pair) → list_any test (map (λ p. p.0) ps) ≡ list_any (λ p. test p.0) ps
 any-stems test [] = refl
 any-stems test (p ∷ ps) = ap (λ (b : Bool). test p.0 || b) (any-stems test ps)
 
-any-others : (test : List ℕ → Bool) (stem : List ℕ) (ps : List Move) → list_any test (others_of stem ps) ≡ list_any (λ p. bytes_eq stem p.0 && test p.1) ps
-any-others test stem [] = refl
-any-others test stem (p ∷ ps) = by (bytes_eq stem p.0) (any-others test stem ps)
+any-members : (test : List ℕ → Bool) (stem : List ℕ) (ps : List Pair) → list_any test (members_of stem ps) ≡ list_any (λ p. bytes_eq stem p.0 && test p.1) ps
+any-members test stem [] = refl
+any-members test stem (p ∷ ps) = by (bytes_eq stem p.0) (any-members test stem ps)
   where
-    by : (b : Bool) → list_any test (others_of stem ps) ≡ list_any (λ p. bytes_eq stem p.0 && test p.1) ps
+    by : (b : Bool) → list_any test (members_of stem ps) ≡ list_any (λ p. bytes_eq stem p.0 && test p.1) ps
         → list_any test (map (λ p. p.1) (cond b (p ∷ filter (λ p. bytes_eq stem p.0) ps) (filter (λ p. bytes_eq stem p.0) ps))) ≡ ((b && test p.1) || list_any (λ p. bytes_eq stem p.0 && test p.1) ps)
     by true rest = ap (λ (b : Bool). test p.1 || b) rest
     by false rest = rest
 
-pub stems-sorted : (ps : List Move) → in_order (map (λ p. p.0) (sorted ps)) ≡ in_order (map (λ p. p.0) ps)
+pub stems-sorted : (ps : List Pair) → in_order (map (λ p. p.0) (sorted ps)) ≡ in_order (map (λ p. p.0) ps)
 stems-sorted ps =
     one_order (map (λ p. p.0) (sorted ps)) (map (λ p. p.0) ps)
     (λ q. any-stems (λ x. is_eq (text_cmp q x)) (sorted ps) ∙ any-sorted (λ p. is_eq (text_cmp q p.0)) ps ∙ sym (any-stems (λ x. is_eq (text_cmp q x)) ps))
 
-others-sorted : (stem : List ℕ) (ps : List Move) → in_order (others_of stem (sorted ps)) ≡ in_order (others_of stem ps)
-others-sorted stem ps =
-    one_order (others_of stem (sorted ps)) (others_of stem ps)
-    (λ q. any-others (λ x. is_eq (text_cmp q x)) stem (sorted ps) ∙ any-sorted (λ p. bytes_eq stem p.0 && is_eq (text_cmp q p.1)) ps ∙ sym (any-others (λ x. is_eq (text_cmp q x)) stem ps))
+members-sorted : (stem : List ℕ) (ps : List Pair) → in_order (members_of stem (sorted ps)) ≡ in_order (members_of stem ps)
+members-sorted stem ps =
+    one_order (members_of stem (sorted ps)) (members_of stem ps)
+    (λ q. any-members (λ x. is_eq (text_cmp q x)) stem (sorted ps) ∙ any-sorted (λ p. bytes_eq stem p.0 && is_eq (text_cmp q p.1)) ps ∙ sym (any-members (λ x. is_eq (text_cmp q x)) stem ps))
 
--- the others with a stem are in order if the moves are
-others_rise : (stem : List ℕ) (ps : List Move) → IsStrictlySortedBy move_cmp ps → IsStrictlySortedBy text_cmp (others_of stem ps)
+-- the members with a stem are in order if the pairs are
+members_rise : (stem : List ℕ) (ps : List Pair) → IsStrictlySortedBy pair_cmp ps → IsStrictlySortedBy text_cmp (members_of stem ps)
 unfolding IsStrictlySortedBy
-others_rise stem [] s = tt
-others_rise stem (p ∷ ps) s = by (bytes_eq stem p.0) refl (others_rise stem ps s.1)
+members_rise stem [] s = tt
+members_rise stem (p ∷ ps) s = by (bytes_eq stem p.0) refl (members_rise stem ps s.1)
   where
     second : (o r : Ordering) → o ≡ Equal → ordering_then o r ≡ Less → r ≡ Less
     second Less r e h = cc e
     second Equal r e h = h
     second Greater r e h = cc h
 
-    same_stem : (q : Move) → bytes_eq stem p.0 ≡ true → bytes_eq stem q.0 ≡ true → text_cmp p.0 q.0 ≡ Equal
+    same_stem : (q : Pair) → bytes_eq stem p.0 ≡ true → bytes_eq stem q.0 ≡ true → text_cmp p.0 q.0 ≡ Equal
     same_stem q e f = tied (text_cmp p.0 q.0) (is_eq-slice_cmp p.0 q.0 ∙ (bytes_eq-Decides p.0 q.0).1 (sym ((bytes_eq-Decides stem p.0).0 e) ∙ (bytes_eq-Decides stem q.0).0 f))
       where
         tied : (o : Ordering) → is_eq o ≡ true → o ≡ Equal
@@ -95,24 +95,24 @@ others_rise stem (p ∷ ps) s = by (bytes_eq stem p.0) refl (others_rise stem ps
         tied Equal h = refl
         tied Greater h = cc h
 
-    later : bytes_eq stem p.0 ≡ true → (qs : List Move) → AllByRecursion (λ q. move_cmp p q ≡ Less) qs → AllByRecursion (λ w. text_cmp p.1 w ≡ Less) (others_of stem qs)
+    later : bytes_eq stem p.0 ≡ true → (qs : List Pair) → AllByRecursion (λ q. pair_cmp p q ≡ Less) qs → AllByRecursion (λ w. text_cmp p.1 w ≡ Less) (members_of stem qs)
     later e [] a = tt
     later e (q ∷ qs) a = at (bytes_eq stem q.0) refl (later e qs a.1)
       where
-        at : (b : Bool) → bytes_eq stem q.0 ≡ b → AllByRecursion (λ w. text_cmp p.1 w ≡ Less) (others_of stem qs)
+        at : (b : Bool) → bytes_eq stem q.0 ≡ b → AllByRecursion (λ w. text_cmp p.1 w ≡ Less) (members_of stem qs)
             → AllByRecursion (λ w. text_cmp p.1 w ≡ Less) (map (λ q. q.1) (cond (bytes_eq stem q.0) (q ∷ filter (λ q. bytes_eq stem q.0) qs) (filter (λ q. bytes_eq stem q.0) qs)))
         at true f rest = rw f (second (text_cmp p.0 q.0) (text_cmp p.1 q.1) (same_stem q e f) a.0, rest)
         at false f rest = rw f rest
 
-    by : (b : Bool) → bytes_eq stem p.0 ≡ b → IsStrictlySortedBy text_cmp (others_of stem ps)
+    by : (b : Bool) → bytes_eq stem p.0 ≡ b → IsStrictlySortedBy text_cmp (members_of stem ps)
         → IsStrictlySortedBy text_cmp (map (λ p. p.1) (cond (bytes_eq stem p.0) (p ∷ filter (λ p. bytes_eq stem p.0) ps) (filter (λ p. bytes_eq stem p.0) ps)))
     by true e rest = rw e (later e ps s.0, rest)
     by false e rest = rw e rest
 
-pub sorted-sorted : (ps : List Move) → IsStrictlySortedBy move_cmp (sorted ps)
+pub sorted-sorted : (ps : List Pair) → IsStrictlySortedBy pair_cmp (sorted ps)
 unfolding IsStrictlySortedBy
 sorted-sorted [] = tt
-sorted-sorted (p ∷ ps) = sorted-insert move_cmp total exact (sorted ps) p (sorted-sorted ps)
+sorted-sorted (p ∷ ps) = sorted-insert pair_cmp total exact (sorted ps) p (sorted-sorted ps)
 
 pub bytes_eq-back : (x y : List ℕ) → bytes_eq x y ≡ bytes_eq y x
 bytes_eq-back x y = both (bytes_eq x y) (bytes_eq y x) (λ e. (bytes_eq-Decides y x).1 (sym ((bytes_eq-Decides x y).0 e))) (λ e. (bytes_eq-Decides x y).1 (sym ((bytes_eq-Decides y x).0 e)))
@@ -123,28 +123,28 @@ bytes_eq-back x y = both (bytes_eq x y) (bytes_eq y x) (λ e. (bytes_eq-Decides 
     both false false f g = refl
 
 
--- the others with a stem among the moves in order
-pub others-in_order : (stem : List ℕ) (moves : List Move) → others_of stem (sorted moves) ≡ in_order (others_of stem moves)
-others-in_order stem moves =
-    sym (in_order-stays (others_of stem (sorted moves)) (others_rise stem (sorted moves) (sorted-sorted moves)))
-    ∙ others-sorted stem moves
+-- the members with a stem among the pairs in order
+pub members-in_order : (stem : List ℕ) (pairs : List Pair) → members_of stem (sorted pairs) ≡ in_order (members_of stem pairs)
+members-in_order stem pairs =
+    sym (in_order-stays (members_of stem (sorted pairs)) (members_rise stem (sorted pairs) (sorted-sorted pairs)))
+    ∙ members-sorted stem pairs
 
--- ---- moves that are put in from the first on
+-- ---- pairs that are put in from the first on
 
-abbrev pub put_in : List Move → List Move → List Move
+abbrev pub put_in : List Pair → List Pair → List Pair
 put_in keys [] = keys
-put_in keys (m ∷ moves) = put_in (insert_key move_cmp keys m) moves
+put_in keys (m ∷ pairs) = put_in (insert_key pair_cmp keys m) pairs
 
-put_in-sorted : (keys moves : List Move) → IsStrictlySortedBy move_cmp keys → IsStrictlySortedBy move_cmp (put_in keys moves)
+put_in-sorted : (keys pairs : List Pair) → IsStrictlySortedBy pair_cmp keys → IsStrictlySortedBy pair_cmp (put_in keys pairs)
 put_in-sorted keys [] s = s
-put_in-sorted keys (m ∷ moves) s = put_in-sorted (insert_key move_cmp keys m) moves (sorted-insert move_cmp total exact keys m s)
+put_in-sorted keys (m ∷ pairs) s = put_in-sorted (insert_key pair_cmp keys m) pairs (sorted-insert pair_cmp total exact keys m s)
 
-mem-put_in : (q : Move) (keys moves : List Move) → mem move_cmp q (put_in keys moves) ≡ (mem move_cmp q moves || mem move_cmp q keys)
+mem-put_in : (q : Pair) (keys pairs : List Pair) → mem pair_cmp q (put_in keys pairs) ≡ (mem pair_cmp q pairs || mem pair_cmp q keys)
 mem-put_in q keys [] = refl
-mem-put_in q keys (m ∷ moves) =
-    mem-put_in q (insert_key move_cmp keys m) moves
-    ∙ ap (λ (b : Bool). mem move_cmp q moves || b) (any_inserted move_cmp total exact (λ x. is_eq (move_cmp q x)) keys m)
-    ∙ or_shift (mem move_cmp q moves) (is_eq (move_cmp q m)) (mem move_cmp q keys)
+mem-put_in q keys (m ∷ pairs) =
+    mem-put_in q (insert_key pair_cmp keys m) pairs
+    ∙ ap (λ (b : Bool). mem pair_cmp q pairs || b) (any_inserted pair_cmp total exact (λ x. is_eq (pair_cmp q x)) keys m)
+    ∙ or_shift (mem pair_cmp q pairs) (is_eq (pair_cmp q m)) (mem pair_cmp q keys)
   where
     or_shift : (a b c : Bool) → (a || (b || c)) ≡ ((b || a) || c)
     or_shift true true c = refl
@@ -152,12 +152,12 @@ mem-put_in q keys (m ∷ moves) =
     or_shift false true c = refl
     or_shift false false c = refl
 
--- the order in which moves are put in is all one
-pub put_in-all : (moves : List Move) → put_in [] moves ≡ sorted moves
+-- the order in which pairs are put in is all one
+pub put_in-all : (pairs : List Pair) → put_in [] pairs ≡ sorted pairs
 unfolding IsStrictlySortedBy
-put_in-all moves =
-    btree_set_from_contains total (record { keys = put_in [] moves }) (record { keys = sorted moves }) (put_in-sorted [] moves tt) (sorted-sorted moves)
-    (λ q. mem-put_in q [] moves ∙ or_false (mem move_cmp q moves) ∙ sym (any-sorted (λ x. is_eq (move_cmp q x)) moves)) exact
+put_in-all pairs =
+    btree_set_from_contains total (record { keys = put_in [] pairs }) (record { keys = sorted pairs }) (put_in-sorted [] pairs tt) (sorted-sorted pairs)
+    (λ q. mem-put_in q [] pairs ∙ or_false (mem pair_cmp q pairs) ∙ sym (any-sorted (λ x. is_eq (pair_cmp q x)) pairs)) exact
   where
     or_false : (a : Bool) → (a || false) ≡ a
     or_false true = refl

@@ -12,30 +12,31 @@ use Rattle.std.specs.BTreeMap.{BTreeMap}
 use Rattle.std.specs.BTreeSet as sorted_set
 use Rattle.std.specs.BTreeSet.{BTreeSet, insert_key}
 use Rattle.std.proofs.lemmas.Map.Text.{is_eq-slice_cmp}
-use Rattle.sbl_changes.specs.declared.classes.StemMove.{StemMove}
+use Rattle.sbl_changes.specs.declared.classes.StemPair.{StemPair}
 use Rattle.sbl_changes.specs.declared.rows.WordOutcome.{WordOutcome}
 use Rattle.sbl_changes.specs.declared.rows.WordRow.{WordRow}
-use Rattle.sbl_changes.specs.Changes.{is_one, texts_of}
+use Rattle.sbl_changes.specs.Changes.{is_one}
+use Rattle.sbl_changes.specs.Rows.{texts_of}
 use Rattle.sbl_changes.specs.Rows.{Outcome, Row, outcome_in, view_outcome, view_row, view_rows}
-use Rattle.sbl_changes.specs.Grouping.{Key, move_cmp, plain}
+use Rattle.sbl_changes.specs.Grouping.{Key, pair_cmp, plain}
 use Rattle.sbl_changes.specs.Known.{Text, has_text, known}
 use Rattle.sbl_changes.proofs.OrderFacts.{bytes_eq-back}
 
 -- ---- moves
 
 -- the move past the end
-abbrev pub no_move : StemMove
-no_move = record { from = record { ref_ptr = (0, 0); now = [] }; to = record { ref_ptr = (0, 0); now = [] } }
+abbrev pub no_pair : StemPair
+no_pair = record { stem = record { ref_ptr = (0, 0); now = [] }; member = record { ref_ptr = (0, 0); now = [] } }
 
 abbrev pub key_cmp : Key → Key → Ordering
 key_cmp x y = ordering_then (slice_cmp nat_cmp x.0.now y.0.now) (slice_cmp nat_cmp x.1.now y.1.now)
 
-pub plain-insert : (keys : List Key) (k : Key) → map plain (insert_key key_cmp keys k) ≡ insert_key move_cmp (map plain keys) (plain k)
+pub plain-insert : (keys : List Key) (k : Key) → map plain (insert_key key_cmp keys k) ≡ insert_key pair_cmp (map plain keys) (plain k)
 plain-insert [] k = refl
 plain-insert (x ∷ keys) k = by (key_cmp k x) (plain-insert keys k)
   where
-    by : (o : Ordering) → map plain (insert_key key_cmp keys k) ≡ insert_key move_cmp (map plain keys) (plain k)
-        → map plain (match_ordering o (k ∷ x ∷ keys) (x ∷ keys) (x ∷ insert_key key_cmp keys k)) ≡ match_ordering o (plain k ∷ plain x ∷ map plain keys) (plain x ∷ map plain keys) (plain x ∷ insert_key move_cmp (map plain keys) (plain k))
+    by : (o : Ordering) → map plain (insert_key key_cmp keys k) ≡ insert_key pair_cmp (map plain keys) (plain k)
+        → map plain (match_ordering o (k ∷ x ∷ keys) (x ∷ keys) (x ∷ insert_key key_cmp keys k)) ≡ match_ordering o (plain k ∷ plain x ∷ map plain keys) (plain x ∷ map plain keys) (plain x ∷ insert_key pair_cmp (map plain keys) (plain k))
     by Less rest = refl
     by Equal rest = refl
     by Greater rest = ap (λ l. plain x ∷ l) rest

@@ -50,7 +50,7 @@ module _ {K : Type 0} (R : K → K → Ordering) where
     pub mem-inserted : (ks : List K) (k : K) → mem k (insert_key R ks k) ≡ true
     mem-inserted ks k = any_inserted (λ x. is_eq (R k x)) ks k ∙ ap (λ (o : Ordering). is_eq o || mem k ks) (self_equal k)
 
-    -- and the others stay
+    -- and the members stay
     pub mem-stays : (ks : List K) (k q : K) → mem q ks ≡ true → mem q (insert_key R ks k) ≡ true
     mem-stays ks k q h = any_inserted (λ x. is_eq (R q x)) ks k ∙ ap (λ (b : Bool). is_eq (R q k) || b) h ∙ or_true (is_eq (R q k))
 

@@ -1,12 +1,12 @@
 -- What two lists of rows have different.
 use Rattle.std.specs.Prelude.{ℕ, Bool, true, false, ◌&&◌, List, [], ◌∷◌, ◌++◌, map, Option, Some, None, if◌then◌else◌}
-use Rattle.std.specs.Borrow.{Bor}
 use Rattle.std.specs.List.{filter_map, list_any}
 use Rattle.std.specs.Str.{bytes_eq}
 use Rattle.sbl_changes.specs.declared.change.ChangeRow.{ChangeRow}
 use Rattle.sbl_changes.specs.declared.change.ChangeRow.TheVariants as code
-use Rattle.sbl_changes.specs.Rows.{Outcome, Row, outcome_in, same_outcome, view_outcome}
-use Rattle.sbl_changes.specs.Classes.{Class, Move, classes_of, moves_of, turned}
+use Rattle.sbl_changes.specs.Rows.{Outcome, Row, outcome_in, same_outcome, texts_of, view_outcome}
+use Rattle.sbl_changes.specs.Classes.{Class, Pair}
+use Rattle.sbl_changes.specs.Moves.{moves_of, new_classes, old_classes}
 
 pub data Change : Type 0 where
   Added : List ℕ → Change
@@ -43,15 +43,15 @@ merged c [] = None
 merged c (o ∷ []) = None
 merged c (o ∷ p ∷ os) = Some (Merged c.stem (o ∷ p ∷ os))
 
--- one text alone
+-- one member alone
 abbrev pub is_one : List (List ℕ) → Bool
 is_one [] = false
-is_one (t ∷ []) = true
-is_one (t ∷ u ∷ ts) = false
+is_one (m ∷ []) = true
+is_one (m ∷ n ∷ ms) = false
 
 -- all words of the class of this stem have one stem in the other list
 abbrev pub is_from_one : List Class → List ℕ → Bool
-is_from_one classes stem = list_any (λ c. bytes_eq c.stem stem && is_one c.others) classes
+is_from_one classes stem = list_any (λ c. bytes_eq c.stem stem && is_one c.members) classes
 
 -- a class before is renamed if its words are exactly those of one class now, and that has another stem
 abbrev pub renamed : List Class → Class → List (List ℕ) → Option Change
@@ -59,22 +59,24 @@ renamed now c [] = None
 renamed now c (n ∷ []) = if bytes_eq c.stem n then None else (if is_from_one now n then Some (Renamed c.stem n) else None)
 renamed now c (n ∷ m ∷ ns) = None
 
+-- split, merged and renamed classes
 abbrev pub class_changes : List Class → List Class → List Change
-class_changes before now =
-    filter_map (λ c. split c c.others) before
-    ++ filter_map (λ c. merged c c.others) now
-    ++ filter_map (λ c. renamed now c c.others) before
+class_changes old new =
+    filter_map (λ c. split c c.members) old
+    ++ filter_map (λ c. merged c c.members) new
+    ++ filter_map (λ c. renamed new c c.members) old
 
--- added, removed and changed words, then split, merged and renamed classes
+-- the changes of these moves
+abbrev pub changes_by : List Pair → List Change
+changes_by moves = class_changes (old_classes moves) (new_classes moves)
+
+-- added, removed and changed words, then the changes of classes
 abbrev pub changes_of : List Row → List Row → List Change
 changes_of before after =
     filter_map (λ r. added (outcome_in before r.word) r) after
     ++ filter_map (λ r. removed (outcome_in after r.word) r) before
     ++ filter_map (λ r. changed (outcome_in before r.word) r) after
-    ++ class_changes (classes_of (moves_of (outcome_in before) after)) (classes_of (turned (moves_of (outcome_in before) after)))
-
-abbrev pub texts_of : List (Bor (List ℕ)) → List (List ℕ)
-texts_of texts = map (λ t. t.now) texts
+    ++ changes_by (moves_of (outcome_in before) after)
 
 -- the change that the code's value represents
 abbrev pub view_change : ChangeRow → Change

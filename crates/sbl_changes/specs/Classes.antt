@@ -1,47 +1,31 @@
--- Classes over the words that have a stem in both lists: each stem of the one list with the stems that its words have in the other.
-use Rattle.std.specs.Prelude.{ℕ, Bool, List, [], ◌∷◌, map, Option, Some, None}
-use Rattle.std.specs.List.{filter, filter_map}
+-- Classes: each stem with its members. The members are the words that have it, or the stems that its words have in another list.
+use Rattle.std.specs.Prelude.{ℕ, List, [], ◌∷◌, map}
+use Rattle.std.specs.List.{filter}
 use Rattle.std.specs.Ordering.{nat_cmp}
 use Rattle.std.specs.Cmp.Lexicographic.{slice_cmp}
 use Rattle.std.specs.Str.{bytes_eq}
 use Rattle.std.specs.BTreeSet.{insert_key}
-use Rattle.sbl_changes.specs.Rows.{Outcome, Stem, Refused, Row}
 
--- the stem of a word before, and its stem now
-abbrev pub Move : Type 0
-Move = List ℕ × List ℕ
-
-abbrev pub move_of : Option Outcome → Outcome → Option Move
-move_of (Some (Stem old)) (Stem new) = Some (old, new)
-move_of (Some (Stem old)) (Refused n) = None
-move_of (Some (Refused m)) new = None
-move_of None new = None
-
--- the stems of each word that has one in both lists; `before` gives the outcome before
-abbrev pub moves_of : (List ℕ → Option Outcome) → List Row → List Move
-moves_of before rows = filter_map (λ r. move_of (before r.word) r.outcome) rows
-
--- the same, with now and before exchanged
-abbrev pub turned : List Move → List Move
-turned moves = map (λ m. (m.1, m.0)) moves
+-- a stem and a member of its class
+abbrev pub Pair : Type 0
+Pair = List ℕ × List ℕ
 
 -- the texts in code point order, a prefix first, without repeats
 abbrev pub in_order : List (List ℕ) → List (List ℕ)
 in_order [] = []
 in_order (text ∷ texts) = insert_key (slice_cmp nat_cmp) (in_order texts) text
 
--- a stem of the one list, and the stems that its words have in the other
 pub record Class : Type 0 where
   pub stem : List ℕ
-  pub others : List (List ℕ)
+  pub members : List (List ℕ)
 
--- the stems of the other list, with repeats
-abbrev pub others_of : List ℕ → List Move → List (List ℕ)
-others_of stem moves = map (λ m. m.1) (filter (λ m. bytes_eq stem m.0) moves)
+-- the members of the class of a stem, as they come
+abbrev pub members_of : List ℕ → List Pair → List (List ℕ)
+members_of stem pairs = map (λ p. p.1) (filter (λ p. bytes_eq stem p.0) pairs)
 
-abbrev pub class_with : List Move → List ℕ → Class
-class_with moves stem = record { stem = stem; others = in_order (others_of stem moves) }
+abbrev pub class_with : List Pair → List ℕ → Class
+class_with pairs stem = record { stem = stem; members = in_order (members_of stem pairs) }
 
--- the classes before; of the turned moves, the classes now
-abbrev pub classes_of : List Move → List Class
-classes_of moves = map (class_with moves) (in_order (map (λ m. m.0) moves))
+-- the classes of the pairs, stems and members in code point order
+abbrev pub classes_of : List Pair → List Class
+classes_of pairs = map (class_with pairs) (in_order (map (λ p. p.0) pairs))

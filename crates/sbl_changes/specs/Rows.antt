@@ -1,5 +1,6 @@
 -- Rows: each word with what a script makes of it.
 use Rattle.std.specs.Prelude.{ℕ, Bool, false, List, map, Option}
+use Rattle.std.specs.Borrow.{Bor}
 use Rattle.std.specs.List.{find}
 use Rattle.std.specs.Option.{option_map}
 use Rattle.std.specs.Str.{bytes_eq}
@@ -37,3 +38,6 @@ view_row r = record { word = r.word.now; outcome = view_outcome r.outcome }
 
 abbrev pub view_rows : List declared-row.WordRow → List Row
 view_rows rows = map view_row rows
+
+abbrev pub texts_of : List (Bor (List ℕ)) → List (List ℕ)
+texts_of texts = map (λ t. t.now) texts

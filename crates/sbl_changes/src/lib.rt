@@ -2,10 +2,16 @@
 #![tactic(auto)]
 
 mod change;
+mod class_changes;
 mod classes;
 mod compare;
+mod figures;
+mod moves;
 mod rows;
+mod words;
 
 pub use change::ChangeRow;
+pub use classes::StemClass;
 pub use compare::changes;
+pub use figures::{RowStats, stats};
 pub use rows::{WordOutcome, WordRow};
