@@ -6,3 +6,5 @@ pub mod LastFacts
 pub mod SetFacts
 pub mod ChangeFacts
 pub mod FigureFacts
+pub mod ClassLaws
+pub mod ChangeLaws

@@ -53,11 +53,11 @@ pub any-sorted : (test : Pair → Bool) (ps : List Pair) → list_any test (sort
 any-sorted test [] = refl
 any-sorted test (p ∷ ps) = any_inserted pair_cmp total exact test (sorted ps) p ∙ ap (λ (b : Bool). test p || b) (any-sorted test ps)
 
-any-stems : (test : List ℕ → Bool) (ps : List Pair) → list_any test (map (λ p. p.0) ps) ≡ list_any (λ p. test p.0) ps
+pub any-stems : (test : List ℕ → Bool) (ps : List Pair) → list_any test (map (λ p. p.0) ps) ≡ list_any (λ p. test p.0) ps
 any-stems test [] = refl
 any-stems test (p ∷ ps) = ap (λ (b : Bool). test p.0 || b) (any-stems test ps)
 
-any-members : (test : List ℕ → Bool) (stem : List ℕ) (ps : List Pair) → list_any test (members_of stem ps) ≡ list_any (λ p. bytes_eq stem p.0 && test p.1) ps
+pub any-members : (test : List ℕ → Bool) (stem : List ℕ) (ps : List Pair) → list_any test (members_of stem ps) ≡ list_any (λ p. bytes_eq stem p.0 && test p.1) ps
 any-members test stem [] = refl
 any-members test stem (p ∷ ps) = by (bytes_eq stem p.0) (any-members test stem ps)
   where
@@ -121,7 +121,6 @@ bytes_eq-back x y = both (bytes_eq x y) (bytes_eq y x) (λ e. (bytes_eq-Decides 
     both true b f g = sym (f refl)
     both false true f g = g refl
     both false false f g = refl
-
 
 -- the members with a stem among the pairs in order
 pub members-in_order : (stem : List ℕ) (pairs : List Pair) → members_of stem (sorted pairs) ≡ in_order (members_of stem pairs)

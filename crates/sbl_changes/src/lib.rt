@@ -6,6 +6,7 @@ mod class_changes;
 mod classes;
 mod compare;
 mod figures;
+pub mod laws;
 mod moves;
 mod rows;
 mod words;

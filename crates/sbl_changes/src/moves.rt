@@ -16,7 +16,10 @@ fn move_of<'a>(before: &Outcomes<'a>, row: &WordRow<'a>) -> Option<StemPair<'a>>
     ensures { option_map view_pair result ≡ spec.move_of (known before.now row.now.word.now) (view_row row.now).outcome }
 {
     match (outcome_of(before, row.word), row.outcome) {
-        (Some(WordOutcome::Stem(stem)), WordOutcome::Stem(member)) => Some(StemPair { stem, member }),
+        (Some(WordOutcome::Stem(stem)), WordOutcome::Stem(member)) => Some(StemPair {
+            stem,
+            member,
+        }),
         _ => None,
     }
 }

@@ -20,11 +20,11 @@ returns c =
     let moves : List Pair = moves_of (outcome_in before) after in
     let moved : view_pairs c.in_ok-moves.moves.items ≡ moves = c.in_ok-moves.ensures ∙ (λ i. moves_of (was i) after) in
     let back : view_pairs c.in_ok-back.back.items ≡ turned moves =
-        c.in_ok-back.ensures ∙ ap (λ (ms : List StemPair). turned (view_pairs ms)) c.deref.ensures.value ∙ ap turned moved in
+    c.in_ok-back.ensures ∙ ap (λ (ms : List StemPair). turned (view_pairs ms)) c.deref.ensures.value ∙ ap turned moved in
     let old : view_classes c.in_ok-old.old.items ≡ classes_of moves =
-        c.in_ok-old.ensures ∙ ap (λ (ms : List StemPair). classes_of (view_pairs ms)) c.deref-2.ensures.value ∙ ap classes_of moved in
+    c.in_ok-old.ensures ∙ ap (λ (ms : List StemPair). classes_of (view_pairs ms)) c.deref-2.ensures.value ∙ ap classes_of moved in
     let new : view_classes c.in_ok-new.new.items ≡ classes_of (turned moves) =
-        c.in_ok-new.ensures ∙ ap (λ (ms : List StemPair). classes_of (view_pairs ms)) c.deref-3.ensures.value ∙ ap classes_of back in
+    c.in_ok-new.ensures ∙ ap (λ (ms : List StemPair). classes_of (view_pairs ms)) c.deref-3.ensures.value ∙ ap classes_of back in
     let old-4 : view_classes c.deref-4.result.now ≡ classes_of moves = ap view_classes c.deref-4.ensures.value ∙ old in
     let new-5 : view_classes c.deref-5.result.now ≡ classes_of (turned moves) = ap view_classes c.deref-5.ensures.value ∙ new in
     let old-6 : view_classes c.deref-6.result.now ≡ classes_of moves = ap view_classes c.deref-6.ensures.value ∙ old in
@@ -33,9 +33,9 @@ returns c =
     c.in_ok-push_added.ensures c.in_ok-push_removed.ensures c.in_ok-push_changed.ensures
     c.in_ok-push_split.ensures c.in_ok-push_merged.ensures c.in_ok-push_renamed.ensures
     ∙ (λ i.
-      ((filter_map (λ (r : Row). spec.added (was i r.word) r) after
-      ++ filter_map (λ (r : Row). spec.removed (is i r.word) r) before)
-      ++ filter_map (λ (r : Row). spec.changed (was i r.word) r) after)
-      ++ ((filter_map (λ (d : Class). spec.split d d.members) (old-4 i)
-      ++ filter_map (λ (d : Class). spec.merged d d.members) (new-5 i))
-      ++ filter_map (λ (d : Class). spec.renamed (new-7 i) d d.members) (old-6 i)))
+    ((filter_map (λ (r : Row). spec.added (was i r.word) r) after
+    ++ filter_map (λ (r : Row). spec.removed (is i r.word) r) before)
+    ++ filter_map (λ (r : Row). spec.changed (was i r.word) r) after)
+    ++ ((filter_map (λ (d : Class). spec.split d d.members) (old-4 i)
+    ++ filter_map (λ (d : Class). spec.merged d d.members) (new-5 i))
+    ++ filter_map (λ (d : Class). spec.renamed (new-7 i) d d.members) (old-6 i)))

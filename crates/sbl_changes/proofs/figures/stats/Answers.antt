@@ -20,8 +20,8 @@ returns c =
     let unchanged : c.unchanged_words.result ≡ count_by (λ r. is_itself r.word r.outcome) rows = c.unchanged_words.ensures ∙ count_by-map view_row (λ r. is_itself r.word r.outcome) c.args.rows.now in
     let classes : c.len.result ≡ length (word_classes rows) = c.len.ensures ∙ cs.ok.0 ∙ sym (length-map cs.items view_class) ∙ ap length is in
     let alone : c.classes_of_one.result ≡ count_by (λ d. is_one d.members) (word_classes rows) =
-        c.classes_of_one.ensures ∙ ap (λ (l : List StemClass). count_by (λ d. is_one (view_class d).members) l) c.deref.ensures.value
-        ∙ count_by-map view_class (λ d. is_one d.members) cs.items ∙ ap (count_by (λ (d : Class). is_one d.members)) is in
+    c.classes_of_one.ensures ∙ ap (λ (l : List StemClass). count_by (λ d. is_one (view_class d).members) l) c.deref.ensures.value
+    ∙ count_by-map view_class (λ d. is_one d.members) cs.items ∙ ap (count_by (λ (d : Class). is_one d.members)) is in
     let largest : c.largest_size.result ≡ largest_size (word_classes rows) =
-        c.largest_size.ensures ∙ ap (λ (l : List StemClass). largest_size (view_classes l)) c.deref-2.ensures.value ∙ ap largest_size is in
+    c.largest_size.ensures ∙ ap (λ (l : List StemClass). largest_size (view_classes l)) c.deref-2.ensures.value ∙ ap largest_size is in
     λ i. record { words = words i; refused = refused i; classes = classes i; alone = alone i; largest = largest i; unchanged = unchanged i }
