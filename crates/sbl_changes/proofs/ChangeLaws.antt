@@ -109,15 +109,15 @@ no_changes rows one =
     let known : AllByRecursion (Known (outcome_in rows)) rows = found rows one in
     let still : AllByRecursion Stays (moves_of (outcome_in rows) rows) = stays (outcome_in rows) rows known in
     let no_added : filter_map (λ r. added (outcome_in rows r.word) r) rows ≡ [] =
-        none_made (λ r. added (outcome_in rows r.word) r) rows (each (Known (outcome_in rows)) (λ r. added (outcome_in rows r.word) r ≡ None) (λ r h. ap (λ o. added o r) h) rows known) in
+    none_made (λ r. added (outcome_in rows r.word) r) rows (each (Known (outcome_in rows)) (λ r. added (outcome_in rows r.word) r ≡ None) (λ r h. ap (λ o. added o r) h) rows known) in
     let no_removed : filter_map (λ r. removed (outcome_in rows r.word) r) rows ≡ [] =
-        none_made (λ r. removed (outcome_in rows r.word) r) rows (each (Known (outcome_in rows)) (λ r. removed (outcome_in rows r.word) r ≡ None) (λ r h. ap (λ o. removed o r) h) rows known) in
+    none_made (λ r. removed (outcome_in rows r.word) r) rows (each (Known (outcome_in rows)) (λ r. removed (outcome_in rows r.word) r ≡ None) (λ r h. ap (λ o. removed o r) h) rows known) in
     let no_changed : filter_map (λ r. changed (outcome_in rows r.word) r) rows ≡ [] =
-        none_made (λ r. changed (outcome_in rows r.word) r) rows (each (Known (outcome_in rows)) (λ r. changed (outcome_in rows r.word) r ≡ None)
-        (λ r h. ap (λ o. changed o r) h ∙ unchanged r) rows known) in
+    none_made (λ r. changed (outcome_in rows r.word) r) rows (each (Known (outcome_in rows)) (λ r. changed (outcome_in rows r.word) r ≡ None)
+    (λ r h. ap (λ o. changed o r) h ∙ unchanged r) rows known) in
     λ i. ((no_added i ++ no_removed i) ++ no_changed i)
-      ++ ((none_split (moves_of (outcome_in rows) rows) still i ++ none_merged (moves_of (outcome_in rows) rows) still i)
-      ++ none_renamed (moves_of (outcome_in rows) rows) still (classes_of (turned (moves_of (outcome_in rows) rows))) i)
+    ++ ((none_split (moves_of (outcome_in rows) rows) still i ++ none_merged (moves_of (outcome_in rows) rows) still i)
+    ++ none_renamed (moves_of (outcome_in rows) rows) still (classes_of (turned (moves_of (outcome_in rows) rows))) i)
   where
     unchanged : (r : Row) → changed (Some r.outcome) r ≡ None
     unchanged r = λ i. if same_self r.outcome i then None else Some (Changed r.word r.outcome r.outcome)

@@ -22,10 +22,10 @@ fn split<'a>(alloc: Global, class: &StemClass<'a>) -> Result<Option<ChangeRow<'a
     if class.members.len() < 2 {
         return Ok(None);
     }
-    let members = Vec::from_slice(alloc, class.members.as_slice())?;
+    let into = Vec::from_slice(alloc, class.members.as_slice())?;
     Ok(Some(ChangeRow::Split {
         stem: class.stem,
-        into: members,
+        into,
     }))
 }
 
@@ -33,13 +33,13 @@ fn split<'a>(alloc: Global, class: &StemClass<'a>) -> Result<Option<ChangeRow<'a
 fn merged<'a>(alloc: Global, class: &StemClass<'a>) -> Result<Option<ChangeRow<'a>>, AllocError>
     ensures { IfOk result (λ change. option_map view_change change ≡ spec.merged (view_class class.now) (view_class class.now).members) }
 {
-    if class.members.len() < 2 {
+    if class.members.len() <= 1 {
         return Ok(None);
     }
-    let members = Vec::from_slice(alloc, class.members.as_slice())?;
+    let from = Vec::from_slice(alloc, class.members.as_slice())?;
     Ok(Some(ChangeRow::Merged {
         stem: class.stem,
-        from: members,
+        from,
     }))
 }
 
