@@ -1,7 +1,7 @@
 -- What each edit of the setting brings: which words it has to run, and that each other word runs as before.
-use Rattle.std.proofs.Common.{◌≡◌, ◌∙◌, ◌||◌, ◌≤◌, ℕ, Bool, true, false, nat_le, nat_lt, List, [], ◌∷◌, map, Option, Some, None, refl, sym, ap, arith}
+use Rattle.std.proofs.Common.{◌≡◌, ◌∙◌, ◌||◌, ◌&&◌, ◌≤◌, ℕ, Bool, true, false, nat_le, nat_lt, List, [], ◌∷◌, map, Option, Some, None, refl, sym, ap, subst, arith}
 use Rattle.std.specs.Prelude.{if◌then◌else◌}
-use Rattle.std.specs.List.{list_any}
+use Rattle.std.specs.List.{list_all, list_any}
 use Rattle.std.proofs.Math.Path.{fun_ext}
 use Rattle.std.proofs.lemmas.Bool.{true≢false}
 use Rattle.std.proofs.lemmas.Bool.Decides.{nat_tests}
@@ -14,8 +14,9 @@ use Rattle.sbl_run.specs.declared.touch.Touch.{Touch}
 use Rattle.sbl_machine.specs.BuiltFrom.{affected, affected_by, meets, meets_one}
 use Rattle.sbl_machine.specs.Differs.{differs}
 use Rattle.sbl_machine.specs.EnoughSteps.{UsedStepsSuffice, UsedStepsTouch}
-use Rattle.sbl_machine.specs.Frame.{DifferingStay, StaysAsItWas, UntouchedStay}
-use Rattle.sbl_machine.specs.Marks.{AreMarksOf}
+use Rattle.sbl_machine.specs.DifferLaws.{DifferingStay}
+use Rattle.sbl_machine.specs.Frame.{StaysAsItWas, UntouchedStay}
+use Rattle.sbl_machine.specs.Marks.{AreMarksOf, EditedAreThere, has_item}
 use Rattle.sbl_machine.specs.Outcome.{touches_of, used_of}
 use Rattle.sbl_machine.specs.Touched.{Item', named, names_of, replaced}
 use Rattle.sbl_bench.specs.Affected.{Affected, AreMet, Touching, Above, is_affected}
@@ -63,6 +64,17 @@ taken_brings law s e text t x is well a met =
       met_is = same;
       stays = λ w h. stays_same p t w l (law p t e text well is.edited w l (same w ∙ h));
     }
+
+-- the same by the words that are affected by a list of this item alone
+pub edited_brings : UntouchedStay → EditedAreThere → (s : Contents) (e : ScriptEdit) (text : List ℕ) (t : Source) (x : Item') → IsTaken s e text t x → WellDeclared s.setting.script.items s.setting.script.external
+    → (xs : List Item') → xs ≡ x ∷ [] → (a : Affected) → (list_all (has_item (names_of s.setting.script)) xs ≡ true → AreMet s.setting.script (Some xs) a)
+    → Brings s (Replace e text) (under t s.setting.limit) a
+edited_brings law there s e text t x is well xs alone a met =
+    let p = s.setting.script in
+    let same : xs ≡ replaced e ∷ [] = alone ∙ ap (λ (y : Item'). y ∷ []) is.replaces in
+    let all : list_all (has_item (names_of p)) (replaced e ∷ []) ≡ true = ap (λ (b : Bool). b && true) (there p t e text is.edited) in
+    let known : list_all (has_item (names_of p)) xs ≡ true = subst (λ (ys : List Item'). list_all (has_item (names_of p)) ys ≡ true) (sym same) all in
+    taken_brings law s e text t x is well a (subst (λ (ys : List Item'). AreMet p (Some ys) a) same (met known))
 
 -- ---- whole scripts
 

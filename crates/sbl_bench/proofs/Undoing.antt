@@ -6,7 +6,7 @@ use Rattle.std.proofs.lemmas.Bool.{true≢false}
 use Rattle.sbl_script.specs.Parsed.{Source}
 use Rattle.sbl_machine.specs.BuiltFrom.{meets_one}
 use Rattle.sbl_machine.specs.Differs.{differs}
-use Rattle.sbl_machine.specs.Frame.{AlikeDifferNowhere}
+use Rattle.sbl_machine.specs.DifferLaws.{AlikeDifferNowhere}
 use Rattle.sbl_machine.specs.Outcome.{touches_of}
 use Rattle.sbl_machine.specs.Touched.{Item', named, names_of}
 use Rattle.sbl_bench.specs.Classes.{classes_of}
