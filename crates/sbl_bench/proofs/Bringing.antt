@@ -11,10 +11,10 @@ use Rattle.sbl_script.specs.Parsed.{Source}
 use Rattle.sbl_script.specs.Reading.{IsScriptOf}
 use Rattle.sbl_run.specs.Touches.{same_touch}
 use Rattle.sbl_run.specs.declared.touch.Touch.{Touch}
-use Rattle.sbl_machine.specs.BuiltFrom.{affected, affected_by, meets, meets_one}
+use Rattle.sbl_machine.specs.BuiltFrom.{affected_by, meets, meets_one}
 use Rattle.sbl_machine.specs.Differs.{differs}
 use Rattle.sbl_machine.specs.EnoughSteps.{UsedStepsSuffice, UsedStepsTouch}
-use Rattle.sbl_machine.specs.DifferLaws.{DifferingStay}
+use Rattle.sbl_machine.specs.DifferLaws.{DifferingStay, OneMeets}
 use Rattle.sbl_machine.specs.Frame.{StaysAsItWas, UntouchedStay}
 use Rattle.sbl_machine.specs.Marks.{AreMarksOf, EditedAreThere, has_item}
 use Rattle.sbl_machine.specs.Outcome.{touches_of, used_of}
@@ -38,24 +38,15 @@ met_by_marks s xs marks are limit w =
     any_mapped (named (names_of s)) (affected_by s xs) (touches_of s w limit)
     ∙ ap (λ (test : Touch → Bool). list_any test (touches_of s w limit)) (fun_ext (λ t. sym (are t)))
 
-or_false : (b : Bool) → (b || false) ≡ b
-or_false true = refl
-or_false false = refl
-
--- to meet one item alone is to meet it
-meets_alone : (x : Item') (s : Source) (w : List ℕ) (limit : ℕ) → meets x s w limit ≡ meets_one (x ∷ []) s w limit
-unfolding meets meets_one
-meets_alone x s w limit = ap (λ (test : Item' → Bool). list_any test (map (named (names_of s)) (touches_of s w limit))) (fun_ext (λ y. sym (or_false (affected s x y))))
-
 stays_same : (s t : Source) (w : List ℕ) (limit : ℕ) → StaysAsItWas s t w limit → RunsSame (under s limit) (under t limit) w
 stays_same s t w limit h = record { outcome = h.alike.outcome; touches = h.touches; used = h.alike.used }
 
-pub taken_brings : UntouchedStay → (s : Contents) (e : ScriptEdit) (text : List ℕ) (t : Source) (x : Item') → IsTaken s e text t x → WellDeclared s.setting.script.items s.setting.script.external
+pub taken_brings : UntouchedStay → OneMeets → (s : Contents) (e : ScriptEdit) (text : List ℕ) (t : Source) (x : Item') → IsTaken s e text t x → WellDeclared s.setting.script.items s.setting.script.external
     → (a : Affected) → AreMet s.setting.script (Some (replaced e ∷ [])) a → Brings s (Replace e text) (under t s.setting.limit) a
-taken_brings law s e text t x is well a met =
+taken_brings law alone s e text t x is well a met =
     let p = s.setting.script in
     let l = s.setting.limit in
-    let same : (w : List ℕ) → meets (replaced e) p w l ≡ is_affected (under p l) a w = λ w. meets_alone (replaced e) p w l ∙ met l w in
+    let same : (w : List ℕ) → meets (replaced e) p w l ≡ is_affected (under p l) a w = λ w. sym (alone (replaced e) p w l) ∙ met l w in
     record {
       after = (is.edited, refl);
       passes = is.passes;
@@ -66,15 +57,15 @@ taken_brings law s e text t x is well a met =
     }
 
 -- the same by the words that are affected by a list of this item alone
-pub edited_brings : UntouchedStay → EditedAreThere → (s : Contents) (e : ScriptEdit) (text : List ℕ) (t : Source) (x : Item') → IsTaken s e text t x → WellDeclared s.setting.script.items s.setting.script.external
+pub edited_brings : UntouchedStay → OneMeets → EditedAreThere → (s : Contents) (e : ScriptEdit) (text : List ℕ) (t : Source) (x : Item') → IsTaken s e text t x → WellDeclared s.setting.script.items s.setting.script.external
     → (xs : List Item') → xs ≡ x ∷ [] → (a : Affected) → (list_all (has_item (names_of s.setting.script)) xs ≡ true → AreMet s.setting.script (Some xs) a)
     → Brings s (Replace e text) (under t s.setting.limit) a
-edited_brings law there s e text t x is well xs alone a met =
+edited_brings law one there s e text t x is well xs alone a met =
     let p = s.setting.script in
     let same : xs ≡ replaced e ∷ [] = alone ∙ ap (λ (y : Item'). y ∷ []) is.replaces in
     let all : list_all (has_item (names_of p)) (replaced e ∷ []) ≡ true = ap (λ (b : Bool). b && true) (there p t e text is.edited) in
     let known : list_all (has_item (names_of p)) xs ≡ true = subst (λ (ys : List Item'). list_all (has_item (names_of p)) ys ≡ true) (sym same) all in
-    taken_brings law s e text t x is well a (subst (λ (ys : List Item'). AreMet p (Some ys) a) same (met known))
+    taken_brings law one s e text t x is well a (subst (λ (ys : List Item'). AreMet p (Some ys) a) same (met known))
 
 -- ---- whole scripts
 

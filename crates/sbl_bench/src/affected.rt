@@ -13,7 +13,7 @@ ghost use Rattle.sbl_run.specs.Touches.{same_touch};
 ghost use Rattle.sbl_script.specs.Parsed.{source_of};
 
 use sbl_diff::differences;
-use sbl_machine::laws::differing_are_there;
+use sbl_machine::laws::differing_agree;
 use sbl_machine::{Item, Machine, Table, Touch, Touched, Traced};
 use sbl_script::Script;
 use std::alloc::{AllocError, Global};
@@ -53,7 +53,7 @@ pub(crate) fn affected_by_exchange(
 ) -> Result<Affected, AllocError>
     ensures { IsLinkedMachineOf machine.now (source_of script.now) → IfOk result (λ a. spec.AreMet (source_of script.now) (differs (source_of script.now) (source_of other.now)) (affected_of a)) }
 {
-    differing_are_there();
+    differing_agree();
     match differences(alloc, script, other)? {
         Some(items) => affected_by_items(alloc, machine, script, items.as_slice()),
         None => Ok(Affected::Every),

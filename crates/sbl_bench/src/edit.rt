@@ -8,7 +8,9 @@ use crate::bench::{Bench, MAX_LIMIT, MAX_WORD_LENGTH, MAX_WORDS};
 use crate::change::{make_changes, rerun};
 use crate::fault::EditFault;
 use crate::traces::{has_word, put_last};
-use sbl_machine::laws::{differing_stay, edits_agree, untouched_stay, used_steps_suffice};
+use sbl_machine::laws::{
+    differing_stay, edits_agree, one_item_alone, untouched_stay, used_steps_suffice,
+};
 use sbl_machine::{Item, Machine};
 use sbl_script::Script;
 use sbl_script::laws::is_well_declared;
@@ -199,6 +201,7 @@ impl Bench {
     {
         edits_agree();
         untouched_stay();
+        one_item_alone();
         is_well_declared(&self.script);
         let items = from_ref(item);
         let affected = affected_by_items(self.alloc, &self.machine, &self.script, items)?;

@@ -8,7 +8,7 @@ ghost use Rattle.sbl_bench.specs.OneVerdict.{VerdictIsOne};
 ghost use Rattle.sbl_bench.specs.Undo.{UndoOfLimit, UndoOfScript};
 
 use crate::bench::Bench;
-use sbl_machine::laws::alike_differ_nowhere;
+use sbl_machine::laws::only_items_differ;
 use sbl_script::laws::{one_edit, one_reading};
 
 /// Each edit has one verdict, and one bench after it: unless an allocation fails, the result of an edit is a function of the
@@ -25,7 +25,7 @@ pub fn equal_scripts_run_nothing()
     ensures read { EqualScriptRunsNothing }
     ensures installed { InstalledAgainRunsNothing }
 {
-    alike_differ_nowhere();
+    only_items_differ();
 }
 
 /// If the script before an edit is installed again, or the limit before is set again, the rows, classes and traces are those of

@@ -13,7 +13,7 @@ returns-in-Some c machine =
     let xs = map item_of c.as_slice.result.now in
     let listed : Some xs ≡ differs s t = ap (λ (ys : List Item'). Some ys) (ap (map item_of) c.as_slice.ensures.value) ∙ c.in-Some.ensures in
     subst (λ (o : Option (List Item')). IfOk c.affected_by_items.result (λ a. AreMet s o (affected_of a))) listed
-    (c.affected_by_items.ensures machine (c.differing_are_there.ensures s t xs (sym listed)))
+    (c.affected_by_items.ensures machine (c.differing_agree.ensures.there s t xs (sym listed)))
 
 pub returns-in-None : goal.returns-in-None
 returns-in-None c machine =
