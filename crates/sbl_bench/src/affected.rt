@@ -54,7 +54,8 @@ pub(crate) fn affected_by_exchange(
     ensures { IsLinkedMachineOf machine.now (source_of script.now) → IfOk result (λ a. spec.AreMet (source_of script.now) (differs (source_of script.now) (source_of other.now)) (affected_of a)) }
 {
     differing_agree();
-    match differences(alloc, script, other)? {
+    let differing = differences(alloc, script, other)?;
+    match differing {
         Some(items) => affected_by_items(alloc, machine, script, items.as_slice()),
         None => Ok(Affected::Every),
     }
