@@ -2,7 +2,7 @@ use Rattle.std.proofs.Common.{◌≡◌, ◌∙◌, List, Option, Some, None, If
 use Rattle.sbl_script.specs.Parsed.{source_of}
 use Rattle.sbl_machine.specs.Differs.{differs}
 use Rattle.sbl_machine.specs.Touched.{Item', item_of}
-use Rattle.sbl_diff.specs.Listed.{items_in}
+use Rattle.sbl_diff.specs.ItemsIn.{items_in}
 use Rattle.sbl_bench.specs.Affected.{AreMet, Every}
 use Rattle.sbl_bench.specs.Changes.{affected_of}
 use Rattle.sbl_bench.proofs.affected.affected_by_exchange.Goals as goal
