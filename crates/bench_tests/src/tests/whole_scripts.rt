@@ -7,13 +7,13 @@ use std::alloc::Global;
 use std::process::Abort;
 use std::test::Fail;
 
-const WORDS: [&str; 4] = ["xyb", "ab", "xb", "q"];
+const WORDS: [&str; 5] = ["xyb", "ab", "xb", "q", "ad"];
 
 /// The rows of these words under `FIRST`.
-const ROWS: &str = "xyb xb;ab a;xb b;q ;";
+const ROWS: &str = "xyb xb;ab a;xb b;q ;ad ad;";
 
-/// Two groupings are built from `v`. `xyb` tests `u`, `xb` tests `u` and `w`, `q` tests `w`, and `ab` tests none of them, but is
-/// the only word that searches the among.
+/// Two groupings are built from `v`. `xyb` tests `u`, `xb` tests `u` and `w`, `q` tests `w`, and `ab` and `ad` test none of them.
+/// `ab` and `ad` enter `tail`, and only `ab` searches its among.
 const FIRST: &str = "groupings ( v w u )
 routines ( head tail )
 externals ( stem )
@@ -21,7 +21,7 @@ define v 'a'
 define w v + 'b'
 define u v + 'y'
 define head as ( [ u ] delete )
-define tail as ( [ among ( 'b' () 'c' () ) ] delete )
+define tail as ( 'd' or ( [ among ( 'b' () 'c' () ) ] delete ) )
 define stem as ( 'x' head ) or ( 'a' tail ) or ( [ non w ] delete )
 ";
 
@@ -30,7 +30,7 @@ const LAID_OUT: &str = "// the groupings
 groupings(v w u)routines(head tail)externals(stem)
 define v'a' /* and */ define w v+'b'
 define u v+'y' define head as([u]delete)
-define tail as([among('b'()'c'())]delete)
+define tail as('d'or([among('b'()'c'())]delete))
 define stem as('x'head)or('a'tail)or([non w]delete)";
 
 /// `head` takes nothing off.
@@ -41,7 +41,7 @@ define v 'a'
 define w v + 'b'
 define u v + 'y'
 define head as ( u )
-define tail as ( [ among ( 'b' () 'c' () ) ] delete )
+define tail as ( 'd' or ( [ among ( 'b' () 'c' () ) ] delete ) )
 define stem as ( 'x' head ) or ( 'a' tail ) or ( [ non w ] delete )
 ";
 
@@ -53,7 +53,7 @@ define v 'a'
 define w v + 'b'
 define u v + 'y'
 define head as ( u )
-define tail as ( [ among ( 'b' ( attach 'e' ) 'c' () ) ] delete )
+define tail as ( 'd' or ( [ among ( 'b' ( attach 'e' ) 'c' () ) ] delete ) )
 define stem as ( 'x' head ) or ( 'a' tail ) or ( [ non w ] delete )
 ";
 
@@ -65,7 +65,7 @@ define v 'aq'
 define w v + 'b'
 define u v + 'y'
 define head as ( u )
-define tail as ( [ among ( 'b' ( attach 'e' ) 'c' () ) ] delete )
+define tail as ( 'd' or ( [ among ( 'b' ( attach 'e' ) 'c' () ) ] delete ) )
 define stem as ( 'x' head ) or ( 'a' tail ) or ( [ non w ] delete )
 ";
 
@@ -77,7 +77,7 @@ define v 'aq'
 define w v + 'b'
 define u v + 'y'
 define head as ( [ u ] delete )
-define tail as ( [ among ( 'b' () 'c' () ) ] delete )
+define tail as ( 'd' or ( [ among ( 'b' () 'c' () ) ] delete ) )
 define stem as ( 'x' head ) or ( 'a' tail ) or ( [ non w ] delete )
 ";
 
@@ -89,7 +89,7 @@ define v 'aq'
 define u v + 'y'
 define w v + 'b'
 define head as ( [ u ] delete )
-define tail as ( [ among ( 'b' () 'c' () ) ] delete )
+define tail as ( 'd' or ( [ among ( 'b' () 'c' () ) ] delete ) )
 define stem as ( 'x' head ) or ( 'a' tail ) or ( [ non w ] delete )
 ";
 
@@ -102,7 +102,7 @@ define v 'aq'
 define u v + 'y'
 define w v + 'b'
 define head as ( [ u ] delete )
-define tail as ( [ among ( 'b' () 'c' () ) ] delete )
+define tail as ( 'd' or ( [ among ( 'b' () 'c' () ) ] delete ) )
 define stem as ( 'x' head ) or ( 'a' tail ) or ( [ non w ] delete )
 ";
 
@@ -139,25 +139,25 @@ fn replaces(rt: &impl Abort, alloc: Global, bench: &mut Bench, rows: &[Row]) -> 
 #[test]
 fn a_whole_script_runs_what_met_the_items_that_differ(rt: HostRuntime) -> Result<(), Fail> {
     let alloc = rt.alloc();
-    let after = "xyb xb;ab a;xb b;q q;";
+    let after = "xyb xb;ab a;xb b;q q;ad ad;";
     let mut bench = bench_of(alloc, FIRST, &WORDS)?;
     let done = replaces(
         &rt,
         alloc,
         &mut bench,
         &[
-            (FIRST, "", ROWS, 4),
-            (LAID_OUT, "", ROWS, 4),
-            (OTHER_ROUTINE, "", "xyb xyb;ab a;xb b;q ;", 6),
-            (OTHER_AMONG, "", "xyb xyb;ab ae;xb b;q ;", 7),
-            (OTHER_GROUPING, "", "xyb xyb;ab ae;xb b;q q;", 10),
-            (TWO_ITEMS, "", after, 13),
-            (MOVED, "", after, 17),
-            (DECLARED, "", after, 21),
-            ("define", "48 Syntax", after, 21),
-            (OTHER_EXTERNAL, "48 NoExternal", after, 21),
-            ("", "48 NoExternal", after, 21),
-            (FIRST, "", ROWS, 25),
+            (FIRST, "", ROWS, 5),
+            (LAID_OUT, "", ROWS, 5),
+            (OTHER_ROUTINE, "", "xyb xyb;ab a;xb b;q ;ad ad;", 7),
+            (OTHER_AMONG, "", "xyb xyb;ab ae;xb b;q ;ad ad;", 8),
+            (OTHER_GROUPING, "", "xyb xyb;ab ae;xb b;q q;ad ad;", 11),
+            (TWO_ITEMS, "", after, 14),
+            (MOVED, "", after, 19),
+            (DECLARED, "", after, 24),
+            ("define", "48 Syntax", after, 24),
+            (OTHER_EXTERNAL, "48 NoExternal", after, 24),
+            ("", "48 NoExternal", after, 24),
+            (FIRST, "", ROWS, 29),
         ],
     );
     bench.leak();
@@ -176,7 +176,7 @@ fn a_script_that_is_too_long_changes_nothing(rt: HostRuntime) -> Result<(), Fail
     bench.leak();
     assert_eq!(rt; answer, Err(EditFault::Script(ScriptFault::ScriptTooLong)));
     assert_eq!(rt; shown?.as_str(), ROWS);
-    assert_eq!(rt; runs, 4);
+    assert_eq!(rt; runs, 5);
     Ok(())
 }
 
@@ -206,9 +206,9 @@ fn installs_both(
     edited: &mut Script,
     other: &mut Script,
 ) -> Result<(), Fail> {
-    let rows = [("xyb xyb;ab a;xb b;q ;", 6), (ROWS, 8)];
+    let rows = [("xyb xyb;ab a;xb b;q ;ad ad;", 7), (ROWS, 9)];
     installs(rt, alloc, bench, edited, rows)?;
-    let rows = [("xyb xyb;ab ab;xb xb;q q;", 12), (ROWS, 16)];
+    let rows = [("xyb xyb;ab ab;xb xb;q q;ad ad;", 14), (ROWS, 19)];
     installs(rt, alloc, bench, other, rows)
 }
 
