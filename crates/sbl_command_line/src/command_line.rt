@@ -5,7 +5,7 @@ ghost use Rattle.clap.specs.Words.{app_of};
 ghost use Rattle.sbl_command_line.specs.CommandLine.{program, verb_app, verb_name, wanted_of};
 
 use clap::error::ErrorKind;
-use clap::{Arg, Command, Error};
+use clap::{Arg, ArgAction, ArgMatches, Command, Error};
 use std::alloc::{AllocError, Global};
 
 /// The subcommands of the program.
@@ -17,6 +17,17 @@ pub enum Verb {
     Stem,
     /// Compares stems with the expected stems.
     Check,
+    /// Works on a script and words in files.
+    Work,
+}
+
+/// The face of the answers of `work`.
+#[derive(Clone, Copy, Debug, PartialEq, Eq)]
+pub enum Face {
+    /// Rows for programs.
+    Rows,
+    /// Text for people.
+    Text,
 }
 
 /// What a command line asks for: a subcommand and the external to run.
@@ -26,6 +37,12 @@ pub struct Wanted {
     pub verb: Verb,
     /// The external to run.
     pub external: String,
+    /// The file of the script; only `work` has one.
+    pub script: Option<String>,
+    /// The file of the words, if `work` has one.
+    pub words: Option<String>,
+    /// The face of the answers, if `work` has one.
+    pub face: Option<Face>,
 }
 
 /// The first lines of the help of the program.
@@ -100,6 +117,24 @@ writes
 
 To read on: docs/SESSION.md.";
 
+/// The first lines of the help of `work`.
+const ABOUT_WORK: &str = "Answers commands over a script and words in files";
+
+/// The last lines of the help of `work`.
+const HELP_WORK: &str = "\
+In:   commands, one a line, up to 'quit' or the end.
+Out:  the answer to each command, before the next line is read.
+
+Example:
+  printf '%s\\n' 'externals ( stem )' \"define stem as ( [ 'un' ] delete )\" > un.sbl
+  printf '%s\\n' undo redo > un.words
+  echo stems | snowbench work un.sbl un.words
+writes
+  undo,stem,do
+  redo,stem,redo
+
+To read on: docs/SESSION.md has every command with its answers.";
+
 /// Returns the definition of a subcommand, with the option `--external NAME` and its default `stem`.
 fn verb_command<'a>(
     alloc: Global,
@@ -118,7 +153,53 @@ fn verb_command<'a>(
     Ok(command.about(about).after_help(help))
 }
 
-/// Returns the definition of the command line, with three subcommands.
+/// Returns the definition of `work`: a subcommand with the files SCRIPT and WORDS, and the flags `--rows` and `--text`.
+fn work_command<'a>(alloc: Global) -> Result<Command<'a>, AllocError>
+    ensures { IfOk result (λ c. app_of c ≡ work_app) }
+{
+    let script = Arg::new(alloc, "SCRIPT")
+        .required(true)
+        .help("The file of the script");
+    let words = Arg::new(alloc, "WORDS").help("The file of the words, one on each line");
+    let rows = Arg::new(alloc, "rows")
+        .long("rows")
+        .action(ArgAction::SetTrue)
+        .help("Answers in rows, for programs");
+    let text = Arg::new(alloc, "text")
+        .long("text")
+        .action(ArgAction::SetTrue)
+        .help("Answers in text, for people");
+    verb_command(alloc, "work", ABOUT_WORK, HELP_WORK)?
+        .arg(script)?
+        .arg(words)?
+        .arg(rows)?
+        .arg(text)
+}
+
+/// Returns the text of an argument, if it is given. Returns `AllocError` if an allocation fails.
+fn text_of(
+    alloc: Global,
+    options: &ArgMatches,
+    name: &str,
+) -> Result<Option<String>, AllocError> {
+    match options.get_str(name) {
+        Some(text) => Ok(Some(String::from_str(alloc, text)?)),
+        None => Ok(None),
+    }
+}
+
+/// Returns the face that is asked for: rows, if both are.
+fn face_of(options: &ArgMatches) -> Option<Face> {
+    if options.get_flag("rows") {
+        return Some(Face::Rows);
+    }
+    if options.get_flag("text") {
+        return Some(Face::Text);
+    }
+    None
+}
+
+/// Returns the definition of the command line, with four subcommands.
 fn make_program<'a>(alloc: Global) -> Result<Command<'a>, AllocError>
     ensures { IfOk result (λ c. app_of c ≡ program) }
 {
@@ -130,11 +211,12 @@ fn make_program<'a>(alloc: Global) -> Result<Command<'a>, AllocError>
         .arg_required_else_help(true)
         .subcommand(verb_command(alloc, "session", ABOUT_SESSION, HELP_SESSION)?)?
         .subcommand(verb_command(alloc, "stem", ABOUT_STEM, HELP_STEM)?)?
-        .subcommand(verb_command(alloc, "check", ABOUT_CHECK, HELP_CHECK)?)
+        .subcommand(verb_command(alloc, "check", ABOUT_CHECK, HELP_CHECK)?)?
+        .subcommand(work_command(alloc)?)
 }
 
 /// Parses the words of a command line, the first of which is the name of the program: one of the subcommands `session`,
-/// `stem` and `check`, and the value of its option `--external`, by default `stem`. `clap` does the parsing.
+/// `stem`, `check` and `work`, the value of its option `--external`, by default `stem`, and the files and the face of `work`. `clap` does the parsing.
 ///
 /// # Errors
 ///
@@ -152,6 +234,7 @@ pub fn read_words<'a>(alloc: Global, words: &'a [String]) -> Result<Wanted, Erro
         "session" => Verb::Session,
         "stem" => Verb::Stem,
         "check" => Verb::Check,
+        "work" => Verb::Work,
         _ => {
             return Err(make_program(alloc)?.error(
                 ErrorKind::InvalidSubcommand,
@@ -165,5 +248,8 @@ pub fn read_words<'a>(alloc: Global, words: &'a [String]) -> Result<Wanted, Erro
     Ok(Wanted {
         verb,
         external: String::from_str(alloc, external)?,
+        script: text_of(alloc, options, "SCRIPT")?,
+        words: text_of(alloc, options, "WORDS")?,
+        face: face_of(options),
     })
 }

@@ -1,0 +1,19 @@
+//! Work on a script and a vocabulary: the commands of a session, whole scripts, and edits that are undone and redone.
+#![tactic(auto)]
+
+mod definitions;
+mod desk;
+mod files;
+mod history;
+mod marks;
+mod parts;
+mod replies;
+mod requests;
+mod serving;
+mod standin;
+mod words;
+
+pub use desk::{Desk, HistoryFault};
+pub use files::Paths;
+pub use marks::MarkedRow;
+pub use serving::work;

@@ -1,0 +1,181 @@
+//! Work: each request gets its reply before the next line is read.
+
+use crate::definitions::definition_text;
+use crate::desk::Desk;
+use crate::files::{OpenFault, Paths, open, save};
+use crate::parts::{answer_part, answer_replace};
+use crate::replies::{
+    BAD_NUMBER, NO_FILE, edit_reply, memory_reply, redo_reply, undo_reply,
+};
+use crate::requests::{BlockRequest, Request, block_request_of, is_quit, request_of};
+use crate::standin::{changes_text, largest_text, number_in, stats_text};
+use sbl_bench::EditFault;
+use sbl_lines::{Lines, ServeFault, Sink, Source, write_all};
+use sbl_sessions::{Reply, answer_line, report, write_reply};
+use std::alloc::{AllocError, Global};
+use std::fs;
+use std::rt::Files;
+
+/// What is written before each line is read, if work is done at a terminal.
+const PROMPT: &[u8] = b"> ";
+
+/// The files of work, and the bytes that were read last from the file of the script.
+#[derive(Drop)]
+struct Folder<'a, F> {
+    files: &'a F,
+    paths: &'a Paths,
+    seen: Vec<u8>,
+}
+
+/// Replaces the script by what its file has now, and returns the reply.
+fn reload<F: Files + AllocGlobal>(folder: &mut Folder<'_, F>, desk: &mut Desk) -> Reply {
+    let Ok(bytes) = fs::read(folder.files, folder.paths.script.as_str()) else {
+        return Reply::Fixed(NO_FILE);
+    };
+    let replaced = desk.replace(&bytes);
+    folder.seen = bytes;
+    edit_reply(replaced)
+}
+
+/// Writes the text of the script in force to a file, and returns the reply.
+fn save_as<F: Files + AllocGlobal>(folder: &mut Folder<'_, F>, desk: &Desk, path: &str) -> Reply {
+    let Ok(text) = desk.text() else {
+        return edit_reply(Err(EditFault::OutOfMemory));
+    };
+    if save(folder.files, folder.paths, &mut folder.seen, path, text) {
+        edit_reply(Ok(()))
+    } else {
+        Reply::Fixed(NO_FILE)
+    }
+}
+
+/// Returns the reply to `largest`.
+fn largest(alloc: Global, desk: &Desk, argument: &str) -> Reply {
+    match number_in(argument.as_bytes()) {
+        None | Some(0) => Reply::Fixed(BAD_NUMBER),
+        Some(number) => report(largest_text(alloc, desk, number)),
+    }
+}
+
+/// Returns the reply to `show`.
+fn show(alloc: Global, desk: &Desk, name: &str) -> Reply {
+    match definition_text(alloc, desk.bench().script(), name) {
+        Ok(Some(text)) => Reply::Report(text),
+        Ok(None) => edit_reply(Err(EditFault::NoRoutine)),
+        Err(refused) => report(Err(refused)),
+    }
+}
+
+/// Returns a text and a line feed.
+fn echo_text(alloc: Global, text: &[u8]) -> Result<Vec<u8>, AllocError> {
+    let mut line = Vec::from_slice(alloc, text)?;
+    line.extend_from_slice(b"\n")?;
+    Ok(line)
+}
+
+/// Makes the edit or the report that a line without a block asks for, and returns the reply.
+fn answer_alone<F: Files + AllocGlobal>(
+    folder: &mut Folder<'_, F>,
+    desk: &mut Desk,
+    alloc: Global,
+    line: &[u8],
+) -> Reply {
+    match request_of(line) {
+        Request::Comment => Reply::Fixed(""),
+        Request::Reload => reload(folder, desk),
+        Request::Undo => undo_reply(desk.undo()),
+        Request::Redo => redo_reply(desk.redo()),
+        Request::Mark => memory_reply(desk.mark()),
+        Request::Changes => report(changes_text(alloc, desk)),
+        Request::Stats => report(stats_text(alloc, desk)),
+        Request::Largest(argument) => largest(alloc, desk, argument),
+        Request::Show(name) => show(alloc, desk, name),
+        Request::Save(path) => save_as(folder, desk, path),
+        Request::Echo(text) => report(echo_text(alloc, text)),
+        Request::Help => Reply::Fixed(""),
+        Request::Session => desk.answer(alloc, line),
+    }
+}
+
+/// Makes the edit or the report that the current line asks for, with the block after it if it asks for one, and returns the
+/// reply.
+fn answer<F: Files + AllocGlobal, R: Source + Drop>(
+    folder: &mut Folder<'_, F>,
+    desk: &mut Desk,
+    lines: &mut Lines<R>,
+) -> Result<Reply, ServeFault> {
+    match block_request_of(lines.line()) {
+        Some(BlockRequest::Part(word)) => answer_part(desk, lines, word),
+        Some(BlockRequest::Whole(is_good)) => answer_replace(desk, lines, is_good),
+        None => Ok(answer_alone(folder, desk, lines.alloc(), lines.line())),
+    }
+}
+
+/// Replies to each request of the input in turn, up to `quit` or the end of input.
+fn serve<F: Files + AllocGlobal, R: Source + Drop, W: Sink>(
+    folder: &mut Folder<'_, F>,
+    desk: &mut Desk,
+    prompt: &[u8],
+    lines: &mut Lines<R>,
+    writer: &mut W,
+) -> Result<(), ServeFault> {
+    write_all(writer, prompt)?;
+    while lines.next_line()? {
+        if is_quit(lines.line()) {
+            return Ok(());
+        }
+        let reply = answer(folder, desk, lines)?;
+        write_reply(writer, &reply)?;
+        write_all(writer, prompt)?;
+    }
+    Ok(())
+}
+
+/// Writes why there is no desk.
+fn write_fault<E: Sink>(alloc: Global, errors: &mut E, fault: &OpenFault) {
+    let line = match fault {
+        OpenFault::File(path, error) => format!(in alloc; "snowbench: {path}: {error}\n"),
+        OpenFault::Load(fault) => format!(in alloc; "snowbench: {fault}\n"),
+    };
+    if let Ok(line) = line {
+        // The status reports the fault even if its line cannot be written.
+        let _ = write_all(errors, line.as_bytes());
+    }
+}
+
+/// Writes why work ended before the end of input.
+fn write_stop<E: Sink>(alloc: Global, errors: &mut E, fault: ServeFault) {
+    if let Ok(line) = format!(in alloc; "snowbench: {fault}\n") {
+        let _ = write_all(errors, line.as_bytes());
+    }
+}
+
+/// Opens the desk of the files, and replies to each request of the input in turn, up to `quit` or the end of input. Returns
+/// the exit status: 0, or 1 after a fault, which is one line in `errors`.
+pub fn work<F: Files + AllocGlobal, R: Source + Drop, W: Sink, E: Sink>(
+    files: &F,
+    paths: &Paths,
+    prompts: bool,
+    lines: &mut Lines<R>,
+    writer: &mut W,
+    errors: &mut E,
+) -> u8 {
+    let (mut desk, seen) = match open(files, paths) {
+        Ok(opened) => opened,
+        Err(fault) => {
+            write_fault(lines.alloc(), errors, &fault);
+            return 1;
+        }
+    };
+    let mut folder = Folder { files, paths, seen };
+    let prompt = if prompts { PROMPT } else { b"".as_slice() };
+    let served = serve(&mut folder, &mut desk, prompt, lines, writer);
+    desk.leak();
+    match served {
+        Ok(()) => 0,
+        Err(fault) => {
+            write_stop(lines.alloc(), errors, fault);
+            1
+        }
+    }
+}
