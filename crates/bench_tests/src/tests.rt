@@ -5,3 +5,4 @@ mod bench_edits;
 mod characters;
 mod groupings;
 mod limits;
+mod whole_scripts;

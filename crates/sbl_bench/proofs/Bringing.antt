@@ -1,25 +1,28 @@
 -- What each edit of the setting brings: which words it has to run, and that each other word runs as before.
-use Rattle.std.proofs.Common.{◌≡◌, ◌∙◌, ◌||◌, ◌≤◌, ℕ, Bool, true, false, nat_le, nat_lt, List, [], ◌∷◌, map, refl, sym, ap, arith}
+use Rattle.std.proofs.Common.{◌≡◌, ◌∙◌, ◌||◌, ◌&&◌, ◌≤◌, ℕ, Bool, true, false, nat_le, nat_lt, List, [], ◌∷◌, map, Option, Some, None, refl, sym, ap, subst, arith}
 use Rattle.std.specs.Prelude.{if◌then◌else◌}
-use Rattle.std.specs.List.{list_any}
+use Rattle.std.specs.List.{list_all, list_any}
 use Rattle.std.proofs.Math.Path.{fun_ext}
 use Rattle.std.proofs.lemmas.Bool.{true≢false}
 use Rattle.std.proofs.lemmas.Bool.Decides.{nat_tests}
 use Rattle.sbl_checks.specs.Checks.{WellDeclared}
 use Rattle.sbl_script.specs.Edits.{ScriptEdit}
 use Rattle.sbl_script.specs.Parsed.{Source}
+use Rattle.sbl_script.specs.Reading.{IsScriptOf}
 use Rattle.sbl_run.specs.Touches.{same_touch}
 use Rattle.sbl_run.specs.declared.touch.Touch.{Touch}
-use Rattle.sbl_machine.specs.BuiltFrom.{affected, meets}
+use Rattle.sbl_machine.specs.BuiltFrom.{affected_by, meets, meets_one}
+use Rattle.sbl_machine.specs.Differs.{differs}
 use Rattle.sbl_machine.specs.EnoughSteps.{UsedStepsSuffice, UsedStepsTouch}
-use Rattle.sbl_machine.specs.Frame.{UntouchedStay}
-use Rattle.sbl_machine.specs.Marks.{AreMarksOf}
+use Rattle.sbl_machine.specs.DifferLaws.{DifferingStay, OneMeets}
+use Rattle.sbl_machine.specs.Frame.{StaysAsItWas, UntouchedStay}
+use Rattle.sbl_machine.specs.Marks.{AreMarksOf, EditedAreThere, has_item}
 use Rattle.sbl_machine.specs.Outcome.{touches_of, used_of}
 use Rattle.sbl_machine.specs.Touched.{Item', named, names_of, replaced}
-use Rattle.sbl_bench.specs.Affected.{Touching, Above, is_affected}
-use Rattle.sbl_bench.specs.Changes.{Brings, IsTaken}
+use Rattle.sbl_bench.specs.Affected.{Affected, AreMet, Touching, Above, is_affected}
+use Rattle.sbl_bench.specs.Changes.{Brings, IsExchange, IsTaken}
 use Rattle.sbl_bench.specs.Contents.{Contents}
-use Rattle.sbl_bench.specs.Edits.{Replace, Limit, is_limit, smaller}
+use Rattle.sbl_bench.specs.Edits.{Edit, Install, Replace, Limit, Whole, is_limit, is_of_text, meets_listed, smaller}
 use Rattle.sbl_bench.specs.Setting.{Setting, RunsSame, under}
 
 -- ---- items
@@ -28,31 +31,68 @@ any_mapped : {A B : Type 0} (f : A → B) (test : B → Bool) (xs : List A) → 
 any_mapped f test [] = refl
 any_mapped f test (x ∷ xs) = ap (λ (b : Bool). test (f x) || b) (any_mapped f test xs)
 
--- a run meets an item if it touches one of its marks
-meets_marks : (x : Item') (s : Source) (limit : ℕ) (marks : List Touch) → AreMarksOf s x marks → (w : List ℕ) → meets x s w limit ≡ is_affected (under s limit) (Touching marks) w
-unfolding meets
-meets_marks x s limit marks are w =
-    any_mapped (named (names_of s)) (affected s x) (touches_of s w limit)
+-- a run meets one of these items if it touches one of their marks
+pub met_by_marks : (s : Source) (xs : List Item') (marks : List Touch) → AreMarksOf s xs marks → AreMet s (Some xs) (Touching marks)
+unfolding meets_one
+met_by_marks s xs marks are limit w =
+    any_mapped (named (names_of s)) (affected_by s xs) (touches_of s w limit)
     ∙ ap (λ (test : Touch → Bool). list_any test (touches_of s w limit)) (fun_ext (λ t. sym (are t)))
 
-taken_stays : UntouchedStay → (s : Contents) (e : ScriptEdit) (text : List ℕ) (t : Source) (x : Item') → IsTaken s e text t x → WellDeclared s.setting.script.items s.setting.script.external → (w : List ℕ)
-    → meets (replaced e) s.setting.script w s.setting.limit ≡ false → RunsSame s.setting (under t s.setting.limit) w
-taken_stays law s e text t x is well w clear =
-    let h = law s.setting.script t e text well is.edited w s.setting.limit clear in
-    record { outcome = h.alike.outcome; touches = h.touches; used = h.alike.used }
+stays_same : (s t : Source) (w : List ℕ) (limit : ℕ) → StaysAsItWas s t w limit → RunsSame (under s limit) (under t limit) w
+stays_same s t w limit h = record { outcome = h.alike.outcome; touches = h.touches; used = h.alike.used }
 
-pub taken_brings : UntouchedStay → (s : Contents) (e : ScriptEdit) (text : List ℕ) (t : Source) (x : Item') → IsTaken s e text t x → WellDeclared s.setting.script.items s.setting.script.external
-    → (marks : List Touch) → AreMarksOf s.setting.script (replaced e) marks → Brings s (Replace e text) (under t s.setting.limit) (Touching marks)
-taken_brings law s e text t x is well marks are =
-    let same = meets_marks (replaced e) s.setting.script s.setting.limit marks are in
+pub taken_brings : UntouchedStay → OneMeets → (s : Contents) (e : ScriptEdit) (text : List ℕ) (t : Source) (x : Item') → IsTaken s e text t x → WellDeclared s.setting.script.items s.setting.script.external
+    → (a : Affected) → AreMet s.setting.script (Some (replaced e ∷ [])) a → Brings s (Replace e text) (under t s.setting.limit) a
+taken_brings law alone s e text t x is well a met =
+    let p = s.setting.script in
+    let l = s.setting.limit in
+    let same : (w : List ℕ) → meets (replaced e) p w l ≡ is_affected (under p l) a w = λ w. sym (alone (replaced e) p w l) ∙ met l w in
     record {
       after = (is.edited, refl);
       passes = is.passes;
       wants = refl;
       words = refl;
       met_is = same;
-      stays = λ w h. taken_stays law s e text t x is well w (same w ∙ h);
+      stays = λ w h. stays_same p t w l (law p t e text well is.edited w l (same w ∙ h));
     }
+
+-- the same by the words that are affected by a list of this item alone
+pub edited_brings : UntouchedStay → OneMeets → EditedAreThere → (s : Contents) (e : ScriptEdit) (text : List ℕ) (t : Source) (x : Item') → IsTaken s e text t x → WellDeclared s.setting.script.items s.setting.script.external
+    → (xs : List Item') → xs ≡ x ∷ [] → (a : Affected) → (list_all (has_item (names_of s.setting.script)) xs ≡ true → AreMet s.setting.script (Some xs) a)
+    → Brings s (Replace e text) (under t s.setting.limit) a
+edited_brings law one there s e text t x is well xs alone a met =
+    let p = s.setting.script in
+    let same : xs ≡ replaced e ∷ [] = alone ∙ ap (λ (y : Item'). y ∷ []) is.replaces in
+    let all : list_all (has_item (names_of p)) (replaced e ∷ []) ≡ true = ap (λ (b : Bool). b && true) (there p t e text is.edited) in
+    let known : list_all (has_item (names_of p)) xs ≡ true = subst (λ (ys : List Item'). list_all (has_item (names_of p)) ys ≡ true) (sym same) all in
+    taken_brings law one s e text t x is well a (subst (λ (ys : List Item'). AreMet p (Some ys) a) same (met known))
+
+-- ---- whole scripts
+
+exchanged_stay : DifferingStay → (s t : Source) (limit : ℕ) → WellDeclared s.items s.external → (xs : Option (List Item')) → differs s t ≡ xs → (w : List ℕ)
+    → meets_listed xs s w limit ≡ false → RunsSame (under s limit) (under t limit) w
+exchanged_stay law s t limit well None is w h = absurd (true≢false h)
+exchanged_stay law s t limit well (Some xs) is w h = stays_same s t w limit (law s t xs well is w limit h)
+
+pub exchange_brings : DifferingStay → (s : Contents) (e : Edit) (t : Source) → IsExchange s e t → WellDeclared s.setting.script.items s.setting.script.external
+    → (a : Affected) → AreMet s.setting.script (differs s.setting.script t) a → Brings s e (under t s.setting.limit) a
+exchange_brings law s e t is well a met =
+    let p = s.setting.script in
+    let l = s.setting.limit in
+    record {
+      after = is.after;
+      passes = is.passes;
+      wants = is.wants;
+      words = is.words;
+      met_is = λ w. is.met_is w ∙ met l w;
+      stays = λ w h. exchanged_stay law p t l well (differs p t) refl w (met l w ∙ h);
+    }
+
+pub whole_exchange : (s : Contents) (bytes : List ℕ) (t : Source) → IsScriptOf bytes s.setting.script.external t → IsExchange s (Whole bytes) t
+whole_exchange s bytes t read = record { after = (read, refl); passes = λ f refused. ap is_of_text refused.2; wants = refl; words = refl; met_is = λ w. refl }
+
+pub install_exchange : (s : Contents) (t : Source) → IsExchange s (Install t) t
+install_exchange s t = record { after = (refl, refl); passes = λ f refused. absurd refused; wants = refl; words = refl; met_is = λ w. refl }
 
 -- ---- limits
 

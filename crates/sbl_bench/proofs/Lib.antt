@@ -16,3 +16,4 @@ pub mod OneVerdict
 pub mod Replacing
 pub mod Reruns
 pub mod Bringing
+pub mod Undoing

@@ -6,7 +6,11 @@ use Rattle.sbl_script.specs.declared.edit_fault.EditFault.TheVariants as script
 use Rattle.sbl_bench.specs.declared.fault.EditFault.{EditFault}
 use Rattle.sbl_bench.specs.declared.fault.EditFault.TheVariants as fault
 use Rattle.sbl_bench.specs.Contents.{Contents}
-use Rattle.sbl_bench.specs.Edits.{Edits, PassesTests, Replace, fault_of_script, is_of_text}
+use Rattle.sbl_script.specs.Reading.{IsFaultOf}
+use Rattle.sbl_text.specs.declared.fault.ScriptFault.{ScriptFault}
+use Rattle.sbl_text.specs.declared.fault.ScriptFault.TheVariants as texts
+use Rattle.sbl_bench.specs.Stops.{IsFaultOfText}
+use Rattle.sbl_bench.specs.Edits.{Edits, PassesTests, Replace, Whole, fault_of_script, is_of_text}
 
 not_routine : {A : Type 0} (r : Result A declared.EditFault) → r ≡ Err script.OutOfMemory → r ≡ Err script.NoRoutine → ⊥
 not_routine r out missing = cc
@@ -63,3 +67,10 @@ module _ {A : Type 0} (s : Contents) (what : ScriptEdit) (text : List ℕ) (r : 
   pub refused : (g : declared.EditFault) → r ≡ Err g → (g ≡ script.OutOfMemory) ⊎ IsEditFault s.setting.script what text g → Edits (Err (fault_of_script g)) s (Replace what text) s
   refused g is (inl out) = rw out (out_of_memory (rw (sym out) is))
   refused g is (inr fault) = known g fault
+
+-- ---- a whole script
+
+pub unread : (s : Contents) (bytes : List ℕ) (g : ScriptFault) (f : EditFault) → IsFaultOfText g f → (g ≡ texts.OutOfMemory) ⊎ IsFaultOf bytes s.setting.script.external g → Edits (Err f) s (Whole bytes) s
+unread s bytes g f (inl out) is = rw out.1 (record { wanted = refl; is = inl (λ h refused. ap is_of_text refused.2, refl) })
+unread s bytes g f (inr known) (inl out) = absurd (known.0 out)
+unread s bytes g f (inr known) (inr is) = rw known.1 (inl (g, is, refl), refl)

@@ -4,16 +4,17 @@ use Rattle.std.specs.List.{All, filter, list_any}
 use Rattle.std.specs.Str.{bytes_eq}
 use Rattle.sbl_script.specs.Edits.{ScriptEdit, IsEdited}
 use Rattle.sbl_script.specs.Parsed.{Source}
+use Rattle.sbl_machine.specs.Differs.{differs}
 use Rattle.sbl_machine.specs.Touched.{Item', replaced}
 use Rattle.sbl_machine.specs.declared.outcome.Traced.{Traced}
 use Rattle.sbl_run.specs.declared.touch.Touch.{Touch}
 use Rattle.sbl_machine.specs.Outcome.{Outcome', outcome_of, run_of, touches_of, used_of}
 use Rattle.sbl_bench.specs.Kept.{KeptWord, IsFresh, words_in}
 use Rattle.sbl_bench.specs.Pairs.{Text, find}
-use Rattle.sbl_bench.specs.Setting.{Setting, RunsSame}
-use Rattle.sbl_bench.specs.Affected.{Affected, Touching, Above, is_affected, is_affected_run}
+use Rattle.sbl_bench.specs.Setting.{Setting, RunsSame, under}
+use Rattle.sbl_bench.specs.Affected.{Affected, Touching, Above, Every, is_affected, is_affected_run}
 use Rattle.sbl_bench.specs.Contents.{Contents}
-use Rattle.sbl_bench.specs.Edits.{Edit, Replace, IsSettingAfter, PassesTests, met, wants_memory, words_after}
+use Rattle.sbl_bench.specs.Edits.{Edit, Replace, IsSettingAfter, PassesTests, meets_listed, met, wants_memory, words_after}
 use Rattle.sbl_bench.specs.declared.affected.Affected as declared
 use Rattle.sbl_bench.specs.declared.affected.Affected.TheVariants as code
 use Rattle.sbl_bench.specs.declared.change.Change.{Change}
@@ -22,6 +23,7 @@ use Rattle.sbl_bench.specs.declared.change.Change.{Change}
 abbrev pub affected_of : declared.Affected → Affected
 affected_of (code.Touching marks) = Touching marks
 affected_of (code.Above n) = Above n
+affected_of code.Every = Every
 
 -- whether the last run of a word is affected
 abbrev pub is_met : Affected → KeptWord → Bool
@@ -89,3 +91,12 @@ pub record IsTaken (s : Contents) (e : ScriptEdit) (text : List ℕ) (t : Source
   pub edited : IsEdited s.setting.script e text t
   pub replaces : x ≡ replaced e
   pub passes : PassesTests s (Replace e text)
+
+-- An edit puts a whole script into force under the limit before, and passes all tests but those of its text. It has to run the
+-- words whose run meets what differs.
+pub record IsExchange (s : Contents) (e : Edit) (t : Source) : Type 0 where
+  pub after : IsSettingAfter s e (under t s.setting.limit)
+  pub passes : PassesTests s e
+  pub wants : wants_memory e ≡ true
+  pub words : words_after s e ≡ s.words
+  pub met_is : (w : List ℕ) → met s e (under t s.setting.limit) w ≡ meets_listed (differs s.setting.script t) s.setting.script w s.setting.limit

@@ -5,20 +5,27 @@ use Rattle.std.specs.Str.{bytes_eq}
 use Rattle.sbl_script.specs.declared.edit_fault.EditFault as declared
 use Rattle.sbl_script.specs.declared.edit_fault.EditFault.TheVariants as script
 use Rattle.sbl_script.specs.Edits.{ScriptEdit, body, among, terms, IsEdited, IsEditFault}
+use Rattle.sbl_script.specs.Parsed.{Source}
+use Rattle.sbl_script.specs.Reading.{IsScriptOf, IsFaultOf}
+use Rattle.sbl_text.specs.declared.fault.ScriptFault.{ScriptFault}
 use Rattle.sbl_bench.specs.Contents.{Contents, is_full, max_word_length, max_runs}
 use Rattle.sbl_bench.specs.Setting.{Setting}
 use Rattle.sbl_bench.specs.Vocabulary.{is_word, without}
-use Rattle.sbl_machine.specs.BuiltFrom.{meets}
+use Rattle.sbl_machine.specs.BuiltFrom.{meets, meets_one}
+use Rattle.sbl_machine.specs.Differs.{differs}
 use Rattle.sbl_machine.specs.Outcome.{used_of}
-use Rattle.sbl_machine.specs.Touched.{replaced}
+use Rattle.sbl_machine.specs.Touched.{Item', replaced}
 use Rattle.sbl_bench.specs.declared.fault.EditFault.{EditFault}
 use Rattle.sbl_bench.specs.declared.fault.EditFault.TheVariants as fault
 
--- a word is added or removed, a text replaces something in the script, or the limit of steps is set
+-- A word is added or removed; a text replaces something in the script; these bytes replace the whole script; a script that
+-- was checked before comes into force; the limit of steps is set.
 pub data Edit : Type 0 where
   Add : List ℕ → Edit
   Remove : List ℕ → Edit
   Replace : ScriptEdit → List ℕ → Edit
+  Whole : List ℕ → Edit
+  Install : Source → Edit
   Limit : ℕ → Edit
 
 -- the body of the routine of this name is replaced
@@ -60,6 +67,8 @@ abbrev pub IsRefused : Contents → Edit → EditFault → Type 0
 IsRefused s (Add word) f = refusal_of_add s word ≡ Some f
 IsRefused s (Remove word) f = (is_word word s.words ≡ false) × (f ≡ fault.Absent)
 IsRefused s (Replace what text) f = (g : declared.EditFault) × IsEditFault s.setting.script what text g × (f ≡ fault_of_script g)
+IsRefused s (Whole bytes) f = (g : ScriptFault) × IsFaultOf bytes s.setting.script.external g × (f ≡ fault.Script g)
+IsRefused s (Install script) f = ⊥
 IsRefused s (Limit n) f = (is_limit n ≡ false) × (f ≡ fault.BadLimit)
 
 -- the edit is not refused in this way, and this is the setting after it
@@ -67,6 +76,8 @@ abbrev pub IsSettingAfter : Contents → Edit → Setting → Type 0
 IsSettingAfter s (Add word) t = (refusal_of_add s word ≡ None) × (t ≡ s.setting)
 IsSettingAfter s (Remove word) t = (is_word word s.words ≡ true) × (t ≡ s.setting)
 IsSettingAfter s (Replace what text) t = IsEdited s.setting.script what text t.script × (t.limit ≡ s.setting.limit)
+IsSettingAfter s (Whole bytes) t = IsScriptOf bytes s.setting.script.external t.script × (t.limit ≡ s.setting.limit)
+IsSettingAfter s (Install script) t = (t.script ≡ script) × (t.limit ≡ s.setting.limit)
 IsSettingAfter s (Limit n) t = (is_limit n ≡ true) × (t.script ≡ s.setting.script) × (t.limit ≡ n)
 
 -- whether it is an edit of the script
@@ -74,6 +85,8 @@ abbrev pub is_of_script : Edit → Bool
 is_of_script (Add word) = false
 is_of_script (Remove word) = false
 is_of_script (Replace what text) = true
+is_of_script (Whole bytes) = true
+is_of_script (Install script) = true
 is_of_script (Limit n) = false
 
 -- ---- words and runs
@@ -83,18 +96,29 @@ abbrev pub words_after : Contents → Edit → List (List ℕ)
 words_after s (Add word) = s.words ++ word ∷ []
 words_after s (Remove word) = without word s.words
 words_after s (Replace what text) = s.words
+words_after s (Whole bytes) = s.words
+words_after s (Install script) = s.words
 words_after s (Limit n) = s.words
 
 abbrev pub smaller : ℕ → ℕ → ℕ
 smaller m n = if nat_le m n then m else n
 
+-- whether the run of a word meets one of the listed items, by what each of them affects; true if there is no list
+abbrev pub meets_listed : Option (List Item') → Source → List ℕ → ℕ → Bool
+meets_listed (Some items) script word limit = meets_one items script word limit
+meets_listed None script word limit = true
+
 -- Whether an edit has to run this word; t is the setting after the edit. An added word: only that word. A replacement: each
 -- word whose run before the edit touches the replaced item or, if that is a grouping, one that is built from it in the script
--- before the edit. A limit: each word whose run used more steps than the smaller of the old limit and the new one.
+-- before the edit. A whole script, read or installed: each word whose run before the edit touches an item in which the two
+-- scripts differ or, for a grouping, one that is built from it; all words if the scripts differ in more than such items. A
+-- limit: each word whose run used more steps than the smaller of the old limit and the new one.
 abbrev pub met : Contents → Edit → Setting → List ℕ → Bool
 met s (Add word) t w = bytes_eq word w
 met s (Remove word) t w = false
 met s (Replace what text) t w = meets (replaced what) s.setting.script w s.setting.limit
+met s (Whole bytes) t w = meets_listed (differs s.setting.script t.script) s.setting.script w s.setting.limit
+met s (Install script) t w = meets_listed (differs s.setting.script t.script) s.setting.script w s.setting.limit
 met s (Limit n) t w = nat_lt (smaller s.setting.limit n) (used_of s.setting.script w s.setting.limit)
 
 -- how many words of the vocabulary after the edit have to be run
@@ -141,6 +165,8 @@ abbrev pub wants_memory : Edit → Bool
 wants_memory (Add word) = true
 wants_memory (Remove word) = false
 wants_memory (Replace what text) = true
+wants_memory (Whole bytes) = true
+wants_memory (Install script) = true
 wants_memory (Limit n) = true
 
 -- whether the edit is refused for its text; every other refusal is found without an allocation

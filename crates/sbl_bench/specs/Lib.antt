@@ -6,9 +6,11 @@ pub mod Traces
 pub mod Contents
 pub mod Edits
 pub mod OneVerdict
+pub mod EqualScripts
 pub mod Names
 pub mod Classes
 pub mod ClassesAreSound
+pub mod Undo
 pub mod Kept
 -- what the functions inside the crate promise each other: nothing in these need be believed
 pub mod Pairs

@@ -1,5 +1,7 @@
 -- Why an edit that is not refused still fails.
 use Rattle.std.specs.Prelude.{◌≡◌, ◌⊎◌, ◌<◌, ◌≤◌, ◌+◌, ◌-◌, ℕ}
+use Rattle.sbl_text.specs.declared.fault.ScriptFault.{ScriptFault}
+use Rattle.sbl_text.specs.declared.fault.ScriptFault.TheVariants as text
 use Rattle.sbl_machine.specs.declared.fault.RunStop.{RunStop}
 use Rattle.sbl_machine.specs.declared.fault.RunStop.TheVariants as stop
 use Rattle.sbl_bench.specs.declared.fault.EditFault.{EditFault}
@@ -22,3 +24,7 @@ abbrev pub IsStopOf : ℕ → EditFault → ℕ → ℕ → Type 0
 IsStopOf needed fault.OutOfMemory count new_count = (new_count ≡ count) ⊎ ((n : ℕ) × (n ≤ needed) × (needed ≤ max_runs - count) × (new_count ≡ count + n))
 IsStopOf needed fault.MeterFull count new_count = (max_runs - count < needed) × (new_count ≡ count)
 IsStopOf needed f count new_count = ⊥
+
+-- the fault of an edit whose text cannot be read; out of memory stays out of memory
+abbrev pub IsFaultOfText : ScriptFault → EditFault → Type 0
+IsFaultOfText f e = ((f ≡ text.OutOfMemory) × (e ≡ fault.OutOfMemory)) ⊎ ((f ≡ text.OutOfMemory → ⊥) × (e ≡ fault.Script f))

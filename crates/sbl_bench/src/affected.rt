@@ -1,13 +1,22 @@
-//! The words that a change of the script or of the limit can affect.
+//! The words that a change of the script or of the limit affects.
 
-ghost use Rattle.std.specs.Prelude.{◌≡◌};
-ghost use Rattle.std.specs.List.{list_any};
+ghost use Rattle.std.specs.Prelude.{◌≡◌, true, map, IfOk, Some};
+ghost use Rattle.std.specs.List.{list_all, list_any};
 ghost use Rattle.sbl_bench.specs.Affected as spec;
 ghost use Rattle.sbl_bench.specs.Changes.{affected_of};
 ghost use Rattle.sbl_bench.specs.Edits.{smaller};
+ghost use Rattle.sbl_machine.specs.Differs.{differs};
+ghost use Rattle.sbl_machine.specs.MachineOf.{IsLinkedMachineOf};
+ghost use Rattle.sbl_machine.specs.Marks.{has_item};
+ghost use Rattle.sbl_machine.specs.Touched.{item_of, names_of};
 ghost use Rattle.sbl_run.specs.Touches.{same_touch};
+ghost use Rattle.sbl_script.specs.Parsed.{source_of};
 
-use sbl_machine::{Touch, Touched, Traced};
+use sbl_diff::differences;
+use sbl_machine::laws::differing_agree;
+use sbl_machine::{Item, Machine, Table, Touch, Touched, Traced};
+use sbl_script::Script;
+use std::alloc::{AllocError, Global};
 
 /// Which words a change of the script or of the limit can affect.
 #[derive(Drop)]
@@ -16,6 +25,39 @@ pub(crate) enum Affected {
     Touching(Touched),
     /// The words whose run used more than this number of steps.
     Above(u64),
+    /// All words.
+    Every,
+}
+
+/// Returns the words whose run meets one of these items of the script, under its machine. The script has to define the
+/// routines and groupings of the items. Returns `AllocError` if an allocation fails.
+pub(crate) fn affected_by_items(
+    alloc: Global,
+    machine: &Machine<Table>,
+    script: &Script,
+    items: &[Item],
+) -> Result<Affected, AllocError>
+    ensures { IsLinkedMachineOf machine.now (source_of script.now) → list_all (has_item (names_of (source_of script.now))) (map item_of items.now) ≡ true → IfOk result (λ a. spec.AreMet (source_of script.now) (Some (map item_of items.now)) (affected_of a)) }
+{
+    let marks = machine.affected(alloc, script, items)?;
+    Ok(Affected::Touching(marks))
+}
+
+/// Returns the words whose run meets an item in which another script differs from this one, under its machine; all words if
+/// the scripts differ in more than such items. Returns `AllocError` if an allocation fails.
+pub(crate) fn affected_by_exchange(
+    alloc: Global,
+    machine: &Machine<Table>,
+    script: &Script,
+    other: &Script,
+) -> Result<Affected, AllocError>
+    ensures { IsLinkedMachineOf machine.now (source_of script.now) → IfOk result (λ a. spec.AreMet (source_of script.now) (differs (source_of script.now) (source_of other.now)) (affected_of a)) }
+{
+    differing_agree();
+    match differences(alloc, script, other)? {
+        Some(items) => affected_by_items(alloc, machine, script, items.as_slice()),
+        None => Ok(Affected::Every),
+    }
 }
 
 /// Returns the words whose run used more steps than the smaller of two limits.
@@ -44,5 +86,6 @@ pub(crate) fn is_affected(affected: &Affected, last: &Traced) -> bool
     match affected {
         Affected::Touching(marks) => has_one(marks, last.touches.as_slice()),
         Affected::Above(steps) => *steps < last.used,
+        Affected::Every => true,
     }
 }

@@ -1,22 +1,27 @@
 //! Edits of a bench.
 
-ghost use Rattle.std.specs.Prelude.{◌≡◌, ◌≤◌, ◌<◌, ◌+◌, ◌^◌, ℕ, List, MatchOption, true, false};
+ghost use Rattle.std.specs.Prelude.{◌≡◌, ◌≤◌, ◌<◌, ◌+◌, ◌^◌, ℕ, List, MatchOption, OnOk, OnErr, true, false};
 ghost use Rattle.sbl_bench.specs.Edits.{is_limit};
 
-use crate::affected::{Affected, above_smaller};
+use crate::affected::{Affected, above_smaller, affected_by_exchange, affected_by_items};
 use crate::bench::{Bench, MAX_LIMIT, MAX_WORD_LENGTH, MAX_WORDS};
 use crate::change::{make_changes, rerun};
 use crate::fault::EditFault;
 use crate::traces::{has_word, put_last};
-use sbl_machine::laws::{edits_agree, untouched_stay, used_steps_suffice};
+use sbl_machine::laws::{
+    differing_stay, edits_agree, one_item_alone, untouched_stay, used_steps_suffice,
+};
 use sbl_machine::{Item, Machine};
 use sbl_script::Script;
 use sbl_script::laws::is_well_declared;
+use std::mem::swap;
+use std::slice::from_ref;
 
 impl Bench {
     ghost use Rattle.sbl_bench.specs.Kept.{contents_of};
-    ghost use Rattle.sbl_bench.specs.Changes.{IsTaken};
-    ghost use Rattle.sbl_bench.specs.Edits.{Edits, Add, Grouping, Limit, Remove, Replace, Routine, Among};
+    ghost use Rattle.sbl_bench.specs.Changes.{Brings, IsExchange, IsTaken, affected_of};
+    ghost use Rattle.sbl_bench.specs.Edits.{Edit, Edits, Add, Grouping, Install, Limit, Remove, Replace, Routine, Among, Whole};
+    ghost use Rattle.sbl_bench.specs.Setting.{under};
     ghost use Rattle.sbl_machine.specs.Touched.{item_of};
     ghost use Rattle.sbl_script.specs.Edits.{ScriptEdit};
     ghost use Rattle.sbl_script.specs.Parsed.{source_of};
@@ -82,7 +87,7 @@ impl Bench {
     {
         let script = self.script.with_routine(self.alloc, name, text)?;
         let item = Item::Routine(String::from_str(self.alloc, name)?);
-        self.take_script(script, &item)
+        self.take_edited(script, &item)
     }
 
     /// Replaces the `k`-th among of the routine or external of this name by the text, and runs each word once whose run
@@ -101,7 +106,7 @@ impl Bench {
     {
         let script = self.script.with_among(self.alloc, name, k, text)?;
         let item = Item::Among(String::from_str(self.alloc, name)?, k);
-        self.take_script(script, &item)
+        self.take_edited(script, &item)
     }
 
     /// Replaces the terms of a grouping by a text, and runs each word once whose run before tested this grouping or one that is
@@ -121,7 +126,7 @@ impl Bench {
     {
         let script = self.script.with_grouping(self.alloc, name, text)?;
         let item = Item::Grouping(String::from_str(self.alloc, name)?);
-        self.take_script(script, &item)
+        self.take_edited(script, &item)
     }
 
     /// Sets the maximum number of steps of a run, and runs each word once whose run used more steps than the smaller of the old
@@ -153,33 +158,95 @@ impl Bench {
         Ok(())
     }
 
-    /// Installs a script that was made by replacing an item, and runs each word once whose run before met the item.
+    /// Replaces the whole script by the script that the bytes are read as, with the external of the script in force, and runs
+    /// each word once whose run before touched an item in which the two scripts differ. These items are routines, amongs and
+    /// groupings; for a grouping, a word runs too if its run tested one that is built from it. If the scripts differ in more
+    /// than such items, runs all words once. If they are equal, runs none.
     ///
     /// # Errors
     ///
-    /// Returns `MeterFull` if fewer counts of runs are left than there are words to run, and `OutOfMemory` if an allocation
-    /// fails. Then the script, vocabulary, rows and classes are unchanged. The count of runs is unchanged too, except that
-    /// after `OutOfMemory` it may be higher by at most the number of words to run.
-    fn take_script(&mut self, script: Script, item: &Item) -> Result<(), EditFault>
+    /// Returns `Script` with the fault of the bytes, as `Script::parse` does, and then `MeterFull` if fewer counts of runs are
+    /// left than there are words to run. If an allocation fails, may return `OutOfMemory` instead of any result. After an
+    /// error, the script, limit, vocabulary, rows and classes are unchanged. The count of runs is unchanged too, except that
+    /// after `OutOfMemory` it may be higher by at most the number of words to run, if the edit would have been accepted. (Our
+    /// own choice.)
+    pub fn replace_script(&mut self, text: &[u8]) -> Result<(), EditFault>
+        ensures { Edits result (contents_of self.old) (Whole text.now) (contents_of self.new) }
+    {
+        let mut script = Script::parse(self.alloc, text, self.script.external())?;
+        self.exchange(&mut script)
+    }
+
+    /// Puts a script into force, and runs the words that `replace_script` would run for it. Then `script` is the one that was
+    /// in force before, so that the same call takes the edit back.
+    ///
+    /// # Errors
+    ///
+    /// Returns `MeterFull` if fewer counts of runs are left than there are words to run. If an allocation fails, may return
+    /// `OutOfMemory` instead of any result. After an error, `script` is unchanged, and so are the script in force, limit,
+    /// vocabulary, rows and classes. The count of runs is unchanged too, except that after `OutOfMemory` it may be higher by at
+    /// most the number of words to run. (Our own choice.)
+    pub fn install(&mut self, script: &mut Script) -> Result<(), EditFault>
+        ensures edits { Edits result (contents_of self.old) (Install (source_of script.old)) (contents_of self.new) }
+        ensures exchanged { OnOk result (script.new ≡ self.old.script) }
+        ensures kept { OnErr result (script.new ≡ script.old) }
+    {
+        self.exchange(script)
+    }
+
+    // Takes the script that was made by replacing an item.
+    fn take_edited(&mut self, script: Script, item: &Item) -> Result<(), EditFault>
         requires { (e : ScriptEdit) × (text : List ℕ) × IsTaken (contents_of self.old) e text (source_of script) (item_of item.now) }
         ensures { (e : ScriptEdit) (text : List ℕ) → IsTaken (contents_of self.old) e text (source_of script) (item_of item.now) → Edits result (contents_of self.old) (Replace e text) (contents_of self.new) }
     {
         edits_agree();
         untouched_stay();
+        one_item_alone();
         is_well_declared(&self.script);
-        let marks = self.machine.affected(self.alloc, &self.script, item)?;
-        let after = Machine::new(self.alloc, &script)?;
+        let items = from_ref(item);
+        let affected = affected_by_items(self.alloc, &self.machine, &self.script, items)?;
+        let mut script = script;
+        self.take_script(&mut script, &affected)
+    }
+
+    // Exchanges the script in force for another one, however much they differ.
+    fn exchange(&mut self, script: &mut Script) -> Result<(), EditFault>
+        requires { (e : Edit) × IsExchange (contents_of self.old) e (source_of script.old) }
+        ensures edits { (e : Edit) → IsExchange (contents_of self.old) e (source_of script.old) → Edits result (contents_of self.old) e (contents_of self.new) }
+        ensures exchanged { OnOk result (script.new ≡ self.old.script) }
+        ensures kept { OnErr result (script.new ≡ script.old) }
+    {
+        differing_stay();
+        is_well_declared(&self.script);
+        let affected = affected_by_exchange(self.alloc, &self.machine, &self.script, script)?;
+        self.take_script(script, &affected)
+    }
+
+    /// Exchanges the script in force for another one, and runs each word once that this affects.
+    ///
+    /// # Errors
+    ///
+    /// Returns `MeterFull` if fewer counts of runs are left than there are words to run, and `OutOfMemory` if an allocation
+    /// fails. Then both scripts, the vocabulary, rows and classes are unchanged. The count of runs is unchanged too, except
+    /// that after `OutOfMemory` it may be higher by at most the number of words to run.
+    fn take_script(&mut self, script: &mut Script, affected: &Affected) -> Result<(), EditFault>
+        requires { (e : Edit) × Brings (contents_of self.old) e (under (source_of script.old) self.old.limit) (affected_of affected.now) }
+        ensures edits { (e : Edit) → Brings (contents_of self.old) e (under (source_of script.old) self.old.limit) (affected_of affected.now) → Edits result (contents_of self.old) e (contents_of self.new) }
+        ensures exchanged { OnOk result (script.new ≡ self.old.script) }
+        ensures kept { OnErr result (script.new ≡ script.old) }
+    {
+        let after = Machine::new(self.alloc, script)?;
         let changes = rerun(
             self.alloc,
             &after,
             self.limit,
-            &Affected::Touching(marks),
+            affected,
             &mut self.meter,
             &self.traces,
         )?;
         make_changes(&mut self.traces, changes);
         self.machine = after;
-        self.script = script;
+        swap(&mut self.script, script);
         Ok(())
     }
 }

@@ -115,6 +115,20 @@ impl From<sbl_script::EditFault> for EditFault {
     }
 }
 
+impl From<ScriptFault> for EditFault {
+    ghost use Rattle.sbl_bench.specs.Stops.{IsFaultOfText};
+
+    ghost from_gives = { λ fault result. IsFaultOfText fault result };
+
+    fn from(fault: ScriptFault) -> EditFault {
+        if fault == ScriptFault::OutOfMemory {
+            EditFault::OutOfMemory
+        } else {
+            EditFault::Script(fault)
+        }
+    }
+}
+
 impl From<RunStop> for EditFault {
     ghost use Rattle.std.specs.Prelude.{◌≡◌};
     ghost use Rattle.sbl_bench.specs.Stops.{fault_of_stop};

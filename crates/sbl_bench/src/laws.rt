@@ -3,10 +3,13 @@
 ghost use Rattle.std.specs.Prelude.{All};
 ghost use Rattle.sbl_bench.specs.ClassesAreSound.{ClassesAreOfRows, ClassesRise};
 ghost use Rattle.sbl_bench.specs.Kept.{IsWord};
+ghost use Rattle.sbl_bench.specs.EqualScripts.{EqualScriptRunsNothing, InstalledAgainRunsNothing};
 ghost use Rattle.sbl_bench.specs.OneVerdict.{VerdictIsOne};
+ghost use Rattle.sbl_bench.specs.Undo.{UndoOfLimit, UndoOfScript};
 
 use crate::bench::Bench;
-use sbl_script::laws::one_edit;
+use sbl_machine::laws::only_items_differ;
+use sbl_script::laws::{one_edit, one_reading};
 
 /// Each edit has one verdict, and one bench after it: unless an allocation fails, the result of an edit is a function of the
 /// bench and the edit.
@@ -14,7 +17,23 @@ pub fn one_verdict()
     ensures { VerdictIsOne }
 {
     one_edit();
+    one_reading();
 }
+
+/// If a whole script is the one in force, whatever its layout and comments, it runs no word and changes nothing.
+pub fn equal_scripts_run_nothing()
+    ensures read { EqualScriptRunsNothing }
+    ensures installed { InstalledAgainRunsNothing }
+{
+    only_items_differ();
+}
+
+/// If the script before an edit is installed again, or the limit before is set again, the rows, classes and traces are those of
+/// that script and limit over the current words, however many words were added and removed in between.
+pub fn undo_restores()
+    ensures script { UndoOfScript }
+    ensures limit { UndoOfLimit }
+{}
 
 /// Each word of a vocabulary has 1 to 255 characters. So the first 256 characters of a text determine whether it is one of the
 /// words.

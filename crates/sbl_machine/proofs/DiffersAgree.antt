@@ -1,36 +1,37 @@
 -- Two scripts agree outside the items in which they differ.
-use Rattle.std.proofs.Common.{◌≡◌, ◌∙◌, ◌+◌, ℕ, zero, suc, Bool, true, false, ◌&&◌, ◌||◌, nat_eq, if◌then◌else◌, List, [], ◌∷◌, ◌++◌, map, Option, Some, None, refl, sym, ap, subst, arith}
-use Rattle.std.specs.Prelude.{⊤}
-use Rattle.std.specs.List.{list_all, list_any}
+use Rattle.std.proofs.Common.{◌≡◌, ◌∙◌, ◌+◌, ℕ, zero, suc, Bool, true, false, ◌&&◌, nat_eq, if◌then◌else◌, List, [], ◌∷◌, ◌++◌, map, Option, Some, None, refl, sym, ap, arith}
+use Rattle.std.specs.List.{list_all}
 use Rattle.std.specs.Option.{option_or}
-use Rattle.std.specs.Str.{bytes_eq}
-use Rattle.std.proofs.lemmas.Bool.{eq-eqb, eqb-true, true≢false}
+use Rattle.std.proofs.lemmas.Bool.{eqb-true, true≢false}
 use Rattle.std.proofs.lemmas.List.Folds.{list_all-append}
 use Rattle.std.proofs.lemmas.Option.{none-some, same_Some}
-use Rattle.std.proofs.lemmas.Slice.Eq.{bytes_eq-Decides}
 use Rattle.sbl_tree.specs.Counts.{count_in_among}
-use Rattle.sbl_tree.specs.Tree.{Command, Rows, Others, Starter, Groups, bracket, simple_, literal_, name_, non_, prefixed, counted, move_, named, splice_, setlimit_, assign_, compare_, compare_values_, among_, no_rows, row, no_others, joined, no_starter, starter, bare, group, Plain, declaration, escapes, macro, routine, grouping, Item, plain, backward}
+use Rattle.sbl_tree.specs.Tree.{Argument, Term, Command, Rows, Others, Starter, Groups, bracket, simple_, literal_, name_, non_, prefixed, counted, move_, named, splice_, setlimit_, assign_, compare_, compare_values_, among_, no_rows, row, no_others, joined, no_starter, starter, bare, group, Plain, declaration, escapes, macro, routine, grouping, Item, plain, backward}
 use Rattle.sbl_numbering.specs.Regions.{behind, behind_rows, behind_others, behind_starter, behind_groups}
+use Rattle.sbl_checks.specs.Laws.{WellDeclaredPasses}
 use Rattle.sbl_script.specs.Parsed.{Source}
-use Rattle.sbl_machine.specs.Differs.{when, join, differ, differ_rows, differ_others, differ_starter, differ_groups, items_by, differ_plain, differ_plains, differ_item, differ_items, differs, is_one_of}
-use Rattle.sbl_machine.specs.Frame.{AgreeOutside, DifferingAgree}
+use Rattle.sbl_machine.specs.Differs.{when, join, differ, differ_rows, differ_others, differ_starter, differ_groups, items_by, differ_plain, differ_plains, differ_item, differ_items, differs}
+use Rattle.sbl_machine.specs.BuiltFrom.{affected_by}
+use Rattle.sbl_machine.specs.DifferLaws.{DifferingAgree, DifferingStay}
+use Rattle.sbl_machine.specs.Frame.{AgreeOutside}
 use Rattle.sbl_machine.specs.Holes.{hole, with_holes, rows_with_holes, others_with_holes, starter_with_holes, groups_with_holes, holed_plain, holed_item}
-use Rattle.sbl_machine.specs.Same.{same_argument, same_base, same_kind, same_names, same_quoted, same_terms}
-use Rattle.sbl_machine.specs.Touched.{Item', Routine, Among, Grouping, same_item}
-use Rattle.sbl_machine.proofs.BuiltFrom.{none_closed}
+use Rattle.sbl_machine.specs.Same.{same_argument, same_terms}
+use Rattle.sbl_machine.specs.Touched.{Item', Routine, Among, Grouping}
+use Rattle.sbl_machine.proofs.EditsAgree.{unmet_by_one_stay}
 use Rattle.sbl_machine.proofs.HoledPuts.{behind_is, hole_same}
+use Rattle.sbl_machine.proofs.Several.{all_affected, several_closed}
 use Rattle.sbl_machine.proofs.SameParts.{both, name_is, simple_is, prefix_is, times_is, move_is, naming_is, splicing_is, assignment_is, comparison_is, joiner_is, kind_is, flag_is, quoted_is, argument_is, expression_is, entry_is, entries_are, names_are, base_is, terms_are}
 
 -- ---- parts one after another
 
-record Both {X : Type 0} (x y : Option (List X)) (ks : List X) : Type 0 where
-  first : List X
-  second : List X
-  one : x ≡ Some first
-  other : y ≡ Some second
-  is : ks ≡ first ++ second
+pub record Both {X : Type 0} (x y : Option (List X)) (ks : List X) : Type 0 where
+  pub first : List X
+  pub second : List X
+  pub one : x ≡ Some first
+  pub other : y ≡ Some second
+  pub is : ks ≡ first ++ second
 
-halves : {X : Type 0} (x y : Option (List X)) (ks : List X) → join x y ≡ Some ks → Both x y ks
+pub halves : {X : Type 0} (x y : Option (List X)) (ks : List X) → join x y ≡ Some ks → Both x y ks
 halves (Some a) (Some b) ks e = record { first = a; second = b; one = refl; other = refl; is = sym (same_Some (a ++ b) ks e) }
 halves (Some a) None ks e = absurd (none-some ks e)
 halves None y ks e = absurd (none-some ks e)
@@ -39,9 +40,14 @@ whole : {X : Type 0} (b : Bool) (ks : List X) → when b ≡ Some ks → b ≡ t
 whole true ks e = refl
 whole false ks e = absurd (none-some ks e)
 
-if_so : {X : Type 0} (b : Bool) (x : Option X) (k : X) → (if b then x else None) ≡ Some k → (b ≡ true) × (x ≡ Some k)
+pub if_so : {X : Type 0} (b : Bool) (x : Option X) (k : X) → (if b then x else None) ≡ Some k → (b ≡ true) × (x ≡ Some k)
 if_so true x k e = (refl, e)
 if_so false x k e = absurd (none-some k e)
+
+-- parts that are the same list nothing
+pub none_listed : {X : Type 0} (b : Bool) (ks : List X) → when b ≡ Some ks → [] ≡ ks
+none_listed true ks e = same_Some [] ks e
+none_listed false ks e = absurd (none-some ks e)
 
 covered : {X : Type 0} (test : X → Bool) (ks a b : List X) → ks ≡ a ++ b → list_all test ks ≡ true → (list_all test a ≡ true) × (list_all test b ≡ true)
 covered test ks a b e h = both _ _ (sym (list_all-append test a b) ∙ sym (ap (list_all test) e) ∙ h)
@@ -444,6 +450,16 @@ module _ (picked : Item' → Bool) where
       let y = sound_others holes os ps (behind c 0) (behind d 0) x.1 h.second h.other a.1 in
       (λ i. if picked (Routine n) then routine n (bracket no_rows) no_others else routine n (x.0 i) (y.0 i))
 
+  -- two lists of terms of one grouping
+  groupings : (n : List ℕ) (a b : Argument) (xs ys : List Term) (same : Bool) → (same_argument a b && same_terms xs ys) ≡ same → Picked (if same then [] else Grouping n ∷ [])
+      → holed_plain picked (grouping n a xs) ≡ holed_plain picked (grouping n b ys)
+  groupings n a b xs ys true e all =
+      let h = both _ _ e in
+      let y = argument_is a b h.0 in
+      let z = terms_are xs ys h.1 in
+      (λ i. holed_plain picked (grouping n (y i) (z i)))
+  groupings n a b xs ys false e all = let h = (both (picked (Grouping n)) true all).0 in rw h refl
+
   plain_agree : (x y : Plain) (zs : List Item') → differ_plain x y ≡ Some zs → Picked zs → holed_plain picked x ≡ holed_plain picked y
   plain_agree (declaration k ms) (declaration l ns) zs is all =
       let h = both _ _ (whole _ zs is) in
@@ -468,12 +484,10 @@ module _ (picked : Item' → Bool) where
       let e = same_Some (items_by m o) zs h.1 in
       bodies m c d os ps o refl (ap (list_all picked) e ∙ all) ∙ ap (λ (x : List ℕ). holed_plain picked (routine x d ps)) (name_is m n h.0)
   plain_agree (grouping m a xs) (grouping n b ys) zs is all =
-      let h = both _ _ (whole _ zs is) in
-      let j = both _ _ h.1 in
-      let x = name_is m n h.0 in
-      let y = argument_is a b j.0 in
-      let z = terms_are xs ys j.1 in
-      (λ i. holed_plain picked (grouping (x i) (y i) (z i)))
+      let h = if_so _ _ zs is in
+      let same = same_argument a b && same_terms xs ys in
+      let e = same_Some (if same then [] else Grouping m ∷ []) zs h.1 in
+      groupings m a b xs ys same refl (ap (list_all picked) e ∙ all) ∙ ap (λ (x : List ℕ). holed_plain picked (grouping x b ys)) (name_is m n h.0)
   plain_agree (declaration x0 x1) (escapes y0 y1) zs is all = absurd (none-some zs is)
   plain_agree (declaration x0 x1) (macro y0 y1 y2) zs is all = absurd (none-some zs is)
   plain_agree (declaration x0 x1) (routine y0 y1 y2) zs is all = absurd (none-some zs is)
@@ -523,108 +537,15 @@ module _ (picked : Item' → Bool) where
   items_agree [] (y ∷ ys) zs is all = absurd (none-some zs is)
   items_agree (x ∷ xs) [] zs is all = absurd (none-some zs is)
 
--- ---- the items themselves are picked
-
-same_self : (x : Item') → same_item x x ≡ true
-same_self (Routine n) = (bytes_eq-Decides n n).1 refl
-same_self (Among n k) = rw ((bytes_eq-Decides n n).1 refl) (eq-eqb k k refl)
-same_self (Grouping n) = (bytes_eq-Decides n n).1 refl
-
-or_first : (a b : Bool) → a ≡ true → (a || b) ≡ true
-or_first true b e = refl
-or_first false b e = absurd (true≢false (sym e))
-
-or_second : (a b : Bool) → b ≡ true → (a || b) ≡ true
-or_second true b e = refl
-or_second false b e = e
-
-all_picked : (xs zs : List Item') → ((x : Item') → is_one_of xs x ≡ true → is_one_of zs x ≡ true) → list_all (is_one_of zs) xs ≡ true
-all_picked [] zs h = refl
-all_picked (x ∷ xs) zs h =
-    rw (h x (or_first (same_item x x) (is_one_of xs x) (same_self x)))
-    (all_picked xs zs (λ y p. h y (or_second (same_item x y) (is_one_of xs y) p)))
-
--- ---- no grouping is one of them
-
-abbrev NoGrouping : List Item' → Type 0
-NoGrouping [] = ⊤
-NoGrouping (x ∷ xs) = ((m : List ℕ) → same_item x (Grouping m) ≡ false) × NoGrouping xs
-
-none_after : (xs ys : List Item') → NoGrouping xs → NoGrouping ys → NoGrouping (xs ++ ys)
-none_after [] ys p q = q
-none_after (x ∷ xs) ys p q = (p.0, none_after xs ys p.1 q)
-
-none_when : (b : Bool) (zs : List Item') → when b ≡ Some zs → NoGrouping zs
-none_when true zs is = subst NoGrouping (same_Some [] zs is) tt
-none_when false zs is = absurd (none-some zs is)
-
-amongs_none : (n : List ℕ) (ks : List ℕ) → NoGrouping (map (Among n) ks)
-amongs_none n [] = tt
-amongs_none n (k ∷ ks) = (λ m. refl, amongs_none n ks)
-
-body_none : (n : List ℕ) (o : Option (List ℕ)) → NoGrouping (items_by n o)
-body_none n None = (λ m. refl, tt)
-body_none n (Some ks) = amongs_none n ks
-
-plain_none : (x y : Plain) (zs : List Item') → differ_plain x y ≡ Some zs → NoGrouping zs
-plain_none (declaration k ms) (declaration l ns) zs is = none_when (same_kind k l && same_names ms ns) zs is
-plain_none (escapes a b) (escapes c d) zs is = none_when (nat_eq a c && nat_eq b d) zs is
-plain_none (macro m b q) (macro n c r) zs is = none_when (bytes_eq m n && (same_base b c && same_quoted q r)) zs is
-plain_none (routine m c os) (routine n d ps) zs is =
-    let h = if_so _ _ zs is in
-    let o = join (differ 0 c d) (differ_others (behind c 0) os ps) in
-    subst NoGrouping (same_Some (items_by m o) zs h.1) (body_none m o)
-plain_none (grouping m a xs) (grouping n b ys) zs is = none_when (bytes_eq m n && (same_argument a b && same_terms xs ys)) zs is
-plain_none (declaration x0 x1) (escapes y0 y1) zs is = absurd (none-some zs is)
-plain_none (declaration x0 x1) (macro y0 y1 y2) zs is = absurd (none-some zs is)
-plain_none (declaration x0 x1) (routine y0 y1 y2) zs is = absurd (none-some zs is)
-plain_none (declaration x0 x1) (grouping y0 y1 y2) zs is = absurd (none-some zs is)
-plain_none (escapes x0 x1) (declaration y0 y1) zs is = absurd (none-some zs is)
-plain_none (escapes x0 x1) (macro y0 y1 y2) zs is = absurd (none-some zs is)
-plain_none (escapes x0 x1) (routine y0 y1 y2) zs is = absurd (none-some zs is)
-plain_none (escapes x0 x1) (grouping y0 y1 y2) zs is = absurd (none-some zs is)
-plain_none (macro x0 x1 x2) (declaration y0 y1) zs is = absurd (none-some zs is)
-plain_none (macro x0 x1 x2) (escapes y0 y1) zs is = absurd (none-some zs is)
-plain_none (macro x0 x1 x2) (routine y0 y1 y2) zs is = absurd (none-some zs is)
-plain_none (macro x0 x1 x2) (grouping y0 y1 y2) zs is = absurd (none-some zs is)
-plain_none (routine x0 x1 x2) (declaration y0 y1) zs is = absurd (none-some zs is)
-plain_none (routine x0 x1 x2) (escapes y0 y1) zs is = absurd (none-some zs is)
-plain_none (routine x0 x1 x2) (macro y0 y1 y2) zs is = absurd (none-some zs is)
-plain_none (routine x0 x1 x2) (grouping y0 y1 y2) zs is = absurd (none-some zs is)
-plain_none (grouping x0 x1 x2) (declaration y0 y1) zs is = absurd (none-some zs is)
-plain_none (grouping x0 x1 x2) (escapes y0 y1) zs is = absurd (none-some zs is)
-plain_none (grouping x0 x1 x2) (macro y0 y1 y2) zs is = absurd (none-some zs is)
-plain_none (grouping x0 x1 x2) (routine y0 y1 y2) zs is = absurd (none-some zs is)
-
-plains_none : (xs ys : List Plain) (zs : List Item') → differ_plains xs ys ≡ Some zs → NoGrouping zs
-plains_none [] [] zs is = subst NoGrouping (same_Some [] zs is) tt
-plains_none (x ∷ xs) (y ∷ ys) zs is =
-    let h = halves _ _ zs is in
-    subst NoGrouping (sym h.is) (none_after h.first h.second (plain_none x y h.first h.one) (plains_none xs ys h.second h.other))
-plains_none [] (y ∷ ys) zs is = absurd (none-some zs is)
-plains_none (x ∷ xs) [] zs is = absurd (none-some zs is)
-
-item_none : (x y : Item) (zs : List Item') → differ_item x y ≡ Some zs → NoGrouping zs
-item_none (plain x) (plain y) zs is = plain_none x y zs is
-item_none (backward xs) (backward ys) zs is = plains_none xs ys zs is
-item_none (plain x) (backward ys) zs is = absurd (none-some zs is)
-item_none (backward xs) (plain y) zs is = absurd (none-some zs is)
-
-items_none : (xs ys : List Item) (zs : List Item') → differ_items xs ys ≡ Some zs → NoGrouping zs
-items_none [] [] zs is = subst NoGrouping (same_Some [] zs is) tt
-items_none (x ∷ xs) (y ∷ ys) zs is =
-    let h = halves _ _ zs is in
-    subst NoGrouping (sym h.is) (none_after h.first h.second (item_none x y h.first h.one) (items_none xs ys h.second h.other))
-items_none [] (y ∷ ys) zs is = absurd (none-some zs is)
-items_none (x ∷ xs) [] zs is = absurd (none-some zs is)
-
-none_picked : (zs : List Item') → NoGrouping zs → (m : List ℕ) → is_one_of zs (Grouping m) ≡ false
-none_picked [] h m = refl
-none_picked (x ∷ xs) h m = ap (λ (b : Bool). b || is_one_of xs (Grouping m)) (h.0 m) ∙ none_picked xs h.1 m
-
-pub differing_agree : DifferingAgree
-differing_agree s t zs is =
+pub agree_outside : (picked : Item' → Bool) (s t : Source) (zs : List Item') → differs s t ≡ Some zs → list_all picked zs ≡ true → AgreeOutside picked s t
+agree_outside picked s t zs is all =
     let h = if_so _ _ zs is in
     let external = name_is s.external t.external h.0 in
-    let items = items_agree (is_one_of zs) s.items t.items zs h.1 (all_picked zs zs (λ x p. p)) in
-    (none_closed (is_one_of zs) (none_picked zs (items_none s.items t.items zs h.1)) s, λ i. record { items = items i; external = external i })
+    let items = items_agree picked s.items t.items zs h.1 all in
+    (λ i. record { items = items i; external = external i })
+
+pub differing_agree : WellDeclaredPasses → DifferingAgree
+differing_agree passes s t zs well is = (several_closed passes s well zs, agree_outside (affected_by s zs) s t zs is (all_affected s zs))
+
+pub differing_stay : WellDeclaredPasses → DifferingStay
+differing_stay passes s t zs well is word limit clear = unmet_by_one_stay passes zs s t well (differing_agree passes s t zs well is).1 word limit clear

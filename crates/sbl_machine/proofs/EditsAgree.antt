@@ -20,8 +20,8 @@ use Rattle.sbl_script.specs.declared.edits.DefinitionKind.TheVariants as defined
 use Rattle.sbl_script.specs.Edits.{ScriptEdit, body, among, terms, changes, defines, first_in, first_of, plain_if, plains_with, items_with, Home, home_in, home_of_body, home_of_among, home_of_held, home_of_terms, IsSubstituted}
 use Rattle.sbl_script.proofs.Found.{grouping_found, routine_found, some_plain}
 use Rattle.sbl_script.specs.Parsed.{Source}
-use Rattle.sbl_machine.specs.BuiltFrom.{IsClosed, affected, built_from, meets}
-use Rattle.sbl_machine.specs.Frame.{AgreeOutside, AgreeingNamesStay, ClearStay, EditsAgree, NamesStay, UnmetStay, UntouchedStay}
+use Rattle.sbl_machine.specs.BuiltFrom.{IsClosed, affected, affected_by, built_from, meets, meets_one}
+use Rattle.sbl_machine.specs.Frame.{AgreeOutside, AgreeingNamesStay, ClearStay, EditsAgree, NamesStay, UnmetByOneStay, UnmetStay, UntouchedStay}
 use Rattle.sbl_machine.specs.Holes.{with_holes, nothing, others_with_holes, holed_plain, holed_item}
 use Rattle.sbl_machine.specs.Meaning.{ending}
 use Rattle.sbl_machine.specs.Outcome.{touched_at, touches_of}
@@ -31,6 +31,7 @@ use Rattle.sbl_machine.proofs.BuiltFrom.{affected_closed, built_more}
 use Rattle.sbl_machine.proofs.NamesStand.{flip}
 use Rattle.sbl_machine.proofs.FrameLaw.{agree_names, alike_by, clear_by_names, frame_on}
 use Rattle.sbl_machine.proofs.HoledPuts.{body_put}
+use Rattle.sbl_machine.proofs.Several.{several_closed}
 use Rattle.sbl_machine.proofs.TouchedOrder.{any-mapped}
 
 same_bytes : (n : List ℕ) → bytes_eq n n ≡ true
@@ -166,7 +167,7 @@ module _ (n : List ℕ) (k : DeclarationKind) (p : Plain → Bool) (own : (x : P
   items_known (plain x ∷ is) old h = plain_known x (p x) refl (first_of p is) old h (known_in (in_order is) k) (λ g. items_known is old g)
   items_known (backward xs ∷ is) old h = plains_known xs (first_of p is) old h (in_order is) (λ g. items_known is old g)
 
-first_name : (n m : List ℕ) (rest : List (List ℕ)) → bytes_eq n m ≡ true → is_among (m ∷ rest) n ≡ true
+pub first_name : (n m : List ℕ) (rest : List (List ℕ)) → bytes_eq n m ≡ true → is_among (m ∷ rest) n ≡ true
 first_name n m rest e = ap (λ (v : Bool). if v then true else is_among rest n) (flip n m e)
 
 later_name : (n m : List ℕ) (rest : List (List ℕ)) → is_among rest n ≡ true → is_among (m ∷ rest) n ≡ true
@@ -183,7 +184,7 @@ routine_own n (escapes a b) e rest = absurd (true≢false (sym e))
 routine_own n (macro m b q) e rest = absurd (true≢false (sym e))
 routine_own n (grouping m a ts) e rest = absurd (true≢false (sym e))
 
-routine_more : (n : List ℕ) (x : Plain) (rest : List (List ℕ)) → is_among rest n ≡ true → is_among (names_by kinds.Routines x ++ rest) n ≡ true
+pub routine_more : (n : List ℕ) (x : Plain) (rest : List (List ℕ)) → is_among rest n ≡ true → is_among (names_by kinds.Routines x ++ rest) n ≡ true
 routine_more n (routine m c os) rest h = later_name n m rest h
 routine_more n (declaration k ns) rest h = h
 routine_more n (escapes a b) rest h = h
@@ -197,7 +198,7 @@ grouping_own n (escapes a b) e rest = absurd (true≢false (sym e))
 grouping_own n (macro m b q) e rest = absurd (true≢false (sym e))
 grouping_own n (routine m c os) e rest = absurd (true≢false (sym e))
 
-grouping_more : (n : List ℕ) (x : Plain) (rest : List (List ℕ)) → is_among rest n ≡ true → is_among (names_by kinds.Groupings x ++ rest) n ≡ true
+pub grouping_more : (n : List ℕ) (x : Plain) (rest : List (List ℕ)) → is_among rest n ≡ true → is_among (names_by kinds.Groupings x ++ rest) n ≡ true
 grouping_more n (grouping m a ts) rest h = later_name n m rest h
 grouping_more n (declaration k ns) rest h = h
 grouping_more n (escapes a b) rest h = h
@@ -263,6 +264,10 @@ clear_stay picked s t closed agree word limit clear =
 pub unmet_stay : WellDeclaredPasses → UnmetStay
 unfolding meets
 unmet_stay passes x s t well agree word limit clear = clear_stay (affected s x) s t (affected_closed passes s well x) agree word limit clear
+
+pub unmet_by_one_stay : WellDeclaredPasses → UnmetByOneStay
+unfolding meets_one
+unmet_by_one_stay passes xs s t well agree word limit clear = clear_stay (affected_by s xs) s t (several_closed passes s well xs) agree word limit clear
 
 pub untouched_stay : WellDeclaredPasses → UntouchedStay
 untouched_stay passes s t e text well edited word limit clear = unmet_stay passes (replaced e) s t well (edits_agree s t e text edited) word limit clear

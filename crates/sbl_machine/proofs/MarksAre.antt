@@ -1,13 +1,13 @@
--- The marks of an item are the touches of what is changed with it.
-use Rattle.std.proofs.Common.{◌≡◌, ◌∙◌, ◌||◌, ◌&&◌, ◌<◌, ◌+◌, ℕ, zero, suc, Bool, true, false, nat_eq, List, [], ◌∷◌, ◌++◌, arith, refl, sym, ap, subst}
+-- The marks of items are the touches of what their edits affect.
+use Rattle.std.proofs.Common.{◌≡◌, ◌∙◌, ◌||◌, ◌&&◌, ◌<◌, ◌+◌, ℕ, zero, suc, Bool, true, false, nat_eq, List, [], ◌∷◌, ◌++◌, arith, refl, sym, ap}
 use Rattle.std.specs.Prelude.{if◌then◌else◌, slice_index_or}
-use Rattle.std.specs.List.{list_any}
+use Rattle.std.specs.List.{list_all, list_any}
 use Rattle.std.specs.Str.{bytes_eq}
 use Rattle.std.proofs.lemmas.Bool.{true≢false, eqb-true}
 use Rattle.std.proofs.lemmas.Bool.Decides.{nat_tests}
 use Rattle.std.proofs.lemmas.List.Folds.{list_any-append}
 use Rattle.std.proofs.Math.Path.{fun_ext}
-use Rattle.sbl_tree.specs.Order.{in_order}
+use Rattle.sbl_tree.specs.Order.{ItemInMode, in_order}
 use Rattle.sbl_tree.specs.declared.tree.DeclarationKind.TheVariants as kinds
 use Rattle.sbl_numbering.specs.Items.{is_among, known_in}
 use Rattle.sbl_numbering.proofs.SoundItems.{among_is}
@@ -16,13 +16,14 @@ use Rattle.sbl_run.specs.declared.touch.Touch.TheVariants.{Entered, Searched, Te
 use Rattle.sbl_run.specs.Touches.{same_touch, with_touch}
 use Rattle.sbl_script.specs.Parsed.{Source}
 use Rattle.sbl_script.specs.Spelled.{AreSpelled}
-use Rattle.sbl_machine.specs.BuiltFrom.{affected, built_behind}
-use Rattle.sbl_machine.specs.Marking.{marked, marks_of}
+use Rattle.sbl_machine.specs.BuiltFrom.{affected, affected_by, built_behind}
+use Rattle.sbl_machine.specs.Marking.{and_searches, groupings_behind, marked, marks_of, routines_behind, searches_behind}
 use Rattle.sbl_machine.specs.Marks.{AreMarksOf, has_item}
 use Rattle.sbl_machine.specs.Touched.{Item', Routine, Among, Grouping, named, names_of}
 use Rattle.sbl_machine.proofs.BuiltFrom.{built_back}
+use Rattle.sbl_machine.proofs.Several.{built_from_several, or_false}
 use Rattle.sbl_machine.proofs.NotEmpty.{groupings_named, routines_named}
-use Rattle.sbl_machine.proofs.Touching.{has_chosen, not_then}
+use Rattle.sbl_machine.proofs.Touching.{both_true, has_chosen, not_then}
 
 -- ---- one touch more
 
@@ -107,20 +108,66 @@ module _ (touch : ℕ → Touch) (test : List ℕ → Bool) (t : Touch) where
         by true e rest = ap (λ (a : Bool). a || hit (suc i) ns) e ∙ rest
         by false e rest = rest
 
-or_false : (a : Bool) → (a || false) ≡ a
-or_false true = refl
-or_false false = refl
-
 -- a touch that the marks have under its number
-own_marked : (touch : ℕ → Touch) (test : List ℕ → Bool) (t : Touch) (ns : List (List ℕ)) (j : ℕ) → ((i : ℕ) → same_touch t (touch i) ≡ nat_eq j i) → test [] ≡ false
-    → list_any (same_touch t) (marked touch test 0 ns []) ≡ test (slice_index_or ns j [])
-own_marked touch test t ns j own none =
-    any_marked touch test t 0 ns [] ∙ or_false (hit touch test t 0 ns) ∙ hit_at touch test t j own none 0 ns j (omega arith)
+own_marked : (touch : ℕ → Touch) (test : List ℕ → Bool) (t : Touch) (ns : List (List ℕ)) (ts : List Touch) (j : ℕ) → ((i : ℕ) → same_touch t (touch i) ≡ nat_eq j i) → test [] ≡ false
+    → list_any (same_touch t) (marked touch test 0 ns ts) ≡ (test (slice_index_or ns j []) || list_any (same_touch t) ts)
+own_marked touch test t ns ts j own none =
+    any_marked touch test t 0 ns ts ∙ ap (λ (b : Bool). b || list_any (same_touch t) ts) (hit_at touch test t j own none 0 ns j (omega arith))
 
 -- a touch of another form
-not_marked : (touch : ℕ → Touch) (test : List ℕ → Bool) (t : Touch) (ns : List (List ℕ)) → ((i : ℕ) → same_touch t (touch i) ≡ false)
-    → list_any (same_touch t) (marked touch test 0 ns []) ≡ false
-not_marked touch test t ns off = any_marked touch test t 0 ns [] ∙ or_false (hit touch test t 0 ns) ∙ none_hit touch test t off 0 ns
+not_marked : (touch : ℕ → Touch) (test : List ℕ → Bool) (t : Touch) (ns : List (List ℕ)) (ts : List Touch) → ((i : ℕ) → same_touch t (touch i) ≡ false)
+    → list_any (same_touch t) (marked touch test 0 ns ts) ≡ list_any (same_touch t) ts
+not_marked touch test t ns ts off = any_marked touch test t 0 ns ts ∙ ap (λ (b : Bool). b || list_any (same_touch t) ts) (none_hit touch test t off 0 ns)
+
+-- ---- names that are collected
+
+one_more : (a b c : Bool) → ((a || (b || false)) || c) ≡ (a || (b || c))
+one_more true b c = refl
+one_more false true c = refl
+one_more false false c = refl
+
+module _ (p : List ℕ → Bool) where
+  abbrev routine_passes : Item' → Bool
+  routine_passes (Routine n) = p n
+  routine_passes (Among n k) = false
+  routine_passes (Grouping n) = false
+
+  any_routine : (xs : List Item') (ns : List (List ℕ)) → list_any p (routines_behind xs ns) ≡ (list_any p ns || list_any routine_passes xs)
+  any_routine [] ns = sym (or_false (list_any p ns))
+  any_routine (Routine n ∷ xs) ns =
+      any_routine xs (ns ++ n ∷ [])
+      ∙ ap (λ (b : Bool). b || list_any routine_passes xs) (list_any-append p ns (n ∷ []))
+      ∙ one_more (list_any p ns) (p n) (list_any routine_passes xs)
+  any_routine (Among n k ∷ xs) ns = any_routine xs ns
+  any_routine (Grouping n ∷ xs) ns = any_routine xs ns
+
+  abbrev grouping_passes : Item' → Bool
+  grouping_passes (Routine n) = false
+  grouping_passes (Among n k) = false
+  grouping_passes (Grouping n) = p n
+
+  any_grouping : (xs : List Item') (ns : List (List ℕ)) → list_any p (groupings_behind xs ns) ≡ (list_any p ns || list_any grouping_passes xs)
+  any_grouping [] ns = sym (or_false (list_any p ns))
+  any_grouping (Grouping n ∷ xs) ns =
+      any_grouping xs (ns ++ n ∷ [])
+      ∙ ap (λ (b : Bool). b || list_any grouping_passes xs) (list_any-append p ns (n ∷ []))
+      ∙ one_more (list_any p ns) (p n) (list_any grouping_passes xs)
+  any_grouping (Among n k ∷ xs) ns = any_grouping xs ns
+  any_grouping (Routine n ∷ xs) ns = any_grouping xs ns
+
+among_any : (ns : List (List ℕ)) (n : List ℕ) → is_among ns n ≡ list_any (λ m. bytes_eq m n) ns
+among_any [] n = refl
+among_any (m ∷ ns) n = by (bytes_eq m n) (among_any ns n)
+  where
+    by : (b : Bool) → is_among ns n ≡ list_any (λ m. bytes_eq m n) ns → (if b then true else is_among ns n) ≡ (b || list_any (λ m. bytes_eq m n) ns)
+    by true h = refl
+    by false h = h
+
+none_passes : {X : Type 0} (p q : X → Bool) → ((x : X) → q x ≡ true → p x ≡ false) → (xs : List X) → list_all q xs ≡ true → list_any p xs ≡ false
+none_passes p q f [] h = refl
+none_passes p q f (x ∷ xs) h =
+    let b = both_true (q x) (list_all q xs) h in
+    ap (λ (c : Bool). c || list_any p xs) (f x b.0) ∙ none_passes p q f xs b.1
 
 -- ---- items
 
@@ -137,55 +184,153 @@ and_true true = refl
 and_true false = refl
 
 module _ (s : Source) (spelled : AreSpelled s.items) where
-  routine_marks : (n : List ℕ) → has_item (names_of s) (Routine n) ≡ true → AreMarksOf s (Routine n) (marks_of (names_of s) (in_order s.items) (Routine n))
-  routine_marks n there (Entered j) =
-      own_marked Entered (bytes_eq n) (Entered j) (names_of s).routines j (λ i. refl) (has_name (names_of s).routines n (routines_named s.items spelled) there)
-  routine_marks n there (Searched j l) = not_marked Entered (bytes_eq n) (Searched j l) (names_of s).routines (λ i. refl)
-  routine_marks n there (Tested g) = not_marked Entered (bytes_eq n) (Tested g) (names_of s).routines (λ i. refl)
+  abbrev items : List ItemInMode
+  items = in_order s.items
 
-  search_marks : (n : List ℕ) (k : ℕ) → has_item (names_of s) (Among n (suc k)) ≡ true → (j l : ℕ) (b : Bool) → nat_eq l k ≡ b
-      → list_any (same_touch (Searched j l)) (marks_of (names_of s) (in_order s.items) (Among n (suc k))) ≡ affected s (Among n (suc k)) (named (names_of s) (Searched j l))
-  search_marks n k there j l true e =
-      let same : nat_eq (suc k) (suc l) ≡ true = grind (arith, nat_tests, eqb-true l k e) in
-      own_marked (λ i. Searched i k) (bytes_eq n) (Searched j l) (names_of s).routines j (λ i. ap (λ (b : Bool). nat_eq j i && b) e ∙ and_true (nat_eq j i)) (has_name (names_of s).routines n (routines_named s.items spelled) there)
-      ∙ sym (ap (λ (b : Bool). bytes_eq n (slice_index_or (names_of s).routines j []) && b) same ∙ and_true (bytes_eq n (slice_index_or (names_of s).routines j [])))
-  search_marks n k there j l false e =
-      let other : nat_eq (suc k) (suc l) ≡ false = grind (arith, nat_tests, e) in
-      not_marked (λ i. Searched i k) (bytes_eq n) (Searched j l) (names_of s).routines (λ i. ap (λ (b : Bool). nat_eq j i && b) e ∙ sym (and_false (nat_eq j i)))
-      ∙ and_false (bytes_eq n (slice_index_or (names_of s).routines j []))
-      ∙ ap (λ (b : Bool). bytes_eq n (slice_index_or (names_of s).routines j []) && b) (sym other)
+  abbrev routines : List (List ℕ)
+  routines = (names_of s).routines
 
-  among_marks : (n : List ℕ) (k : ℕ) → has_item (names_of s) (Among n k) ≡ true → AreMarksOf s (Among n k) (marks_of (names_of s) (in_order s.items) (Among n k))
-  among_marks n zero there (Entered j) = refl
-  among_marks n zero there (Searched j l) =
-      let other : nat_eq zero (suc l) ≡ false = grind (arith, nat_tests) in
-      and_false (bytes_eq n (slice_index_or (names_of s).routines j []))
-      ∙ ap (λ (b : Bool). bytes_eq n (slice_index_or (names_of s).routines j []) && b) (sym other)
-  among_marks n zero there (Tested g) = refl
-  among_marks n (suc k) there (Entered j) = not_marked (λ i. Searched i k) (bytes_eq n) (Entered j) (names_of s).routines (λ i. refl)
-  among_marks n (suc k) there (Searched j l) = search_marks n k there j l (nat_eq l k) refl
-  among_marks n (suc k) there (Tested g) = not_marked (λ i. Searched i k) (bytes_eq n) (Tested g) (names_of s).routines (λ i. refl)
+  abbrev groupings : List (List ℕ)
+  groupings = (names_of s).groupings
+
+  -- ---- routines
+
+  routine_is : (n : List ℕ) (x : Item') → routine_passes (λ m. bytes_eq m n) x ≡ affected s x (Routine n)
+  routine_is n (Routine m) = refl
+  routine_is n (Among m k) = refl
+  routine_is n (Grouping m) = refl
+
+  routines_are : (xs : List Item') (n : List ℕ) → is_among (routines_behind xs []) n ≡ list_any (λ x. affected s x (Routine n)) xs
+  routines_are xs n =
+      among_any (routines_behind xs []) n ∙ any_routine (λ m. bytes_eq m n) xs [] ∙ ap (λ (p : Item' → Bool). list_any p xs) (fun_ext (routine_is n))
+
+  named_routine : (x : Item') → has_item (names_of s) x ≡ true → affected s x (Routine []) ≡ false
+  named_routine (Routine n) there = has_name routines n (routines_named s.items spelled) there
+  named_routine (Among n k) there = refl
+  named_routine (Grouping n) there = refl
+
+  -- ---- groupings
 
   -- nothing without a name is built from a grouping
-  built_named : (n : List ℕ) → has_item (names_of s) (Grouping n) ≡ true → is_among (built_behind (in_order s.items) (n ∷ [])) [] ≡ false
+  built_named : (n : List ℕ) → has_item (names_of s) (Grouping n) ≡ true → is_among (built_behind items (n ∷ [])) [] ≡ false
   built_named n there =
       let none = groupings_named s.items spelled in
-      not_then (is_among (built_behind (in_order s.items) (n ∷ [])) []) (is_among (n ∷ []) []) (built_back (in_order s.items) (n ∷ []) [] none)
-      (ap (λ (b : Bool). if b then true else false) (has_name (known_in (in_order s.items) kinds.Groupings) n none there))
+      not_then (is_among (built_behind items (n ∷ [])) []) (is_among (n ∷ []) []) (built_back items (n ∷ []) [] none)
+      (ap (λ (b : Bool). if b then true else false) (has_name (known_in items kinds.Groupings) n none there))
 
-  grouping_by : (n : List ℕ) → has_item (names_of s) (Grouping n) ≡ true → (t : Touch)
-      → list_any (same_touch t) (marked Tested (is_among (built_behind (in_order s.items) (n ∷ []))) 0 (names_of s).groupings []) ≡ affected s (Grouping n) (named (names_of s) t)
-  grouping_by n there (Entered j) = not_marked Tested (is_among (built_behind (in_order s.items) (n ∷ []))) (Entered j) (names_of s).groupings (λ i. refl)
-  grouping_by n there (Searched j l) = not_marked Tested (is_among (built_behind (in_order s.items) (n ∷ []))) (Searched j l) (names_of s).groupings (λ i. refl)
-  grouping_by n there (Tested g) =
-      own_marked Tested (is_among (built_behind (in_order s.items) (n ∷ []))) (Tested g) (names_of s).groupings g (λ i. refl) (built_named n there)
+  grouping_is : (n : List ℕ) (x : Item') → grouping_passes (λ m. is_among (built_behind items (m ∷ [])) n) x ≡ affected s x (Grouping n)
+  grouping_is n (Routine m) = refl
+  grouping_is n (Among m k) = refl
+  grouping_is n (Grouping m) = refl
 
-  grouping_marks : (n : List ℕ) → has_item (names_of s) (Grouping n) ≡ true → AreMarksOf s (Grouping n) (marks_of (names_of s) (in_order s.items) (Grouping n))
-  grouping_marks n there t =
-      ap (λ (test : List ℕ → Bool). list_any (same_touch t) (marked Tested test 0 (names_of s).groupings [])) (fun_ext (among_is (built_behind (in_order s.items) (n ∷ []))))
-      ∙ grouping_by n there t
+  groupings_are : (xs : List Item') (n : List ℕ) → is_among (built_behind items (groupings_behind xs [])) n ≡ list_any (λ x. affected s x (Grouping n)) xs
+  groupings_are xs n =
+      built_from_several items (groupings_behind xs []) n
+      ∙ any_grouping (λ m. is_among (built_behind items (m ∷ [])) n) xs []
+      ∙ ap (λ (p : Item' → Bool). list_any p xs) (fun_ext (grouping_is n))
 
-  pub are_marks : (x : Item') → has_item (names_of s) x ≡ true → AreMarksOf s x (marks_of (names_of s) (in_order s.items) x)
-  are_marks (Routine n) there = routine_marks n there
-  are_marks (Among n k) there = among_marks n k there
-  are_marks (Grouping n) there = grouping_marks n there
+  named_grouping : (x : Item') → has_item (names_of s) x ≡ true → affected s x (Grouping []) ≡ false
+  named_grouping (Routine n) there = refl
+  named_grouping (Among n k) there = refl
+  named_grouping (Grouping n) there = built_named n there
+
+  -- ---- amongs
+
+  -- a touch that searches nothing
+  one_not : (t : Touch) → ((i k : ℕ) → same_touch t (Searched i k) ≡ false) → (x : Item') (ts : List Touch) → list_any (same_touch t) (and_searches routines x ts) ≡ list_any (same_touch t) ts
+  one_not t off (Routine n) ts = refl
+  one_not t off (Among n zero) ts = refl
+  one_not t off (Among n (suc k)) ts = not_marked (λ i. Searched i k) (bytes_eq n) t routines ts (λ i. off i k)
+  one_not t off (Grouping n) ts = refl
+
+  searches_not : (t : Touch) → ((i k : ℕ) → same_touch t (Searched i k) ≡ false) → (xs : List Item') (ts : List Touch) → list_any (same_touch t) (searches_behind routines xs ts) ≡ list_any (same_touch t) ts
+  searches_not t off [] ts = refl
+  searches_not t off (x ∷ xs) ts = searches_not t off xs (and_searches routines x ts) ∙ one_not t off x ts
+
+  module _ (j l : ℕ) where
+    abbrev has_search : List Touch → Bool
+    has_search ts = list_any (same_touch (Searched j l)) ts
+
+    abbrev home : List ℕ
+    home = slice_index_or routines j []
+
+    -- an among with another number
+    off_number : (n : List ℕ) (k : ℕ) (ts : List Touch) → nat_eq k (suc l) ≡ false → has_search ts ≡ ((bytes_eq n home && nat_eq k (suc l)) || has_search ts)
+    off_number n k ts e =
+        ap (λ (b : Bool). b || has_search ts) (and_false (bytes_eq n home)) ∙ ap (λ (b : Bool). (bytes_eq n home && b) || has_search ts) (sym e)
+
+    by_number : (n : List ℕ) (k : ℕ) → has_item (names_of s) (Among n (suc k)) ≡ true → (ts : List Touch) (b : Bool) → nat_eq l k ≡ b
+        → has_search (and_searches routines (Among n (suc k)) ts) ≡ (affected s (Among n (suc k)) (Among home (suc l)) || has_search ts)
+    by_number n k there ts true e =
+        let same : nat_eq (suc k) (suc l) ≡ true = grind (arith, nat_tests, eqb-true l k e) in
+        own_marked (λ i. Searched i k) (bytes_eq n) (Searched j l) routines ts j (λ i. ap (λ (b : Bool). nat_eq j i && b) e ∙ and_true (nat_eq j i)) (has_name routines n (routines_named s.items spelled) there)
+        ∙ sym (ap (λ (b : Bool). (bytes_eq n home && b) || has_search ts) same ∙ ap (λ (b : Bool). b || has_search ts) (and_true (bytes_eq n home)))
+    by_number n k there ts false e =
+        let other : nat_eq (suc k) (suc l) ≡ false = grind (arith, nat_tests, e) in
+        not_marked (λ i. Searched i k) (bytes_eq n) (Searched j l) routines ts (λ i. ap (λ (b : Bool). nat_eq j i && b) e ∙ sym (and_false (nat_eq j i)))
+        ∙ off_number n (suc k) ts other
+
+    one_search : (x : Item') → has_item (names_of s) x ≡ true → (ts : List Touch) → has_search (and_searches routines x ts) ≡ (affected s x (Among home (suc l)) || has_search ts)
+    one_search (Routine n) there ts = refl
+    one_search (Among n zero) there ts = off_number n zero ts (grind (arith, nat_tests))
+    one_search (Among n (suc k)) there ts = by_number n k there ts (nat_eq l k) refl
+    one_search (Grouping n) there ts = refl
+
+    searches_are : (xs : List Item') → list_all (has_item (names_of s)) xs ≡ true → (ts : List Touch)
+        → has_search (searches_behind routines xs ts) ≡ (has_search ts || list_any (λ x. affected s x (Among home (suc l))) xs)
+    searches_are [] there ts = sym (or_false (has_search ts))
+    searches_are (x ∷ xs) there ts =
+        let b = both_true (has_item (names_of s) x) (list_all (has_item (names_of s)) xs) there in
+        let rest = list_any (λ y. affected s y (Among home (suc l))) xs in
+        searches_are xs b.1 (and_searches routines x ts)
+        ∙ ap (λ (c : Bool). c || rest) (one_search x b.0 ts)
+        ∙ sym (or_turned (has_search ts) (affected s x (Among home (suc l))) rest)
+
+  -- ---- all together
+
+  module _ (xs : List Item') (there : list_all (has_item (names_of s)) xs ≡ true) where
+    abbrev searched : List Touch
+    searched = searches_behind routines xs []
+
+    abbrev entered : (List ℕ → Bool) → List Touch
+    entered test = marked Entered test 0 routines searched
+
+    abbrev tested : (List ℕ → Bool) → (List ℕ → Bool) → List Touch
+    tested test other = marked Tested test 0 groupings (entered other)
+
+    abbrev in_routines : List ℕ → Bool
+    in_routines = is_among (routines_behind xs [])
+
+    abbrev in_built : List ℕ → Bool
+    in_built = is_among (built_behind items (groupings_behind xs []))
+
+    no_routine : in_routines [] ≡ false
+    no_routine = routines_are xs [] ∙ none_passes (λ x. affected s x (Routine [])) (has_item (names_of s)) named_routine xs there
+
+    no_built : in_built [] ≡ false
+    no_built = groupings_are xs [] ∙ none_passes (λ x. affected s x (Grouping [])) (has_item (names_of s)) named_grouping xs there
+
+    by_touch : (t : Touch) → list_any (same_touch t) (tested in_built in_routines) ≡ affected_by s xs (named (names_of s) t)
+    by_touch (Entered j) =
+        let n = slice_index_or routines j [] in
+        not_marked Tested in_built (Entered j) groupings (entered in_routines) (λ i. refl)
+        ∙ own_marked Entered in_routines (Entered j) routines searched j (λ i. refl) no_routine
+        ∙ ap (λ (b : Bool). in_routines n || b) (searches_not (Entered j) (λ i k. refl) xs [])
+        ∙ or_false (in_routines n)
+        ∙ routines_are xs n
+    by_touch (Searched j l) =
+        not_marked Tested in_built (Searched j l) groupings (entered in_routines) (λ i. refl)
+        ∙ not_marked Entered in_routines (Searched j l) routines searched (λ i. refl)
+        ∙ searches_are j l xs there []
+    by_touch (Tested g) =
+        let n = slice_index_or groupings g [] in
+        own_marked Tested in_built (Tested g) groupings (entered in_routines) g (λ i. refl) no_built
+        ∙ ap (λ (b : Bool). in_built n || b) (not_marked Entered in_routines (Tested g) routines searched (λ i. refl) ∙ searches_not (Tested g) (λ i k. refl) xs [])
+        ∙ or_false (in_built n)
+        ∙ groupings_are xs n
+
+  pub are_marks : (xs : List Item') → list_all (has_item (names_of s)) xs ≡ true → AreMarksOf s xs (marks_of (names_of s) items xs)
+  are_marks xs there t =
+      let built = fun_ext (among_is (built_behind items (groupings_behind xs []))) in
+      let own = fun_ext (among_is (routines_behind xs [])) in
+      (λ i. list_any (same_touch t) (tested xs there (built i) (own i))) ∙ by_touch xs there t

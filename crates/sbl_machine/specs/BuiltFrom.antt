@@ -60,6 +60,14 @@ affected s x y = same_item x y
 unfoldable pub meets : Item' → Source → List ℕ → ℕ → Bool
 meets x script word limit = list_any (affected script x) (map (named (names_of script)) (touches_of script word limit))
 
+-- whether an edit of one of these items affects another
+abbrev pub affected_by : Source → List Item' → Item' → Bool
+affected_by s xs y = list_any (λ x. affected s x y) xs
+
+-- whether a run of a script on a word, with this limit, touches something that an edit of one of these items affects
+unfoldable pub meets_one : List Item' → Source → List ℕ → ℕ → Bool
+meets_one xs script word limit = list_any (affected_by script xs) (map (named (names_of script)) (touches_of script word limit))
+
 -- in a well-declared script, the items that an item affects are closed
 abbrev pub AffectedIsClosed : Type 0
 AffectedIsClosed = (s : Source) → WellDeclared s.items s.external → (x : Item') → IsClosed (affected s x) s

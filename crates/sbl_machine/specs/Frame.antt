@@ -1,10 +1,9 @@
 -- A run does not depend on what it does not touch.
-use Rattle.std.specs.Prelude.{◌≡◌, ℕ, Bool, false, List, map, Some}
+use Rattle.std.specs.Prelude.{◌≡◌, ℕ, Bool, false, List, map}
 use Rattle.std.specs.List.{list_any}
 use Rattle.std.specs.List.Sorted.{IsStrictlySortedBy}
 use Rattle.sbl_checks.specs.Checks.{WellDeclared}
-use Rattle.sbl_machine.specs.BuiltFrom.{IsClosed, affected, meets}
-use Rattle.sbl_machine.specs.Differs.{differs, is_one_of}
+use Rattle.sbl_machine.specs.BuiltFrom.{IsClosed, affected, affected_by, meets, meets_one}
 use Rattle.sbl_machine.specs.Holes.{holed_script}
 use Rattle.sbl_machine.specs.Outcome.{run_of, used_of, touches_of}
 use Rattle.sbl_machine.specs.Touched.{Item', item_cmp, named, replaced, same_item, touched_of, touches, names_of}
@@ -54,6 +53,12 @@ UnmetStay =
     (x : Item') (s t : Source) → WellDeclared s.items s.external → AgreeOutside (affected s x) s t → (word : List ℕ) (limit : ℕ) →
     meets x s word limit ≡ false → StaysAsItWas s t word limit
 
+-- The same for any two scripts that agree outside what an edit of one of several items affects.
+abbrev pub UnmetByOneStay : Type 0
+UnmetByOneStay =
+    (xs : List Item') (s t : Source) → WellDeclared s.items s.external → AgreeOutside (affected_by s xs) s t → (word : List ℕ) (limit : ℕ) →
+    meets_one xs s word limit ≡ false → StaysAsItWas s t word limit
+
 -- Two scripts that agree outside some items have the same names of routines and groupings, whatever made the second. If
 -- these items are closed too, each word whose run touches none of them runs as before, and touches the same numbers.
 abbrev pub AgreeingNamesStay : Type 0
@@ -63,11 +68,6 @@ abbrev pub ClearStay : Type 0
 ClearStay =
     (picked : Item' → Bool) (s t : Source) → IsClosed picked s → AgreeOutside picked s t → (word : List ℕ) (limit : ℕ) →
     list_any picked (map (named (names_of s)) (touches_of s word limit)) ≡ false → StaysAsItWas s t word limit
-
--- if two scripts differ only in bodies of routines, they agree outside the items in which they differ, and these are
--- closed
-abbrev pub DifferingAgree : Type 0
-DifferingAgree = (s t : Source) (xs : List Item') → differs s t ≡ Some xs → IsClosed (is_one_of xs) s × AgreeOutside (is_one_of xs) s t
 
 -- a run touches an item exactly if the item is in its list of touched items
 abbrev pub TouchesAreTouched : Type 0

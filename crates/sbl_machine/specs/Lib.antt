@@ -17,5 +17,6 @@ pub mod NamesStand
 pub mod Groupings
 pub mod Same
 pub mod Differs
+pub mod DifferLaws
 -- what the functions inside the crate promise each other: nothing in these need be believed
 pub mod Marking

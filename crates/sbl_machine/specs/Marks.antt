@@ -6,7 +6,7 @@ use Rattle.sbl_run.specs.declared.touch.Touch.{Touch}
 use Rattle.sbl_run.specs.Touches.{same_touch}
 use Rattle.sbl_script.specs.Edits.{ScriptEdit, IsEdited}
 use Rattle.sbl_script.specs.Parsed.{Source}
-use Rattle.sbl_machine.specs.BuiltFrom.{affected}
+use Rattle.sbl_machine.specs.BuiltFrom.{affected_by}
 use Rattle.sbl_machine.specs.Touched.{Item', Routine, Among, Grouping, Names', named, names_of, replaced}
 
 -- whether a script defines the routine or the grouping of an item
@@ -15,9 +15,9 @@ has_item names (Routine n) = is_among names.routines n
 has_item names (Among n k) = is_among names.routines n
 has_item names (Grouping n) = is_among names.groupings n
 
--- The marks of item x: a touch is one of them exactly if an edit of x affects what it touches.
-abbrev pub AreMarksOf : Source → Item' → List Touch → Type 0
-AreMarksOf s x marks = (t : Touch) → list_any (same_touch t) marks ≡ affected s x (named (names_of s) t)
+-- The marks of some items: a touch is one of them exactly if an edit of one of the items affects what it touches.
+abbrev pub AreMarksOf : Source → List Item' → List Touch → Type 0
+AreMarksOf s xs marks = (t : Touch) → list_any (same_touch t) marks ≡ affected_by s xs (named (names_of s) t)
 
 -- the script defines the routine or the grouping that an edit changes
 abbrev pub EditedAreThere : Type 0

@@ -1,7 +1,7 @@
-//! The groupings that are built from one grouping: each that names it among its terms, or names another that is built
-//! from it.
+//! The groupings that are built from some groupings: each that names one of them among its terms, or names another that
+//! is built from one of them.
 
-ghost use Rattle.std.specs.Prelude.{◌≡◌, [], ◌∷◌, map, OnOk, IfOk};
+ghost use Rattle.std.specs.Prelude.{◌≡◌, map, OnOk, IfOk};
 ghost use Rattle.sbl_numbering.specs.Items.{is_among};
 ghost use Rattle.sbl_tree.specs.Order.{in_order};
 ghost use Rattle.sbl_tree.specs.View.{view_argument, view_items, view_plain, view_term};
@@ -50,16 +50,20 @@ fn add_built(alloc: Global, plain: &Plain, names: &mut NameList) -> Result<(), A
     Ok(())
 }
 
-/// Returns the name of a grouping, followed by those of all groupings that are built from it.
+/// Returns the names of some groupings, followed by those of all groupings that are built from them. The cost is about
+/// that of one walk over the script, however many names there are.
 ///
 /// # Errors
 ///
 /// Returns `AllocError` if an allocation fails.
-pub fn built_from(alloc: Global, items: &[Item], name: &str) -> Result<NameList, AllocError>
-    ensures { IfOk result (λ names. names ≡ spec.built_behind (in_order (view_items items.now)) (name.now ∷ [])) }
+pub fn built_from(
+    alloc: Global,
+    items: &[Item],
+    groupings: NameList,
+) -> Result<NameList, AllocError>
+    ensures { IfOk result (λ names. names ≡ spec.built_behind (in_order (view_items items.now)) groupings) }
 {
-    let mut names = NameList::new(alloc);
-    names.add(alloc, name)?;
+    let mut names = groupings;
     let in_order = items_in_order(alloc, items)?;
     for item in &in_order {
         add_built(alloc, item.plain, &mut names)?;

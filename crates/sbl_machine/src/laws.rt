@@ -1,8 +1,9 @@
 //! Laws of runs.
 
 ghost use Rattle.sbl_machine.specs.BuiltFrom.{AffectedIsClosed};
+ghost use Rattle.sbl_machine.specs.DifferLaws.{AlikeDifferNowhere, DifferingAgree, DifferingAreThere, DifferingStay, MoreDiffers, OneAffects, OneMeets, OnlyItemsDiffer};
 ghost use Rattle.sbl_machine.specs.EnoughSteps.{RefusedForSteps, UsedStepsSuffice, UsedStepsTouch};
-ghost use Rattle.sbl_machine.specs.Frame.{AgreeingNamesStay, ClearStay, DifferingAgree, EditsAgree, Frame, NamesStay, TouchedRise, TouchesAreTouched, UnmetStay, UntouchedStay};
+ghost use Rattle.sbl_machine.specs.Frame.{AgreeingNamesStay, ClearStay, EditsAgree, Frame, NamesStay, TouchedRise, TouchesAreTouched, UnmetByOneStay, UnmetStay, UntouchedStay};
 ghost use Rattle.sbl_machine.specs.Groupings.{GroupingsAreTheirTerms, GroupingsHaveTheirTerms};
 ghost use Rattle.sbl_machine.specs.Marks.{EditedAreThere};
 ghost use Rattle.sbl_machine.specs.NamesStand.{NamesStand};
@@ -119,8 +120,41 @@ pub fn clear_stay()
     ensures clear { ClearStay }
 {}
 
-/// If two scripts differ only in bodies of routines, they agree outside the items in which they differ, and these items
-/// are closed under what is built from them.
-pub fn differing_agree()
-    ensures { DifferingAgree }
+/// If two scripts agree outside the items that several items affect, a word whose run met none of these items runs as
+/// before and touches the same.
+pub fn unmet_by_one_stay()
+    ensures { UnmetByOneStay }
+{
+    well_declared_passes();
+}
+
+/// A list of one item affects what the item affects, and the same runs meet it.
+pub fn one_item_alone()
+    ensures affects { OneAffects }
+    ensures meets { OneMeets }
 {}
+
+/// Two scripts have a list of differing items exactly if they are equal after the bodies of all routines and the terms
+/// of all groupings are replaced by holes. A script differs from itself in no item.
+pub fn only_items_differ()
+    ensures only { OnlyItemsDiffer }
+    ensures more { MoreDiffers }
+    ensures alike { AlikeDifferNowhere }
+{}
+
+/// Two scripts agree outside what an edit of one of the items in which they differ affects. In a well-declared script,
+/// these are closed under what is built from them. The routines and groupings of the differing items are in the script.
+pub fn differing_agree()
+    ensures agree { DifferingAgree }
+    ensures there { DifferingAreThere }
+{
+    well_declared_passes();
+}
+
+/// In a well-declared script, a word whose run met nothing that an edit of one of the differing items affects runs alike
+/// under the other script, and touches the same.
+pub fn differing_stay()
+    ensures { DifferingStay }
+{
+    well_declared_passes();
+}

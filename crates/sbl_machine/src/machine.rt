@@ -1,7 +1,7 @@
 //! The machine.
 
 ghost use Rattle.std.specs.Prelude.{◌≡◌, ◌<◌, ◌≤◌, ◌+◌, true, length, map, IfOk, MatchResult, ◌↔◌, Err};
-ghost use Rattle.std.specs.List.{list_any};
+ghost use Rattle.std.specs.List.{list_all, list_any};
 ghost use Rattle.sbl_run.specs.Kept.{Follows};
 ghost use Rattle.sbl_machine.specs.MachineOf.{IsMachineOf};
 ghost use Rattle.sbl_machine.specs.Marks.{AreMarksOf, has_item};
@@ -161,9 +161,9 @@ impl<S: AmongSearch> Machine<S> {
         is_touched(&self.names, touches, item)
     }
 
-    /// Returns what an edit of an item affects, by number: the item and, if it is a grouping, all groupings that are
-    /// built from it, directly or through others. This holds if the machine is that of the script and the script
-    /// defines the routine or grouping of the item.
+    /// Returns what an edit of one of some items affects, by number: the items and all groupings that are built from
+    /// one of them, directly or through others. This holds if the machine is that of the script and the script defines
+    /// the routines and groupings of the items.
     ///
     /// # Errors
     ///
@@ -172,12 +172,12 @@ impl<S: AmongSearch> Machine<S> {
         &self,
         alloc: Global,
         script: &Script,
-        item: &Item,
+        items: &[Item],
     ) -> Result<Touched, AllocError>
-        ensures { IsMachineOf S S.entries S.mode self.now (source_of script.now) → has_item (names_of (source_of script.now)) (item_of item.now) ≡ true → IfOk result (λ marks. AreMarksOf (source_of script.now) (item_of item.now) marks) }
+        ensures { IsMachineOf S S.entries S.mode self.now (source_of script.now) → list_all (has_item (names_of (source_of script.now))) (map item_of items.now) ≡ true → IfOk result (λ marks. AreMarksOf (source_of script.now) (map item_of items.now) marks) }
     {
         is_spelled(script);
-        marks_of(alloc, &self.names, script.items(), item)
+        marks_of(alloc, &self.names, script.items(), items)
     }
 
     // Runs with the state that the meter keeps, and does not count the run. Returns `MeterFull` if the meter cannot

@@ -29,8 +29,8 @@ returns-in_err-from_str c =
     rw (p.1, p.2) (subst (λ (k : Kept). Edits (Err OutOfMemory) (contents_of k) (Routine c.args.name.now c.args.text.now) (contents_of k)) c.self.view_is
     (nothing_made s (body c.args.name.now) c.args.text.now c.with_routine.result c.with_routine.ensures.missing c.in_ok-script.script c.in_ok-script.was))
 
-pub take_script-requires : goal.take_script-requires
-take_script-requires c =
+pub take_edited-requires : goal.take_edited-requires
+take_edited-requires c =
     let q = source_of c.in_ok-script.script in
     let s : Contents = record { setting = under (source_of c.self.inside.script) c.self.inside.limit; words = words_in c.self.inside.traces.entries; count = c.self.inside.meter } in
     let e : ScriptEdit = body c.args.name.now in (
@@ -48,7 +48,7 @@ returns c =
     let q = source_of c.in_ok-script.script in
     let s : Contents = record { setting = under (source_of c.self.inside.script) c.self.inside.limit; words = words_in c.self.inside.traces.entries; count = c.self.inside.meter } in
     let e : ScriptEdit = body c.args.name.now in
-    c.take_script.ensures e c.args.text.now (subst (λ (k : Kept). IsTaken (contents_of k) e c.args.text.now q (item_of (code.Routine c.in_ok-from_str.field-0))) c.self.view_is (record {
+    c.take_edited.ensures e c.args.text.now (subst (λ (k : Kept). IsTaken (contents_of k) e c.args.text.now q (item_of (code.Routine c.in_ok-from_str.field-0))) c.self.view_is (record {
       edited = c.in_ok-script.ensures.script;
       replaces = ap items.Routine c.in_ok-from_str.ensures.ok;
       passes = passes s e c.args.text.now c.with_routine.result c.with_routine.ensures.missing c.in_ok-script.script c.in_ok-script.was;

@@ -1,4 +1,4 @@
-use Rattle.std.proofs.Common.{◌≡◌, ◌∙◌, List, Result, Ok, Err, IfOk, ap, subst, sym}
+use Rattle.std.proofs.Common.{◌≡◌, ◌∙◌, List, Result, Ok, Err, IfOk, map, ap, subst, sym}
 use Rattle.sbl_run.specs.declared.touch.Touch.{Touch}
 use Rattle.sbl_script.specs.Parsed.{source_of}
 use Rattle.sbl_tree.specs.Order.{in_order}
@@ -18,9 +18,9 @@ pub returns : goal.returns
 unfolding IsMachineOf
 returns g c made there =
     let s = source_of c.args.script.now in
-    let x = item_of c.args.item.now in
+    let xs = map item_of c.args.items.now in
     let names : c.args.self.now.names ≡ names_of s = made.1 in
     let items = ap (λ is. in_order (view_items is)) c.items.ensures in
-    on_ok c.marks_of.result (marks_of (names_of s) (in_order s.items) x) (AreMarksOf s x)
-    (subst (λ (ns : Names'). IfOk c.marks_of.result (λ m. m ≡ marks_of ns (in_order s.items) x)) names (subst (λ xs. IfOk c.marks_of.result (λ m. m ≡ marks_of c.args.self.now.names xs x)) items c.marks_of.ensures))
-    (are_marks s c.is_spelled.ensures.spelled x there)
+    on_ok c.marks_of.result (marks_of (names_of s) (in_order s.items) xs) (AreMarksOf s xs)
+    (subst (λ (ns : Names'). IfOk c.marks_of.result (λ m. m ≡ marks_of ns (in_order s.items) xs)) names (subst (λ is. IfOk c.marks_of.result (λ m. m ≡ marks_of c.args.self.now.names is xs)) items c.marks_of.ensures))
+    (are_marks s c.is_spelled.ensures.spelled xs there)

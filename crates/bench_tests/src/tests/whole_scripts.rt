@@ -1,0 +1,251 @@
+//! Whole scripts as edits, with the rows and the count of runs after each.
+
+use crate::tests::bench::{bench_of, rows_shown};
+use sbl_bench::{Bench, EditFault, ScriptFault};
+use sbl_script::Script;
+use std::alloc::Global;
+use std::process::Abort;
+use std::test::Fail;
+
+const WORDS: [&str; 4] = ["xyb", "ab", "xb", "q"];
+
+/// The rows of these words under `FIRST`.
+const ROWS: &str = "xyb xb;ab a;xb b;q ;";
+
+/// Two groupings are built from `v`. `xyb` tests `u`, `xb` tests `u` and `w`, `q` tests `w`, and `ab` tests none of them, but is
+/// the only word that searches the among.
+const FIRST: &str = "groupings ( v w u )
+routines ( head tail )
+externals ( stem )
+define v 'a'
+define w v + 'b'
+define u v + 'y'
+define head as ( [ u ] delete )
+define tail as ( [ among ( 'b' () 'c' () ) ] delete )
+define stem as ( 'x' head ) or ( 'a' tail ) or ( [ non w ] delete )
+";
+
+/// The first script in another layout, with comments.
+const LAID_OUT: &str = "// the groupings
+groupings(v w u)routines(head tail)externals(stem)
+define v'a' /* and */ define w v+'b'
+define u v+'y' define head as([u]delete)
+define tail as([among('b'()'c'())]delete)
+define stem as('x'head)or('a'tail)or([non w]delete)";
+
+/// `head` takes nothing off.
+const OTHER_ROUTINE: &str = "groupings ( v w u )
+routines ( head tail )
+externals ( stem )
+define v 'a'
+define w v + 'b'
+define u v + 'y'
+define head as ( u )
+define tail as ( [ among ( 'b' () 'c' () ) ] delete )
+define stem as ( 'x' head ) or ( 'a' tail ) or ( [ non w ] delete )
+";
+
+/// And the among of `tail` puts an `e` after a `b`.
+const OTHER_AMONG: &str = "groupings ( v w u )
+routines ( head tail )
+externals ( stem )
+define v 'a'
+define w v + 'b'
+define u v + 'y'
+define head as ( u )
+define tail as ( [ among ( 'b' ( attach 'e' ) 'c' () ) ] delete )
+define stem as ( 'x' head ) or ( 'a' tail ) or ( [ non w ] delete )
+";
+
+/// And `v` has a `q`.
+const OTHER_GROUPING: &str = "groupings ( v w u )
+routines ( head tail )
+externals ( stem )
+define v 'aq'
+define w v + 'b'
+define u v + 'y'
+define head as ( u )
+define tail as ( [ among ( 'b' ( attach 'e' ) 'c' () ) ] delete )
+define stem as ( 'x' head ) or ( 'a' tail ) or ( [ non w ] delete )
+";
+
+/// `head` and the among of `tail` are the first ones again.
+const TWO_ITEMS: &str = "groupings ( v w u )
+routines ( head tail )
+externals ( stem )
+define v 'aq'
+define w v + 'b'
+define u v + 'y'
+define head as ( [ u ] delete )
+define tail as ( [ among ( 'b' () 'c' () ) ] delete )
+define stem as ( 'x' head ) or ( 'a' tail ) or ( [ non w ] delete )
+";
+
+/// `u` is before `w`.
+const MOVED: &str = "groupings ( v w u )
+routines ( head tail )
+externals ( stem )
+define v 'aq'
+define u v + 'y'
+define w v + 'b'
+define head as ( [ u ] delete )
+define tail as ( [ among ( 'b' () 'c' () ) ] delete )
+define stem as ( 'x' head ) or ( 'a' tail ) or ( [ non w ] delete )
+";
+
+/// And an integer is declared.
+const DECLARED: &str = "groupings ( v w u )
+routines ( head tail )
+externals ( stem )
+integers ( n )
+define v 'aq'
+define u v + 'y'
+define w v + 'b'
+define head as ( [ u ] delete )
+define tail as ( [ among ( 'b' () 'c' () ) ] delete )
+define stem as ( 'x' head ) or ( 'a' tail ) or ( [ non w ] delete )
+";
+
+const OTHER_EXTERNAL: &str = "externals ( other ) define other as next";
+
+/// A whole script, what the edit answers (nothing if it is accepted), the rows after it, and the count of runs.
+type Row<'a> = (&'a str, &'a str, &'a str, u64);
+
+/// Replaces the script once.
+fn replaces_one(rt: &impl Abort, alloc: Global, bench: &mut Bench, row: Row) -> Result<(), Fail> {
+    let (text, answer, rows, runs) = row;
+    match bench.replace_script(text.as_bytes()) {
+        Ok(()) => assert_eq!(rt; "", answer, "{text}"),
+        Err(fault) => {
+            let told = format!(in alloc; "{fault}")?;
+            assert_eq!(rt; told.as_str(), answer, "{text}");
+        }
+    }
+    let shown = rows_shown(alloc, bench)?;
+    assert_eq!(rt; shown.as_str(), rows, "{text}");
+    assert_eq!(rt; bench.runs(), runs, "{text}");
+    Ok(())
+}
+
+/// Replaces the first script by one after another.
+fn replaces(rt: &impl Abort, alloc: Global, rows: &[Row]) -> Result<(), Fail> {
+    let mut bench = bench_of(alloc, FIRST, &WORDS)?;
+    let mut done = Ok(());
+    for row in rows {
+        if done.is_ok() {
+            done = replaces_one(rt, alloc, &mut bench, *row);
+        }
+    }
+    bench.leak();
+    done
+}
+
+#[test]
+fn an_equal_script_runs_nothing(rt: HostRuntime) -> Result<(), Fail> {
+    replaces(
+        &rt,
+        rt.alloc(),
+        &[(FIRST, "", ROWS, 4), (LAID_OUT, "", ROWS, 4)],
+    )
+}
+
+#[test]
+fn a_script_runs_what_met_the_items_that_differ(rt: HostRuntime) -> Result<(), Fail> {
+    replaces(
+        &rt,
+        rt.alloc(),
+        &[
+            (OTHER_ROUTINE, "", "xyb xyb;ab a;xb b;q ;", 6),
+            (OTHER_AMONG, "", "xyb xyb;ab ae;xb b;q ;", 7),
+            (OTHER_GROUPING, "", "xyb xyb;ab ae;xb b;q q;", 10),
+            (TWO_ITEMS, "", "xyb xb;ab a;xb b;q q;", 13),
+        ],
+    )
+}
+
+#[test]
+fn a_script_that_differs_in_more_runs_all(rt: HostRuntime) -> Result<(), Fail> {
+    let rows = "xyb xb;ab a;xb b;q q;";
+    replaces(
+        &rt,
+        rt.alloc(),
+        &[
+            (TWO_ITEMS, "", rows, 7),
+            (MOVED, "", rows, 11),
+            (DECLARED, "", rows, 15),
+        ],
+    )
+}
+
+#[test]
+fn a_refused_script_changes_nothing(rt: HostRuntime) -> Result<(), Fail> {
+    replaces(
+        &rt,
+        rt.alloc(),
+        &[
+            ("define", "48 Syntax", ROWS, 4),
+            (OTHER_EXTERNAL, "48 NoExternal", ROWS, 4),
+            ("", "48 NoExternal", ROWS, 4),
+            (OTHER_ROUTINE, "", "xyb xyb;ab a;xb b;q ;", 6),
+        ],
+    )
+}
+
+// The longest script has 1,048,576 bytes.
+#[test]
+fn a_script_that_is_too_long_changes_nothing(rt: HostRuntime) -> Result<(), Fail> {
+    let alloc = rt.alloc();
+    let text = vec![in alloc; b' '; 1_048_577]?;
+    let mut bench = bench_of(alloc, FIRST, &WORDS)?;
+    let answer = bench.replace_script(text.as_slice());
+    let shown = rows_shown(alloc, &bench);
+    let runs = bench.runs();
+    bench.leak();
+    assert_eq!(rt; answer, Err(EditFault::Script(ScriptFault::ScriptTooLong)));
+    assert_eq!(rt; shown?.as_str(), ROWS);
+    assert_eq!(rt; runs, 4);
+    Ok(())
+}
+
+/// Installs a script, and then the one that was in force.
+fn installs(
+    rt: &impl Abort,
+    alloc: Global,
+    bench: &mut Bench,
+    script: &mut Script,
+    rows: [(&str, u64); 2],
+) -> Result<(), Fail> {
+    for (want, runs) in rows {
+        assert_eq!(rt; bench.install(script), Ok(()));
+        let shown = rows_shown(alloc, bench)?;
+        assert_eq!(rt; shown.as_str(), want);
+        assert_eq!(rt; bench.runs(), runs);
+    }
+    Ok(())
+}
+
+// The two words that enter the routine run each time.
+#[test]
+fn installing_the_script_before_takes_an_edit_back(rt: HostRuntime) -> Result<(), Fail> {
+    let alloc = rt.alloc();
+    let mut script = Script::parse(alloc, OTHER_ROUTINE.as_bytes(), "stem")?;
+    let mut bench = bench_of(alloc, FIRST, &WORDS)?;
+    let rows = [("xyb xyb;ab a;xb b;q ;", 6), (ROWS, 8)];
+    let done = installs(&rt, alloc, &mut bench, &mut script, rows);
+    script.discard();
+    bench.leak();
+    done
+}
+
+// A script under another external differs in more than items.
+#[test]
+fn a_script_under_another_external_runs_all(rt: HostRuntime) -> Result<(), Fail> {
+    let alloc = rt.alloc();
+    let mut script = Script::parse(alloc, OTHER_EXTERNAL.as_bytes(), "other")?;
+    let mut bench = bench_of(alloc, FIRST, &WORDS)?;
+    let rows = [("xyb xyb;ab ab;xb xb;q q;", 8), (ROWS, 12)];
+    let done = installs(&rt, alloc, &mut bench, &mut script, rows);
+    script.discard();
+    bench.leak();
+    done
+}

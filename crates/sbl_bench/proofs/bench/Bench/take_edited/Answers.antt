@@ -1,0 +1,47 @@
+use Rattle.std.proofs.Common.{◌≡◌, ◌∙◌, ◌∷◌, [], true, List, Err, Some, map, inl, ap, sym, refl, subst}
+use Rattle.std.specs.List.{list_all}
+use Rattle.std.proofs.lemmas.Result.{err_from_is_err_and}
+use Rattle.sbl_script.specs.Edits.{ScriptEdit}
+use Rattle.sbl_script.specs.Parsed.{source_of}
+use Rattle.sbl_machine.specs.Marks.{has_item}
+use Rattle.sbl_machine.specs.Touched.{Item', item_of, names_of, replaced}
+use Rattle.sbl_bench.specs.Affected.{AreMet}
+use Rattle.sbl_bench.specs.Changes.{Brings, IsTaken, affected_of}
+use Rattle.sbl_bench.specs.Contents.{Contents}
+use Rattle.sbl_bench.specs.Edits.{Edits, Replace}
+use Rattle.sbl_bench.specs.Kept.{Kept, contents_of, words_in}
+use Rattle.sbl_bench.specs.Setting.{under}
+use Rattle.sbl_bench.specs.declared.fault.EditFault.TheVariants.{OutOfMemory}
+use Rattle.sbl_bench.proofs.Bringing.{edited_brings}
+use Rattle.sbl_bench.proofs.bench.Bench.take_edited.Goals as goal
+
+pub returns-in_err-affected : goal.returns-in_err-affected
+returns-in_err-affected c e text is =
+    let f = err_from_is_err_and c.from_residual.result c.from_residual.ensures.1 in
+    rw (f.1, f.2) (record { wanted = refl; is = inl (is.passes, refl) })
+
+pub take_script-requires : goal.take_script-requires
+take_script-requires c =
+    let e = c.requires.0 in
+    let text = c.requires.1 in
+    let p = source_of c.self.inside.script in
+    let q = source_of c.args.script in
+    let l = c.self.inside.limit in
+    let x = item_of c.args.item.now in
+    let s : Contents = record { setting = under p l; words = words_in c.self.inside.traces.entries; count = c.self.inside.meter } in
+    let a = affected_of c.in_ok-affected.affected in
+    let taken : IsTaken s e text q x = subst (λ (k : Kept). IsTaken (contents_of k) e text q x) (sym c.self.view_is) c.requires.2 in
+    let b : Brings s (Replace e text) (under q l) a = edited_brings c.untouched_stay.ensures c.one_item_alone.ensures.meets c.edits_agree.ensures.there s e text q x taken c.is_well_declared.ensures (map item_of c.from_ref.result.now) (ap (map item_of) c.from_ref.ensures.value) a (c.in_ok-affected.ensures c.self.invariant.0) in
+    (Replace e text, subst (λ (k : Kept). Brings (contents_of k) (Replace e text) (under q k.limit) a) c.self.view_is b)
+
+pub returns : goal.returns
+returns c e text is =
+    let p = source_of c.self.inside.script in
+    let q = source_of c.args.script in
+    let l = c.self.inside.limit in
+    let x = item_of c.args.item.now in
+    let s : Contents = record { setting = under p l; words = words_in c.self.inside.traces.entries; count = c.self.inside.meter } in
+    let a = affected_of c.in_ok-affected.affected in
+    let taken : IsTaken s e text q x = subst (λ (k : Kept). IsTaken (contents_of k) e text q x) (sym c.self.view_is) is in
+    let b : Brings s (Replace e text) (under q l) a = edited_brings c.untouched_stay.ensures c.one_item_alone.ensures.meets c.edits_agree.ensures.there s e text q x taken c.is_well_declared.ensures (map item_of c.from_ref.result.now) (ap (map item_of) c.from_ref.ensures.value) a (c.in_ok-affected.ensures c.self.invariant.0) in
+    c.take_script.ensures.edits (Replace e text) (subst (λ (k : Kept). Brings (contents_of k) (Replace e text) (under q k.limit) a) c.self.view_is b)
