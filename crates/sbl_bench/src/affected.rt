@@ -12,7 +12,6 @@ ghost use Rattle.sbl_machine.specs.Touched.{item_of, names_of};
 ghost use Rattle.sbl_run.specs.Touches.{same_touch};
 ghost use Rattle.sbl_script.specs.Parsed.{source_of};
 
-use sbl_diff::differences;
 use sbl_machine::laws::differing_agree;
 use sbl_machine::{Item, Machine, Table, Touch, Touched, Traced};
 use sbl_script::Script;
@@ -88,4 +87,13 @@ pub(crate) fn is_affected(affected: &Affected, last: &Traced) -> bool
         Affected::Above(steps) => *steps < last.used,
         Affected::Every => true,
     }
+}
+
+/// STAND-IN for `sbl_diff::differences`.
+fn differences(
+    _alloc: Global,
+    _script: &Script,
+    _other: &Script,
+) -> Result<Option<Vec<Item>>, AllocError> {
+    Ok(None)
 }

@@ -14,7 +14,6 @@ pub mod laws;
 mod open;
 mod pairs;
 mod row;
-mod standin;
 mod traces;
 
 pub use bench::{Bench, MAX_LIMIT, MAX_WORD_LENGTH, MAX_WORDS};

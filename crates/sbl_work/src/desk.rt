@@ -1,32 +1,37 @@
-//! A bench at work: its edits can be undone and redone, and its rows are compared with those at a mark.
+//! A desk: what is kept beside a bench at work, so that its edits can be undone and its rows compared with those at a mark.
+ghost use Rattle.std.specs.Prelude.{◌≡◌, [], IfOk, OnErr, OnOk, None, Some, map, string_bytes, true};
+ghost use Rattle.sbl_bench.specs.Edits.{Whole};
+ghost use Rattle.sbl_bench.specs.Kept.{contents_of};
+ghost use Rattle.sbl_print.specs.Canonical.{canonical};
+ghost use Rattle.sbl_sessions.specs.CommandViews.{IsAnswer, view_target};
+ghost use Rattle.sbl_sessions.specs.Commands.{line_command};
+ghost use Rattle.sbl_work.specs.Desks.{Redoes, Undoes, rows_now, state_of, text_in, view_marked, view_text};
+ghost use Rattle.sbl_work.specs.Editing.{IsLimitNoted, IsNoted, Replaces, ReplacesBy, ReplacesPart};
 
 use crate::definitions::without_head;
-use crate::history::{Change, History, exchange};
+use crate::history::{History, HistoryFault, Step, text_of};
 use crate::marks::{MarkedRow, copy_rows};
 use sbl_bench::{Bench, EditFault};
-use sbl_script::{Script, ScriptFault};
+use sbl_script::ScriptFault;
 use sbl_sessions::{Reply, Target, answer_line};
 use std::alloc::{AllocError, Global};
-use std::mem::replace;
 
-/// Why nothing was undone or redone.
-#[derive(Clone, Copy, Debug, PartialEq, Eq)]
-pub enum HistoryFault {
-    /// There is no such edit.
-    Nothing,
-    /// The bench refuses the edit.
-    Edit(EditFault),
-}
-
-/// A bench, the edits of it that can be undone and redone, and its rows at the mark.
+/// What is kept beside a bench at work: the text of its script, the edits that can be undone and redone, and the rows at the
+/// mark. Each function that edits takes the bench of this desk.
 #[derive(Drop)]
 pub struct Desk {
     alloc: Global,
-    bench: Bench,
-    // the text of the script in force; none if that is the canonical text
+    // the text that the script in force was read from, if it was read whole
     text: Option<Vec<u8>>,
     history: History,
     marked: Vec<MarkedRow>,
+}
+
+/// The script before an edit.
+#[derive(Drop)]
+struct Before {
+    text: Vec<u8>,
+    canonical: String,
 }
 
 impl Desk {
@@ -35,120 +40,172 @@ impl Desk {
     /// # Errors
     ///
     /// Returns `AllocError` if an allocation fails.
-    pub fn new(alloc: Global, bench: Bench, text: Vec<u8>) -> Result<Desk, AllocError> {
-        let marked = copy_rows(alloc, &bench)?;
+    pub fn new(alloc: Global, bench: &Bench, text: Vec<u8>) -> Result<Desk, AllocError>
+        ensures { IfOk result (λ d. state_of d ≡ record { text = Some text.items; past = record { earlier = []; later = [] }; marked = rows_now (contents_of bench.now) }) }
+    {
+        let marked = copy_rows(alloc, bench)?;
         let history = History::new(alloc)?;
         Ok(Desk {
             alloc,
-            bench,
             text: Some(text),
             history,
             marked,
         })
     }
 
-    /// Returns the bench.
-    pub fn bench(&self) -> &Bench {
-        &self.bench
-    }
-
-    /// Returns the rows at the mark.
-    pub fn marked(&self) -> &[MarkedRow] {
+    /// Returns the rows at the mark, in vocabulary order.
+    pub fn marked(&self) -> &[MarkedRow]
+        ensures { map view_marked result.now ≡ (state_of self.now).marked }
+    {
         self.marked.as_slice()
     }
 
-    /// Sets the mark: remembers the rows as they are.
+    /// Sets the mark: remembers the rows of the bench as they are.
     ///
     /// # Errors
     ///
-    /// Returns `AllocError` if an allocation fails; then the mark is where it was.
-    pub fn mark(&mut self) -> Result<(), AllocError> {
-        self.marked = copy_rows(self.alloc, &self.bench)?;
+    /// Returns `AllocError` if an allocation fails; then the desk is unchanged.
+    pub fn mark(&mut self, bench: &Bench) -> Result<(), AllocError>
+        ensures marked { OnOk result (state_of self.new ≡ record (state_of self.old) { marked = rows_now (contents_of bench.now) }) }
+        ensures kept { OnErr result (state_of self.new ≡ state_of self.old) }
+    {
+        self.marked = copy_rows(self.alloc, bench)?;
         Ok(())
     }
 
-    /// Makes the edit or the report of a session that a line without a block asks for, and returns the reply. Remembers the limit
-    /// before if the edit changed it.
-    pub fn answer(&mut self, alloc: Global, line: &[u8]) -> Reply {
-        let before = self.bench.limit();
-        let reply = answer_line(alloc, &mut self.bench, line);
-        if before != self.bench.limit() {
-            self.history.remember(Change::Limit(before));
+    /// Makes the edit or the report of a session that a line without a block asks for, and returns the reply. If the edit
+    /// changed the limit, the limit before is remembered.
+    pub fn answer(&mut self, bench: &mut Bench, line: &[u8]) -> Reply
+        ensures answered { IsAnswer (contents_of bench.old) (line_command line.now) result (contents_of bench.new) }
+        ensures noted { IsLimitNoted (contents_of bench.old) (contents_of bench.new) (state_of self.old) (state_of self.new) }
+    {
+        let before = bench.limit();
+        let reply = answer_line(self.alloc, bench, line);
+        if before != bench.limit() {
+            self.history.remember(Step::Limit(before));
         }
         reply
     }
 
-    /// Replaces the whole script, as `Bench::replace_script` does.
-    pub fn replace(&mut self, text: &[u8]) -> Result<(), EditFault> {
+    /// Returns the script before an edit. Returns `AllocError` if an allocation fails.
+    fn before(&self, bench: &Bench) -> Result<Before, AllocError>
+        ensures text { IfOk result (λ b. b.text.items ≡ text_in (contents_of bench.now) (view_text self.now.text)) }
+        ensures canonical { IfOk result (λ b. string_bytes b.canonical ≡ canonical (contents_of bench.now).setting.script.items) }
+    {
+        let text = text_of(self.alloc, bench, &self.text)?;
+        let canonical = bench.script().print(self.alloc)?;
+        Ok(Before { text, canonical })
+    }
+
+    /// Notes that the script was edited, with its text. Remembers the text before unless the canonical text is the same.
+    fn note(&mut self, bench: &Bench, before: Before, text: Option<Vec<u8>>) {
+        self.text = text;
+        if has_canonical(self.alloc, bench, before.canonical.as_str()) {
+            return;
+        }
+        self.history.remember(Step::Text(before.text));
+    }
+
+    /// Replaces the whole script, as `Bench::replace_script` does, and remembers the edit if it changed the script.
+    ///
+    /// # Errors
+    ///
+    /// Returns the faults of `Bench::replace_script`. Then the desk is unchanged.
+    pub fn replace(&mut self, bench: &mut Bench, text: &[u8]) -> Result<(), EditFault>
+        ensures { Replaces result (Whole text.now) (Some text.now) (contents_of bench.old) (state_of self.old) (contents_of bench.new) (state_of self.new) }
+    {
         let kept = Vec::from_slice(self.alloc, text)?;
-        let before = self.bench.exchange_script(text)?;
-        self.note(before, Some(kept));
+        let before = self.before(bench)?;
+        bench.replace_script(text)?;
+        self.note(bench, before, Some(kept));
         Ok(())
     }
 
-    /// Replaces a part of the script by a text.
-    pub fn replace_part(&mut self, target: &Target, text: &[u8]) -> Result<(), EditFault> {
+    /// Replaces a part of the script by a text, and remembers the edit if it changed the script. If the text for a routine
+    /// begins with `define NAME as`, or the text for a grouping with `define NAME`, what follows these tokens is taken.
+    ///
+    /// # Errors
+    ///
+    /// Returns `Script` with `NotUtf8` if the text is not UTF-8, and the faults of `Bench::replace_routine`,
+    /// `Bench::replace_among` and `Bench::replace_grouping`. Returns `OutOfMemory` if an allocation fails. Then the desk is
+    /// unchanged.
+    pub fn replace_part(
+        &mut self,
+        bench: &mut Bench,
+        target: &Target,
+        text: &[u8],
+    ) -> Result<(), EditFault>
+        ensures { ReplacesBy result (view_target target.now) text.now (contents_of bench.old) (state_of self.old) (contents_of bench.new) (state_of self.new) }
+    {
         let Ok(text) = str::from_utf8(text) else {
             return Err(EditFault::Script(ScriptFault::NotUtf8));
         };
         let text = without_head(self.alloc, target, text)?;
-        let before = match target {
-            Target::Body(name) => self.bench.exchange_routine(name.as_str(), text)?,
-            Target::Among(name, k) => self.bench.exchange_among(name.as_str(), *k, text)?,
-            Target::Terms(name) => self.bench.exchange_grouping(name.as_str(), text)?,
-        };
-        self.note(before, None);
-        Ok(())
+        self.replace_part_by(bench, target, text)
     }
 
-    /// Notes that a script with this text is in force now, and remembers the script before if it was another one.
-    fn note(&mut self, before: Script, text: Option<Vec<u8>>) {
-        let text_before = replace(&mut self.text, text);
-        if is_known_same(self.alloc, &before, self.bench.script()) {
-            before.discard();
-            return;
+    /// Replaces a part of the script by a text, as `replace_part` does, and takes the whole text.
+    fn replace_part_by(
+        &mut self,
+        bench: &mut Bench,
+        target: &Target,
+        text: &str,
+    ) -> Result<(), EditFault>
+        ensures { ReplacesPart result (view_target target.now) text.now (contents_of bench.old) (state_of self.old) (contents_of bench.new) (state_of self.new) }
+    {
+        let before = self.before(bench)?;
+        match target {
+            Target::Body(name) => bench.replace_routine(name.as_str(), text)?,
+            Target::Among(name, k) => bench.replace_among(name.as_str(), *k, text)?,
+            Target::Terms(name) => bench.replace_grouping(name.as_str(), text)?,
         }
-        self.history.remember(Change::Script(before, text_before));
+        self.note(bench, before, None);
+        Ok(())
     }
 
-    /// Undoes the latest edit of the script or limit that changed it.
-    pub fn undo(&mut self) -> Result<(), HistoryFault> {
-        let Some(change) = self.history.last() else {
-            return Err(HistoryFault::Nothing);
-        };
-        exchange(&mut self.bench, &mut self.text, change).map_err(HistoryFault::Edit)?;
-        self.history.step_back();
-        Ok(())
+    /// Undoes the latest edit that changed the script or the limit. The vocabulary stays as it is.
+    ///
+    /// # Errors
+    ///
+    /// Returns `Nothing` if there is none, and `Edit` with the fault of the bench: `MeterFull` or `OutOfMemory`, or `Script`
+    /// with `ScriptTooLong` if the script before was made by an edit of a part and its canonical text has more than 1,048,576
+    /// bytes. Then nothing changes but, maybe, the count of runs.
+    pub fn undo(&mut self, bench: &mut Bench) -> Result<(), HistoryFault>
+        ensures { Undoes result (contents_of bench.old) (state_of self.old) (contents_of bench.new) (state_of self.new) }
+    {
+        self.history.undo(self.alloc, bench, &mut self.text)
     }
 
     /// Redoes the edit that was undone last.
-    pub fn redo(&mut self) -> Result<(), HistoryFault> {
-        let Some(change) = self.history.next() else {
-            return Err(HistoryFault::Nothing);
-        };
-        exchange(&mut self.bench, &mut self.text, change).map_err(HistoryFault::Edit)?;
-        self.history.step_on();
-        Ok(())
+    ///
+    /// # Errors
+    ///
+    /// As `undo`.
+    pub fn redo(&mut self, bench: &mut Bench) -> Result<(), HistoryFault>
+        ensures { Redoes result (contents_of bench.old) (state_of self.old) (contents_of bench.new) (state_of self.new) }
+    {
+        self.history.redo(self.alloc, bench, &mut self.text)
     }
 
-    /// Returns the text of the script in force.
-    pub fn text(&self) -> Result<Vec<u8>, AllocError> {
-        match &self.text {
-            Some(text) => Vec::from_slice(self.alloc, text.as_slice()),
-            None => Ok(self.bench.script().print(self.alloc)?.into_bytes()),
-        }
-    }
-
-    /// Ends the use of the desk without freeing the memory of its bench.
-    pub fn leak(self) {
-        self.bench.leak();
+    /// Returns the text of the script in force: the bytes that it was read from, or its canonical text after an edit of a part
+    /// of it.
+    ///
+    /// # Errors
+    ///
+    /// Returns `AllocError` if an allocation fails.
+    pub fn text(&self, bench: &Bench) -> Result<Vec<u8>, AllocError>
+        ensures { IfOk result (λ t. t.items ≡ text_in (contents_of bench.now) (state_of self.now).text) }
+    {
+        text_of(self.alloc, bench, &self.text)
     }
 }
 
-/// Whether two scripts are known to be the same; false also if an allocation fails.
-fn is_known_same(alloc: Global, one: &Script, other: &Script) -> bool {
-    match one.is_same(alloc, other) {
-        Ok(same) => same,
+/// Whether the script of a bench is known to have this canonical text; false also if an allocation fails.
+fn has_canonical(alloc: Global, bench: &Bench, text: &str) -> bool
+    ensures { result ≡ true → canonical (contents_of bench.now).setting.script.items ≡ text.now }
+{
+    match bench.script().print(alloc) {
+        Ok(canonical) => canonical.as_str() == text,
         Err(_) => false,
     }
 }

@@ -1,14 +1,12 @@
 //! The files of work: the script and the words, and files that the script is saved in.
 
-use crate::desk::Desk;
 use crate::words::words_in;
 use sbl_bench::Bench;
 use sbl_script::Script;
 use sbl_sessions::LoadFault;
 use std::alloc::{AllocError, Global};
-use std::fs;
-use std::io;
 use std::rt::Files;
+use std::{fs, io};
 
 /// The files of work, and the external that is run.
 #[derive(Debug, Drop)]
@@ -46,10 +44,7 @@ impl From<AllocError> for OpenFault {
 fn read_named<F: Files + AllocGlobal>(files: &F, path: &str) -> Result<Vec<u8>, OpenFault> {
     match fs::read(files, path) {
         Ok(bytes) => Ok(bytes),
-        Err(error) => Err(OpenFault::File(
-            String::from_str(files.alloc(), path)?,
-            error,
-        )),
+        Err(error) => Err(OpenFault::File(String::from_str(files.alloc(), path)?, error)),
     }
 }
 
@@ -82,16 +77,15 @@ fn bench_of(
     }
 }
 
-/// Reads the files and opens the desk. Returns it with the bytes of the script.
+/// Reads the files and opens the bench. Returns it with the bytes of the script.
 pub(crate) fn open<F: Files + AllocGlobal>(
     files: &F,
     paths: &Paths,
-) -> Result<(Desk, Vec<u8>), OpenFault> {
+) -> Result<(Bench, Vec<u8>), OpenFault> {
     let text = read_named(files, paths.script.as_str())?;
     let words = read_words(files, paths)?;
     let bench = bench_of(files.alloc(), &text, paths.external.as_str(), words)?;
-    let seen = Vec::from_slice(files.alloc(), &text)?;
-    Ok((Desk::new(files.alloc(), bench, text)?, seen))
+    Ok((bench, text))
 }
 
 /// Whether a file has exactly these bytes.

@@ -1,89 +1,192 @@
 //! The edits that can be undone and redone.
+ghost use Rattle.std.specs.Prelude.{◌≡◌, ◌≤◌, ◌<◌, ◌+◌, ℕ, List, [], length, map, IfOk, OnOk, OnErr, vec_len, vec_capacity};
+ghost use Rattle.sbl_bench.specs.Edits.{Edits};
+ghost use Rattle.sbl_bench.specs.Kept.{contents_of};
+ghost use Rattle.sbl_work.specs.Desks.{Turns, back, past_of, text_after, text_in, view_step, view_text};
+ghost use Rattle.sbl_work.specs.History.{ToLimit, ToText, edit_of, remembered};
 
 use sbl_bench::{Bench, EditFault};
-use sbl_script::Script;
 use std::alloc::{AllocError, Global};
-use std::mem::swap;
+use std::mem::replace;
 
 /// The maximum number of edits that can be undone or redone.
-const MAX_CHANGES: usize = 100;
+const MAX_STEPS: usize = 100;
 
-/// A change of the setting of a bench: the script or limit that it puts into force.
-#[derive(Drop)]
-pub(crate) enum Change {
-    /// A script, with the text that it was read from; `None` for its canonical text.
-    Script(Script, Option<Vec<u8>>),
+/// Why nothing was undone or redone.
+#[derive(Clone, Copy, Debug, PartialEq, Eq)]
+pub enum HistoryFault {
+    /// There is no such edit.
+    Nothing,
+    /// The bench refuses the edit.
+    Edit(EditFault),
+}
+
+/// What an edit is undone or redone by.
+#[derive(Debug, Drop)]
+pub enum Step {
+    /// A text of the whole script.
+    Text(Vec<u8>),
     /// A limit of steps.
     Limit(u32),
 }
 
-/// The changes of a bench: those that undo the edits that are in force, the latest last, and then those that redo the edits
-/// that were undone, the next one first.
-#[derive(Drop)]
-pub(crate) struct History {
-    changes: Vec<Change>,
-    done: usize,
+/// The edits that can be undone and redone: at most 100 together.
+#[derive(Debug, Drop)]
+pub struct History {
+    // the latest edit is the last
+    earlier: Vec<Step>,
+    // the next edit is the last
+    later: Vec<Step>,
+    ghost few: { vec_len earlier + vec_len later ≤ 100 },
+    ghost room: { 100 ≤ vec_capacity earlier },
+    ghost later_room: { 100 ≤ vec_capacity later },
 }
 
 impl History {
-    /// Returns an empty history. Returns `AllocError` if an allocation fails; nothing else allocates.
-    pub(crate) fn new(alloc: Global) -> Result<History, AllocError> {
-        Ok(History {
-            changes: Vec::with_capacity(alloc, MAX_CHANGES)?,
-            done: 0,
-        })
+    ghost use Rattle.std.specs.Prelude.{◌++◌, ◌∷◌};
+
+    /// Returns an empty history. Returns `AllocError` if an allocation fails; later calls allocate nothing for the history.
+    pub(crate) fn new(alloc: Global) -> Result<History, AllocError>
+        ensures { IfOk result (λ h. past_of h ≡ record { earlier = []; later = [] }) }
+    {
+        let earlier = Vec::with_capacity(alloc, MAX_STEPS)?;
+        let later = Vec::with_capacity(alloc, MAX_STEPS)?;
+        Ok(History { earlier, later })
     }
 
-    /// Remembers the change that undoes an edit. Forgets the edits that were undone, and the oldest one if there are 100.
-    pub(crate) fn remember(&mut self, change: Change) {
-        self.changes.truncate(self.done);
-        if self.changes.len() >= MAX_CHANGES {
-            let _oldest = self.changes.remove(0);
+    /// Remembers the step that undoes an edit. Forgets the edits that were undone, and the oldest one if there are 100.
+    pub(crate) fn remember(&mut self, step: Step)
+        ensures { past_of self.new ≡ remembered (past_of self.old) (view_step step) }
+    {
+        self.later.clear();
+        if self.earlier.len() >= MAX_STEPS {
+            let _oldest = self.earlier.remove(0);
         }
-        let _pushed = self.changes.push(change);
-        self.done = self.changes.len();
+        self.earlier.push_reserved(step);
     }
 
-    /// Returns the change that undoes the latest edit; `None` if there is none.
-    pub(crate) fn last(&mut self) -> Option<&mut Change> {
-        let at = self.done.checked_sub(1)?;
-        self.changes.get_mut(at)
+    /// Undoes the latest edit.
+    ///
+    /// # Errors
+    ///
+    /// Returns `Nothing` if there is none, and `Edit` with the fault of the bench. Then nothing changes but, maybe, the count
+    /// of runs.
+    pub(crate) fn undo(
+        &mut self,
+        alloc: Global,
+        bench: &mut Bench,
+        text: &mut Option<Vec<u8>>,
+    ) -> Result<(), HistoryFault>
+        ensures { Turns result (contents_of bench.old) (contents_of bench.new) (view_text text.old) (view_text text.new) (past_of self.old).earlier (past_of self.old).later (past_of self.new).earlier (past_of self.new).later }
+    {
+        turn(alloc, bench, text, &mut self.earlier, &mut self.later)
     }
 
-    /// Returns the change that redoes the next edit; `None` if there is none.
-    pub(crate) fn next(&mut self) -> Option<&mut Change> {
-        self.changes.get_mut(self.done)
+    /// Redoes the edit that was undone last.
+    ///
+    /// # Errors
+    ///
+    /// Returns `Nothing` if there is none, and `Edit` with the fault of the bench. Then nothing changes but, maybe, the count
+    /// of runs.
+    pub(crate) fn redo(
+        &mut self,
+        alloc: Global,
+        bench: &mut Bench,
+        text: &mut Option<Vec<u8>>,
+    ) -> Result<(), HistoryFault>
+        ensures { Turns result (contents_of bench.old) (contents_of bench.new) (view_text text.old) (view_text text.new) (past_of self.old).later (past_of self.old).earlier (past_of self.new).later (past_of self.new).earlier }
+    {
+        turn(alloc, bench, text, &mut self.later, &mut self.earlier)
     }
+}
 
-    /// Notes that the latest edit was undone.
-    pub(crate) fn step_back(&mut self) {
-        self.done = self.done.saturating_sub(1);
-    }
-
-    /// Notes that the next edit was redone.
-    pub(crate) fn step_on(&mut self) {
-        if self.done < self.changes.len() {
-            self.done += 1;
+/// Makes the last of the steps `from`, and appends the step that takes it back to `to`.
+fn turn(
+    alloc: Global,
+    bench: &mut Bench,
+    text: &mut Option<Vec<u8>>,
+    from: &mut Vec<Step>,
+    to: &mut Vec<Step>,
+) -> Result<(), HistoryFault>
+    requires few { vec_len from.old + vec_len to.old ≤ 100 }
+    requires room { 100 ≤ vec_capacity from.old }
+    requires to_room { 100 ≤ vec_capacity to.old }
+    ensures turns { Turns result (contents_of bench.old) (contents_of bench.new) (view_text text.old) (view_text text.new) (map view_step from.old.items) (map view_step to.old.items) (map view_step from.new.items) (map view_step to.new.items) }
+    ensures few { vec_len from.new + vec_len to.new ≡ vec_len from.old + vec_len to.old }
+    ensures room { vec_capacity from.new ≡ vec_capacity from.old }
+    ensures to_room { vec_capacity to.new ≡ vec_capacity to.old }
+{
+    let Some(mut step) = from.pop() else {
+        return Err(HistoryFault::Nothing);
+    };
+    match exchange(alloc, bench, text, &mut step) {
+        Ok(()) => {
+            to.push_reserved(step);
+            Ok(())
+        }
+        Err(fault) => {
+            from.push_reserved(step);
+            Err(HistoryFault::Edit(fault))
         }
     }
 }
 
-/// Exchanges what is in force for what the change has. Returns the fault of the bench; then both are unchanged.
-pub(crate) fn exchange(
+/// Puts into force what a step has. Then the step has what was in force before.
+fn exchange(
+    alloc: Global,
     bench: &mut Bench,
     text: &mut Option<Vec<u8>>,
-    change: &mut Change,
-) -> Result<(), EditFault> {
-    match change {
-        Change::Script(script, other) => {
-            bench.install(script)?;
-            swap(text, other);
-        }
-        Change::Limit(limit) => {
-            let before = bench.limit();
-            bench.set_limit(u64::from(*limit))?;
-            *limit = before;
-        }
+    step: &mut Step,
+) -> Result<(), EditFault>
+    ensures edits { Edits result (contents_of bench.old) (edit_of (view_step step.old)) (contents_of bench.new) }
+    ensures exchanged { OnOk result ((view_step step.new ≡ back (contents_of bench.old) (view_text text.old) (view_step step.old)) × (view_text text.new ≡ text_after (view_text text.old) (view_step step.old))) }
+    ensures kept { OnErr result ((step.new ≡ step.old) × (text.new ≡ text.old)) }
+{
+    match step {
+        Step::Text(other) => exchange_text(alloc, bench, text, other),
+        Step::Limit(limit) => exchange_limit(bench, limit),
     }
+}
+
+/// Replaces the whole script by a text. Then `other` has the text that was in force before.
+fn exchange_text(
+    alloc: Global,
+    bench: &mut Bench,
+    text: &mut Option<Vec<u8>>,
+    other: &mut Vec<u8>,
+) -> Result<(), EditFault>
+    ensures edits { Edits result (contents_of bench.old) (edit_of (ToText other.old.items)) (contents_of bench.new) }
+    ensures exchanged { OnOk result ((other.new.items ≡ text_in (contents_of bench.old) (view_text text.old)) × (view_text text.new ≡ Some other.old.items)) }
+    ensures kept { OnErr result ((other.new ≡ other.old) × (text.new ≡ text.old)) }
+{
+    let before = text_of(alloc, bench, text)?;
+    bench.replace_script(other)?;
+    *text = Some(replace(other, before));
     Ok(())
+}
+
+/// Sets the limit. Then `limit` is the limit before.
+fn exchange_limit(bench: &mut Bench, limit: &mut u32) -> Result<(), EditFault>
+    ensures edits { Edits result (contents_of bench.old) (edit_of (ToLimit limit.old)) (contents_of bench.new) }
+    ensures exchanged { OnOk result (limit.new ≡ (contents_of bench.old).setting.limit) }
+    ensures kept { OnErr result (limit.new ≡ limit.old) }
+{
+    let before = bench.limit();
+    bench.set_limit(u64::from(*limit))?;
+    *limit = before;
+    Ok(())
+}
+
+/// Returns the text of the script in force. Returns `AllocError` if an allocation fails.
+pub(crate) fn text_of(
+    alloc: Global,
+    bench: &Bench,
+    text: &Option<Vec<u8>>,
+) -> Result<Vec<u8>, AllocError>
+    ensures { IfOk result (λ t. t.items ≡ text_in (contents_of bench.now) (view_text text.now)) }
+{
+    match text {
+        Some(text) => Vec::from_slice(alloc, text),
+        None => Ok(bench.script().print(alloc)?.into_bytes()),
+    }
 }

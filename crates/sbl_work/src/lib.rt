@@ -13,7 +13,8 @@ mod serving;
 mod standin;
 mod words;
 
-pub use desk::{Desk, HistoryFault};
+pub use desk::Desk;
 pub use files::Paths;
+pub use history::HistoryFault;
 pub use marks::MarkedRow;
 pub use serving::work;

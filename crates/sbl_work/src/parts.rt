@@ -2,7 +2,7 @@
 
 use crate::desk::Desk;
 use crate::replies::edit_reply;
-use sbl_bench::EditFault;
+use sbl_bench::{Bench, EditFault};
 use sbl_lines::{Lines, ServeFault, Source};
 use sbl_script::ScriptFault;
 use sbl_sessions::{
@@ -20,25 +20,31 @@ fn text_of(block: BlockText) -> Result<Vec<u8>, EditFault> {
 }
 
 /// Replaces the whole script by the text of a block.
-fn replace_by(desk: &mut Desk, block: BlockText) -> Result<(), EditFault> {
+fn replace_by(desk: &mut Desk, bench: &mut Bench, block: BlockText) -> Result<(), EditFault> {
     let text = text_of(block)?;
-    desk.replace(&text)
+    desk.replace(bench, &text)
 }
 
 /// Replaces a part of the script by the text of a block.
-fn replace_part_by(desk: &mut Desk, target: &Target, block: BlockText) -> Result<(), EditFault> {
+fn replace_part_by(
+    desk: &mut Desk,
+    bench: &mut Bench,
+    target: &Target,
+    block: BlockText,
+) -> Result<(), EditFault> {
     let text = text_of(block)?;
-    desk.replace_part(target, &text)
+    desk.replace_part(bench, target, &text)
 }
 
 /// Makes the edit that a line and its block ask for, and returns the reply. A bad line is refused, whatever its block is.
 fn edit_part(
     desk: &mut Desk,
+    bench: &mut Bench,
     target: Result<Option<Target>, AllocError>,
     block: BlockText,
 ) -> Reply {
     match target {
-        Ok(Some(target)) => edit_reply(replace_part_by(desk, &target, block)),
+        Ok(Some(target)) => edit_reply(replace_part_by(desk, bench, &target, block)),
         Ok(None) => Reply::Fixed(BAD_COMMAND),
         Err(_) => edit_reply(Err(EditFault::OutOfMemory)),
     }
@@ -47,17 +53,19 @@ fn edit_part(
 /// Reads the block of the current line, which has this block word, makes the edit, and returns the reply.
 pub(crate) fn answer_part<R: Source + Drop>(
     desk: &mut Desk,
+    bench: &mut Bench,
     lines: &mut Lines<R>,
     word: BlockWord,
 ) -> Result<Reply, ServeFault> {
     let target = target_of(lines.alloc(), word, lines.line());
     let block = read_block(lines)?;
-    Ok(edit_part(desk, target, block))
+    Ok(edit_part(desk, bench, target, block))
 }
 
 /// Reads the block of `replace`, makes the edit, and returns the reply. A bad line is refused, whatever its block is.
 pub(crate) fn answer_replace<R: Source + Drop>(
     desk: &mut Desk,
+    bench: &mut Bench,
     lines: &mut Lines<R>,
     is_good: bool,
 ) -> Result<Reply, ServeFault> {
@@ -65,5 +73,5 @@ pub(crate) fn answer_replace<R: Source + Drop>(
     if !is_good {
         return Ok(Reply::Fixed(BAD_COMMAND));
     }
-    Ok(edit_reply(replace_by(desk, block)))
+    Ok(edit_reply(replace_by(desk, bench, block)))
 }

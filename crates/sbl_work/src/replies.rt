@@ -1,6 +1,6 @@
 //! The replies of work that a session does not have.
 
-use crate::desk::HistoryFault;
+use crate::history::HistoryFault;
 use sbl_bench::EditFault;
 use sbl_sessions::{Reply, edit_text};
 use std::alloc::AllocError;

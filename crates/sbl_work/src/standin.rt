@@ -1,6 +1,7 @@
 //! STAND-IN for the rows of `changes`, `stats` and `largest`, until the branch `changes` is merged.
 
 use crate::desk::Desk;
+use sbl_bench::Bench;
 use std::alloc::{AllocError, Global};
 
 /// STAND-IN
@@ -21,19 +22,23 @@ pub(crate) fn number_in(digits: &[u8]) -> Option<u64> {
 }
 
 /// STAND-IN
-pub(crate) fn changes_text(alloc: Global, desk: &Desk) -> Result<Vec<u8>, AllocError> {
+pub(crate) fn changes_text(
+    alloc: Global,
+    desk: &Desk,
+    bench: &Bench,
+) -> Result<Vec<u8>, AllocError> {
     Vec::from_slice(alloc, b"changes\n")
 }
 
 /// STAND-IN
-pub(crate) fn stats_text(alloc: Global, desk: &Desk) -> Result<Vec<u8>, AllocError> {
+pub(crate) fn stats_text(alloc: Global, bench: &Bench) -> Result<Vec<u8>, AllocError> {
     Vec::from_slice(alloc, b"stats\n")
 }
 
 /// STAND-IN
 pub(crate) fn largest_text(
     alloc: Global,
-    desk: &Desk,
+    bench: &Bench,
     number: u64,
 ) -> Result<Vec<u8>, AllocError> {
     Vec::from_slice(alloc, b"largest\n")

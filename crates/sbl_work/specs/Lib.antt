@@ -1,0 +1,4 @@
+-- definitions that public contracts depend on
+pub mod History
+pub mod Desks
+pub mod Editing
