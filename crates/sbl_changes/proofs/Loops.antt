@@ -1,0 +1,40 @@
+-- Steps of loops over slices.
+use Rattle.std.proofs.Common.{◌≡◌, ◌∙◌, ◌+◌, ◌<◌, ◌++◌, ℕ, suc, List, [], ◌∷◌, map, drop, length, Option, Some, None, get_or, add-one, append_assoc, refl, sym, ap}
+use Rattle.std.specs.List.{cons_option, filter_map}
+use Rattle.std.specs.Option.{option_to_list}
+use Rattle.std.proofs.Math.Seq.{drop-cons}
+use Rattle.sbl_changes.specs.declared.rows.WordRow.{WordRow}
+use Rattle.sbl_changes.specs.declared.rows.WordOutcome.TheVariants as code
+
+-- the row past the end
+abbrev pub no_row : WordRow
+no_row = record { word = record { ref_ptr = (0, 0); now = [] }; outcome = code.Stem (record { ref_ptr = (0, 0); now = [] }) }
+
+pub next : {D V : Type 0} (view : D → V) (xs : List D) (i : ℕ) (d x : D) → i < length xs → x ≡ get_or xs i d → map view (drop i xs) ≡ view x ∷ map view (drop (i + 1) xs)
+next view xs i d x lt is =
+    ap (map view) (drop-cons xs i d lt) ∙ ap (λ y. view y ∷ map view (drop (suc i) xs)) (sym is) ∙ ap (λ k. view x ∷ map view (drop k xs)) (sym (add-one i))
+
+put_option : {C : Type 0} (o : Option C) (xs : List C) → option_to_list o ++ xs ≡ cons_option o xs
+put_option None xs = refl
+put_option (Some x) xs = refl
+
+-- one item more of a list that `h` makes
+pub step : {D V C : Type 0} (h : V → Option C) (view : D → V) (xs : List D) (i : ℕ) (d x : D) (old new goal : List C)
+    → i < length xs → x ≡ get_or xs i d → new ≡ old ++ option_to_list (h (view x))
+    → old ++ filter_map h (map view (drop i xs)) ≡ goal → new ++ filter_map h (map view (drop (i + 1) xs)) ≡ goal
+step h view xs i d x old new goal lt is more so_far =
+    ap (λ l. l ++ filter_map h (map view (drop (i + 1) xs))) more
+    ∙ append_assoc old (option_to_list (h (view x))) (filter_map h (map view (drop (i + 1) xs)))
+    ∙ ap (λ l. old ++ l) (put_option (h (view x)) (filter_map h (map view (drop (i + 1) xs))))
+    ∙ ap (λ l. old ++ filter_map h l) (sym (next view xs i d x lt is))
+    ∙ so_far
+
+-- one item more of a list that `f` makes
+pub step_map : {D V C : Type 0} (f : V → C) (view : D → V) (xs : List D) (i : ℕ) (d x : D) (old new goal : List C)
+    → i < length xs → x ≡ get_or xs i d → new ≡ old ++ f (view x) ∷ []
+    → old ++ map f (map view (drop i xs)) ≡ goal → new ++ map f (map view (drop (i + 1) xs)) ≡ goal
+step_map f view xs i d x old new goal lt is more so_far =
+    ap (λ l. l ++ map f (map view (drop (i + 1) xs))) more
+    ∙ append_assoc old (f (view x) ∷ []) (map f (map view (drop (i + 1) xs)))
+    ∙ ap (λ l. old ++ map f l) (sym (next view xs i d x lt is))
+    ∙ so_far

@@ -1,0 +1,91 @@
+-- What two lists of rows have different.
+use Rattle.std.specs.Prelude.{ℕ, Bool, true, false, ◌&&◌, List, [], ◌∷◌, ◌++◌, map, Option, Some, None, if◌then◌else◌}
+use Rattle.std.specs.List.{filter_map, list_any}
+use Rattle.std.specs.Str.{bytes_eq}
+use Rattle.sbl_changes.specs.declared.change.ChangeRow.{ChangeRow}
+use Rattle.sbl_changes.specs.declared.change.ChangeRow.TheVariants as code
+use Rattle.sbl_changes.specs.Rows.{Outcome, Row, outcome_in, same_outcome, texts_of, view_outcome}
+use Rattle.sbl_changes.specs.Classes.{Class, Pair}
+use Rattle.sbl_changes.specs.Moves.{moves_of, new_classes, old_classes}
+
+pub data Change : Type 0 where
+  Added : List ℕ → Change
+  Removed : List ℕ → Change
+  Changed : List ℕ → Outcome → Outcome → Change
+  Split : List ℕ → List (List ℕ) → Change
+  Merged : List ℕ → List (List ℕ) → Change
+  Renamed : List ℕ → List ℕ → Change
+
+-- a word that had no row is added
+abbrev pub added : Option Outcome → Row → Option Change
+added None r = Some (Added r.word)
+added (Some o) r = None
+
+-- a word that has no row any more is removed
+abbrev pub removed : Option Outcome → Row → Option Change
+removed None r = Some (Removed r.word)
+removed (Some o) r = None
+
+-- a word of both lists is changed if its outcome is another one
+abbrev pub changed : Option Outcome → Row → Option Change
+changed None r = None
+changed (Some o) r = if same_outcome o r.outcome then None else Some (Changed r.word o r.outcome)
+
+-- a class before is split if its words now have two stems or more
+abbrev pub split : Class → List (List ℕ) → Option Change
+split c [] = None
+split c (n ∷ []) = None
+split c (n ∷ m ∷ ns) = Some (Split c.stem (n ∷ m ∷ ns))
+
+-- a class now is merged if its words had two stems or more
+abbrev pub merged : Class → List (List ℕ) → Option Change
+merged c [] = None
+merged c (o ∷ []) = None
+merged c (o ∷ p ∷ os) = Some (Merged c.stem (o ∷ p ∷ os))
+
+-- one member alone
+abbrev pub is_one : List (List ℕ) → Bool
+is_one [] = false
+is_one (m ∷ []) = true
+is_one (m ∷ n ∷ ms) = false
+
+-- all words of the class of this stem have one stem in the other list
+abbrev pub is_from_one : List Class → List ℕ → Bool
+is_from_one classes stem = list_any (λ c. bytes_eq c.stem stem && is_one c.members) classes
+
+-- a class before is renamed if its words are exactly those of one class now, and that has another stem
+abbrev pub renamed : List Class → Class → List (List ℕ) → Option Change
+renamed now c [] = None
+renamed now c (n ∷ []) = if bytes_eq c.stem n then None else (if is_from_one now n then Some (Renamed c.stem n) else None)
+renamed now c (n ∷ m ∷ ns) = None
+
+-- split, merged and renamed classes
+abbrev pub class_changes : List Class → List Class → List Change
+class_changes old new =
+    filter_map (λ c. split c c.members) old
+    ++ filter_map (λ c. merged c c.members) new
+    ++ filter_map (λ c. renamed new c c.members) old
+
+-- the changes of these moves
+abbrev pub changes_by : List Pair → List Change
+changes_by moves = class_changes (old_classes moves) (new_classes moves)
+
+-- added, removed and changed words, then the changes of classes
+abbrev pub changes_of : List Row → List Row → List Change
+changes_of before after =
+    filter_map (λ r. added (outcome_in before r.word) r) after
+    ++ filter_map (λ r. removed (outcome_in after r.word) r) before
+    ++ filter_map (λ r. changed (outcome_in before r.word) r) after
+    ++ changes_by (moves_of (outcome_in before) after)
+
+-- the change that the code's value represents
+abbrev pub view_change : ChangeRow → Change
+view_change (code.Added w) = Added w.now
+view_change (code.Removed w) = Removed w.now
+view_change (code.Changed w o n) = Changed w.now (view_outcome o) (view_outcome n)
+view_change (code.Split s ns) = Split s.now (texts_of ns.items)
+view_change (code.Merged s os) = Merged s.now (texts_of os.items)
+view_change (code.Renamed o n) = Renamed o.now n.now
+
+abbrev pub view_changes : List ChangeRow → List Change
+view_changes changes = map view_change changes

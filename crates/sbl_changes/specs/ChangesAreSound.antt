@@ -1,0 +1,34 @@
+-- Laws of the changes between any two lists of rows, and of the classes of any pairs.
+use Rattle.std.specs.Prelude.{◌≡◌, ◌⊎◌, ◌&&◌, ◌<◌, ℕ, List, [], map, length, None, All}
+use Rattle.std.specs.List.{IsDistinct, list_any}
+use Rattle.std.specs.List.Sorted.{IsStrictlySortedBy}
+use Rattle.std.specs.Ordering.{nat_cmp}
+use Rattle.std.specs.Cmp.Lexicographic.{slice_cmp}
+use Rattle.std.specs.Str.{bytes_eq}
+use Rattle.sbl_changes.specs.Changes.{changes_of, renamed, split}
+use Rattle.sbl_changes.specs.Classes.{Class, Pair, classes_of}
+use Rattle.sbl_changes.specs.Rows.{Row}
+
+-- no two rows have the same word
+abbrev pub HasOneRowEach : List Row → Type 0
+HasOneRowEach rows = IsDistinct bytes_eq (map (λ r. r.word) rows)
+
+abbrev pub EqualListsHaveNoChanges : Type 0
+EqualListsHaveNoChanges = (rows : List Row) → HasOneRowEach rows → changes_of rows rows ≡ []
+
+abbrev pub NoClassIsSplitAndRenamed : Type 0
+NoClassIsSplitAndRenamed = (new : List Class) (c : Class) → (split c c.members ≡ None) ⊎ (renamed new c c.members ≡ None)
+
+-- each text is before the next in code point order; a prefix comes first
+abbrev pub Rise : List (List ℕ) → Type 0
+Rise texts = IsStrictlySortedBy (slice_cmp nat_cmp) texts
+
+-- The stems are in strictly ascending order, and so are the members of each class. Each class has at least one member.
+abbrev pub ClassesRise : Type 0
+ClassesRise = (pairs : List Pair) → Rise (map (λ c. c.stem) (classes_of pairs)) × All (λ c. Rise c.members × (0 < length c.members)) (classes_of pairs)
+
+-- There is a class of this stem with this member exactly if they are one of the pairs.
+abbrev pub ClassesAreOfPairs : Type 0
+ClassesAreOfPairs =
+    (pairs : List Pair) (stem member : List ℕ)
+    → list_any (λ c. bytes_eq stem c.stem && list_any (bytes_eq member) c.members) (classes_of pairs) ≡ list_any (λ p. bytes_eq stem p.0 && bytes_eq member p.1) pairs

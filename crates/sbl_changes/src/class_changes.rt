@@ -1,0 +1,131 @@
+//! Classes that are split, merged and renamed.
+
+ghost use Rattle.std.specs.Prelude.{◌≡◌, ◌++◌, ◌&&◌, ◌||◌, ℕ, List, IfOk, OnOk};
+ghost use Rattle.std.specs.List.{filter_map};
+ghost use Rattle.std.specs.Option.{option_map};
+ghost use Rattle.std.specs.Str.{bytes_eq};
+ghost use Rattle.sbl_changes.specs.Changes as spec;
+ghost use Rattle.sbl_changes.specs.Changes.{view_change, view_changes};
+ghost use Rattle.sbl_changes.specs.Classes.{Class};
+ghost use Rattle.sbl_changes.specs.Grouping.{view_class, view_classes};
+ghost use Rattle.sbl_changes.specs.Known.{has_text};
+
+use crate::change::{ChangeRow, push_some};
+use crate::classes::StemClass;
+use std::alloc::{AllocError, Global};
+use std::collections::BTreeSet;
+
+/// Returns that the class is split, if its words have two stems or more. Returns `AllocError` if an allocation fails.
+fn split<'a>(alloc: Global, class: &StemClass<'a>) -> Result<Option<ChangeRow<'a>>, AllocError>
+    ensures { IfOk result (λ change. option_map view_change change ≡ spec.split (view_class class.now) (view_class class.now).members) }
+{
+    if class.members.len() < 2 {
+        return Ok(None);
+    }
+    let into = Vec::from_slice(alloc, class.members.as_slice())?;
+    Ok(Some(ChangeRow::Split {
+        stem: class.stem,
+        into,
+    }))
+}
+
+/// Returns that the class is merged, if its words had two stems or more. Returns `AllocError` if an allocation fails.
+fn merged<'a>(alloc: Global, class: &StemClass<'a>) -> Result<Option<ChangeRow<'a>>, AllocError>
+    ensures { IfOk result (λ change. option_map view_change change ≡ spec.merged (view_class class.now) (view_class class.now).members) }
+{
+    if class.members.len() <= 1 {
+        return Ok(None);
+    }
+    let from = Vec::from_slice(alloc, class.members.as_slice())?;
+    Ok(Some(ChangeRow::Merged {
+        stem: class.stem,
+        from,
+    }))
+}
+
+/// Returns that the class is renamed, if all its words have one stem, another one, that the words of no other class have. The set
+/// has the stems of the second list whose words have one stem in the first.
+fn renamed<'a>(from_one: &BTreeSet<&'a [char]>, class: &StemClass<'a>) -> Option<ChangeRow<'a>>
+    ensures { (now : List Class) → ((stem : List ℕ) → has_text from_one.now stem ≡ spec.is_from_one now stem) → option_map view_change result ≡ spec.renamed now (view_class class.now) (view_class class.now).members }
+{
+    match class.members.as_slice() {
+        [new] if class.stem != *new && from_one.contains(*new) => {
+            Some(ChangeRow::Renamed {
+                from: class.stem,
+                to: *new,
+            })
+        }
+        _ => None,
+    }
+}
+
+/// Appends the split classes. Returns `AllocError` if an allocation fails.
+pub(crate) fn push_split<'a>(
+    alloc: Global,
+    changes: &mut Vec<ChangeRow<'a>>,
+    before: &[StemClass<'a>],
+) -> Result<(), AllocError>
+    ensures { OnOk result (view_changes changes.new.items ≡ view_changes changes.old.items ++ filter_map (λ c. spec.split c c.members) (view_classes before.now)) }
+{
+    for class in before {
+        push_some(changes, split(alloc, class)?)?;
+    }
+    Ok(())
+}
+
+/// Appends the merged classes. Returns `AllocError` if an allocation fails.
+pub(crate) fn push_merged<'a>(
+    alloc: Global,
+    changes: &mut Vec<ChangeRow<'a>>,
+    now: &[StemClass<'a>],
+) -> Result<(), AllocError>
+    ensures { OnOk result (view_changes changes.new.items ≡ view_changes changes.old.items ++ filter_map (λ c. spec.merged c c.members) (view_classes now.now)) }
+{
+    for class in now {
+        push_some(changes, merged(alloc, class)?)?;
+    }
+    Ok(())
+}
+
+/// Returns the stems of the classes that have one other stem. Returns `AllocError` if an allocation fails.
+fn stems_from_one<'a>(
+    alloc: Global,
+    classes: &[StemClass<'a>],
+) -> Result<BTreeSet<&'a [char]>, AllocError>
+    ensures { IfOk result (λ stems. has_text stems ≡ spec.is_from_one (view_classes classes.now)) }
+{
+    let mut stems = BTreeSet::new(alloc);
+    for class in classes {
+        insert_if_one(&mut stems, class)?;
+    }
+    Ok(stems)
+}
+
+/// Inserts the stem of the class, if the class has one other stem. Returns `AllocError` if an allocation fails.
+fn insert_if_one<'a>(
+    stems: &mut BTreeSet<&'a [char]>,
+    class: &StemClass<'a>,
+) -> Result<(), AllocError>
+    ensures { OnOk result ((q : List ℕ) → has_text stems.new q ≡ ((bytes_eq (view_class class.now).stem q && spec.is_one (view_class class.now).members) || has_text stems.old q)) }
+{
+    if class.members.len() == 1 {
+        stems.insert(class.stem)?;
+    }
+    Ok(())
+}
+
+/// Appends the renamed classes. Returns `AllocError` if an allocation fails.
+pub(crate) fn push_renamed<'a>(
+    alloc: Global,
+    changes: &mut Vec<ChangeRow<'a>>,
+    before: &[StemClass<'a>],
+    now: &[StemClass<'a>],
+) -> Result<(), AllocError>
+    ensures { OnOk result (view_changes changes.new.items ≡ view_changes changes.old.items ++ filter_map (λ c. spec.renamed (view_classes now.now) c c.members) (view_classes before.now)) }
+{
+    let from_one = stems_from_one(alloc, now)?;
+    for class in before {
+        push_some(changes, renamed(&from_one, class))?;
+    }
+    Ok(())
+}

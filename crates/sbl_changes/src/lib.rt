@@ -1,0 +1,18 @@
+//! What two lists of rows have different: words added and removed, outcomes changed, classes split, merged and renamed.
+#![tactic(auto)]
+
+mod change;
+mod class_changes;
+mod classes;
+mod compare;
+mod figures;
+pub mod laws;
+mod moves;
+mod rows;
+mod words;
+
+pub use change::ChangeRow;
+pub use classes::StemClass;
+pub use compare::changes;
+pub use figures::{RowStats, stats};
+pub use rows::{WordOutcome, WordRow};
