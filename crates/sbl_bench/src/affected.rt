@@ -12,6 +12,7 @@ ghost use Rattle.sbl_machine.specs.Touched.{item_of, names_of};
 ghost use Rattle.sbl_run.specs.Touches.{same_touch};
 ghost use Rattle.sbl_script.specs.Parsed.{source_of};
 
+use sbl_diff::differences;
 use sbl_machine::laws::differing_agree;
 use sbl_machine::{Item, Machine, Table, Touch, Touched, Traced};
 use sbl_script::Script;
@@ -53,7 +54,8 @@ pub(crate) fn affected_by_exchange(
     ensures { IsLinkedMachineOf machine.now (source_of script.now) → IfOk result (λ a. spec.AreMet (source_of script.now) (differs (source_of script.now) (source_of other.now)) (affected_of a)) }
 {
     differing_agree();
-    match differences(alloc, script, other)? {
+    let differing = differences(alloc, script, other)?;
+    match differing {
         Some(items) => affected_by_items(alloc, machine, script, items.as_slice()),
         None => Ok(Affected::Every),
     }
@@ -87,13 +89,4 @@ pub(crate) fn is_affected(affected: &Affected, last: &Traced) -> bool
         Affected::Above(steps) => *steps < last.used,
         Affected::Every => true,
     }
-}
-
-/// STAND-IN for `sbl_diff::differences`.
-fn differences(
-    _alloc: Global,
-    _script: &Script,
-    _other: &Script,
-) -> Result<Option<Vec<Item>>, AllocError> {
-    Ok(None)
 }
