@@ -1,5 +1,5 @@
 -- A script defines the routines and groupings of the items in which it differs from another.
-use Rattle.std.proofs.Common.{◌≡◌, ◌∙◌, ◌&&◌, ℕ, Bool, true, false, nat_eq, if◌then◌else◌, List, [], ◌∷◌, ◌++◌, map, Option, Some, None, refl, sym, ap, subst}
+use Rattle.std.proofs.Common.{◌≡◌, ◌∙◌, ◌&&◌, ℕ, Bool, true, false, nat_eq, if◌then◌else◌, List, [], ◌∷◌, ◌++◌, map, Option, Some, None, refl, ap, subst}
 use Rattle.std.specs.Prelude.{⊤}
 use Rattle.std.specs.List.{AllByRecursion, list_all}
 use Rattle.std.specs.Str.{bytes_eq}
@@ -124,8 +124,8 @@ own_plain names (macro n b x) routines groupings p q = tt
 own_names : (names : Names') (is : List ItemInMode) → Within (known_in is kinds.Routines) names.routines → Within (known_in is kinds.Groupings) names.groupings → HaveAll names is
 own_names names [] p q = tt
 own_names names (x ∷ is) p q = (
-    own_plain names x.plain (known_in is kinds.Routines) (known_in is kinds.Groupings) p q,
-    own_names names is (λ n h. p n (routine_more n x.plain (known_in is kinds.Routines) h)) (λ n h. q n (grouping_more n x.plain (known_in is kinds.Groupings) h)),
+  own_plain names x.plain (known_in is kinds.Routines) (known_in is kinds.Groupings) p q,
+  own_names names is (λ n h. p n (routine_more n x.plain (known_in is kinds.Routines) h)) (λ n h. q n (grouping_more n x.plain (known_in is kinds.Groupings) h)),
 )
 
 pub differing_are_there : DifferingAreThere

@@ -5,7 +5,7 @@ use Rattle.std.specs.Option.{option_or, is_some}
 use Rattle.std.specs.Str.{bytes_eq}
 use Rattle.std.proofs.lemmas.Bool.{eqb-true, true≢false}
 use Rattle.std.proofs.lemmas.Slice.Eq.{bytes_eq-Decides}
-use Rattle.sbl_tree.specs.Tree.{Argument, written_out, Term, Command, Others, Starter, Groups, Plain, Item, bracket, no_rows, no_others, declaration, escapes, macro, routine, grouping, plain, backward}
+use Rattle.sbl_tree.specs.Tree.{Argument, written_out, Term, Starter, Groups, Plain, Item, bracket, no_rows, no_others, declaration, escapes, macro, routine, grouping, plain, backward}
 use Rattle.sbl_tree.specs.View.{RowView}
 use Rattle.sbl_tree.specs.Counts.{count_in_among}
 use Rattle.sbl_checks.specs.Laws.{WellDeclaredPasses}
@@ -20,12 +20,12 @@ use Rattle.sbl_script.specs.declared.edits.DefinitionKind.TheVariants as defined
 use Rattle.sbl_script.specs.Edits.{ScriptEdit, body, among, terms, changes, defines, first_in, first_of, plain_if, plains_with, items_with, Home, home_in, home_of_body, home_of_among, home_of_held, home_of_terms, IsSubstituted}
 use Rattle.sbl_script.proofs.Found.{grouping_found, routine_found, some_plain}
 use Rattle.sbl_script.specs.Parsed.{Source}
-use Rattle.sbl_machine.specs.BuiltFrom.{IsClosed, affected, affected_by, built_from, meets, meets_one}
+use Rattle.sbl_machine.specs.BuiltFrom.{affected, affected_by, built_from, meets, meets_one}
 use Rattle.sbl_machine.specs.Frame.{AgreeOutside, AgreeingNamesStay, ClearStay, EditsAgree, NamesStay, UnmetByOneStay, UnmetStay, UntouchedStay}
 use Rattle.sbl_machine.specs.Holes.{with_holes, nothing, others_with_holes, holed_plain, holed_item}
 use Rattle.sbl_machine.specs.Meaning.{ending}
 use Rattle.sbl_machine.specs.Outcome.{touched_at, touches_of}
-use Rattle.sbl_machine.specs.Touched.{Item', Routine, Among, Grouping, named, replaced, names_of, same_item, touches}
+use Rattle.sbl_machine.specs.Touched.{Item', Routine, Among, Grouping, named, replaced, names_of, same_item}
 use Rattle.sbl_machine.specs.Marks.{EditedAreThere, has_item}
 use Rattle.sbl_machine.proofs.BuiltFrom.{affected_closed, built_more}
 use Rattle.sbl_machine.proofs.NamesStand.{flip}

@@ -17,7 +17,7 @@ use Rattle.sbl_run.specs.Touches.{same_touch, with_touch}
 use Rattle.sbl_script.specs.Parsed.{Source}
 use Rattle.sbl_script.specs.Spelled.{AreSpelled}
 use Rattle.sbl_machine.specs.BuiltFrom.{affected, affected_by, built_behind}
-use Rattle.sbl_machine.specs.Marking.{and_searches, groupings_behind, marked, marks_of, routines_behind, searches_behind}
+use Rattle.sbl_machine.specs.Marking.{amongs_behind, amongs_in, groupings_behind, marked, marks_of, routines_behind, searched, searches}
 use Rattle.sbl_machine.specs.Marks.{AreMarksOf, has_item}
 use Rattle.sbl_machine.specs.Touched.{Item', Routine, Among, Grouping, named, names_of}
 use Rattle.sbl_machine.proofs.BuiltFrom.{built_back}
@@ -119,6 +119,65 @@ not_marked : (touch : ℕ → Touch) (test : List ℕ → Bool) (t : Touch) (ns 
     → list_any (same_touch t) (marked touch test 0 ns ts) ≡ list_any (same_touch t) ts
 not_marked touch test t ns ts off = any_marked touch test t 0 ns ts ∙ ap (λ (b : Bool). b || list_any (same_touch t) ts) (none_hit touch test t off 0 ns)
 
+-- ---- searches
+
+and_false : (a : Bool) → false ≡ (a && false)
+and_false true = refl
+and_false false = refl
+
+-- a touch that searches nothing
+searched_not : (t : Touch) → ((i k : ℕ) → same_touch t (Searched i k) ≡ false) → (i : ℕ) (ks : List ℕ) (ts : List Touch) → list_any (same_touch t) (searched i ks ts) ≡ list_any (same_touch t) ts
+searched_not t off i [] ts = refl
+searched_not t off i (k ∷ ks) ts =
+    searched_not t off i ks (with_touch (Searched i k) ts) ∙ any_with t (Searched i k) ts ∙ ap (λ (b : Bool). b || list_any (same_touch t) ts) (off i k)
+
+searches_not : (t : Touch) → ((i k : ℕ) → same_touch t (Searched i k) ≡ false) → (numbers : List ℕ → List ℕ) (i : ℕ) (ns : List (List ℕ)) (ts : List Touch)
+    → list_any (same_touch t) (searches numbers i ns ts) ≡ list_any (same_touch t) ts
+searches_not t off numbers i [] ts = refl
+searches_not t off numbers i (n ∷ ns) ts = searches_not t off numbers (suc i) ns (searched i (numbers n) ts) ∙ searched_not t off i (numbers n) ts
+
+shifted : (a b c d : Bool) → ((a && d) || ((d && b) || c)) ≡ (((b || a) && d) || c)
+shifted true true c true = refl
+shifted true false c true = refl
+shifted false true c true = refl
+shifted false false c true = refl
+shifted true true c false = refl
+shifted true false c false = refl
+shifted false true c false = refl
+shifted false false c false = refl
+
+module _ (numbers : List ℕ → List ℕ) (j l : ℕ) where
+  abbrev has_search : List Touch → Bool
+  has_search ts = list_any (same_touch (Searched j l)) ts
+
+  abbrev has_number : List ℕ → Bool
+  has_number n = list_any (nat_eq l) (numbers n)
+
+  any_searched : (i : ℕ) (ks : List ℕ) (ts : List Touch) → has_search (searched i ks ts) ≡ ((list_any (nat_eq l) ks && nat_eq j i) || has_search ts)
+  any_searched i [] ts = refl
+  any_searched i (k ∷ ks) ts =
+      any_searched i ks (with_touch (Searched i k) ts)
+      ∙ ap (λ (b : Bool). (list_any (nat_eq l) ks && nat_eq j i) || b) (any_with (Searched j l) (Searched i k) ts)
+      ∙ shifted (list_any (nat_eq l) ks) (nat_eq l k) (has_search ts) (nat_eq j i)
+
+  any_search : (i : ℕ) (ns : List (List ℕ)) (ts : List Touch) → has_search (searches numbers i ns ts) ≡ (hit Entered has_number (Entered j) i ns || has_search ts)
+  any_search i [] ts = refl
+  any_search i (n ∷ ns) ts =
+      any_search (suc i) ns (searched i (numbers n) ts)
+      ∙ ap (λ (b : Bool). hit Entered has_number (Entered j) (suc i) ns || b) (any_searched i (numbers n) ts)
+      ∙ or_turned (hit Entered has_number (Entered j) (suc i) ns) (has_number n && nat_eq j i) (has_search ts)
+
+  own_search : (ns : List (List ℕ)) → has_number [] ≡ false → has_search (searches numbers 0 ns []) ≡ has_number (slice_index_or ns j [])
+  own_search ns none =
+      any_search 0 ns [] ∙ or_false (hit Entered has_number (Entered j) 0 ns) ∙ hit_at Entered has_number (Entered j) j (λ i. refl) none 0 ns j (omega arith)
+
+next_by : (l k : ℕ) (b : Bool) → nat_eq l k ≡ b → nat_eq l k ≡ nat_eq (suc k) (suc l)
+next_by l k true e = let same : nat_eq (suc k) (suc l) ≡ true = grind (arith, nat_tests, eqb-true l k e) in e ∙ sym same
+next_by l k false e = let other : nat_eq (suc k) (suc l) ≡ false = grind (arith, nat_tests, e) in e ∙ sym other
+
+next_same : (l k : ℕ) → nat_eq l k ≡ nat_eq (suc k) (suc l)
+next_same l k = next_by l k (nat_eq l k) refl
+
 -- ---- names that are collected
 
 one_more : (a b c : Bool) → ((a || (b || false)) || c) ≡ (a || (b || c))
@@ -175,14 +234,6 @@ has_name : (names : List (List ℕ)) (n : List ℕ) → is_among names [] ≡ fa
 has_name names [] none there = absurd (true≢false (sym there ∙ none))
 has_name names (c ∷ cs) none there = refl
 
-and_false : (a : Bool) → false ≡ (a && false)
-and_false true = refl
-and_false false = refl
-
-and_true : (a : Bool) → (a && true) ≡ a
-and_true true = refl
-and_true false = refl
-
 module _ (s : Source) (spelled : AreSpelled s.items) where
   abbrev items : List ItemInMode
   items = in_order s.items
@@ -236,64 +287,44 @@ module _ (s : Source) (spelled : AreSpelled s.items) where
 
   -- ---- amongs
 
-  -- a touch that searches nothing
-  one_not : (t : Touch) → ((i k : ℕ) → same_touch t (Searched i k) ≡ false) → (x : Item') (ts : List Touch) → list_any (same_touch t) (and_searches routines x ts) ≡ list_any (same_touch t) ts
-  one_not t off (Routine n) ts = refl
-  one_not t off (Among n zero) ts = refl
-  one_not t off (Among n (suc k)) ts = not_marked (λ i. Searched i k) (bytes_eq n) t routines ts (λ i. off i k)
-  one_not t off (Grouping n) ts = refl
+  named_among : (k : ℕ) (x : Item') → has_item (names_of s) x ≡ true → affected s x (Among [] k) ≡ false
+  named_among k (Routine n) there = refl
+  named_among k (Among n l) there = ap (λ (b : Bool). b && nat_eq l k) (has_name routines n (routines_named s.items spelled) there)
+  named_among k (Grouping n) there = refl
 
-  searches_not : (t : Touch) → ((i k : ℕ) → same_touch t (Searched i k) ≡ false) → (xs : List Item') (ts : List Touch) → list_any (same_touch t) (searches_behind routines xs ts) ≡ list_any (same_touch t) ts
-  searches_not t off [] ts = refl
-  searches_not t off (x ∷ xs) ts = searches_not t off xs (and_searches routines x ts) ∙ one_not t off x ts
+  module _ (l : ℕ) where
+    -- the among with number l is one of those collected so far, or of the items to come
+    any_among : (n : List ℕ) (xs : List Item') (ks : List ℕ) → list_any (nat_eq l) (amongs_behind n xs ks) ≡ (list_any (nat_eq l) ks || list_any (λ x. affected s x (Among n (suc l))) xs)
+    any_among n [] ks = sym (or_false (list_any (nat_eq l) ks))
+    any_among n (Routine m ∷ xs) ks = any_among n xs ks
+    any_among n (Grouping m ∷ xs) ks = any_among n xs ks
+    any_among n (Among m zero ∷ xs) ks =
+        let rest = list_any (λ x. affected s x (Among n (suc l))) xs in
+        let other : nat_eq zero (suc l) ≡ false = grind (arith, nat_tests) in
+        any_among n xs ks
+        ∙ ap (λ (b : Bool). list_any (nat_eq l) ks || (b || rest)) (and_false (bytes_eq m n) ∙ ap (λ (b : Bool). bytes_eq m n && b) (sym other))
+    any_among n (Among m (suc k) ∷ xs) ks = by (bytes_eq m n) (λ js. any_among n xs js)
+      where
+        by : (b : Bool) → ((js : List ℕ) → list_any (nat_eq l) (amongs_behind n xs js) ≡ (list_any (nat_eq l) js || list_any (λ x. affected s x (Among n (suc l))) xs))
+            → list_any (nat_eq l) (amongs_behind n xs (if b then ks ++ k ∷ [] else ks)) ≡ (list_any (nat_eq l) ks || ((b && nat_eq (suc k) (suc l)) || list_any (λ x. affected s x (Among n (suc l))) xs))
+        by true rest =
+            rest (ks ++ k ∷ [])
+            ∙ ap (λ (b : Bool). b || list_any (λ x. affected s x (Among n (suc l))) xs) (list_any-append (nat_eq l) ks (k ∷ []))
+            ∙ one_more (list_any (nat_eq l) ks) (nat_eq l k) (list_any (λ x. affected s x (Among n (suc l))) xs)
+            ∙ ap (λ (b : Bool). list_any (nat_eq l) ks || (b || list_any (λ x. affected s x (Among n (suc l))) xs)) (next_same l k)
+        by false rest = rest ks
 
-  module _ (j l : ℕ) where
-    abbrev has_search : List Touch → Bool
-    has_search ts = list_any (same_touch (Searched j l)) ts
-
-    abbrev home : List ℕ
-    home = slice_index_or routines j []
-
-    -- an among with another number
-    off_number : (n : List ℕ) (k : ℕ) (ts : List Touch) → nat_eq k (suc l) ≡ false → has_search ts ≡ ((bytes_eq n home && nat_eq k (suc l)) || has_search ts)
-    off_number n k ts e =
-        ap (λ (b : Bool). b || has_search ts) (and_false (bytes_eq n home)) ∙ ap (λ (b : Bool). (bytes_eq n home && b) || has_search ts) (sym e)
-
-    by_number : (n : List ℕ) (k : ℕ) → has_item (names_of s) (Among n (suc k)) ≡ true → (ts : List Touch) (b : Bool) → nat_eq l k ≡ b
-        → has_search (and_searches routines (Among n (suc k)) ts) ≡ (affected s (Among n (suc k)) (Among home (suc l)) || has_search ts)
-    by_number n k there ts true e =
-        let same : nat_eq (suc k) (suc l) ≡ true = grind (arith, nat_tests, eqb-true l k e) in
-        own_marked (λ i. Searched i k) (bytes_eq n) (Searched j l) routines ts j (λ i. ap (λ (b : Bool). nat_eq j i && b) e ∙ and_true (nat_eq j i)) (has_name routines n (routines_named s.items spelled) there)
-        ∙ sym (ap (λ (b : Bool). (bytes_eq n home && b) || has_search ts) same ∙ ap (λ (b : Bool). b || has_search ts) (and_true (bytes_eq n home)))
-    by_number n k there ts false e =
-        let other : nat_eq (suc k) (suc l) ≡ false = grind (arith, nat_tests, e) in
-        not_marked (λ i. Searched i k) (bytes_eq n) (Searched j l) routines ts (λ i. ap (λ (b : Bool). nat_eq j i && b) e ∙ sym (and_false (nat_eq j i)))
-        ∙ off_number n (suc k) ts other
-
-    one_search : (x : Item') → has_item (names_of s) x ≡ true → (ts : List Touch) → has_search (and_searches routines x ts) ≡ (affected s x (Among home (suc l)) || has_search ts)
-    one_search (Routine n) there ts = refl
-    one_search (Among n zero) there ts = off_number n zero ts (grind (arith, nat_tests))
-    one_search (Among n (suc k)) there ts = by_number n k there ts (nat_eq l k) refl
-    one_search (Grouping n) there ts = refl
-
-    searches_are : (xs : List Item') → list_all (has_item (names_of s)) xs ≡ true → (ts : List Touch)
-        → has_search (searches_behind routines xs ts) ≡ (has_search ts || list_any (λ x. affected s x (Among home (suc l))) xs)
-    searches_are [] there ts = sym (or_false (has_search ts))
-    searches_are (x ∷ xs) there ts =
-        let b = both_true (has_item (names_of s) x) (list_all (has_item (names_of s)) xs) there in
-        let rest = list_any (λ y. affected s y (Among home (suc l))) xs in
-        searches_are xs b.1 (and_searches routines x ts)
-        ∙ ap (λ (c : Bool). c || rest) (one_search x b.0 ts)
-        ∙ sym (or_turned (has_search ts) (affected s x (Among home (suc l))) rest)
+  amongs_are : (l : ℕ) (xs : List Item') (n : List ℕ) → list_any (nat_eq l) (amongs_in xs n) ≡ list_any (λ x. affected s x (Among n (suc l))) xs
+  amongs_are l xs n = any_among l n xs []
 
   -- ---- all together
 
   module _ (xs : List Item') (there : list_all (has_item (names_of s)) xs ≡ true) where
-    abbrev searched : List Touch
-    searched = searches_behind routines xs []
+    abbrev found : List Touch
+    found = searches (amongs_in xs) 0 routines []
 
     abbrev entered : (List ℕ → Bool) → List Touch
-    entered test = marked Entered test 0 routines searched
+    entered test = marked Entered test 0 routines found
 
     abbrev tested : (List ℕ → Bool) → (List ℕ → Bool) → List Touch
     tested test other = marked Tested test 0 groupings (entered other)
@@ -314,18 +345,19 @@ module _ (s : Source) (spelled : AreSpelled s.items) where
     by_touch (Entered j) =
         let n = slice_index_or routines j [] in
         not_marked Tested in_built (Entered j) groupings (entered in_routines) (λ i. refl)
-        ∙ own_marked Entered in_routines (Entered j) routines searched j (λ i. refl) no_routine
-        ∙ ap (λ (b : Bool). in_routines n || b) (searches_not (Entered j) (λ i k. refl) xs [])
+        ∙ own_marked Entered in_routines (Entered j) routines found j (λ i. refl) no_routine
+        ∙ ap (λ (b : Bool). in_routines n || b) (searches_not (Entered j) (λ i k. refl) (amongs_in xs) 0 routines [])
         ∙ or_false (in_routines n)
         ∙ routines_are xs n
     by_touch (Searched j l) =
         not_marked Tested in_built (Searched j l) groupings (entered in_routines) (λ i. refl)
-        ∙ not_marked Entered in_routines (Searched j l) routines searched (λ i. refl)
-        ∙ searches_are j l xs there []
+        ∙ not_marked Entered in_routines (Searched j l) routines found (λ i. refl)
+        ∙ own_search (amongs_in xs) j l routines (amongs_are l xs [] ∙ none_passes (λ x. affected s x (Among [] (suc l))) (has_item (names_of s)) (named_among (suc l)) xs there)
+        ∙ amongs_are l xs (slice_index_or routines j [])
     by_touch (Tested g) =
         let n = slice_index_or groupings g [] in
         own_marked Tested in_built (Tested g) groupings (entered in_routines) g (λ i. refl) no_built
-        ∙ ap (λ (b : Bool). in_built n || b) (not_marked Entered in_routines (Tested g) routines searched (λ i. refl) ∙ searches_not (Tested g) (λ i k. refl) xs [])
+        ∙ ap (λ (b : Bool). in_built n || b) (not_marked Entered in_routines (Tested g) routines found (λ i. refl) ∙ searches_not (Tested g) (λ i k. refl) (amongs_in xs) 0 routines [])
         ∙ or_false (in_built n)
         ∙ groupings_are xs n
 

@@ -8,7 +8,7 @@ use Rattle.std.proofs.lemmas.Slice.Eq.{bytes_eq-Decides}
 use Rattle.sbl_tree.specs.Tree.{Plain, declaration, escapes, macro, routine, grouping, Item, plain, backward}
 use Rattle.sbl_script.specs.Parsed.{Source}
 use Rattle.sbl_machine.specs.DifferLaws.{MoreDiffers, OnlyItemsDiffer}
-use Rattle.sbl_machine.specs.Differs.{join, differ_plain, differ_plains, differ_item, differ_items, differs}
+use Rattle.sbl_machine.specs.Differs.{join, differ_plain, differ_plains, differ_item, differ_items}
 use Rattle.sbl_machine.specs.Holes.{holed_plain, holed_item}
 use Rattle.sbl_machine.specs.Touched.{Item'}
 use Rattle.sbl_machine.proofs.DiffersAgree.{agree_outside}
@@ -91,8 +91,8 @@ more_differs s t none agree =
     let external : bytes_eq s.external t.external ≡ true = (bytes_eq-Decides s.external t.external).1 (ap (λ (u : Source). u.external) agree) in
     let items : map (holed_item all) s.items ≡ map (holed_item all) t.items = ap (λ (u : Source). u.items) agree in
     let some : is_some (differ_items s.items t.items) ≡ true =
-        items_some s.items t.items
-        ∙ ap (λ (ys : List Item). is_some (differ_items (map (holed_item all) s.items) ys)) (sym items)
-        ∙ ap is_some (items_self (map (holed_item all) s.items)) in
+    items_some s.items t.items
+    ∙ ap (λ (ys : List Item). is_some (differ_items (map (holed_item all) s.items) ys)) (sym items)
+    ∙ ap is_some (items_self (map (holed_item all) s.items)) in
     let not : differ_items s.items t.items ≡ None = sym (ap (λ (b : Bool). if b then differ_items s.items t.items else None) external) ∙ none in
     true≢false (sym some ∙ ap is_some not)

@@ -19,4 +19,5 @@ pub mod Same
 pub mod Differs
 pub mod DifferLaws
 -- what the functions inside the crate promise each other: nothing in these need be believed
+pub mod AmongList
 pub mod Marking

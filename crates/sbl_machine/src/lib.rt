@@ -1,6 +1,7 @@
 //! The machine that runs Snowball scripts, and what a run does to a word, step by step.
 #![tactic(auto)]
 
+mod among_list;
 mod built;
 mod fault;
 mod item;

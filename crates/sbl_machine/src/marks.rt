@@ -1,14 +1,15 @@
 //! What edits affect, by number.
 
-ghost use Rattle.std.specs.Prelude.{◌≡◌, [], map, OnOk, IfOk, string_bytes};
-ghost use Rattle.std.specs.Str.{bytes_eq};
+ghost use Rattle.std.specs.Prelude.{◌≡◌, ℕ, List, [], map, OnOk, IfOk, string_bytes};
 ghost use Rattle.sbl_numbering.specs.NumberedNames.{is_one_of};
 ghost use Rattle.sbl_run.specs.declared.touch.Touch.TheVariants.{Entered, Searched, Tested};
 ghost use Rattle.sbl_tree.specs.Order.{in_order};
 ghost use Rattle.sbl_tree.specs.View.{view_items};
-ghost use Rattle.sbl_machine.specs.Marking.{and_grouping, and_routine, and_searches, groupings_behind, marked, marks_of, routines_behind, searches_behind};
+ghost use Rattle.sbl_machine.specs.Marking.{amongs_in, and_among, and_grouping, and_routine, groupings_behind, marked, marks_of, routines_behind, searched, searches};
+ghost use Rattle.sbl_machine.specs.AmongList.{numbers_of};
 ghost use Rattle.sbl_machine.specs.Touched.{item_of};
 
+use crate::among_list::AmongList;
 use crate::built::built_from;
 use crate::item::Item;
 use crate::naming::Names;
@@ -32,49 +33,26 @@ fn mark_routines(
     Ok(())
 }
 
-// Adds the touch that searches the among with this number, counted from 0, in each routine of this name.
-fn mark_among(
-    routines: &[String],
-    name: &str,
-    among: usize,
-    marks: &mut Touched,
-) -> Result<(), AllocError>
-    ensures { OnOk result (marks.new ≡ marked (λ i. Searched i among) (bytes_eq name.now) 0 (map string_bytes routines.now) marks.old) }
+// Adds the touches that search these amongs of a routine. The numbers are counted from 0.
+fn mark_searches(routine: usize, amongs: &[usize], marks: &mut Touched) -> Result<(), AllocError>
+    ensures { OnOk result (marks.new ≡ searched routine amongs.now marks.old) }
 {
-    for (number, other) in routines.iter().enumerate() {
-        if name == other.as_str() {
-            marks.search(number, among)?;
-        }
+    for among in amongs {
+        marks.search(routine, *among)?;
     }
     Ok(())
 }
 
-// If the item is an among, adds the touch that searches it in each routine of its name.
-fn mark_if_among(
+// Adds the touches that search these amongs of each routine.
+fn mark_amongs(
     routines: &[String],
-    item: &Item,
+    amongs: &AmongList,
     marks: &mut Touched,
 ) -> Result<(), AllocError>
-    ensures { OnOk result (marks.new ≡ and_searches (map string_bytes routines.now) (item_of item.now) marks.old) }
+    ensures { OnOk result (marks.new ≡ searches (numbers_of amongs.now) 0 (map string_bytes routines.now) marks.old) }
 {
-    match item {
-        Item::Among(name, number) => {
-            if 0 < *number {
-                let among = (*number - 1) as usize;
-                mark_among(routines, name.as_str(), among, marks)?;
-            }
-            Ok(())
-        }
-        Item::Routine(_) | Item::Grouping(_) => Ok(()),
-    }
-}
-
-// Adds the touches that search the amongs of the items. Walks over all routines once for each among.
-fn mark_amongs(routines: &[String], items: &[Item], marks: &mut Touched) -> Result<(), AllocError>
-    ensures { OnOk result (marks.new ≡ searches_behind (map string_bytes routines.now) (map item_of items.now) marks.old) }
-{
-    for item in items {
-        mark_if_among(routines, item, marks)?;
+    for (number, name) in routines.iter().enumerate() {
+        mark_searches(number, amongs.numbers_of(name.as_str()), marks)?;
     }
     Ok(())
 }
@@ -137,7 +115,34 @@ fn grouping_names(alloc: Global, items: &[Item]) -> Result<NameList, AllocError>
     Ok(names)
 }
 
-/// Returns the touches of some items and of all groupings that are built from one of them, by number.
+// Adds the number of the item, counted from 0, if it is an among.
+fn add_among(alloc: Global, item: &Item, amongs: &mut AmongList) -> Result<(), AllocError>
+    ensures { (n : List ℕ) → OnOk result (numbers_of amongs.new n ≡ and_among n (item_of item.now) (numbers_of amongs.old n)) }
+{
+    match item {
+        Item::Among(name, number) => {
+            if 0 < *number {
+                amongs.add(alloc, name.as_str(), (*number - 1) as usize)?;
+            }
+            Ok(())
+        }
+        Item::Routine(_) | Item::Grouping(_) => Ok(()),
+    }
+}
+
+// Returns the amongs among the items.
+fn amongs_in(alloc: Global, items: &[Item]) -> Result<AmongList, AllocError>
+    ensures { IfOk result (λ amongs. numbers_of amongs ≡ amongs_in (map item_of items.now)) }
+{
+    let mut amongs = AmongList::new(alloc);
+    for item in items {
+        add_among(alloc, item, &mut amongs)?;
+    }
+    Ok(amongs)
+}
+
+/// Returns the touches of some items and of all groupings that are built from one of them, by number. The cost
+/// is about that of one walk over the script and one over the items.
 ///
 /// # Errors
 ///
@@ -151,7 +156,7 @@ pub fn marks_of(
     ensures { IfOk result (λ marks. marks ≡ marks_of names.now (in_order (view_items script.now)) (map item_of items.now)) }
 {
     let mut marks = Touched::new(alloc);
-    mark_amongs(&names.routines, items, &mut marks)?;
+    mark_amongs(&names.routines, &amongs_in(alloc, items)?, &mut marks)?;
     mark_routines(&names.routines, &routine_names(alloc, items)?, &mut marks)?;
     let built = built_from(alloc, script, grouping_names(alloc, items)?)?;
     mark_groupings(&names.groupings, &built, &mut marks)?;

@@ -127,68 +127,41 @@ fn replaces_one(rt: &impl Abort, alloc: Global, bench: &mut Bench, row: Row) -> 
     Ok(())
 }
 
-/// Replaces the first script by one after another.
-fn replaces(rt: &impl Abort, alloc: Global, rows: &[Row]) -> Result<(), Fail> {
-    let mut bench = bench_of(alloc, FIRST, &WORDS)?;
-    let mut done = Ok(());
+/// Replaces the script by one after another.
+fn replaces(rt: &impl Abort, alloc: Global, bench: &mut Bench, rows: &[Row]) -> Result<(), Fail> {
     for row in rows {
-        if done.is_ok() {
-            done = replaces_one(rt, alloc, &mut bench, *row);
-        }
+        replaces_one(rt, alloc, bench, *row)?;
     }
-    bench.leak();
-    done
+    Ok(())
 }
 
+// The first two run nothing, the next four what met the items that differ, then two run all, and three are refused.
 #[test]
-fn an_equal_script_runs_nothing(rt: HostRuntime) -> Result<(), Fail> {
-    replaces(
+fn a_whole_script_runs_what_met_the_items_that_differ(rt: HostRuntime) -> Result<(), Fail> {
+    let alloc = rt.alloc();
+    let after = "xyb xb;ab a;xb b;q q;";
+    let mut bench = bench_of(alloc, FIRST, &WORDS)?;
+    let done = replaces(
         &rt,
-        rt.alloc(),
-        &[(FIRST, "", ROWS, 4), (LAID_OUT, "", ROWS, 4)],
-    )
-}
-
-#[test]
-fn a_script_runs_what_met_the_items_that_differ(rt: HostRuntime) -> Result<(), Fail> {
-    replaces(
-        &rt,
-        rt.alloc(),
+        alloc,
+        &mut bench,
         &[
+            (FIRST, "", ROWS, 4),
+            (LAID_OUT, "", ROWS, 4),
             (OTHER_ROUTINE, "", "xyb xyb;ab a;xb b;q ;", 6),
             (OTHER_AMONG, "", "xyb xyb;ab ae;xb b;q ;", 7),
             (OTHER_GROUPING, "", "xyb xyb;ab ae;xb b;q q;", 10),
-            (TWO_ITEMS, "", "xyb xb;ab a;xb b;q q;", 13),
+            (TWO_ITEMS, "", after, 13),
+            (MOVED, "", after, 17),
+            (DECLARED, "", after, 21),
+            ("define", "48 Syntax", after, 21),
+            (OTHER_EXTERNAL, "48 NoExternal", after, 21),
+            ("", "48 NoExternal", after, 21),
+            (FIRST, "", ROWS, 25),
         ],
-    )
-}
-
-#[test]
-fn a_script_that_differs_in_more_runs_all(rt: HostRuntime) -> Result<(), Fail> {
-    let rows = "xyb xb;ab a;xb b;q q;";
-    replaces(
-        &rt,
-        rt.alloc(),
-        &[
-            (TWO_ITEMS, "", rows, 7),
-            (MOVED, "", rows, 11),
-            (DECLARED, "", rows, 15),
-        ],
-    )
-}
-
-#[test]
-fn a_refused_script_changes_nothing(rt: HostRuntime) -> Result<(), Fail> {
-    replaces(
-        &rt,
-        rt.alloc(),
-        &[
-            ("define", "48 Syntax", ROWS, 4),
-            (OTHER_EXTERNAL, "48 NoExternal", ROWS, 4),
-            ("", "48 NoExternal", ROWS, 4),
-            (OTHER_ROUTINE, "", "xyb xyb;ab a;xb b;q ;", 6),
-        ],
-    )
+    );
+    bench.leak();
+    done
 }
 
 // The longest script has 1,048,576 bytes.
@@ -207,7 +180,7 @@ fn a_script_that_is_too_long_changes_nothing(rt: HostRuntime) -> Result<(), Fail
     Ok(())
 }
 
-/// Installs a script, and then the one that was in force.
+/// Installs a script, and then the one that was in force, with the rows and the count of runs after each.
 fn installs(
     rt: &impl Abort,
     alloc: Global,
@@ -224,28 +197,20 @@ fn installs(
     Ok(())
 }
 
-// The two words that enter the routine run each time.
+// Of the first script the two words run that enter the routine which differs. The second one has another external.
 #[test]
 fn installing_the_script_before_takes_an_edit_back(rt: HostRuntime) -> Result<(), Fail> {
     let alloc = rt.alloc();
-    let mut script = Script::parse(alloc, OTHER_ROUTINE.as_bytes(), "stem")?;
+    let mut edited = Script::parse(alloc, OTHER_ROUTINE.as_bytes(), "stem")?;
+    let mut other = Script::parse(alloc, OTHER_EXTERNAL.as_bytes(), "other")?;
     let mut bench = bench_of(alloc, FIRST, &WORDS)?;
     let rows = [("xyb xyb;ab a;xb b;q ;", 6), (ROWS, 8)];
-    let done = installs(&rt, alloc, &mut bench, &mut script, rows);
-    script.discard();
+    let done = installs(&rt, alloc, &mut bench, &mut edited, rows);
+    let rows = [("xyb xyb;ab ab;xb xb;q q;", 12), (ROWS, 16)];
+    let again = installs(&rt, alloc, &mut bench, &mut other, rows);
+    edited.discard();
+    other.discard();
     bench.leak();
-    done
-}
-
-// A script under another external differs in more than items.
-#[test]
-fn a_script_under_another_external_runs_all(rt: HostRuntime) -> Result<(), Fail> {
-    let alloc = rt.alloc();
-    let mut script = Script::parse(alloc, OTHER_EXTERNAL.as_bytes(), "other")?;
-    let mut bench = bench_of(alloc, FIRST, &WORDS)?;
-    let rows = [("xyb xyb;ab ab;xb xb;q q;", 8), (ROWS, 12)];
-    let done = installs(&rt, alloc, &mut bench, &mut script, rows);
-    script.discard();
-    bench.leak();
-    done
+    done?;
+    again
 }

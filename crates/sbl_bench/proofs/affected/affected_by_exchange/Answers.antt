@@ -2,6 +2,7 @@ use Rattle.std.proofs.Common.{◌≡◌, ◌∙◌, List, Option, Some, None, If
 use Rattle.sbl_script.specs.Parsed.{source_of}
 use Rattle.sbl_machine.specs.Differs.{differs}
 use Rattle.sbl_machine.specs.Touched.{Item', item_of}
+use Rattle.sbl_diff.specs.ItemsIn.{items_in}
 use Rattle.sbl_bench.specs.Affected.{AreMet, Every}
 use Rattle.sbl_bench.specs.Changes.{affected_of}
 use Rattle.sbl_bench.proofs.affected.affected_by_exchange.Goals as goal
@@ -11,7 +12,7 @@ returns-in-Some c machine =
     let s = source_of c.args.script.now in
     let t = source_of c.args.other.now in
     let xs = map item_of c.as_slice.result.now in
-    let listed : Some xs ≡ differs s t = ap (λ (ys : List Item'). Some ys) (ap (map item_of) c.as_slice.ensures.value) ∙ c.in-Some.ensures in
+    let listed : Some xs ≡ differs s t = ap (λ (ys : List Item'). Some ys) (ap (map item_of) c.as_slice.ensures.value) ∙ ap (λ r. items_in r) (sym c.in-Some.is) ∙ c.in_ok-differing.ensures in
     subst (λ (o : Option (List Item')). IfOk c.affected_by_items.result (λ a. AreMet s o (affected_of a))) listed
     (c.affected_by_items.ensures machine (c.differing_agree.ensures.there s t xs (sym listed)))
 
@@ -19,4 +20,4 @@ pub returns-in-None : goal.returns-in-None
 returns-in-None c machine =
     let s = source_of c.args.script.now in
     let t = source_of c.args.other.now in
-    subst (λ (o : Option (List Item')). AreMet s o Every) c.in-None.ensures (λ limit word. refl)
+    subst (λ (o : Option (List Item')). AreMet s o Every) (ap (λ r. items_in r) (sym c.in-None.is) ∙ c.in_ok-differing.ensures) (λ limit word. refl)

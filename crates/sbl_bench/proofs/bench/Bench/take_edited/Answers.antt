@@ -31,7 +31,7 @@ take_script-requires c =
     let s : Contents = record { setting = under p l; words = words_in c.self.inside.traces.entries; count = c.self.inside.meter } in
     let a = affected_of c.in_ok-affected.affected in
     let taken : IsTaken s e text q x = subst (λ (k : Kept). IsTaken (contents_of k) e text q x) (sym c.self.view_is) c.requires.2 in
-    let b : Brings s (Replace e text) (under q l) a = edited_brings c.untouched_stay.ensures c.one_item_alone.ensures.meets c.edits_agree.ensures.there s e text q x taken c.is_well_declared.ensures (map item_of c.from_ref.result.now) (ap (map item_of) c.from_ref.ensures.value) a (c.in_ok-affected.ensures c.self.invariant.0) in
+    let b : Brings s (Replace e text) (under q l) a = edited_brings c.untouched_stay.ensures c.one_item_alone.ensures.meets c.edits_agree.ensures.there s e text q x taken c.is_well_declared.ensures (map item_of c.from_ref-items.result.now) (ap (map item_of) c.from_ref-items.ensures.value) a (c.in_ok-affected.ensures c.self.invariant.0) in
     (Replace e text, subst (λ (k : Kept). Brings (contents_of k) (Replace e text) (under q k.limit) a) c.self.view_is b)
 
 pub returns : goal.returns
@@ -43,5 +43,5 @@ returns c e text is =
     let s : Contents = record { setting = under p l; words = words_in c.self.inside.traces.entries; count = c.self.inside.meter } in
     let a = affected_of c.in_ok-affected.affected in
     let taken : IsTaken s e text q x = subst (λ (k : Kept). IsTaken (contents_of k) e text q x) (sym c.self.view_is) is in
-    let b : Brings s (Replace e text) (under q l) a = edited_brings c.untouched_stay.ensures c.one_item_alone.ensures.meets c.edits_agree.ensures.there s e text q x taken c.is_well_declared.ensures (map item_of c.from_ref.result.now) (ap (map item_of) c.from_ref.ensures.value) a (c.in_ok-affected.ensures c.self.invariant.0) in
+    let b : Brings s (Replace e text) (under q l) a = edited_brings c.untouched_stay.ensures c.one_item_alone.ensures.meets c.edits_agree.ensures.there s e text q x taken c.is_well_declared.ensures (map item_of c.from_ref-items.result.now) (ap (map item_of) c.from_ref-items.ensures.value) a (c.in_ok-affected.ensures c.self.invariant.0) in
     c.take_script.ensures.edits (Replace e text) (subst (λ (k : Kept). Brings (contents_of k) (Replace e text) (under q k.limit) a) c.self.view_is b)

@@ -1,10 +1,11 @@
 use Rattle.std.proofs.Common.{◌≡◌, ℕ, List, All, Ok, Err, inl, length, ap, sym, refl, subst, arith}
 use Rattle.std.proofs.lemmas.List.{length-map}
 use Rattle.std.proofs.lemmas.Result.{err_from_is_err_and}
-use Rattle.sbl_script.specs.Parsed.{source_of}
+use Rattle.sbl_script.specs.Parsed.{Parsed, source_of}
+use Rattle.sbl_machine.specs.MachineOf.{IsLinkedMachineOf}
 use Rattle.sbl_bench.specs.Changes.{Brings, affected_of}
 use Rattle.sbl_bench.specs.Edits.{Edit, Edits}
-use Rattle.sbl_bench.specs.Kept.{KeptWord, IsWord, Kept, contents_of, words_in}
+use Rattle.sbl_bench.specs.Kept.{KeptWord, IsKept, IsWord, Kept, contents_of, words_in}
 use Rattle.sbl_bench.specs.Contents.{Contents}
 use Rattle.sbl_bench.specs.Setting.{under}
 use Rattle.sbl_bench.proofs.Meeting.{anew, still}
@@ -60,7 +61,8 @@ invariant_of-self-2 c =
     let s : Contents = record { setting = under p l; words = words_in es; count = c.self.inside.meter } in
     let b : Brings s e t a = subst (λ (k : Kept). Brings (contents_of k) e (under q k.limit) a) (sym c.self.view_is) c.requires.1 in
     let fs = c.make_changes.new.traces.entries in
-    let words = c.make_changes.ensures.words in (
+    let words = c.make_changes.ensures.words in
+    subst (λ (x : Parsed). IsLinkedMachineOf c.in_ok-after.after (source_of x) × IsKept (under (source_of x) l) fs) (sym c.swap.ensures.x_after) (
       c.in_ok-after.ensures,
       record {
         fresh = c.make_changes.ensures.fresh t (anew a t es c.in_ok-changes.changes.items (c.in_ok-changes.ensures.changes q c.in_ok-after.ensures) (still s.setting t a b.stays es c.self.invariant.1.fresh));
@@ -79,6 +81,8 @@ returns-clause-edits c e brings =
     let t = under q l in
     let s : Contents = record { setting = under p l; words = words_in es; count = c.self.inside.meter } in
     let b : Brings s e t a = subst (λ (k : Kept). Brings (contents_of k) e (under q k.limit) a) (sym c.self.view_is) brings in
-    let after : Contents = record { setting = t; words = words_in c.make_changes.new.traces.entries; count = c.rerun.new.meter } in
-    subst (λ (k : Kept). Edits (Ok tt) (contents_of k) e after) c.self.view_is
-    (made s e t a es b refl c.self.invariant.1.fresh c.make_changes.new.traces.entries c.rerun.new.meter c.make_changes.ensures.words c.in_ok-changes.ensures.room c.in_ok-changes.ensures.counted)
+    let fs = c.make_changes.new.traces.entries in
+    let after : Contents = record { setting = t; words = words_in fs; count = c.rerun.new.meter } in
+    subst (λ (x : Parsed). Edits (Ok tt) (contents_of c.args.self.now) e (record { setting = under (source_of x) l; words = words_in fs; count = c.rerun.new.meter })) (sym c.swap.ensures.x_after)
+    (subst (λ (k : Kept). Edits (Ok tt) (contents_of k) e after) c.self.view_is
+    (made s e t a es b refl c.self.invariant.1.fresh c.make_changes.new.traces.entries c.rerun.new.meter c.make_changes.ensures.words c.in_ok-changes.ensures.room c.in_ok-changes.ensures.counted))

@@ -1,4 +1,4 @@
-use Rattle.std.proofs.Common.{◌≡◌, ◌∙◌, List, Result, Ok, Err, IfOk, map, ap, subst, sym}
+use Rattle.std.proofs.Common.{◌≡◌, List, Result, Ok, Err, IfOk, map, ap, subst, sym}
 use Rattle.sbl_run.specs.declared.touch.Touch.{Touch}
 use Rattle.sbl_script.specs.Parsed.{source_of}
 use Rattle.sbl_tree.specs.Order.{in_order}
