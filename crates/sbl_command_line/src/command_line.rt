@@ -1,8 +1,8 @@
 //! The command line, defined with `clap`.
-ghost use Rattle.std.specs.Prelude.{◌≡◌, IfOk, Some, map};
+ghost use Rattle.std.specs.Prelude.{◌≡◌, IfOk, None, Some, codes, map, option_map};
 ghost use Rattle.std.specs.String.{string_bytes};
-ghost use Rattle.clap.specs.Words.{app_of};
-ghost use Rattle.sbl_command_line.specs.CommandLine.{program, verb_app, verb_name, wanted_of};
+ghost use Rattle.clap.specs.Words.{app_of, first_value, found_of, one_text};
+ghost use Rattle.sbl_command_line.specs.CommandLine.{flag_in, program, value_in, verb_app, verb_name, wanted_of, work_app};
 
 use clap::error::ErrorKind;
 use clap::{Arg, ArgAction, ArgMatches, Command, Error};
@@ -133,7 +133,7 @@ writes
   undo,stem,do
   redo,stem,redo
 
-To read on: docs/SESSION.md has every command with its answers.";
+To read on: docs/WORK.md has every command with its answers.";
 
 /// Returns the definition of a subcommand, with the option `--external NAME` and its default `stem`.
 fn verb_command<'a>(
@@ -177,11 +177,9 @@ fn work_command<'a>(alloc: Global) -> Result<Command<'a>, AllocError>
 }
 
 /// Returns the text of an argument, if it is given. Returns `AllocError` if an allocation fails.
-fn text_of(
-    alloc: Global,
-    options: &ArgMatches,
-    name: &str,
-) -> Result<Option<String>, AllocError> {
+fn text_of(alloc: Global, options: &ArgMatches, name: &str) -> Result<Option<String>, AllocError>
+    ensures { IfOk result (λ text. option_map string_bytes text ≡ first_value (found_of options.now) name.now) }
+{
     match options.get_str(name) {
         Some(text) => Ok(Some(String::from_str(alloc, text)?)),
         None => Ok(None),
@@ -189,7 +187,12 @@ fn text_of(
 }
 
 /// Returns the face that is asked for: rows, if both are.
-fn face_of(options: &ArgMatches) -> Option<Face> {
+fn face_of(options: &ArgMatches) -> Option<Face>
+    ensures rows { one_text (found_of options.now) (codes "rows") ≡ Some (codes "true") → result ≡ Some Face.Rows }
+    ensures text { one_text (found_of options.now) (codes "rows") ≡ Some (codes "false") → one_text (found_of options.now) (codes "text") ≡ Some (codes "true") → result ≡ Some Face.Text }
+    ensures neither { one_text (found_of options.now) (codes "rows") ≡ Some (codes "false") → one_text (found_of options.now) (codes "text") ≡ Some (codes "false") → result ≡ None }
+    ensures other { one_text (found_of options.now) (codes "rows") ≡ None → one_text (found_of options.now) (codes "text") ≡ None → result ≡ None }
+{
     if options.get_flag("rows") {
         return Some(Face::Rows);
     }
@@ -224,7 +227,12 @@ fn make_program<'a>(alloc: Global) -> Result<Command<'a>, AllocError>
 /// or is given twice. A request for help is also an error, with the help as its text. A failed allocation is an error
 /// of its own kind.
 pub fn read_words<'a>(alloc: Global, words: &'a [String]) -> Result<Wanted, Error>
-    ensures { IfOk result (λ wanted. wanted_of (map string_bytes words.now) ≡ Some (verb_name wanted.verb, string_bytes wanted.external)) }
+    ensures wanted { IfOk result (λ wanted. wanted_of (map string_bytes words.now) ≡ Some (verb_name wanted.verb, string_bytes wanted.external)) }
+    ensures script { IfOk result (λ wanted. option_map string_bytes wanted.script ≡ value_in (codes "SCRIPT") (map string_bytes words.now)) }
+    ensures words { IfOk result (λ wanted. option_map string_bytes wanted.words ≡ value_in (codes "WORDS") (map string_bytes words.now)) }
+    ensures rows { IfOk result (λ wanted. flag_in (codes "rows") (map string_bytes words.now) ≡ Some (codes "true") → wanted.face ≡ Some Face.Rows) }
+    ensures text { IfOk result (λ wanted. flag_in (codes "rows") (map string_bytes words.now) ≡ Some (codes "false") → flag_in (codes "text") (map string_bytes words.now) ≡ Some (codes "true") → wanted.face ≡ Some Face.Text) }
+    ensures neither { IfOk result (λ wanted. flag_in (codes "rows") (map string_bytes words.now) ≡ Some (codes "false") → flag_in (codes "text") (map string_bytes words.now) ≡ Some (codes "false") → wanted.face ≡ None) }
 {
     let matches = make_program(alloc)?.try_get_matches_from(words)?;
     let Some((name, options)) = matches.subcommand() else {
@@ -245,11 +253,14 @@ pub fn read_words<'a>(alloc: Global, words: &'a [String]) -> Result<Wanted, Erro
     let Some(external) = options.get_str("external") else {
         return Err(make_program(alloc)?.error(ErrorKind::MissingRequiredArgument, "no external")?);
     };
+    let script = text_of(alloc, options, "SCRIPT")?;
+    let list = text_of(alloc, options, "WORDS")?;
+    let face = face_of(options);
     Ok(Wanted {
         verb,
         external: String::from_str(alloc, external)?,
-        script: text_of(alloc, options, "SCRIPT")?,
-        words: text_of(alloc, options, "WORDS")?,
-        face: face_of(options),
+        script,
+        words: list,
+        face,
     })
 }

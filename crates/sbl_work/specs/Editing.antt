@@ -1,15 +1,13 @@
 -- Edits of the setting of a bench that are remembered.
-use Rattle.std.specs.Prelude.{◌≡◌, ◌⊎◌, ◌++◌, ℕ, List, Option, None, Some, Result, Ok, Err, true, false}
-use Rattle.std.specs.Str.{is_utf8}
+use Rattle.std.specs.Prelude.{◌≡◌, ◌⊎◌, ℕ, List, Option, None, Result, Ok, Err}
 use Rattle.sbl_bench.specs.Contents.{Contents}
 use Rattle.sbl_bench.specs.Edits.{Edit, Edits, Replace}
 use Rattle.sbl_bench.specs.declared.fault.EditFault.{EditFault}
 use Rattle.sbl_bench.specs.declared.fault.EditFault.TheVariants as fault
 use Rattle.sbl_print.specs.Canonical.{canonical}
 use Rattle.sbl_script.specs.Edits.{ScriptEdit}
-use Rattle.sbl_text.specs.declared.fault.ScriptFault.TheVariants as script
 use Rattle.sbl_work.specs.Desks.{State, text_in}
-use Rattle.sbl_work.specs.History.{Past, ToLimit, ToText, Turn, remembered}
+use Rattle.sbl_work.specs.History.{ToLimit, ToText, remembered}
 
 -- two benches have scripts with the same canonical text
 abbrev pub SameText : Contents → Contents → Type 0
@@ -31,13 +29,6 @@ Replaces (Err f) edit text s d t e = Edits (Err f) s edit t × (e ≡ d)
 abbrev pub ReplacesPart : Result (Unit {0}) EditFault → ScriptEdit → List ℕ → Contents → State → Contents → State → Type 0
 ReplacesPart result what text s d t e =
     Replaces result (Replace what text) None s d t e ⊎ ((result ≡ Err fault.OutOfMemory) × (t ≡ s) × (e ≡ d))
-
--- A text for a part of the script is UTF-8, and the edit is made by the end of it: by what follows `define NAME as` if it begins
--- so. A text that is not UTF-8 is refused for that, and nothing changes.
-abbrev pub ReplacesBy : Result (Unit {0}) EditFault → ScriptEdit → List ℕ → Contents → State → Contents → State → Type 0
-ReplacesBy result what text s d t e =
-    ((is_utf8 text ≡ true) × (head : List ℕ) × (rest : List ℕ) × (text ≡ head ++ rest) × ReplacesPart result what rest s d t e)
-    ⊎ ((is_utf8 text ≡ false) × (result ≡ Err (fault.Script script.NotUtf8)) × (t ≡ s) × (e ≡ d))
 
 -- After a request that may set the limit, the limit before is remembered if it was another one.
 abbrev pub IsLimitNoted : Contents → Contents → State → State → Type 0

@@ -2,3 +2,5 @@
 pub mod History
 pub mod Desks
 pub mod Editing
+pub mod Reports
+pub mod Definitions

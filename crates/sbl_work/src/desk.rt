@@ -1,18 +1,17 @@
 //! A desk: what is kept beside a bench at work, so that its edits can be undone and its rows compared with those at a mark.
-ghost use Rattle.std.specs.Prelude.{◌≡◌, [], IfOk, OnErr, OnOk, None, Some, map, string_bytes, true};
-ghost use Rattle.sbl_bench.specs.Edits.{Whole};
+ghost use Rattle.std.specs.Prelude.{◌≡◌, ◌⊎◌, [], IfOk, OnErr, OnOk, None, Some, map, string_bytes, true};
+ghost use Rattle.sbl_bench.specs.Edits.{Edits, Replace, Whole};
 ghost use Rattle.sbl_bench.specs.Kept.{contents_of};
 ghost use Rattle.sbl_print.specs.Canonical.{canonical};
 ghost use Rattle.sbl_sessions.specs.CommandViews.{IsAnswer, view_target};
 ghost use Rattle.sbl_sessions.specs.Commands.{line_command};
 ghost use Rattle.sbl_work.specs.Desks.{Redoes, Undoes, rows_now, state_of, text_in, view_marked, view_text};
-ghost use Rattle.sbl_work.specs.Editing.{IsLimitNoted, IsNoted, Replaces, ReplacesBy, ReplacesPart};
+ghost use Rattle.sbl_work.specs.Editing.{IsLimitNoted, Replaces, ReplacesPart};
+ghost use Rattle.sbl_work.specs.History.{ToText, remembered};
 
-use crate::definitions::without_head;
 use crate::history::{History, HistoryFault, Step, text_of};
 use crate::marks::{MarkedRow, copy_rows};
 use sbl_bench::{Bench, EditFault};
-use sbl_script::ScriptFault;
 use sbl_sessions::{Reply, Target, answer_line};
 use std::alloc::{AllocError, Global};
 
@@ -98,7 +97,11 @@ impl Desk {
     }
 
     /// Notes that the script was edited, with its text. Remembers the text before unless the canonical text is the same.
-    fn note(&mut self, bench: &Bench, before: Before, text: Option<Vec<u8>>) {
+    fn note(&mut self, bench: &Bench, before: Before, text: Option<Vec<u8>>)
+        ensures text { (state_of self.new).text ≡ view_text text }
+        ensures marked { (state_of self.new).marked ≡ (state_of self.old).marked }
+        ensures past { ((canonical (contents_of bench.now).setting.script.items ≡ string_bytes before.canonical) × ((state_of self.new).past ≡ (state_of self.old).past)) ⊎ ((state_of self.new).past ≡ remembered (state_of self.old).past (ToText before.text.items)) }
+    {
         self.text = text;
         if has_canonical(self.alloc, bench, before.canonical.as_str()) {
             return;
@@ -121,31 +124,14 @@ impl Desk {
         Ok(())
     }
 
-    /// Replaces a part of the script by a text, and remembers the edit if it changed the script. If the text for a routine
-    /// begins with `define NAME as`, or the text for a grouping with `define NAME`, what follows these tokens is taken.
+    /// Replaces a part of the script by a text, as `Bench::replace_routine`, `Bench::replace_among` and `Bench::replace_grouping`
+    /// do, and remembers the edit if it changed the script.
     ///
     /// # Errors
     ///
-    /// Returns `Script` with `NotUtf8` if the text is not UTF-8, and the faults of `Bench::replace_routine`,
-    /// `Bench::replace_among` and `Bench::replace_grouping`. Returns `OutOfMemory` if an allocation fails. Then the desk is
-    /// unchanged.
+    /// Returns the faults of these three. Returns `OutOfMemory` also if an allocation fails before the edit is tried. Then the
+    /// desk is unchanged.
     pub fn replace_part(
-        &mut self,
-        bench: &mut Bench,
-        target: &Target,
-        text: &[u8],
-    ) -> Result<(), EditFault>
-        ensures { ReplacesBy result (view_target target.now) text.now (contents_of bench.old) (state_of self.old) (contents_of bench.new) (state_of self.new) }
-    {
-        let Ok(text) = str::from_utf8(text) else {
-            return Err(EditFault::Script(ScriptFault::NotUtf8));
-        };
-        let text = without_head(self.alloc, target, text)?;
-        self.replace_part_by(bench, target, text)
-    }
-
-    /// Replaces a part of the script by a text, as `replace_part` does, and takes the whole text.
-    fn replace_part_by(
         &mut self,
         bench: &mut Bench,
         target: &Target,
@@ -154,11 +140,7 @@ impl Desk {
         ensures { ReplacesPart result (view_target target.now) text.now (contents_of bench.old) (state_of self.old) (contents_of bench.new) (state_of self.new) }
     {
         let before = self.before(bench)?;
-        match target {
-            Target::Body(name) => bench.replace_routine(name.as_str(), text)?,
-            Target::Among(name, k) => bench.replace_among(name.as_str(), *k, text)?,
-            Target::Terms(name) => bench.replace_grouping(name.as_str(), text)?,
-        }
+        edit_part(bench, target, text)?;
         self.note(bench, before, None);
         Ok(())
     }
@@ -197,6 +179,17 @@ impl Desk {
         ensures { IfOk result (λ t. t.items ≡ text_in (contents_of bench.now) (state_of self.now).text) }
     {
         text_of(self.alloc, bench, &self.text)
+    }
+}
+
+/// Replaces a part of the script of a bench by a text. Returns the fault of the bench.
+fn edit_part(bench: &mut Bench, target: &Target, text: &str) -> Result<(), EditFault>
+    ensures { Edits result (contents_of bench.old) (Replace (view_target target.now) text.now) (contents_of bench.new) }
+{
+    match target {
+        Target::Body(name) => bench.replace_routine(name.as_str(), text),
+        Target::Among(name, k) => bench.replace_among(name.as_str(), *k, text),
+        Target::Terms(name) => bench.replace_grouping(name.as_str(), text),
     }
 }
 

@@ -8,9 +8,9 @@ mod history;
 mod marks;
 mod parts;
 mod replies;
+mod reports;
 mod requests;
 mod serving;
-mod standin;
 mod words;
 
 pub use desk::Desk;

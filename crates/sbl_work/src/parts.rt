@@ -1,5 +1,6 @@
 //! Edits of the script by a block.
 
+use crate::definitions::without_head;
 use crate::desk::Desk;
 use crate::replies::edit_reply;
 use sbl_bench::{Bench, EditFault};
@@ -8,7 +9,7 @@ use sbl_script::ScriptFault;
 use sbl_sessions::{
     BAD_COMMAND, BlockFault, BlockText, BlockWord, Reply, Target, read_block, target_of,
 };
-use std::alloc::AllocError;
+use std::alloc::{AllocError, Global};
 
 /// Returns the text of a block, or the fault of an edit by it.
 fn text_of(block: BlockText) -> Result<Vec<u8>, EditFault> {
@@ -27,24 +28,30 @@ fn replace_by(desk: &mut Desk, bench: &mut Bench, block: BlockText) -> Result<()
 
 /// Replaces a part of the script by the text of a block.
 fn replace_part_by(
+    alloc: Global,
     desk: &mut Desk,
     bench: &mut Bench,
     target: &Target,
     block: BlockText,
 ) -> Result<(), EditFault> {
     let text = text_of(block)?;
-    desk.replace_part(bench, target, &text)
+    let Ok(text) = str::from_utf8(&text) else {
+        return Err(EditFault::Script(ScriptFault::NotUtf8));
+    };
+    let text = without_head(alloc, target, text)?;
+    desk.replace_part(bench, target, text)
 }
 
 /// Makes the edit that a line and its block ask for, and returns the reply. A bad line is refused, whatever its block is.
 fn edit_part(
+    alloc: Global,
     desk: &mut Desk,
     bench: &mut Bench,
     target: Result<Option<Target>, AllocError>,
     block: BlockText,
 ) -> Reply {
     match target {
-        Ok(Some(target)) => edit_reply(replace_part_by(desk, bench, &target, block)),
+        Ok(Some(target)) => edit_reply(replace_part_by(alloc, desk, bench, &target, block)),
         Ok(None) => Reply::Fixed(BAD_COMMAND),
         Err(_) => edit_reply(Err(EditFault::OutOfMemory)),
     }
@@ -59,7 +66,7 @@ pub(crate) fn answer_part<R: Source + Drop>(
 ) -> Result<Reply, ServeFault> {
     let target = target_of(lines.alloc(), word, lines.line());
     let block = read_block(lines)?;
-    Ok(edit_part(desk, bench, target, block))
+    Ok(edit_part(lines.alloc(), desk, bench, target, block))
 }
 
 /// Reads the block of `replace`, makes the edit, and returns the reply. A bad line is refused, whatever its block is.

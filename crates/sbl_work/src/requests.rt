@@ -107,3 +107,21 @@ fn text_request(line: &str) -> Request<'_> {
         _ => Request::Session,
     }
 }
+
+/// Returns the number above 0 that decimal digits write, and `usize::MAX` for each larger number; `None` if the bytes are not
+/// decimal digits or the number is 0.
+pub(crate) fn count_in(digits: &[u8]) -> Option<usize> {
+    let mut number: usize = 0;
+    for i in 0..digits.len() {
+        if !digits[i].is_ascii_digit() {
+            return None;
+        }
+        number = number
+            .saturating_mul(10)
+            .saturating_add(usize::from(digits[i] - b'0'));
+    }
+    if number == 0 {
+        return None;
+    }
+    Some(number)
+}

@@ -9,8 +9,8 @@ use crate::desk::Desk;
 use crate::files::{OpenFault, Paths, open, save};
 use crate::parts::{answer_part, answer_replace};
 use crate::replies::{BAD_NUMBER, NO_FILE, edit_reply, memory_reply, redo_reply, undo_reply};
-use crate::requests::{BlockRequest, Request, block_request_of, is_quit, request_of};
-use crate::standin::{changes_text, largest_text, number_in, stats_text};
+use crate::reports::{changes_text, largest_text, stats_text};
+use crate::requests::{BlockRequest, Request, block_request_of, count_in, is_quit, request_of};
 use sbl_bench::{Bench, EditFault};
 use sbl_lines::{Lines, ServeFault, Sink, Source, write_all};
 use sbl_sessions::{LoadFault, Reply, report, write_reply};
@@ -62,9 +62,9 @@ fn save_as<F: Files + AllocGlobal>(
 
 /// Returns the reply to `largest`.
 fn largest(alloc: Global, bench: &Bench, argument: &str) -> Reply {
-    match number_in(argument.as_bytes()) {
-        None | Some(0) => Reply::Fixed(BAD_NUMBER),
+    match count_in(argument.as_bytes()) {
         Some(number) => report(largest_text(alloc, bench, number)),
+        None => Reply::Fixed(BAD_NUMBER),
     }
 }
 
