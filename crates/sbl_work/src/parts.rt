@@ -1,4 +1,6 @@
 //! Edits of the script by a block.
+ghost use Rattle.std.specs.Prelude.{◌≤◌, OnOk};
+ghost use Rattle.sbl_lines.specs.Held.{KeepsTime, fuel_of};
 
 use crate::definitions::without_head;
 use crate::desk::Desk;
@@ -63,7 +65,10 @@ pub(crate) fn answer_part<R: Source + Drop>(
     bench: &mut Bench,
     lines: &mut Lines<R>,
     word: BlockWord,
-) -> Result<Reply, ServeFault> {
+) -> Result<Reply, ServeFault>
+    ensures fuel { OnOk result (fuel_of lines.new ≤ fuel_of lines.old) }
+    ensures in_time { KeepsTime R.ended R.late R.interruptions R.reads lines.old lines.new }
+{
     let target = target_of(lines.alloc(), word, lines.line());
     let block = read_block(lines)?;
     Ok(edit_part(lines.alloc(), desk, bench, target, block))
@@ -75,7 +80,10 @@ pub(crate) fn answer_replace<R: Source + Drop>(
     bench: &mut Bench,
     lines: &mut Lines<R>,
     is_good: bool,
-) -> Result<Reply, ServeFault> {
+) -> Result<Reply, ServeFault>
+    ensures fuel { OnOk result (fuel_of lines.new ≤ fuel_of lines.old) }
+    ensures in_time { KeepsTime R.ended R.late R.interruptions R.reads lines.old lines.new }
+{
     let block = read_block(lines)?;
     if !is_good {
         return Ok(Reply::Fixed(BAD_COMMAND));

@@ -1,8 +1,8 @@
 //! Work: each request gets its reply before the next line is read.
 
-ghost use Rattle.std.specs.Prelude.{◌≤◌};
+ghost use Rattle.std.specs.Prelude.{◌≤◌, OnOk};
 ghost use Rattle.sbl_lines.specs.Devices.{WritesInTime};
-ghost use Rattle.sbl_lines.specs.Held.{KeepsTime};
+ghost use Rattle.sbl_lines.specs.Held.{KeepsTime, fuel_of};
 
 use crate::definitions::definition_text;
 use crate::desk::Desk;
@@ -116,7 +116,10 @@ fn answer<F: Files + AllocGlobal, R: Source + Drop>(
     desk: &mut Desk,
     bench: &mut Bench,
     lines: &mut Lines<R>,
-) -> Result<Reply, ServeFault> {
+) -> Result<Reply, ServeFault>
+    ensures fuel { OnOk result (fuel_of lines.new ≤ fuel_of lines.old) }
+    ensures in_time { KeepsTime R.ended R.late R.interruptions R.reads lines.old lines.new }
+{
     match block_request_of(lines.line()) {
         Some(BlockRequest::Part(word)) => answer_part(desk, bench, lines, word),
         Some(BlockRequest::Whole(is_good)) => answer_replace(desk, bench, lines, is_good),
@@ -132,7 +135,10 @@ fn serve<F: Files + AllocGlobal, R: Source + Drop, W: Sink>(
     prompt: &[u8],
     lines: &mut Lines<R>,
     writer: &mut W,
-) -> Result<(), ServeFault> {
+) -> Result<(), ServeFault>
+    ensures reads_in_time { KeepsTime R.ended R.late R.interruptions R.reads lines.old lines.new }
+    ensures writes_in_time { WritesInTime W.late W.interruptions writer.old writer.new }
+{
     write_all(writer, prompt)?;
     while lines.next_line()? {
         if is_quit(lines.line()) {
@@ -146,7 +152,9 @@ fn serve<F: Files + AllocGlobal, R: Source + Drop, W: Sink>(
 }
 
 /// Writes why there is no desk.
-fn write_fault<E: Sink>(alloc: Global, errors: &mut E, fault: &OpenFault) {
+fn write_fault<E: Sink>(alloc: Global, errors: &mut E, fault: &OpenFault)
+    ensures { WritesInTime E.late E.interruptions errors.old errors.new }
+{
     let line = match fault {
         OpenFault::File(path, error) => format!(in alloc; "snowbench: {path}: {error}\n"),
         OpenFault::Load(fault) => format!(in alloc; "snowbench: {fault}\n"),
@@ -164,7 +172,10 @@ fn serve_bench<F: Files + AllocGlobal, R: Source + Drop, W: Sink>(
     prompt: &[u8],
     lines: &mut Lines<R>,
     writer: &mut W,
-) -> Result<(), ServeFault> {
+) -> Result<(), ServeFault>
+    ensures reads_in_time { KeepsTime R.ended R.late R.interruptions R.reads lines.old lines.new }
+    ensures writes_in_time { WritesInTime W.late W.interruptions writer.old writer.new }
+{
     let text = Vec::from_slice(lines.alloc(), folder.seen.as_slice())?;
     let mut desk = Desk::new(lines.alloc(), bench, text)?;
     serve(folder, &mut desk, bench, prompt, lines, writer)
@@ -177,7 +188,10 @@ fn work_on<F: Files + AllocGlobal, R: Source + Drop, W: Sink>(
     prompts: bool,
     lines: &mut Lines<R>,
     writer: &mut W,
-) -> Result<(), OpenFault> {
+) -> Result<(), OpenFault>
+    ensures reads_in_time { KeepsTime R.ended R.late R.interruptions R.reads lines.old lines.new }
+    ensures writes_in_time { WritesInTime W.late W.interruptions writer.old writer.new }
+{
     let (mut bench, seen) = open(files, paths)?;
     let mut folder = Folder { files, paths, seen };
     let prompt = if prompts { PROMPT } else { b"".as_slice() };
