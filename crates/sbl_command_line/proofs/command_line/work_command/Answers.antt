@@ -1,4 +1,4 @@
-use Rattle.std.proofs.Common.{rules, ◌≡◌, ◌∙◌, ap, ap₂, Some, true, codes}
+use Rattle.std.proofs.Common.{◌≡◌, ◌∙◌, ap, ap₂, Some, true, false, codes}
 use Rattle.std.proofs.lemmas.Result.{IfOk-weaker}
 use Rattle.clap.specs.Words.{Rule, with_rule}
 use Rattle.clap.specs.Walk.{rule_of}
@@ -17,7 +17,11 @@ returns c =
     let text_is : rule_of c.help-text.result ≡ flag (codes "text") =
     rw c.help-text.ensures (rw c.action-2.ensures (rw c.long-2.ensures
     (ap (λ (r : Rule). record r { long = Some (codes "text"); action = Some SetTrue }) c.new-4.ensures.rule))) in
-    let first = c.in_ok-arg.ensures.shape (search rules) ∙ ap₂ with_rule c.in_ok-verb_command.ensures script_is in
-    let second = c.in_ok-arg-2.ensures.shape (search rules) ∙ ap₂ with_rule first words_is in
-    let third = c.in_ok-arg-3.ensures.shape (search rules) ∙ ap₂ with_rule second rows_is in
-    IfOk-weaker c.arg-4.result _ _ (λ r h. h.shape (search rules) ∙ ap₂ with_rule third text_is) c.arg-4.ensures
+    let script_is_here : c.help-script.result.global ≡ false = rw c.help-script.ensures (rw c.required.ensures c.new.ensures.optional.1) in
+    let words_are_here : c.help-words.result.global ≡ false = rw c.help-words.ensures c.new-2.ensures.optional.1 in
+    let rows_are_here : c.help-rows.result.global ≡ false = rw c.help-rows.ensures (rw c.action.ensures (rw c.long.ensures c.new-3.ensures.optional.1)) in
+    let text_is_here : c.help-text.result.global ≡ false = rw c.help-text.ensures (rw c.action-2.ensures (rw c.long-2.ensures c.new-4.ensures.optional.1)) in
+    let first = c.in_ok-arg.ensures.shape script_is_here ∙ ap₂ with_rule c.in_ok-verb_command.ensures script_is in
+    let second = c.in_ok-arg-2.ensures.shape words_are_here ∙ ap₂ with_rule first words_is in
+    let third = c.in_ok-arg-3.ensures.shape rows_are_here ∙ ap₂ with_rule second rows_is in
+    IfOk-weaker c.arg-4.result _ _ (λ r h. h.shape text_is_here ∙ ap₂ with_rule third text_is) c.arg-4.ensures
