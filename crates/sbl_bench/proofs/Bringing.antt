@@ -9,7 +9,6 @@ use Rattle.sbl_checks.specs.Checks.{WellDeclared}
 use Rattle.sbl_script.specs.Edits.{ScriptEdit}
 use Rattle.sbl_script.specs.Parsed.{Source}
 use Rattle.sbl_script.specs.Reading.{IsScriptOf}
-use Rattle.sbl_run.specs.Touches.{same_touch}
 use Rattle.sbl_run.specs.declared.touch.Touch.{Touch}
 use Rattle.sbl_machine.specs.BuiltFrom.{affected_by, meets, meets_one}
 use Rattle.sbl_machine.specs.Differs.{differs}
@@ -23,7 +22,7 @@ use Rattle.sbl_bench.specs.Affected.{Affected, AreMet, Touching, Above, is_affec
 use Rattle.sbl_bench.specs.Changes.{Brings, IsExchange, IsTaken}
 use Rattle.sbl_bench.specs.Contents.{Contents}
 use Rattle.sbl_bench.specs.Edits.{Edit, Install, Replace, Limit, Whole, is_limit, is_of_text, meets_listed, smaller}
-use Rattle.sbl_bench.specs.Setting.{Setting, RunsSame, under}
+use Rattle.sbl_bench.specs.Setting.{RunsSame, under}
 
 -- ---- items
 

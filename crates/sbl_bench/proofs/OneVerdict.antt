@@ -19,7 +19,8 @@ pub record Known : Type 0 where
   pub unread : FaultIsOne
   pub read_either : ScriptOrFault
 
-both : {p q : Setting} → p.script ≡ q.script → p.limit ≡ q.limit → p ≡ q
+-- two settings are equal by their parts
+pub both : {p q : Setting} → p.script ≡ q.script → p.limit ≡ q.limit → p ≡ q
 both a b = λ i. record { script = a i; limit = b i }
 
 setting_is_one : Known → (s : Contents) (e : Edit) (p q : Setting) → IsSettingAfter s e p → IsSettingAfter s e q → p ≡ q

@@ -46,7 +46,7 @@ one_run s word new =
     ∙ rw ((bytes_eq-Decides word word).1 refl) refl
 
 -- a removal runs nothing
-filter_off : (words : List (List ℕ)) → filter (λ w. false) words ≡ []
+pub filter_off : (words : List (List ℕ)) → filter (λ w. false) words ≡ []
 filter_off [] = refl
 filter_off (w ∷ words) = filter_off words
 

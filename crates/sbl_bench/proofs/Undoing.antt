@@ -1,5 +1,5 @@
 -- Taking an edit back, and installing the script in force.
-use Rattle.std.proofs.Common.{◌≡◌, ◌∙◌, ℕ, Bool, true, false, List, [], ◌∷◌, ◌+◌, map, length, Option, Some, arith, refl, sym, ap}
+use Rattle.std.proofs.Common.{◌≡◌, ◌∙◌, ℕ, Bool, true, false, List, [], ◌∷◌, ◌+◌, map, length, Option, arith, refl, sym, ap}
 use Rattle.std.specs.List.{filter, list_any}
 use Rattle.std.proofs.Math.Path.{fun_ext}
 use Rattle.std.proofs.lemmas.Bool.{true≢false}
@@ -11,15 +11,14 @@ use Rattle.sbl_machine.specs.Outcome.{touches_of}
 use Rattle.sbl_machine.specs.Touched.{Item', named, names_of}
 use Rattle.sbl_bench.specs.Classes.{classes_of}
 use Rattle.sbl_bench.specs.Contents.{Contents}
-use Rattle.sbl_bench.specs.Edits.{Edit, Add, Remove, Replace, Whole, Install, Limit, IsAccepted, IsSettingAfter, edited, is_of_script, meets_listed, runs_needed}
+use Rattle.sbl_bench.specs.Edits.{Edit, Add, Remove, Replace, Whole, Install, Limit, IsSettingAfter, is_of_script, meets_listed, runs_needed}
 use Rattle.sbl_bench.specs.EqualScripts.{EqualScriptRunsNothing, InstalledAgainRunsNothing}
 use Rattle.sbl_bench.specs.Rows.{rows_of}
 use Rattle.sbl_bench.specs.Setting.{Setting}
 use Rattle.sbl_bench.specs.Traces.{trace_of}
 use Rattle.sbl_bench.specs.Undo.{Shows, UndoOfLimit, UndoOfScript}
-
-both : {p q : Setting} → p.script ≡ q.script → p.limit ≡ q.limit → p ≡ q
-both a b = λ i. record { script = a i; limit = b i }
+use Rattle.sbl_bench.proofs.OneVerdict.{both}
+use Rattle.sbl_bench.proofs.Refusals.{filter_off}
 
 -- ---- back to the setting before
 
@@ -65,10 +64,6 @@ nothing_met law p q limit same w =
     ap (λ (x : Source). meets_listed (differs p x) p w limit) same
     ∙ ap (λ (xs : Option (List Item')). meets_listed xs p w limit) (law p)
     ∙ meets_none p w limit
-
-filter_off : (words : List (List ℕ)) → filter (λ w. false) words ≡ []
-filter_off [] = refl
-filter_off (w ∷ words) = filter_off words
 
 none_filtered : (met : List ℕ → Bool) (words : List (List ℕ)) → ((w : List ℕ) → met w ≡ false) → length (filter met words) ≡ 0
 none_filtered met words off = ap (λ (test : List ℕ → Bool). length (filter test words)) (fun_ext off) ∙ ap length (filter_off words)

@@ -1,4 +1,4 @@
-use Rattle.std.proofs.Common.{◌≡◌, ◌∙◌, List, Option, Some, None, IfOk, map, ap, sym, refl, subst}
+use Rattle.std.proofs.Common.{◌≡◌, ◌∙◌, List, Option, Some, IfOk, map, ap, sym, refl, subst}
 use Rattle.sbl_script.specs.Parsed.{source_of}
 use Rattle.sbl_machine.specs.Differs.{differs}
 use Rattle.sbl_machine.specs.Touched.{Item', item_of}

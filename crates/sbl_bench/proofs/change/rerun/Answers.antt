@@ -1,4 +1,4 @@
-use Rattle.std.proofs.Common.{◌≡◌, ◌∙◌, ℕ, List, Bor, map, ap, sym, subst}
+use Rattle.std.proofs.Common.{◌∙◌, ℕ, List, Bor, map, ap, sym, subst}
 use Rattle.std.specs.List.{All}
 use Rattle.sbl_bench.specs.Changes.{affected_of}
 use Rattle.sbl_bench.specs.Kept.{IsWord}

@@ -1,4 +1,4 @@
-use Rattle.std.proofs.Common.{◌≡◌, ◌-◌, ℕ, List, Bor, Result, Ok, Err, OnErr, length, arith}
+use Rattle.std.proofs.Common.{◌-◌, ℕ, List, Bor, Result, Ok, Err, OnErr, arith}
 use Rattle.std.proofs.lemmas.List.{length-drop}
 use Rattle.sbl_bench.proofs.Meeting.{short_at}
 use Rattle.sbl_bench.proofs.change.run_words.Goals as goal

@@ -1,14 +1,10 @@
-use Rattle.std.proofs.Common.{◌≡◌, Err, inl, refl, sym, subst}
+use Rattle.std.proofs.Common.{inl, refl, sym, subst}
 use Rattle.std.proofs.lemmas.Result.{err_from_is_err_and}
 use Rattle.sbl_script.specs.Parsed.{source_of}
-use Rattle.sbl_machine.specs.Differs.{differs}
-use Rattle.sbl_bench.specs.Affected.{AreMet}
 use Rattle.sbl_bench.specs.Changes.{Brings, IsExchange, affected_of}
 use Rattle.sbl_bench.specs.Contents.{Contents}
-use Rattle.sbl_bench.specs.Edits.{Edit, Edits}
 use Rattle.sbl_bench.specs.Kept.{Kept, contents_of, words_in}
 use Rattle.sbl_bench.specs.Setting.{under}
-use Rattle.sbl_bench.specs.declared.fault.EditFault.TheVariants.{OutOfMemory}
 use Rattle.sbl_bench.proofs.Bringing.{exchange_brings}
 use Rattle.sbl_bench.proofs.bench.Bench.exchange.Goals as goal
 

@@ -1,4 +1,4 @@
-use Rattle.std.proofs.Common.{◌≡◌, ◌⊎◌, Err, subst, ap, ℕ, List}
+use Rattle.std.proofs.Common.{◌≡◌, ◌⊎◌, Err, subst, ℕ, List}
 use Rattle.std.proofs.lemmas.Result.{err_from_is_err_and}
 use Rattle.sbl_script.specs.Parsed.{source_of}
 use Rattle.sbl_script.specs.Reading.{IsFaultOf, IsScriptOf}

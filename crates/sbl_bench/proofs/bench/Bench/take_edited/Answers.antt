@@ -1,17 +1,12 @@
-use Rattle.std.proofs.Common.{◌≡◌, ◌∙◌, ◌∷◌, [], true, List, Err, Some, map, inl, ap, sym, refl, subst}
-use Rattle.std.specs.List.{list_all}
+use Rattle.std.proofs.Common.{map, inl, ap, sym, refl, subst}
 use Rattle.std.proofs.lemmas.Result.{err_from_is_err_and}
-use Rattle.sbl_script.specs.Edits.{ScriptEdit}
 use Rattle.sbl_script.specs.Parsed.{source_of}
-use Rattle.sbl_machine.specs.Marks.{has_item}
-use Rattle.sbl_machine.specs.Touched.{Item', item_of, names_of, replaced}
-use Rattle.sbl_bench.specs.Affected.{AreMet}
+use Rattle.sbl_machine.specs.Touched.{item_of}
 use Rattle.sbl_bench.specs.Changes.{Brings, IsTaken, affected_of}
 use Rattle.sbl_bench.specs.Contents.{Contents}
-use Rattle.sbl_bench.specs.Edits.{Edits, Replace}
+use Rattle.sbl_bench.specs.Edits.{Replace}
 use Rattle.sbl_bench.specs.Kept.{Kept, contents_of, words_in}
 use Rattle.sbl_bench.specs.Setting.{under}
-use Rattle.sbl_bench.specs.declared.fault.EditFault.TheVariants.{OutOfMemory}
 use Rattle.sbl_bench.proofs.Bringing.{edited_brings}
 use Rattle.sbl_bench.proofs.bench.Bench.take_edited.Goals as goal
 
