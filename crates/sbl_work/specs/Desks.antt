@@ -10,9 +10,9 @@ use Rattle.sbl_work.specs.History.{Past, ToLimit, ToText, Turn, edit_of}
 use Rattle.sbl_work.specs.declared.desk.Desk.{Desk}
 use Rattle.sbl_work.specs.declared.history.HistoryFault.{HistoryFault}
 use Rattle.sbl_work.specs.declared.history.HistoryFault.TheVariants as fault
-use Rattle.sbl_work.specs.declared.history.History.{History}
-use Rattle.sbl_work.specs.declared.history.Step.{Step}
-use Rattle.sbl_work.specs.declared.history.Step.TheVariants as step
+use Rattle.sbl_work.specs.declared.steps.History.{History}
+use Rattle.sbl_work.specs.declared.steps.Step.{Step}
+use Rattle.sbl_work.specs.declared.steps.Step.TheVariants as step
 use Rattle.sbl_work.specs.declared.marks.MarkedRow.{MarkedRow}
 use Rattle.std.specs.declared.vec.Vec.{Vec}
 use Rattle.std.specs.declared.alloc.Global.{Global}

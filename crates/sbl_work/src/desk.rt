@@ -9,8 +9,9 @@ ghost use Rattle.sbl_work.specs.Desks.{Redoes, Undoes, rows_now, state_of, text_
 ghost use Rattle.sbl_work.specs.Editing.{IsLimitNoted, Replaces, ReplacesPart};
 ghost use Rattle.sbl_work.specs.History.{ToText, remembered};
 
-use crate::history::{History, HistoryFault, Step, text_of};
+use crate::history::{HistoryFault, text_of};
 use crate::marks::{MarkedRow, copy_rows};
+use crate::steps::{History, Step};
 use sbl_bench::{Bench, EditFault};
 use sbl_sessions::{Reply, Target, answer_line};
 use std::alloc::{AllocError, Global};

@@ -1,10 +1,11 @@
 //! The edits that can be undone and redone.
-ghost use Rattle.std.specs.Prelude.{◌≡◌, ◌≤◌, ◌<◌, ◌+◌, ℕ, List, [], length, map, IfOk, OnOk, OnErr, vec_len, vec_capacity};
+ghost use Rattle.std.specs.Prelude.{◌≡◌, ◌≤◌, ◌<◌, ◌+◌, ◌-◌, ◌++◌, ◌∷◌, [], Some, drop, length, map, IfOk, OnOk, OnErr, vec_len, vec_capacity};
 ghost use Rattle.sbl_bench.specs.Edits.{Edits};
 ghost use Rattle.sbl_bench.specs.Kept.{contents_of};
 ghost use Rattle.sbl_work.specs.Desks.{Turns, back, past_of, text_after, text_in, view_step, view_text};
-ghost use Rattle.sbl_work.specs.History.{ToLimit, ToText, edit_of, remembered};
+ghost use Rattle.sbl_work.specs.History.{ToLimit, ToText, edit_of, latest, remembered};
 
+use crate::steps::{History, Step};
 use sbl_bench::{Bench, EditFault};
 use std::alloc::{AllocError, Global};
 use std::mem::replace;
@@ -21,30 +22,7 @@ pub enum HistoryFault {
     Edit(EditFault),
 }
 
-/// What an edit is undone or redone by.
-#[derive(Debug, Drop)]
-pub enum Step {
-    /// A text of the whole script.
-    Text(Vec<u8>),
-    /// A limit of steps.
-    Limit(u32),
-}
-
-/// The edits that can be undone and redone: at most 100 together.
-#[derive(Debug, Drop)]
-pub struct History {
-    // the latest edit is the last
-    earlier: Vec<Step>,
-    // the next edit is the last
-    later: Vec<Step>,
-    ghost few: { vec_len earlier + vec_len later ≤ 100 },
-    ghost room: { 100 ≤ vec_capacity earlier },
-    ghost later_room: { 100 ≤ vec_capacity later },
-}
-
 impl History {
-    ghost use Rattle.std.specs.Prelude.{◌++◌, ◌∷◌};
-
     /// Returns an empty history. Returns `AllocError` if an allocation fails; later calls allocate nothing for the history.
     pub(crate) fn new(alloc: Global) -> Result<History, AllocError>
         ensures { IfOk result (λ h. past_of h ≡ record { earlier = []; later = [] }) }
@@ -59,10 +37,7 @@ impl History {
         ensures { past_of self.new ≡ remembered (past_of self.old) (view_step step) }
     {
         self.later.clear();
-        if self.earlier.len() >= MAX_STEPS {
-            let _oldest = self.earlier.remove(0);
-        }
-        self.earlier.push_reserved(step);
+        push_latest(&mut self.earlier, step);
     }
 
     /// Undoes the latest edit.
@@ -98,6 +73,31 @@ impl History {
     {
         turn(alloc, bench, text, &mut self.later, &mut self.earlier)
     }
+}
+
+/// Drops the first step if there are 100.
+fn make_room(steps: &mut Vec<Step>)
+    requires { vec_len steps.old ≤ 100 }
+    ensures items { steps.new.items ≡ drop (length steps.old.items - 99) steps.old.items }
+    ensures few { vec_len steps.new < 100 }
+    ensures room { vec_capacity steps.new ≡ vec_capacity steps.old }
+{
+    if steps.len() >= MAX_STEPS {
+        let _oldest = steps.remove(0);
+    }
+}
+
+/// Appends a step, and forgets the oldest one if there are 100.
+#[tactic(auto, using(crate::proofs::Latest::one_more))]
+fn push_latest(steps: &mut Vec<Step>, step: Step)
+    requires few { vec_len steps.old ≤ 100 }
+    requires room { 100 ≤ vec_capacity steps.old }
+    ensures steps { map view_step steps.new.items ≡ latest (map view_step steps.old.items ++ view_step step ∷ []) }
+    ensures few { vec_len steps.new ≤ 100 }
+    ensures room { vec_capacity steps.new ≡ vec_capacity steps.old }
+{
+    make_room(steps);
+    steps.push_reserved(step);
 }
 
 /// Makes the last of the steps `from`, and appends the step that takes it back to `to`.

@@ -11,6 +11,7 @@ mod replies;
 mod reports;
 mod requests;
 mod serving;
+mod steps;
 mod words;
 
 pub use desk::Desk;
