@@ -75,11 +75,7 @@ fn grouping_unless(alloc: Global, name: &String, same: bool) -> Result<Vec<Item>
 
 /// Returns the items in which two plain items differ, and `None` if more differs than the body of a routine or the
 /// terms of a grouping.
-fn differ_plain(
-    alloc: Global,
-    one: &Plain,
-    other: &Plain,
-) -> Result<Option<Vec<Item>>, AllocError>
+fn differ_plain(alloc: Global, one: &Plain, other: &Plain) -> Result<Option<Vec<Item>>, AllocError>
     ensures { IfOk result (λ r. items_in r ≡ spec.differ_plain (view_plain one.now) (view_plain other.now)) }
 {
     match one {

@@ -38,9 +38,15 @@ impl Picks {
         ensures numbers { IfOk result (λ p. p.numbers.items ≡ self.numbers.items ++ following.numbers.items) }
         ensures after { IfOk result (λ p. p.after ≡ following.after) }
     {
-        let Picks { mut numbers, after: _ } = self;
+        let Picks {
+            mut numbers,
+            after: _,
+        } = self;
         numbers.extend_from_slice(following.numbers.as_slice())?;
-        Ok(Picks { numbers, after: following.after })
+        Ok(Picks {
+            numbers,
+            after: following.after,
+        })
     }
 }
 
@@ -49,7 +55,11 @@ pub(crate) fn when(alloc: Global, same: bool, after: u64) -> Option<Picks>
     ensures numbers { numbers_in result ≡ spec.when same }
     ensures after { IfSome result (λ p. p.after ≡ after) }
 {
-    if same { Some(Picks::none(alloc, after)) } else { None }
+    if same {
+        Some(Picks::none(alloc, after))
+    } else {
+        None
+    }
 }
 
 /// Returns the first of two amongs if both contain as many amongs. So many amongs of the routine come before them.

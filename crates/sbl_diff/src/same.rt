@@ -228,7 +228,9 @@ pub(crate) fn same_terms(one: &Vec<Term>, other: &Vec<Term>) -> bool
         let [second, rest @ ..] = others else {
             return false;
         };
-        if !(first.operator == second.operator && same_argument(&first.argument, &second.argument)) {
+        if !(first.operator == second.operator
+            && same_argument(&first.argument, &second.argument))
+        {
             return false;
         }
         others = rest;
