@@ -115,6 +115,7 @@ impl Desk {
     /// # Errors
     ///
     /// Returns the faults of `Bench::replace_script`. Then the desk is unchanged.
+    #[tactic(auto, using(crate::proofs::Refusing::nothing_tried))]
     pub fn replace(&mut self, bench: &mut Bench, text: &[u8]) -> Result<(), EditFault>
         ensures { Replaces result (Whole text.now) (Some text.now) (contents_of bench.old) (state_of self.old) (contents_of bench.new) (state_of self.new) }
     {

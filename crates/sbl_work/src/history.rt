@@ -149,6 +149,7 @@ fn exchange(
 }
 
 /// Replaces the whole script by a text. Then `other` has the text that was in force before.
+#[tactic(auto, using(crate::proofs::Refusing::nothing_tried))]
 fn exchange_text(
     alloc: Global,
     bench: &mut Bench,
