@@ -8,3 +8,4 @@ pub mod ChangeFacts
 pub mod FigureFacts
 pub mod ClassLaws
 pub mod ChangeLaws
+pub mod RankFacts
