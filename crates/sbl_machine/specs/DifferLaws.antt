@@ -27,6 +27,10 @@ MoreDiffers = (s t : Source) → differs s t ≡ None → DifferOnlyInItems s t 
 abbrev pub AlikeDifferNowhere : Type 0
 AlikeDifferNowhere = (s : Source) → differs s s ≡ Some []
 
+-- scripts that differ in no item are equal
+abbrev pub EqualIfNoneDiffers : Type 0
+EqualIfNoneDiffers = (s t : Source) → differs s t ≡ Some [] → s ≡ t
+
 -- ---- what the differing items say
 
 -- the script defines the routines and groupings of the differing items

@@ -1,7 +1,7 @@
 //! Laws of runs.
 
 ghost use Rattle.sbl_machine.specs.BuiltFrom.{AffectedIsClosed};
-ghost use Rattle.sbl_machine.specs.DifferLaws.{AlikeDifferNowhere, DifferingAgree, DifferingAreThere, DifferingStay, MoreDiffers, OneAffects, OneMeets, OnlyItemsDiffer};
+ghost use Rattle.sbl_machine.specs.DifferLaws.{AlikeDifferNowhere, DifferingAgree, DifferingAreThere, DifferingStay, EqualIfNoneDiffers, MoreDiffers, OneAffects, OneMeets, OnlyItemsDiffer};
 ghost use Rattle.sbl_machine.specs.EnoughSteps.{RefusedForSteps, UsedStepsSuffice, UsedStepsTouch};
 ghost use Rattle.sbl_machine.specs.Frame.{AgreeingNamesStay, ClearStay, EditsAgree, Frame, NamesStay, TouchedRise, TouchesAreTouched, UnmetByOneStay, UnmetStay, UntouchedStay};
 ghost use Rattle.sbl_machine.specs.Groupings.{GroupingsAreTheirTerms, GroupingsHaveTheirTerms};
@@ -135,11 +135,12 @@ pub fn one_item_alone()
 {}
 
 /// Two scripts have a list of differing items exactly if they are equal after the bodies of all routines and the terms
-/// of all groupings are replaced by holes. A script differs from itself in no item.
+/// of all groupings are replaced by holes. They differ in no item exactly if they are equal.
 pub fn only_items_differ()
     ensures only { OnlyItemsDiffer }
     ensures more { MoreDiffers }
     ensures alike { AlikeDifferNowhere }
+    ensures equal { EqualIfNoneDiffers }
 {}
 
 /// Two scripts agree outside what an edit of one of the items in which they differ affects. In a well-declared script,
