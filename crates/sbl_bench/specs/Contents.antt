@@ -2,6 +2,7 @@
 use Rattle.std.specs.Prelude.{◌≡◌, ℕ, ◌-◌, ◌^◌, Bool, List, [], ◌∷◌, length, Option, Some, None, Result, Ok, Err, nat_lt, nat_le, if◌then◌else◌}
 use Rattle.std.specs.Option.{option_or}
 use Rattle.sbl_script.specs.Parsed.{Source}
+use Rattle.sbl_run.specs.Start.{max_word_length}
 use Rattle.sbl_machine.specs.Limit.{default_limit}
 use Rattle.sbl_bench.specs.Setting.{Setting, under}
 use Rattle.sbl_bench.specs.declared.fault.EditFault.{EditFault}
@@ -13,9 +14,6 @@ pub record Contents : Type 0 where
   pub setting : Setting
   pub words : List (List ℕ)
   pub count : ℕ
-
-abbrev pub max_word_length : ℕ
-max_word_length = 255
 
 abbrev pub max_words : ℕ
 max_words = 100000

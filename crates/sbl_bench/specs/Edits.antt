@@ -8,7 +8,8 @@ use Rattle.sbl_script.specs.Edits.{ScriptEdit, body, among, terms, IsEdited, IsE
 use Rattle.sbl_script.specs.Parsed.{Source}
 use Rattle.sbl_script.specs.Reading.{IsScriptOf, IsFaultOf}
 use Rattle.sbl_text.specs.declared.fault.ScriptFault.{ScriptFault}
-use Rattle.sbl_bench.specs.Contents.{Contents, is_full, max_word_length, max_runs}
+use Rattle.sbl_run.specs.Start.{max_word_length}
+use Rattle.sbl_bench.specs.Contents.{Contents, is_full, max_runs}
 use Rattle.sbl_bench.specs.Setting.{Setting}
 use Rattle.sbl_bench.specs.Vocabulary.{is_word, without}
 use Rattle.sbl_machine.specs.BuiltFrom.{meets, meets_one}
@@ -58,9 +59,13 @@ fault_of_script script.AmongCount = fault.AmongCount
 fault_of_script (script.Script f) = fault.Script f
 fault_of_script script.OutOfMemory = fault.OutOfMemory
 
+-- the highest limit
+abbrev pub max_limit : ℕ
+max_limit = 10000000
+
 -- the limits that may be set
 abbrev pub is_limit : ℕ → Bool
-is_limit n = nat_le 1 n && nat_le n 10000000
+is_limit n = nat_le 1 n && nat_le n max_limit
 
 -- the edit is refused with this fault, whatever the count of runs is
 abbrev pub IsRefused : Contents → Edit → EditFault → Type 0

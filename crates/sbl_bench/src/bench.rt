@@ -11,9 +11,6 @@ use std::collections::BTreeSet;
 use std::marker::Model;
 use std::mem::forget;
 
-/// The maximum number of characters of a word (our own choice).
-pub const MAX_WORD_LENGTH: usize = 255;
-
 /// The maximum number of words of a vocabulary (our own choice).
 pub const MAX_WORDS: usize = 100_000;
 

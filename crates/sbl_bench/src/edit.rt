@@ -4,7 +4,7 @@ ghost use Rattle.std.specs.Prelude.{◌≡◌, ◌≤◌, ◌<◌, ◌+◌, ◌^
 ghost use Rattle.sbl_bench.specs.Edits.{is_limit};
 
 use crate::affected::{Affected, above_smaller, affected_by_exchange, affected_by_items};
-use crate::bench::{Bench, MAX_LIMIT, MAX_WORD_LENGTH, MAX_WORDS};
+use crate::bench::{Bench, MAX_LIMIT, MAX_WORDS};
 use crate::change::{make_changes, rerun};
 use crate::fault::EditFault;
 use crate::traces::{has_word, put_last};
@@ -12,6 +12,7 @@ use sbl_machine::laws::{
     differing_stay, edits_agree, one_item_alone, untouched_stay, used_steps_suffice,
 };
 use sbl_machine::{Item, Machine};
+use sbl_run::MAX_WORD_LENGTH;
 use sbl_script::Script;
 use sbl_script::laws::is_well_declared;
 use std::mem::swap;

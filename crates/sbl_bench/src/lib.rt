@@ -16,8 +16,9 @@ mod pairs;
 mod row;
 mod traces;
 
-pub use bench::{Bench, MAX_LIMIT, MAX_WORD_LENGTH, MAX_WORDS};
+pub use bench::{Bench, MAX_LIMIT, MAX_WORDS};
 pub use class::Class;
 pub use fault::EditFault;
 pub use row::Row;
+pub use sbl_run::MAX_WORD_LENGTH;
 pub use sbl_script::ScriptFault;

@@ -11,12 +11,13 @@ ghost use Rattle.sbl_bench.specs.Kept.{words_in, IsKept};
 ghost use Rattle.sbl_machine.specs.Limit.{default_limit};
 ghost use Rattle.sbl_bench.specs.Setting.{under};
 
-use crate::bench::{Bench, MAX_WORD_LENGTH, MAX_WORDS};
+use crate::bench::{Bench, MAX_WORDS};
 use crate::fault::EditFault;
 use crate::traces::has_word;
 use indexmap::IndexMap;
 use indexmap::map::{Entry, OccupiedEntry};
 use sbl_machine::{DEFAULT_LIMIT, Machine, Meter, Table, Traced};
+use sbl_run::MAX_WORD_LENGTH;
 use sbl_script::Script;
 use std::alloc::Global;
 

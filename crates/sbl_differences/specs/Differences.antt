@@ -8,7 +8,7 @@ use Rattle.sbl_run.specs.Names.{name_of}
 use Rattle.sbl_machine.specs.Outcome as machine
 use Rattle.sbl_machine.specs.Limit.{default_limit}
 use Rattle.sbl_machine.specs.Outcome.{Outcome', run_of}
-use Rattle.sbl_bench.specs.Contents.{max_word_length}
+use Rattle.sbl_run.specs.Start.{max_word_length}
 use Rattle.sbl_lines.specs.LinesOf.{lines_of, max_line}
 use Rattle.sbl_records.specs.Records.{records_text}
 use Rattle.sbl_lines.specs.declared.faults.ServeFault.{ServeFault}

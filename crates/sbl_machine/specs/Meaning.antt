@@ -39,6 +39,7 @@ use Rattle.sbl_numbering.specs.Regions.{Among, among_at, behind, behind_rows, be
 use Rattle.sbl_run.specs.Run.{at_end, turns, times, count_of, seeks, limits, limit_here, limit_back, backwards_from, backwards_end, chosen as go_on, enter, leave, paid}
 use Rattle.sbl_run.specs.Search.{choice, take_none, take_string, touch_among}
 use Rattle.sbl_run.specs.Slices.{left_bracket, right_bracket, replace, keep, insert, attach}
+use Rattle.sbl_run.specs.Start.{max_levels}
 use Rattle.sbl_run.specs.State.{State, Ending, Signals, Stops, Doing, bound_of, after, then_on, saved_cursor, place_after, put_back, to_limit}
 use Rattle.sbl_run.specs.declared.fault.RunFault.TheVariants.{Depth}
 use Rattle.sbl_script.specs.Parsed.{Source}
@@ -346,16 +347,16 @@ start ns word steps = record {
   steps = steps;
 }
 
--- How a run of a script on a word ends. The external's body runs forwards, on the first of 32 levels.
+-- How a run of a script on a word ends. The external's body runs forwards, on the first level.
 unfoldable pub ending : Source → List ℕ → ℕ → Ending
 ending script word limit =
     let items = in_order script.items in
-    calls (known_in items) (class_of (classes_behind items [])) (body_named items) 32 script.external Forward
+    calls (known_in items) (class_of (classes_behind items [])) (body_named items) max_levels script.external Forward
     (start (known_in items) word limit)
 
 -- the same run, with its events recorded
 unfoldable pub telling : Source → List ℕ → ℕ → Ending
 telling script word limit =
     let items = in_order script.items in
-    calls (known_in items) (class_of (classes_behind items [])) (body_named items) 32 script.external Forward
+    calls (known_in items) (class_of (classes_behind items [])) (body_named items) max_levels script.external Forward
     (record (start (known_in items) word limit) { told = Some [] })

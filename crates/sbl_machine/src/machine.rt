@@ -3,6 +3,7 @@
 ghost use Rattle.std.specs.Prelude.{◌≡◌, ◌<◌, ◌≤◌, ◌+◌, true, length, map, IfOk, MatchResult, ◌↔◌, Err};
 ghost use Rattle.std.specs.List.{list_all, list_any};
 ghost use Rattle.sbl_run.specs.Kept.{Follows};
+ghost use Rattle.sbl_run.specs.Start.{max_word_length};
 ghost use Rattle.sbl_machine.specs.MachineOf.{IsMachineOf};
 ghost use Rattle.sbl_machine.specs.Marks.{AreMarksOf, has_item};
 ghost use Rattle.sbl_machine.specs.Outcome.{outcome_at, outcome_of, run_of, touched_at, touches_of, used_at, used_of};
@@ -76,7 +77,7 @@ impl<S: AmongSearch> Machine<S> {
         word: &[char],
         limit: u32,
     ) -> Result<Ran, RunStop>
-        requires { length word.now ≤ 255 }
+        requires { length word.now ≤ max_word_length }
         ensures outcome { (script : Source) → IsMachineOf S S.entries S.mode self.now script → IfOk result (λ ran. outcome_of ran.outcome ≡ run_of script word.now limit) }
         ensures touched { (script : Source) → IsMachineOf S S.entries S.mode self.now script → IfOk result (λ ran. items_in ran.touched ≡ touched_of script word.now limit) }
         ensures used { (script : Source) → IsMachineOf S S.entries S.mode self.now script → IfOk result (λ ran. ran.used ≡ used_of script word.now limit) }
@@ -105,7 +106,7 @@ impl<S: AmongSearch> Machine<S> {
         word: &[char],
         limit: u32,
     ) -> Result<Traced, RunStop>
-        requires { length word.now ≤ 255 }
+        requires { length word.now ≤ max_word_length }
         ensures outcome { (script : Source) → IsMachineOf S S.entries S.mode self.now script → IfOk result (λ traced. outcome_of traced.outcome ≡ run_of script word.now limit) }
         ensures touches { (script : Source) → IsMachineOf S S.entries S.mode self.now script → IfOk result (λ traced. traced.touches.items ≡ touches_of script word.now limit) }
         ensures used { (script : Source) → IsMachineOf S S.entries S.mode self.now script → IfOk result (λ traced. traced.used ≡ used_of script word.now limit) }
@@ -121,7 +122,7 @@ impl<S: AmongSearch> Machine<S> {
     ///
     /// Returns `AllocError` if an allocation fails.
     pub fn why(&self, alloc: Global, word: &[char], limit: u32) -> Result<Why, AllocError>
-        requires { length word.now ≤ 255 }
+        requires { length word.now ≤ max_word_length }
         ensures outcome { (script : Source) → IsMachineOf S S.entries S.mode self.now script → IfOk result (λ why. outcome_of why.outcome ≡ run_of script word.now limit) }
         ensures events { (script : Source) → IsMachineOf S S.entries S.mode self.now script → IfOk result (λ why. map event_of why.events.items ≡ events_of script word.now limit) }
         ensures used { (script : Source) → IsMachineOf S S.entries S.mode self.now script → IfOk result (λ why. why.used ≡ used_of script word.now limit) }
@@ -189,7 +190,7 @@ impl<S: AmongSearch> Machine<S> {
         word: &[char],
         limit: u32,
     ) -> Result<Traced, RunStop>
-        requires { length word.now ≤ 255 }
+        requires { length word.now ≤ max_word_length }
         ensures outcome { (script : Source) → IsMachineOf S S.entries S.mode self.now script → IfOk result (λ traced. outcome_of traced.outcome ≡ run_of script word.now limit) }
         ensures touches { (script : Source) → IsMachineOf S S.entries S.mode self.now script → IfOk result (λ traced. traced.touches.items ≡ touches_of script word.now limit) }
         ensures used { (script : Source) → IsMachineOf S S.entries S.mode self.now script → IfOk result (λ traced. traced.used ≡ used_of script word.now limit) }
@@ -211,7 +212,7 @@ impl<S: AmongSearch> Machine<S> {
         word: &[char],
         limit: u32,
     ) -> Result<Traced, AllocError>
-        requires { length word.now ≤ 255 }
+        requires { length word.now ≤ max_word_length }
         ensures outcome { (script : Source) → IsMachineOf S S.entries S.mode self.now script → IfOk result (λ traced. outcome_of traced.outcome ≡ run_of script word.now limit) }
         ensures touches { (script : Source) → IsMachineOf S S.entries S.mode self.now script → IfOk result (λ traced. traced.touches.items ≡ touches_of script word.now limit) }
         ensures used { (script : Source) → IsMachineOf S S.entries S.mode self.now script → IfOk result (λ traced. traced.used ≡ used_of script word.now limit) }
@@ -235,7 +236,7 @@ impl<S: AmongSearch> Machine<S> {
         word: &[char],
         limit: u32,
     ) -> Result<Traced, AllocError>
-        requires { length word.now ≤ 255 }
+        requires { length word.now ≤ max_word_length }
         ensures outcome { (script : Source) → IsMachineOf S S.entries S.mode self.now script → IfOk result (λ traced. outcome_of traced.outcome ≡ run_of script word.now limit) }
         ensures touches { (script : Source) → IsMachineOf S S.entries S.mode self.now script → IfOk result (λ traced. traced.touches.items ≡ touches_of script word.now limit) }
         ensures used { (script : Source) → IsMachineOf S S.entries S.mode self.now script → IfOk result (λ traced. traced.used ≡ used_of script word.now limit) }

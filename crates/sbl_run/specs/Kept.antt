@@ -1,9 +1,10 @@
 -- How the results of the code represent an ending, and what holds of each state.
-use Rattle.std.specs.Prelude.{◌≡◌, ℕ, ◌≤◌, Bool, true, false, List, length, Option, Some, None, Result, Ok, Err}
+use Rattle.std.specs.Prelude.{◌≡◌, ℕ, ◌+◌, ◌*◌, ◌≤◌, Bool, true, false, List, length, Option, Some, None, Result, Ok, Err}
 use Rattle.sbl_run.specs.declared.fault.RunFault.{RunFault}
 use Rattle.sbl_run.specs.declared.halt.Halt.{Halt}
+use Rattle.sbl_run.specs.declared.state.SavedCursor.{SavedCursor}
 use Rattle.sbl_run.specs.Halts.{fault_of}
-use Rattle.sbl_run.specs.State.{State, Ending, Signals, Stops}
+use Rattle.sbl_run.specs.State.{State, Ending, Signals, Stops, max_text_length}
 
 -- A command ended early and left this state, as the definition says; memory may be refused at any point.
 abbrev pub Halts : Option RunFault → State → Ending → Type 0
@@ -28,9 +29,13 @@ Tried (Err halt) new e follow = Halts (fault_of halt) new e
 
 -- the offsets lie in the text, which is short
 pub record IsWithin (text : List ℕ) (cursor left beyond bra ket : ℕ) : Type 0 where
-  pub short : length text ≤ 1024
+  pub short : length text ≤ max_text_length
   pub cursor_in : cursor ≤ length text
-  pub left_below : left ≤ 1024
-  pub beyond_below : beyond ≤ 1024
+  pub left_below : left ≤ max_text_length
+  pub beyond_below : beyond ≤ max_text_length
   pub bra_in : bra ≤ length text
   pub ket_in : ket ≤ length text
+
+-- a cursor saved in such a text
+abbrev pub IsSaved : SavedCursor → Type 0
+IsSaved from = from.cursor + from.beyond + from.length ≤ 3 * max_text_length

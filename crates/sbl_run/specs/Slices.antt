@@ -3,7 +3,7 @@ use Rattle.std.specs.Prelude.{ℕ, ◌+◌, ◌-◌, Bool, true, false, ◌&&◌
 use Rattle.std.specs.List.{splice}
 use Rattle.sbl_run.specs.Events.{Puts}
 use Rattle.sbl_run.specs.declared.fault.RunFault.TheVariants.{Slice, Cursor, TooLong}
-use Rattle.sbl_run.specs.State.{State, Ending, Signals, Stops, tell}
+use Rattle.sbl_run.specs.State.{State, Ending, Signals, Stops, tell, max_text_length}
 use Rattle.sbl_tree.specs.declared.mode.Mode.{Mode}
 use Rattle.sbl_tree.specs.declared.mode.Mode.TheVariants.{Forward, Backward}
 
@@ -38,7 +38,7 @@ replaced string s =
 abbrev pub replace : List ℕ → State → Ending
 replace string s =
     if is_slice s
-    then (if nat_le (length s.text + length string - (s.ket - s.bra)) 1024 then Signals true (replaced string s) else Stops TooLong s)
+    then (if nat_le (length s.text + length string - (s.ket - s.bra)) max_text_length then Signals true (replaced string s) else Stops TooLong s)
     else Stops Slice s
 
 -- `-> s` copies the slice to a string variable
@@ -66,7 +66,7 @@ inserted right string s =
 abbrev pub put_in : Bool → List ℕ → State → Ending
 put_in right string s =
     if nat_le (s.cursor + s.beyond) (length s.text)
-    then (if nat_le (length s.text + length string) 1024 then Signals true (inserted right string s) else Stops TooLong s)
+    then (if nat_le (length s.text + length string) max_text_length then Signals true (inserted right string s) else Stops TooLong s)
     else Stops Cursor s
 
 -- `insert S` and `<+ S` leave the cursor right of S forwards, and left of S backwards

@@ -5,6 +5,14 @@ use Rattle.sbl_run.specs.Run.{calls}
 use Rattle.sbl_run.specs.State.{State, Ending}
 use Rattle.sbl_tree.specs.declared.mode.Mode.TheVariants.{Forward}
 
+-- the maximum number of characters of a word
+abbrev pub max_word_length : ℕ
+max_word_length = 255
+
+-- the maximum depth of calls of routines, counting the external as 1
+abbrev pub max_levels : ℕ
+max_levels = 32
+
 -- a state in which nothing has run: no text, no variables, nothing touched, no events, no steps
 abbrev pub blank : State
 blank = record {
@@ -43,6 +51,6 @@ start p word steps = record {
   steps = steps;
 }
 
--- how a run of a word ends: the external's body runs forwards, on the first of 32 levels
+-- how a run of a word ends: the external's body runs forwards, on the first level
 abbrev pub ending_of : programs.Program → List ℕ → ℕ → Ending
-ending_of p word limit = calls p 32 p.external Forward (start p word limit)
+ending_of p word limit = calls p max_levels p.external Forward (start p word limit)

@@ -34,6 +34,10 @@ pub record State : Type 0 where
   -- the steps that are left
   pub steps : ℕ
 
+-- the maximum number of characters in the text of a run
+abbrev pub max_text_length : ℕ
+max_text_length = 1024
+
 -- records an event, if events are asked for
 abbrev pub tell : Event' → State → State
 tell x s = record s { told = with_event x s.told }

@@ -14,7 +14,7 @@ pub use event::Event;
 pub use fault::RunFault;
 pub use halt::Halt;
 pub use run::Runner;
-pub use state::State;
+pub use state::{MAX_WORD_LENGTH, State};
 pub use table::{TableList, Tables, tables_of};
 pub use touch::Touch;
 pub use touched::Touched;

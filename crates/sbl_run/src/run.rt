@@ -1,7 +1,7 @@
 //! Runs commands on a state.
 
 ghost use Rattle.std.specs.Prelude.{◌≡◌, ◌+◌, ◌<◌, ◌≤◌, true, false, suc, map, IfOk, slice_get};
-ghost use Rattle.sbl_run.specs.Kept.{Follows, Tried};
+ghost use Rattle.sbl_run.specs.Kept.{Follows, IsSaved, Tried};
 ghost use Rattle.sbl_run.specs.Numbers.{value, given};
 ghost use Rattle.sbl_program.specs.ProgramOf.{program_of, view_joined, view_node, view_nodes, view_number};
 ghost use Rattle.sbl_run.specs.Run.{runs, runs_paid, all_run, backwards_end, backwards_from, group_runs, calls, limit_here, limited, limits, turns, times, count_of, seeks};
@@ -208,7 +208,7 @@ impl<'a, T: Tables> Runner<'a, T> {
         joined: &Joined,
         state: &mut State,
     ) -> Result<bool, Halt>
-        requires { from.cursor + from.beyond + from.length ≤ 4096 }
+        requires { IsSaved from }
         ensures follows { Follows result state.new (joined_runs (program_of (T.listed self.now.tables.now) self.now.program.now) self.now.levels self.now.mode from (view_joined (T.listed self.now.tables.now) joined.now) signal state.old) }
         ensures no_more { IfOk result (λ _. state.new.steps ≤ state.old.steps) }
     {
@@ -377,7 +377,7 @@ impl<'a, T: Tables> Runner<'a, T> {
         i: usize,
         state: &mut State,
     ) -> Result<bool, Halt>
-        requires { from.cursor + from.beyond + from.length ≤ 4096 }
+        requires { IsSaved from }
         ensures tried { (begun : RunState) (follow : RunState → Ending) → from ≡ saved_cursor begun → Tried result state.new (try_one (calls (program_of (T.listed self.now.tables.now) self.now.program.now) self.now.levels) among (slice_get entries.now i) self.now.mode begun state.old follow) (follow state.new) }
         ensures no_more { IfOk result (λ _. state.new.steps ≤ state.old.steps) }
         ensures fewer { IfOk result (λ b. b ≡ false → state.new.steps < state.old.steps) }

@@ -7,9 +7,9 @@ ghost use Rattle.sbl_program.specs.Listed.{Listed};
 ghost use Rattle.sbl_program.specs.ProgramOf.{program_of, view_text};
 ghost use Rattle.sbl_run.specs.Moves.{characters};
 ghost use Rattle.sbl_run.specs.Events.{Event' as RunEvent, event_of, Puts};
-ghost use Rattle.sbl_run.specs.Kept.{Leads};
+ghost use Rattle.sbl_run.specs.Kept.{Leads, IsSaved};
 ghost use Rattle.sbl_run.specs.Rows.{pays};
-ghost use Rattle.sbl_run.specs.Start.{blank, start};
+ghost use Rattle.sbl_run.specs.Start.{blank, start, max_word_length};
 ghost use Rattle.sbl_run.specs.Told.{told_of};
 
 mod actions;
@@ -27,7 +27,10 @@ use std::alloc::{AllocError, Global};
 use std::marker::Model;
 use std::mem;
 
-/// The greatest number of characters in the text of a run.
+/// The maximum number of characters of a word (our own choice).
+pub const MAX_WORD_LENGTH: usize = 255;
+
+/// The maximum number of characters in the text of a run.
 const MAX_TEXT_LENGTH: usize = 1024;
 
 /// The state of a run.
@@ -118,7 +121,7 @@ impl State {
         word: &[char],
         steps: u32,
     ) -> Result<(), AllocError>
-        requires { length word.now ≤ 255 }
+        requires { length word.now ≤ max_word_length }
         ensures { (tables : ℕ → Listed) → IfOk result (λ _. self.new ≡ start (program_of tables program.now) word.now steps) }
     {
         self.cursor = 0;
@@ -257,7 +260,7 @@ impl State {
     #[inline(always)]
     pub fn saved_cursor(&self) -> SavedCursor
         ensures value { result ≡ saved_cursor self.now }
-        ensures small { result.cursor + result.beyond + result.length ≤ 4096 }
+        ensures small { IsSaved result }
     {
         SavedCursor {
             cursor: self.cursor,
@@ -269,7 +272,7 @@ impl State {
     /// Puts the cursor back to a saved cursor. Returns `Cursor` if that offset is outside the text.
     #[inline(always)]
     pub fn put_back(&mut self, mode: Mode, from: SavedCursor) -> Result<(), Halt>
-        requires { from.cursor + from.beyond + from.length ≤ 4096 }
+        requires { IsSaved from }
         ensures leads { Leads result self.new (put_back mode from self.old) }
         ensures same_steps { IfOk result (λ _. self.new.steps ≡ self.old.steps) }
     {
@@ -308,7 +311,7 @@ impl State {
     /// one of the two offsets is outside the text.
     #[inline(always)]
     pub fn place_after(&mut self, mode: Mode, from: SavedCursor, n: usize) -> Result<(), Halt>
-        requires { from.cursor + from.beyond + from.length ≤ 4096 }
+        requires { IsSaved from }
         ensures leads { Leads result self.new (place_after mode from n self.old) }
         ensures same_steps { IfOk result (λ _. self.new.steps ≡ self.old.steps) }
     {

@@ -3,6 +3,7 @@
 ghost use Rattle.std.specs.Prelude.{◌≡◌, ◌≤◌, ◌-◌, ℕ, Option, None, length, replicate, IfOk};
 ghost use Rattle.sbl_tables.specs.Fitting.{ahead_at};
 ghost use Rattle.sbl_run.specs.Kept.{Leads};
+ghost use Rattle.sbl_run.specs.State.{max_text_length};
 ghost use Rattle.sbl_run.specs.Run.{limits, limit_here, limit_back, backwards_from, backwards_end, back_in, enter};
 ghost use Rattle.sbl_run.specs.Moves.{touch_grouping};
 ghost use Rattle.sbl_run.specs.Search.{choose, choice, bound_in, take_none, take_string, touch_among};
@@ -20,7 +21,7 @@ impl State {
     #[inline(always)]
     pub fn limits(&self) -> Limits
         ensures value { result ≡ limits self.now }
-        ensures small { (result.left ≤ 1024) × (result.beyond ≤ 1024) }
+        ensures small { (result.left ≤ max_text_length) × (result.beyond ≤ max_text_length) }
     {
         Limits {
             left: self.left,
@@ -42,7 +43,7 @@ impl State {
     /// Restores an earlier limit.
     #[inline(always)]
     pub fn limit_back(&mut self, mode: Mode, from: Limits)
-        requires { (from.left ≤ 1024) × (from.beyond ≤ 1024) }
+        requires { (from.left ≤ max_text_length) × (from.beyond ≤ max_text_length) }
         ensures { self.new ≡ limit_back mode from self.old }
     {
         match mode {
