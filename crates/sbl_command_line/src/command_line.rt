@@ -1,11 +1,11 @@
 //! The command line, defined with `clap`.
-ghost use Rattle.std.specs.Prelude.{◌≡◌, IfOk, Some, map};
+ghost use Rattle.std.specs.Prelude.{◌≡◌, IfOk, None, Some, codes, map, option_map};
 ghost use Rattle.std.specs.String.{string_bytes};
-ghost use Rattle.clap.specs.Words.{app_of};
-ghost use Rattle.sbl_command_line.specs.CommandLine.{program, verb_app, verb_name, wanted_of};
+ghost use Rattle.clap.specs.Words.{app_of, first_value, found_of, one_text};
+ghost use Rattle.sbl_command_line.specs.CommandLine.{flag_in, program, value_in, verb_app, verb_name, wanted_of, work_app};
 
 use clap::error::ErrorKind;
-use clap::{Arg, Command, Error};
+use clap::{Arg, ArgAction, ArgMatches, Command, Error};
 use std::alloc::{AllocError, Global};
 
 /// The subcommands of the program.
@@ -17,6 +17,17 @@ pub enum Verb {
     Stem,
     /// Compares stems with the expected stems.
     Check,
+    /// Works on a script and words in files.
+    Work,
+}
+
+/// The face of the answers of `work`.
+#[derive(Clone, Copy, Debug, PartialEq, Eq)]
+pub enum Face {
+    /// Rows for programs.
+    Rows,
+    /// Text for people.
+    Text,
 }
 
 /// What a command line asks for: a subcommand and the external to run.
@@ -26,6 +37,12 @@ pub struct Wanted {
     pub verb: Verb,
     /// The external to run.
     pub external: String,
+    /// The file of the script; only `work` has one.
+    pub script: Option<String>,
+    /// The file of the words, if `work` has one.
+    pub words: Option<String>,
+    /// The face of the answers, if `work` has one.
+    pub face: Option<Face>,
 }
 
 /// The first lines of the help of the program.
@@ -100,6 +117,24 @@ writes
 
 To read on: docs/SESSION.md.";
 
+/// The first lines of the help of `work`.
+const ABOUT_WORK: &str = "Answers commands over a script and words in files";
+
+/// The last lines of the help of `work`.
+const HELP_WORK: &str = "\
+In:   commands, one a line, up to 'quit' or the end.
+Out:  the answer to each command, before the next line is read.
+
+Example:
+  printf '%s\\n' 'externals ( stem )' \"define stem as ( [ 'un' ] delete )\" > un.sbl
+  printf '%s\\n' undo redo > un.words
+  echo stems | snowbench work un.sbl un.words
+writes
+  undo,stem,do
+  redo,stem,redo
+
+To read on: docs/WORK.md has every command with its answers.";
+
 /// Returns the definition of a subcommand, with the option `--external NAME` and its default `stem`.
 fn verb_command<'a>(
     alloc: Global,
@@ -118,7 +153,56 @@ fn verb_command<'a>(
     Ok(command.about(about).after_help(help))
 }
 
-/// Returns the definition of the command line, with three subcommands.
+/// Returns the definition of `work`: a subcommand with the files SCRIPT and WORDS, and the flags `--rows` and `--text`.
+fn work_command<'a>(alloc: Global) -> Result<Command<'a>, AllocError>
+    ensures { IfOk result (λ c. app_of c ≡ work_app) }
+{
+    let script = Arg::new(alloc, "SCRIPT")
+        .required(true)
+        .help("The file of the script");
+    let words = Arg::new(alloc, "WORDS").help("The file of the words, one on each line");
+    let rows = Arg::new(alloc, "rows")
+        .long("rows")
+        .action(ArgAction::SetTrue)
+        .help("Answers in rows, for programs");
+    let text = Arg::new(alloc, "text")
+        .long("text")
+        .action(ArgAction::SetTrue)
+        .help("Answers in text, for people");
+    verb_command(alloc, "work", ABOUT_WORK, HELP_WORK)?
+        .arg(script)?
+        .arg(words)?
+        .arg(rows)?
+        .arg(text)
+}
+
+/// Returns the text of an argument, if it is given. Returns `AllocError` if an allocation fails.
+fn text_of(alloc: Global, options: &ArgMatches, name: &str) -> Result<Option<String>, AllocError>
+    ensures { IfOk result (λ text. option_map string_bytes text ≡ first_value (found_of options.now) name.now) }
+{
+    match options.get_str(name) {
+        Some(text) => Ok(Some(String::from_str(alloc, text)?)),
+        None => Ok(None),
+    }
+}
+
+/// Returns the face that is asked for: rows, if both are.
+fn face_of(options: &ArgMatches) -> Option<Face>
+    ensures rows { one_text (found_of options.now) (codes "rows") ≡ Some (codes "true") → result ≡ Some Face.Rows }
+    ensures text { one_text (found_of options.now) (codes "rows") ≡ Some (codes "false") → one_text (found_of options.now) (codes "text") ≡ Some (codes "true") → result ≡ Some Face.Text }
+    ensures neither { one_text (found_of options.now) (codes "rows") ≡ Some (codes "false") → one_text (found_of options.now) (codes "text") ≡ Some (codes "false") → result ≡ None }
+    ensures other { one_text (found_of options.now) (codes "rows") ≡ None → one_text (found_of options.now) (codes "text") ≡ None → result ≡ None }
+{
+    if options.get_flag("rows") {
+        return Some(Face::Rows);
+    }
+    if options.get_flag("text") {
+        return Some(Face::Text);
+    }
+    None
+}
+
+/// Returns the definition of the command line, with four subcommands.
 fn make_program<'a>(alloc: Global) -> Result<Command<'a>, AllocError>
     ensures { IfOk result (λ c. app_of c ≡ program) }
 {
@@ -130,11 +214,12 @@ fn make_program<'a>(alloc: Global) -> Result<Command<'a>, AllocError>
         .arg_required_else_help(true)
         .subcommand(verb_command(alloc, "session", ABOUT_SESSION, HELP_SESSION)?)?
         .subcommand(verb_command(alloc, "stem", ABOUT_STEM, HELP_STEM)?)?
-        .subcommand(verb_command(alloc, "check", ABOUT_CHECK, HELP_CHECK)?)
+        .subcommand(verb_command(alloc, "check", ABOUT_CHECK, HELP_CHECK)?)?
+        .subcommand(work_command(alloc)?)
 }
 
 /// Parses the words of a command line, the first of which is the name of the program: one of the subcommands `session`,
-/// `stem` and `check`, and the value of its option `--external`, by default `stem`. `clap` does the parsing.
+/// `stem`, `check` and `work`, the value of its option `--external`, by default `stem`, and the files and the face of `work`. `clap` does the parsing.
 ///
 /// # Errors
 ///
@@ -142,7 +227,12 @@ fn make_program<'a>(alloc: Global) -> Result<Command<'a>, AllocError>
 /// or is given twice. A request for help is also an error, with the help as its text. A failed allocation is an error
 /// of its own kind.
 pub fn read_words<'a>(alloc: Global, words: &'a [String]) -> Result<Wanted, Error>
-    ensures { IfOk result (λ wanted. wanted_of (map string_bytes words.now) ≡ Some (verb_name wanted.verb, string_bytes wanted.external)) }
+    ensures wanted { IfOk result (λ wanted. wanted_of (map string_bytes words.now) ≡ Some (verb_name wanted.verb, string_bytes wanted.external)) }
+    ensures script { IfOk result (λ wanted. option_map string_bytes wanted.script ≡ value_in (codes "SCRIPT") (map string_bytes words.now)) }
+    ensures words { IfOk result (λ wanted. option_map string_bytes wanted.words ≡ value_in (codes "WORDS") (map string_bytes words.now)) }
+    ensures rows { IfOk result (λ wanted. flag_in (codes "rows") (map string_bytes words.now) ≡ Some (codes "true") → wanted.face ≡ Some Face.Rows) }
+    ensures text { IfOk result (λ wanted. flag_in (codes "rows") (map string_bytes words.now) ≡ Some (codes "false") → flag_in (codes "text") (map string_bytes words.now) ≡ Some (codes "true") → wanted.face ≡ Some Face.Text) }
+    ensures neither { IfOk result (λ wanted. flag_in (codes "rows") (map string_bytes words.now) ≡ Some (codes "false") → flag_in (codes "text") (map string_bytes words.now) ≡ Some (codes "false") → wanted.face ≡ None) }
 {
     let matches = make_program(alloc)?.try_get_matches_from(words)?;
     let Some((name, options)) = matches.subcommand() else {
@@ -152,6 +242,7 @@ pub fn read_words<'a>(alloc: Global, words: &'a [String]) -> Result<Wanted, Erro
         "session" => Verb::Session,
         "stem" => Verb::Stem,
         "check" => Verb::Check,
+        "work" => Verb::Work,
         _ => {
             return Err(make_program(alloc)?.error(
                 ErrorKind::InvalidSubcommand,
@@ -162,8 +253,14 @@ pub fn read_words<'a>(alloc: Global, words: &'a [String]) -> Result<Wanted, Erro
     let Some(external) = options.get_str("external") else {
         return Err(make_program(alloc)?.error(ErrorKind::MissingRequiredArgument, "no external")?);
     };
+    let script = text_of(alloc, options, "SCRIPT")?;
+    let list = text_of(alloc, options, "WORDS")?;
+    let face = face_of(options);
     Ok(Wanted {
         verb,
         external: String::from_str(alloc, external)?,
+        script,
+        words: list,
+        face,
     })
 }

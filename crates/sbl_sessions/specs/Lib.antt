@@ -8,11 +8,11 @@ pub mod Commands
 pub mod Rows
 pub mod Traces
 pub mod Answers
+pub mod CommandViews
+pub mod Edits
 pub mod Session
 pub mod OneAnswer
 pub mod Loaded
 pub mod OneLoading
 -- what the functions inside the crate promise each other: nothing in these need be believed
-pub mod CommandViews
-pub mod Edits
 pub mod RowWriter

@@ -12,7 +12,7 @@ use std::alloc::{AllocError, Global};
 
 /// Why a block that was read to its end has no text.
 #[derive(Clone, Copy, Debug, PartialEq, Eq)]
-pub(crate) enum BlockFault {
+pub enum BlockFault {
     /// The text has more than 1,048,576 bytes.
     TooLong,
     /// An allocation failed.
@@ -21,7 +21,7 @@ pub(crate) enum BlockFault {
 
 /// The text so far. After a fault, only the fault is kept.
 #[derive(Drop)]
-pub(crate) struct BlockText {
+pub struct BlockText {
     bytes: Vec<u8>,
     fault: Option<BlockFault>,
 }
@@ -56,7 +56,7 @@ impl BlockText {
     }
 
     /// Returns the text, or the fault.
-    pub(crate) fn whole(self) -> Result<Vec<u8>, BlockFault>
+    pub fn whole(self) -> Result<Vec<u8>, BlockFault>
         ensures text { IfOk result (λ text. (lines : List (List ℕ)) → HoldsText self lines → HasText None text.items lines) }
         ensures fault { IfErr result (λ fault. (lines : List (List ℕ)) → HoldsText self lines → HasText (Some fault) [] lines) }
     {
@@ -78,7 +78,7 @@ fn push_ended(bytes: &mut Vec<u8>, line: &[u8]) -> Result<(), AllocError>
 
 /// Reads the text of a block, up to and including its line `.`, even if the block has no text. Returns `Cut` if the input ends
 /// before that line, and `Read` and `LineTooLong` as the lines return them.
-pub(crate) fn read_block<R: Source + Drop>(lines: &mut Lines<R>) -> Result<BlockText, ServeFault>
+pub fn read_block<R: Source + Drop>(lines: &mut Lines<R>) -> Result<BlockText, ServeFault>
     ensures reads { fault_of lines.old ≡ None → ReadsBlock (input_of R.left lines.old) (input_of R.left lines.new) result }
     ensures ready { OnOk result (fault_of lines.old ≡ None) }
     ensures remembered { fault_of lines.new ≡ left_by result }

@@ -102,7 +102,7 @@ fn limit_command(argument: &str) -> Command<'static>
 
 /// The command word of a line that a block follows: the word of an edit of the script.
 #[derive(Clone, Copy, Debug, PartialEq, Eq)]
-pub(crate) enum BlockWord {
+pub enum BlockWord {
     /// `routine NAME`
     Routine,
     /// `among NAME K`
@@ -112,7 +112,7 @@ pub(crate) enum BlockWord {
 }
 
 /// Returns the command word of a line if a block follows the line, whatever else the line contains.
-pub(crate) fn block_word(line: &[u8]) -> Option<BlockWord>
+pub fn block_word(line: &[u8]) -> Option<BlockWord>
     ensures { view_asked result ≡ requests.block_word line.now }
 {
     let word = command_word(line);
@@ -130,7 +130,7 @@ pub(crate) fn block_word(line: &[u8]) -> Option<BlockWord>
 
 /// The part of the script that the text of a block replaces.
 #[derive(Debug, Drop)]
-pub(crate) enum Target {
+pub enum Target {
     /// The body of the routine or external of this name.
     Body(String),
     /// The among of this number in the routine or external of this name.
@@ -141,7 +141,7 @@ pub(crate) enum Target {
 
 /// Returns what a line with this block word replaces; `None` if the line is bad: it is not UTF-8, or the argument of `among` is
 /// not a name, a space and a number. Returns `AllocError` if an allocation fails. Does not allocate for a bad line.
-pub(crate) fn target_of(
+pub fn target_of(
     alloc: Global,
     word: BlockWord,
     line: &[u8],

@@ -13,8 +13,11 @@ mod replies;
 mod reports;
 mod serving;
 
+pub use block_text::{BlockFault, BlockText, read_block};
+pub use commands::{BlockWord, Target, block_word, target_of};
 pub use faults::LoadFault;
 pub use laws::{answers_are_one, loading_is_one};
 pub use loading::{load, read_script};
+pub use replies::{BAD_COMMAND, Reply, edit_text, report, write_reply};
 pub use reports::stems_text;
-pub use serving::serve;
+pub use serving::{answer_line, serve};

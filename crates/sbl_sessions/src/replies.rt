@@ -13,7 +13,7 @@ use std::alloc::AllocError;
 
 /// A reply: a report that was made, or a fixed text.
 #[derive(Debug, Drop)]
-pub(crate) enum Reply {
+pub enum Reply {
     /// A report.
     Report(Vec<u8>),
     /// A fixed text.
@@ -21,10 +21,10 @@ pub(crate) enum Reply {
 }
 
 /// The reply to an unknown command.
-pub(crate) const BAD_COMMAND: &str = "no 52 BadCommand\n";
+pub const BAD_COMMAND: &str = "no 52 BadCommand\n";
 
 /// Returns the reply with a report: its text, or `no 49 OutOfMemory` if its allocation failed.
-pub(crate) fn report(text: Result<Vec<u8>, AllocError>) -> Reply
+pub fn report(text: Result<Vec<u8>, AllocError>) -> Reply
     ensures made { IfOk text (λ made. IsReply result made.items) }
     ensures refused { OnErr text (IsReply result (spec.edit_text (Some EditFault.OutOfMemory))) }
 {
@@ -35,7 +35,7 @@ pub(crate) fn report(text: Result<Vec<u8>, AllocError>) -> Reply
 }
 
 /// Returns the reply to an edit: `ok`, or `no` with the number and name of the fault.
-pub(crate) fn edit_text(answer: Result<(), EditFault>) -> &'static str
+pub fn edit_text(answer: Result<(), EditFault>) -> &'static str
     ensures { result.now ≡ spec.edit_text (fault_in answer) }
 {
     match answer {
@@ -90,7 +90,7 @@ fn script_fault_text(fault: ScriptFault) -> &'static str
 
 /// Writes a reply. Returns `Write` if the writer fails or is interrupted more than 1,000 times in a row; then a prefix of the
 /// reply is written.
-pub(crate) fn write_reply<W: Sink>(writer: &mut W, reply: &Reply) -> Result<(), ServeFault>
+pub fn write_reply<W: Sink>(writer: &mut W, reply: &Reply) -> Result<(), ServeFault>
     ensures all { OnOk result ((text : List ℕ) → IsReply reply.now text → Appends (W.held writer.old) (W.held writer.new) text) }
     ensures front { (n : ℕ) × ((text : List ℕ) → IsReply reply.now text → Appends (W.held writer.old) (W.held writer.new) (take n text)) }
     ensures later { W.failures writer.old ≤ W.failures writer.new }

@@ -21,7 +21,7 @@ use sbl_lines::{Lines, ServeFault, Sink, Source};
 use std::alloc::Global;
 
 /// Makes the edit or the report that a line without a block asks for, and returns the reply.
-fn answer_line(alloc: Global, bench: &mut Bench, line: &[u8]) -> Reply
+pub fn answer_line(alloc: Global, bench: &mut Bench, line: &[u8]) -> Reply
     ensures { IsAnswer (contents_of bench.old) (line_command line.now) result (contents_of bench.new) }
 {
     match command_of(line) {

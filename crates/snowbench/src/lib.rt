@@ -5,7 +5,7 @@
 mod program;
 
 pub use program::run;
-pub use sbl_command_line::{Verb, Wanted, read_words};
+pub use sbl_command_line::{Face, Verb, Wanted, read_words};
 pub use sbl_differences::check;
 pub use sbl_lines::{Device, LineFault, Lines, MAX_LINE, ServeFault, Sink, Source, Stop};
 pub use sbl_sessions::{LoadFault, answers_are_one, load, loading_is_one, serve};

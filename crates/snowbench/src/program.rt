@@ -68,6 +68,8 @@ fn answer<R: Source + Drop, W: Sink>(
             Ok(0)
         }
         Verb::Check => check_input(lines, external, writer),
+        // `work` reads files, and has an entry of its own.
+        Verb::Work => Ok(0),
     }
 }
 

@@ -2,8 +2,10 @@
 #![tactic(auto)]
 
 use clap::error::ErrorKind;
-use snowbench::{Device, Lines, read_words, run};
+use sbl_work::{Paths, work};
+use snowbench::{Device, Face, Lines, Sink, Source, Verb, Wanted, read_words, run};
 use std::io;
+use std::io::IsTerminal;
 use std::process::ExitCode;
 
 /// The exit status if the command line is refused, and also after help.
@@ -22,7 +24,11 @@ fn main(rt: HostRuntime) -> io::Result<ExitCode> {
             };
             let mut writer = Device::new(rt.stdout());
             let mut errors = Device::new(rt.stderr());
-            let status = run(&wanted, &mut lines, &mut writer, &mut errors);
+            let status = if wanted.verb == Verb::Work {
+                start_work(&rt, wanted, &mut lines, &mut writer, &mut errors)
+            } else {
+                run(&wanted, &mut lines, &mut writer, &mut errors)
+            };
             Ok(ExitCode::from(status))
         }
         Err(error) if error.kind() == ErrorKind::OutOfMemory => {
@@ -34,4 +40,26 @@ fn main(rt: HostRuntime) -> io::Result<ExitCode> {
             Ok(ExitCode::from(REFUSED))
         }
     }
+}
+
+/// Works on the files of the command line, and returns the exit status. The prompt is written if the face is text, and both
+/// input and output are a terminal.
+fn start_work<R: Source + Drop, W: Sink, E: Sink>(
+    rt: &HostRuntime,
+    wanted: Wanted,
+    lines: &mut Lines<R>,
+    writer: &mut W,
+    errors: &mut E,
+) -> u8 {
+    let Some(script) = wanted.script else {
+        return REFUSED;
+    };
+    let paths = Paths {
+        script,
+        words: wanted.words,
+        external: wanted.external,
+    };
+    let is_terminal = rt.stdin().is_terminal() && rt.stdout().is_terminal();
+    let prompts = is_terminal && wanted.face != Some(Face::Rows);
+    work(rt, &paths, prompts, lines, writer, errors)
 }

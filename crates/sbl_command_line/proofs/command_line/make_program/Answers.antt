@@ -19,5 +19,7 @@ returns c =
     ∙ ap₂ with_subcommand start (ap (λ (a : App). a.top) c.in_ok-verb_command.ensures) in
     let second = c.in_ok-subcommand-2.ensures.shape (third _ _ _ _ (ap (λ (a : App). a.top.is_plain) c.in_ok-verb_command-2.ensures))
     ∙ ap₂ with_subcommand first (ap (λ (a : App). a.top) c.in_ok-verb_command-2.ensures) in
-    IfOk-weaker c.subcommand-3.result _ _ (λ r h. h.shape (third _ _ _ _ (ap (λ (a : App). a.top.is_plain) c.in_ok-verb_command-3.ensures))
-    ∙ ap₂ with_subcommand second (ap (λ (a : App). a.top) c.in_ok-verb_command-3.ensures)) c.subcommand-3.ensures
+    let checked = c.in_ok-subcommand-3.ensures.shape (third _ _ _ _ (ap (λ (a : App). a.top.is_plain) c.in_ok-verb_command-3.ensures))
+    ∙ ap₂ with_subcommand second (ap (λ (a : App). a.top) c.in_ok-verb_command-3.ensures) in
+    IfOk-weaker c.subcommand-4.result _ _ (λ r h. h.shape (third _ _ _ _ (ap (λ (a : App). a.top.is_plain) c.in_ok-work_command.ensures))
+    ∙ ap₂ with_subcommand checked (ap (λ (a : App). a.top) c.in_ok-work_command.ensures)) c.subcommand-4.ensures

@@ -1,0 +1,16 @@
+-- The definition of a name in a script.
+use Rattle.std.specs.Prelude.{ℕ, Bool, ◌||◌, List, Option}
+use Rattle.std.specs.Option.{option_map}
+use Rattle.sbl_print.specs.Canonical.{plain_text}
+use Rattle.sbl_script.specs.Edits.{defines, first_of}
+use Rattle.sbl_script.specs.Parsed.{Source}
+use Rattle.sbl_script.specs.declared.edits.DefinitionKind.TheVariants as kinds
+use Rattle.sbl_tree.specs.Tree.{Plain}
+
+-- whether an item defines this name, as a routine or as a grouping
+abbrev pub defines_name : List ℕ → Plain → Bool
+defines_name n p = defines kinds.Routine n p || defines kinds.Grouping n p
+
+-- the line of the first definition of this name, if there is one
+abbrev pub definition_text : Source → List ℕ → Option (List ℕ)
+definition_text s n = option_map plain_text (first_of (defines_name n) s.items)

@@ -1,0 +1,6 @@
+-- definitions that public contracts depend on
+pub mod History
+pub mod Desks
+pub mod Editing
+pub mod Reports
+pub mod Definitions

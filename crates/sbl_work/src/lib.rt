@@ -1,0 +1,21 @@
+//! Work on a script and a vocabulary: the commands of a session, whole scripts, and edits that are undone and redone.
+#![tactic(auto)]
+
+mod definitions;
+mod desk;
+mod files;
+mod history;
+mod marks;
+mod parts;
+mod replies;
+mod reports;
+mod requests;
+mod serving;
+mod steps;
+mod words;
+
+pub use desk::Desk;
+pub use files::Paths;
+pub use history::HistoryFault;
+pub use marks::MarkedRow;
+pub use serving::work;

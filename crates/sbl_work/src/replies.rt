@@ -1,0 +1,49 @@
+//! The replies of work that a session does not have.
+
+use crate::history::HistoryFault;
+use sbl_bench::EditFault;
+use sbl_sessions::{Reply, edit_text};
+use std::alloc::AllocError;
+
+/// The reply to `undo` if there is no edit to undo.
+const NOTHING_TO_UNDO: &str = "no 54 NothingToUndo\n";
+
+/// The reply to `redo` if there is no edit to redo.
+const NOTHING_TO_REDO: &str = "no 55 NothingToRedo\n";
+
+/// The reply to `largest` if its argument is not a number above 0.
+pub(crate) const BAD_NUMBER: &str = "no 56 BadNumber\n";
+
+/// The reply if a file cannot be read or written.
+pub(crate) const NO_FILE: &str = "no 57 NoFile\n";
+
+/// Returns the reply to an edit.
+pub(crate) fn edit_reply(answer: Result<(), EditFault>) -> Reply {
+    Reply::Fixed(edit_text(answer))
+}
+
+/// Returns the reply to a command that fails only if an allocation does.
+pub(crate) fn memory_reply(answer: Result<(), AllocError>) -> Reply {
+    match answer {
+        Ok(()) => edit_reply(Ok(())),
+        Err(_) => edit_reply(Err(EditFault::OutOfMemory)),
+    }
+}
+
+/// Returns the reply to `undo`.
+pub(crate) fn undo_reply(answer: Result<(), HistoryFault>) -> Reply {
+    match answer {
+        Ok(()) => edit_reply(Ok(())),
+        Err(HistoryFault::Nothing) => Reply::Fixed(NOTHING_TO_UNDO),
+        Err(HistoryFault::Edit(fault)) => edit_reply(Err(fault)),
+    }
+}
+
+/// Returns the reply to `redo`.
+pub(crate) fn redo_reply(answer: Result<(), HistoryFault>) -> Reply {
+    match answer {
+        Ok(()) => edit_reply(Ok(())),
+        Err(HistoryFault::Nothing) => Reply::Fixed(NOTHING_TO_REDO),
+        Err(HistoryFault::Edit(fault)) => edit_reply(Err(fault)),
+    }
+}

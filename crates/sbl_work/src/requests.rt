@@ -1,0 +1,127 @@
+//! The commands of work.
+
+use sbl_sessions::{BlockWord, block_word};
+
+/// What a line that a block follows asks for.
+#[derive(Clone, Copy, Debug, PartialEq, Eq)]
+pub(crate) enum BlockRequest {
+    /// Replaces a part of the script.
+    Part(BlockWord),
+    /// Replaces the whole script. The line is bad, which is `false`, if it has an argument.
+    Whole(bool),
+}
+
+/// What a line without a block asks for.
+#[derive(Debug, Drop)]
+pub(crate) enum Request<'a> {
+    /// Nothing: the line is a comment.
+    Comment,
+    /// Replaces the whole script by what its file has now.
+    Reload,
+    /// Undoes an edit.
+    Undo,
+    /// Redoes an edit.
+    Redo,
+    /// Sets the mark.
+    Mark,
+    /// Reports what differs from the mark.
+    Changes,
+    /// Reports figures of the rows and classes.
+    Stats,
+    /// Reports the largest classes.
+    Largest(&'a str),
+    /// Reports a definition.
+    Show(&'a str),
+    /// Writes the script to a file.
+    Save(&'a str),
+    /// Writes a text.
+    Echo(&'a [u8]),
+    /// Reports nothing.
+    Help,
+    /// A request of a session without a block.
+    Session,
+}
+
+/// Whether a line ends the work.
+pub(crate) fn is_quit(line: &[u8]) -> bool {
+    line == b"quit".as_slice()
+}
+
+/// Returns the command word of a line and the bytes after the first space.
+fn split(line: &[u8]) -> (&[u8], &[u8]) {
+    for i in 0..line.len() {
+        if line[i] == b' ' {
+            return (&line[..i], &line[i + 1..]);
+        }
+    }
+    (line, &[])
+}
+
+/// Returns what a line that a block follows asks for; `None` if no block follows the line.
+pub(crate) fn block_request_of(line: &[u8]) -> Option<BlockRequest> {
+    if let Some(word) = block_word(line) {
+        return Some(BlockRequest::Part(word));
+    }
+    let (word, _) = split(line);
+    if word == b"replace".as_slice() {
+        return Some(BlockRequest::Whole(word.len() == line.len()));
+    }
+    None
+}
+
+/// Returns what a line without a block asks for.
+pub(crate) fn request_of(line: &[u8]) -> Request<'_> {
+    if line.first() == Some(&b'#') {
+        return Request::Comment;
+    }
+    let (word, argument) = split(line);
+    if word == b"echo".as_slice() {
+        return Request::Echo(argument);
+    }
+    match str::from_utf8(line) {
+        Ok(text) => text_request(text),
+        Err(_) => Request::Session,
+    }
+}
+
+/// Returns what a line that is UTF-8 asks for.
+fn text_request(line: &str) -> Request<'_> {
+    match line {
+        "reload" => return Request::Reload,
+        "undo" => return Request::Undo,
+        "redo" => return Request::Redo,
+        "mark" => return Request::Mark,
+        "changes" => return Request::Changes,
+        "stats" => return Request::Stats,
+        "help" => return Request::Help,
+        _ => {}
+    }
+    let (word, argument) = match line.split_once(' ') {
+        Some((word, argument)) => (word, argument),
+        None => (line, ""),
+    };
+    match word {
+        "largest" => Request::Largest(argument),
+        "show" => Request::Show(argument),
+        "save" => Request::Save(argument),
+        _ => Request::Session,
+    }
+}
+
+/// Returns the number above 0 that decimal digits write, and `usize::MAX` for each larger number; `None` if the bytes are not
+/// decimal digits or the number is 0.
+pub(crate) fn count_in(digits: &[u8]) -> Option<usize> {
+    let mut number: usize = 0;
+    for i in 0..digits.len() {
+        if !digits[i].is_ascii_digit() {
+            return None;
+        }
+        number = number
+            .saturating_mul(10)
+            .saturating_add(usize::from(digits[i] - b'0'));
+    }
+    if number == 0 {
+        return None;
+    }
+    Some(number)
+}

@@ -1,0 +1,3 @@
+//! Desks, each file by what it tries.
+
+mod history;
