@@ -13,8 +13,8 @@ loop-class-init c = record {
   sized = subst Sized (sym c.new-ranking.ensures.empty) tt;
 }
 
-pub loop-class-preserved-in_ok-insert : goal.loop-class-preserved-in_ok-insert
-loop-class-preserved-in_ok-insert c =
+pub loop-class-preserved : goal.loop-class-preserved
+loop-class-preserved c =
     let es : List Entry = c.loop-class.ranking.entries in
     let rest : List StemClass = c.pop.new.self.items in
     let class : StemClass = c.in-Some.class in
