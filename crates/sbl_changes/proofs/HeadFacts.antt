@@ -14,9 +14,11 @@ use Rattle.std.proofs.lemmas.Slice.Eq.{bytes_eq-Decides}
 use Rattle.sbl_changes.specs.Classes.{Class, Pair, in_order, members_of}
 use Rattle.sbl_changes.specs.Families.{FamilyResult, all_of, first_with, over, over_rows}
 use Rattle.sbl_changes.specs.Counting.{DoNotFall, firsts, heads}
-use Rattle.sbl_changes.specs.Grouping.{class_sorted, classes_sorted}
+use Rattle.sbl_changes.specs.declared.classes.StemPair.{StemPair}
+use Rattle.sbl_changes.specs.Grouping.{class_sorted, classes_sorted, view_pair, view_pairs}
 use Rattle.sbl_changes.proofs.Loops.{put_option}
 use Rattle.sbl_changes.proofs.OrderFacts.{any-members, any-stems, one_order, text_cmp}
+use Rattle.sbl_changes.proofs.SetFacts.{no_pair}
 use Rattle.sbl_changes.proofs.Sorting.{mem}
 
 -- ---- members and stems
@@ -153,42 +155,47 @@ firsts-step seen seen' p ps old new goal more e so_far =
 
 -- ---- pairs sorted by their stems
 
-abbrev pub before : Pair → Pair → Bool
-before p q = is_lt (text_cmp p.0 q.0)
+abbrev before : StemPair → StemPair → Bool
+before p q = is_lt (text_cmp p.stem.now q.stem.now)
 
 -- two pairs tie if they have one stem
-ties-stem : (p q : Pair) → ties before p q ≡ bytes_eq p.0 q.0
-ties-stem p q = ap (λ (o : Ordering). not (is_lt (text_cmp p.0 q.0)) && not (is_lt o)) (nat_list_cmp_total.antisymm q.0 p.0) ∙ by (text_cmp p.0 q.0) ∙ is_eq-slice_cmp p.0 q.0
+ties-stem : (p q : StemPair) → ties before p q ≡ bytes_eq p.stem.now q.stem.now
+ties-stem p q = ap (λ (o : Ordering). not (is_lt (text_cmp p.stem.now q.stem.now)) && not (is_lt o)) (nat_list_cmp_total.antisymm p.stem.now q.stem.now) ∙ by (text_cmp p.stem.now q.stem.now) ∙ is_eq-slice_cmp p.stem.now q.stem.now
   where
     by : (o : Ordering) → (not (is_lt o) && not (is_lt (ordering_reverse o))) ≡ is_eq o
     by Less = refl
     by Equal = refl
     by Greater = refl
 
-filter-same : (s t : Pair → Bool) → ((p : Pair) → s p ≡ t p) → (ps : List Pair) → filter s ps ≡ filter t ps
-filter-same s t same [] = refl
-filter-same s t same (p ∷ ps) = λ i. cond (same p i) (p ∷ filter-same s t same ps i) (filter-same s t same ps i)
+members-view : (p : StemPair) (xs : List StemPair) → members_of p.stem.now (view_pairs xs) ≡ map (λ (q : StemPair). q.member.now) (filter (ties before p) xs)
+members-view p [] = refl
+members-view p (x ∷ xs) =
+    by (bytes_eq p.stem.now x.stem.now) (members-view p xs)
+    ∙ ap (λ (b : Bool). map (λ (q : StemPair). q.member.now) (cond b (x ∷ filter (ties before p) xs) (filter (ties before p) xs))) (sym (ties-stem p x))
+  where
+    by : (b : Bool) → members_of p.stem.now (view_pairs xs) ≡ map (λ (q : StemPair). q.member.now) (filter (ties before p) xs)
+        → map (λ (q : Pair). q.1) (cond b (view_pair x ∷ filter (λ q. bytes_eq p.stem.now q.0) (view_pairs xs)) (filter (λ q. bytes_eq p.stem.now q.0) (view_pairs xs)))
+        ≡ map (λ (q : StemPair). q.member.now) (cond b (x ∷ filter (ties before p) xs) (filter (ties before p) xs))
+    by true rest = ap (λ (l : List (List ℕ)). x.member.now ∷ l) rest
+    by false rest = rest
 
 -- a stable sort by stems keeps the members of each stem
-pub stable-members : (xs ys : List Pair) → IsStableBy before xs ys → (stem : List ℕ) → members_of stem ys ≡ members_of stem xs
+pub stable-members : (xs ys : List StemPair) → IsStableBy before xs ys → (stem : List ℕ) → members_of stem (view_pairs ys) ≡ members_of stem (view_pairs xs)
 stable-members xs ys stable stem =
-    let p : Pair = (stem, []) in
-    ap (map (λ (q : Pair). q.1)) (filter-same (λ q. bytes_eq stem q.0) (ties before p) (λ q. sym (ties-stem p q)) ys ∙ stable p ∙ filter-same (ties before p) (λ q. bytes_eq stem q.0) (λ q. ties-stem p q) xs)
-
-abbrev no_pair : Pair
-no_pair = ([], [])
+    let p : StemPair = record { stem = record { ref_ptr = (0, 0); now = stem }; member = record { ref_ptr = (0, 0); now = [] } } in
+    members-view p ys ∙ ap (map (λ (q : StemPair). q.member.now)) (stable p) ∙ sym (members-view p xs)
 
 -- pairs that are sorted by stems do not fall
-pub sorted-fall : (ps : List Pair) → IsSortedBy before ps → DoNotFall ps
-sorted-fall ps s = from ps (λ i j le lt. sorted_far before (ranks_by nat_list_cmp_total (λ (p : Pair). p.0)) ps s i j no_pair le lt)
+pub sorted-fall : (ps : List StemPair) → IsSortedBy before ps → DoNotFall (view_pairs ps)
+sorted-fall ps s = from ps (λ i j le lt. sorted_far before (ranks_by nat_list_cmp_total (λ (p : StemPair). p.stem.now)) ps s i j no_pair le lt)
   where
     less : (o : Ordering) → is_lt o ≡ false → o ≡ Less → ⊥
     less o h e = let r = sym h ∙ ap is_lt e in cc r
 
-    later : (p : Pair) (xs : List Pair) → ((j : ℕ) → j < length xs → before (get_or xs j no_pair) p ≡ false) → AllByRecursion (λ q. text_cmp q.0 p.0 ≡ Less → ⊥) xs
+    later : (p : StemPair) (xs : List StemPair) → ((j : ℕ) → j < length xs → before (get_or xs j no_pair) p ≡ false) → AllByRecursion (λ q. text_cmp q.0 p.stem.now ≡ Less → ⊥) (view_pairs xs)
     later p [] f = tt
-    later p (x ∷ xs) f = (less (text_cmp x.0 p.0) (f 0 (omega arith)), later p xs (λ j lt. f (suc j) (omega arith)))
+    later p (x ∷ xs) f = (less (text_cmp x.stem.now p.stem.now) (f 0 (omega arith)), later p xs (λ j lt. f (suc j) (omega arith)))
 
-    from : (xs : List Pair) → ((i j : ℕ) → i ≤ j → j < length xs → before (get_or xs j no_pair) (get_or xs i no_pair) ≡ false) → DoNotFall xs
+    from : (xs : List StemPair) → ((i j : ℕ) → i ≤ j → j < length xs → before (get_or xs j no_pair) (get_or xs i no_pair) ≡ false) → DoNotFall (view_pairs xs)
     from [] f = tt
     from (x ∷ xs) f = (later x xs (λ j lt. f 0 (suc j) (omega arith) (omega arith)), from xs (λ i j le lt. f (suc i) (suc j) (omega arith) (omega arith)))

@@ -1,5 +1,5 @@
 -- Numbers of pairs: of a list with one more, of two lists, of all pairs.
-use Rattle.std.proofs.Common.{◌≡◌, ◌∙◌, ◌+◌, ◌*◌, ◌≤◌, ◌<◌, ◌^◌, ◌++◌, Bool, true, false, not, cond, ℕ, suc, List, [], ◌∷◌, length, arith, refl, sym, ap, lit≤}
+use Rattle.std.proofs.Common.{◌≡◌, ◌∙◌, ◌+◌, ◌*◌, ◌-◌, ◌/◌, ◌≤◌, ◌<◌, ◌^◌, ◌++◌, Bool, true, false, not, cond, ℕ, suc, List, [], ◌∷◌, length, arith, refl, sym, ap, lit≤}
 use Rattle.std.specs.List.{count_by, flat_map, sum_by}
 use Rattle.std.proofs.lemmas.List.Sums.{count_by-le-length, sum_by-append, sum_by-cons, sum_by_push}
 use Rattle.sbl_changes.specs.Classes.{Pair}
@@ -105,4 +105,22 @@ within-either (f ∷ families) =
     let d : pairs_within any_two (f ∷ families) ≡ pairs_in any_two f + pairs_within any_two families = sum_by-cons (pairs_in any_two) f families in
     let e : pairs_in same_stem f + pairs_in other_stem f ≡ pairs_in any_two f = pairs-either f in
     let g : pairs_within same_stem families + pairs_within other_stem families ≡ pairs_within any_two families = within-either families in
+    omega arith
+
+pub half : (n p : ℕ) → 2 * p + n ≡ n * n → (n * n - n) / 2 ≡ p
+half n p e = omega arith
+
+-- the pairs of two lists that fit into memory together
+pub both-fit : (xs ys zs : List Pair) → zs ≡ xs ++ ys → length zs < 2 ^ 64 → pairs_in any_two xs + pairs_in any_two ys < 2 ^ 127
+both-fit xs ys zs e h =
+    let a : pairs_in any_two zs ≡ pairs_in any_two xs + pairs_between any_two xs ys + pairs_in any_two ys = ap (pairs_in any_two) e ∙ pairs-append any_two xs ys in
+    let b : pairs_in any_two zs < 2 ^ 127 = pairs-fit zs h in
+    omega arith
+
+-- what is counted within families is not more than the pairs of all words
+pub within-at : (t : Test) (families : List (List Pair)) (words : List Pair) (n : ℕ) → words ≡ all_of families → n ≡ pairs_within t families → n ≤ pairs_in any_two words
+within-at t families words n e h =
+    let a : pairs_in t (all_of families) ≡ pairs_within t families + pairs_across t families = pairs-all t families in
+    let b : pairs_in t (all_of families) ≤ pairs_in any_two (all_of families) = pairs-le t (all_of families) in
+    let d : pairs_in any_two words ≡ pairs_in any_two (all_of families) = ap (pairs_in any_two) e in
     omega arith

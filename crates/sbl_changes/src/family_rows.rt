@@ -1,6 +1,6 @@
 //! Families whose words have several stems, and stems that several families have.
 
-ghost use Rattle.std.specs.Prelude.{◌≡◌, ◌++◌, ◌||◌, ◌∷◌, [], ℕ, List, OnOk, IfOk, if◌then◌else◌};
+ghost use Rattle.std.specs.Prelude.{◌≡◌, ◌++◌, ◌||◌, ◌∷◌, [], ℕ, List, map, false, OnOk, IfOk, if◌then◌else◌};
 ghost use Rattle.std.specs.List.{filter_map};
 ghost use Rattle.std.specs.Option.{option_map};
 ghost use Rattle.std.specs.Str.{bytes_eq};
@@ -8,6 +8,7 @@ ghost use Rattle.sbl_changes.specs.Classes.{members_of};
 ghost use Rattle.sbl_changes.specs.Families as spec;
 ghost use Rattle.sbl_changes.specs.Families.{view_result, view_results};
 ghost use Rattle.sbl_changes.specs.Counting.{DoNotFall, firsts, heads, view_families};
+ghost use Rattle.sbl_changes.specs.Grouping as grouping;
 ghost use Rattle.sbl_changes.specs.Grouping.{classes_sorted, view_class, view_classes, view_pair, view_pairs};
 ghost use Rattle.sbl_changes.specs.Known.{has_text};
 ghost use Rattle.sbl_changes.specs.Rows.{texts_of};
@@ -22,8 +23,18 @@ fn stems_of<'a>(alloc: Global, pairs: &[StemPair<'a>]) -> Result<Vec<&'a [char]>
     ensures { IfOk result (λ stems. texts_of stems.items ≡ spec.stems_of (view_pairs pairs.now)) }
 {
     let classes = classes_of(alloc, pairs)?;
+    class_stems(alloc, &classes)
+}
+
+/// Returns the stems of the classes. Returns `AllocError` if an allocation fails.
+fn class_stems<'a>(
+    alloc: Global,
+    classes: &[StemClass<'a>],
+) -> Result<Vec<&'a [char]>, AllocError>
+    ensures { IfOk result (λ stems. texts_of stems.items ≡ map (λ c. c.stem) (view_classes classes.now)) }
+{
     let mut stems = Vec::new(alloc);
-    for class in &classes {
+    for class in classes {
         stems.push(class.stem)?;
     }
     Ok(stems)
@@ -33,14 +44,17 @@ fn stems_of<'a>(alloc: Global, pairs: &[StemPair<'a>]) -> Result<Vec<&'a [char]>
 fn under<'a>(alloc: Global, family: &[StemPair<'a>]) -> Result<Option<FamilyRow<'a>>, AllocError>
     ensures { IfOk result (λ row. option_map view_result row ≡ spec.under (view_pairs family.now)) }
 {
+    let Some(first) = family.first() else {
+        return Ok(None);
+    };
     let stems = stems_of(alloc, family)?;
-    match family.first() {
-        Some(first) if stems.len() > 1 => Ok(Some(FamilyRow::Under {
-            word: first.member,
-            stems,
-        })),
-        _ => Ok(None),
+    if stems.len() < 2 {
+        return Ok(None);
     }
+    Ok(Some(FamilyRow::Under {
+        word: first.member,
+        stems,
+    }))
 }
 
 /// Appends the families whose words have two stems or more. Returns `AllocError` if an allocation fails.
@@ -110,8 +124,18 @@ fn classes_in_turn<'a>(
     ensures { IfOk result (λ classes. view_classes classes.items ≡ classes_sorted (view_pairs pairs.entry.items)) }
 {
     let pairs = by_stem(pairs)?;
+    grouped(alloc, &pairs)
+}
+
+/// Returns the classes of the pairs, put one after another. Returns `AllocError` if an allocation fails.
+fn grouped<'a>(
+    alloc: Global,
+    pairs: &[StemPair<'a>],
+) -> Result<Vec<StemClass<'a>>, AllocError>
+    ensures { IfOk result (λ classes. view_classes classes.items ≡ grouping.grouped [] (view_pairs pairs.now)) }
+{
     let mut classes = Vec::new(alloc);
-    for pair in &pairs {
+    for pair in pairs {
         put_last(alloc, &mut classes, pair.stem, pair.member)?;
     }
     Ok(classes)
