@@ -64,7 +64,7 @@ same_classes xs ys same = ap (map (class_sorted xs)) (same_stems xs ys (λ q. ap
 firsts-members : (stem : List ℕ) (seen : List ℕ → Bool) (ps : List Pair) → members_of stem (firsts seen ps) ≡ (if seen stem then [] else option_to_list (first_with stem ps))
 firsts-members stem seen [] = by (seen stem)
   where
-    by : (b : Bool) → [] ≡ (if b then [] else [])
+    by : (b : Bool) → ◌≡◌ {A = List (List ℕ)} [] (if b then [] else [])
     by true = refl
     by false = refl
 firsts-members stem seen (p ∷ ps) =
@@ -160,7 +160,7 @@ before p q = is_lt (text_cmp p.stem.now q.stem.now)
 
 -- two pairs tie if they have one stem
 ties-stem : (p q : StemPair) → ties before p q ≡ bytes_eq p.stem.now q.stem.now
-ties-stem p q = ap (λ (o : Ordering). not (is_lt (text_cmp p.stem.now q.stem.now)) && not (is_lt o)) (nat_list_cmp_total.antisymm p.stem.now q.stem.now) ∙ by (text_cmp p.stem.now q.stem.now) ∙ is_eq-slice_cmp p.stem.now q.stem.now
+ties-stem p q = ap (λ (o : Ordering). not (is_lt (text_cmp p.stem.now q.stem.now)) && not (is_lt o)) (nat_list_cmp_total.antisymm q.stem.now p.stem.now) ∙ by (text_cmp p.stem.now q.stem.now) ∙ is_eq-slice_cmp p.stem.now q.stem.now
   where
     by : (o : Ordering) → (not (is_lt o) && not (is_lt (ordering_reverse o))) ≡ is_eq o
     by Less = refl

@@ -30,6 +30,23 @@ loop-class-preserved c =
       sized = subst Sized (sym c.in_ok-insert.ensures.entries) (sized-insert es _ class.members size c.loop-class.invariant.sized);
     }
 
+pub loop-class-preserved-in_ok-insert : goal.loop-class-preserved-in_ok-insert
+loop-class-preserved-in_ok-insert c =
+    let es : List Entry = c.loop-class.ranking.entries in
+    let rest : List StemClass = c.pop.new.self.items in
+    let class : StemClass = c.in-Some.class in
+    let size : c.len.result ≡ length class.members.items = c.len.ensures ∙ class.members.ok.0 in
+    record {
+      ranked =
+          ap (λ (l : List Entry). onto (map view_entry l) (view_classes rest)) c.in_ok-insert.ensures.entries
+          ∙ ap (λ (l : List Class). onto l (view_classes rest)) (view-insert es _ class.members size c.loop-class.invariant.sized)
+          ∙ sym (onto-last (map view_entry es) (view_classes rest) (view_class class))
+          ∙ ap (onto (map view_entry es)) (sym (map-append view_class rest (class ∷ [])))
+          ∙ ap (λ (cs : List StemClass). onto (map view_entry es) (view_classes cs)) (sym c.in-Some.ensures.items)
+          ∙ c.loop-class.invariant.ranked;
+      sized = subst Sized (sym c.in_ok-insert.ensures.entries) (sized-insert es _ class.members size c.loop-class.invariant.sized);
+    }
+
 pub returns : goal.returns
 returns c =
     let items : List StemClass = c.loop-class.classes.items in
