@@ -1,5 +1,5 @@
 -- No row is told exactly if no pair is counted; pairs add up; words have their stems.
-use Rattle.std.proofs.Common.{◌≡◌, ◌∙◌, ◌↔◌, ◌||◌, ◌++◌, ◌+◌, ◌*◌, Bool, true, false, not, cond, ℕ, List, [], ◌∷◌, map, length, Option, Some, None, if◌then◌else◌, option_to_list, arith, refl, sym, ap, subst}
+use Rattle.std.proofs.Common.{◌≡◌, ◌∙◌, ◌↔◌, ◌⊎◌, inl, inr, ◌||◌, ◌++◌, ◌+◌, ◌*◌, Bool, true, false, not, cond, ℕ, List, [], ◌∷◌, map, length, Option, Some, None, if◌then◌else◌, option_to_list, arith, refl, sym, ap, subst}
 use Rattle.std.specs.List.{All, AllByRecursion, cons_option, count_by, filter, filter_map, find, list_any}
 use Rattle.std.specs.Option.{option_map}
 use Rattle.std.specs.declared.cmp.Ordering.{Ordering}
@@ -25,14 +25,14 @@ use Rattle.sbl_changes.proofs.Sorting.{mem}
 
 none_counted : (t : Pair → Bool) (ps : List Pair) → count_by t ps ≡ 0 → AllByRecursion (λ q. t q ≡ false) ps
 none_counted t [] e = tt
-none_counted t (p ∷ ps) e = by (t p) refl
+none_counted t (p ∷ ps) e = by (t p) refl (none_counted t ps)
   where
     parts : count_by t (p ∷ ps) ≡ cond (t p) 1 0 + count_by t ps
     parts = count-cons t p ps
 
-    by : (b : Bool) → t p ≡ b → (t p ≡ false) × AllByRecursion (λ q. t q ≡ false) ps
-    by true f = let g : cond (t p) 1 0 ≡ 1 = ap (λ (b : Bool). cond b 1 0) f in absurd (omega arith)
-    by false f = let g : cond (t p) 1 0 ≡ 0 = ap (λ (b : Bool). cond b 1 0) f in (f, none_counted t ps (omega arith))
+    by : (b : Bool) → t p ≡ b → (count_by t ps ≡ 0 → AllByRecursion (λ q. t q ≡ false) ps) → (t p ≡ false) × AllByRecursion (λ q. t q ≡ false) ps
+    by true f rest = let g : ◌≡◌ {A = ℕ} (cond (t p) 1 0) 1 = ap (λ (b : Bool). cond b 1 0) f in absurd (omega (arith, parts))
+    by false f rest = let g : ◌≡◌ {A = ℕ} (cond (t p) 1 0) 0 = ap (λ (b : Bool). cond b 1 0) f in (f, rest (omega (arith, parts)))
 
 count_none : (t : Pair → Bool) (ps : List Pair) → AllByRecursion (λ q. t q ≡ false) ps → count_by t ps ≡ 0
 count_none t [] a = refl
@@ -163,3 +163,115 @@ families_stems rows before (words ∷ lists) = All-append (HasStem rows) (family
 
 pub words_have_their_stems : WordsHaveTheirStems
 words_have_their_stems rows lists = families_stems rows [] lists
+
+-- ---- stems of several families
+
+-- the first words with this stem
+abbrev words_with : List ℕ → List (List Pair) → List (List ℕ)
+words_with stem families = filter_map (first_with stem) families
+
+no_members : (stem : List ℕ) (ps : List Pair) → AllByRecursion (λ q. bytes_eq stem q.0 ≡ false) ps → some (members_of stem ps) ≡ false
+no_members stem [] a = refl
+no_members stem (p ∷ ps) a = ap (λ (b : Bool). some (map (λ (q : Pair). q.1) (cond b (p ∷ filter (λ q. bytes_eq stem q.0) ps) (filter (λ q. bytes_eq stem q.0) ps)))) a.0 ∙ no_members stem ps a.1
+
+members_none : (stem : List ℕ) (ps : List Pair) → some (members_of stem ps) ≡ false → AllByRecursion (λ q. bytes_eq stem q.0 ≡ false) ps
+members_none stem [] e = tt
+members_none stem (p ∷ ps) e = by (bytes_eq stem p.0) refl e (members_none stem ps)
+  where
+    by : (b : Bool) → bytes_eq stem p.0 ≡ b → some (map (λ (q : Pair). q.1) (cond b (p ∷ filter (λ q. bytes_eq stem q.0) ps) (filter (λ q. bytes_eq stem q.0) ps))) ≡ false
+        → (some (members_of stem ps) ≡ false → AllByRecursion (λ q. bytes_eq stem q.0 ≡ false) ps) → (bytes_eq stem p.0 ≡ false) × AllByRecursion (λ q. bytes_eq stem q.0 ≡ false) ps
+    by true f e rest = cc e
+    by false f e rest = (f, rest e)
+
+empty : (xs : List (List ℕ)) → some xs ≡ false → xs ≡ []
+empty [] e = refl
+empty (x ∷ xs) e = cc e
+
+between_none : (ps qs : List Pair) → pairs_between same_stem ps qs ≡ 0 → (stem word : List ℕ) → first_with stem ps ≡ Some word → some (members_of stem qs) ≡ false
+between_none [] qs e stem word f = cc f
+between_none (p ∷ ps) qs e stem word f = by (bytes_eq stem p.0) refl f (λ h. between_none ps qs h stem word)
+  where
+    parts : pairs_between same_stem (p ∷ ps) qs ≡ count_by (same_stem p) qs + pairs_between same_stem ps qs
+    parts = sum_by-cons (λ r. count_by (same_stem r) qs) p ps
+
+    by : (b : Bool) → bytes_eq stem p.0 ≡ b → option_map (λ (q : Pair). q.1) (cond b (Some p) (find (λ q. bytes_eq stem q.0) ps)) ≡ Some word
+        → (pairs_between same_stem ps qs ≡ 0 → first_with stem ps ≡ Some word → some (members_of stem qs) ≡ false) → some (members_of stem qs) ≡ false
+    by true g f rest = subst (λ (s : List ℕ). some (members_of s qs) ≡ false) (sym ((bytes_eq-Decides stem p.0).0 g)) (no_members p.0 qs (none_counted (same_stem p) qs (omega (arith, parts))))
+    by false g f rest = rest (omega (arith, parts)) f
+
+none_between : (ps qs : List Pair) → ((stem word : List ℕ) → first_with stem ps ≡ Some word → some (members_of stem qs) ≡ false) → pairs_between same_stem ps qs ≡ 0
+none_between [] qs h = refl
+none_between (p ∷ ps) qs h =
+    let parts : pairs_between same_stem (p ∷ ps) qs ≡ count_by (same_stem p) qs + pairs_between same_stem ps qs = sum_by-cons (λ r. count_by (same_stem r) qs) p ps in
+    let none : some (members_of p.0 qs) ≡ false = h p.0 p.1 (ap (λ (b : Bool). option_map (λ (q : Pair). q.1) (cond b (Some p) (find (λ q. bytes_eq p.0 q.0) ps))) ((bytes_eq-Decides p.0 p.0).1 refl)) in
+    let first : count_by (same_stem p) qs ≡ 0 = count_none (same_stem p) qs (members_none p.0 qs none) in
+    let rest : pairs_between same_stem ps qs ≡ 0 = none_between ps qs later in
+    omega arith
+  where
+    later : (stem word : List ℕ) → first_with stem ps ≡ Some word → some (members_of stem qs) ≡ false
+    later stem word f = by (bytes_eq stem p.0) (h stem)
+      where
+        by : (b : Bool) → ((w : List ℕ) → option_map (λ (q : Pair). q.1) (cond b (Some p) (find (λ q. bytes_eq stem q.0) ps)) ≡ Some w → some (members_of stem qs) ≡ false) → some (members_of stem qs) ≡ false
+        by true g = g p.1 refl
+        by false g = g word f
+
+joined_to : (families : List (List Pair)) → pairs_across same_stem families ≡ 0 → (stem : List ℕ) → over stem (words_with stem families) ≡ None
+joined_to [] e stem = refl
+joined_to (f ∷ families) e stem = by (first_with stem f) refl (λ h. joined_to families h stem)
+  where
+    first : pairs_between same_stem f (all_of families) ≡ 0
+    first = omega arith
+
+    rest : pairs_across same_stem families ≡ 0
+    rest = omega arith
+
+    by : (o : Option (List ℕ)) → first_with stem f ≡ o → (pairs_across same_stem families ≡ 0 → over stem (words_with stem families) ≡ None) → over stem (cons_option o (words_with stem families)) ≡ None
+    by None g later = later rest
+    by (Some word) g later = ap (λ (ws : List (List ℕ)). over stem (word ∷ ws)) (empty (words_with stem families) (sym (all-first stem families) ∙ between_none f (all_of families) first stem word g))
+
+only : (stem word : List ℕ) (ws : List (List ℕ)) → over stem (word ∷ ws) ≡ None → ws ≡ []
+only stem word [] e = refl
+only stem word (w ∷ ws) e = cc e
+
+over_later : (stem : List ℕ) (o : Option (List ℕ)) (ws : List (List ℕ)) → over stem (cons_option o ws) ≡ None → over stem ws ≡ None
+over_later stem None ws e = e
+over_later stem (Some word) ws e = ap (over stem) (only stem word ws e)
+
+joined_from : (families : List (List Pair)) → ((stem : List ℕ) → over stem (words_with stem families) ≡ None) → pairs_across same_stem families ≡ 0
+joined_from [] h = refl
+joined_from (f ∷ families) h =
+    let first : pairs_between same_stem f (all_of families) ≡ 0 = none_between f (all_of families) (λ stem word g.
+    all-first stem families ∙ ap some (only stem word (words_with stem families) (ap (λ (o : Option (List ℕ)). over stem (cons_option o (words_with stem families))) (sym g) ∙ h stem))) in
+    let rest : pairs_across same_stem families ≡ 0 = joined_from families (λ stem. over_later stem (first_with stem f) (words_with stem families) (h stem)) in
+    omega arith
+
+made_none : (h : List ℕ → Option FamilyResult) (ss : List (List ℕ)) → filter_map h ss ≡ [] → (s : List ℕ) → mem text_cmp s ss ≡ true → h s ≡ None
+made_none h [] e s m = cc m
+made_none h (x ∷ ss) e s m = by (text_cmp s x) refl m (λ n. made_none h ss n s)
+  where
+    none : (h x ≡ None) × (filter_map h ss ≡ [])
+    none = none_first (h x) (filter_map h ss) e
+
+    by : (o : Ordering) → text_cmp s x ≡ o → (is_eq o || mem text_cmp s ss) ≡ true → (filter_map h ss ≡ [] → mem text_cmp s ss ≡ true → h s ≡ None) → h s ≡ None
+    by Less g m rest = rest none.1 m
+    by Equal g m rest = ap h (exact_bytes s x g) ∙ none.0
+    by Greater g m rest = rest none.1 m
+
+rows_to : (families : List (List Pair)) → over_rows families ≡ [] → (stem : List ℕ) → over stem (words_with stem families) ≡ None
+rows_to families e stem = by (mem text_cmp stem (stems_of (all_of families))) refl
+  where
+    by : (b : Bool) → mem text_cmp stem (stems_of (all_of families)) ≡ b → over stem (words_with stem families) ≡ None
+    by true m = made_none (λ s. over s (words_with s families)) (stems_of (all_of families)) e stem m
+    by false m =
+        ap (over stem) (empty (words_with stem families)
+        (sym (all-first stem families) ∙ sym (mem-members stem (all_of families)) ∙ sym (any-in_order (λ x. is_eq (text_cmp stem x)) (map (λ p. p.0) (all_of families))) ∙ m))
+
+rows_from : (families : List (List Pair)) → ((stem : List ℕ) → over stem (words_with stem families) ≡ None) → over_rows families ≡ []
+rows_from families h = none_made (λ s. over s (words_with s families)) (stems_of (all_of families)) (all (stems_of (all_of families)))
+  where
+    all : (ss : List (List ℕ)) → AllByRecursion (λ s. over s (words_with s families) ≡ None) ss
+    all [] = tt
+    all (s ∷ ss) = (h s, all ss)
+
+pub none_joined : NoneJoinedIfNoOver
+none_joined families = (λ e. rows_from families (joined_to families e), λ e. joined_from families (rows_to families e))

@@ -34,7 +34,7 @@ members-append stem (x ∷ xs) ys = by (bytes_eq stem x.0) (members-append stem 
     by false rest = rest
 
 -- a stem is there if it has a member
-abbrev some : {A : Type 0} → List A → Bool
+abbrev pub some : {A : Type 0} → List A → Bool
 some xs = list_any (λ x. true) xs
 
 pub mem-members : (q : List ℕ) (ps : List Pair) → mem text_cmp q (map (λ p. p.0) ps) ≡ some (members_of q ps)
@@ -125,7 +125,7 @@ some-first stem (p ∷ ps) = by (bytes_eq stem p.0) (some-first stem ps)
     by true rest = refl
     by false rest = rest
 
-all-first : (stem : List ℕ) (families : List (List Pair)) → some (members_of stem (all_of families)) ≡ some (filter_map (first_with stem) families)
+pub all-first : (stem : List ℕ) (families : List (List Pair)) → some (members_of stem (all_of families)) ≡ some (filter_map (first_with stem) families)
 all-first stem [] = refl
 all-first stem (f ∷ families) =
     ap some (members-append stem f (all_of families))

@@ -12,3 +12,5 @@ pub mod RankFacts
 pub mod PairFacts
 pub mod FamilyFacts
 pub mod HeadFacts
+pub mod FamilyLaws
+pub mod LargestLaws

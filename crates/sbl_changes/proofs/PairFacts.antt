@@ -8,7 +8,7 @@ use Rattle.sbl_changes.specs.Families.{all_of, any_two, other_stem, pairs_across
 abbrev Test : Type 0
 Test = Pair → Pair → Bool
 
-count-cons : (p : Pair → Bool) (x : Pair) (xs : List Pair) → count_by p (x ∷ xs) ≡ cond (p x) 1 0 + count_by p xs
+pub count-cons : (p : Pair → Bool) (x : Pair) (xs : List Pair) → count_by p (x ∷ xs) ≡ cond (p x) 1 0 + count_by p xs
 count-cons p x xs = sum_by-cons (λ z. cond (p z) 1 0) x xs
 
 -- one word more: it makes a pair with each before it

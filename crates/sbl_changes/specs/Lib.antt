@@ -7,6 +7,8 @@ pub mod Stats
 pub mod Largest
 pub mod Families
 pub mod ChangesAreSound
+pub mod FamiliesAreSound
+pub mod LargestAreSound
 -- what the functions inside the crate promise each other: nothing in these need be believed
 pub mod Known
 pub mod Grouping
