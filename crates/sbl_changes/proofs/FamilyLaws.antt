@@ -69,8 +69,8 @@ apart_under : (ps : List Pair) → pairs_in other_stem ps ≡ 0 → under ps ≡
 apart_under [] e = refl
 apart_under (p ∷ ps) e =
     elim (alike_order p.0 (map (λ q. q.0) (p ∷ ps)) (stems_alike p.0 (p ∷ ps) all)) [
-      inl none ↦ ap (under_with p.1) none
-    | inr one ↦ ap (under_with p.1) one
+      | inl none ↦ ap (under_with p.1) none
+      | inr one ↦ ap (under_with p.1) one
     ]
   where
     all : Alike p.0 (p ∷ ps)

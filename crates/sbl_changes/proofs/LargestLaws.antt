@@ -107,8 +107,7 @@ largest_are_first n rows =
     let classes : List Class = word_classes rows in
     let ordered : List Class = by_size classes in
     let distinct : Apart classes = apart classes (classes_rise (filter_map (λ r. pair_of r.word r.outcome) rows)).0 in
-    let parts : take n ordered ++ drop n ordered ≡ ordered = take-append-drop n ordered in
-    (
+    let parts : take n ordered ++ drop n ordered ≡ ordered = take-append-drop n ordered in (
       (drop n ordered, subst (IsPermutation classes) (sym parts) (by_size-permutes classes distinct), subst AreRanked (sym parts) (are_ranked ordered (by_size-sorts classes distinct))),
       length-take n ordered ∙ ap (min n) (length_permutation classes ordered (by_size-permutes classes distinct)),
     )

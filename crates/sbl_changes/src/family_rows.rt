@@ -27,10 +27,7 @@ fn stems_of<'a>(alloc: Global, pairs: &[StemPair<'a>]) -> Result<Vec<&'a [char]>
 }
 
 /// Returns the stems of the classes. Returns `AllocError` if an allocation fails.
-fn class_stems<'a>(
-    alloc: Global,
-    classes: &[StemClass<'a>],
-) -> Result<Vec<&'a [char]>, AllocError>
+fn class_stems<'a>(alloc: Global, classes: &[StemClass<'a>]) -> Result<Vec<&'a [char]>, AllocError>
     ensures { IfOk result (λ stems. texts_of stems.items ≡ map (λ c. c.stem) (view_classes classes.now)) }
 {
     let mut stems = Vec::new(alloc);
@@ -128,10 +125,7 @@ fn classes_in_turn<'a>(
 }
 
 /// Returns the classes of the pairs, put one after another. Returns `AllocError` if an allocation fails.
-fn grouped<'a>(
-    alloc: Global,
-    pairs: &[StemPair<'a>],
-) -> Result<Vec<StemClass<'a>>, AllocError>
+fn grouped<'a>(alloc: Global, pairs: &[StemPair<'a>]) -> Result<Vec<StemClass<'a>>, AllocError>
     ensures { IfOk result (λ classes. view_classes classes.items ≡ grouping.grouped [] (view_pairs pairs.now)) }
 {
     let mut classes = Vec::new(alloc);

@@ -33,10 +33,7 @@ pub fn largest_classes<'a>(
 }
 
 /// Returns the classes by size and stem. Returns `AllocError` if an allocation fails.
-fn ranking_of<'a>(
-    alloc: Global,
-    mut classes: Vec<StemClass<'a>>,
-) -> Result<Ranking<'a>, AllocError>
+fn ranking_of<'a>(alloc: Global, mut classes: Vec<StemClass<'a>>) -> Result<Ranking<'a>, AllocError>
     ensures { IfOk result (λ found. map ranked.view_entry found.entries ≡ spec.by_size (view_classes classes.entry.items)) }
 {
     let mut ranking = BTreeMap::new(alloc);

@@ -1,4 +1,5 @@
-//! What two lists of rows have different: words added and removed, outcomes changed, classes split, merged and renamed.
+//! What two lists of rows have different: words added and removed, outcomes changed, classes split, merged and renamed. Reports on one
+//! list: figures, the largest classes, and how far stems agree with families of words.
 #![tactic(auto)]
 
 mod change;

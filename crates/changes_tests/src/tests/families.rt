@@ -79,7 +79,12 @@ fn three_words_and_two_share_a_stem(rt: HostRuntime) -> Result<(), Fail> {
         stem(&['e'], &['x']),
     ];
     assert_eq!(rt;
-        rows_of(rt.alloc(), &rows, &[&[&['a'], &['b'], &['c']], &[&['d'], &['e']]])?.as_str(),
+        rows_of(
+            rt.alloc(),
+            &rows,
+            &[&[&['a'], &['b'], &['c']], &[&['d'], &['e']]]
+        )?
+        .as_str(),
         "over,x,a,d;pairs,4,0,6,6;"
     );
     Ok(())

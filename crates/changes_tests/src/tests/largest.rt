@@ -30,7 +30,10 @@ fn the_largest_is_first_then_the_stem_decides(rt: HostRuntime) -> Result<(), Fai
     assert_eq!(rt; rows_of(rt.alloc(), &rows, 1)?.as_str(), "y,b,c;");
     assert_eq!(rt; rows_of(rt.alloc(), &rows, 2)?.as_str(), "y,b,c;z,d,e;");
     assert_eq!(rt; rows_of(rt.alloc(), &rows, 3)?.as_str(), "y,b,c;z,d,e;x,a;");
-    assert_eq!(rt; rows_of(rt.alloc(), &rows, 99)?.as_str(), "y,b,c;z,d,e;x,a;");
+    assert_eq!(rt;
+        rows_of(rt.alloc(), &rows, 99)?.as_str(),
+        "y,b,c;z,d,e;x,a;"
+    );
     Ok(())
 }
 

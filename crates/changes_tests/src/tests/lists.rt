@@ -119,11 +119,7 @@ pub(crate) fn shown_classes(
 }
 
 /// Appends a row about families.
-fn put_family_row(
-    alloc: Global,
-    text: &mut String,
-    row: &FamilyRow<'_>,
-) -> Result<(), AllocError> {
+fn put_family_row(alloc: Global, text: &mut String, row: &FamilyRow<'_>) -> Result<(), AllocError> {
     match row {
         FamilyRow::Under { word, stems } => {
             text.push_str("under")?;
@@ -148,10 +144,7 @@ fn put_family_row(
 }
 
 /// The rows about families, each with a semicolon.
-pub(crate) fn shown_families(
-    alloc: Global,
-    rows: &[FamilyRow<'_>],
-) -> Result<String, AllocError> {
+pub(crate) fn shown_families(alloc: Global, rows: &[FamilyRow<'_>]) -> Result<String, AllocError> {
     let mut text = String::new(alloc);
     for row in rows {
         put_family_row(alloc, &mut text, row)?;
