@@ -21,7 +21,7 @@ use Rattle.sbl_changes.proofs.Sorting.{self_equal}
 bytes_eq-self : (t : List ℕ) → bytes_eq t t ≡ true
 bytes_eq-self t = (bytes_eq-Decides t t).1 refl
 
-none_made : {A B : Type 0} (h : A → Option B) (xs : List A) → AllByRecursion (λ x. h x ≡ None) xs → filter_map h xs ≡ []
+pub none_made : {A B : Type 0} (h : A → Option B) (xs : List A) → AllByRecursion (λ x. h x ≡ None) xs → filter_map h xs ≡ []
 none_made h [] a = refl
 none_made h (x ∷ xs) a = (λ i. cons_option (a.0 i) (filter_map h xs)) ∙ none_made h xs a.1
 
@@ -77,7 +77,7 @@ alike s (m ∷ moves) a = by (bytes_eq s m.0) refl (alike s moves a.1)
     by true e rest = (sym a.0 ∙ sym ((bytes_eq-Decides s m.0).0 e), rest)
     by false e rest = rest
 
-alike_order : (s : List ℕ) (ts : List (List ℕ)) → AllByRecursion (λ t. t ≡ s) ts → (in_order ts ≡ []) ⊎ (in_order ts ≡ s ∷ [])
+pub alike_order : (s : List ℕ) (ts : List (List ℕ)) → AllByRecursion (λ t. t ≡ s) ts → (in_order ts ≡ []) ⊎ (in_order ts ≡ s ∷ [])
 alike_order s [] a = inl refl
 alike_order s (t ∷ ts) a = ⊎_elim
     (λ e. inr (λ i. insert_key text_cmp (e i) (a.0 i)))

@@ -88,7 +88,7 @@ some_members stem pairs h = at (in_order (members_of stem pairs)) (any-class (λ
     at [] e = absurd (true≢false (sym e))
     at (w ∷ ws) e = omega arith
 
-stems_of_classes : (pairs : List Pair) (ss : List (List ℕ)) → map (λ c. c.stem) (map (class_with pairs) ss) ≡ ss
+pub stems_of_classes : (pairs : List Pair) (ss : List (List ℕ)) → map (λ c. c.stem) (map (class_with pairs) ss) ≡ ss
 stems_of_classes pairs [] = refl
 stems_of_classes pairs (s ∷ ss) = ap (λ (l : List (List ℕ)). s ∷ l) (stems_of_classes pairs ss)
 

@@ -1,5 +1,7 @@
 //! Laws of changes and classes.
 
+ghost use Rattle.sbl_changes.specs.LargestAreSound.{LargestAreFirst};
+ghost use Rattle.sbl_changes.specs.FamiliesAreSound.{NoneApartIfNoUnder, NoneJoinedIfNoOver, PairsAddUp, WordsHaveTheirStems};
 ghost use Rattle.sbl_changes.specs.ChangesAreSound.{ClassesAreOfPairs, ClassesRise, EqualListsHaveNoChanges, NoClassIsSplitAndRenamed};
 
 /// Two equal lists have no changes, if each word has one row. No class is both split and renamed.
@@ -13,4 +15,20 @@ pub fn changes_are_sound()
 pub fn classes_are_sound()
     ensures rise { ClassesRise }
     ensures of_pairs { ClassesAreOfPairs }
+{}
+
+/// No two words of one family have different stems exactly if no family is told to have several. No two words of two families share a
+/// stem exactly if no stem is told to be one of several families. The pairs within families and across them are all pairs of the words
+/// that count; the pairs within share a stem or are apart. Each word that counts has the stem of its row.
+pub fn families_are_sound()
+    ensures apart { NoneApartIfNoUnder }
+    ensures joined { NoneJoinedIfNoOver }
+    ensures sum { PairsAddUp }
+    ensures stems { WordsHaveTheirStems }
+{}
+
+/// The largest classes and some others are all classes of the rows, each once, and each class is before all that come after it: it has
+/// more words, or as many and an earlier stem. There are `n` largest classes, or all classes if these are fewer.
+pub fn largest_are_sound()
+    ensures { LargestAreFirst }
 {}
