@@ -4,6 +4,8 @@ use Rattle.std.specs.Str.{encode_utf8_all}
 use Rattle.sbl_bench.specs.Contents.{Contents}
 use Rattle.sbl_bench.specs.Rows as bench
 use Rattle.sbl_changes.specs.Changes.{Added, Change, Changed, Merged, Removed, Renamed, Split, changes_of}
+use Rattle.sbl_changes.specs.Classes.{Class}
+use Rattle.sbl_changes.specs.Largest.{largest_of}
 use Rattle.sbl_changes.specs.Rows.{Outcome, Row, Stem, Refused}
 use Rattle.sbl_changes.specs.Stats.{Stats, stats_of}
 use Rattle.sbl_machine.specs.Outcome as machine
@@ -57,3 +59,13 @@ stats_fields s runs =
 
 abbrev pub stats_text : Contents → List ℕ
 stats_text s = records_text (stats_fields (stats_of (named_rows (rows_now s))) s.count)
+
+-- ---- the largest classes
+
+-- the stem of a class, then its words
+abbrev pub class_fields : Class → List (List ℕ)
+class_fields c = stem_fields c.stem c.members
+
+-- a row for each of the n largest classes
+abbrev pub largest_text : ℕ → Contents → List ℕ
+largest_text n s = records_text (map class_fields (largest_of n (named_rows (rows_now s))))

@@ -1,5 +1,5 @@
 //! Definitions of a script: their lines, and the text of one that was typed whole.
-ghost use Rattle.std.specs.Prelude.{◌≡◌, ◌++◌, ℕ, List, IfOk, MatchOption, None, Some, map};
+ghost use Rattle.std.specs.Prelude.{◌≡◌, IfOk, MatchOption, None, Some, map};
 ghost use Rattle.std.specs.Option.{option_map};
 ghost use Rattle.sbl_print.specs.Canonical.{plain_text};
 ghost use Rattle.sbl_script.specs.Edits as edits;
@@ -65,9 +65,7 @@ pub(crate) fn without_head<'a>(
     alloc: Global,
     target: &Target,
     text: &'a str,
-) -> Result<&'a str, AllocError>
-    ensures { IfOk result (λ rest. (head : List ℕ) × (text.now ≡ head ++ rest.now)) }
-{
+) -> Result<&'a str, AllocError> {
     let Some((name, is_routine)) = head_of(target) else {
         return Ok(text);
     };

@@ -38,15 +38,22 @@ fn copy_row(alloc: Global, row: &Row<'_>) -> Result<MarkedRow, AllocError>
     })
 }
 
+/// Returns copies of rows. Returns `AllocError` if an allocation fails.
+fn copy_all(alloc: Global, rows: &[Row<'_>]) -> Result<Vec<MarkedRow>, AllocError>
+    ensures { IfOk result (λ copies. map view_marked copies.items ≡ map view_row rows.now) }
+{
+    let mut copies = Vec::with_capacity(alloc, rows.len())?;
+    for row in rows {
+        let copy = copy_row(alloc, row)?;
+        copies.push(copy)?;
+    }
+    Ok(copies)
+}
+
 /// Returns a copy of the rows of a bench. Returns `AllocError` if an allocation fails.
 pub(crate) fn copy_rows(alloc: Global, bench: &Bench) -> Result<Vec<MarkedRow>, AllocError>
     ensures { IfOk result (λ copies. map view_marked copies.items ≡ rows_now (contents_of bench.now)) }
 {
     let rows = bench.rows()?;
-    let mut copies = Vec::with_capacity(alloc, rows.len())?;
-    for row in &rows {
-        let copy = copy_row(alloc, row)?;
-        copies.push(copy)?;
-    }
-    Ok(copies)
+    copy_all(alloc, &rows)
 }

@@ -1,10 +1,13 @@
 //! Edits of the script by a block.
-ghost use Rattle.std.specs.Prelude.{◌≤◌, OnOk};
-ghost use Rattle.sbl_lines.specs.Held.{KeepsTime, fuel_of};
+ghost use Rattle.std.specs.Prelude.{◌≡◌, ◌≤◌, OnOk, Some};
+ghost use Rattle.sbl_lines.specs.Held.{KeepsTime, fuel_of, line_of};
+ghost use Rattle.sbl_sessions.specs.CommandViews.{view_word};
+ghost use Rattle.sbl_sessions.specs.Requests.{block_word};
 
 use crate::definitions::without_head;
 use crate::desk::Desk;
 use crate::replies::edit_reply;
+use crate::requests::REPLACE;
 use sbl_bench::{Bench, EditFault};
 use sbl_lines::{Lines, ServeFault, Source};
 use sbl_script::ScriptFault;
@@ -66,6 +69,7 @@ pub(crate) fn answer_part<R: Source + Drop>(
     lines: &mut Lines<R>,
     word: BlockWord,
 ) -> Result<Reply, ServeFault>
+    requires { block_word (line_of lines.old) ≡ Some (view_word word) }
     ensures fuel { OnOk result (fuel_of lines.new ≤ fuel_of lines.old) }
     ensures in_time { KeepsTime R.ended R.late R.interruptions R.reads lines.old lines.new }
 {
@@ -74,16 +78,16 @@ pub(crate) fn answer_part<R: Source + Drop>(
     Ok(edit_part(lines.alloc(), desk, bench, target, block))
 }
 
-/// Reads the block of `replace`, makes the edit, and returns the reply. A bad line is refused, whatever its block is.
+/// Reads the block of `replace`, makes the edit, and returns the reply. A line with an argument is refused, whatever its block is.
 pub(crate) fn answer_replace<R: Source + Drop>(
     desk: &mut Desk,
     bench: &mut Bench,
     lines: &mut Lines<R>,
-    is_good: bool,
 ) -> Result<Reply, ServeFault>
     ensures fuel { OnOk result (fuel_of lines.new ≤ fuel_of lines.old) }
     ensures in_time { KeepsTime R.ended R.late R.interruptions R.reads lines.old lines.new }
 {
+    let is_good = lines.line() == REPLACE;
     let block = read_block(lines)?;
     if !is_good {
         return Ok(Reply::Fixed(BAD_COMMAND));

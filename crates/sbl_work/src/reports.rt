@@ -2,13 +2,12 @@
 ghost use Rattle.std.specs.Prelude.{◌≡◌, ◌++◌, ◌∷◌, [], IfOk, OnOk, codes, map};
 ghost use Rattle.std.specs.Str.{encode_utf8_all};
 ghost use Rattle.csv.specs.Records.{fields_of, partial_of};
-ghost use Rattle.sbl_bench.specs.Classes.{view_class, words_of};
 ghost use Rattle.sbl_bench.specs.Kept.{contents_of};
 ghost use Rattle.sbl_bench.specs.Rows.{view_row};
-ghost use Rattle.sbl_changes.specs.Changes.{view_change};
+ghost use Rattle.sbl_changes.specs.Changes.{view_change, view_changes};
+ghost use Rattle.sbl_changes.specs.Grouping.{view_class as view_stem_class, view_classes as view_stem_classes};
 ghost use Rattle.sbl_changes.specs.Rows.{texts_of, view_outcome, view_rows};
 ghost use Rattle.sbl_machine.specs.Outcome.{outcome_of};
-ghost use Rattle.sbl_sessions.specs.Rows.{class_fields};
 ghost use Rattle.sbl_records.specs.Records.{record_line, records_text};
 ghost use Rattle.sbl_work.specs.Desks.{rows_now, state_of, view_marked};
 ghost use Rattle.sbl_work.specs.Reports as spec;
@@ -16,8 +15,10 @@ ghost use Rattle.sbl_work.specs.Reports as spec;
 use crate::desk::Desk;
 use crate::marks::MarkedRow;
 use csv::ByteRecord;
-use sbl_bench::{Bench, Class, Row};
-use sbl_changes::{ChangeRow, RowStats, WordOutcome, WordRow, changes, stats};
+use sbl_bench::{Bench, Row};
+use sbl_changes::{
+    ChangeRow, RowStats, StemClass, WordOutcome, WordRow, changes, largest_classes, stats,
+};
 use sbl_machine::Outcome;
 use sbl_records::{record_line, set_text};
 use std::alloc::{AllocError, Global};
@@ -177,6 +178,17 @@ fn push_change(alloc: Global, out: &mut Vec<u8>, change: &ChangeRow<'_>) -> Resu
     push_line(alloc, out, &csv_record)
 }
 
+/// Returns the lines of changes. Returns `AllocError` if an allocation fails.
+fn change_lines(alloc: Global, found: &[ChangeRow<'_>]) -> Result<Vec<u8>, AllocError>
+    ensures { IfOk result (λ text. text.items ≡ records_text (map spec.change_fields (view_changes found.now))) }
+{
+    let mut out = Vec::new(alloc);
+    for change in found {
+        push_change(alloc, &mut out, change)?;
+    }
+    Ok(out)
+}
+
 /// Returns the report of what differs from the mark. Returns `AllocError` if an allocation fails.
 pub(crate) fn changes_text(alloc: Global, desk: &Desk, bench: &Bench) -> Result<Vec<u8>, AllocError>
     ensures { IfOk result (λ text. text.items ≡ spec.changes_text (state_of desk.now) (contents_of bench.now)) }
@@ -185,11 +197,7 @@ pub(crate) fn changes_text(alloc: Global, desk: &Desk, bench: &Bench) -> Result<
     let before = named_marks(alloc, desk.marked())?;
     let after = named_rows(alloc, &rows)?;
     let found = changes(alloc, &before, &after)?;
-    let mut out = Vec::new(alloc);
-    for change in &found {
-        push_change(alloc, &mut out, change)?;
-    }
-    Ok(out)
+    change_lines(alloc, &found)
 }
 
 /// Appends the line of a figure. Returns `AllocError` if an allocation fails.
@@ -239,31 +247,26 @@ pub(crate) fn stats_text(alloc: Global, bench: &Bench) -> Result<Vec<u8>, AllocE
     Ok(out)
 }
 
-/// Appends words to a record, each as one field. Returns `AllocError` if an allocation fails.
-fn push_words(
-    text: &mut String,
-    csv_record: &mut ByteRecord,
-    words: &[Vec<char>],
-) -> Result<(), AllocError>
-    requires { partial_of csv_record.old ≡ [] }
-    ensures fields { OnOk result (fields_of csv_record.new ≡ fields_of csv_record.old ++ map encode_utf8_all (words_of words.now)) }
-    ensures partial { OnOk result (partial_of csv_record.new ≡ []) }
-{
-    for word in words {
-        push_text(text, csv_record, word)?;
-    }
-    Ok(())
-}
-
 /// Appends the line of a class: its stem, and its words. Returns `AllocError` if an allocation fails.
-fn push_class(alloc: Global, out: &mut Vec<u8>, class: &Class) -> Result<(), AllocError>
-    ensures { OnOk result (out.new.items ≡ out.old.items ++ record_line (class_fields (view_class class.now))) }
+fn push_class(alloc: Global, out: &mut Vec<u8>, class: &StemClass<'_>) -> Result<(), AllocError>
+    ensures { OnOk result (out.new.items ≡ out.old.items ++ record_line (spec.class_fields (view_stem_class class.now))) }
 {
     let mut text = String::new(alloc);
     let mut csv_record = ByteRecord::new(alloc);
-    push_text(&mut text, &mut csv_record, &class.stem)?;
-    push_words(&mut text, &mut csv_record, &class.words)?;
+    push_text(&mut text, &mut csv_record, class.stem)?;
+    push_stems(&mut text, &mut csv_record, class.members.as_slice())?;
     push_line(alloc, out, &csv_record)
+}
+
+/// Returns the lines of classes. Returns `AllocError` if an allocation fails.
+fn class_lines(alloc: Global, classes: &[StemClass<'_>]) -> Result<Vec<u8>, AllocError>
+    ensures { IfOk result (λ text. text.items ≡ records_text (map spec.class_fields (view_stem_classes classes.now))) }
+{
+    let mut out = Vec::new(alloc);
+    for class in classes {
+        push_class(alloc, &mut out, class)?;
+    }
+    Ok(out)
 }
 
 /// Returns the report of the largest classes, at most `number` of them: the largest first, those of one size by stem. Returns
@@ -272,13 +275,11 @@ pub(crate) fn largest_text(
     alloc: Global,
     bench: &Bench,
     number: usize,
-) -> Result<Vec<u8>, AllocError> {
-    let mut classes = bench.classes()?;
-    classes.sort_by(|one, other| other.words.len().cmp(&one.words.len()))?;
-    classes.truncate(number);
-    let mut out = Vec::new(alloc);
-    for class in &classes {
-        push_class(alloc, &mut out, class)?;
-    }
-    Ok(out)
+) -> Result<Vec<u8>, AllocError>
+    ensures { IfOk result (λ text. text.items ≡ spec.largest_text number (contents_of bench.now)) }
+{
+    let rows = bench.rows()?;
+    let named = named_rows(alloc, &rows)?;
+    let classes = largest_classes(alloc, &named, number)?;
+    class_lines(alloc, &classes)
 }

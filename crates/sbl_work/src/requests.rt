@@ -1,16 +1,5 @@
 //! The commands of work.
 
-use sbl_sessions::{BlockWord, block_word};
-
-/// What a line that a block follows asks for.
-#[derive(Clone, Copy, Debug, PartialEq, Eq)]
-pub(crate) enum BlockRequest {
-    /// Replaces a part of the script.
-    Part(BlockWord),
-    /// Replaces the whole script. The line is bad, which is `false`, if it has an argument.
-    Whole(bool),
-}
-
 /// What a line without a block asks for.
 #[derive(Debug, Drop)]
 pub(crate) enum Request<'a> {
@@ -57,16 +46,13 @@ fn split(line: &[u8]) -> (&[u8], &[u8]) {
     (line, &[])
 }
 
-/// Returns what a line that a block follows asks for; `None` if no block follows the line.
-pub(crate) fn block_request_of(line: &[u8]) -> Option<BlockRequest> {
-    if let Some(word) = block_word(line) {
-        return Some(BlockRequest::Part(word));
-    }
+/// The line that replaces the whole script by the block after it.
+pub(crate) const REPLACE: &[u8] = b"replace";
+
+/// Whether the command word of a line is `replace`: then a block follows the line, whatever else the line contains.
+pub(crate) fn asks_replace(line: &[u8]) -> bool {
     let (word, _) = split(line);
-    if word == b"replace".as_slice() {
-        return Some(BlockRequest::Whole(word.len() == line.len()));
-    }
-    None
+    word == REPLACE
 }
 
 /// Returns what a line without a block asks for.

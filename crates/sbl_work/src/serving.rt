@@ -10,10 +10,10 @@ use crate::files::{OpenFault, Paths, open, save};
 use crate::parts::{answer_part, answer_replace};
 use crate::replies::{BAD_NUMBER, NO_FILE, edit_reply, memory_reply, redo_reply, undo_reply};
 use crate::reports::{changes_text, largest_text, stats_text};
-use crate::requests::{BlockRequest, Request, block_request_of, count_in, is_quit, request_of};
+use crate::requests::{Request, asks_replace, count_in, is_quit, request_of};
 use sbl_bench::{Bench, EditFault};
 use sbl_lines::{Lines, ServeFault, Sink, Source, write_all};
-use sbl_sessions::{LoadFault, Reply, report, write_reply};
+use sbl_sessions::{LoadFault, Reply, block_word, report, write_reply};
 use std::alloc::{AllocError, Global};
 use std::fs;
 use std::rt::Files;
@@ -120,11 +120,13 @@ fn answer<F: Files + AllocGlobal, R: Source + Drop>(
     ensures fuel { OnOk result (fuel_of lines.new ≤ fuel_of lines.old) }
     ensures in_time { KeepsTime R.ended R.late R.interruptions R.reads lines.old lines.new }
 {
-    match block_request_of(lines.line()) {
-        Some(BlockRequest::Part(word)) => answer_part(desk, bench, lines, word),
-        Some(BlockRequest::Whole(is_good)) => answer_replace(desk, bench, lines, is_good),
-        None => Ok(answer_alone(folder, desk, bench, lines.alloc(), lines.line())),
+    if let Some(word) = block_word(lines.line()) {
+        return answer_part(desk, bench, lines, word);
     }
+    if asks_replace(lines.line()) {
+        return answer_replace(desk, bench, lines);
+    }
+    Ok(answer_alone(folder, desk, bench, lines.alloc(), lines.line()))
 }
 
 /// Replies to each request of the input in turn, up to `quit` or the end of input.
