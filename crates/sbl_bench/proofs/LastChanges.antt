@@ -1,9 +1,10 @@
 -- Which rows an edit changes.
-use Rattle.std.proofs.Common.{map, ◌≡◌, ◌≢◌, ◌∙◌, ◌<◌, ℕ, Bool, true, false, cond, List, [], ◌∷◌, Option, Some, None, IsSome, slice_index_or, length, arith, refl, sym, ap, subst}
+use Rattle.std.proofs.Common.{map, ◌≡◌, ◌≢◌, ◌∙◌, ◌<◌, ◌+◌, ◌++◌, ℕ, suc, Bool, true, false, cond, List, [], ◌∷◌, Option, Some, None, IsSome, slice_index_or, drop, length, add-one, append_assoc, arith, refl, sym, ap, subst}
 use Rattle.std.specs.List.{All, AllByRecursion, AllPairs, IsDistinct, cons_option, filter, filter_map}
 use Rattle.std.specs.Map.{keys_of}
-use Rattle.std.specs.Option.{option_and_then}
+use Rattle.std.specs.Option.{option_and_then, option_to_list}
 use Rattle.std.specs.Str.{bytes_eq}
+use Rattle.std.proofs.Math.Seq.{drop-cons}
 use Rattle.std.proofs.lemmas.List.{length-map}
 use Rattle.std.proofs.lemmas.List.Elements.{All-head, All-tail}
 use Rattle.std.proofs.lemmas.List.Folds.{list_any_at}
@@ -131,6 +132,24 @@ last_is s t es fs (c ∷ cs) (l ∷ ls) fresh run there was =
 
     Now : Change → Type 0
     Now d = find d.word.items fs ≡ Some d.traced
+
+-- ---- one change after another
+
+put_option : {A : Type 0} (o : Option A) (xs : List A) → option_to_list o ++ xs ≡ cons_option o xs
+put_option None xs = refl
+put_option (Some x) xs = refl
+
+-- one more change is looked at
+pub last_step : (es : List KeptWord) (cs : List Change) (i : ℕ) (d c : Change) (old new all : List ChangedRow) → i < length cs → c ≡ slice_index_or cs i d
+    → new ≡ old ++ option_to_list (last_change es c) → old ++ last_changes es (drop i cs) ≡ all → new ++ last_changes es (drop (i + 1) cs) ≡ all
+last_step es cs i d c old new all below is more so =
+    let rest = drop (i + 1) cs in
+    let next : drop i cs ≡ c ∷ rest = drop-cons cs i d below ∙ ap (λ (x : Change). x ∷ drop (suc i) cs) (sym is) ∙ ap (λ (k : ℕ). c ∷ drop k cs) (sym (add-one i)) in
+    ap (λ (l : List ChangedRow). l ++ last_changes es rest) more
+    ∙ append_assoc old (option_to_list (last_change es c)) (last_changes es rest)
+    ∙ ap (λ (l : List ChangedRow). old ++ l) (put_option (last_change es c) (last_changes es rest))
+    ∙ ap (λ (l : List Change). old ++ last_changes es l) (sym next)
+    ∙ so
 
 -- ---- the words of changes
 

@@ -10,9 +10,13 @@ use Rattle.sbl_bench.specs.Pairs.{find}
 use Rattle.sbl_bench.specs.Setting.{Setting}
 use Rattle.sbl_bench.specs.declared.change.Change.{Change}
 
--- what the last edit changed for a word that it ran again, by the run before and the run now
+-- what is changed for a word that was run again, by the run before and the run now
+abbrev pub changed_since : Change → Option Traced → Option ChangedRow
+changed_since c now = option_and_then (λ t. if_changed c.word.items (outcome_of c.traced.outcome) (outcome_of t.outcome)) now
+
+-- what the last edit changed for a word that it ran again
 abbrev pub last_change : List KeptWord → Change → Option ChangedRow
-last_change entries c = option_and_then (λ t. if_changed c.word.items (outcome_of c.traced.outcome) (outcome_of t.outcome)) (find c.word.items entries)
+last_change entries c = changed_since c (find c.word.items entries)
 
 abbrev pub last_changes : List KeptWord → List Change → List ChangedRow
 last_changes entries last = filter_map (last_change entries) last

@@ -1,15 +1,17 @@
 //! The words whose outcome the last edit changed.
 
 ghost use Rattle.std.specs.Prelude.{◌≡◌, ◌++◌, map, OnOk, IfOk};
-ghost use Rattle.std.specs.Option.{option_and_then, option_map, option_to_list};
+ghost use Rattle.std.specs.Option.{option_map, option_to_list};
 ghost use Rattle.sbl_machine.specs.Outcome.{outcome_of};
 ghost use Rattle.sbl_bench.specs.ChangedRows as spec;
 ghost use Rattle.sbl_bench.specs.ChangedRows.{view_changed_row};
+ghost use Rattle.sbl_bench.specs.Last.{changed_since, last_changes};
 
 use crate::bench::Bench;
 use crate::change::Change;
+use indexmap::IndexMap;
 use sbl_machine::{Outcome, Traced};
-use std::alloc::AllocError;
+use std::alloc::{AllocError, Global};
 
 /// A word with two outcomes.
 #[derive(Debug, Drop)]
@@ -29,24 +31,38 @@ impl Bench {
     pub fn changes(&self) -> Result<Vec<ChangedRow<'_>>, AllocError>
         ensures { IfOk result (λ changes. map view_changed_row changes.items ≡ self.now.changes) }
     {
-        let mut changes = Vec::new(self.alloc);
-        for change in &self.last {
-            if let Some(now) = self.traces.get(change.word.as_slice()) {
-                push_changed(&mut changes, change, now)?;
-            }
-        }
-        Ok(changes)
+        changes_of(self.alloc, &self.traces, self.last.as_slice())
     }
 }
 
-// Appends the word with its run before and its run now, if their outcomes differ. Returns `AllocError` if an allocation fails.
+/// Returns the words whose outcome is another one now than before, of words with their runs before. Returns `AllocError` if an
+/// allocation fails.
+fn changes_of<'a>(
+    alloc: Global,
+    traces: &'a IndexMap<Vec<char>, Traced>,
+    last: &'a [Change],
+) -> Result<Vec<ChangedRow<'a>>, AllocError>
+    ensures { IfOk result (λ changes. map view_changed_row changes.items ≡ last_changes traces.now.entries last.now) }
+{
+    let mut changes = Vec::new(alloc);
+    for change in last {
+        push_changed(&mut changes, change, traces.get(change.word.as_slice()))?;
+    }
+    Ok(changes)
+}
+
+/// Appends the word with its run before and its run now, if it has one and their outcomes differ. Returns `AllocError` if an
+/// allocation fails.
 fn push_changed<'a>(
     changes: &mut Vec<ChangedRow<'a>>,
     change: &'a Change,
-    now: &'a Traced,
+    now: Option<&'a Traced>,
 ) -> Result<(), AllocError>
-    ensures { OnOk result (map view_changed_row changes.new.items ≡ map view_changed_row changes.old.items ++ option_to_list (spec.if_changed change.now.word.items (outcome_of change.now.traced.outcome) (outcome_of now.now.outcome))) }
+    ensures { OnOk result (map view_changed_row changes.new.items ≡ map view_changed_row changes.old.items ++ option_to_list (changed_since change.now (option_map (λ t. t.now) now.entry))) }
 {
+    let Some(now) = now else {
+        return Ok(());
+    };
     if is_same(&change.traced.outcome, &now.outcome) {
         return Ok(());
     }
