@@ -25,7 +25,7 @@ use Rattle.sbl_bench.specs.Setting.{RunsSame, Setting}
 use Rattle.sbl_bench.specs.Vocabulary.{is_word}
 use Rattle.sbl_bench.specs.declared.change.Change.{Change}
 use Rattle.sbl_bench.proofs.ChangeFacts.{words_by_keys}
-use Rattle.sbl_bench.proofs.Meeting.{at_mapped, met_fresh}
+use Rattle.sbl_bench.proofs.Meeting.{anew, at_mapped, met_fresh, still}
 use Rattle.sbl_bench.proofs.Tracing.{fresh_found}
 
 -- ---- outcomes that are the same
@@ -187,3 +187,16 @@ apart t a es cs is unique i j d h below =
     let long : j < length (met_words a es) = let n = length-map cs word in let m = ap length same in omega (arith, n, m, below) in
     let at = λ (k : ℕ). ap (λ (ws : List (List ℕ)). slice_index_or ws k d.word.items) (sym same) ∙ at_mapped word cs k d in
     λ e. met_apart a es unique i j d.word.items h long (at i ∙ e ∙ sym (at j))
+
+-- ---- an edit of the setting
+
+-- what the last runs show after an edit that meets these words
+pub edit_changes : (s t : Setting) (a : Affected) (es fs : List KeptWord) (cs ls : List Change) → ((w : List ℕ) → is_affected s a w ≡ false → RunsSame s t w) → AreFresh s es
+    → map view_change cs ≡ reruns t (met_words a es)
+    → ((s t : Setting) → AreFresh s es → AreAnew t es cs → last_changes fs ls ≡ filter_map (change_of s t) (map (λ c. c.word.items) cs))
+    → words_in fs ≡ words_in es → last_changes fs ls ≡ changed_rows (rows_of s (words_in es)) (rows_of t (words_in fs))
+edit_changes s t a es fs cs ls stays fresh is last words =
+    last s t fresh (anew a t es cs is (still s t a stays es fresh))
+    ∙ ap (filter_map (change_of s t)) (words_run t (met_words a es) cs is)
+    ∙ met_rows s t a es stays fresh
+    ∙ ap (λ (ws : List (List ℕ)). changed_rows (rows_of s (words_in es)) (rows_of t ws)) (sym words)

@@ -54,16 +54,17 @@ impl Bench {
         if self.meter.is_full() {
             return Err(EditFault::MeterFull);
         }
-        let word = Vec::from_slice(self.alloc, word)?;
+        let alloc = self.alloc;
+        let word = Vec::from_slice(alloc, word)?;
         put_last(
-            self.alloc,
+            alloc,
             &self.machine,
             self.limit,
             &mut self.meter,
             &mut self.traces,
             word,
         )?;
-        self.last = Vec::new(self.alloc);
+        self.last = Vec::new(alloc);
         Ok(())
     }
 
@@ -260,8 +261,9 @@ impl Bench {
             &mut self.meter,
             &self.traces,
         )?;
-        self.last = make_changes(&mut self.traces, changes);
+        let last = make_changes(&mut self.traces, changes);
         self.machine = after;
+        self.last = last;
         swap(&mut self.script, script);
         Ok(())
     }
