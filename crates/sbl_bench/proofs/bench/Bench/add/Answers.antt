@@ -44,7 +44,9 @@ returns-in_err-put_last-clause-edits c =
     tt (ap words_in c.in_err-put_last.ensures.err) c.in_err-put_last.ensures.stop))
 
 pub returns-in_err-put_last-clause-changes : goal.returns-in_err-put_last-clause-changes
-returns-in_err-put_last-clause-changes c = ?
+returns-in_err-put_last-clause-changes c =
+    let f = err_from_is_err_and c.from_residual-in_err-put_last.result c.from_residual-in_err-put_last.ensures.1 in
+    rw f.1 (ap (λ (es : List KeptWord). last_changes es c.self.inside.last.items) c.in_err-put_last.ensures.err ∙ ap (λ (k : Kept). k.changes) c.self.view_is)
 
 pub returns-clause-edits : goal.returns-clause-edits
 returns-clause-edits c =
@@ -61,4 +63,5 @@ pub returns-clause-changes : goal.returns-clause-changes
 returns-clause-changes c =
     let script = under (source_of c.self.inside.script) c.self.inside.limit in
     let words = words_in c.put_last.new.traces.entries in
-    subst (λ (k : Kept). [] ≡ changed_rows (rows_now k) (rows_of script words)) c.self.view_is (sym (no_rows_change script (words_in c.self.inside.traces.entries) words))
+    ap (last_changes c.put_last.new.traces.entries) c.new.ensures.items
+    ∙ subst (λ (k : Kept). [] ≡ changed_rows (rows_now k) (rows_of script words)) c.self.view_is (sym (no_rows_change script (words_in c.self.inside.traces.entries) words))

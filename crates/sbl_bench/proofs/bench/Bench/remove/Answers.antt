@@ -49,4 +49,5 @@ pub returns-clause-changes : goal.returns-clause-changes
 returns-clause-changes c =
     let script = under (source_of c.self.inside.script) c.self.inside.limit in
     let words = words_in c.shift_remove_entry.new.self.entries in
-    subst (λ (k : Kept). [] ≡ changed_rows (rows_now k) (rows_of script words)) c.self.view_is (sym (no_rows_change script (words_in c.self.inside.traces.entries) words))
+    ap (last_changes c.shift_remove_entry.new.self.entries) c.new.ensures.items
+    ∙ subst (λ (k : Kept). [] ≡ changed_rows (rows_now k) (rows_of script words)) c.self.view_is (sym (no_rows_change script (words_in c.self.inside.traces.entries) words))
