@@ -75,13 +75,14 @@ fn an_edit_of_words_changes_no_outcome(rt: HostRuntime) -> Result<(), Fail> {
     assert_eq!(rt; bench.replace_among("tail", 1, "among ( 's' () )"), Ok(()));
     assert_eq!(rt; changes_shown(alloc, &bench)?.as_str(), taken);
     assert_eq!(rt; bench.add(&['d', 'o', 'g']), Err(EditFault::Present));
-    assert_eq!(rt; bench.remove(&['x']), Err(EditFault::Absent));
-    assert_eq!(rt; bench.replace_routine("none", "true"), Err(EditFault::NoRoutine));
     assert_eq!(rt; changes_shown(alloc, &bench)?.as_str(), taken);
     assert_eq!(rt; bench.add(&['s']), Ok(()));
     assert_eq!(rt; changes_shown(alloc, &bench)?.as_str(), "");
     assert_eq!(rt; bench.replace_routine("last", "true"), Ok(()));
-    assert_eq!(rt; changes_shown(alloc, &bench)?.as_str(), "cake cak;cake cake;");
+    assert_eq!(rt;
+        changes_shown(alloc, &bench)?.as_str(),
+        "cake cak;cake cake;"
+    );
     assert_eq!(rt; bench.remove(&['s']), Ok(()));
     assert_eq!(rt; changes_shown(alloc, &bench)?.as_str(), "");
     bench.leak();
