@@ -2,6 +2,7 @@
 
 mod bench;
 mod bench_edits;
+mod changes;
 mod characters;
 mod groupings;
 mod limits;

@@ -1,77 +1,162 @@
--- One change made, and all of them.
-use Rattle.std.proofs.Common.{map, ◌≡◌, ◌∙◌, ◌||◌, ◌⊎◌, inl, inr, ◌++◌, ℕ, Bool, true, false, cond, List, [], ◌∷◌, Option, Some, None, IfSome, IsSome, slice_index_or, length, arith, refl, sym, ap, subst}
-use Rattle.std.specs.List.{AllByRecursion, IsDistinct}
+-- The runs of words exchanged with those of their changes, one after another.
+use Rattle.std.proofs.Common.{map, ◌≡◌, ◌≢◌, ◌∙◌, ◌||◌, ◌⊎◌, inl, inr, ◌<◌, ◌≤◌, ◌+◌, ◌++◌, ℕ, suc, Bool, true, false, cond, List, [], ◌∷◌, Option, Some, None, IfSome, IsSome, slice_index_or, slice_set, length, take, drop, arith, refl, sym, ap, subst}
+use Rattle.std.specs.List.{All, AllByRecursion, IsDistinct}
 use Rattle.std.specs.Map.{keys_of}
 use Rattle.std.specs.Str.{bytes_eq}
 use Rattle.std.proofs.lemmas.Slice.Eq.{bytes_eq-Decides}
-use Rattle.std.proofs.lemmas.List.Folds.{list_any-append}
-use Rattle.std.proofs.lemmas.List.Elements.{All-pop}
-use Rattle.std.specs.Option.{option_to_list}
+use Rattle.std.proofs.lemmas.List.{get_or_default, get_or-set_other, get_or-set_same}
+use Rattle.std.proofs.lemmas.List.Elements.{All-head, All-tail}
+use Rattle.std.proofs.lemmas.List.Folds.{list_any_at}
 use Rattle.sbl_bench.specs.Kept.{KeptWord, AreFresh, IsFresh, words_in}
+use Rattle.sbl_bench.specs.Last.{AreApart, AreThere, word_found, word_run}
 use Rattle.sbl_bench.specs.Pairs.{Text, find}
 use Rattle.sbl_bench.specs.Changes.{AreAllFresh, AreAnew, AreRun, is_changed}
 use Rattle.sbl_bench.specs.Setting.{Setting}
 use Rattle.sbl_machine.specs.declared.outcome.Traced.{Traced}
 use Rattle.sbl_bench.specs.declared.change.Change.{Change}
 
-abbrev Run : Setting → List KeptWord → Change → Type 0
-Run script es c = IsFresh script c.word.items c.traced × IsSome (find c.word.items es)
+-- the first i changes have exchanged their runs
+pub record IsCommitted (es fs : List KeptWord) (cs ls : List Change) (i : ℕ) : Type 0 where
+  pub before : (k : ℕ) (d : Change) → k < i → word_run (slice_index_or ls k d) ≡ word_found es (slice_index_or cs k d)
+  pub rest : (k : ℕ) (d : Change) → i ≤ k → slice_index_or ls k d ≡ slice_index_or cs k d
+  pub run : (k : ℕ) (d : Change) → k < i → find (slice_index_or cs k d).word.items fs ≡ Some (slice_index_or cs k d).traced
+  pub others : (w : Text) → ((k : ℕ) (d : Change) → k < i → (slice_index_or cs k d).word.items ≢ w.items) → find w.items fs ≡ find w.items es
 
--- what remains to be done after the last change is made
-pub anew_step : (script : Setting) (es fs : List KeptWord) (c : Change) (cs rest : List Change) → cs ≡ rest ++ option_to_list (Some c) → AreAnew script es cs
-    → ((w : Text) → find w.items fs ≡ cond (bytes_eq c.word.items w.items) (Some c.traced) (find w.items es))
-    → AreAnew script fs rest
-anew_step script es fs c cs rest split anew finds = record {
-  run = λ k d h. let p = parts.0 k d h in (p.0, there_at (slice_index_or rest k d) p.1);
-  fresh = λ w. subst (λ (x : Option Traced). Fresh w rest x) (sym (finds w)) (fresh_at w (bytes_eq c.word.items w.items) refl);
+pub committed_none : (es : List KeptWord) (cs : List Change) → IsCommitted es es cs cs 0
+committed_none es cs = record {
+  before = λ k d h. absurd (omega (arith, h));
+  rest = λ k d h. refl;
+  run = λ k d h. absurd (omega (arith, h));
+  others = λ w h. refl;
 }
+
+different : (x y : List ℕ) → x ≢ y → bytes_eq x y ≡ false
+different x y h = by (bytes_eq x y) refl
   where
-    Fresh : Text → List Change → Option Traced → Type 0
-    Fresh w l x = IfSome x (λ t. IsFresh script w.items t ⊎ (is_changed l w.items ≡ true))
+    by : (b : Bool) → bytes_eq x y ≡ b → bytes_eq x y ≡ false
+    by false e = e
+    by true e = absurd (h ((bytes_eq-Decides x y).0 e))
 
-    parts : AreRun script es rest × Run script es c
-    parts = All-pop (Run script es) cs rest (Some c) split anew.run
+same_word : (x : List ℕ) → bytes_eq x x ≡ true
+same_word x = (bytes_eq-Decides x x).1 refl
 
-    there_at : (d : Change) → IsSome (find d.word.items es) → IsSome (find d.word.items fs)
-    there_at d h = rw (finds d.word) (some_at (bytes_eq c.word.items d.word.items))
-      where
-        some_at : (b : Bool) → IsSome (cond b (Some c.traced) (find d.word.items es))
-        some_at true = refl
-        some_at false = h
+earlier : (k i : ℕ) → k < i + 1 → (k < i) ⊎ (k ≡ i)
+earlier k i h = grind (arith, h)
 
-    fresh_at : (w : Text) (b : Bool) → bytes_eq c.word.items w.items ≡ b → IfSome (cond b (Some c.traced) (find w.items es)) (λ t. IsFresh script w.items t ⊎ (is_changed rest w.items ≡ true))
-    fresh_at w true h = inl (subst (λ (x : List ℕ). IsFresh script x c.traced) ((bytes_eq-Decides c.word.items w.items).0 h) parts.1.0)
-    fresh_at w false h = later (find w.items es) (anew.fresh w)
-      where
-        later : (x : Option Traced) → IfSome x (λ t. IsFresh script w.items t ⊎ (is_changed cs w.items ≡ true)) → IfSome x (λ t. IsFresh script w.items t ⊎ (is_changed rest w.items ≡ true))
-        later None g = tt
-        later (Some o) (inl p) = inl p
-        later (Some o) (inr p) = inr (or-nothing (is_changed rest w.items) (bytes_eq c.word.items w.items) h (sym (ap (λ (l : List Change). is_changed l w.items) split ∙ list_any-append (λ (d : Change). bytes_eq d.word.items w.items) rest (c ∷ [])) ∙ p))
-          where
-            or-nothing : (a b : Bool) → b ≡ false → (a || (b || false)) ≡ true → a ≡ true
-            or-nothing true b h p = refl
-            or-nothing false true h p = cc
-            or-nothing false false h p = p
+-- the next change
+module _ (es fs : List KeptWord) (cs ls : List Change) (i : ℕ) (c : Change) (so : IsCommitted es fs cs ls i) (apart : AreApart cs) (at : (d : Change) → slice_index_or cs i d ≡ c) (below : i < length cs) where
+  -- its word is that of no change before it
+  other_word : (k : ℕ) (d : Change) → k < i → (slice_index_or cs k d).word.items ≢ c.word.items
+  other_word k d h = subst (λ (x : Change). (slice_index_or cs k d).word.items ≢ x.word.items) (at d) (apart k i d h below)
 
--- the word of the last change is there
-pub anew_there : (script : Setting) (es : List KeptWord) (c : Change) (cs rest : List Change) → cs ≡ rest ++ option_to_list (Some c) → AreAnew script es cs → IsSome (find c.word.items es)
-anew_there script es c cs rest split anew = (All-pop (Run script es) cs rest (Some c) split anew.run).1.1
+  -- so its run is still the one before
+  still_before : find c.word.items fs ≡ find c.word.items es
+  still_before = so.others c.word other_word
 
-nil_of : {X : Type 0} (xs : List X) → length xs ≡ 0 → xs ≡ []
-nil_of [] h = refl
-nil_of (x ∷ xs) h = absurd (omega (arith, h))
+  pub committed_there : AreThere es cs → IsSome (find c.word.items fs)
+  committed_there there = subst IsSome (sym still_before) (subst (λ (x : Change). IsSome (find x.word.items es)) (at c) (there i c below))
 
--- no change is left
-pub anew_done : (script : Setting) (es : List KeptWord) (cs : List Change) → length cs ≡ 0 → AreAnew script es cs → AreAllFresh script es
-anew_done script es cs none anew = λ w. at (find w.items es) w (subst (λ (l : List Change). Fresh l w (find w.items es)) (nil_of cs none) (anew.fresh w))
+  pub committed_more : (gs : List KeptWord) (n : Change) → i < length ls
+      → ((w : Text) → find w.items gs ≡ cond (bytes_eq c.word.items w.items) (Some c.traced) (find w.items fs))
+      → word_run n ≡ word_found fs c
+      → IsCommitted es gs cs (slice_set ls i n) (i + 1)
+  committed_more gs n room finds was = record {
+    before = λ k d h. before_at k d (earlier k i h);
+    rest = λ k d h. let other : k ≢ i = omega (arith, h) in get_or-set_other ls i k n d other ∙ so.rest k d (omega (arith, h));
+    run = λ k d h. run_at k d (earlier k i h);
+    others = λ w h.
+        finds w
+        ∙ ap (λ (b : Bool). cond b (Some c.traced) (find w.items fs)) (different c.word.items w.items (subst (λ (x : Change). x.word.items ≢ w.items) (at c) (h i c (omega arith))))
+        ∙ so.others w (λ k d g. h k d (omega (arith, g)));
+  }
+    where
+      before_at : (k : ℕ) (d : Change) → (k < i) ⊎ (k ≡ i) → word_run (slice_index_or (slice_set ls i n) k d) ≡ word_found es (slice_index_or cs k d)
+      before_at k d (inl h) = let other : k ≢ i = omega (arith, h) in ap word_run (get_or-set_other ls i k n d other) ∙ so.before k d h
+      before_at k d (inr h) =
+          ap (λ (j : ℕ). word_run (slice_index_or (slice_set ls i n) j d)) h
+          ∙ ap word_run (get_or-set_same ls i n d room)
+          ∙ was
+          ∙ ap (λ (t : Option Traced). (c.word.items, t)) still_before
+          ∙ ap (word_found es) (sym (at d))
+          ∙ ap (λ (j : ℕ). word_found es (slice_index_or cs j d)) (sym h)
+
+      run_at : (k : ℕ) (d : Change) → (k < i) ⊎ (k ≡ i) → find (slice_index_or cs k d).word.items gs ≡ Some (slice_index_or cs k d).traced
+      run_at k d (inl h) =
+          let x = slice_index_or cs k d in
+          let other = different c.word.items x.word.items (λ e. other_word k d h (sym e)) in
+          finds x.word ∙ ap (λ (b : Bool). cond b (Some c.traced) (find x.word.items fs)) other ∙ so.run k d h
+      run_at k d (inr h) =
+          subst (λ (x : Change). find x.word.items gs ≡ Some x.traced) (sym (ap (λ (j : ℕ). slice_index_or cs j d) h ∙ at d))
+          (finds c.word ∙ ap (λ (b : Bool). cond b (Some c.traced) (find c.word.items fs)) (same_word c.word.items))
+
+-- ---- all changes
+
+maps_agree : {A B C : Type 0} (f : A → C) (g : B → C) (xs : List A) (ys : List B) → length xs ≡ length ys
+    → ((k : ℕ) (x : A) (y : B) → k < length xs → f (slice_index_or xs k x) ≡ g (slice_index_or ys k y)) → map f xs ≡ map g ys
+maps_agree f g [] [] same h = refl
+maps_agree f g [] (y ∷ ys) same h = absurd (omega (arith, same))
+maps_agree f g (x ∷ xs) [] same h = absurd (omega (arith, same))
+maps_agree f g (x ∷ xs) (y ∷ ys) same h =
+    let first = h 0 x y (omega arith) in
+    let rest = maps_agree f g xs ys (omega (arith, same)) (λ k a b l. h (suc k) a b (omega (arith, l))) in
+    λ i. first i ∷ rest i
+
+module _ (es fs : List KeptWord) (cs ls : List Change) (i : ℕ) (so : IsCommitted es fs cs ls i) (end : i ≡ length cs) where
+  pub all_run : All (λ c. find c.word.items fs ≡ Some c.traced) cs
+  all_run = λ k d h. so.run k d (omega (arith, h, end))
+
+  pub all_others : (w : Text) → is_changed cs w.items ≡ false → find w.items fs ≡ find w.items es
+  all_others w h = so.others w other
+    where
+      other : (k : ℕ) (d : Change) → k < i → (slice_index_or cs k d).word.items ≢ w.items
+      other k d l e =
+          let hit = list_any_at (λ (c : Change). bytes_eq c.word.items w.items) cs k d (omega (arith, l, end)) ((bytes_eq-Decides (slice_index_or cs k d).word.items w.items).1 e) in
+          cc (sym h ∙ hit)
+
+  pub all_before : length ls ≡ length cs → map word_run ls ≡ map (word_found es) cs
+  all_before same = maps_agree word_run (word_found es) ls cs same (λ k x y l. ap word_run (get_or_default ls k x y l) ∙ so.before k y (omega (arith, l, same, end)))
+
+-- a vector whose slice was written
+pub written : {A : Type 0} (xs ys : List A) → length xs ≡ length ys → take (length ys) (xs ++ drop (length xs) ys) ≡ xs
+written [] [] same = refl
+written [] (y ∷ ys) same = absurd (omega (arith, same))
+written (x ∷ xs) [] same = absurd (omega (arith, same))
+written (x ∷ xs) (y ∷ ys) same = let rest = written xs ys (omega (arith, same)) in λ i. x ∷ rest i
+
+-- ---- what is fresh then
+
+-- a run is fresh, if it is that of a change or was fresh before
+pub all_fresh : (t : Setting) (es fs : List KeptWord) (cs : List Change) → AreAnew t es cs → All (λ c. find c.word.items fs ≡ Some c.traced) cs
+    → ((w : Text) → is_changed cs w.items ≡ false → find w.items fs ≡ find w.items es) → AreAllFresh t fs
+all_fresh t es fs cs anew run others w = by (is_changed cs w.items) refl
   where
-    Fresh : List Change → Text → Option Traced → Type 0
-    Fresh l w x = IfSome x (λ t. IsFresh script w.items t ⊎ (is_changed l w.items ≡ true))
+    Fresh : Option Traced → Type 0
+    Fresh o = IfSome o (λ r. IsFresh t w.items r)
 
-    at : (x : Option Traced) (w : Text) → IfSome x (λ t. IsFresh script w.items t ⊎ (is_changed [] w.items ≡ true)) → IfSome x (λ t. IsFresh script w.items t)
-    at None w h = tt
-    at (Some t) w (inl p) = p
-    at (Some t) w (inr p) = cc
+    kept : (o : Option Traced) → is_changed cs w.items ≡ false → IfSome o (λ r. IsFresh t w.items r ⊎ (is_changed cs w.items ≡ true)) → Fresh o
+    kept None h k = tt
+    kept (Some r) h (inl k) = k
+    kept (Some r) h (inr k) = cc (sym h ∙ k)
+
+    Run : Change → Type 0
+    Run c = IsFresh t c.word.items c.traced × IsSome (find c.word.items es)
+
+    Now : Change → Type 0
+    Now c = find c.word.items fs ≡ Some c.traced
+
+    among : (ds : List Change) → All Now ds → All Run ds → is_changed ds w.items ≡ true → Fresh (find w.items fs)
+    among [] found anew h = cc h
+    among (d ∷ ds) found anew h = one (bytes_eq d.word.items w.items) refl h (among ds (All-tail Now d ds found) (All-tail Run d ds anew))
+      where
+        one : (b : Bool) → bytes_eq d.word.items w.items ≡ b → (b || is_changed ds w.items) ≡ true → (is_changed ds w.items ≡ true → Fresh (find w.items fs)) → Fresh (find w.items fs)
+        one false e g rest = rest g
+        one true e g rest =
+            subst (λ (x : List ℕ). IfSome (find x fs) (λ r. IsFresh t x r)) ((bytes_eq-Decides d.word.items w.items).0 e)
+            (subst (λ (o : Option Traced). IfSome o (λ r. IsFresh t d.word.items r)) (sym (All-head Now d ds found)) (All-head Run d ds anew).0)
+
+    by : (b : Bool) → is_changed cs w.items ≡ b → Fresh (find w.items fs)
+    by false h = subst Fresh (sym (others w h)) (kept (find w.items es) h (anew.fresh w))
+    by true h = among cs run anew.run h
 
 -- ---- from the look-ups to the list
 
@@ -91,7 +176,7 @@ fresh_list script (e ∷ es) unique fresh = (
     behind w true same = subst (λ (x : Option Traced). IfSome x (λ t. IsFresh script w.items t)) (sym (ap (λ (x : List ℕ). find x es) ((bytes_eq-Decides w.items e.0.items).0 same) ∙ absent es unique.0)) tt
     behind w false other = subst (λ (b : Bool). IfSome (cond b (Some e.1) (find w.items es)) (λ t. IsFresh script w.items t)) other (fresh w)
 
-words_by_keys : (es : List KeptWord) → words_in es ≡ map (λ (k : Text). k.items) (keys_of es)
+pub words_by_keys : (es : List KeptWord) → words_in es ≡ map (λ (k : Text). k.items) (keys_of es)
 words_by_keys [] = refl
 words_by_keys (e ∷ es) = ap (λ (ws : List (List ℕ)). e.0.items ∷ ws) (words_by_keys es)
 

@@ -12,6 +12,7 @@ pub mod LastFacts
 pub mod ChangeFacts
 pub mod Meeting
 pub mod Tracing
+pub mod LastChanges
 pub mod OneVerdict
 pub mod Replacing
 pub mod Reruns

@@ -21,7 +21,7 @@ use Rattle.sbl_bench.specs.declared.change.Change.{Change}
 -- ---- which words are met
 
 -- a word's last run is affected if a fresh one is
-met_fresh : (s : Setting) (a : Affected) (e : KeptWord) → IsFresh s e.0.items e.1 → is_met a e ≡ is_affected s a e.0.items
+pub met_fresh : (s : Setting) (a : Affected) (e : KeptWord) → IsFresh s e.0.items e.1 → is_met a e ≡ is_affected s a e.0.items
 met_fresh s a e h = λ i. is_affected_run a (h.touches i) (h.used i)
 
 -- as many entries are met as words of the vocabulary
@@ -78,7 +78,7 @@ met_sound a (e ∷ es) h = by (is_met a e) (met_sound a es (All-tail IsWord e.0.
     by true rest = All-cons IsWord e.0.items (met_words a es) (All-head IsWord e.0.items (words_in es) h) rest
     by false rest = rest
 
-at_mapped : {A B : Type 0} (f : A → B) (xs : List A) (k : ℕ) (d : A) → slice_index_or (map f xs) k (f d) ≡ f (slice_index_or xs k d)
+pub at_mapped : {A B : Type 0} (f : A → B) (xs : List A) (k : ℕ) (d : A) → slice_index_or (map f xs) k (f d) ≡ f (slice_index_or xs k d)
 at_mapped f [] k d = refl
 at_mapped f (x ∷ xs) zero d = refl
 at_mapped f (x ∷ xs) (suc k) d = at_mapped f xs k d

@@ -12,7 +12,7 @@ use Rattle.sbl_bench.specs.Vocabulary.{is_word}
 use Rattle.sbl_bench.proofs.Words.{found_word}
 
 -- the run that a word has is fresh
-fresh_found : (script : Setting) (word : List ℕ) (es : List KeptWord) (t : Traced) → AreFresh script es → Some t ≡ find word es → IsFresh script word t
+pub fresh_found : (script : Setting) (word : List ℕ) (es : List KeptWord) (t : Traced) → AreFresh script es → Some t ≡ find word es → IsFresh script word t
 fresh_found script word [] t fresh is = cc is
 fresh_found script word (e ∷ es) t fresh is = by (bytes_eq word e.0.items) refl is (fresh_found script word es t fresh.1)
   where

@@ -5,6 +5,7 @@ use Rattle.std.specs.declared.alloc.Global.{Global}
 use Rattle.sbl_script.specs.Parsed.{Parsed, source_of}
 use Rattle.sbl_machine.specs.declared.outcome.Traced.{Traced}
 use Rattle.sbl_machine.specs.Outcome.{outcome_of, run_of, touches_of, used_of}
+use Rattle.sbl_bench.specs.ChangedRows.{ChangedRow}
 use Rattle.sbl_bench.specs.Setting.{Setting, under}
 use Rattle.sbl_run.specs.Start.{max_word_length}
 use Rattle.sbl_bench.specs.Contents.{Contents, max_words}
@@ -14,6 +15,8 @@ pub record Kept : Type 0 where
   pub limit : ℕ
   pub words : List (List ℕ)
   pub count : ℕ
+  -- the words whose outcome the last edit changed
+  pub changes : List ChangedRow
 
 abbrev pub setting_of : Kept → Setting
 setting_of k = under (source_of k.script) k.limit

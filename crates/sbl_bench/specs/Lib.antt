@@ -2,6 +2,7 @@
 pub mod Setting
 pub mod Vocabulary
 pub mod Rows
+pub mod ChangedRows
 pub mod Traces
 pub mod Contents
 pub mod Edits
@@ -12,9 +13,11 @@ pub mod Classes
 pub mod ClassesAreSound
 pub mod Undo
 pub mod Kept
+pub mod LeavesChanges
 -- what the functions inside the crate promise each other: nothing in these need be believed
 pub mod Pairs
 pub mod Grouping
 pub mod Stops
 pub mod Affected
 pub mod Changes
+pub mod Last

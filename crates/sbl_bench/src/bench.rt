@@ -2,6 +2,7 @@
 
 ghost use Rattle.std.specs.Prelude.{◌≡◌, ◌≤◌, ◌+◌, ◌^◌, ◌↔◌, IsTrue, false, length, map, None, Ok, IfOk, slice_get};
 
+use crate::change::Change;
 use crate::row::Row;
 use indexmap::IndexMap;
 use sbl_machine::{Item, Machine, Meter, Table, Traced};
@@ -28,6 +29,8 @@ pub struct Bench {
     // the last run of each word; a fresh run would be equal
     pub(crate) traces: IndexMap<Vec<char>, Traced>,
     pub(crate) meter: Meter,
+    // the words that the last edit ran again, each with its run before
+    pub(crate) last: Vec<Change>,
 }
 
 impl Model for Bench {
@@ -36,13 +39,14 @@ impl Model for Bench {
     ghost use Rattle.sbl_script.specs.Parsed.{source_of};
     ghost use Rattle.sbl_machine.specs.MachineOf.{IsLinkedMachineOf};
     ghost use Rattle.sbl_bench.specs.Kept.{Kept, words_in, IsKept};
+    ghost use Rattle.sbl_bench.specs.Last.{last_changes};
     ghost use Rattle.sbl_bench.specs.Setting.{under};
 
     ghost Value = { Kept };
 
     ghost coded = { Prim.hlevel (codes, e.the_row.coded) };
 
-    ghost view = { λ b. record { script = b.script; limit = b.limit; words = words_in b.traces.entries; count = b.meter } };
+    ghost view = { λ b. record { script = b.script; limit = b.limit; words = words_in b.traces.entries; count = b.meter; changes = last_changes b.traces.entries b.last.items } };
 
     ghost invariant = { λ b. IsLinkedMachineOf b.machine (source_of b.script) × IsKept (under (source_of b.script) b.limit) b.traces.entries };
 }

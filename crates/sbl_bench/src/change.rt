@@ -1,14 +1,16 @@
 //! The changes that an edit of the script or of the limit makes. They are computed first, and then applied without an
 //! allocation.
 
-ghost use Rattle.std.specs.Prelude.{◌≡◌, ◌≤◌, ◌+◌, ◌-◌, ◌++◌, ◌∷◌, ℕ, [], length, map, OnOk, OnErr, IfOk, IfErr, IfSome, IsSome, Some, All, if◌then◌else◌};
+ghost use Rattle.std.specs.Prelude.{◌≡◌, ◌≤◌, ◌+◌, ◌-◌, ◌++◌, ◌∷◌, ℕ, [], length, map, OnOk, OnErr, IfOk, IfErr, IsSome, Some, All, false, if◌then◌else◌};
+ghost use Rattle.std.specs.List.{filter_map};
 ghost use Rattle.std.specs.Str.{bytes_eq};
 ghost use Rattle.indexmap.specs.IndexMap.{keys, IsUnique};
 ghost use Rattle.sbl_script.specs.Parsed.{Source};
 ghost use Rattle.sbl_machine.specs.MachineOf.{IsLinkedMachineOf};
 ghost use Rattle.sbl_bench.specs.Changes as spec;
-ghost use Rattle.sbl_bench.specs.Changes.{affected_of, reruns, view_change, view_run, AreAllFresh, AreAnew};
+ghost use Rattle.sbl_bench.specs.Changes.{affected_of, is_changed, reruns, view_change, view_run, AreAnew};
 ghost use Rattle.sbl_bench.specs.Kept.{words_in, AreFresh, IsWord};
+ghost use Rattle.sbl_bench.specs.Last.{change_of, last_changes, word_found, word_run, AreApart, AreThere};
 ghost use Rattle.sbl_bench.specs.Pairs.{Text, find};
 ghost use Rattle.sbl_bench.specs.Contents.{max_runs};
 ghost use Rattle.sbl_bench.specs.Setting.{Setting, under};
@@ -20,7 +22,7 @@ use crate::traces::words_are_unique;
 use indexmap::IndexMap;
 use sbl_machine::{Machine, Meter, Table, Traced};
 use std::alloc::{AllocError, Global};
-use std::mem::replace;
+use std::mem::swap;
 
 /// A word that an edit affects, and its new run.
 #[derive(Drop)]
@@ -29,40 +31,28 @@ pub(crate) struct Change {
     pub(crate) traced: Traced,
 }
 
-/// Replaces the run of a word of the vocabulary, and returns the old run. Does not allocate.
-fn swap_traced(
-    traces: &mut IndexMap<Vec<char>, Traced>,
-    word: &[char],
-    traced: Traced,
-) -> Option<Traced>
-    ensures old { result ≡ find word.now traces.old.entries }
-    ensures finds { IfSome result (λ _. (w : Text) → find w.items traces.new.entries ≡ (if bytes_eq word.now w.items then Some traced else find w.items traces.old.entries)) }
+/// Exchanges the run of a word of the vocabulary and the run of its change. Does not allocate.
+fn commit_one(traces: &mut IndexMap<Vec<char>, Traced>, change: &mut Change)
+    requires { IsSome (find change.old.word.items traces.old.entries) }
+    ensures finds { (w : Text) → find w.items traces.new.entries ≡ (if bytes_eq change.old.word.items w.items then Some change.old.traced else find w.items traces.old.entries) }
+    ensures before { word_run change.new ≡ word_found traces.old.entries change.old }
     ensures keys { keys traces.new ≡ keys traces.old }
 {
-    match traces.get_mut(word) {
-        Some(slot) => Some(replace(slot, traced)),
-        None => None,
+    if let Some(slot) = traces.get_mut(change.word.as_slice()) {
+        swap(slot, &mut change.traced);
     }
 }
 
-/// Applies one change. Does not allocate.
-fn commit_one(traces: &mut IndexMap<Vec<char>, Traced>, change: Change)
-    requires { IsSome (find change.word.items traces.old.entries) }
-    ensures finds { (w : Text) → find w.items traces.new.entries ≡ (if bytes_eq change.word.items w.items then Some change.traced else find w.items traces.old.entries) }
+/// Exchanges the run of each word of the changes and the run of its change. Does not allocate.
+fn commit(traces: &mut IndexMap<Vec<char>, Traced>, changes: &mut [Change])
+    requires there { AreThere traces.old.entries changes.old }
+    requires apart { AreApart changes.old }
+    ensures run { All (λ c. find c.word.items traces.new.entries ≡ Some c.traced) changes.old }
+    ensures others { (w : Text) → is_changed changes.old w.items ≡ false → find w.items traces.new.entries ≡ find w.items traces.old.entries }
+    ensures before { map word_run changes.new ≡ map (word_found traces.old.entries) changes.old }
     ensures keys { keys traces.new ≡ keys traces.old }
 {
-    let Change { word, traced } = change;
-    swap_traced(traces, word.as_slice(), traced);
-}
-
-/// Applies all changes. Does not allocate.
-fn commit(traces: &mut IndexMap<Vec<char>, Traced>, changes: Vec<Change>)
-    requires { (script : Setting) × AreAnew script traces.old.entries changes.items }
-    ensures fresh { (script : Setting) → AreAnew script traces.old.entries changes.items → AreAllFresh script traces.new.entries }
-    ensures keys { keys traces.new ≡ keys traces.old }
-{
-    let mut changes = changes;
-    while let Some(change) = changes.pop() {
+    for change in changes.iter_mut() {
         commit_one(traces, change);
     }
 }
@@ -155,12 +145,19 @@ pub(crate) fn rerun(
     Ok(changes)
 }
 
-/// Applies the changes of an edit. Does not allocate.
-pub(crate) fn make_changes(traces: &mut IndexMap<Vec<char>, Traced>, changes: Vec<Change>)
-    requires changes { (script : Setting) × AreAnew script traces.old.entries changes.items }
+/// Applies the changes of an edit, and returns them with the runs before. Does not allocate.
+pub(crate) fn make_changes(
+    traces: &mut IndexMap<Vec<char>, Traced>,
+    changes: Vec<Change>,
+) -> Vec<Change>
+    requires changes { (t : Setting) × AreAnew t traces.old.entries changes.items }
+    requires apart { AreApart changes.items }
     requires unique { IsUnique (λ (x y : Text). bytes_eq x.items y.items) traces.old }
-    ensures fresh { (script : Setting) → AreAnew script traces.old.entries changes.items → AreFresh script traces.new.entries }
+    ensures fresh { (t : Setting) → AreAnew t traces.old.entries changes.items → AreFresh t traces.new.entries }
     ensures words { words_in traces.new.entries ≡ words_in traces.old.entries }
+    ensures last { (s t : Setting) → AreFresh s traces.old.entries → AreAnew t traces.old.entries changes.items → last_changes traces.new.entries result.items ≡ filter_map (change_of s t) (map (λ c. c.word.items) changes.items) }
 {
-    commit(traces, changes);
+    let mut changes = changes;
+    commit(traces, changes.as_mut_slice());
+    changes
 }

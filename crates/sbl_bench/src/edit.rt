@@ -22,6 +22,7 @@ impl Bench {
     ghost use Rattle.sbl_bench.specs.Kept.{contents_of};
     ghost use Rattle.sbl_bench.specs.Changes.{Brings, IsExchange, IsTaken, affected_of};
     ghost use Rattle.sbl_bench.specs.Edits.{Edit, Edits, Add, Grouping, Install, Limit, Remove, Replace, Routine, Among, Whole};
+    ghost use Rattle.sbl_bench.specs.LeavesChanges.{LeavesChanges};
     ghost use Rattle.sbl_bench.specs.Setting.{under};
     ghost use Rattle.sbl_machine.specs.Touched.{item_of};
     ghost use Rattle.sbl_script.specs.Edits.{ScriptEdit};
@@ -35,7 +36,8 @@ impl Bench {
     /// the script, vocabulary, rows and classes are unchanged. The count of runs is unchanged too, except that it may be higher
     /// by one after `OutOfMemory`. (Our own choice.)
     pub fn add(&mut self, word: &[char]) -> Result<(), EditFault>
-        ensures { Edits result (contents_of self.old) (Add word.now) (contents_of self.new) }
+        ensures edits { Edits result (contents_of self.old) (Add word.now) (contents_of self.new) }
+        ensures changes { LeavesChanges result self.old self.new }
     {
         if word.is_empty() {
             return Err(EditFault::EmptyWord);
@@ -52,25 +54,30 @@ impl Bench {
         if self.meter.is_full() {
             return Err(EditFault::MeterFull);
         }
-        let word = Vec::from_slice(self.alloc, word)?;
+        let alloc = self.alloc;
+        let word = Vec::from_slice(alloc, word)?;
         put_last(
-            self.alloc,
+            alloc,
             &self.machine,
             self.limit,
             &mut self.meter,
             &mut self.traces,
             word,
-        )
+        )?;
+        self.last = Vec::new(alloc);
+        Ok(())
     }
 
     /// Removes a word from the vocabulary; the words after it move up. Returns `Absent` if the word is not in the vocabulary,
     /// and then changes nothing. Does not allocate.
     pub fn remove(&mut self, word: &[char]) -> Result<(), EditFault>
-        ensures { Edits result (contents_of self.old) (Remove word.now) (contents_of self.new) }
+        ensures edits { Edits result (contents_of self.old) (Remove word.now) (contents_of self.new) }
+        ensures changes { LeavesChanges result self.old self.new }
     {
         let Some(_) = self.traces.shift_remove_entry(word) else {
             return Err(EditFault::Absent);
         };
+        self.last = Vec::new(self.alloc);
         Ok(())
     }
 
@@ -84,7 +91,8 @@ impl Bench {
     /// script, vocabulary, rows and classes are unchanged. The count of runs is unchanged too, except that after `OutOfMemory`
     /// it may be higher by at most the number of words to run, if the edit would have been accepted. (Our own choice.)
     pub fn replace_routine(&mut self, name: &str, text: &str) -> Result<(), EditFault>
-        ensures { Edits result (contents_of self.old) (Routine name.now text.now) (contents_of self.new) }
+        ensures edits { Edits result (contents_of self.old) (Routine name.now text.now) (contents_of self.new) }
+        ensures changes { LeavesChanges result self.old self.new }
     {
         let script = self.script.with_routine(self.alloc, name, text)?;
         let item = Item::Routine(String::from_str(self.alloc, name)?);
@@ -103,7 +111,8 @@ impl Bench {
     /// classes are unchanged. The count of runs is unchanged too, except that after `OutOfMemory` it may be higher by at most
     /// the number of words to run, if the edit would have been accepted. (Our own choice.)
     pub fn replace_among(&mut self, name: &str, k: u64, text: &str) -> Result<(), EditFault>
-        ensures { Edits result (contents_of self.old) (Among name.now k text.now) (contents_of self.new) }
+        ensures edits { Edits result (contents_of self.old) (Among name.now k text.now) (contents_of self.new) }
+        ensures changes { LeavesChanges result self.old self.new }
     {
         let script = self.script.with_among(self.alloc, name, k, text)?;
         let item = Item::Among(String::from_str(self.alloc, name)?, k);
@@ -123,7 +132,8 @@ impl Bench {
     /// `OutOfMemory` it may be higher by at most the number of words to run, if the edit would have been accepted. (Our own
     /// choice.)
     pub fn replace_grouping(&mut self, name: &str, text: &str) -> Result<(), EditFault>
-        ensures { Edits result (contents_of self.old) (Grouping name.now text.now) (contents_of self.new) }
+        ensures edits { Edits result (contents_of self.old) (Grouping name.now text.now) (contents_of self.new) }
+        ensures changes { LeavesChanges result self.old self.new }
     {
         let script = self.script.with_grouping(self.alloc, name, text)?;
         let item = Item::Grouping(String::from_str(self.alloc, name)?);
@@ -139,7 +149,8 @@ impl Bench {
     /// is unchanged too, except that after `OutOfMemory` it may be higher by at most the number of words to run. (Our own
     /// choice.)
     pub fn set_limit(&mut self, number: u64) -> Result<(), EditFault>
-        ensures { Edits result (contents_of self.old) (Limit number) (contents_of self.new) }
+        ensures edits { Edits result (contents_of self.old) (Limit number) (contents_of self.new) }
+        ensures changes { LeavesChanges result self.old self.new }
     {
         let Some(limit) = limit_of(number) else {
             return Err(EditFault::BadLimit);
@@ -154,7 +165,7 @@ impl Bench {
             &mut self.meter,
             &self.traces,
         )?;
-        make_changes(&mut self.traces, changes);
+        self.last = make_changes(&mut self.traces, changes);
         self.limit = limit;
         Ok(())
     }
@@ -172,7 +183,8 @@ impl Bench {
     /// after `OutOfMemory` it may be higher by at most the number of words to run, if the edit would have been accepted. (Our
     /// own choice.)
     pub fn replace_script(&mut self, text: &[u8]) -> Result<(), EditFault>
-        ensures { Edits result (contents_of self.old) (Whole text.now) (contents_of self.new) }
+        ensures edits { Edits result (contents_of self.old) (Whole text.now) (contents_of self.new) }
+        ensures changes { LeavesChanges result self.old self.new }
     {
         let mut script = Script::parse(self.alloc, text, self.script.external())?;
         self.exchange(&mut script)
@@ -189,6 +201,7 @@ impl Bench {
     /// most the number of words to run. (Our own choice.)
     pub fn install(&mut self, script: &mut Script) -> Result<(), EditFault>
         ensures edits { Edits result (contents_of self.old) (Install (source_of script.old)) (contents_of self.new) }
+        ensures changes { LeavesChanges result self.old self.new }
         ensures exchanged { OnOk result (script.new ≡ self.old.script) }
         ensures kept { OnErr result (script.new ≡ script.old) }
     {
@@ -198,7 +211,8 @@ impl Bench {
     // Takes the script that was made by replacing an item.
     fn take_edited(&mut self, script: Script, item: &Item) -> Result<(), EditFault>
         requires { (e : ScriptEdit) × (text : List ℕ) × IsTaken (contents_of self.old) e text (source_of script) (item_of item.now) }
-        ensures { (e : ScriptEdit) (text : List ℕ) → IsTaken (contents_of self.old) e text (source_of script) (item_of item.now) → Edits result (contents_of self.old) (Replace e text) (contents_of self.new) }
+        ensures edits { (e : ScriptEdit) (text : List ℕ) → IsTaken (contents_of self.old) e text (source_of script) (item_of item.now) → Edits result (contents_of self.old) (Replace e text) (contents_of self.new) }
+        ensures changes { LeavesChanges result self.old self.new }
     {
         edits_agree();
         untouched_stay();
@@ -214,6 +228,7 @@ impl Bench {
     fn exchange(&mut self, script: &mut Script) -> Result<(), EditFault>
         requires { (e : Edit) × IsExchange (contents_of self.old) e (source_of script.old) }
         ensures edits { (e : Edit) → IsExchange (contents_of self.old) e (source_of script.old) → Edits result (contents_of self.old) e (contents_of self.new) }
+        ensures changes { LeavesChanges result self.old self.new }
         ensures exchanged { OnOk result (script.new ≡ self.old.script) }
         ensures kept { OnErr result (script.new ≡ script.old) }
     {
@@ -233,6 +248,7 @@ impl Bench {
     fn take_script(&mut self, script: &mut Script, affected: &Affected) -> Result<(), EditFault>
         requires { (e : Edit) × Brings (contents_of self.old) e (under (source_of script.old) self.old.limit) (affected_of affected.now) }
         ensures edits { (e : Edit) → Brings (contents_of self.old) e (under (source_of script.old) self.old.limit) (affected_of affected.now) → Edits result (contents_of self.old) e (contents_of self.new) }
+        ensures changes { LeavesChanges result self.old self.new }
         ensures exchanged { OnOk result (script.new ≡ self.old.script) }
         ensures kept { OnErr result (script.new ≡ script.old) }
     {
@@ -245,8 +261,9 @@ impl Bench {
             &mut self.meter,
             &self.traces,
         )?;
-        make_changes(&mut self.traces, changes);
+        let last = make_changes(&mut self.traces, changes);
         self.machine = after;
+        self.last = last;
         swap(&mut self.script, script);
         Ok(())
     }

@@ -7,6 +7,7 @@
 mod affected;
 mod bench;
 mod change;
+mod changed_row;
 mod class;
 mod edit;
 mod fault;
@@ -17,6 +18,7 @@ mod row;
 mod traces;
 
 pub use bench::{Bench, MAX_LIMIT, MAX_WORDS};
+pub use changed_row::ChangedRow;
 pub use class::Class;
 pub use fault::EditFault;
 pub use row::Row;

@@ -1,6 +1,6 @@
 //! Opening a bench.
 
-ghost use Rattle.std.specs.Prelude.{◌≡◌, ◌≤◌, ◌<◌, ◌+◌, ◌^◌, ◌&&◌, not, map, length, None, OnOk, IfErr};
+ghost use Rattle.std.specs.Prelude.{◌≡◌, ◌≤◌, ◌<◌, ◌+◌, ◌^◌, ◌&&◌, not, map, length, [], None, OnOk, IfOk, IfErr};
 ghost use Rattle.sbl_script.specs.Parsed.{Source};
 ghost use Rattle.sbl_machine.specs.MachineOf.{IsLinkedMachineOf};
 ghost use Rattle.indexmap.specs.declared.map.entry.Entry.TheVariants.{Occupied};
@@ -32,7 +32,8 @@ impl Bench {
     /// Returns `WordTooLong` at a word of more than 255 characters, even if it is a repeat, and `Full` at a new word after
     /// 100,000 others, whichever comes first. Returns `OutOfMemory` if an allocation fails. (Our own choice.)
     pub fn open(alloc: Global, script: Script, words: Vec<Vec<char>>) -> Result<Bench, EditFault>
-        ensures { Opens (source_of script) (map (λ w. w.items) words.items) (λ b. contents_of b) result }
+        ensures opens { Opens (source_of script) (map (λ w. w.items) words.items) (λ b. contents_of b) result }
+        ensures changes { IfOk result (λ b. b.changes ≡ []) }
     {
         let machine = Machine::new(alloc, &script)?;
         let mut meter = Meter::new();
@@ -47,6 +48,7 @@ impl Bench {
             limit: DEFAULT_LIMIT,
             traces,
             meter,
+            last: Vec::new(alloc),
         })
     }
 }

@@ -1,31 +1,32 @@
-use Rattle.std.proofs.Common.{◌≡◌, ◌∙◌, cond, Some, length, refl, arith}
-use Rattle.std.specs.Str.{bytes_eq}
-use Rattle.sbl_bench.specs.Setting.{Setting}
-use Rattle.sbl_bench.specs.Changes.{AreAnew}
-use Rattle.sbl_bench.specs.Pairs.{Text, find}
-use Rattle.sbl_bench.proofs.ChangeFacts.{anew_done, anew_step, anew_there}
+use Rattle.std.proofs.Common.{◌≡◌, ◌∙◌, ◌<◌, ℕ, length, sym, arith, slice_index_or}
+use Rattle.std.proofs.lemmas.List.{get_or_default}
+use Rattle.sbl_bench.proofs.ChangeFacts.{all_before, all_others, committed_more}
+use Rattle.sbl_bench.specs.declared.change.Change.{Change}
 use Rattle.sbl_bench.proofs.change.commit.Goals as goal
-
-pub loop-change-init : goal.loop-change-init
-loop-change-init c = record { anew = λ script anew. anew; some = c.requires; keys = refl }
 
 pub loop-change-preserved : goal.loop-change-preserved
 loop-change-preserved c =
-    let step : (script : Setting) → AreAnew script c.loop-change.traces.entries c.loop-change.changes.items
-    → ((w : Text) → find w.items c.commit_one.new.traces.entries ≡ cond (bytes_eq c.in-Some.change.word.items w.items) (Some c.in-Some.change.traced) (find w.items c.loop-change.traces.entries))
-    → AreAnew script c.commit_one.new.traces.entries c.pop.new.self.items = λ script. anew_step script c.loop-change.traces.entries c.commit_one.new.traces.entries c.in-Some.change c.loop-change.changes.items c.pop.new.self.items c.in-Some.ensures.items in
+    let i = c.loop-change.change-index in
+    let cs = c.args.changes.now in
+    let ls = c.loop-change.changes in
+    let so = c.loop-change.invariant.committed in
+    let below : i < length cs = c.loop-change-test.true in
+    let room : i < length ls = let n = c.loop-change.auto.changes in omega (arith, below, n) in
+    let change = slice_index_or ls i c.change-item.result in
+    let at : (d : Change) → slice_index_or cs i d ≡ change = λ d. sym (so.rest i d (omega arith)) ∙ get_or_default ls i d c.change-item.result room in
     record {
-      anew = λ script before. step script (c.loop-change.invariant.anew script before) c.commit_one.ensures.finds;
-      some = (c.loop-change.invariant.some.0, step c.loop-change.invariant.some.0 c.loop-change.invariant.some.1 c.commit_one.ensures.finds);
+      committed = committed_more c.args.traces.now.entries c.loop-change.traces.entries cs ls i change so c.requires.apart at below c.commit_one.new.traces.entries c.commit_one.new.change room c.commit_one.ensures.finds c.commit_one.ensures.before;
       keys = c.commit_one.ensures.keys ∙ c.loop-change.invariant.keys;
     }
 
-pub commit_one-requires : goal.commit_one-requires
-commit_one-requires c =
-    let some = c.loop-change.invariant.some in
-    anew_there some.0 c.loop-change.traces.entries c.in-Some.change c.loop-change.changes.items c.pop.new.self.items c.in-Some.ensures.items some.1
+pub returns-clause-others : goal.returns-clause-others
+returns-clause-others c =
+    let same = c.loop-change.auto.changes in
+    let end = c.loop-change.auto.change-index-end in
+    all_others c.args.traces.now.entries c.loop-change.traces.entries c.args.changes.now c.loop-change.changes c.loop-change.change-index c.loop-change.invariant.committed (let last = c.loop-change-test.false in omega (arith, same, end, last))
 
-pub returns-clause-fresh : goal.returns-clause-fresh
-returns-clause-fresh c = λ script before.
-    let none : length c.loop-change.changes.items ≡ 0 = let h = c.in_default.ensures.cases.0 in let k = c.loop-change.changes.ok.0 in omega arith in
-    anew_done script c.loop-change.traces.entries c.loop-change.changes.items none (c.loop-change.invariant.anew script before)
+pub returns-clause-before : goal.returns-clause-before
+returns-clause-before c =
+    let same = c.loop-change.auto.changes in
+    let end = c.loop-change.auto.change-index-end in
+    all_before c.args.traces.now.entries c.loop-change.traces.entries c.args.changes.now c.loop-change.changes c.loop-change.change-index c.loop-change.invariant.committed (let last = c.loop-change-test.false in omega (arith, same, end, last)) same

@@ -1,15 +1,11 @@
 use Rattle.std.proofs.Common.{◌≡◌}
 use Rattle.indexmap.specs.IndexMap.{keys}
-use Rattle.sbl_bench.specs.Setting.{Setting}
-use Rattle.sbl_bench.specs.Changes.{AreAnew}
+use Rattle.sbl_bench.proofs.ChangeFacts.{IsCommitted}
 use Rattle.sbl_bench.proofs.change.commit.Given as goal
 
+-- the changes before the index have exchanged their runs
 abbrev pub invariant-loop-change : goal.invariant-loop-change
 invariant-loop-change l = record {
-  anew : (script : Setting) → AreAnew script l.fn.traces.entries l.fn.changes.items → AreAnew script l.traces.entries l.changes.items;
-  some : (script : Setting) × AreAnew script l.traces.entries l.changes.items;
+  committed : IsCommitted l.fn.traces.entries l.traces.entries l.fn.changes l.changes l.change-index;
   keys : keys l.traces ≡ keys l.fn.traces;
 }
-
-abbrev pub decreases-loop-change : goal.decreases-loop-change
-decreases-loop-change l = goal.left-loop-change l

@@ -1,14 +1,41 @@
-use Rattle.std.proofs.Common.{subst, sym}
-use Rattle.std.specs.List.{IsDistinct}
+use Rattle.std.proofs.Common.{◌≡◌, ◌∙◌, false, List, Some, map, length, take, drop, ◌++◌, ℕ, ap, subst, sym}
+use Rattle.std.specs.List.{All, IsDistinct}
+use Rattle.std.proofs.lemmas.List.{length-map}
 use Rattle.std.specs.Str.{bytes_eq}
-use Rattle.sbl_bench.specs.Pairs.{Text}
-use Rattle.sbl_bench.proofs.ChangeFacts.{fresh_list, words_kept}
+use Rattle.sbl_bench.specs.Last.{last_changes, word_found, word_run}
+use Rattle.sbl_bench.specs.Changes.{is_changed}
+use Rattle.sbl_bench.specs.Kept.{KeptWord}
+use Rattle.sbl_bench.specs.Pairs.{Text, find}
+use Rattle.sbl_bench.specs.declared.change.Change.{Change}
+use Rattle.sbl_bench.proofs.ChangeFacts.{all_fresh, fresh_list, words_kept, written}
+use Rattle.sbl_bench.proofs.LastChanges.{last_is}
 use Rattle.sbl_bench.proofs.change.make_changes.Goals as goal
 
+-- a word has the run of its change
+abbrev Now : List KeptWord → Change → Type 0
+Now fs c = find c.word.items fs ≡ Some c.traced
+
+-- any other word has its run
+abbrev Stays : List KeptWord → List KeptWord → List Change → Type 0
+Stays es fs cs = (w : Text) → is_changed cs w.items ≡ false → find w.items fs ≡ find w.items es
+
 pub returns-clause-fresh : goal.returns-clause-fresh
-returns-clause-fresh c = λ script anew.
-    fresh_list script c.commit.new.traces.entries (subst (IsDistinct (λ (x y : Text). bytes_eq x.items y.items)) (sym c.commit.ensures.keys) c.requires.unique)
-    (c.commit.ensures.fresh script anew)
+returns-clause-fresh c = λ t anew.
+    let es = c.args.traces.now.entries in
+    let fs = c.commit.new.traces.entries in
+    fresh_list t fs (subst (IsDistinct (λ (x y : Text). bytes_eq x.items y.items)) (sym c.commit.ensures.keys) c.requires.unique)
+    (all_fresh t es fs c.args.changes.items anew (subst (All (Now fs)) c.as_mut_slice.ensures.value c.commit.ensures.run) (subst (Stays es fs) c.as_mut_slice.ensures.value c.commit.ensures.others))
 
 pub returns-clause-words : goal.returns-clause-words
 returns-clause-words c = words_kept c.args.traces.now.entries c.commit.new.traces.entries c.commit.ensures.keys
+
+pub returns-clause-last : goal.returns-clause-last
+returns-clause-last c = λ s t fresh anew.
+    let es = c.args.traces.now.entries in
+    let fs = c.commit.new.traces.entries in
+    let cs = c.args.changes.items in
+    let ls = c.commit.new.changes in
+    let was : map word_run ls ≡ map (word_found es) cs = c.commit.ensures.before ∙ ap (map (word_found es)) c.as_mut_slice.ensures.value in
+    let same : length ls ≡ length cs = sym (length-map ls word_run) ∙ ap length was ∙ length-map cs (word_found es) in
+    let back : take c.args.changes.len (ls ++ drop (length ls) cs) ≡ ls = ap (λ (n : ℕ). take n (ls ++ drop (length ls) cs)) c.args.changes.ok.0 ∙ written ls cs same in
+    ap (last_changes fs) back ∙ last_is s t es fs cs ls fresh anew.run (subst (All (Now fs)) c.as_mut_slice.ensures.value c.commit.ensures.run) was

@@ -14,5 +14,5 @@ returns c =
     let room : length c.first_characters-count.new.room ≡ 256 = search rules in
     let first : take c.first_characters-count.result c.first_characters-count.new.room ≡ take 256 word =
     subst (λ (n : ℕ). take c.first_characters-count.result c.first_characters-count.new.room ≡ take n word) room c.first_characters-count.ensures.first in
-    let adds : Edits c.add.result s (Add (take 256 word)) t = subst (λ (w : List ℕ). Edits c.add.result s (Add w) t) first c.add.ensures in
+    let adds : Edits c.add.result s (Add (take 256 word)) t = subst (λ (w : List ℕ). Edits c.add.result s (Add w) t) first c.add.ensures.edits in
     subst (λ (text : List ℕ). IsEditAnswer s (Add word) text t) (sym c.edit_text.ensures) (answered c.add.result s t (Add word) (by_first c.add.result s t word adds))

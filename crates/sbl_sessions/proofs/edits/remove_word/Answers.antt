@@ -15,6 +15,6 @@ returns c =
     let room : length c.first_characters-count.new.room ≡ 256 = search rules in
     let first : take c.first_characters-count.result c.first_characters-count.new.room ≡ take 256 word =
     subst (λ (n : ℕ). take c.first_characters-count.result c.first_characters-count.new.room ≡ take n word) room c.first_characters-count.ensures.first in
-    let cut : Edits c.remove.result s (Remove (take 256 word)) t = subst (λ (w : List ℕ). Edits c.remove.result s (Remove w) t) first c.remove.ensures in
+    let cut : Edits c.remove.result s (Remove (take 256 word)) t = subst (λ (w : List ℕ). Edits c.remove.result s (Remove w) t) first c.remove.ensures.edits in
     let removes : Edits c.remove.result s (Remove word) t = removes_first c.remove.result s t word (looks s.words c.words_fit.ensures word) cut in
     subst (λ (text : List ℕ). IsEditAnswer s (Remove word) text t) (sym c.edit_text.ensures) (answered c.remove.result s t (Remove word) removes)

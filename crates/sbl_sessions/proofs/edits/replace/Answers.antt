@@ -13,7 +13,7 @@ pub returns-in-Body-clause-text : goal.returns-in-Body-clause-text
 returns-in-Body-clause-text c = λ utf8.
     let name : body c.as_str.result.now ≡ view_target c.args.target.now = search rules in
     replaced_text c.replace_routine.result (contents_of c.args.bench.now) (contents_of c.replace_routine.new.self) _ (view_target c.args.target.now) c.in-Ok.text.now c.args.text.now _
-    name c.in-Ok.ensures.cases.0 c.replace_routine.ensures c.edit_text-in-Body.ensures
+    name c.in-Ok.ensures.cases.0 c.replace_routine.ensures.edits c.edit_text-in-Body.ensures
 
 pub returns-in-Body-clause-bytes : goal.returns-in-Body-clause-bytes
 returns-in-Body-clause-bytes c = λ bytes.
@@ -24,7 +24,7 @@ pub returns-in-Among-clause-text : goal.returns-in-Among-clause-text
 returns-in-Among-clause-text c = λ utf8.
     let name : among c.as_str-in-Among.result.now c.in-Among.k ≡ view_target c.args.target.now = search rules in
     replaced_text c.replace_among.result (contents_of c.args.bench.now) (contents_of c.replace_among.new.self) _ (view_target c.args.target.now) c.in-Ok.text.now c.args.text.now _
-    name c.in-Ok.ensures.cases.0 c.replace_among.ensures c.edit_text-in-Among.ensures
+    name c.in-Ok.ensures.cases.0 c.replace_among.ensures.edits c.edit_text-in-Among.ensures
 
 pub returns-in-Among-clause-bytes : goal.returns-in-Among-clause-bytes
 returns-in-Among-clause-bytes c = λ bytes.
@@ -35,7 +35,7 @@ pub returns-in-Terms-clause-text : goal.returns-in-Terms-clause-text
 returns-in-Terms-clause-text c = λ utf8.
     let name : terms c.as_str-in-Terms.result.now ≡ view_target c.args.target.now = search rules in
     replaced_text c.replace_grouping.result (contents_of c.args.bench.now) (contents_of c.replace_grouping.new.self) _ (view_target c.args.target.now) c.in-Ok.text.now c.args.text.now _
-    name c.in-Ok.ensures.cases.0 c.replace_grouping.ensures c.edit_text-in-Terms.ensures
+    name c.in-Ok.ensures.cases.0 c.replace_grouping.ensures.edits c.edit_text-in-Terms.ensures
 
 pub returns-in-Terms-clause-bytes : goal.returns-in-Terms-clause-bytes
 returns-in-Terms-clause-bytes c = λ bytes.

@@ -36,4 +36,4 @@ returns-clause-loaded g c = λ none.
     let source = script_parsed _ _ c.in_ok-text.text c.deref.result.now c.args.external.now c.in-Ok.script (c.in_ok-text.ensures.reads none) c.deref.ensures.value c.in-Ok.ensures.script in
     let ready = c.read_script.ensures.remembered ∙ ap left_by_load c.in_ok-text.was in
     bench_refused (input_of left c.args.lines.now) _ (input_of left c.read_words.new.lines) c.args.external.now (source_of c.in-Ok.script) c.in-Ok-read_words.words (λ b. contents_of b) c.in-Err-open.fault
-    source (c.in-Ok-read_words.ensures.reads ready) c.in-Err-open.ensures
+    source (c.in-Ok-read_words.ensures.reads ready) c.in-Err-open.ensures.opens

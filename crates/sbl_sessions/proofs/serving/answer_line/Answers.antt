@@ -33,7 +33,7 @@ returns-in-Limit c =
     let s = contents_of c.args.bench.now in
     let t = contents_of c.set_limit.new.self in
     let h : IsEditAnswer s (edits.Limit c.in-Limit.number) c.edit_text.result.now t =
-    subst (λ (text : List ℕ). IsEditAnswer s (edits.Limit c.in-Limit.number) text t) (sym c.edit_text.ensures) (answered c.set_limit.result s t (edits.Limit c.in-Limit.number) c.set_limit.ensures) in
+    subst (λ (text : List ℕ). IsEditAnswer s (edits.Limit c.in-Limit.number) text t) (sym c.edit_text.ensures) (answered c.set_limit.result s t (edits.Limit c.in-Limit.number) c.set_limit.ensures.edits) in
     let a : IsAnswer s (Makes (edits.Limit c.in-Limit.number)) (reply.Fixed c.edit_text.result) t = (h.0, c.edit_text.result.now, refl, h.1) in
     subst (λ (x : Command). IsAnswer s x (reply.Fixed c.edit_text.result) t) c.in-Limit.ensures a
 

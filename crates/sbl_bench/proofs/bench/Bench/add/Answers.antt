@@ -1,25 +1,29 @@
-use Rattle.std.proofs.Common.{rules, ap, subst, sym, ◌∙◌, ◌≡◌, ◌++◌, List, [], ◌∷◌, ℕ, Err, OnOk}
-use Rattle.std.proofs.lemmas.Result.{err_from_is_err_and, on_ok_weaker, on_err_weaker}
+use Rattle.std.proofs.Common.{rules, ap, subst, sym, ◌∙◌, ◌≡◌, ◌++◌, List, [], ◌∷◌, ℕ, Ok, Err}
+use Rattle.std.proofs.lemmas.Result.{err_from_is_err_and}
 use Rattle.sbl_script.specs.Parsed.{source_of}
 use Rattle.sbl_bench.specs.declared.fault.EditFault.TheVariants.{OutOfMemory, MeterFull}
-use Rattle.sbl_bench.specs.Kept.{Kept, contents_of, words_in}
+use Rattle.sbl_bench.specs.Kept.{Kept, KeptWord, contents_of, words_in}
+use Rattle.sbl_bench.specs.ChangedRows.{changed_rows}
+use Rattle.sbl_bench.specs.LeavesChanges.{rows_now}
+use Rattle.sbl_bench.specs.Rows.{rows_of}
+use Rattle.sbl_bench.specs.Last.{last_changes}
+use Rattle.sbl_bench.proofs.LastChanges.{no_rows_change}
 use Rattle.sbl_bench.specs.Edits.{Edits, Add}
 use Rattle.sbl_bench.specs.Contents.{Contents}
 use Rattle.sbl_bench.specs.Setting.{under}
 use Rattle.sbl_bench.proofs.Refusals.{accepted_among, adds, counts_no_more, edits_nothing}
-use Rattle.sbl_bench.proofs.Words.{kept_either}
 use Rattle.sbl_bench.proofs.bench.Bench.add.Goals as goal
 
-pub returns-in_err-word : goal.returns-in_err-word
-returns-in_err-word c =
+pub returns-in_err-word-clause-edits : goal.returns-in_err-word-clause-edits
+returns-in_err-word-clause-edits c =
     let script = under (source_of c.self.inside.script) c.self.inside.limit in
     let es = c.self.inside.traces.entries in
     let free = accepted_among script es c.self.inside.meter c.args.word.now c.has_word.result c.len.result (search rules) (search rules) c.has_word.ensures c.if-has_word.false c.len.ensures.len (search rules) in
     let p = err_from_is_err_and c.from_residual.result c.from_residual.ensures.1 in
     rw (p.1, p.2) (subst (λ (k : Kept). Edits (Err OutOfMemory) (contents_of k) (Add c.args.word.now) (contents_of k)) c.self.view_is (edits_nothing (record { setting = script; words = words_in es; count = c.self.inside.meter }) c.args.word.now free))
 
-pub returns-then-is_full : goal.returns-then-is_full
-returns-then-is_full c =
+pub returns-then-is_full-clause-edits : goal.returns-then-is_full-clause-edits
+returns-then-is_full-clause-edits c =
     let script = under (source_of c.self.inside.script) c.self.inside.limit in
     let es = c.self.inside.traces.entries in
     let s : Contents = record { setting = script; words = words_in es; count = c.self.inside.meter } in
@@ -27,21 +31,37 @@ returns-then-is_full c =
     subst (λ (k : Kept). Edits (Err MeterFull) (contents_of k) (Add c.args.word.now) (contents_of k)) c.self.view_is
     (counts_no_more s c.args.word.now free (sym c.has_word.ensures ∙ c.if-has_word.false) (c.is_full.ensures.at_end.0 c.if-is_full.true))
 
-pub invariant_of-self : goal.invariant_of-self
-invariant_of-self c = (
-  c.self.invariant.0,
-  kept_either (under (source_of c.self.inside.script) c.self.inside.limit) _ _ c.put_last.result c.self.invariant.1
-      (on_ok_weaker c.put_last.result (λ keeps. keeps (source_of c.self.inside.script) c.self.invariant.0 c.self.invariant.1) c.put_last.ensures.kept)
-      c.put_last.ensures.err,
-)
-
-pub returns : goal.returns
-returns c =
+pub returns-in_err-put_last-clause-edits : goal.returns-in_err-put_last-clause-edits
+returns-in_err-put_last-clause-edits c =
     let es = c.self.inside.traces.entries in
     let script = under (source_of c.self.inside.script) c.self.inside.limit in
     let free = accepted_among script es c.self.inside.meter c.args.word.now c.has_word.result c.len.result (search rules) (search rules) c.has_word.ensures c.if-has_word.false c.len.ensures.len (search rules) in
-    let last = subst (λ (w : List ℕ). OnOk c.put_last.result (words_in c.put_last.new.traces.entries ≡ words_in es ++ w ∷ [])) c.in_ok-word.ensures.items c.put_last.ensures.words in
     let new = sym c.has_word.ensures ∙ c.if-has_word.false in
-    subst (λ (k : Kept). Edits c.put_last.result (contents_of k) (Add c.args.word.now) (contents_of (record { script = c.self.inside.script; limit = c.self.inside.limit; words = words_in c.put_last.new.traces.entries; count = c.put_last.new.meter }))) c.self.view_is
-    (adds c.put_last.result (record { setting = script; words = words_in es; count = c.self.inside.meter }) c.args.word.now (words_in c.put_last.new.traces.entries) c.put_last.new.meter free new (c.is_full.ensures.room c.if-is_full.false) last
-    c.put_last.ensures.counted (on_err_weaker c.put_last.result (ap words_in) c.put_last.ensures.err) c.put_last.ensures.stop)
+    let g = c.in_err-put_last.field-0.0 in
+    let f = err_from_is_err_and c.from_residual-in_err-put_last.result c.from_residual-in_err-put_last.ensures.1 in
+    rw (f.1, f.2) (subst (λ (k : Kept). Edits (Err g) (contents_of k) (Add c.args.word.now) (record { setting = script; words = words_in c.put_last.new.traces.entries; count = c.put_last.new.meter })) c.self.view_is
+    (adds (Err g) (record { setting = script; words = words_in es; count = c.self.inside.meter }) c.args.word.now (words_in c.put_last.new.traces.entries) c.put_last.new.meter free new (c.is_full.ensures.room c.if-is_full.false) tt
+    tt (ap words_in c.in_err-put_last.ensures.err) c.in_err-put_last.ensures.stop))
+
+pub returns-in_err-put_last-clause-changes : goal.returns-in_err-put_last-clause-changes
+returns-in_err-put_last-clause-changes c =
+    let f = err_from_is_err_and c.from_residual-in_err-put_last.result c.from_residual-in_err-put_last.ensures.1 in
+    rw f.1 (ap (λ (es : List KeptWord). last_changes es c.self.inside.last.items) c.in_err-put_last.ensures.err ∙ ap (λ (k : Kept). k.changes) c.self.view_is)
+
+pub returns-clause-edits : goal.returns-clause-edits
+returns-clause-edits c =
+    let es = c.self.inside.traces.entries in
+    let script = under (source_of c.self.inside.script) c.self.inside.limit in
+    let free = accepted_among script es c.self.inside.meter c.args.word.now c.has_word.result c.len.result (search rules) (search rules) c.has_word.ensures c.if-has_word.false c.len.ensures.len (search rules) in
+    let last = subst (λ (w : List ℕ). words_in c.put_last.new.traces.entries ≡ words_in es ++ w ∷ []) c.in_ok-word.ensures.items c.in_ok-put_last.ensures.words in
+    let new = sym c.has_word.ensures ∙ c.if-has_word.false in
+    subst (λ (k : Kept). Edits (Ok tt) (contents_of k) (Add c.args.word.now) (record { setting = script; words = words_in c.put_last.new.traces.entries; count = c.put_last.new.meter })) c.self.view_is
+    (adds (Ok tt) (record { setting = script; words = words_in es; count = c.self.inside.meter }) c.args.word.now (words_in c.put_last.new.traces.entries) c.put_last.new.meter free new (c.is_full.ensures.room c.if-is_full.false) last
+    c.in_ok-put_last.ensures.counted tt tt)
+
+pub returns-clause-changes : goal.returns-clause-changes
+returns-clause-changes c =
+    let script = under (source_of c.self.inside.script) c.self.inside.limit in
+    let words = words_in c.put_last.new.traces.entries in
+    ap (last_changes c.put_last.new.traces.entries) c.new.ensures.items
+    ∙ subst (λ (k : Kept). [] ≡ changed_rows (rows_now k) (rows_of script words)) c.self.view_is (sym (no_rows_change script (words_in c.self.inside.traces.entries) words))

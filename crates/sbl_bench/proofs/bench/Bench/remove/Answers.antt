@@ -1,16 +1,21 @@
-use Rattle.std.proofs.Common.{◌≡◌, ◌∙◌, ap, sym, subst, is_some, List, ℕ, Ok, Err}
+use Rattle.std.proofs.Common.{◌≡◌, ◌∙◌, ap, sym, subst, is_some, List, [], ℕ, Ok, Err}
 use Rattle.sbl_script.specs.Parsed.{source_of}
 use Rattle.sbl_bench.specs.declared.fault.EditFault.TheVariants.{Absent}
 use Rattle.sbl_bench.specs.Edits.{Edits, Remove}
-use Rattle.sbl_bench.specs.Kept.{IsKept, Kept, contents_of, words_in}
+use Rattle.sbl_bench.specs.Kept.{IsKept, Kept, KeptWord, contents_of, words_in}
+use Rattle.sbl_bench.specs.ChangedRows.{changed_rows}
+use Rattle.sbl_bench.specs.LeavesChanges.{rows_now}
+use Rattle.sbl_bench.specs.Rows.{rows_of}
+use Rattle.sbl_bench.specs.Last.{last_changes}
+use Rattle.sbl_bench.proofs.LastChanges.{no_rows_change}
 use Rattle.sbl_bench.specs.Contents.{Contents}
 use Rattle.sbl_bench.specs.Setting.{under}
 use Rattle.sbl_bench.proofs.Refusals.{no_word, removes}
 use Rattle.sbl_bench.proofs.Words.{found_word, kept-remove, words-remove}
 use Rattle.sbl_bench.proofs.bench.Bench.remove.Goals as goal
 
-pub returns-in_default : goal.returns-in_default
-returns-in_default c =
+pub returns-in_default-clause-edits : goal.returns-in_default-clause-edits
+returns-in_default-clause-edits c =
     let es = c.self.inside.traces.entries in
     let word = c.args.word.now in
     let s : Contents = record { setting = under (source_of c.self.inside.script) c.self.inside.limit; words = words_in es; count = c.self.inside.meter } in
@@ -27,11 +32,22 @@ invariant_of-self-2 c =
       subst (IsKept (under (source_of c.self.inside.script) c.self.inside.limit)) (sym c.in-Some.ensures.entries) (kept-remove (under (source_of c.self.inside.script) c.self.inside.limit) word es c.self.invariant.1),
     )
 
-pub returns : goal.returns
-returns c =
+pub returns-clause-edits : goal.returns-clause-edits
+returns-clause-edits c =
     let es = c.self.inside.traces.entries in
     let word = c.args.word.now in
     subst (λ (k : Kept). Edits (Ok tt) (contents_of k) (Remove word) (record { setting = under (source_of c.self.inside.script) c.self.inside.limit; words = words_in c.shift_remove_entry.new.self.entries; count = c.self.inside.meter })) c.self.view_is
     (removes (record { setting = under (source_of c.self.inside.script) c.self.inside.limit; words = words_in es; count = c.self.inside.meter }) word (words_in c.shift_remove_entry.new.self.entries)
     (sym (found_word word es) ∙ ap is_some (sym c.in-Some.ensures.value))
     (ap words_in c.in-Some.ensures.entries ∙ words-remove word es))
+
+pub returns-in_default-clause-changes : goal.returns-in_default-clause-changes
+returns-in_default-clause-changes c =
+    ap (λ (es : List KeptWord). last_changes es c.self.inside.last.items) c.in_default.ensures.unchanged ∙ ap (λ (k : Kept). k.changes) c.self.view_is
+
+pub returns-clause-changes : goal.returns-clause-changes
+returns-clause-changes c =
+    let script = under (source_of c.self.inside.script) c.self.inside.limit in
+    let words = words_in c.shift_remove_entry.new.self.entries in
+    ap (last_changes c.shift_remove_entry.new.self.entries) c.new.ensures.items
+    ∙ subst (λ (k : Kept). [] ≡ changed_rows (rows_now k) (rows_of script words)) c.self.view_is (sym (no_rows_change script (words_in c.self.inside.traces.entries) words))

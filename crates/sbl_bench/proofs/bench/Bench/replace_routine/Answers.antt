@@ -14,16 +14,16 @@ use Rattle.sbl_bench.specs.Changes.{IsTaken}
 use Rattle.sbl_bench.proofs.Replacing.{nothing_made, passes, refused}
 use Rattle.sbl_bench.proofs.bench.Bench.replace_routine.Goals as goal
 
-pub returns-in_err-script : goal.returns-in_err-script
-returns-in_err-script c =
+pub returns-in_err-script-clause-edits : goal.returns-in_err-script-clause-edits
+returns-in_err-script-clause-edits c =
     let s : Contents = record { setting = under (source_of c.self.inside.script) c.self.inside.limit; words = words_in c.self.inside.traces.entries; count = c.self.inside.meter } in
     let g = c.in_err-script.field-0.0 in
     let p = err_from_is_err_and c.from_residual.result c.from_residual.ensures.1 in
     rw (p.1, p.2) (subst (λ (k : Kept). Edits (Err (fault_of_script g)) (contents_of k) (Routine c.args.name.now c.args.text.now) (contents_of k)) c.self.view_is
     (refused s (body c.args.name.now) c.args.text.now c.with_routine.result c.with_routine.ensures.missing g c.in_err-script.was c.in_err-script.ensures.fault))
 
-pub returns-in_err-from_str : goal.returns-in_err-from_str
-returns-in_err-from_str c =
+pub returns-in_err-from_str-clause-edits : goal.returns-in_err-from_str-clause-edits
+returns-in_err-from_str-clause-edits c =
     let s : Contents = record { setting = under (source_of c.self.inside.script) c.self.inside.limit; words = words_in c.self.inside.traces.entries; count = c.self.inside.meter } in
     let p = err_from_is_err_and c.from_residual-in_err-from_str.result c.from_residual-in_err-from_str.ensures.1 in
     rw (p.1, p.2) (subst (λ (k : Kept). Edits (Err OutOfMemory) (contents_of k) (Routine c.args.name.now c.args.text.now) (contents_of k)) c.self.view_is
@@ -43,12 +43,12 @@ take_edited-requires c =
       }),
     )
 
-pub returns : goal.returns
-returns c =
+pub returns-clause-edits : goal.returns-clause-edits
+returns-clause-edits c =
     let q = source_of c.in_ok-script.script in
     let s : Contents = record { setting = under (source_of c.self.inside.script) c.self.inside.limit; words = words_in c.self.inside.traces.entries; count = c.self.inside.meter } in
     let e : ScriptEdit = body c.args.name.now in
-    c.take_edited.ensures e c.args.text.now (subst (λ (k : Kept). IsTaken (contents_of k) e c.args.text.now q (item_of (code.Routine c.in_ok-from_str.field-0))) c.self.view_is (record {
+    c.take_edited.ensures.edits e c.args.text.now (subst (λ (k : Kept). IsTaken (contents_of k) e c.args.text.now q (item_of (code.Routine c.in_ok-from_str.field-0))) c.self.view_is (record {
       edited = c.in_ok-script.ensures.script;
       replaces = ap items.Routine c.in_ok-from_str.ensures.ok;
       passes = passes s e c.args.text.now c.with_routine.result c.with_routine.ensures.missing c.in_ok-script.script c.in_ok-script.was;

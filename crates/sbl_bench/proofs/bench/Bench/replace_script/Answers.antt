@@ -12,8 +12,8 @@ use Rattle.sbl_bench.proofs.Bringing.{whole_exchange}
 use Rattle.sbl_bench.proofs.Replacing.{unread}
 use Rattle.sbl_bench.proofs.bench.Bench.replace_script.Goals as goal
 
-pub returns-in_err-script : goal.returns-in_err-script
-returns-in_err-script c =
+pub returns-in_err-script-clause-edits : goal.returns-in_err-script-clause-edits
+returns-in_err-script-clause-edits c =
     let s : Contents = record { setting = under (source_of c.self.inside.script) c.self.inside.limit; words = words_in c.self.inside.traces.entries; count = c.self.inside.meter } in
     let g = c.in_err-script.field-0.0 in
     let is = subst (λ (x : List ℕ). (g ≡ texts.OutOfMemory) ⊎ IsFaultOf c.args.text.now x g) c.external.ensures c.in_err-script.ensures.fault in
@@ -27,8 +27,8 @@ exchange-requires c =
     let read = subst (λ (x : List ℕ). IsScriptOf c.args.text.now x q) c.external.ensures c.in_ok-script.ensures.script in
     (Whole c.args.text.now, subst (λ (k : Kept). IsExchange (contents_of k) (Whole c.args.text.now) q) c.self.view_is (whole_exchange s c.args.text.now q read))
 
-pub returns : goal.returns
-returns c =
+pub returns-clause-edits : goal.returns-clause-edits
+returns-clause-edits c =
     let s : Contents = record { setting = under (source_of c.self.inside.script) c.self.inside.limit; words = words_in c.self.inside.traces.entries; count = c.self.inside.meter } in
     let q = source_of c.in_ok-script.script in
     let read = subst (λ (x : List ℕ). IsScriptOf c.args.text.now x q) c.external.ensures c.in_ok-script.ensures.script in

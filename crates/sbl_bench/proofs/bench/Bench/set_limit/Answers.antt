@@ -5,9 +5,14 @@ use Rattle.sbl_script.specs.Parsed.{source_of}
 use Rattle.sbl_bench.specs.Changes.{Brings, affected_of}
 use Rattle.sbl_bench.specs.Edits.{Edit, Edits, Limit, is_limit}
 use Rattle.sbl_bench.specs.Kept.{KeptWord, IsWord, Kept, contents_of, words_in}
+use Rattle.sbl_bench.specs.ChangedRows.{changed_rows}
 use Rattle.sbl_bench.specs.Contents.{Contents}
+use Rattle.sbl_bench.specs.Last.{last_changes}
+use Rattle.sbl_bench.specs.LeavesChanges.{rows_now}
+use Rattle.sbl_bench.specs.Rows.{rows_of}
 use Rattle.sbl_bench.specs.Setting.{under}
 use Rattle.sbl_bench.proofs.Bringing.{limit_brings}
+use Rattle.sbl_bench.proofs.LastChanges.{apart, edit_changes}
 use Rattle.sbl_bench.proofs.Meeting.{anew, still}
 use Rattle.sbl_bench.proofs.Reruns.{made, stopped}
 use Rattle.sbl_bench.proofs.bench.Bench.set_limit.Goals as goal
@@ -15,11 +20,11 @@ use Rattle.sbl_bench.proofs.bench.Bench.set_limit.Goals as goal
 words_length : (es : List KeptWord) → length (words_in es) ≡ length es
 words_length es = length-map es _
 
-pub returns-in_default : goal.returns-in_default
-returns-in_default c = (inl (c.in_default.ensures, refl), refl)
+pub returns-in_default-clause-edits : goal.returns-in_default-clause-edits
+returns-in_default-clause-edits c = (inl (c.in_default.ensures, refl), refl)
 
-pub returns-in_err-changes : goal.returns-in_err-changes
-returns-in_err-changes c =
+pub returns-in_err-changes-clause-edits : goal.returns-in_err-changes-clause-edits
+returns-in_err-changes-clause-edits c =
     let p = source_of c.self.inside.script in
     let l = c.self.inside.limit in
     let n = c.in-Some.limit in
@@ -51,6 +56,11 @@ make_changes-requires-clause-changes c =
     let b : Brings s e t a = subst (Brings s e t) (sym c.above_smaller-affected.ensures) (limit_brings c.used_steps_suffice.ensures.suffice c.used_steps_suffice.ensures.touch s n ok) in
     (t, anew a t es c.in_ok-changes.changes.items (c.in_ok-changes.ensures.changes p c.self.invariant.0) (still s.setting t a b.stays es c.self.invariant.1.fresh))
 
+pub make_changes-requires-clause-apart : goal.make_changes-requires-clause-apart
+make_changes-requires-clause-apart c =
+    let t = under (source_of c.self.inside.script) c.in-Some.limit in
+    apart t (affected_of c.above_smaller-affected.result) c.self.inside.traces.entries c.in_ok-changes.changes.items (c.in_ok-changes.ensures.changes (source_of c.self.inside.script) c.self.invariant.0) c.rerun.ensures.unique
+
 pub invariant_of-self-2 : goal.invariant_of-self-2
 invariant_of-self-2 c =
     let p = source_of c.self.inside.script in
@@ -73,8 +83,8 @@ invariant_of-self-2 c =
       },
     )
 
-pub returns : goal.returns
-returns c =
+pub returns-clause-edits : goal.returns-clause-edits
+returns-clause-edits c =
     let p = source_of c.self.inside.script in
     let l = c.self.inside.limit in
     let n = c.in-Some.limit in
@@ -89,3 +99,20 @@ returns c =
     subst (λ (m : ℕ). Edits (Ok tt) (contents_of c.args.self.now) (Limit m) after) c.in-Some.ensures.0
     (subst (λ (k : Kept). Edits (Ok tt) (contents_of k) e after) c.self.view_is
     (made s e t a es b refl c.self.invariant.1.fresh c.make_changes.new.traces.entries c.rerun.new.meter c.make_changes.ensures.words c.in_ok-changes.ensures.room c.in_ok-changes.ensures.counted))
+
+pub returns-clause-changes : goal.returns-clause-changes
+returns-clause-changes c =
+    let p = source_of c.self.inside.script in
+    let l = c.self.inside.limit in
+    let n = c.in-Some.limit in
+    let es = c.self.inside.traces.entries in
+    let fs = c.make_changes.new.traces.entries in
+    let ls = c.make_changes.result.items in
+    let a = affected_of c.above_smaller-affected.result in
+    let e : Edit = Limit n in
+    let t = under p n in
+    let s : Contents = record { setting = under p l; words = words_in es; count = c.self.inside.meter } in
+    let ok : is_limit n ≡ true = subst (λ (m : ℕ). is_limit m ≡ true) (sym c.in-Some.ensures.0) c.in-Some.ensures.1 in
+    let b : Brings s e t a = subst (Brings s e t) (sym c.above_smaller-affected.ensures) (limit_brings c.used_steps_suffice.ensures.suffice c.used_steps_suffice.ensures.touch s n ok) in
+    subst (λ (k : Kept). last_changes fs ls ≡ changed_rows (rows_now k) (rows_of t (words_in fs))) c.self.view_is
+    (edit_changes s.setting t a es fs c.in_ok-changes.changes.items ls b.stays c.self.invariant.1.fresh (c.in_ok-changes.ensures.changes p c.self.invariant.0) c.make_changes.ensures.last c.make_changes.ensures.words)

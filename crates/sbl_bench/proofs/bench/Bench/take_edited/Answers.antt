@@ -10,8 +10,8 @@ use Rattle.sbl_bench.specs.Setting.{under}
 use Rattle.sbl_bench.proofs.Bringing.{edited_brings}
 use Rattle.sbl_bench.proofs.bench.Bench.take_edited.Goals as goal
 
-pub returns-in_err-affected : goal.returns-in_err-affected
-returns-in_err-affected c e text is =
+pub returns-in_err-affected-clause-edits : goal.returns-in_err-affected-clause-edits
+returns-in_err-affected-clause-edits c e text is =
     let f = err_from_is_err_and c.from_residual.result c.from_residual.ensures.1 in
     rw (f.1, f.2) (record { wanted = refl; is = inl (is.passes, refl) })
 
@@ -29,8 +29,8 @@ take_script-requires c =
     let b : Brings s (Replace e text) (under q l) a = edited_brings c.untouched_stay.ensures c.one_item_alone.ensures.meets c.edits_agree.ensures.there s e text q x taken c.is_well_declared.ensures (map item_of c.from_ref-items.result.now) (ap (map item_of) c.from_ref-items.ensures.value) a (c.in_ok-affected.ensures c.self.invariant.0) in
     (Replace e text, subst (λ (k : Kept). Brings (contents_of k) (Replace e text) (under q k.limit) a) c.self.view_is b)
 
-pub returns : goal.returns
-returns c e text is =
+pub returns-clause-edits : goal.returns-clause-edits
+returns-clause-edits c e text is =
     let p = source_of c.self.inside.script in
     let q = source_of c.args.script in
     let l = c.self.inside.limit in

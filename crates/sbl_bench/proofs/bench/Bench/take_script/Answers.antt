@@ -6,8 +6,13 @@ use Rattle.sbl_machine.specs.MachineOf.{IsLinkedMachineOf}
 use Rattle.sbl_bench.specs.Changes.{Brings, affected_of}
 use Rattle.sbl_bench.specs.Edits.{Edits}
 use Rattle.sbl_bench.specs.Kept.{KeptWord, IsKept, IsWord, Kept, contents_of, words_in}
+use Rattle.sbl_bench.specs.ChangedRows.{changed_rows}
 use Rattle.sbl_bench.specs.Contents.{Contents}
+use Rattle.sbl_bench.specs.Last.{last_changes}
+use Rattle.sbl_bench.specs.LeavesChanges.{rows_now}
+use Rattle.sbl_bench.specs.Rows.{rows_of}
 use Rattle.sbl_bench.specs.Setting.{under}
+use Rattle.sbl_bench.proofs.LastChanges.{apart, edit_changes}
 use Rattle.sbl_bench.proofs.Meeting.{anew, still}
 use Rattle.sbl_bench.proofs.Reruns.{made, stopped}
 use Rattle.sbl_bench.proofs.bench.Bench.take_script.Goals as goal
@@ -36,8 +41,8 @@ returns-in_err-changes-clause-edits c e brings =
     rw (f.1, f.2) (subst (λ (k : Kept). Edits (Err g) (contents_of k) e after) c.self.view_is
     (stopped s e t a es b refl c.self.invariant.1.fresh g c.rerun.new.meter c.in_err-changes.ensures.stop))
 
-pub make_changes-requires-clause-changes : goal.make_changes-requires-clause-changes
-make_changes-requires-clause-changes c =
+pub make_changes-last-requires-clause-changes : goal.make_changes-last-requires-clause-changes
+make_changes-last-requires-clause-changes c =
     let e = c.requires.0 in
     let p = source_of c.self.inside.script in
     let q = source_of c.args.script.now in
@@ -48,6 +53,11 @@ make_changes-requires-clause-changes c =
     let s : Contents = record { setting = under p l; words = words_in es; count = c.self.inside.meter } in
     let b : Brings s e t a = subst (λ (k : Kept). Brings (contents_of k) e (under q k.limit) a) (sym c.self.view_is) c.requires.1 in
     (t, anew a t es c.in_ok-changes.changes.items (c.in_ok-changes.ensures.changes q c.in_ok-after.ensures) (still s.setting t a b.stays es c.self.invariant.1.fresh))
+
+pub make_changes-last-requires-clause-apart : goal.make_changes-last-requires-clause-apart
+make_changes-last-requires-clause-apart c =
+    let q = source_of c.args.script.now in
+    apart (under q c.self.inside.limit) (affected_of c.args.affected.now) c.self.inside.traces.entries c.in_ok-changes.changes.items (c.in_ok-changes.ensures.changes q c.in_ok-after.ensures) c.rerun.ensures.unique
 
 pub invariant_of-self-2 : goal.invariant_of-self-2
 invariant_of-self-2 c =
@@ -60,12 +70,12 @@ invariant_of-self-2 c =
     let t = under q l in
     let s : Contents = record { setting = under p l; words = words_in es; count = c.self.inside.meter } in
     let b : Brings s e t a = subst (λ (k : Kept). Brings (contents_of k) e (under q k.limit) a) (sym c.self.view_is) c.requires.1 in
-    let fs = c.make_changes.new.traces.entries in
-    let words = c.make_changes.ensures.words in
+    let fs = c.make_changes-last.new.traces.entries in
+    let words = c.make_changes-last.ensures.words in
     subst (λ (x : Parsed). IsLinkedMachineOf c.in_ok-after.after (source_of x) × IsKept (under (source_of x) l) fs) (sym c.swap.ensures.x_after) (
       c.in_ok-after.ensures,
       record {
-        fresh = c.make_changes.ensures.fresh t (anew a t es c.in_ok-changes.changes.items (c.in_ok-changes.ensures.changes q c.in_ok-after.ensures) (still s.setting t a b.stays es c.self.invariant.1.fresh));
+        fresh = c.make_changes-last.ensures.fresh t (anew a t es c.in_ok-changes.changes.items (c.in_ok-changes.ensures.changes q c.in_ok-after.ensures) (still s.setting t a b.stays es c.self.invariant.1.fresh));
         sound = subst (All IsWord) (sym words) c.self.invariant.1.sound;
         room = let x = words_length fs in let y = words_length es in let z = ap length words in let r = c.self.invariant.1.room in omega arith;
       },
@@ -81,8 +91,25 @@ returns-clause-edits c e brings =
     let t = under q l in
     let s : Contents = record { setting = under p l; words = words_in es; count = c.self.inside.meter } in
     let b : Brings s e t a = subst (λ (k : Kept). Brings (contents_of k) e (under q k.limit) a) (sym c.self.view_is) brings in
-    let fs = c.make_changes.new.traces.entries in
+    let fs = c.make_changes-last.new.traces.entries in
     let after : Contents = record { setting = t; words = words_in fs; count = c.rerun.new.meter } in
     subst (λ (x : Parsed). Edits (Ok tt) (contents_of c.args.self.now) e (record { setting = under (source_of x) l; words = words_in fs; count = c.rerun.new.meter })) (sym c.swap.ensures.x_after)
     (subst (λ (k : Kept). Edits (Ok tt) (contents_of k) e after) c.self.view_is
-    (made s e t a es b refl c.self.invariant.1.fresh c.make_changes.new.traces.entries c.rerun.new.meter c.make_changes.ensures.words c.in_ok-changes.ensures.room c.in_ok-changes.ensures.counted))
+    (made s e t a es b refl c.self.invariant.1.fresh c.make_changes-last.new.traces.entries c.rerun.new.meter c.make_changes-last.ensures.words c.in_ok-changes.ensures.room c.in_ok-changes.ensures.counted))
+
+pub returns-clause-changes : goal.returns-clause-changes
+returns-clause-changes c =
+    let e = c.requires.0 in
+    let p = source_of c.self.inside.script in
+    let q = source_of c.args.script.now in
+    let l = c.self.inside.limit in
+    let es = c.self.inside.traces.entries in
+    let fs = c.make_changes-last.new.traces.entries in
+    let ls = c.make_changes-last.result.items in
+    let a = affected_of c.args.affected.now in
+    let t = under q l in
+    let s : Contents = record { setting = under p l; words = words_in es; count = c.self.inside.meter } in
+    let b : Brings s e t a = subst (λ (k : Kept). Brings (contents_of k) e (under q k.limit) a) (sym c.self.view_is) c.requires.1 in
+    subst (λ (x : Parsed). last_changes fs ls ≡ changed_rows (rows_now c.args.self.now) (rows_of (under (source_of x) l) (words_in fs))) (sym c.swap.ensures.x_after)
+    (subst (λ (k : Kept). last_changes fs ls ≡ changed_rows (rows_now k) (rows_of t (words_in fs))) c.self.view_is
+    (edit_changes s.setting t a es fs c.in_ok-changes.changes.items ls b.stays c.self.invariant.1.fresh (c.in_ok-changes.ensures.changes q c.in_ok-after.ensures) c.make_changes-last.ensures.last c.make_changes-last.ensures.words))

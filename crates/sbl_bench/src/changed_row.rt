@@ -1,0 +1,86 @@
+//! The words whose outcome the last edit changed.
+
+ghost use Rattle.std.specs.Prelude.{◌≡◌, ◌++◌, map, OnOk, IfOk};
+ghost use Rattle.std.specs.Option.{option_map, option_to_list};
+ghost use Rattle.sbl_machine.specs.Outcome.{outcome_of};
+ghost use Rattle.sbl_bench.specs.ChangedRows as spec;
+ghost use Rattle.sbl_bench.specs.ChangedRows.{view_changed_row};
+ghost use Rattle.sbl_bench.specs.Last.{changed_since, last_changes};
+
+use crate::bench::Bench;
+use crate::change::Change;
+use indexmap::IndexMap;
+use sbl_machine::{Outcome, Traced};
+use std::alloc::{AllocError, Global};
+
+/// A word with two outcomes.
+#[derive(Debug, Drop)]
+pub struct ChangedRow<'a> {
+    /// The word's characters.
+    pub word: &'a [char],
+    /// Its stem before the edit, or the fault of its run.
+    pub before: &'a Outcome,
+    /// Its stem after the edit, or the fault of its run.
+    pub after: &'a Outcome,
+}
+
+impl Bench {
+    /// Returns the words whose outcome the last accepted edit changed, in vocabulary order, each with its outcomes before and after
+    /// that edit. An edit that adds or removes a word changes no outcome, so there are none after it, nor after opening. A
+    /// refused edit leaves them as they are. Returns `AllocError` if an allocation fails.
+    pub fn changes(&self) -> Result<Vec<ChangedRow<'_>>, AllocError>
+        ensures { IfOk result (λ changes. map view_changed_row changes.items ≡ self.now.changes) }
+    {
+        changes_of(self.alloc, &self.traces, self.last.as_slice())
+    }
+}
+
+/// Returns the words whose outcome is another one now than before, of words with their runs before. Returns `AllocError` if an
+/// allocation fails.
+fn changes_of<'a>(
+    alloc: Global,
+    traces: &'a IndexMap<Vec<char>, Traced>,
+    last: &'a [Change],
+) -> Result<Vec<ChangedRow<'a>>, AllocError>
+    ensures { IfOk result (λ changes. map view_changed_row changes.items ≡ last_changes traces.now.entries last.now) }
+{
+    let mut changes = Vec::new(alloc);
+    for change in last {
+        push_changed(&mut changes, change, traces.get(change.word.as_slice()))?;
+    }
+    Ok(changes)
+}
+
+/// Appends the word with its run before and its run now, if it has one and their outcomes differ. Returns `AllocError` if an
+/// allocation fails.
+fn push_changed<'a>(
+    changes: &mut Vec<ChangedRow<'a>>,
+    change: &'a Change,
+    now: Option<&'a Traced>,
+) -> Result<(), AllocError>
+    ensures { OnOk result (map view_changed_row changes.new.items ≡ map view_changed_row changes.old.items ++ option_to_list (changed_since change.now (option_map (λ t. t.now) now.entry))) }
+{
+    let Some(now) = now else {
+        return Ok(());
+    };
+    if is_same(&change.traced.outcome, &now.outcome) {
+        return Ok(());
+    }
+    let row = ChangedRow {
+        word: change.word.as_slice(),
+        before: &change.traced.outcome,
+        after: &now.outcome,
+    };
+    changes.push(row).map_err(|_| AllocError)
+}
+
+// Whether two outcomes are the same stem, or refusals for the same reason.
+fn is_same(one: &Outcome, other: &Outcome) -> bool
+    ensures { result ≡ spec.same_outcome (outcome_of one.now) (outcome_of other.now) }
+{
+    match (one, other) {
+        (Outcome::Stem(a), Outcome::Stem(b)) => a.as_slice() == b.as_slice(),
+        (Outcome::Refused(a), Outcome::Refused(b)) => a == b,
+        _ => false,
+    }
+}
