@@ -31,10 +31,10 @@ each P Q f (x ∷ xs) a = (f x a.0, each P Q f xs a.1)
 
 -- ---- each word is found in its own row
 
-abbrev Known : (List ℕ → Option Outcome) → Row → Type 0
+abbrev pub Known : (List ℕ → Option Outcome) → Row → Type 0
 Known f r = f r.word ≡ Some r.outcome
 
-found : (rows : List Row) → HasOneRowEach rows → AllByRecursion (Known (outcome_in rows)) rows
+pub found : (rows : List Row) → HasOneRowEach rows → AllByRecursion (Known (outcome_in rows)) rows
 unfolding IsDistinct
 found [] one = tt
 found (r ∷ rows) one = ((λ i. option_map (λ (q : Row). q.outcome) (cond (bytes_eq-self r.word i) (Some r) (find (λ q. bytes_eq r.word q.word) rows))), later rows one.0 (found rows one.1))
