@@ -3,14 +3,12 @@ use Rattle.std.proofs.Common.{◌≡◌, ◌∙◌, ◌⊎◌, ◌++◌, Bool, t
 use Rattle.std.specs.List.{AllByRecursion, IsDistinct, cons_option, filter, filter_map, find}
 use Rattle.std.specs.Option.{option_map}
 use Rattle.std.specs.Ordering.{match_ordering}
-use Rattle.std.specs.declared.cmp.Ordering.{Ordering}
-use Rattle.std.specs.declared.cmp.Ordering.TheVariants.{Equal}
 use Rattle.std.specs.Str.{bytes_eq}
 use Rattle.std.specs.BTreeSet.{insert_key}
 use Rattle.std.proofs.lemmas.Cmp.{nat_list_cmp_total}
 use Rattle.std.proofs.lemmas.Map.Lookups.{exact_bytes}
 use Rattle.std.proofs.lemmas.Slice.Eq.{bytes_eq-Decides}
-use Rattle.sbl_changes.specs.Changes.{Change, Changed, added, changed, changes_of, merged, removed, renamed, split}
+use Rattle.sbl_changes.specs.Changes.{Change, Changed, added, changed, merged, removed, renamed, split}
 use Rattle.sbl_changes.specs.Classes.{Class, Pair, class_with, classes_of, in_order, members_of}
 use Rattle.sbl_changes.specs.ChangesAreSound.{EqualListsHaveNoChanges, HasOneRowEach, NoClassIsSplitAndRenamed}
 use Rattle.sbl_changes.specs.Moves.{move_of, moves_of, turned}

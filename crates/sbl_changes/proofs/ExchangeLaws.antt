@@ -1,11 +1,11 @@
 -- If the lists are exchanged, each change is told the other way.
-use Rattle.std.proofs.Common.{◌≡◌, ◌∙◌, ◌||◌, ◌&&◌, ◌++◌, Bool, true, false, cond, ℕ, List, [], ◌∷◌, map, Option, Some, None, if◌then◌else◌, refl, sym, ap, subst}
+use Rattle.std.proofs.Common.{◌≡◌, ◌∙◌, ◌||◌, ◌&&◌, ◌++◌, Bool, true, false, cond, ℕ, List, [], ◌∷◌, map, Option, Some, None, if◌then◌else◌, refl, sym, ap}
 use Rattle.std.specs.List.{AllByRecursion, cons_option, filter_map, find, list_any}
 use Rattle.std.specs.Option.{option_map}
 use Rattle.std.specs.Ordering.{is_eq}
 use Rattle.std.specs.Str.{bytes_eq}
 use Rattle.std.proofs.lemmas.Slice.Eq.{bytes_eq-Decides}
-use Rattle.sbl_changes.specs.Changes.{Added, Change, Changed, Merged, Removed, Renamed, Split, added, changed, changes_by, changes_of, class_changes, is_from_one, merged, removed, renamed, split}
+use Rattle.sbl_changes.specs.Changes.{Change, Changed, Renamed, added, changed, is_from_one, merged, removed, renamed, split}
 use Rattle.sbl_changes.specs.ChangesAreSound.{ExchangedListsTurnChanges, HasOneRowEach, other_way}
 use Rattle.sbl_changes.specs.Classes.{Class, Pair, class_with, classes_of, in_order, members_of}
 use Rattle.sbl_changes.specs.Moves.{move_of, moves_of, turned}

@@ -1,6 +1,5 @@
 -- How families are gone through: words are taken out of the outcomes, and stems are counted.
 use Rattle.std.specs.Prelude.{◌≡◌, ℕ, ⊤, Bool, false, ◌||◌, List, [], ◌∷◌, ◌++◌, map, Option, None, option_to_list, if◌then◌else◌}
-use Rattle.std.specs.Borrow.{Bor}
 use Rattle.std.specs.List.{AllByRecursion, flat_map}
 use Rattle.std.specs.Option.{unwrap_or}
 use Rattle.std.specs.declared.cmp.Ordering.TheVariants.{Less}

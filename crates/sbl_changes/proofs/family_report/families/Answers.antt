@@ -1,7 +1,6 @@
 use Rattle.std.proofs.Common.{◌≡◌, ◌∙◌, ◌++◌, ◌∷◌, [], List, ap}
 use Rattle.std.specs.List.{filter_map}
 use Rattle.std.proofs.lemmas.List.{map-append}
-use Rattle.sbl_changes.specs.Classes.{Pair}
 use Rattle.sbl_changes.specs.Counting.{all_taken, view_families}
 use Rattle.sbl_changes.specs.Families as spec
 use Rattle.sbl_changes.specs.Families.{FamilyResult, families_of, over_rows, view_result, view_results, view_words}
