@@ -14,6 +14,7 @@ use Rattle.std.proofs.lemmas.Map.Text.{is_eq-slice_cmp}
 use Rattle.std.proofs.lemmas.Map.Views.{All-insert_key}
 use Rattle.std.proofs.lemmas.Slice.Eq.{bytes_eq-Decides}
 use Rattle.sbl_changes.specs.Classes.{Class, Pair, class_with, classes_of, in_order, members_of}
+use Rattle.sbl_changes.specs.Counting.{DoNotFall}
 use Rattle.sbl_changes.specs.Grouping.{class_sorted, classes_sorted, grouped, is_last, pair_cmp, one_member, put_in_last, put_last, sorted}
 use Rattle.sbl_changes.proofs.Sorting.{mem, or_swap}
 use Rattle.sbl_changes.proofs.OrderFacts.{any-in_order, in_order-sorted, one_order, members-in_order, sorted-sorted, stems-sorted, text_cmp}
@@ -100,49 +101,65 @@ no_members stem (d ∷ done) m = by (bytes_eq stem d.0) refl (no_members stem do
 
 -- ---- all pairs
 
-module _ (done : List Pair) (p : Pair) (below : AllByRecursion (λ q. pair_cmp q p ≡ Less) done) where
-  not_above : (x : List ℕ) (r : Ordering) → ordering_then (text_cmp x p.0) r ≡ Less → text_cmp p.0 x ≡ Less → ⊥
-  not_above x r h e = by (text_cmp x p.0) (nat_list_cmp_total.antisymm x p.0 ∙ ap ordering_reverse e) h
-    where
-      by : (o : Ordering) → o ≡ Greater → ordering_then o r ≡ Less → ⊥
-      by Less e h = cc e
-      by Equal e h = cc e
-      by Greater e h = cc h
+abbrev NotAbove : List ℕ → List ℕ → Type 0
+NotAbove stem x = text_cmp stem x ≡ Less → ⊥
 
-  stems_below : (ds : List Pair) → AllByRecursion (λ q. pair_cmp q p ≡ Less) ds → All (λ x. text_cmp p.0 x ≡ Less → ⊥) (in_order (map (λ r. r.0) ds))
-  stems_below [] a = All-nil (λ x. text_cmp p.0 x ≡ Less → ⊥)
-  stems_below (d ∷ ds) a = All-insert_key text_cmp d.0 (λ x. text_cmp p.0 x ≡ Less → ⊥) (in_order (map (λ r. r.0) ds)) (stems_below ds a.1) (not_above d.0 (text_cmp d.1 p.1) a.0)
+-- a pair whose stem is not below those of the pairs before it
+put_more : (done : List Pair) (p : Pair) → All (NotAbove p.0) (in_order (map (λ r. r.0) done)) → put_last (classes_sorted done) p ≡ classes_sorted (done ++ p ∷ [])
+put_more done p below =
+    put_behind p.0 p.1 (λ s. members_of s done) (λ s. members_of s (done ++ p ∷ []))
+    (λ s other. members_more s done p ∙ ap (λ (b : Bool). members_of s done ++ cond b (p.1 ∷ []) []) other ∙ append-nil (members_of s done))
+    (members_more p.0 done p ∙ ap (λ (b : Bool). members_of p.0 done ++ cond b (p.1 ∷ []) []) (bytes_eq-self p.0))
+    (in_order (map (λ r. r.0) done)) (in_order-sorted (map (λ r. r.0) done))
+    (recursion_from_All (NotAbove p.0) (in_order (map (λ r. r.0) done)) below)
+    (λ m. no_members p.0 done (sym (any-in_order (λ x. is_eq (text_cmp p.0 x)) (map (λ r. r.0) done)) ∙ m))
+    ∙ ap (map (class_sorted (done ++ p ∷ []))) (sym (one_order (map (λ r. r.0) (done ++ p ∷ [])) (p.0 ∷ map (λ r. r.0) done) (λ q. stems_more q done p)))
 
-  put_more : put_last (classes_sorted done) p ≡ classes_sorted (done ++ p ∷ [])
-  put_more =
-      put_behind p.0 p.1 (λ s. members_of s done) (λ s. members_of s (done ++ p ∷ []))
-      (λ s other. members_more s done p ∙ ap (λ (b : Bool). members_of s done ++ cond b (p.1 ∷ []) []) other ∙ append-nil (members_of s done))
-      (members_more p.0 done p ∙ ap (λ (b : Bool). members_of p.0 done ++ cond b (p.1 ∷ []) []) (bytes_eq-self p.0))
-      (in_order (map (λ r. r.0) done)) (in_order-sorted (map (λ r. r.0) done))
-      (recursion_from_All (λ x. text_cmp p.0 x ≡ Less → ⊥) (in_order (map (λ r. r.0) done)) (stems_below done below))
-      (λ m. no_members p.0 done (sym (any-in_order (λ x. is_eq (text_cmp p.0 x)) (map (λ r. r.0) done)) ∙ m))
-      ∙ ap (map (class_sorted (done ++ p ∷ []))) (sym (one_order (map (λ r. r.0) (done ++ p ∷ [])) (p.0 ∷ map (λ r. r.0) done) (λ q. stems_more q done p)))
+stems_below : (stem : List ℕ) (ds : List Pair) → AllByRecursion (λ d. NotAbove stem d.0) ds → All (NotAbove stem) (in_order (map (λ r. r.0) ds))
+stems_below stem [] a = All-nil (NotAbove stem)
+stems_below stem (d ∷ ds) a = All-insert_key text_cmp d.0 (NotAbove stem) (in_order (map (λ r. r.0) ds)) (stems_below stem ds a.1) a.0
 
-front_below : (done : List Pair) (p : Pair) (ps : List Pair) → IsStrictlySortedBy pair_cmp (done ++ p ∷ ps) → AllByRecursion (λ q. pair_cmp q p ≡ Less) done
-unfolding IsStrictlySortedBy
+front_below : (done : List Pair) (p : Pair) (ps : List Pair) → DoNotFall (done ++ p ∷ ps) → AllByRecursion (λ d. NotAbove p.0 d.0) done
 front_below [] p ps s = tt
 front_below (d ∷ done) p ps s = (at done s.0, front_below done p ps s.1)
   where
-    at : (xs : List Pair) → AllByRecursion (λ y. pair_cmp d y ≡ Less) (xs ++ p ∷ ps) → pair_cmp d p ≡ Less
+    at : (xs : List Pair) → AllByRecursion (λ q. NotAbove q.0 d.0) (xs ++ p ∷ ps) → NotAbove p.0 d.0
     at [] a = a.0
     at (x ∷ xs) a = at xs a.1
 
-grouped_on : (done ps : List Pair) → IsStrictlySortedBy pair_cmp (done ++ ps) → grouped (classes_sorted done) ps ≡ classes_sorted (done ++ ps)
+grouped_on : (done ps : List Pair) → DoNotFall (done ++ ps) → grouped (classes_sorted done) ps ≡ classes_sorted (done ++ ps)
 grouped_on done [] s = ap classes_sorted (sym (append-nil done))
 grouped_on done (p ∷ ps) s =
-    ap (λ (cs : List Class). grouped cs ps) (put_more done p (front_below done p ps s))
-    ∙ grouped_on (done ++ p ∷ []) ps (subst (IsStrictlySortedBy pair_cmp) (sym (append_assoc done (p ∷ []) ps)) s)
+    ap (λ (cs : List Class). grouped cs ps) (put_more done p (stems_below p.0 done (front_below done p ps s)))
+    ∙ grouped_on (done ++ p ∷ []) ps (subst DoNotFall (sym (append_assoc done (p ∷ []) ps)) s)
     ∙ ap classes_sorted (append_assoc done (p ∷ []) ps)
+
+-- pairs whose stems do not fall, put one after another, make the classes
+pub grouped_turn : (pairs : List Pair) → DoNotFall pairs → grouped [] pairs ≡ classes_sorted pairs
+grouped_turn pairs s = grouped_on [] pairs s
+
+-- stems of pairs that rise do not fall
+not_above : (p q : Pair) → pair_cmp p q ≡ Less → NotAbove q.0 p.0
+not_above p q h e = by (text_cmp p.0 q.0) (nat_list_cmp_total.antisymm p.0 q.0 ∙ ap ordering_reverse e) h
+  where
+    by : (o : Ordering) → o ≡ Greater → ordering_then o (text_cmp p.1 q.1) ≡ Less → ⊥
+    by Less e h = cc e
+    by Equal e h = cc e
+    by Greater e h = cc h
+
+do_not_fall : (ps : List Pair) → IsStrictlySortedBy pair_cmp ps → DoNotFall ps
+unfolding IsStrictlySortedBy
+do_not_fall [] s = tt
+do_not_fall (p ∷ ps) s = (at ps s.0, do_not_fall ps s.1)
+  where
+    at : (xs : List Pair) → AllByRecursion (λ q. pair_cmp p q ≡ Less) xs → AllByRecursion (λ q. NotAbove q.0 p.0) xs
+    at [] a = tt
+    at (x ∷ xs) a = (not_above p x a.0, at xs a.1)
 
 -- the pairs in order, put one after another, make the classes
 pub grouped_all : (pairs : List Pair) → grouped [] (sorted pairs) ≡ classes_of pairs
 grouped_all pairs =
-    grouped_on [] (sorted pairs) (sorted-sorted pairs)
+    grouped_turn (sorted pairs) (do_not_fall (sorted pairs) (sorted-sorted pairs))
     ∙ ap (map (class_sorted (sorted pairs))) (stems-sorted pairs)
     ∙ each (in_order (map (λ p. p.0) pairs))
   where

@@ -8,3 +8,10 @@ pub mod ChangeFacts
 pub mod FigureFacts
 pub mod ClassLaws
 pub mod ChangeLaws
+pub mod ExchangeLaws
+pub mod RankFacts
+pub mod PairFacts
+pub mod FamilyFacts
+pub mod HeadFacts
+pub mod FamilyLaws
+pub mod LargestLaws

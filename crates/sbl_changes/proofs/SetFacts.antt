@@ -1,12 +1,12 @@
 -- The map of outcomes and the sets of moves and of stems, one insertion after another.
-use Rattle.std.proofs.Common.{◌≡◌, ◌∙◌, ◌||◌, ◌&&◌, ◌++◌, length, arith, ℕ, Bool, true, false, cond, List, [], ◌∷◌, map, Option, Some, None, refl, sym, ap}
+use Rattle.std.proofs.Common.{◌≡◌, ◌∙◌, ◌||◌, ◌&&◌, ◌++◌, ◌+◌, add-zero, length, arith, ℕ, Bool, true, false, cond, if◌then◌else◌, List, [], ◌∷◌, map, Option, Some, None, refl, sym, ap}
 use Rattle.std.specs.declared.cmp.Ordering.{Ordering}
 use Rattle.std.specs.declared.cmp.Ordering.TheVariants.{Less, Equal, Greater}
 use Rattle.std.specs.Ordering.{is_eq, match_ordering, nat_cmp, ordering_then}
 use Rattle.std.specs.Cmp.Lexicographic.{slice_cmp}
 use Rattle.std.specs.Str.{bytes_eq}
 use Rattle.std.specs.List.{find}
-use Rattle.std.specs.Option.{option_map, option_or}
+use Rattle.std.specs.Option.{option_map, option_or, unwrap_or}
 use Rattle.std.specs.BTreeMap as tree
 use Rattle.std.specs.BTreeMap.{BTreeMap}
 use Rattle.std.specs.BTreeSet as sorted_set
@@ -17,8 +17,10 @@ use Rattle.sbl_changes.specs.declared.rows.WordOutcome.{WordOutcome}
 use Rattle.sbl_changes.specs.declared.rows.WordRow.{WordRow}
 use Rattle.sbl_changes.specs.Changes.{is_one}
 use Rattle.sbl_changes.specs.Rows.{texts_of}
-use Rattle.sbl_changes.specs.Rows.{Outcome, Row, outcome_in, view_outcome, view_row, view_rows}
+use Rattle.sbl_changes.specs.Rows.{Row, outcome_in, view_outcome, view_row, view_rows}
 use Rattle.sbl_changes.specs.Grouping.{Key, pair_cmp, plain}
+use Rattle.std.proofs.lemmas.Slice.Eq.{bytes_eq-Decides}
+use Rattle.sbl_changes.specs.Counting.{count_in, without}
 use Rattle.sbl_changes.specs.Known.{Text, has_text, known}
 use Rattle.sbl_changes.proofs.OrderFacts.{bytes_eq-back}
 
@@ -86,3 +88,25 @@ one_text (t ∷ u ∷ texts) e = absurd (omega (arith, e))
 pub and_one : (b one : Bool) → one ≡ true → b ≡ (b && one)
 and_one true one e = sym e
 and_one false one e = refl
+
+-- ---- words taken out, stems counted
+
+pub word_removed : (m n : BTreeMap Text WordOutcome) (word q : List ℕ) → tree.UpdatesBy text_order (λ (k : Text). slice_cmp nat_cmp word k.now) m n None → known n q ≡ without word (known m) q
+word_removed m n word q put = ap (option_map view_outcome) (put.0 (text q)) ∙ by (is_eq (slice_cmp nat_cmp word q)) (bytes_eq q word) (is_eq-slice_cmp word q ∙ bytes_eq-back word q)
+  where
+    by : (a b : Bool) → a ≡ b → option_map view_outcome (cond a None (tree.get text_order m (text q))) ≡ (if b then None else known m q)
+    by true true e = refl
+    by true false e = cc e
+    by false true e = cc e
+    by false false e = refl
+
+pub stem_counted : (m n : BTreeMap Text ℕ) (stem : Text) (v : ℕ) (q : List ℕ) → v ≡ count_in m stem.now + 1 → tree.Updates text_order m n stem (Some v) → count_in n q ≡ count_in m q + cond (bytes_eq stem.now q) 1 0
+stem_counted m n stem v q one put =
+    ap (λ (o : Option ℕ). unwrap_or o 0) (put.0 (text q))
+    ∙ by (is_eq (slice_cmp nat_cmp stem.now q)) (bytes_eq stem.now q) (is_eq-slice_cmp stem.now q) (bytes_eq-Decides stem.now q).0
+  where
+    by : (a b : Bool) → a ≡ b → (b ≡ true → stem.now ≡ q) → unwrap_or (cond a (Some v) (tree.get text_order m (text q))) 0 ≡ count_in m q + cond b 1 0
+    by true true e same = one ∙ ap (λ (w : List ℕ). count_in m w + 1) (same refl)
+    by true false e same = cc e
+    by false true e same = cc e
+    by false false e same = sym (add-zero (count_in m q))

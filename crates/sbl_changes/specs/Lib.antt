@@ -4,7 +4,13 @@ pub mod Classes
 pub mod Moves
 pub mod Changes
 pub mod Stats
+pub mod Largest
+pub mod Families
 pub mod ChangesAreSound
+pub mod FamiliesAreSound
+pub mod LargestAreSound
 -- what the functions inside the crate promise each other: nothing in these need be believed
 pub mod Known
 pub mod Grouping
+pub mod Ranking
+pub mod Counting

@@ -111,7 +111,7 @@ fn one_member<'a>(
 
 /// Appends the member to the last class, if that class has this stem, and otherwise appends a new class with it. Returns
 /// `AllocError` if an allocation fails.
-fn put_last<'a>(
+pub(crate) fn put_last<'a>(
     alloc: Global,
     classes: &mut Vec<StemClass<'a>>,
     stem: &'a [char],

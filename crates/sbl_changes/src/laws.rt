@@ -1,11 +1,15 @@
 //! Laws of changes and classes.
 
-ghost use Rattle.sbl_changes.specs.ChangesAreSound.{ClassesAreOfPairs, ClassesRise, EqualListsHaveNoChanges, NoClassIsSplitAndRenamed};
+ghost use Rattle.sbl_changes.specs.LargestAreSound.{LargestAreFirst};
+ghost use Rattle.sbl_changes.specs.FamiliesAreSound.{NoneApartIfNoUnder, NoneJoinedIfNoOver, PairsAddUp, WordsHaveTheirStems};
+ghost use Rattle.sbl_changes.specs.ChangesAreSound.{ClassesAreOfPairs, ClassesRise, EqualListsHaveNoChanges, ExchangedListsTurnChanges, NoClassIsSplitAndRenamed};
 
-/// Two equal lists have no changes, if each word has one row. No class is both split and renamed.
+/// Two equal lists have no changes, if each word has one row. No class is both split and renamed. If the lists are exchanged, added and
+/// removed words change places, each changed word is told the other way, and so do split and merged classes.
 pub fn changes_are_sound()
     ensures none { EqualListsHaveNoChanges }
     ensures either { NoClassIsSplitAndRenamed }
+    ensures exchange { ExchangedListsTurnChanges }
 {}
 
 /// The stems of classes are in strictly ascending code point order, a prefix first, and so are the members of each class. Each
@@ -13,4 +17,20 @@ pub fn changes_are_sound()
 pub fn classes_are_sound()
     ensures rise { ClassesRise }
     ensures of_pairs { ClassesAreOfPairs }
+{}
+
+/// No two words of one family have different stems exactly if no family is told to have several. No two words of two families share a
+/// stem exactly if no stem is told to be one of several families. The pairs within families and across them are all pairs of the words
+/// that count; the pairs within share a stem or are apart. Each word that counts has the stem of its row.
+pub fn families_are_sound()
+    ensures apart { NoneApartIfNoUnder }
+    ensures joined { NoneJoinedIfNoOver }
+    ensures sum { PairsAddUp }
+    ensures stems { WordsHaveTheirStems }
+{}
+
+/// The largest classes and some others are all classes of the rows, each once, and each class is before all that come after it: it has
+/// more words, or as many and an earlier stem. There are `n` largest classes, or all classes if these are fewer.
+pub fn largest_are_sound()
+    ensures { LargestAreFirst }
 {}

@@ -1,6 +1,6 @@
 //! Rows, and changes as text.
 
-use sbl_changes::{ChangeRow, WordOutcome, WordRow};
+use sbl_changes::{ChangeRow, FamilyRow, StemClass, WordOutcome, WordRow};
 use std::alloc::{AllocError, Global};
 
 /// A word with its stem.
@@ -19,13 +19,18 @@ pub(crate) fn refused<'a>(word: &'a [char], name: &'a str) -> WordRow<'a> {
     }
 }
 
-/// Appends a comma and the characters.
-fn put_word(text: &mut String, word: &[char]) -> Result<(), AllocError> {
-    text.push(',')?;
+/// Appends the characters.
+fn put_chars(text: &mut String, word: &[char]) -> Result<(), AllocError> {
     for c in word {
         text.push(*c)?;
     }
     Ok(())
+}
+
+/// Appends a comma and the characters.
+fn put_word(text: &mut String, word: &[char]) -> Result<(), AllocError> {
+    text.push(',')?;
+    put_chars(text, word)
 }
 
 /// Appends each text after a comma.
@@ -94,6 +99,55 @@ pub(crate) fn shown(alloc: Global, changes: &[ChangeRow<'_>]) -> Result<String, 
     let mut text = String::new(alloc);
     for change in changes {
         put_change(&mut text, change)?;
+        text.push(';')?;
+    }
+    Ok(text)
+}
+
+/// The classes as rows, each with a semicolon.
+pub(crate) fn shown_classes(
+    alloc: Global,
+    classes: &[StemClass<'_>],
+) -> Result<String, AllocError> {
+    let mut text = String::new(alloc);
+    for class in classes {
+        put_chars(&mut text, class.stem)?;
+        put_words(&mut text, &class.members)?;
+        text.push(';')?;
+    }
+    Ok(text)
+}
+
+/// Appends a row about families.
+fn put_family_row(alloc: Global, text: &mut String, row: &FamilyRow<'_>) -> Result<(), AllocError> {
+    match row {
+        FamilyRow::Under { word, stems } => {
+            text.push_str("under")?;
+            put_word(text, word)?;
+            put_words(text, stems)
+        }
+        FamilyRow::Over { stem, words } => {
+            text.push_str("over")?;
+            put_word(text, stem)?;
+            put_words(text, words)
+        }
+        FamilyRow::Pairs {
+            within,
+            apart,
+            across,
+            joined,
+        } => {
+            let row = format!(in alloc; "pairs,{within},{apart},{across},{joined}")?;
+            text.push_str(row.as_str())
+        }
+    }
+}
+
+/// The rows about families, each with a semicolon.
+pub(crate) fn shown_families(alloc: Global, rows: &[FamilyRow<'_>]) -> Result<String, AllocError> {
+    let mut text = String::new(alloc);
+    for row in rows {
+        put_family_row(alloc, &mut text, row)?;
         text.push(';')?;
     }
     Ok(text)
