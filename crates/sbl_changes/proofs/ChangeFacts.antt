@@ -1,5 +1,5 @@
 -- Lists appended one after another.
-use Rattle.std.proofs.Common.{◌≡◌, ◌∙◌, ◌++◌, List, [], append_assoc, ap, refl}
+use Rattle.std.proofs.Common.{◌≡◌, ◌∙◌, ◌++◌, List, [], append_assoc, ap}
 
 pub six : {C : Type 0} (a0 a1 a2 a3 a4 a5 a6 x1 x2 x3 x4 x5 x6 : List C)
     → a0 ≡ [] → a1 ≡ a0 ++ x1 → a2 ≡ a1 ++ x2 → a3 ≡ a2 ++ x3 → a4 ≡ a3 ++ x4 → a5 ≡ a4 ++ x5 → a6 ≡ a5 ++ x6

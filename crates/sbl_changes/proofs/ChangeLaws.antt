@@ -3,14 +3,12 @@ use Rattle.std.proofs.Common.{◌≡◌, ◌∙◌, ◌⊎◌, ◌++◌, Bool, t
 use Rattle.std.specs.List.{AllByRecursion, IsDistinct, cons_option, filter, filter_map, find}
 use Rattle.std.specs.Option.{option_map}
 use Rattle.std.specs.Ordering.{match_ordering}
-use Rattle.std.specs.declared.cmp.Ordering.{Ordering}
-use Rattle.std.specs.declared.cmp.Ordering.TheVariants.{Equal}
 use Rattle.std.specs.Str.{bytes_eq}
 use Rattle.std.specs.BTreeSet.{insert_key}
 use Rattle.std.proofs.lemmas.Cmp.{nat_list_cmp_total}
 use Rattle.std.proofs.lemmas.Map.Lookups.{exact_bytes}
 use Rattle.std.proofs.lemmas.Slice.Eq.{bytes_eq-Decides}
-use Rattle.sbl_changes.specs.Changes.{Change, Changed, added, changed, changes_of, merged, removed, renamed, split}
+use Rattle.sbl_changes.specs.Changes.{Change, Changed, added, changed, merged, removed, renamed, split}
 use Rattle.sbl_changes.specs.Classes.{Class, Pair, class_with, classes_of, in_order, members_of}
 use Rattle.sbl_changes.specs.ChangesAreSound.{EqualListsHaveNoChanges, HasOneRowEach, NoClassIsSplitAndRenamed}
 use Rattle.sbl_changes.specs.Moves.{move_of, moves_of, turned}
@@ -31,10 +29,10 @@ each P Q f (x ∷ xs) a = (f x a.0, each P Q f xs a.1)
 
 -- ---- each word is found in its own row
 
-abbrev Known : (List ℕ → Option Outcome) → Row → Type 0
+abbrev pub Known : (List ℕ → Option Outcome) → Row → Type 0
 Known f r = f r.word ≡ Some r.outcome
 
-found : (rows : List Row) → HasOneRowEach rows → AllByRecursion (Known (outcome_in rows)) rows
+pub found : (rows : List Row) → HasOneRowEach rows → AllByRecursion (Known (outcome_in rows)) rows
 unfolding IsDistinct
 found [] one = tt
 found (r ∷ rows) one = ((λ i. option_map (λ (q : Row). q.outcome) (cond (bytes_eq-self r.word i) (Some r) (find (λ q. bytes_eq r.word q.word) rows))), later rows one.0 (found rows one.1))

@@ -8,13 +8,13 @@ use Rattle.std.proofs.lemmas.Map.Views.{All-insert_key}
 use Rattle.std.proofs.lemmas.Slice.Eq.{bytes_eq-Decides}
 use Rattle.sbl_changes.specs.Classes.{Pair, class_with, in_order, members_of}
 use Rattle.sbl_changes.specs.ChangesAreSound.{ClassesAreOfPairs, ClassesRise, Rise}
-use Rattle.sbl_changes.proofs.OrderFacts.{any-in_order, any-members, any-stems, bytes_eq-back, in_order-sorted, text_cmp}
+use Rattle.sbl_changes.proofs.OrderFacts.{any-in_order, any-members, any-stems, in_order-sorted, text_cmp}
 
-any-map : {A B : Type 0} (f : A → B) (test : B → Bool) (xs : List A) → list_any test (map f xs) ≡ list_any (λ x. test (f x)) xs
+pub any-map : {A B : Type 0} (f : A → B) (test : B → Bool) (xs : List A) → list_any test (map f xs) ≡ list_any (λ x. test (f x)) xs
 any-map f test [] = refl
 any-map f test (x ∷ xs) = ap (λ (b : Bool). test (f x) || b) (any-map f test xs)
 
-any-same : {A : Type 0} (s t : A → Bool) → ((x : A) → s x ≡ t x) → (xs : List A) → list_any s xs ≡ list_any t xs
+pub any-same : {A : Type 0} (s t : A → Bool) → ((x : A) → s x ≡ t x) → (xs : List A) → list_any s xs ≡ list_any t xs
 any-same s t same [] = refl
 any-same s t same (x ∷ xs) = λ i. same x i || any-same s t same xs i
 

@@ -1,15 +1,12 @@
 -- The words of families that count, whichever way the words before are kept.
 use Rattle.std.proofs.Common.{◌≡◌, ◌∙◌, ◌||◌, ◌++◌, Bool, true, false, ℕ, List, [], ◌∷◌, Option, None, if◌then◌else◌, option_to_list, append_assoc, Some, length, slice_get, arith, ◌<◌, ◌≤◌, refl, sym, ap}
-use Rattle.std.specs.List.{list_any}
 use Rattle.std.specs.Str.{bytes_eq}
-use Rattle.std.proofs.lemmas.Slice.Eq.{bytes_eq-Decides}
 use Rattle.sbl_changes.specs.declared.classes.StemPair.{StemPair}
 use Rattle.sbl_changes.specs.Classes.{Pair}
 use Rattle.sbl_changes.specs.Grouping.{view_pairs}
 use Rattle.sbl_changes.specs.Families.{FamilyResult, Under, counted, families_of, family_of, is_in, stems_of, under, under_with, with_stem}
 use Rattle.sbl_changes.specs.Counting.{Outcomes, all_taken, left, taken, without}
-use Rattle.sbl_changes.specs.Rows.{Outcome, Row, outcome_in}
-use Rattle.sbl_changes.proofs.OrderFacts.{bytes_eq-back}
+use Rattle.sbl_changes.specs.Rows.{Row, outcome_in}
 
 -- the outcomes of the rows without those of the words before
 abbrev pub AreLeft : List Row → List (List ℕ) → Outcomes → Type 0

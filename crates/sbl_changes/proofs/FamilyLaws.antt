@@ -1,17 +1,17 @@
 -- No row is told exactly if no pair is counted; pairs add up; words have their stems.
-use Rattle.std.proofs.Common.{◌≡◌, ◌∙◌, ◌↔◌, ◌⊎◌, inl, inr, ◌||◌, ◌++◌, ◌+◌, ◌*◌, Bool, true, false, not, cond, ℕ, List, [], ◌∷◌, map, length, Option, Some, None, if◌then◌else◌, option_to_list, arith, refl, sym, ap, subst}
-use Rattle.std.specs.List.{All, AllByRecursion, cons_option, count_by, filter, filter_map, find, list_any}
+use Rattle.std.proofs.Common.{◌≡◌, ◌∙◌, inl, inr, ◌||◌, ◌++◌, ◌+◌, ◌*◌, Bool, true, false, not, cond, ℕ, List, [], ◌∷◌, map, length, Option, Some, None, if◌then◌else◌, option_to_list, arith, refl, sym, ap, subst}
+use Rattle.std.specs.List.{All, AllByRecursion, cons_option, count_by, filter, filter_map, find}
 use Rattle.std.specs.Option.{option_map}
 use Rattle.std.specs.declared.cmp.Ordering.{Ordering}
 use Rattle.std.specs.declared.cmp.Ordering.TheVariants.{Less, Equal, Greater}
 use Rattle.std.specs.Ordering.{is_eq}
 use Rattle.std.specs.Str.{bytes_eq}
-use Rattle.std.proofs.lemmas.List.Elements.{All-nil, All-cons, All-append, recursion_from_All}
+use Rattle.std.proofs.lemmas.List.Elements.{All-nil, All-cons, All-append}
 use Rattle.std.proofs.lemmas.List.Sums.{sum_by-cons}
 use Rattle.std.proofs.lemmas.Map.Lookups.{exact_bytes}
 use Rattle.std.proofs.lemmas.Map.Text.{is_eq-slice_cmp}
 use Rattle.std.proofs.lemmas.Slice.Eq.{bytes_eq-Decides}
-use Rattle.sbl_changes.specs.Classes.{Pair, in_order, members_of}
+use Rattle.sbl_changes.specs.Classes.{Pair, members_of}
 use Rattle.sbl_changes.specs.Families.{FamilyResult, all_of, any_two, counted, families_of, family_of, first_with, is_in, other_stem, over, over_rows, pairs_across, pairs_between, pairs_in, pairs_within, same_stem, stems_of, under, under_with, with_stem}
 use Rattle.sbl_changes.specs.FamiliesAreSound.{NoneApartIfNoUnder, NoneJoinedIfNoOver, PairsAddUp, WordsHaveTheirStems}
 use Rattle.sbl_changes.specs.Rows.{Outcome, Refused, Row, Stem, outcome_in}

@@ -1,6 +1,6 @@
 -- The first words of families with each stem, and pairs in the order of their stems.
-use Rattle.std.proofs.Common.{◌≡◌, ◌∙◌, ◌||◌, ◌&&◌, ◌++◌, ◌<◌, ◌+◌, ◌≤◌, Bool, true, false, not, cond, ℕ, suc, List, [], ◌∷◌, map, length, get_or, Option, Some, None, if◌then◌else◌, option_to_list, append-nil, append_assoc, arith, refl, sym, ap, subst}
-use Rattle.std.specs.List.{All, AllByRecursion, cons_option, filter, filter_map, find, flat_map, list_any}
+use Rattle.std.proofs.Common.{◌≡◌, ◌∙◌, ◌||◌, ◌&&◌, ◌++◌, ◌<◌, ◌≤◌, Bool, true, false, not, cond, ℕ, suc, List, [], ◌∷◌, map, length, get_or, Some, if◌then◌else◌, option_to_list, append_assoc, arith, refl, sym, ap}
+use Rattle.std.specs.List.{AllByRecursion, cons_option, filter, filter_map, find, list_any}
 use Rattle.std.specs.Option.{option_map}
 use Rattle.std.specs.declared.cmp.Ordering.{Ordering}
 use Rattle.std.specs.declared.cmp.Ordering.TheVariants.{Less, Equal, Greater}
@@ -11,8 +11,8 @@ use Rattle.std.proofs.lemmas.List.Sorted.{ranks_by, sorted_far}
 use Rattle.std.specs.Str.{bytes_eq}
 use Rattle.std.proofs.lemmas.Map.Text.{is_eq-slice_cmp}
 use Rattle.std.proofs.lemmas.Slice.Eq.{bytes_eq-Decides}
-use Rattle.sbl_changes.specs.Classes.{Class, Pair, in_order, members_of}
-use Rattle.sbl_changes.specs.Families.{FamilyResult, all_of, first_with, over, over_rows}
+use Rattle.sbl_changes.specs.Classes.{Pair, in_order, members_of}
+use Rattle.sbl_changes.specs.Families.{all_of, first_with, over, over_rows}
 use Rattle.sbl_changes.specs.Counting.{DoNotFall, firsts, heads}
 use Rattle.sbl_changes.specs.declared.classes.StemPair.{StemPair}
 use Rattle.sbl_changes.specs.Grouping.{class_sorted, classes_sorted, view_pair, view_pairs}

@@ -1,9 +1,8 @@
 -- The classes by size are the classes, and each is before all that come after it.
-use Rattle.std.proofs.Common.{◌≡◌, ◌∙◌, ◌⊎◌, ◌<◌, ◌+◌, ◌≤◌, ◌++◌, inl, inr, ℕ, List, [], ◌∷◌, map, length, take, drop, min, arith, refl, sym, ap, subst, length-append}
+use Rattle.std.proofs.Common.{◌≡◌, ◌∙◌, ◌<◌, ◌++◌, inl, inr, List, [], ◌∷◌, map, length, take, drop, min, refl, sym, ap, subst}
 use Rattle.std.specs.List.{All, AllByRecursion}
 use Rattle.std.specs.List.Sorted.{IsPermutation, IsStrictlySortedBy}
 use Rattle.std.specs.Cmp.{IsTotalOrder}
-use Rattle.std.specs.Cmp.Lexicographic.{slice_cmp}
 use Rattle.std.specs.declared.cmp.Ordering.{Ordering}
 use Rattle.std.specs.declared.cmp.Ordering.TheVariants.{Less, Equal, Greater}
 use Rattle.std.specs.Ordering.{MatchOrdering, match_ordering, nat_cmp, ordering_reverse, ordering_then}
@@ -12,11 +11,9 @@ use Rattle.std.proofs.lemmas.Cmp.{back_total, nat_cmp_total, nat_list_cmp_total,
 use Rattle.std.proofs.lemmas.List.{length-take, take-append-drop}
 use Rattle.std.proofs.lemmas.List.Elements.{All-nil, All-cons, All-head, All-tail, All-weaker}
 use Rattle.std.proofs.lemmas.List.Sorted.{All-permutation, IsPermutation-cons, IsPermutation-middle, IsPermutation-refl, IsPermutation-trans, length_permutation}
-use Rattle.std.proofs.lemmas.Map.Lookups.{exact_bytes}
 use Rattle.sbl_changes.specs.Classes.{Class}
-use Rattle.sbl_changes.specs.Largest.{by_size, largest_of, size_cmp}
+use Rattle.sbl_changes.specs.Largest.{by_size, size_cmp}
 use Rattle.sbl_changes.specs.LargestAreSound.{AreRanked, IsBefore, LargestAreFirst}
-use Rattle.sbl_changes.specs.Rows.{Row}
 use Rattle.sbl_changes.specs.Stats.{pair_of, word_classes}
 use Rattle.std.specs.List.{filter_map}
 use Rattle.sbl_changes.proofs.ClassLaws.{classes_rise}

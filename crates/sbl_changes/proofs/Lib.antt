@@ -8,6 +8,7 @@ pub mod ChangeFacts
 pub mod FigureFacts
 pub mod ClassLaws
 pub mod ChangeLaws
+pub mod ExchangeLaws
 pub mod RankFacts
 pub mod PairFacts
 pub mod FamilyFacts

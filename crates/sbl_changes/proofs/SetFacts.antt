@@ -17,7 +17,7 @@ use Rattle.sbl_changes.specs.declared.rows.WordOutcome.{WordOutcome}
 use Rattle.sbl_changes.specs.declared.rows.WordRow.{WordRow}
 use Rattle.sbl_changes.specs.Changes.{is_one}
 use Rattle.sbl_changes.specs.Rows.{texts_of}
-use Rattle.sbl_changes.specs.Rows.{Outcome, Row, outcome_in, view_outcome, view_row, view_rows}
+use Rattle.sbl_changes.specs.Rows.{Row, outcome_in, view_outcome, view_row, view_rows}
 use Rattle.sbl_changes.specs.Grouping.{Key, pair_cmp, plain}
 use Rattle.std.proofs.lemmas.Slice.Eq.{bytes_eq-Decides}
 use Rattle.sbl_changes.specs.Counting.{count_in, without}

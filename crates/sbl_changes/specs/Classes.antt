@@ -5,6 +5,8 @@ use Rattle.std.specs.Ordering.{nat_cmp}
 use Rattle.std.specs.Cmp.Lexicographic.{slice_cmp}
 use Rattle.std.specs.Str.{bytes_eq}
 use Rattle.std.specs.BTreeSet.{insert_key}
+use Rattle.sbl_changes.specs.declared.classes.StemClass as declared
+use Rattle.sbl_changes.specs.Rows.{texts_of}
 
 -- a stem and a member of its class
 abbrev pub Pair : Type 0
@@ -29,3 +31,10 @@ class_with pairs stem = record { stem = stem; members = in_order (members_of ste
 -- the classes of the pairs, stems and members in code point order
 abbrev pub classes_of : List Pair → List Class
 classes_of pairs = map (class_with pairs) (in_order (map (λ p. p.0) pairs))
+
+-- the class that the code's value represents
+abbrev pub view_class : declared.StemClass → Class
+view_class c = record { stem = c.stem.now; members = texts_of c.members.items }
+
+abbrev pub view_classes : List declared.StemClass → List Class
+view_classes classes = map view_class classes

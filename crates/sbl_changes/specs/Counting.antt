@@ -1,6 +1,5 @@
 -- How families are gone through: words are taken out of the outcomes, and stems are counted.
 use Rattle.std.specs.Prelude.{◌≡◌, ℕ, ⊤, Bool, false, ◌||◌, List, [], ◌∷◌, ◌++◌, map, Option, None, option_to_list, if◌then◌else◌}
-use Rattle.std.specs.Borrow.{Bor}
 use Rattle.std.specs.List.{AllByRecursion, flat_map}
 use Rattle.std.specs.Option.{unwrap_or}
 use Rattle.std.specs.declared.cmp.Ordering.TheVariants.{Less}
@@ -11,14 +10,11 @@ use Rattle.std.specs.BTreeMap.{BTreeMap, get_by}
 use Rattle.std.specs.declared.vec.Vec.{Vec}
 use Rattle.std.specs.declared.alloc.Global.{Global}
 use Rattle.sbl_changes.specs.declared.classes.StemPair.{StemPair}
-use Rattle.sbl_changes.specs.Rows.{Outcome, texts_of}
+use Rattle.sbl_changes.specs.Rows.{Outcome}
 use Rattle.sbl_changes.specs.Classes.{Pair}
 use Rattle.sbl_changes.specs.Families.{with_stem}
 use Rattle.sbl_changes.specs.Grouping.{view_pairs}
 use Rattle.sbl_changes.specs.Known.{Text}
-
-abbrev pub view_words : List (Vec Text Global) → List (List (List ℕ))
-view_words lists = map (λ l. texts_of l.items) lists
 
 abbrev pub view_families : List (Vec StemPair Global) → List (List Pair)
 view_families families = map (λ f. view_pairs f.items) families

@@ -3,6 +3,9 @@ use Rattle.std.specs.Prelude.{ℕ, ◌+◌, Bool, true, not, List, [], ◌∷◌
 use Rattle.std.specs.List.{count_by, filter_map, find, flat_map, list_any, sum_by}
 use Rattle.std.specs.Option.{option_map}
 use Rattle.std.specs.Str.{bytes_eq}
+use Rattle.std.specs.Borrow.{Bor}
+use Rattle.std.specs.declared.vec.Vec.{Vec}
+use Rattle.std.specs.declared.alloc.Global.{Global}
 use Rattle.sbl_changes.specs.declared.family_report.FamilyRow.{FamilyRow}
 use Rattle.sbl_changes.specs.declared.family_report.FamilyRow.TheVariants as code
 use Rattle.sbl_changes.specs.Classes.{Pair, in_order}
@@ -113,6 +116,10 @@ results_of families = filter_map under families ++ over_rows families ++ pairs_r
 -- what these lists of words are over these rows
 abbrev pub family_results : List Row → List (List (List ℕ)) → List FamilyResult
 family_results rows lists = results_of (families_of rows [] lists)
+
+-- the lists of words that the code's values represent
+abbrev pub view_words : List (Vec (Bor (List ℕ)) Global) → List (List (List ℕ))
+view_words lists = map (λ l. texts_of l.items) lists
 
 -- the result that the code's value represents
 abbrev pub view_result : FamilyRow → FamilyResult

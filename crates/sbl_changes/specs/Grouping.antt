@@ -5,11 +5,10 @@ use Rattle.std.specs.Ordering.{nat_cmp, ordering_then}
 use Rattle.std.specs.Cmp.Lexicographic.{slice_cmp}
 use Rattle.std.specs.Str.{bytes_eq}
 use Rattle.std.specs.BTreeSet.{insert_key}
-use Rattle.sbl_changes.specs.declared.classes.StemClass as declared
 use Rattle.sbl_changes.specs.declared.classes.StemPair as declared-pair
-use Rattle.sbl_changes.specs.Rows.{texts_of}
 use Rattle.sbl_changes.specs.Classes.{Class, Pair, in_order, members_of}
 use Rattle.sbl_changes.specs.Known.{Text}
+pub use Rattle.sbl_changes.specs.Classes.{view_class, view_classes}
 
 -- by the stem, then by the member, both in code point order; a prefix comes first
 abbrev pub pair_cmp : Pair → Pair → Ordering
@@ -46,12 +45,6 @@ put_last classes p = if is_last p.0 classes then put_in_last classes p.1 else cl
 abbrev pub grouped : List Class → List Pair → List Class
 grouped classes [] = classes
 grouped classes (p ∷ pairs) = grouped (put_last classes p) pairs
-
-abbrev pub view_class : declared.StemClass → Class
-view_class c = record { stem = c.stem.now; members = texts_of c.members.items }
-
-abbrev pub view_classes : List declared.StemClass → List Class
-view_classes classes = map view_class classes
 
 abbrev pub view_pair : declared-pair.StemPair → Pair
 view_pair p = (p.stem.now, p.member.now)

@@ -2,9 +2,9 @@
 
 ghost use Rattle.std.specs.Prelude.{◌≡◌, OnOk, IfOk};
 ghost use Rattle.std.specs.Option.{option_map};
-ghost use Rattle.sbl_changes.specs.Families.{with_stem};
+ghost use Rattle.sbl_changes.specs.Families.{view_words, with_stem};
 ghost use Rattle.sbl_changes.specs.Counting as spec;
-ghost use Rattle.sbl_changes.specs.Counting.{view_families, view_words, without};
+ghost use Rattle.sbl_changes.specs.Counting.{view_families, without};
 ghost use Rattle.sbl_changes.specs.Grouping.{view_pair, view_pairs};
 ghost use Rattle.sbl_changes.specs.Known.{known};
 ghost use Rattle.sbl_changes.specs.Rows.{texts_of};

@@ -3,8 +3,7 @@
 ghost use Rattle.std.specs.Prelude.{◌≡◌, ◌++◌, OnOk, IfOk, map};
 ghost use Rattle.std.specs.Option.{option_map, option_to_list};
 ghost use Rattle.sbl_changes.specs.Families as spec;
-ghost use Rattle.sbl_changes.specs.Families.{family_results, view_result, view_results};
-ghost use Rattle.sbl_changes.specs.Counting.{view_words};
+ghost use Rattle.sbl_changes.specs.Families.{family_results, view_result, view_results, view_words};
 ghost use Rattle.sbl_changes.specs.Rows.{view_rows};
 
 use crate::counted_words::families_of;

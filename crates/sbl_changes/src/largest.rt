@@ -1,7 +1,7 @@
 //! The largest classes.
 
 ghost use Rattle.std.specs.Prelude.{◌≡◌, IfOk, map};
-ghost use Rattle.sbl_changes.specs.Grouping.{view_classes};
+ghost use Rattle.sbl_changes.specs.Classes.{view_classes};
 ghost use Rattle.sbl_changes.specs.Largest as spec;
 ghost use Rattle.sbl_changes.specs.Ranking as ranked;
 ghost use Rattle.sbl_changes.specs.Rows.{view_rows};

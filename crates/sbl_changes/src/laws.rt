@@ -2,12 +2,14 @@
 
 ghost use Rattle.sbl_changes.specs.LargestAreSound.{LargestAreFirst};
 ghost use Rattle.sbl_changes.specs.FamiliesAreSound.{NoneApartIfNoUnder, NoneJoinedIfNoOver, PairsAddUp, WordsHaveTheirStems};
-ghost use Rattle.sbl_changes.specs.ChangesAreSound.{ClassesAreOfPairs, ClassesRise, EqualListsHaveNoChanges, NoClassIsSplitAndRenamed};
+ghost use Rattle.sbl_changes.specs.ChangesAreSound.{ClassesAreOfPairs, ClassesRise, EqualListsHaveNoChanges, ExchangedListsTurnChanges, NoClassIsSplitAndRenamed};
 
-/// Two equal lists have no changes, if each word has one row. No class is both split and renamed.
+/// Two equal lists have no changes, if each word has one row. No class is both split and renamed. If the lists are exchanged, added and
+/// removed words change places, each changed word is told the other way, and so do split and merged classes.
 pub fn changes_are_sound()
     ensures none { EqualListsHaveNoChanges }
     ensures either { NoClassIsSplitAndRenamed }
+    ensures exchange { ExchangedListsTurnChanges }
 {}
 
 /// The stems of classes are in strictly ascending code point order, a prefix first, and so are the members of each class. Each

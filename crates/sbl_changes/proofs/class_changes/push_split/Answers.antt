@@ -1,8 +1,8 @@
-use Rattle.std.proofs.Common.{◌∙◌, ◌++◌, ap, refl}
+use Rattle.std.proofs.Common.{◌∙◌, ◌++◌, ap}
 use Rattle.std.specs.Option.{option_to_list}
 use Rattle.sbl_changes.specs.Changes as spec
 use Rattle.sbl_changes.specs.Changes.{view_changes}
-use Rattle.sbl_changes.specs.Grouping.{view_class, view_classes}
+use Rattle.sbl_changes.specs.Grouping.{view_class}
 use Rattle.sbl_changes.proofs.Loops.{step}
 use Rattle.sbl_changes.proofs.class_changes.push_split.Goals as goal
 

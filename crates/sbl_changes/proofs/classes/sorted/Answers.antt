@@ -2,7 +2,7 @@ use Rattle.std.proofs.Common.{◌∙◌, ◌+◌, List, map, drop, get_or, ap, r
 use Rattle.std.proofs.Math.ListN.{drop_of_length-le}
 use Rattle.sbl_changes.specs.declared.classes.StemPair.{StemPair}
 use Rattle.sbl_changes.specs.Classes.{Pair}
-use Rattle.sbl_changes.specs.Grouping.{Key, plain, view_pair, view_pairs}
+use Rattle.sbl_changes.specs.Grouping.{plain, view_pair, view_pairs}
 use Rattle.sbl_changes.proofs.Loops.{next}
 use Rattle.sbl_changes.proofs.OrderFacts.{put_in, put_in-all}
 use Rattle.sbl_changes.proofs.SetFacts.{no_pair, plain-insert}

@@ -1,6 +1,7 @@
 use Rattle.std.proofs.Common.{◌≡◌, ◌++◌, drop}
 use Rattle.sbl_changes.specs.Counting as spec
-use Rattle.sbl_changes.specs.Counting.{view_families, view_words}
+use Rattle.sbl_changes.specs.Counting.{view_families}
+use Rattle.sbl_changes.specs.Families.{view_words}
 use Rattle.sbl_changes.specs.Known.{known}
 use Rattle.sbl_changes.proofs.counted_words.families_of.Given as goal
 

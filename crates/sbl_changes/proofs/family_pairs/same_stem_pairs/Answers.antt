@@ -4,7 +4,6 @@ use Rattle.std.specs.Str.{bytes_eq}
 use Rattle.std.proofs.lemmas.List.Sums.{sum_by_push}
 use Rattle.sbl_changes.specs.declared.classes.StemPair.{StemPair}
 use Rattle.sbl_changes.specs.Classes.{Pair}
-use Rattle.sbl_changes.specs.Counting.{count_in}
 use Rattle.sbl_changes.specs.Families.{any_two, pairs_in, same_stem}
 use Rattle.sbl_changes.specs.Grouping.{view_pair, view_pairs}
 use Rattle.sbl_changes.proofs.Loops.{so_far, so_far-length}

@@ -1,4 +1,4 @@
-use Rattle.std.proofs.Common.{◌≡◌, ◌≤◌, take}
+use Rattle.std.proofs.Common.{◌≡◌, take}
 use Rattle.sbl_changes.specs.Counting.{view_families}
 use Rattle.sbl_changes.specs.Families.{all_of, any_two, pairs_within, same_stem}
 use Rattle.sbl_changes.specs.Grouping.{view_pairs}

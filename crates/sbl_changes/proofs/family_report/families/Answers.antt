@@ -1,10 +1,9 @@
 use Rattle.std.proofs.Common.{◌≡◌, ◌∙◌, ◌++◌, ◌∷◌, [], List, ap}
 use Rattle.std.specs.List.{filter_map}
 use Rattle.std.proofs.lemmas.List.{map-append}
-use Rattle.sbl_changes.specs.Classes.{Pair}
-use Rattle.sbl_changes.specs.Counting.{all_taken, view_families, view_words}
+use Rattle.sbl_changes.specs.Counting.{all_taken, view_families}
 use Rattle.sbl_changes.specs.Families as spec
-use Rattle.sbl_changes.specs.Families.{FamilyResult, families_of, over_rows, view_result, view_results}
+use Rattle.sbl_changes.specs.Families.{FamilyResult, families_of, over_rows, view_result, view_results, view_words}
 use Rattle.sbl_changes.specs.Rows.{Row, view_rows}
 use Rattle.sbl_changes.proofs.ChangeFacts.{three}
 use Rattle.sbl_changes.proofs.FamilyFacts.{all-taken}

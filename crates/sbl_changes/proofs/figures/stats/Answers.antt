@@ -1,4 +1,4 @@
-use Rattle.std.proofs.Common.{◌≡◌, ◌∙◌, List, ℕ, length, ap, sym}
+use Rattle.std.proofs.Common.{◌≡◌, ◌∙◌, List, length, ap, sym}
 use Rattle.std.specs.List.{count_by}
 use Rattle.std.proofs.lemmas.List.{length-map}
 use Rattle.sbl_changes.specs.declared.classes.StemClass.{StemClass}

@@ -1,6 +1,5 @@
-use Rattle.std.proofs.Common.{◌∙◌, List, ℕ, map, take, ap, sym}
+use Rattle.std.proofs.Common.{◌∙◌, take, ap, sym}
 use Rattle.std.specs.List.{take-map}
-use Rattle.sbl_changes.specs.Classes.{Class}
 use Rattle.sbl_changes.specs.Grouping.{view_class, view_classes}
 use Rattle.sbl_changes.specs.Largest.{by_size}
 use Rattle.sbl_changes.proofs.largest.largest_classes.Goals as goal

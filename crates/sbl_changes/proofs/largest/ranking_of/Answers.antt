@@ -1,10 +1,10 @@
-use Rattle.std.proofs.Common.{◌≡◌, ◌∙◌, ◌++◌, ◌∷◌, [], List, map, length, vec_len, ap, sym, subst}
+use Rattle.std.proofs.Common.{◌≡◌, ◌∙◌, ◌∷◌, [], List, map, length, ap, sym, subst}
 use Rattle.std.proofs.lemmas.List.{map-append, nil_from_length}
 use Rattle.sbl_changes.specs.declared.classes.StemClass.{StemClass}
 use Rattle.sbl_changes.specs.Classes.{Class}
 use Rattle.sbl_changes.specs.Grouping.{view_class, view_classes}
 use Rattle.sbl_changes.specs.Ranking.{Entry, view_entry}
-use Rattle.sbl_changes.proofs.RankFacts.{Sized, onto, onto-last, onto-none, rank_cmp, sized-insert, view-insert}
+use Rattle.sbl_changes.proofs.RankFacts.{Sized, onto, onto-last, onto-none, sized-insert, view-insert}
 use Rattle.sbl_changes.proofs.largest.ranking_of.Goals as goal
 
 pub loop-class-init : goal.loop-class-init
