@@ -141,11 +141,7 @@ pub enum Target {
 
 /// Returns what a line with this block word replaces; `None` if the line is bad: it is not UTF-8, or the argument of `among` is
 /// not a name, a space and a number. Returns `AllocError` if an allocation fails. Does not allocate for a bad line.
-pub fn target_of(
-    alloc: Global,
-    word: BlockWord,
-    line: &[u8],
-) -> Result<Option<Target>, AllocError>
+pub fn target_of(alloc: Global, word: BlockWord, line: &[u8]) -> Result<Option<Target>, AllocError>
     requires { requests.block_word line.now ≡ Some (view_word word) }
     ensures { FindsTarget result line.now }
 {
