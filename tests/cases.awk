@@ -1,6 +1,6 @@
 # Cuts files of cases (tests/README.md has their form) into the files of a run: ROOM/N.title, .words (one a line), .in, .out,
-# .err and .status for the Nth case, counted from the first number, .launcher if the launcher is tried, and .proved if the
-# case is not for a program that was compiled without proofs.
+# .err and .status for the Nth case, counted from the first number, .launcher if the launcher is tried, .proved if the case is not
+# for a program that was compiled without proofs, and .sbl and .voc if it has files.
 #   LC_ALL=C awk -v room=ROOM -v first=0 -f tests/cases.awk FILE..
 BEGIN { number = first - 1 }
 /^== / { finish(); begin(substr($0, 4)); next }
@@ -9,6 +9,7 @@ BEGIN { number = first - 1 }
 /^proved program only$/ { printf "" >(base ".proved"); close(base ".proved"); next }
 /^status: [0-9]+$/ { status = substr($0, 9); next }
 /^(input|output|errors)$/ { part = $0; next }
+/^(script|vocabulary)$/ { part = $0; printf "" >file[part]; next }
 /^\|/ { write(substr($0, 2) "\n"); next }
 /^\\\|/ { write(meant(substr($0, 3))); next }
 /^[0-9]+\*\|/ { write(again(substr($0, index($0, "|") + 1) "\n", $0 + 0)); next }
@@ -22,10 +23,13 @@ function begin(title) {
   status = 0
   part = ""
   base = room "/" sprintf("%05d", number)
+  delete file
   file["input"] = base ".in"
   file["output"] = base ".out"
   file["errors"] = base ".err"
   for (each in file) printf "" >file[each]
+  file["script"] = base ".sbl"
+  file["vocabulary"] = base ".voc"
   name = FILENAME
   sub(/^.*\//, "", name)
   print (name == "pages" ? "" : name ": ") title >(base ".title")

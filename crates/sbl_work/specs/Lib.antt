@@ -3,4 +3,5 @@ pub mod History
 pub mod Desks
 pub mod Editing
 pub mod Reports
+pub mod Families
 pub mod Definitions

@@ -3,6 +3,7 @@
 
 mod definitions;
 mod desk;
+mod families;
 mod files;
 mod history;
 mod marks;

@@ -6,13 +6,14 @@ ghost use Rattle.sbl_sessions.specs.Requests.{block_word};
 
 use crate::definitions::without_head;
 use crate::desk::Desk;
-use crate::replies::edit_reply;
+use crate::families::families_text;
+use crate::replies::{NOT_TEXT, edit_reply};
 use crate::requests::REPLACE;
 use sbl_bench::{Bench, EditFault};
 use sbl_lines::{Lines, ServeFault, Source};
 use sbl_script::ScriptFault;
 use sbl_sessions::{
-    BAD_COMMAND, BlockFault, BlockText, BlockWord, Reply, Target, read_block, target_of,
+    BAD_COMMAND, BlockFault, BlockText, BlockWord, Reply, Target, read_block, report, target_of,
 };
 use std::alloc::{AllocError, Global};
 
@@ -93,4 +94,27 @@ pub(crate) fn answer_replace<R: Source + Drop>(
         return Ok(Reply::Fixed(BAD_COMMAND));
     }
     Ok(edit_reply(replace_by(desk, bench, block)))
+}
+
+/// Returns the reply to `families`, for the bytes of the families.
+pub(crate) fn families_reply(alloc: Global, bench: &Bench, bytes: &[u8]) -> Reply {
+    match str::from_utf8(bytes) {
+        Ok(text) => report(families_text(alloc, bench, text)),
+        Err(_) => Reply::Fixed(NOT_TEXT),
+    }
+}
+
+/// Reads the block of `families`, and returns the reply.
+pub(crate) fn answer_families<R: Source + Drop>(
+    bench: &Bench,
+    lines: &mut Lines<R>,
+) -> Result<Reply, ServeFault>
+    ensures fuel { OnOk result (fuel_of lines.new ≤ fuel_of lines.old) }
+    ensures in_time { KeepsTime R.ended R.late R.interruptions R.reads lines.old lines.new }
+{
+    let block = read_block(lines)?;
+    Ok(match text_of(block) {
+        Ok(bytes) => families_reply(lines.alloc(), bench, &bytes),
+        Err(fault) => edit_reply(Err(fault)),
+    })
 }

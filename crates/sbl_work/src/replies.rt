@@ -17,6 +17,9 @@ pub(crate) const BAD_NUMBER: &str = "no 56 BadNumber\n";
 /// The reply if a file cannot be read or written.
 pub(crate) const NO_FILE: &str = "no 57 NoFile\n";
 
+/// The reply if the bytes of families are not UTF-8.
+pub(crate) const NOT_TEXT: &str = "no 75 NotText\n";
+
 /// Returns the reply to an edit.
 pub(crate) fn edit_reply(answer: Result<(), EditFault>) -> Reply {
     Reply::Fixed(edit_text(answer))

@@ -34,7 +34,10 @@ fn named_outcome(outcome: &Outcome) -> WordOutcome<'_>
 }
 
 /// Returns the rows of a bench with the names of refusals. Returns `AllocError` if an allocation fails.
-fn named_rows<'a>(alloc: Global, rows: &[Row<'a>]) -> Result<Vec<WordRow<'a>>, AllocError>
+pub(crate) fn named_rows<'a>(
+    alloc: Global,
+    rows: &[Row<'a>],
+) -> Result<Vec<WordRow<'a>>, AllocError>
     ensures { IfOk result (λ named. view_rows named.items ≡ spec.named_rows (map view_row rows.now)) }
 {
     let mut named = Vec::with_capacity(alloc, rows.len())?;
@@ -62,7 +65,7 @@ fn named_marks(alloc: Global, rows: &[MarkedRow]) -> Result<Vec<WordRow<'_>>, Al
 }
 
 /// Appends characters to a record, as one field. Returns `AllocError` if an allocation fails.
-fn push_text(
+pub(crate) fn push_text(
     text: &mut String,
     csv_record: &mut ByteRecord,
     characters: &[char],
@@ -76,7 +79,7 @@ fn push_text(
 }
 
 /// Appends stems to a record, each as one field. Returns `AllocError` if an allocation fails.
-fn push_stems(
+pub(crate) fn push_stems(
     text: &mut String,
     csv_record: &mut ByteRecord,
     stems: &[&[char]],
@@ -161,7 +164,11 @@ fn fill_change(
 }
 
 /// Appends the line of a record. Returns `AllocError` if an allocation fails.
-fn push_line(alloc: Global, out: &mut Vec<u8>, csv_record: &ByteRecord) -> Result<(), AllocError>
+pub(crate) fn push_line(
+    alloc: Global,
+    out: &mut Vec<u8>,
+    csv_record: &ByteRecord,
+) -> Result<(), AllocError>
     ensures { OnOk result (out.new.items ≡ out.old.items ++ record_line (fields_of csv_record.now)) }
 {
     let line = record_line(alloc, csv_record)?;

@@ -19,6 +19,8 @@ pub(crate) enum Request<'a> {
     Stats,
     /// Reports the largest classes.
     Largest(&'a str),
+    /// Reports on the families of a file.
+    Families(&'a str),
     /// Reports a definition.
     Show(&'a str),
     /// Writes the script to a file.
@@ -48,6 +50,11 @@ fn split(line: &[u8]) -> (&[u8], &[u8]) {
 
 /// The line that replaces the whole script by the block after it.
 pub(crate) const REPLACE: &[u8] = b"replace";
+
+/// Whether a line is `families` alone: then a block of families follows it.
+pub(crate) fn asks_families(line: &[u8]) -> bool {
+    line == b"families".as_slice()
+}
 
 /// Whether the command word of a line is `replace`: then a block follows the line, whatever else the line contains.
 pub(crate) fn asks_replace(line: &[u8]) -> bool {
@@ -88,6 +95,7 @@ fn text_request(line: &str) -> Request<'_> {
     };
     match word {
         "largest" => Request::Largest(argument),
+        "families" => Request::Families(argument),
         "show" => Request::Show(argument),
         "save" => Request::Save(argument),
         _ => Request::Session,

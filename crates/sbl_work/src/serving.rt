@@ -7,10 +7,10 @@ ghost use Rattle.sbl_lines.specs.Held.{KeepsTime, fuel_of};
 use crate::definitions::definition_text;
 use crate::desk::Desk;
 use crate::files::{OpenFault, Paths, open, save};
-use crate::parts::{answer_part, answer_replace};
+use crate::parts::{answer_families, answer_part, answer_replace, families_reply};
 use crate::replies::{BAD_NUMBER, NO_FILE, edit_reply, memory_reply, redo_reply, undo_reply};
 use crate::reports::{changes_text, largest_text, stats_text};
-use crate::requests::{Request, asks_replace, count_in, is_quit, request_of};
+use crate::requests::{Request, asks_families, asks_replace, count_in, is_quit, request_of};
 use sbl_bench::{Bench, EditFault};
 use sbl_lines::{Lines, ServeFault, Sink, Source, write_all};
 use sbl_sessions::{LoadFault, Reply, block_word, report, write_reply};
@@ -68,6 +68,14 @@ fn largest(alloc: Global, bench: &Bench, argument: &str) -> Reply {
     }
 }
 
+/// Returns the reply to `families` for a file.
+fn families<F: Files + AllocGlobal>(folder: &Folder<'_, F>, bench: &Bench, path: &str) -> Reply {
+    match fs::read(folder.files, path) {
+        Ok(bytes) => families_reply(folder.files.alloc(), bench, &bytes),
+        Err(_) => Reply::Fixed(NO_FILE),
+    }
+}
+
 /// Returns the reply to `show`.
 fn show(alloc: Global, bench: &Bench, name: &str) -> Reply {
     match definition_text(alloc, bench.script(), name) {
@@ -101,6 +109,7 @@ fn answer_alone<F: Files + AllocGlobal>(
         Request::Changes => report(changes_text(alloc, desk, bench)),
         Request::Stats => report(stats_text(alloc, bench)),
         Request::Largest(argument) => largest(alloc, bench, argument),
+        Request::Families(path) => families(folder, bench, path),
         Request::Show(name) => show(alloc, bench, name),
         Request::Save(path) => save_as(folder, desk, bench, path),
         Request::Echo(text) => report(echo_text(alloc, text)),
@@ -125,6 +134,9 @@ fn answer<F: Files + AllocGlobal, R: Source + Drop>(
     }
     if asks_replace(lines.line()) {
         return answer_replace(desk, bench, lines);
+    }
+    if asks_families(lines.line()) {
+        return answer_families(bench, lines);
     }
     Ok(answer_alone(folder, desk, bench, lines.alloc(), lines.line()))
 }

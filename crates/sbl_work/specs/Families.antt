@@ -1,0 +1,19 @@
+-- The report of families.
+use Rattle.std.specs.Prelude.{ℕ, List, [], ◌∷◌, ◌++◌, codes, decimal, map}
+use Rattle.sbl_bench.specs.Contents.{Contents}
+use Rattle.sbl_changes.specs.Families.{FamilyResult, Under, Over, Pairs, family_results}
+use Rattle.sbl_records.specs.Records.{records_text}
+use Rattle.sbl_work.specs.Desks.{rows_now}
+use Rattle.sbl_work.specs.Reports.{named_rows, stem_fields}
+
+abbrev pub number_field : ℕ → List (List ℕ)
+number_field n = decimal n ∷ []
+
+abbrev pub result_fields : FamilyResult → List (List ℕ)
+result_fields (Under word stems) = codes "under" ∷ stem_fields word stems
+result_fields (Over stem words) = codes "over" ∷ stem_fields stem words
+result_fields (Pairs within apart across joined) = codes "pairs" ∷ decimal within ∷ decimal apart ∷ decimal across ∷ decimal joined ∷ []
+
+-- a row for each result
+abbrev pub families_text : Contents → List (List (List ℕ)) → List ℕ
+families_text s lists = records_text (map result_fields (family_results (named_rows (rows_now s)) lists))
