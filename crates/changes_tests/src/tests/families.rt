@@ -6,10 +6,10 @@ use std::alloc::{AllocError, Global};
 use std::test::Fail;
 
 /// The rows about these families.
-fn rows_of(
+fn rows_of<'x>(
     alloc: Global,
-    rows: &[WordRow<'_>],
-    lists: &[&[&[char]]],
+    rows: &[WordRow<'x>],
+    lists: &[&[&'x [char]]],
 ) -> Result<String, AllocError> {
     let mut words = Vec::new(alloc);
     for list in lists {
