@@ -1,0 +1,4 @@
+pub mod Agree
+pub mod Walks
+pub mod OneToken
+pub mod Counts
