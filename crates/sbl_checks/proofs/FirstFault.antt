@@ -16,7 +16,7 @@ none_second : {X : Type 0} (a b : Option X) → option_or a b ≡ None → b ≡
 none_second (Some x) b e = absurd cc
 none_second None b e = e
 
-nothing : (b c : List Occurrence) (x : Occurrence) → [] ≡ b ++ x ∷ c → ⊥
+pub nothing : (b c : List Occurrence) (x : Occurrence) → [] ≡ b ++ x ∷ c → ⊥
 nothing [] c x e = cc
 nothing (y ∷ b) c x e = cc
 
@@ -44,7 +44,7 @@ pub record FirstFrom (all done rest : List Occurrence) (f : ScriptFault) : Type 
   pub none_before : (b c : List Occurrence) (x : Occurrence) → before ≡ b ++ x ∷ c → fault_at all (done ++ b) x (c ++ occurrence ∷ after) ≡ None
 
 -- it is the fault of the first occurrence
-pub here : (all done after : List Occurrence) (m : Occurrence) (f : ScriptFault) → fault_at all done m after ≡ Some f → FirstFrom all done (m ∷ after) f
+abbrev pub here : (all done after : List Occurrence) (m : Occurrence) (f : ScriptFault) → fault_at all done m after ≡ Some f → FirstFrom all done (m ∷ after) f
 here all done after m f is = record {
   before = [];
   occurrence = m;
@@ -55,7 +55,7 @@ here all done after m f is = record {
 }
 
 -- or the first of those after it
-pub there : (all done after : List Occurrence) (m : Occurrence) (f : ScriptFault) → fault_at all done m after ≡ None → FirstFrom all (done ++ m ∷ []) after f → FirstFrom all done (m ∷ after) f
+abbrev pub there : (all done after : List Occurrence) (m : Occurrence) (f : ScriptFault) → fault_at all done m after ≡ None → FirstFrom all (done ++ m ∷ []) after f → FirstFrom all done (m ∷ after) f
 there all done after m f none r = record {
   before = m ∷ r.before;
   occurrence = r.occurrence;
@@ -104,7 +104,7 @@ well_declared_passes items external e =
     let all = occurrences_of items in
     (each all (none_first (fault_behind all [] all) (fault_of_external items external all) e), external_is items external all (none_second (fault_behind all [] all) (fault_of_external items external all) e))
 
-pub found : (all : List Occurrence) (f : ScriptFault) → FirstFrom all [] all f → IsFirst all f
+abbrev pub found : (all : List Occurrence) (f : ScriptFault) → FirstFrom all [] all f → IsFirst all f
 found all f r = record { before = r.before; occurrence = r.occurrence; after = r.after; parts = r.parts; fault = r.fault; none_before = r.none_before }
 
 found_or_external : (items : List Item) (external : List ℕ) (all : List Occurrence) (f : ScriptFault) (o : Option ScriptFault) → fault_behind all [] all ≡ o → option_or o (fault_of_external items external all) ≡ Some f →

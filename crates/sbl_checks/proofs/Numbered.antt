@@ -1,5 +1,5 @@
 -- The first fault, with the number of tokens before it.
-use Rattle.std.proofs.Common.{◌≡◌, ℕ, ◌+◌, ◌<◌, ◌≤◌, Bool, true, false, List, [], ◌∷◌, ◌++◌, Option, Some, None, length, take, drop, suc, is_some, option_map, MatchOption, refl, sym, ap, ◌∙◌, arith, append_assoc, append-nil}
+use Rattle.std.proofs.Common.{◌≡◌, ℕ, ◌+◌, ◌<◌, ◌≤◌, Bool, true, false, List, [], ◌∷◌, ◌++◌, Option, Some, None, length, take, drop, zero, suc, option_map, MatchOption, Result, Ok, Err, IfOk, refl, sym, ap, ◌∙◌, arith, append_assoc, append-nil}
 use Rattle.std.specs.Option.{option_or}
 use Rattle.sbl_text.specs.declared.fault.ScriptFault.{ScriptFault}
 use Rattle.sbl_checks.specs.declared.occurrences.Occurrence as noted
@@ -9,17 +9,12 @@ use Rattle.sbl_checks.specs.Occurrences as occurs
 use Rattle.sbl_checks.specs.Checks.{fault_at, fault_behind}
 use Rattle.sbl_checks.specs.Laws.{EachPasses, IsFirst}
 use Rattle.sbl_checks.specs.Subjects.{Subject, name, string, substring, among, backwards, subject_of, subjects_of, and_more, IsFirstAfter}
-use Rattle.sbl_checks.specs.Numbered.{first_from}
+use Rattle.sbl_checks.specs.Numbered.{first_from, one_more}
 use Rattle.sbl_checks.specs.OccurrenceView.{view_occurrence, view_occurrences}
 use Rattle.sbl_checks.proofs.Turns.{note_in, taken, left}
 use Rattle.sbl_checks.proofs.FirstFault.{FirstFrom, here, there, each, found}
 
 -- ---- numbers
-
--- one more token, or none
-abbrev pub one_more : Option Subject → ℕ → ℕ
-one_more None n = n
-one_more (Some x) n = n + 1
 
 length-push : (ms : List Occurrence) (m : Occurrence) → length (subjects_of (ms ++ m ∷ [])) ≡ one_more (subject_of m.notice) (length (subjects_of ms))
 length-push [] m = go (subject_of m.notice) where
@@ -30,7 +25,7 @@ length-push (x ∷ ms) m = go (subject_of x.notice) (subject_of m.notice) (lengt
   go : (o p : Option Subject) → length (subjects_of (ms ++ m ∷ [])) ≡ one_more p (length (subjects_of ms)) → length (and_more o (subjects_of (ms ++ m ∷ []))) ≡ one_more p (length (and_more o (subjects_of ms)))
   go None p e = e
   go (Some y) None e = ap suc e
-  go (Some y) (Some z) e = ap suc e
+  go (Some y) (Some z) e = omega arith
 
 -- the number after one more occurrence
 pub counted : (ms : List noted.Occurrence) (i : ℕ) → i < length ms
@@ -46,7 +41,7 @@ few_all [] = omega arith
 few_all (m ∷ ms) = let rest = few_all ms in let one = few_in (subject_of (view_occurrence m).notice) (subjects_of (view_occurrences ms)) in omega arith
 
 short : (i : ℕ) (ms : List noted.Occurrence) → length (take i ms) ≤ i
-short 0 ms = omega arith
+short zero ms = omega arith
 short (suc i) [] = omega arith
 short (suc i) (m ∷ ms) = let rest = short i ms in omega arith
 
@@ -136,3 +131,15 @@ none_of all e = each all (same_fault all [] all ∙ ap (option_map (λ (x : ℕ 
 pub first_is : (all : List Occurrence) (o : Option (ℕ × ScriptFault)) → o ≡ first_from all [] all → MatchOption o (EachPasses all) (λ x. IsFirstAfter all x.0 x.1)
 first_is all None e = none_of all (sym e)
 first_is all (Some x) e = first_after all x.0 x.1 (after_ all [] all x.0 x.1 (sym e))
+
+-- the same, of a result
+pub first_in : {E : Type 0} (r : Result (Option (ℕ × ScriptFault)) E) (a b : List Occurrence) → a ≡ b → IfOk r (λ o. o ≡ first_from a [] a) → IfOk r (λ o. MatchOption o (EachPasses b) (λ x. IsFirstAfter b x.0 x.1))
+first_in (Ok o) a b e h = first_is b o (rw e at h)
+first_in (Err x) a b e h = tt
+
+-- the fault alone
+pub has_none : (all : List Occurrence) (o : Option (ℕ × ScriptFault)) → o ≡ first_from all [] all → o ≡ None → fault_behind all [] all ≡ None
+has_none all o e is = same_fault all [] all ∙ ap (option_map (λ (x : ℕ × ScriptFault). x.1)) (sym e ∙ is)
+
+pub has_first : (all : List Occurrence) (o : Option (ℕ × ScriptFault)) (x : ℕ × ScriptFault) → o ≡ first_from all [] all → o ≡ Some x → fault_behind all [] all ≡ Some x.1
+has_first all o x e is = same_fault all [] all ∙ ap (option_map (λ (x : ℕ × ScriptFault). x.1)) (sym e ∙ is)

@@ -6,7 +6,7 @@ ghost use Rattle.sbl_checks.specs.Occurrences.{Occurrence as PlainOccurrence, oc
 ghost use Rattle.sbl_checks.specs.OccurrenceView.{view_notice, view_occurrence, view_occurrences};
 ghost use Rattle.sbl_checks.specs.Laws.{EachPasses};
 ghost use Rattle.sbl_checks.specs.Subjects.{subject_of, IsFirstAfter};
-ghost use Rattle.sbl_checks.specs.Numbered.{first_from};
+ghost use Rattle.sbl_checks.specs.Numbered.{first_from, one_more};
 ghost use Rattle.sbl_checks.specs.Met.{at_name, has_string, HasPlaces, HasMet, Notes, Finds};
 ghost use Rattle.std.specs.Option.{option_or};
 ghost use Rattle.sbl_tree.specs.View.{view_items};
@@ -355,11 +355,16 @@ fn behind<'a, 'b>(occurrences: &'b [Occurrence<'a>], index: usize) -> &'b [Occur
     &occurrences[index + 1..]
 }
 
-/// Returns whether the checks look at a token here: everywhere but at the end of a region.
-fn has_token(notice: Notice<'_>) -> bool
-    ensures { result ≡ is_some (subject_of (view_notice notice.entry)) }
+/// Returns the number of tokens that the checks have looked at after this one, given the number before it. There is no
+/// token at the end of a region.
+fn number_after(notice: Notice<'_>, number: usize) -> usize
+    requires { number < 18446744073709551615 }
+    ensures { result ≡ one_more (subject_of (view_notice notice.entry)) number }
 {
-    !matches!(notice, Notice::RegionEnd)
+    match notice {
+        Notice::RegionEnd => number,
+        _ => number + 1,
+    }
 }
 
 /// Returns the first fault of these occurrences, with the number of tokens that the checks look at before it. Returns
@@ -381,9 +386,7 @@ fn fault_among<'a>(
             return Ok(Some((number, fault)));
         }
         note(occurrence, met)?;
-        if has_token(occurrence.notice) {
-            number += 1;
-        }
+        number = number_after(occurrence.notice, number);
     }
     Ok(None)
 }

@@ -1,4 +1,2 @@
 pub mod Agree
 pub mod Walks
-pub mod OneToken
-pub mod Counts

@@ -1,5 +1,5 @@
 -- What the walk over the tokens returns.
-use Rattle.std.specs.Prelude.{ℕ, Bool, List, [], ◌∷◌, reverse, Option, Some, None}
+use Rattle.std.specs.Prelude.{ℕ, zero, suc, Bool, List, [], ◌∷◌, reverse, Option, Some, None}
 use Rattle.sbl_places.specs.Noted.{Noted}
 use Rattle.sbl_places.specs.declared.noted.Brackets.{Brackets}
 
@@ -10,5 +10,5 @@ open_in b = reverse b.open.items
 -- where the token with this number begins; the first has number 0
 abbrev pub start_at : ℕ → List Noted → Option ℕ
 start_at k [] = None
-start_at 0 (m ∷ ms) = Some m.token.start
+start_at zero (m ∷ ms) = Some m.token.start
 start_at (suc k) (m ∷ ms) = start_at k ms
