@@ -1,13 +1,13 @@
 //! The place of a fault of the checks.
 
-ghost use Rattle.std.specs.Prelude.{◌≡◌, ℕ, List, map, IfOk, MatchOption};
+ghost use Rattle.std.specs.Prelude.{◌≡◌, ℕ, IfOk, Some, None};
 ghost use Rattle.sbl_text.specs.declared.fault.ScriptFault.{ScriptFault as AnyFault};
-ghost use Rattle.sbl_text.specs.Tokens.{Placed, placed_of};
+ghost use Rattle.sbl_text.specs.Tokens.{Placed};
 ghost use Rattle.sbl_places.specs.Faults.{IsTokenOf};
 
 use crate::noted::start_of_noted;
 use sbl_checks::first_fault;
-use sbl_grammar::{one_tree, parse};
+use sbl_grammar::parse;
 use sbl_text::{ScriptFault, Token, tokens};
 use sbl_tree::Item;
 use std::alloc::{AllocError, Global};
@@ -38,6 +38,8 @@ fn tree_of(
 /// external. Returns `None` if the text is no script or no check fails at a token, and `AllocError` if an allocation
 /// fails.
 pub fn place_of_fault(alloc: Global, text: &str) -> Result<Option<usize>, AllocError>
+    ensures place { IfOk result (λ o. (p : ℕ) → o ≡ Some p → (f : AnyFault) × (t : Placed) × IsTokenOf text.now f t × (p ≡ t.start)) }
+    ensures none { IfOk result (λ o. o ≡ None → (f : AnyFault) (t : Placed) → IsTokenOf text.now f t → ⊥) }
 {
     let Some(tokens) = tokens_of(alloc, text)? else {
         return Ok(None);
