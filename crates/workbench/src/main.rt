@@ -51,15 +51,22 @@ fn start_work<R: Source + Drop, W: Sink, E: Sink>(
     writer: &mut W,
     errors: &mut E,
 ) -> u8 {
-    let Some(script) = wanted.script else {
+    let Wanted {
+        verb: _,
+        external,
+        script,
+        words,
+        face,
+    } = wanted;
+    let Some(script) = script else {
         return REFUSED;
     };
     let paths = Paths {
         script,
-        words: wanted.words,
-        external: wanted.external,
+        words,
+        external,
     };
     let is_terminal = rt.stdin().is_terminal() && rt.stdout().is_terminal();
-    let prompts = is_terminal && wanted.face != Some(Face::Rows);
+    let prompts = is_terminal && face != Some(Face::Rows);
     work(rt, &paths, prompts, lines, writer, errors)
 }
