@@ -65,26 +65,42 @@ fn a_limit_changes_what_is_refused(rt: HostRuntime) -> Result<(), Fail> {
     Ok(())
 }
 
+/// Replaces the among of `tail`, with which it takes nothing off, and then refuses a word.
+fn replaces_an_among(rt: &impl Abort, alloc: Global, bench: &mut Bench) -> Result<(), Fail> {
+    let taken = "cats cat;cats cats;boxes box;boxes boxes;cakes cak;cakes cakes;";
+    let replaced = bench.replace_among("tail", 1, "among ( 's' () )");
+    assert_eq!(rt; replaced, Ok(()));
+    assert_eq!(rt; changes_shown(alloc, bench)?.as_str(), taken);
+    assert_eq!(rt; bench.add(&['d', 'o', 'g']), Err(EditFault::Present));
+    assert_eq!(rt; changes_shown(alloc, bench)?.as_str(), taken);
+    Ok(())
+}
+
+/// Adds a word, replaces a routine, and removes the word.
+fn adds_and_removes(rt: &impl Abort, alloc: Global, bench: &mut Bench) -> Result<(), Fail> {
+    assert_eq!(rt; bench.add(&['s']), Ok(()));
+    assert_eq!(rt; changes_shown(alloc, bench)?.as_str(), "");
+    assert_eq!(rt; bench.replace_routine("last", "true"), Ok(()));
+    let changes = changes_shown(alloc, bench)?;
+    assert_eq!(rt; changes.as_str(), "cake cak;cake cake;");
+    assert_eq!(rt; bench.remove(&['s']), Ok(()));
+    assert_eq!(rt; changes_shown(alloc, bench)?.as_str(), "");
+    Ok(())
+}
+
+/// Does both in turn.
+fn edits_in_turn(rt: &impl Abort, alloc: Global, bench: &mut Bench) -> Result<(), Fail> {
+    replaces_an_among(rt, alloc, bench)?;
+    adds_and_removes(rt, alloc, bench)
+}
+
 // With this among, `tail` takes nothing off. All five words run again, and those that end in `s` get another stem. A word that
 // is added or removed changes no outcome, and a refused edit leaves what there is.
 #[test]
 fn an_edit_of_words_changes_no_outcome(rt: HostRuntime) -> Result<(), Fail> {
     let alloc = rt.alloc();
     let mut bench = bench_of(alloc, PLURALS, &["cats", "boxes", "cakes", "cake", "dog"])?;
-    let taken = "cats cat;cats cats;boxes box;boxes boxes;cakes cak;cakes cakes;";
-    assert_eq!(rt; bench.replace_among("tail", 1, "among ( 's' () )"), Ok(()));
-    assert_eq!(rt; changes_shown(alloc, &bench)?.as_str(), taken);
-    assert_eq!(rt; bench.add(&['d', 'o', 'g']), Err(EditFault::Present));
-    assert_eq!(rt; changes_shown(alloc, &bench)?.as_str(), taken);
-    assert_eq!(rt; bench.add(&['s']), Ok(()));
-    assert_eq!(rt; changes_shown(alloc, &bench)?.as_str(), "");
-    assert_eq!(rt; bench.replace_routine("last", "true"), Ok(()));
-    assert_eq!(rt;
-        changes_shown(alloc, &bench)?.as_str(),
-        "cake cak;cake cake;"
-    );
-    assert_eq!(rt; bench.remove(&['s']), Ok(()));
-    assert_eq!(rt; changes_shown(alloc, &bench)?.as_str(), "");
+    let done = edits_in_turn(&rt, alloc, &mut bench);
     bench.leak();
-    Ok(())
+    done
 }
