@@ -11,6 +11,7 @@ use crate::reports::{named_rows, push_line, push_stems, push_text};
 use csv::ByteRecord;
 use sbl_bench::Bench;
 use sbl_changes::{FamilyRow, families};
+use sbl_lines::first_line;
 use std::alloc::{AllocError, Global};
 
 /// The families that are being read: those of the lines before, the words of the current line, and the current word.
@@ -49,11 +50,11 @@ impl Reader {
         self.families.push(family).map_err(|_| AllocError)
     }
 
-    /// Takes a character. A space, a tab, a comma or a carriage return ends a word, and a line feed ends a line.
+    /// Takes a character. A space, a tab or a comma ends a word, and a line feed ends a line.
     fn take(&mut self, character: char) -> Result<(), AllocError> {
         match character {
             '\n' => self.end_line(),
-            ' ' | '\t' | ',' | '\r' => self.end_word(),
+            ' ' | '\t' | ',' => self.end_word(),
             _ => self.word.push(character).map_err(|_| AllocError),
         }
     }
@@ -176,4 +177,17 @@ pub(crate) fn families_text(
     let families = families_in(alloc, text)?;
     let lists = lists_of(alloc, &families)?;
     lists_text(alloc, bench, &lists)
+}
+
+/// Returns the lines of a file, each without the carriage return at its end, and each followed by a line feed. Returns `AllocError`
+/// if an allocation fails.
+pub(crate) fn lines_text(alloc: Global, bytes: &[u8]) -> Result<Vec<u8>, AllocError> {
+    let mut text = Vec::new(alloc);
+    let mut rest = bytes;
+    while let Some((line, after)) = first_line(rest) {
+        text.extend_from_slice(line)?;
+        text.extend_from_slice(b"\n")?;
+        rest = after;
+    }
+    Ok(text)
 }

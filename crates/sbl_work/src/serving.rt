@@ -6,6 +6,7 @@ ghost use Rattle.sbl_lines.specs.Held.{KeepsTime, fuel_of};
 
 use crate::definitions::definition_text;
 use crate::desk::Desk;
+use crate::families::lines_text;
 use crate::files::{OpenFault, Paths, open, save};
 use crate::parts::{answer_families, answer_part, answer_replace, families_reply};
 use crate::replies::{BAD_NUMBER, NO_FILE, edit_reply, memory_reply, redo_reply, undo_reply};
@@ -70,9 +71,12 @@ fn largest(alloc: Global, bench: &Bench, argument: &str) -> Reply {
 
 /// Returns the reply to `families` for a file.
 fn families<F: Files + AllocGlobal>(folder: &Folder<'_, F>, bench: &Bench, path: &str) -> Reply {
-    match fs::read(folder.files, path) {
-        Ok(bytes) => families_reply(folder.files.alloc(), bench, &bytes),
-        Err(_) => Reply::Fixed(NO_FILE),
+    let Ok(bytes) = fs::read(folder.files, path) else {
+        return Reply::Fixed(NO_FILE);
+    };
+    match lines_text(folder.files.alloc(), &bytes) {
+        Ok(text) => families_reply(folder.files.alloc(), bench, &text),
+        Err(refused) => report(Err(refused)),
     }
 }
 
