@@ -26,7 +26,13 @@ fn run_of(
     fails_at: u64,
 ) -> Result<Ran, Fail> {
     let external = String::from_str(alloc, external)?;
-    let wanted = Wanted { verb, external };
+    let wanted = Wanted {
+        verb,
+        external,
+        script: None,
+        words: None,
+        face: None,
+    };
     let mut text = writer(alloc, 0);
     let mut errors = writer(alloc, fails_at);
     let mut lines = Lines::new(alloc, Device::new(in_pieces(input, 16, 0, 0)))?;
