@@ -1,6 +1,6 @@
 -- The command line as a definition of `clap`, and its result for a list of words.
 use Rattle.std.specs.Prelude.{true, List, [], ◌∷◌, Option, Some, codes, option_map, option_and_then}
-use Rattle.clap.specs.Words.{App, Rule, Text, first_of, new_app, new_rule, one_of, subcommand_of, with_rule, with_subcommand}
+use Rattle.clap.specs.Words.{App, Rule, Text, first_of, new_app, new_rule, subcommand_of, with_rule, with_subcommand}
 use Rattle.clap.specs.declared.builder.action.ArgAction.TheVariants.{SetTrue}
 use Rattle.sbl_command_line.specs.declared.command_line.Verb.{Verb}
 use Rattle.sbl_command_line.specs.declared.command_line.Verb.TheVariants.{Session, Stem, Check, Work}
@@ -24,9 +24,9 @@ words = new_rule (codes "WORDS")
 abbrev pub flag : Text → Rule
 flag name = record (new_rule name) { long = Some name; action = Some SetTrue }
 
--- `work` has two files, and the faces of its answers
+-- `work` has two files, and may be asked for rows
 abbrev pub work_app : App
-work_app = with_rule (with_rule (with_rule (with_rule (verb_app (codes "work")) script) words) (flag (codes "rows"))) (flag (codes "text"))
+work_app = with_rule (with_rule (with_rule (verb_app (codes "work")) script) words) (flag (codes "rows"))
 
 -- the program itself
 abbrev pub top : App
@@ -55,7 +55,3 @@ wanted_of words = option_and_then (λ p. option_map (λ name. (p.0, name)) (firs
 -- the value of an argument of the subcommand, if it has one
 abbrev pub value_in : Text → List Text → Option Text
 value_in id words = option_and_then (λ p. first_of id p.1) (subcommand_of program words)
-
--- whether an option without a value is given: `true` or `false`, and none if the subcommand has no such option
-abbrev pub flag_in : Text → List Text → Option Text
-flag_in id words = option_and_then (λ p. one_of id p.1) (subcommand_of program words)

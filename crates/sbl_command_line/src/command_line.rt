@@ -1,8 +1,8 @@
 //! The command line, defined with `clap`.
-ghost use Rattle.std.specs.Prelude.{◌≡◌, IfOk, None, Some, codes, map, option_map};
+ghost use Rattle.std.specs.Prelude.{◌≡◌, IfOk, Some, codes, map, option_map};
 ghost use Rattle.std.specs.String.{string_bytes};
-ghost use Rattle.clap.specs.Words.{app_of, first_value, found_of, one_text};
-ghost use Rattle.sbl_command_line.specs.CommandLine.{flag_in, program, value_in, verb_app, verb_name, wanted_of, work_app};
+ghost use Rattle.clap.specs.Words.{app_of, first_value, found_of};
+ghost use Rattle.sbl_command_line.specs.CommandLine.{program, value_in, verb_app, verb_name, wanted_of, work_app};
 
 use clap::error::ErrorKind;
 use clap::{Arg, ArgAction, ArgMatches, Command, Error};
@@ -21,15 +21,6 @@ pub enum Verb {
     Work,
 }
 
-/// The face of the answers of `work`.
-#[derive(Clone, Copy, Debug, PartialEq, Eq)]
-pub enum Face {
-    /// Rows for programs.
-    Rows,
-    /// Text for people.
-    Text,
-}
-
 /// What a command line asks for: a subcommand and the external to run.
 #[derive(Debug, Drop)]
 pub struct Wanted {
@@ -41,8 +32,6 @@ pub struct Wanted {
     pub script: Option<String>,
     /// The file of the words, if `work` has one.
     pub words: Option<String>,
-    /// The face of the answers, if `work` has one.
-    pub face: Option<Face>,
 }
 
 /// The first lines of the help of the program.
@@ -153,7 +142,7 @@ fn verb_command<'a>(
     Ok(command.about(about).after_help(help))
 }
 
-/// Returns the definition of `work`: a subcommand with the files SCRIPT and WORDS, and the flags `--rows` and `--text`.
+/// Returns the definition of `work`: a subcommand with the files SCRIPT and WORDS, and the flag `--rows`.
 fn work_command<'a>(alloc: Global) -> Result<Command<'a>, AllocError>
     ensures { IfOk result (λ c. app_of c ≡ work_app) }
 {
@@ -164,16 +153,11 @@ fn work_command<'a>(alloc: Global) -> Result<Command<'a>, AllocError>
     let rows = Arg::new(alloc, "rows")
         .long("rows")
         .action(ArgAction::SetTrue)
-        .help("Answers in rows, for programs");
-    let text = Arg::new(alloc, "text")
-        .long("text")
-        .action(ArgAction::SetTrue)
-        .help("Answers in text, for people");
+        .help("Answers in rows, for programs, as it does without this option");
     verb_command(alloc, "work", ABOUT_WORK, HELP_WORK)?
         .arg(script)?
         .arg(words)?
-        .arg(rows)?
-        .arg(text)
+        .arg(rows)
 }
 
 /// Returns the text of an argument, if it is given. Returns `AllocError` if an allocation fails.
@@ -184,22 +168,6 @@ fn text_of(alloc: Global, options: &ArgMatches, name: &str) -> Result<Option<Str
         Some(text) => Ok(Some(String::from_str(alloc, text)?)),
         None => Ok(None),
     }
-}
-
-/// Returns the face that is asked for: rows, if both are.
-fn face_of(options: &ArgMatches) -> Option<Face>
-    ensures rows { one_text (found_of options.now) (codes "rows") ≡ Some (codes "true") → result ≡ Some Face.Rows }
-    ensures text { one_text (found_of options.now) (codes "rows") ≡ Some (codes "false") → one_text (found_of options.now) (codes "text") ≡ Some (codes "true") → result ≡ Some Face.Text }
-    ensures neither { one_text (found_of options.now) (codes "rows") ≡ Some (codes "false") → one_text (found_of options.now) (codes "text") ≡ Some (codes "false") → result ≡ None }
-    ensures other { one_text (found_of options.now) (codes "rows") ≡ None → one_text (found_of options.now) (codes "text") ≡ None → result ≡ None }
-{
-    if options.get_flag("rows") {
-        return Some(Face::Rows);
-    }
-    if options.get_flag("text") {
-        return Some(Face::Text);
-    }
-    None
 }
 
 /// Returns the definition of the command line, with four subcommands.
@@ -219,7 +187,8 @@ fn make_program<'a>(alloc: Global) -> Result<Command<'a>, AllocError>
 }
 
 /// Parses the words of a command line, the first of which is the name of the program: one of the subcommands `session`,
-/// `stem`, `check` and `work`, the value of its option `--external`, by default `stem`, and the files and the face of `work`. `clap` does the parsing.
+/// `stem`, `check` and `work`, the value of its option `--external`, by default `stem`, and the files of `work`. `clap` does the
+/// parsing.
 ///
 /// # Errors
 ///
@@ -230,9 +199,6 @@ pub fn read_words<'a>(alloc: Global, words: &'a [String]) -> Result<Wanted, Erro
     ensures wanted { IfOk result (λ wanted. wanted_of (map string_bytes words.now) ≡ Some (verb_name wanted.verb, string_bytes wanted.external)) }
     ensures script { IfOk result (λ wanted. option_map string_bytes wanted.script ≡ value_in (codes "SCRIPT") (map string_bytes words.now)) }
     ensures words { IfOk result (λ wanted. option_map string_bytes wanted.words ≡ value_in (codes "WORDS") (map string_bytes words.now)) }
-    ensures rows { IfOk result (λ wanted. flag_in (codes "rows") (map string_bytes words.now) ≡ Some (codes "true") → wanted.face ≡ Some Face.Rows) }
-    ensures text { IfOk result (λ wanted. flag_in (codes "rows") (map string_bytes words.now) ≡ Some (codes "false") → flag_in (codes "text") (map string_bytes words.now) ≡ Some (codes "true") → wanted.face ≡ Some Face.Text) }
-    ensures neither { IfOk result (λ wanted. flag_in (codes "rows") (map string_bytes words.now) ≡ Some (codes "false") → flag_in (codes "text") (map string_bytes words.now) ≡ Some (codes "false") → wanted.face ≡ None) }
 {
     let matches = make_program(alloc)?.try_get_matches_from(words)?;
     let Some((name, options)) = matches.subcommand() else {
@@ -255,12 +221,10 @@ pub fn read_words<'a>(alloc: Global, words: &'a [String]) -> Result<Wanted, Erro
     };
     let script = text_of(alloc, options, "SCRIPT")?;
     let list = text_of(alloc, options, "WORDS")?;
-    let face = face_of(options);
     Ok(Wanted {
         verb,
         external: String::from_str(alloc, external)?,
         script,
         words: list,
-        face,
     })
 }

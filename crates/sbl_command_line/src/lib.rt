@@ -3,4 +3,4 @@
 
 mod command_line;
 
-pub use command_line::{Face, Verb, Wanted, read_words};
+pub use command_line::{Verb, Wanted, read_words};

@@ -1,10 +1,10 @@
 use Rattle.std.proofs.Common.{rules, ◌≡◌, ◌∙◌, ap, ap₂, refl, sym, map, codes, List, Option, Some, None}
 use Rattle.std.specs.Prelude.{option_map, option_and_then}
 use Rattle.std.specs.String.{string_bytes}
-use Rattle.clap.specs.Words.{App, Row, Text, first_of, first_value, found_of, is_simple, one_of, one_text, rows_of, subcommand_of, subcommand_rows_of}
+use Rattle.clap.specs.Words.{App, Row, Text, first_of, first_value, found_of, is_simple, rows_of, subcommand_of, subcommand_rows_of}
 use Rattle.clap.specs.declared.parser.matches.Found.{Found}
-use Rattle.clap.proofs.WalkLemmas.{first_value-rows, one_text-rows}
-use Rattle.sbl_command_line.specs.CommandLine.{flag_in, program, value_in, verb_name}
+use Rattle.clap.proofs.WalkLemmas.{first_value-rows}
+use Rattle.sbl_command_line.specs.CommandLine.{program, value_in, verb_name}
 use Rattle.sbl_command_line.proofs.command_line.read_words.Goals as goal
 use Rattle.sbl_command_line.proofs.command_line.read_words.Goals.{in-session, in-stem, in-check, in-work}
 
@@ -22,9 +22,6 @@ pick p = option_map (λ name. (p.0, name)) (first_of (codes "external") p.1)
 -- the value of an argument of the subcommand that was entered
 value_is : (words : List Text) (name : Text) (f : Found) (id : Text) → subcommand_of program words ≡ Some (name, rows_of f) → first_value f id ≡ value_in id words
 value_is words name f id e = first_value-rows f id ∙ sym (ap (option_and_then (λ (p : Text × List Row). first_of id p.1)) e)
-
-flag_is : (words : List Text) (name : Text) (f : Found) (id : Text) → subcommand_of program words ≡ Some (name, rows_of f) → one_text f id ≡ flag_in id words
-flag_is words name f id e = one_text-rows f id ∙ sym (ap (option_and_then (λ (p : Text × List Row). one_of id p.1)) e)
 
 pub returns-clause-wanted : goal.returns-clause-wanted
 returns-clause-wanted c =
@@ -57,33 +54,3 @@ returns-clause-words c =
     let entered_is : subcommand_rows_of c.in_ok-matches.matches ≡ Some (c.in-Some.name.now, rows_of f) = both _ _ _ _ _ (sym c.in-Some.ensures.name) (sym c.in-Some.ensures.rows) in
     let is = program_is ∙ entered_is in
     c.in_ok-list.ensures ∙ value_is words c.in-Some.name.now f (codes "WORDS") is
-
-pub returns-clause-rows : goal.returns-clause-rows
-returns-clause-rows c given =
-    let words = map string_bytes c.args.words.now in
-    let entered = (c.in_ok-matches.ensures.matches (ap is_simple c.in_ok-make_program.ensures ∙ refl)).1 in
-    let program_is : subcommand_of program words ≡ subcommand_rows_of c.in_ok-matches.matches = sym (entered ∙ ap (λ (a : App). subcommand_of a words) c.in_ok-make_program.ensures) in
-    let f = found_of c.in-Some.options.now in
-    let entered_is : subcommand_rows_of c.in_ok-matches.matches ≡ Some (c.in-Some.name.now, rows_of f) = both _ _ _ _ _ (sym c.in-Some.ensures.name) (sym c.in-Some.ensures.rows) in
-    let is = program_is ∙ entered_is in
-    c.face_of-face.ensures.rows (flag_is words c.in-Some.name.now f (codes "rows") is ∙ given)
-
-pub returns-clause-text : goal.returns-clause-text
-returns-clause-text c given also =
-    let words = map string_bytes c.args.words.now in
-    let entered = (c.in_ok-matches.ensures.matches (ap is_simple c.in_ok-make_program.ensures ∙ refl)).1 in
-    let program_is : subcommand_of program words ≡ subcommand_rows_of c.in_ok-matches.matches = sym (entered ∙ ap (λ (a : App). subcommand_of a words) c.in_ok-make_program.ensures) in
-    let f = found_of c.in-Some.options.now in
-    let entered_is : subcommand_rows_of c.in_ok-matches.matches ≡ Some (c.in-Some.name.now, rows_of f) = both _ _ _ _ _ (sym c.in-Some.ensures.name) (sym c.in-Some.ensures.rows) in
-    let is = program_is ∙ entered_is in
-    c.face_of-face.ensures.text (flag_is words c.in-Some.name.now f (codes "rows") is ∙ given) (flag_is words c.in-Some.name.now f (codes "text") is ∙ also)
-
-pub returns-clause-neither : goal.returns-clause-neither
-returns-clause-neither c given also =
-    let words = map string_bytes c.args.words.now in
-    let entered = (c.in_ok-matches.ensures.matches (ap is_simple c.in_ok-make_program.ensures ∙ refl)).1 in
-    let program_is : subcommand_of program words ≡ subcommand_rows_of c.in_ok-matches.matches = sym (entered ∙ ap (λ (a : App). subcommand_of a words) c.in_ok-make_program.ensures) in
-    let f = found_of c.in-Some.options.now in
-    let entered_is : subcommand_rows_of c.in_ok-matches.matches ≡ Some (c.in-Some.name.now, rows_of f) = both _ _ _ _ _ (sym c.in-Some.ensures.name) (sym c.in-Some.ensures.rows) in
-    let is = program_is ∙ entered_is in
-    c.face_of-face.ensures.neither (flag_is words c.in-Some.name.now f (codes "rows") is ∙ given) (flag_is words c.in-Some.name.now f (codes "text") is ∙ also)

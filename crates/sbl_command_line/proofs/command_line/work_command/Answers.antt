@@ -14,14 +14,9 @@ returns c =
     let rows_is : rule_of c.help-rows.result ≡ flag (codes "rows") =
     rw c.help-rows.ensures (rw c.action.ensures (rw c.long.ensures
     (ap (λ (r : Rule). record r { long = Some (codes "rows"); action = Some SetTrue }) c.new-3.ensures.rule))) in
-    let text_is : rule_of c.help-text.result ≡ flag (codes "text") =
-    rw c.help-text.ensures (rw c.action-2.ensures (rw c.long-2.ensures
-    (ap (λ (r : Rule). record r { long = Some (codes "text"); action = Some SetTrue }) c.new-4.ensures.rule))) in
     let script_is_here : c.help-script.result.global ≡ false = rw c.help-script.ensures (rw c.required.ensures c.new.ensures.optional.1) in
     let words_are_here : c.help-words.result.global ≡ false = rw c.help-words.ensures c.new-2.ensures.optional.1 in
     let rows_are_here : c.help-rows.result.global ≡ false = rw c.help-rows.ensures (rw c.action.ensures (rw c.long.ensures c.new-3.ensures.optional.1)) in
-    let text_is_here : c.help-text.result.global ≡ false = rw c.help-text.ensures (rw c.action-2.ensures (rw c.long-2.ensures c.new-4.ensures.optional.1)) in
     let first = c.in_ok-arg.ensures.shape script_is_here ∙ ap₂ with_rule c.in_ok-verb_command.ensures script_is in
     let second = c.in_ok-arg-2.ensures.shape words_are_here ∙ ap₂ with_rule first words_is in
-    let third = c.in_ok-arg-3.ensures.shape rows_are_here ∙ ap₂ with_rule second rows_is in
-    IfOk-weaker c.arg-4.result _ _ (λ r h. h.shape text_is_here ∙ ap₂ with_rule third text_is) c.arg-4.ensures
+    IfOk-weaker c.arg-3.result _ _ (λ r h. h.shape rows_are_here ∙ ap₂ with_rule second rows_is) c.arg-3.ensures
