@@ -5,7 +5,7 @@ ghost use Rattle.sbl_changes.specs.FamiliesAreSound.{NoneApartIfNoUnder, NoneJoi
 ghost use Rattle.sbl_changes.specs.ChangesAreSound.{ClassesAreOfPairs, ClassesRise, EqualListsHaveNoChanges, ExchangedListsTurnChanges, NoClassIsSplitAndRenamed};
 
 /// Two equal lists have no changes, if each word has one row. No class is both split and renamed. If the lists are exchanged, added and
-/// removed words change places, each changed word is told the other way, and so do split and merged classes.
+/// removed words change places, so do split and merged classes, and each changed word has its two outcomes exchanged.
 pub fn changes_are_sound()
     ensures none { EqualListsHaveNoChanges }
     ensures either { NoClassIsSplitAndRenamed }
@@ -19,8 +19,8 @@ pub fn classes_are_sound()
     ensures of_pairs { ClassesAreOfPairs }
 {}
 
-/// No two words of one family have different stems exactly if no family is told to have several. No two words of two families share a
-/// stem exactly if no stem is told to be one of several families. The pairs within families and across them are all pairs of the words
+/// No two words of one family have different stems exactly if there is no row of a family with several stems. No two words of two families
+/// share a stem exactly if there is no row of a stem of several families. The pairs within families and across them are all pairs of the words
 /// that count; the pairs within share a stem or are apart. Each word that counts has the stem of its row.
 pub fn families_are_sound()
     ensures apart { NoneApartIfNoUnder }
