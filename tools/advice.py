@@ -1,0 +1,248 @@
+"""Sentences for people after a command that is refused: what is wrong, and what to do."""
+import os
+import re
+import unicodedata
+
+from faults import explain_block, explain_file
+from lexer import Names, is_word, read_tokens
+from near import listed, meant, near
+from plain import named
+
+PLAIN = "stems classes script runs reload undo redo mark changes stats help quit".split()
+ONE_LINE = "add remove class trace limit largest show save echo".split()
+BLOCKS = "routine among grouping replace families".split()
+DROP = " Ctrl-C drops this block."
+
+
+def split(command):
+    word, _, argument = command.partition(" ")
+    return word, argument
+
+
+class Advice:
+    """Knows the files of the desk, and asks the program for the script and the words."""
+
+    def __init__(self, desk):
+        self.desk = desk
+
+    def script(self):
+        return "\n".join(self.desk.query(["script"]) or []) + "\n"
+
+    def words(self):
+        import csv
+
+        return [row[0] for row in csv.reader(self.desk.query(["stems"]) or []) if row]
+
+    def lines(self, code, name, command):
+        """Returns the lines on a refused command: its code and name, and its lines."""
+        of_code = getattr(self, "lines_%d" % code, None)
+        word, argument = split(command[0])
+        if of_code:
+            return of_code(word, argument, command)
+        if code == 48:
+            return self.lines_on_fault(name, word, argument, command) + ["Nothing changed."]
+        return [SENTENCES[code].replace("COMMAND", named(word)).replace("WORD", named(argument))] if code in SENTENCES else []
+
+    def lines_41(self, word, argument, command):
+        words = self.words()
+        if not argument:
+            return ["%s needs a word: %s WORD." % (word, word)]
+        others = [other for other in words if folded(other) == folded(argument)][:4] or near(argument, words)
+        question = " Did you mean %s?" % named(listed(others)) if others else ""
+        if others and unicodedata.normalize("NFC", others[0]) == unicodedata.normalize("NFC", argument):
+            question = " It is there in another form of Unicode (NFC and NFD are different words)."
+        add = "" if word == "remove" else ' "add %s" adds it.' % named(argument)
+        return ["%s is not in the vocabulary.%s%s" % (named(argument), question, add)]
+
+    def lines_45(self, word, argument, command):
+        return [self.no_name(word, argument, "routine", ("routine", "external"))]
+
+    def lines_53(self, word, argument, command):
+        return [self.no_name(word, argument, "grouping", ("grouping",))]
+
+    def no_name(self, word, argument, what, kinds):
+        """The sentence for a name that the script does not define."""
+        names = Names(self.script())
+        there = names.of(*kinds, "grouping") if word == "show" else names.of(*kinds)
+        name, _, rest = argument.partition(" ")
+        begin = "%s %s: " % (word, named(name))
+        if not name:
+            return "%s needs a name: %s NAME." % (word, word)
+        if name in there and rest:
+            return '%sthe text goes on the lines after it, and a line with a single point ends it. Type only "%s %s" first.' % (begin, word, name)
+        if word != "show" and names.kinds.get(name) and name in names.defined:
+            kind = names.kinds[name]
+            return '%sthis is a %s. Use "%s %s".' % (begin, kind, "grouping" if kind == "grouping" else "routine", name)
+        if name in names.kinds and name not in names.defined:
+            return "%sit is declared, but not defined: add its define to the script." % begin
+        question = meant(name, there)
+        return "%sthere is no %s of this name.%s" % (begin, what, question or " The script has %s." % (listed(there, "and") if there else "none"))
+
+    def lines_46(self, word, argument, command):
+        return [self.amongs_of(argument.partition(" ")[0])]
+
+    def amongs_of(self, name):
+        count = self.count(name)
+        if count == 0:
+            return "%s has no among." % name
+        numbers = "1" if count == 1 else "1 or 2" if count == 2 else "1 to %d" % count
+        return "%s has %s, so K is %s (those inside others count, too)." % (name, amount(count), numbers)
+
+    def count(self, name):
+        return count_amongs("\n".join(self.desk.query(["show " + name]) or []))
+
+    def lines_47(self, word, argument, command):
+        name, _, k = argument.partition(" ")
+        old = among_in(read_tokens("\n".join(self.desk.query(["show " + name]) or [])), int(k))
+        had = sum(is_word(token, "among") for token in old)
+        has = count_amongs("\n".join(command[1:-1]))
+        return ["The text has %s, and the among that it replaces has %d, those inside it counted. Nothing changed." % (amount(has), had)]
+
+    def lines_52(self, word, argument, command):
+        return [self.bad_command(word, argument, command[0])]
+
+    def bad_command(self, word, argument, line):
+        if any("\udc80" <= character <= "\udcff" for character in line):
+            return "The line is not UTF-8."
+        if word == "among":
+            name = argument.partition(" ")[0]
+            known = name in Names(self.script()).of("routine", "external")
+            return "among needs a name and a number: among NAME K, then an among, then a line with a single point." + (
+                " " + self.amongs_of(name) if known else ""
+            )
+        if word in PLAIN:
+            return "%s takes nothing after it." % word
+        if line.strip() == ".":
+            return "A line with a single point ends a block, and no block is open."
+        if word in ("q", "clear", "exit", "bye", ":q"):
+            return "quit or Ctrl-D ends. Ctrl-L clears the screen." if word == "clear" else "quit or Ctrl-D ends."
+        if line.lstrip().startswith(("//", "/*")):
+            return "A comment begins with # at the beginning of the line."
+        if word == "define":
+            name = argument.partition(" ")[0]
+            return 'Type "%s %s" first, and then this as its text.' % ("routine" if " as " in line else "grouping", named(name))
+        if line.lstrip().split(" ")[0] in PLAIN + ONE_LINE + BLOCKS:
+            return "A command begins at the beginning of the line."
+        return "%s is no command.%s help lists the commands." % (named(word[:60]), meant(word, PLAIN + ONE_LINE + BLOCKS))
+
+    def lines_57(self, word, argument, command):
+        if word == "save":
+            return [self.cannot_save(argument)]
+        path = argument or self.desk.script
+        return ["%s cannot be read: %s" % (named(path), why_unreadable(path))]
+
+    def cannot_save(self, path):
+        if not path:
+            return "save needs a file: save FILE."
+        folder = os.path.dirname(path) or "."
+        if os.path.exists(path) and os.path.exists(self.desk.script) and os.path.samefile(path, self.desk.script):
+            return "%s was changed since it was read. Save to another file, or reload first." % named(path)
+        if not os.path.isdir(folder):
+            return "%s cannot be written: there is no folder %s." % (named(path), named(folder))
+        return "%s cannot be written: %s." % (named(path), "it is a folder" if os.path.isdir(path) else "you may not write there")
+
+    def lines_75(self, word, argument, command):
+        return ["%s is not UTF-8. If it is Latin-1: iconv -f latin1 -t utf-8 OLD > NEW" % named(argument or "The text")]
+
+    def lines_on_fault(self, name, word, argument, command):
+        """The lines on a fault of a script that an edit would make."""
+        desk, block = self.desk, "".join(line + "\n" for line in command[1:-1])
+        if word == "reload":
+            return explain_file(desk.script, desk.program, desk.external)
+        if word == "replace":
+            return explain_block("replace", "", block, "", desk.program, desk.external)
+        before, after = self.around(word, argument)
+        if before is None:
+            return ["docs/LANGUAGE.md says what %s means." % name]
+        block = re.sub(r"^\s*define\s+\w+\s+as\b" if word == "routine" else r"^\s*define\s+\w+" if word == "grouping" else r"^$", blanked, block)
+        return explain_block("%s %s" % (word, named(argument)), before, block, after, desk.program, desk.external)
+
+    def around(self, word, argument):
+        """Returns the canonical script before and after what the block of a command replaces."""
+        script, (name, _, k) = self.script(), argument.partition(" ")
+        tokens = read_tokens(script)
+        heads = [at for at, token in enumerate(tokens[:-1]) if is_word(token, "define") and tokens[at + 1].text == name]
+        if not heads:
+            return None, None
+        end = script.find("\n", tokens[heads[0]].start)
+        if word == "among":
+            among = among_in([token for token in tokens[heads[0] :] if token.start < end], int(k))
+            return script[: among[0].start], script[among[-1].end :]
+        first = tokens[heads[0] + (2 if word == "routine" else 1)]
+        return script[: first.end] + "\n", script[end:]
+
+    def early(self, line):
+        """Returns the lines that are said before the text of a block is typed, if its first line is wrong already."""
+        word, argument = split(line)
+        names = Names(self.script())
+        if word == "routine" and argument not in names.of("routine", "external"):
+            return [self.no_name(word, argument, "routine", ("routine", "external")) + DROP]
+        if word == "grouping" and argument not in names.of("grouping"):
+            return [self.no_name(word, argument, "grouping", ("grouping",)) + DROP]
+        if word == "among":
+            name, _, k = argument.partition(" ")
+            if name and k and name not in names.of("routine", "external"):
+                return [self.no_name(word, name, "routine", ("routine", "external")) + DROP]
+            if not re.match(r"^[0-9]+$", k):
+                return [self.bad_command(word, argument, line) + DROP]
+            if not 1 <= int(k) <= self.count(name):
+                return [self.amongs_of(name) + DROP]
+        return []
+
+    def note(self, command):
+        """Returns the lines on a command that is accepted, but may not be what was meant."""
+        word, argument = split(command[0])
+        if word == "add" and argument != argument.strip():
+            return ['The word that was added is "%s", with a blank at its beginning. "remove %s" takes it out.' % (named(argument), named(argument))]
+        return []
+
+
+def blanked(match):
+    """Blanks in the place of the beginning of a definition, which a block may have."""
+    return re.sub(r"[^\n]", " ", match.group())
+
+
+def folded(word):
+    return unicodedata.normalize("NFC", word).casefold().strip()
+
+
+def amount(count):
+    return "1 among" if count == 1 else "%d amongs" % count if count else "no among"
+
+
+def count_amongs(text):
+    return sum(is_word(token, "among") for token in read_tokens(text))
+
+
+def among_in(tokens, k):
+    """Returns the tokens of the K-th among: the word, and all up to the parenthesis that closes it."""
+    begin = [at for at, token in enumerate(tokens) if is_word(token, "among")][k - 1]
+    depth = 0
+    for end in range(begin + 1, len(tokens)):
+        depth += (tokens[end].text == "(") - (tokens[end].text == ")")
+        if depth == 0:
+            return tokens[begin : end + 1]
+    return tokens[begin:]
+
+
+def why_unreadable(path):
+    try:
+        with open(path, "rb") as file:
+            file.read(1)
+        return "it has changed"
+    except OSError as why:
+        return why.strerror
+
+
+SENTENCES = {
+    40: "WORD is in the vocabulary already.",
+    42: "COMMAND needs a word: COMMAND WORD.",
+    43: "A word may have 255 characters at most.",
+    44: "The vocabulary has 100,000 words, and takes no more.",
+    49: "There was not enough memory. Nothing changed; you can try again.",
+    50: "The count of runs is at its end. Start again.",
+    51: "A limit is a number from 1 to 10000000, such as limit 1000.",
+    54: "There is no edit to undo.",
+    55: "There is no edit to make again.",
+    56: "COMMAND needs a number above 0, such as COMMAND 10.",
+}

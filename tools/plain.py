@@ -1,0 +1,37 @@
+"""Text that a terminal shows as it is meant: control characters and marks that turn the direction of writing are named."""
+import unicodedata
+
+# Marks that turn the direction of writing, and characters of no width that end or join lines.
+HIDDEN = set("\u061c\u200b\u200e\u200f\u2028\u2029\u2060\ufeff") | {chr(code) for code in (*range(0x202A, 0x202F), *range(0x2066, 0x206A))}
+
+
+def is_hidden(character):
+    """Whether a terminal obeys the character, or shows nothing for it: C0, C1, a lone surrogate, a mark of direction."""
+    return character in HIDDEN or unicodedata.category(character) in ("Cc", "Cs")
+
+
+def named(text):
+    """Returns the text with each hidden character as its number: <U+202E>. A byte that is not UTF-8 is <FF>."""
+    return "".join(name_of(character) if is_hidden(character) else character for character in text)
+
+
+def name_of(character):
+    code = ord(character)
+    return "<%02X>" % (code - 0xDC00) if 0xDC80 <= code <= 0xDCFF else "<U+%04X>" % code
+
+
+def masked(text):
+    """Returns the text with `?` for each hidden character but the tab, so that carets below it fit."""
+    return "".join("?" if is_hidden(character) and character != "\t" else character for character in text)
+
+
+def width(character):
+    """Returns how many columns of a terminal a character takes."""
+    if unicodedata.combining(character):
+        return 0
+    return 2 if unicodedata.east_asian_width(character) in "WF" else 1
+
+
+def below(text, mark=" "):
+    """Returns as many blanks, or marks, as put a caret below what comes after the text; tabs stay tabs."""
+    return "".join("\t" if character == "\t" and mark == " " else mark * width(character) for character in text)

@@ -1,0 +1,105 @@
+#!/usr/bin/env python3
+"""Warnings on the files of work: at most one line for each kind of thing that may not be meant.
+usage: warn.py SCRIPT [WORDS]
+"""
+import re
+import stat
+import sys
+import os
+import unicodedata
+
+from plain import named
+
+# Larger files, and what is no regular file, are not looked at.
+LARGEST = 1 << 26
+BOM = b"\xef\xbb\xbf"
+
+
+def read(path):
+    try:
+        state = os.stat(path)
+        if not stat.S_ISREG(state.st_mode) or state.st_size > LARGEST:
+            return None
+        with open(path, "rb") as file:
+            return file.read()
+    except OSError:
+        return None
+
+
+def is_not_utf8(line):
+    return any("\udc80" <= character <= "\udcff" for character in line)
+
+
+def is_decomposed(line):
+    return len(unicodedata.normalize("NFC", line)) < len(line)
+
+
+def counted(lines, one, many):
+    """Returns `:LINE: ` and what is there, with the number of further lines."""
+    more = len(lines) - 1
+    return ":%d: %s%s" % (lines[0], one, "" if more == 0 else " (and %d more %s)" % (more, "line" if more == 1 else many))
+
+
+def lines_that(lines, condition):
+    return [number for number, line in enumerate(lines, 1) if condition(line)]
+
+
+def on_encoding(name, data, lines):
+    """Warnings on what both files may have: a byte order mark, other encodings, decomposed letters."""
+    said = []
+    if data.startswith(BOM):
+        said.append(name + ":1: a byte order mark, which is left out. To take it away: sed -i '1s/^\\xEF\\xBB\\xBF//' " + name)
+    text = "\n".join(lines)
+    if is_not_utf8(text):
+        found = lines_that(lines, is_not_utf8)
+        said.append(name + counted(found, "not UTF-8", "lines") + ". If it is Latin-1: iconv -f latin1 -t utf-8 " + name + " > NEW")
+    elif not text.isascii() and is_decomposed(text):
+        found = lines_that(lines, is_decomposed)
+        said.append(
+            name + counted(found, "a letter and its accent are two characters (NFD)", "lines") + ", and one character (NFC) does not match them."
+            " To compose them: uconv -x any-nfc " + name + " > NEW"
+        )
+    return said
+
+
+def on_words(name, lines):
+    """Warnings on what only a list of words may have."""
+    said = []
+    text = "\n".join(lines)
+    if re.search(r"[^\S\n](?:\n|\Z)|(?:\n|\A)[^\S\n]", text):
+        found = lines_that(lines, lambda line: line != line.strip())
+        said.append(name + counted(found, "a blank at an end of the word, which belongs to it", "lines") + ". To take them away: sed -i 's/^[ \\t]*//; s/[ \\t]*$//' " + name)
+    found = lines_that(lines, lambda line: "\t" in line.strip()) if "\t" in text else []
+    if found:
+        said.append(name + counted(found, "a tab inside the word, which belongs to it", "lines") + ". If this is a table: cut -f1 " + name + " > NEW")
+    found = lines_that(lines, lambda line: line == ".")
+    if found:
+        said.append(name + counted(found, "a single point. In a session it ends the list; here it is a word", "lines"))
+    found = lines_that(lines, lambda line: len(line) > 255)
+    if found:
+        said.append(name + counted(found, "more than 255 characters, which no word may have", "lines"))
+    if not any(lines):
+        said.append(name + ": no words. A word a line is wanted; add WORD adds one")
+    return said
+
+
+def warnings_on(script, words=""):
+    """Returns the warnings on a script and, if there is one, a list of words."""
+    said = []
+    for path in (script, words):
+        data = read(path) if path else None
+        if data is None:
+            continue
+        lines = [line[:-1] if line.endswith("\r") else line for line in data.decode("utf-8", "surrogateescape").split("\n")]
+        if data.endswith(b"\n") or not data:
+            lines.pop()
+        if lines and data.startswith(BOM):
+            lines[0] = lines[0][1:]
+        said += on_encoding(named(path), data, lines)
+        said += on_words(named(path), lines) if path is words else []
+    return said
+
+
+if __name__ == "__main__":
+    for line in warnings_on(*sys.argv[1:3]):
+        print(line, file=sys.stderr)
