@@ -79,11 +79,13 @@ class Desk:
     def start(self):
         """Writes how many words and classes there are, and warnings."""
         answer = self.query(["stats"])
-        self.warn([self.script, self.words])
+        if not looks_swapped(self.script, self.words):
+            self.warn([self.script, self.words])
         if answer is None:
             return self.end()
         figures = dict(csv.reader(answer))
-        print("%(words)s words, %(classes)s classes, %(refused)s refused" % figures, flush=True)
+        size = counted(int(figures["words"]), "word", "words"), counted(int(figures["classes"]), "class", "classes")
+        print("%s, %s, %s refused" % (*size, figures["refused"]), flush=True)
         if figures["refused"] != "0":
             self.explain_refused()
         return "ok"
@@ -212,7 +214,10 @@ def main():
             print(said, file=replies, flush=True)
             if said == "ended":
                 break
-    desk.child.stdin.close()
+    try:
+        desk.child.stdin.close()
+    except BrokenPipeError:
+        pass
     return desk.child.wait()
 
 

@@ -67,15 +67,8 @@ class Fault:
 
     def opened(self):
         """Returns the place of the innermost parenthesis that is open at the fault."""
-        open_ones = []
-        for token in self.tokens:
-            if token.start >= self.at:
-                break
-            if token.text == "(":
-                open_ones.append(token)
-            elif token.text == ")" and open_ones:
-                open_ones.pop()
-        return "%d:%d" % position(self.text, open_ones[-1].start) if open_ones else None
+        token = open_in(self.text[: self.at])
+        return "%d:%d" % position(self.text, token.start) if token else None
 
     def sentence(self):
         """Returns the sentence for this fault."""
@@ -161,6 +154,17 @@ def explain_file(path, program, options):
     return ["%s:%d:%d: %s" % (named(path), *position(fault.text, fault.at), fault.sentence())] + fault.shown()
 
 
+def open_in(text):
+    """Returns the innermost parenthesis that a text leaves open, or nothing."""
+    open_ones = []
+    for token in read_tokens(text):
+        if token.text == "(":
+            open_ones.append(token)
+        elif token.text == ")" and open_ones:
+            open_ones.pop()
+    return open_ones[-1] if open_ones else None
+
+
 def explain_block(title, before, block, after, program, options):
     """Returns the lines on the fault of a script that has the text of a block in one place: its line in the block, a sentence."""
     text = (before + block + after).encode("utf-8", "surrogateescape")
@@ -170,6 +174,9 @@ def explain_block(title, before, block, after, program, options):
     if int(line[1]) == 21:
         return [explain_external(text, options)]
     fault = Fault(line, text)
+    opened = open_in(block)
+    if fault.code == 7 and fault.at > len(before) + len(block.rstrip()) and opened:
+        return ["%s: the text ends, and the ( of its line %d, column %d is still open" % (title, *position(block, opened.start))]
     if fault.at is None or not len(before) <= fault.at <= len(before) + len(block):
         return ["%s, outside the new text: %s" % (title, fault.sentence())] if fault.at is not None else []
     row, column = position(block, fault.at - len(before))
