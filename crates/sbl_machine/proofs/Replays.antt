@@ -35,22 +35,22 @@ use Rattle.sbl_run.specs.Numbers.{Value, given, natural, with_value, integer_at}
 use Rattle.sbl_run.specs.Run.{turns, times, count_of, seeks, found, limits, limited, limit_here, limit_back, backwards_from, backwards_end, chosen, back_in, enter, leave, paid}
 use Rattle.sbl_run.specs.Search.{choice, choose, take_none, take_string, touch_among}
 use Rattle.sbl_run.specs.Slices.{is_slice, replaced, replace, keep, inserted, put_in}
-use Rattle.sbl_run.specs.State.{State, Ending, Signals, Stops, Doing, bound_of, ahead, room, after, then_on, pay, at_place, at_difference, to_limit, saved_cursor, put_back, step_over, place_after, tell}
+use Rattle.sbl_run.specs.State.{State, Ending, Signals, Stops, Doing, bound_of, ahead, room, after, then_on, pay, at_place, at_difference, to_limit, saved_cursor, put_back, step_over, place_after, note_event}
 use Rattle.sbl_machine.specs.Meaning as meaning
 use Rattle.sbl_machine.specs.Meaning.{Offer, prefixed_does, counted_does, joined_does, limited_does, simple_does, moved_does, assigned_does, compared_does, named_does, edited_does, begins, takes, tried, search}
 use Rattle.sbl_machine.specs.Outcome.{Stem, outcome_at, run_of}
-use Rattle.sbl_machine.specs.Why.{events_at, events_in, events_of, text_after, text_behind, PutsGiveTheStem}
-use Rattle.sbl_machine.proofs.WhyLaw.{telling_changes_nothing}
+use Rattle.sbl_machine.specs.Why.{events_at, events_in, events_of, text_after, text_after_one, PutsGiveTheStem}
+use Rattle.sbl_machine.proofs.WhyLaw.{events_change_nothing}
 use Rattle.sbl_script.specs.Parsed.{Source}
 
-text_last : (text : List ℕ) (xs : List Event') (x : Event') → text_after text (xs ++ (x ∷ [])) ≡ text_behind (text_after text xs) x
+text_last : (text : List ℕ) (xs : List Event') (x : Event') → text_after text (xs ++ (x ∷ [])) ≡ text_after_one (text_after text xs) x
 text_last text [] x = refl
-text_last text (y ∷ ys) x = text_last (text_behind text y) ys x
+text_last text (y ∷ ys) x = text_last (text_after_one text y) ys x
 
 module _ (word : List ℕ) where
   -- what was told so far gives the text
   abbrev Told : State → Type 0
-  Told s = (xs : List Event') × (s.told ≡ Some xs) × (text_after word xs ≡ s.text)
+  Told s = (xs : List Event') × (s.events ≡ Some xs) × (text_after word xs ≡ s.text)
 
   abbrev ToldAt : Ending → Type 0
   ToldAt (Signals b s) = Told s
@@ -62,10 +62,10 @@ module _ (word : List ℕ) where
   abbrev KeepsIn : Doing → Type 0
   KeepsIn d = (m : Mode) → Keeps (d m)
 
-  tell_keeps : (x : Event') (s : State) → ((t : List ℕ) → text_behind t x ≡ t) → Told s → Told (tell x s)
+  tell_keeps : (x : Event') (s : State) → ((t : List ℕ) → text_after_one t x ≡ t) → Told s → Told (note_event x s)
   tell_keeps x s same h = (h.0 ++ (x ∷ []), ap (with_event x) h.1, text_last word h.0 x ∙ same (text_after word h.0) ∙ h.2)
 
-  put_keeps : (from to : ℕ) (cs : List ℕ) (s : State) → Told s → Told (tell (Puts from to cs) (record s { text = splice s.text from to cs }))
+  put_keeps : (from to : ℕ) (cs : List ℕ) (s : State) → Told s → Told (note_event (Puts from to cs) (record s { text = splice s.text from to cs }))
   put_keeps from to cs s h = (h.0 ++ (Puts from to cs ∷ []), ap (with_event (Puts from to cs)) h.1, text_last word h.0 (Puts from to cs) ∙ ap (λ t. splice t from to cs) h.2)
 
   -- ---- one after another
@@ -292,9 +292,9 @@ module _ (word : List ℕ) where
 
     search_keeps : (a : Among) → KeepsIn (search call a)
     search_keeps a m s h =
-        let t = touch_among a.number s in
+        let t = touch_among a.number m s in
         let x = ahead_at a.mode t.text t.cursor (bound_of m t) in
-        tried_keeps a.number (meaning.offers 0 a.groups) a.mode m t x (suc (length x)) t (tell_keeps (Searches a.number s.cursor) (record s { touched = t.touched }) (λ t. refl) h)
+        tried_keeps a.number (meaning.offers 0 a.groups) a.mode m t x (suc (length x)) t (tell_keeps (Searches s.routine a.number m s.cursor) (record s { touched = t.touched }) (λ t. refl) h)
 
   -- ---- the commands of a script
 
@@ -384,10 +384,10 @@ module _ (word : List ℕ) where
   stem_of (Stops fault s) stem h p = let no : ⊥ = cc in absurd no
 
 pub puts_give_the_stem : PutsGiveTheStem
-unfolding meaning.telling events_of
+unfolding meaning.ending_with_events events_of
 puts_give_the_stem script word limit stem p =
     let items = in_order script.items in
     let known = known_in items in
-    stem_of word (meaning.telling script word limit) stem
-    (calls_keep word known (class_of (classes_behind items [])) (body_named items) 32 script.external Forward (record (meaning.start known word limit) { told = Some [] }) ([], refl, refl))
-    ((telling_changes_nothing script word limit).0 ∙ p)
+    stem_of word (meaning.ending_with_events script word limit) stem
+    (calls_keep word known (class_of (classes_behind items [])) (body_named items) 32 script.external Forward (record (meaning.start known word limit) { events = Some [] }) ([], refl, refl))
+    ((events_change_nothing script word limit).0 ∙ p)

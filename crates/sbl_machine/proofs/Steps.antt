@@ -13,7 +13,7 @@ use Rattle.sbl_tree.specs.declared.mode.Mode.TheVariants.{Forward, Backward}
 
 -- a state with k steps more, whose run is not asked what it does
 abbrev pub more : ℕ → State → State
-more k s = record s { steps = s.steps + k; told = None }
+more k s = record s { steps = s.steps + k; events = None }
 
 -- fewer than n steps are left, unless it ended for want of them
 abbrev pub Within : ℕ → Ending → Type 0

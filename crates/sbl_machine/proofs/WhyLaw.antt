@@ -3,7 +3,7 @@ use Rattle.std.proofs.Common.{◌≡◌, ℕ, suc, ◌+◌, ◌-◌, ◌<◌, Li
 use Rattle.sbl_run.specs.declared.fault.RunFault.TheVariants as faults
 use Rattle.sbl_machine.specs.Meaning as meaning
 use Rattle.sbl_machine.specs.Outcome.{Refused, outcome_at, used_at, run_of, used_of}
-use Rattle.sbl_machine.specs.Why.{TellingChangesNothing}
+use Rattle.sbl_machine.specs.Why.{EventsChangeNothing}
 use Rattle.sbl_run.specs.State.{State, Ending, Signals, Stops}
 use Rattle.sbl_machine.proofs.Steps.{Within, Goes}
 use Rattle.sbl_machine.proofs.StepsRuns.{calls_go}
@@ -12,13 +12,13 @@ use Rattle.sbl_script.specs.Parsed.{Source}
 use Rattle.sbl_tree.specs.Order.{in_order}
 use Rattle.sbl_tree.specs.declared.mode.Mode.TheVariants.{Forward}
 
-telling_goes : (script : Source) (word : List ℕ) (limit : ℕ) → Goes 0 (suc limit) (meaning.telling script word limit) (meaning.ending script word limit)
-unfolding meaning.ending meaning.telling
+telling_goes : (script : Source) (word : List ℕ) (limit : ℕ) → Goes 0 (suc limit) (meaning.ending_with_events script word limit) (meaning.ending script word limit)
+unfolding meaning.ending meaning.ending_with_events
 telling_goes script word limit =
     let items = in_order script.items in
     let known = known_in items in
     let class = class_of (classes_behind items []) in
-    let begun : State = record (meaning.start known word limit) { told = Some [] } in
+    let begun : State = record (meaning.start known word limit) { events = Some [] } in
     let run : State → Ending = meaning.calls known class (body_named items) 32 script.external Forward in
     let none : limit + 0 ≡ limit = omega arith in
     subst (λ l. Goes 0 (suc limit) (run begun) (run (meaning.start known word l))) none
@@ -37,6 +37,6 @@ alike l (Signals b s) e' h = (sym (ap outcome_at h.1), sym (ap (used_at l) h.1 �
 alike l (Stops faults.Steps s) e' h = let u = unpaid l e' h in (sym u.0, sym u.1)
 alike l (Stops fault s) e' h = (sym (ap outcome_at h.1), sym (ap (used_at l) h.1 ∙ counted l s))
 
-pub telling_changes_nothing : TellingChangesNothing
+pub events_change_nothing : EventsChangeNothing
 unfolding run_of used_of
-telling_changes_nothing script word limit = alike limit (meaning.telling script word limit) (meaning.ending script word limit) (telling_goes script word limit)
+events_change_nothing script word limit = alike limit (meaning.ending_with_events script word limit) (meaning.ending script word limit) (telling_goes script word limit)

@@ -1,7 +1,7 @@
 -- Why a word has its stem: the events of its run, in order.
 use Rattle.std.specs.Prelude.{◌≡◌, ℕ, List, [], ◌∷◌, Option, Some, None}
 use Rattle.std.specs.List.{splice}
-use Rattle.sbl_machine.specs.Meaning.{telling}
+use Rattle.sbl_machine.specs.Meaning.{ending_with_events}
 use Rattle.sbl_machine.specs.Outcome.{Outcome', Stem, outcome_at, used_at, run_of, used_of}
 use Rattle.sbl_run.specs.Events.{Event', Puts}
 use Rattle.sbl_run.specs.State.{Ending, Signals, Stops}
@@ -12,28 +12,28 @@ events_in None = []
 events_in (Some xs) = xs
 
 abbrev pub events_at : Ending → List Event'
-events_at (Signals b s) = events_in s.told
-events_at (Stops fault s) = events_in s.told
+events_at (Signals b s) = events_in s.events
+events_at (Stops fault s) = events_in s.events
 
 -- the events of a run of a script on a word, with this limit, up to its end or to where it is refused
 unfoldable pub events_of : Source → List ℕ → ℕ → List Event'
-events_of script word limit = events_at (telling script word limit)
+events_of script word limit = events_at (ending_with_events script word limit)
 
 -- a run that records its events gives the same outcome and uses the same number of steps as the run that does not
-abbrev pub TellingChangesNothing : Type 0
-TellingChangesNothing =
+abbrev pub EventsChangeNothing : Type 0
+EventsChangeNothing =
     (script : Source) (word : List ℕ) (limit : ℕ) →
-    (outcome_at (telling script word limit) ≡ run_of script word limit) × (used_at limit (telling script word limit) ≡ used_of script word limit)
+    (outcome_at (ending_with_events script word limit) ≡ run_of script word limit) × (used_at limit (ending_with_events script word limit) ≡ used_of script word limit)
 
--- the text after an event
-abbrev pub text_behind : List ℕ → Event' → List ℕ
-text_behind text (Puts from to put) = splice text from to put
-text_behind text x = text
+-- the text after one event
+abbrev pub text_after_one : List ℕ → Event' → List ℕ
+text_after_one text (Puts from to put) = splice text from to put
+text_after_one text x = text
 
 -- the text after these events, in order
 abbrev pub text_after : List ℕ → List Event' → List ℕ
 text_after text [] = text
-text_after text (x ∷ xs) = text_after (text_behind text x) xs
+text_after text (x ∷ xs) = text_after (text_after_one text x) xs
 
 -- if a run gives a stem, making its recorded replacements on the word, in order, gives that stem
 abbrev pub PutsGiveTheStem : Type 0

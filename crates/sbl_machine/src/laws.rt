@@ -9,7 +9,7 @@ ghost use Rattle.sbl_machine.specs.Marks.{EditedAreThere};
 ghost use Rattle.sbl_machine.specs.NamesStand.{NamesStand};
 ghost use Rattle.sbl_machine.specs.Searches.{SearchesAreExact, TablesDiffer};
 ghost use Rattle.sbl_machine.specs.Sound.{RunIsSound};
-ghost use Rattle.sbl_machine.specs.Why.{PutsGiveTheStem, TellingChangesNothing};
+ghost use Rattle.sbl_machine.specs.Why.{PutsGiveTheStem, EventsChangeNothing};
 
 use sbl_checks::laws::{amongs_are_sound, names_resolve, well_declared_passes};
 use sbl_tables::laws::fitting_are_matches;
@@ -29,8 +29,8 @@ pub fn used_steps_suffice()
 {}
 
 /// A run that records its events gives the same outcome and uses the same number of steps as the run that does not.
-pub fn telling_changes_nothing()
-    ensures { TellingChangesNothing }
+pub fn events_change_nothing()
+    ensures { EventsChangeNothing }
 {}
 
 /// If a run gives a stem, making its recorded replacements on the word, one after another, gives that stem.
