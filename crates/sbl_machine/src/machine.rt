@@ -1,6 +1,6 @@
 //! The machine.
 
-ghost use Rattle.std.specs.Prelude.{◌≡◌, ◌<◌, ◌≤◌, ◌+◌, true, length, map, IfOk, MatchResult, ◌↔◌, Err};
+ghost use Rattle.std.specs.Prelude.{◌≡◌, ◌<◌, ◌≤◌, ◌+◌, true, length, map, slice_index_or, [], IfOk, MatchResult, ◌↔◌, Err};
 ghost use Rattle.std.specs.List.{list_all, list_any};
 ghost use Rattle.sbl_run.specs.Kept.{Follows};
 ghost use Rattle.sbl_run.specs.Start.{max_word_length};
@@ -17,7 +17,7 @@ use crate::fault::RunStop;
 use crate::item::Item;
 use crate::marks::marks_of;
 use crate::meter::Meter;
-use crate::naming::{Names, is_touched, items_touched};
+use crate::naming::{Names, is_touched, items_touched, name_at};
 use crate::outcome::{Outcome, Ran, Traced, Why};
 use sbl_numbering::{Made, numbered};
 use sbl_program::Program;
@@ -142,6 +142,14 @@ impl<S: AmongSearch> Machine<S> {
             events: events_or_none(alloc, state.take_events()),
             used: traced.used,
         })
+    }
+
+    /// Returns the name of the routine with this number, or an empty name if there is none. Routines count from 0, in the
+    /// order of their definitions. Does not allocate.
+    pub fn routine_name(&self, number: usize) -> &str
+        ensures { (script : Source) → IsMachineOf S S.entries S.mode self.now script → result.now ≡ slice_index_or (names_of script).routines number [] }
+    {
+        name_at(&self.names.routines, number)
     }
 
     /// Returns the items that were touched, each once, in order: routines by name in code point order, then amongs by

@@ -21,7 +21,7 @@ returns-clause-outcome g c script h =
     let same : does begun ≡ ending_with_events script c.args.word.now c.args.limit =
     ap does (c.record_events.ensures ∙ ap (λ (s : State). record s { events = Some [] }) (c.in_ok-restart.ensures T))
     ∙ ap (λ (p : Program). telling_of p c.args.word.now c.args.limit) h.0 ∙ telling_same script c.args.word.now c.args.limit in
-    c.in_ok-traced.ensures.outcome (does begun) c.run_call-end.ensures.follows ∙ ap outcome_at same ∙ (events_change_nothing script c.args.word.now c.args.limit).0
+    c.in_ok-traced.ensures.outcome (does begun) c.run_call-end.ensures.follows ∙ ap outcome_at same ∙ (events_change_nothing script c.args.word.now c.args.limit).outcome
 
 pub returns-clause-events : goal.returns-clause-events
 unfolding IsMachineOf events_of
@@ -45,4 +45,4 @@ returns-clause-used g c script h =
     let same : does begun ≡ ending_with_events script c.args.word.now c.args.limit =
     ap does (c.record_events.ensures ∙ ap (λ (s : State). record s { events = Some [] }) (c.in_ok-restart.ensures T))
     ∙ ap (λ (p : Program). telling_of p c.args.word.now c.args.limit) h.0 ∙ telling_same script c.args.word.now c.args.limit in
-    c.in_ok-traced.ensures.used (does begun) c.run_call-end.ensures.follows ∙ ap (used_at c.args.limit) same ∙ (events_change_nothing script c.args.word.now c.args.limit).1
+    c.in_ok-traced.ensures.used (does begun) c.run_call-end.ensures.follows ∙ ap (used_at c.args.limit) same ∙ (events_change_nothing script c.args.word.now c.args.limit).used
