@@ -17,7 +17,7 @@ use crate::fault::RunStop;
 use crate::item::Item;
 use crate::marks::marks_of;
 use crate::meter::Meter;
-use crate::naming::{Names, is_touched, items_touched, name_at};
+use crate::naming::{Names, is_touched, items_touched, routine_at};
 use crate::outcome::{Outcome, Ran, Traced, Why};
 use sbl_numbering::{Made, numbered};
 use sbl_program::Program;
@@ -149,7 +149,7 @@ impl<S: AmongSearch> Machine<S> {
     pub fn routine_name(&self, number: usize) -> &str
         ensures { (script : Source) → IsMachineOf S S.entries S.mode self.now script → result.now ≡ slice_index_or (names_of script).routines number [] }
     {
-        name_at(&self.names.routines, number)
+        routine_at(&self.names, number)
     }
 
     /// Returns the items that were touched, each once, in order: routines by name in code point order, then amongs by

@@ -7,4 +7,4 @@ use Rattle.sbl_machine.proofs.machine.Machine.routine_name.Goals as goal
 pub returns : goal.returns
 unfolding IsMachineOf
 returns g c script h =
-    c.name_at.ensures ∙ ap (λ (names : Names'). slice_index_or names.routines c.args.number []) h.1
+    c.routine_at.ensures ∙ ap (λ (names : Names'). slice_index_or names.routines c.args.number []) h.1
