@@ -29,8 +29,8 @@ impl Model for Names {
     ghost view = { λ n. record { routines = map string_bytes n.routines.items; groupings = map string_bytes n.groupings.items } };
 }
 
-// Returns the name of the routine or grouping with this number, or an empty name if there is none.
-fn name_at(names: &[String], number: usize) -> &str
+/// Returns the name of the routine or grouping with this number, or an empty name if there is none.
+pub fn name_at(names: &[String], number: usize) -> &str
     ensures { result.now ≡ slice_index_or (map string_bytes names.now) number [] }
 {
     match names.get(number) {

@@ -2,6 +2,7 @@
 
 use crate::tests::runs::machine_of;
 use sbl_machine::{Event, Machine, Meter, Table};
+use sbl_tree::Mode;
 use std::alloc::{AllocError, Global};
 use std::process::Abort;
 use std::test::Fail;
@@ -13,7 +14,18 @@ fn text_of(alloc: Global, events: &[Event]) -> Result<String, AllocError> {
         let part = match event {
             Event::Enters(routine) => format!(in alloc; "in {routine};")?,
             Event::Leaves(signal) => format!(in alloc; "out {signal};")?,
-            Event::Searches(among, cursor) => format!(in alloc; "among {among} at {cursor};")?,
+            Event::Searches {
+                routine,
+                among,
+                mode: Mode::Forward,
+                cursor,
+            } => format!(in alloc; "{routine}.{among} from {cursor} on;")?,
+            Event::Searches {
+                routine,
+                among,
+                mode: Mode::Backward,
+                cursor,
+            } => format!(in alloc; "{routine}.{among} from {cursor} back;")?,
             Event::Finds(among, Some(length)) => format!(in alloc; "{among} takes {length};")?,
             Event::Finds(among, None) => format!(in alloc; "{among} takes none;")?,
             Event::Puts(from, to, put) => format!(in alloc; "{from} to {to} {};", put.len())?,
@@ -24,7 +36,7 @@ fn text_of(alloc: Global, events: &[Event]) -> Result<String, AllocError> {
 }
 
 #[test]
-fn why_tells_calls_searches_and_changes(rt: HostRuntime) -> Result<(), Fail> {
+fn events_are_calls_searches_and_changes(rt: HostRuntime) -> Result<(), Fail> {
     let alloc = rt.alloc();
     let script =
         "externals ( stem ) routines ( c ) define c as 'x' define stem as ( [ among ( 'a' () 'ab' c () ) ] delete )";
@@ -32,13 +44,13 @@ fn why_tells_calls_searches_and_changes(rt: HostRuntime) -> Result<(), Fail> {
     let rows = [
         (
             "abx",
-            "in 1;among 0 at 0;in 0;out true;0 takes 2;0 to 2 0;out true;",
+            "in 1;1.0 from 0 on;in 0;out true;0 takes 2;0 to 2 0;out true;",
         ),
         (
             "aby",
-            "in 1;among 0 at 0;in 0;out false;0 takes 1;0 to 1 0;out true;",
+            "in 1;1.0 from 0 on;in 0;out false;0 takes 1;0 to 1 0;out true;",
         ),
-        ("b", "in 1;among 0 at 0;0 takes none;out false;"),
+        ("b", "in 1;1.0 from 0 on;0 takes none;out false;"),
     ];
     for (text, want) in rows {
         let word: Vec<char> = text.chars().collect(alloc)?;
