@@ -1,11 +1,18 @@
 -- The rows that tell why a word has its stem.
 use Rattle.std.specs.Prelude.{ℕ, suc, ◌-◌, Bool, true, false, List, [], ◌∷◌, ◌++◌, Option, Some, None, codes, decimal, drop, length, slice_index_or, take}
 use Rattle.std.specs.Str.{encode_utf8_all}
-use Rattle.sbl_machine.specs.Outcome.{Outcome', Stem, Refused}
+use Rattle.sbl_bench.specs.Setting.{Setting}
+use Rattle.sbl_machine.specs.Outcome.{Outcome', Stem, Refused, run_of}
+use Rattle.sbl_machine.specs.Touched.{names_of}
+use Rattle.sbl_machine.specs.Why.{events_of}
 use Rattle.sbl_records.specs.Records.{records_text}
 use Rattle.sbl_run.specs.Events.{Event', Enters, Leaves, Searches, Finds, Puts}
 use Rattle.sbl_run.specs.Names.{name_of}
 use Rattle.sbl_why.specs.Moments.{Moment, after, at_start, depth_of, routine_of, string_taken}
+
+-- the names of the routines of a script, by their numbers
+abbrev pub routine_names : Setting → List (List ℕ)
+routine_names s = (names_of s.script).routines
 
 -- how deep the run is, and the name of its routine
 abbrev pub place_fields : List (List ℕ) → Moment → List (List ℕ)
@@ -38,6 +45,9 @@ rows_from names m (e ∷ events) = row_of names m e ∷ rows_from names (after e
 abbrev pub max_events : ℕ
 max_events = 10000
 
+abbrev pub shown : {X : Type 0} → List X → List X
+shown events = take max_events events
+
 -- how many events have no row
 abbrev pub more_rows : ℕ → List (List (List ℕ))
 more_rows 0 = []
@@ -51,7 +61,8 @@ outcome_row (Refused fault) = codes "refused" ∷ name_of fault ∷ []
 -- row for the outcome.
 abbrev pub why_rows : List (List ℕ) → List ℕ → List Event' → Outcome' → List (List (List ℕ))
 why_rows names word events outcome =
-    rows_from names (at_start word) (take max_events events) ++ (more_rows (length events - max_events) ++ outcome_row outcome ∷ [])
+    rows_from names (at_start word) (shown events) ++ (more_rows (length events - length (shown events)) ++ outcome_row outcome ∷ [])
 
-abbrev pub why_text : List (List ℕ) → List ℕ → List Event' → Outcome' → List ℕ
-why_text names word events outcome = records_text (why_rows names word events outcome)
+-- the rows of a fresh run of a word under a script and a limit
+abbrev pub why_text : Setting → List ℕ → List ℕ
+why_text s word = records_text (why_rows (routine_names s) word (events_of s.script word s.limit) (run_of s.script word s.limit))

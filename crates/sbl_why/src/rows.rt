@@ -1,8 +1,8 @@
 //! The row of an event.
-ghost use Rattle.std.specs.Prelude.{◌≡◌, ◌++◌, ◌∷◌, [], IfOk, OnOk, codes, decimal, map, string_bytes};
-ghost use Rattle.std.specs.Prelude.{slice_index_or};
+ghost use Rattle.std.specs.Prelude.{◌≡◌, ◌++◌, ◌∷◌, [], OnOk, decimal};
 ghost use Rattle.std.specs.Str.{encode_utf8_all};
 ghost use Rattle.csv.specs.Records.{fields_of, partial_of};
+ghost use Rattle.sbl_bench.specs.Kept.{setting_of};
 ghost use Rattle.sbl_machine.specs.Outcome.{outcome_of};
 ghost use Rattle.sbl_records.specs.Records.{record_line, records_text};
 ghost use Rattle.sbl_run.specs.Events.{Finds, event_of};
@@ -12,20 +12,11 @@ ghost use Rattle.sbl_why.specs.Rows as spec;
 
 use crate::moment::Moment;
 use csv::ByteRecord;
+use sbl_bench::Bench;
 use sbl_machine::Outcome;
 use sbl_records::{record_line, set_text};
 use sbl_run::Event;
 use std::alloc::{AllocError, Global};
-
-/// Returns the name of the routine with this number, or an empty name if there is none.
-fn name_at(names: &[String], number: usize) -> &str
-    ensures { result.now ≡ slice_index_or (map string_bytes names.now) number [] }
-{
-    match names.get(number) {
-        Some(name) => name.as_str(),
-        None => "",
-    }
-}
 
 /// Appends characters to a record, as one field. Returns `AllocError` if an allocation fails.
 fn push_text(
@@ -60,30 +51,30 @@ fn push_number(
 fn push_place(
     alloc: Global,
     csv_record: &mut ByteRecord,
-    names: &[String],
+    bench: &Bench,
     moment: &Moment,
 ) -> Result<(), AllocError>
     requires { partial_of csv_record.old ≡ [] }
-    ensures fields { OnOk result (fields_of csv_record.new ≡ fields_of csv_record.old ++ spec.place_fields (map string_bytes names.now) moment.now) }
+    ensures fields { OnOk result (fields_of csv_record.new ≡ fields_of csv_record.old ++ spec.place_fields (spec.routine_names (setting_of bench.now)) moment.now) }
     ensures partial { OnOk result (partial_of csv_record.new ≡ []) }
 {
     push_number(alloc, csv_record, moment.depth())?;
-    csv_record.push_field(name_at(names, moment.routine()).as_bytes())
+    csv_record.push_field(bench.routine_name(moment.routine()).as_bytes())
 }
 
 /// Appends the place of the run, and the number of an among. Returns `AllocError` if an allocation fails.
 fn push_among(
     alloc: Global,
     csv_record: &mut ByteRecord,
-    names: &[String],
+    bench: &Bench,
     moment: &Moment,
     among: usize,
 ) -> Result<(), AllocError>
     requires { partial_of csv_record.old ≡ [] }
-    ensures fields { OnOk result (fields_of csv_record.new ≡ fields_of csv_record.old ++ spec.among_fields (map string_bytes names.now) moment.now among) }
+    ensures fields { OnOk result (fields_of csv_record.new ≡ fields_of csv_record.old ++ spec.among_fields (spec.routine_names (setting_of bench.now)) moment.now among) }
     ensures partial { OnOk result (partial_of csv_record.new ≡ []) }
 {
-    push_place(alloc, csv_record, names, moment)?;
+    push_place(alloc, csv_record, bench, moment)?;
     let number = among as u128 + 1;
     let digits = format!(in alloc; "{number}")?;
     csv_record.push_field(digits.as_bytes())
@@ -107,22 +98,22 @@ fn push_signal(csv_record: &mut ByteRecord, signal: bool) -> Result<(), AllocErr
 fn push_end(
     alloc: Global,
     csv_record: &mut ByteRecord,
-    names: &[String],
+    bench: &Bench,
     moment: &Moment,
     among: usize,
     length: Option<usize>,
 ) -> Result<(), AllocError>
     requires empty { fields_of csv_record.old ≡ [] }
     requires whole { partial_of csv_record.old ≡ [] }
-    ensures fields { OnOk result (fields_of csv_record.new ≡ spec.row_of (map string_bytes names.now) moment.now (Finds among length)) }
+    ensures fields { OnOk result (fields_of csv_record.new ≡ spec.row_of (spec.routine_names (setting_of bench.now)) moment.now (Finds among length)) }
     ensures partial { OnOk result (partial_of csv_record.new ≡ []) }
 {
     let Some(length) = length else {
         csv_record.push_field(b"none")?;
-        return push_among(alloc, csv_record, names, moment, among);
+        return push_among(alloc, csv_record, bench, moment, among);
     };
     csv_record.push_field(b"taken")?;
-    push_among(alloc, csv_record, names, moment, among)?;
+    push_among(alloc, csv_record, bench, moment, among)?;
     push_text(alloc, csv_record, moment.string_taken(length))
 }
 
@@ -130,32 +121,32 @@ fn push_end(
 fn fill_before(
     alloc: Global,
     csv_record: &mut ByteRecord,
-    names: &[String],
+    bench: &Bench,
     moment: &Moment,
     event: &Event,
 ) -> Result<(), AllocError>
     requires empty { fields_of csv_record.old ≡ [] }
     requires whole { partial_of csv_record.old ≡ [] }
-    ensures fields { OnOk result (fields_of csv_record.new ≡ fields_before (map string_bytes names.now) moment.now (event_of event.now)) }
+    ensures fields { OnOk result (fields_of csv_record.new ≡ fields_before (spec.routine_names (setting_of bench.now)) moment.now (event_of event.now)) }
     ensures partial { OnOk result (partial_of csv_record.new ≡ []) }
 {
     match event {
         Event::Enters(_) => csv_record.push_field(b"call"),
         Event::Leaves(signal) => {
             csv_record.push_field(b"return")?;
-            push_place(alloc, csv_record, names, moment)?;
+            push_place(alloc, csv_record, bench, moment)?;
             push_signal(csv_record, *signal)
         }
         Event::Searches { among, .. } => {
             csv_record.push_field(b"search")?;
-            push_among(alloc, csv_record, names, moment, *among)
+            push_among(alloc, csv_record, bench, moment, *among)
         }
         Event::Finds(among, length) => {
-            push_end(alloc, csv_record, names, moment, *among, *length)
+            push_end(alloc, csv_record, bench, moment, *among, *length)
         }
         Event::Puts(from, to, put) => {
             csv_record.push_field(b"put")?;
-            push_place(alloc, csv_record, names, moment)?;
+            push_place(alloc, csv_record, bench, moment)?;
             push_number(alloc, csv_record, *from)?;
             push_number(alloc, csv_record, *to)?;
             push_text(alloc, csv_record, put)
@@ -167,15 +158,15 @@ fn fill_before(
 fn fill_after(
     alloc: Global,
     csv_record: &mut ByteRecord,
-    names: &[String],
+    bench: &Bench,
     moment: &Moment,
     event: &Event,
 ) -> Result<(), AllocError>
     requires { partial_of csv_record.old ≡ [] }
-    ensures fields { OnOk result (fields_of csv_record.new ≡ fields_of csv_record.old ++ fields_after (map string_bytes names.now) moment.now (event_of event.now)) }
+    ensures fields { OnOk result (fields_of csv_record.new ≡ fields_of csv_record.old ++ fields_after (spec.routine_names (setting_of bench.now)) moment.now (event_of event.now)) }
 {
     match event {
-        Event::Enters(_) => push_place(alloc, csv_record, names, moment),
+        Event::Enters(_) => push_place(alloc, csv_record, bench, moment),
         Event::Puts(_, _, _) => push_text(alloc, csv_record, moment.text()),
         _ => Ok(()),
     }
@@ -193,17 +184,17 @@ fn push_line(alloc: Global, out: &mut Vec<u8>, csv_record: &ByteRecord) -> Resul
 pub(crate) fn push_event(
     alloc: Global,
     out: &mut Vec<u8>,
-    names: &[String],
+    bench: &Bench,
     moment: &mut Moment,
     event: &Event,
 ) -> Result<(), AllocError>
-    ensures line { OnOk result (out.new.items ≡ out.old.items ++ record_line (spec.row_of (map string_bytes names.now) moment.old (event_of event.now))) }
+    ensures line { OnOk result (out.new.items ≡ out.old.items ++ record_line (spec.row_of (spec.routine_names (setting_of bench.now)) moment.old (event_of event.now))) }
     ensures after { OnOk result (moment.new ≡ after (event_of event.now) moment.old) }
 {
     let mut csv_record = ByteRecord::new(alloc);
-    fill_before(alloc, &mut csv_record, names, moment, event)?;
+    fill_before(alloc, &mut csv_record, bench, moment, event)?;
     moment.pass(event)?;
-    fill_after(alloc, &mut csv_record, names, moment, event)?;
+    fill_after(alloc, &mut csv_record, bench, moment, event)?;
     push_line(alloc, out, &csv_record)
 }
 

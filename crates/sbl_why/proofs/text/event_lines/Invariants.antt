@@ -1,4 +1,5 @@
-use Rattle.std.proofs.Common.{◌≡◌, ◌++◌, map, drop, string_bytes}
+use Rattle.std.proofs.Common.{◌≡◌, ◌++◌, map, drop}
+use Rattle.sbl_bench.specs.Kept.{setting_of}
 use Rattle.sbl_records.specs.Records.{records_text}
 use Rattle.sbl_run.specs.Events.{event_of}
 use Rattle.sbl_why.specs.Moments.{at_start}
@@ -8,5 +9,5 @@ use Rattle.sbl_why.proofs.text.event_lines.Given as goal
 -- the lines so far and those of the other events are those of all events
 abbrev pub invariant-loop-event : goal.invariant-loop-event
 invariant-loop-event l =
-    l.out.items ++ records_text (spec.rows_from (map string_bytes l.names) l.moment (map event_of (drop l.event-index l.events)))
-    ≡ records_text (spec.rows_from (map string_bytes l.names) (at_start l.word) (map event_of l.events))
+    l.out.items ++ records_text (spec.rows_from (spec.routine_names (setting_of l.bench)) l.moment (map event_of (drop l.event-index l.events)))
+    ≡ records_text (spec.rows_from (spec.routine_names (setting_of l.bench)) (at_start l.word) (map event_of l.events))
