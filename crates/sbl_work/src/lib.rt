@@ -13,6 +13,7 @@ mod reports;
 mod requests;
 mod serving;
 mod steps;
+mod whys;
 mod words;
 
 pub use desk::Desk;
