@@ -101,7 +101,7 @@ fn spliced(
 impl Moment {
     /// Returns where a run on a word is before its first event. Returns `AllocError` if an allocation fails.
     pub(crate) fn new(alloc: Global, word: &[char]) -> Result<Moment, AllocError>
-        ensures { IfOk result (λ m. m.now ≡ spec.at_start word.now) }
+        ensures { IfOk result (λ m. m ≡ spec.at_start word.now) }
     {
         Ok(Moment {
             alloc,
