@@ -99,9 +99,12 @@ module _ (word : List ℕ) where
   tell_keeps x s same none h = (h.0 ++ (x ∷ []), ap (with_event x) h.1, text_last word h.0 x ∙ same (text_after word h.0) ∙ h.2, touches_last [] h.0 x ∙ none (touches_after [] h.0) ∙ h.3)
 
   touch_keeps : (x : Event') (y : Touch) (s : State) → ((t : List ℕ) → text_after_one t x ≡ t) → ((ts : List Touch) → touches_after_one ts x ≡ with_touch y ts) → is_no_test y ≡ true → Told s → Told (note_event x (record s { touched = with_touch y s.touched }))
-  touch_keeps x y s same one e h =
-      (h.0 ++ (x ∷ []), ap (with_event x) h.1, text_last word h.0 x ∙ same (text_after word h.0) ∙ h.2,
-       touches_last [] h.0 x ∙ one (touches_after [] h.0) ∙ ap (with_touch y) h.3 ∙ with_kept y e s.touched)
+  touch_keeps x y s same one e h = (
+    h.0 ++ (x ∷ []),
+    ap (with_event x) h.1,
+    text_last word h.0 x ∙ same (text_after word h.0) ∙ h.2,
+    touches_last [] h.0 x ∙ one (touches_after [] h.0) ∙ ap (with_touch y) h.3 ∙ with_kept y e s.touched,
+  )
 
   test_keeps : (g : ℕ) (s : State) → Told s → Told (touch_grouping g s)
   test_keeps g s h = (h.0, h.1, h.2, h.3 ∙ test_step (list_any (same_touch (Tested g)) s.touched) g s.touched)
