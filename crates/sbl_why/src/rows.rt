@@ -34,11 +34,7 @@ fn push_text(
 }
 
 /// Appends a number to a record, as one field. Returns `AllocError` if an allocation fails.
-fn push_number(
-    alloc: Global,
-    csv_record: &mut ByteRecord,
-    number: usize,
-) -> Result<(), AllocError>
+fn push_number(alloc: Global, csv_record: &mut ByteRecord, number: usize) -> Result<(), AllocError>
     requires { partial_of csv_record.old ≡ [] }
     ensures fields { OnOk result (fields_of csv_record.new ≡ fields_of csv_record.old ++ decimal number ∷ []) }
     ensures partial { OnOk result (partial_of csv_record.new ≡ []) }

@@ -48,12 +48,7 @@ fn shown(events: &[Event]) -> &[Event]
 }
 
 /// Returns the lines of a run on a word. Returns `AllocError` if an allocation fails.
-fn run_lines(
-    alloc: Global,
-    bench: &Bench,
-    word: &[char],
-    why: &Why,
-) -> Result<Vec<u8>, AllocError>
+fn run_lines(alloc: Global, bench: &Bench, word: &[char], why: &Why) -> Result<Vec<u8>, AllocError>
     ensures { IfOk result (λ text. text.items ≡ records_text (spec.why_rows (spec.routine_names (setting_of bench.now)) word.now (map event_of why.now.events.items) (outcome_of why.now.outcome))) }
 {
     let shown = shown(why.events.as_slice());
