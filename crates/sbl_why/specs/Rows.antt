@@ -1,5 +1,5 @@
 -- The rows that tell why a word has its stem.
-use Rattle.std.specs.Prelude.{ℕ, suc, ◌-◌, Bool, true, false, List, [], ◌∷◌, ◌++◌, Option, Some, None, codes, decimal, drop, length, slice_index_or, take}
+use Rattle.std.specs.Prelude.{ℕ, zero, suc, ◌-◌, Bool, true, false, List, [], ◌∷◌, ◌++◌, Option, Some, None, codes, decimal, drop, length, slice_index_or, take}
 use Rattle.std.specs.Str.{encode_utf8_all}
 use Rattle.sbl_bench.specs.Setting.{Setting}
 use Rattle.sbl_machine.specs.Outcome.{Outcome', Stem, Refused, run_of}
@@ -50,7 +50,7 @@ shown events = take max_events events
 
 -- how many events have no row
 abbrev pub more_rows : ℕ → List (List (List ℕ))
-more_rows 0 = []
+more_rows zero = []
 more_rows (suc n) = (codes "more" ∷ decimal (suc n) ∷ []) ∷ []
 
 abbrev pub outcome_row : Outcome' → List (List ℕ)

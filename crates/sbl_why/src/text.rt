@@ -1,5 +1,5 @@
 //! The text of the rows that tell why a word has its stem.
-ghost use Rattle.std.specs.Prelude.{◌≡◌, ◌++◌, ◌∷◌, [], IfErr, IfOk, None, Some, Err, map};
+ghost use Rattle.std.specs.Prelude.{◌≡◌, ◌++◌, ◌∷◌, [], IfErr, IfOk, None, Some, Err, map, take};
 ghost use Rattle.sbl_bench.specs.Kept.{setting_of};
 ghost use Rattle.sbl_bench.specs.Whys.{refusal_of_why};
 ghost use Rattle.sbl_bench.specs.declared.fault.EditFault.{EditFault as AnyFault};
@@ -36,12 +36,12 @@ fn event_lines(
     Ok(out)
 }
 
-/// Returns the events that have a row.
-fn shown(events: &[Event]) -> &[Event]
-    ensures { result.now ≡ spec.shown events.now }
+/// Returns the first events, at most `number`.
+fn first(events: &[Event], number: usize) -> &[Event]
+    ensures { result.now ≡ take number events.now }
 {
-    if events.len() > MAX_EVENTS {
-        &events[..MAX_EVENTS]
+    if number < events.len() {
+        &events[..number]
     } else {
         events
     }
@@ -51,9 +51,13 @@ fn shown(events: &[Event]) -> &[Event]
 fn run_lines(alloc: Global, bench: &Bench, word: &[char], why: &Why) -> Result<Vec<u8>, AllocError>
     ensures { IfOk result (λ text. text.items ≡ records_text (spec.why_rows (spec.routine_names (setting_of bench.now)) word.now (map event_of why.now.events.items) (outcome_of why.now.outcome))) }
 {
-    let shown = shown(why.events.as_slice());
+    let shown = first(why.events.as_slice(), MAX_EVENTS);
     let mut out = event_lines(alloc, bench, word, shown)?;
-    push_more(alloc, &mut out, why.events.len() - shown.len())?;
+    push_more(
+        alloc,
+        &mut out,
+        why.events.len().saturating_sub(shown.len()),
+    )?;
     push_outcome(alloc, &mut out, &why.outcome)?;
     Ok(out)
 }
