@@ -1,7 +1,4 @@
 //! The report of why a word has its stem.
-ghost use Rattle.std.specs.Prelude.{◌≡◌};
-ghost use Rattle.sbl_bench.specs.Kept.{contents_of};
-ghost use Rattle.sbl_work.specs.Whys.{IsWhyReply};
 
 use crate::replies::edit_reply;
 use sbl_bench::Bench;
