@@ -6,7 +6,7 @@ import tempfile
 
 from lexer import ITEMS, Names, RESERVED, is_word, position, read_tokens
 from locate import locate
-from near import listed, meant
+from near import distance, listed, meant
 from plain import below, masked, named
 
 # A line of the program on standard error for a fault of a script.
@@ -84,7 +84,15 @@ class Fault:
         else:
             said = "%s cannot follow what is before it" % self.thing()
         starts_item = self.token is None or is_word(self.token, "backwardmode", *ITEMS)
-        return said + ("; the ( of %s is still open" % opened if opened and starts_item else "")
+        return said + ("; the ( of %s is still open" % opened if opened and starts_item else "") + self.reserved_word()
+
+    def reserved_word(self):
+        """Returns a question if a name stands here that is a reserved word but for one letter in three."""
+        if not self.token or self.token.kind != "name":
+            return ""
+        name = self.token.text
+        question = meant(name, [word for word in RESERVED if 3 * distance(name, word) <= len(name)])
+        return question and "." + question
 
     def sentence_10(self):
         if not self.token:
@@ -171,6 +179,8 @@ def explain_block(title, before, block, after, program, options):
     line = fault_of(program, options, text)
     if not line:
         return []
+    if not block.strip():
+        return ["%s: the text is empty" % title]
     if int(line[1]) == 21:
         return [explain_external(text, options)]
     fault = Fault(line, text)
