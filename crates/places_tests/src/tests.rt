@@ -1,0 +1,4 @@
+//! Public calls, each file by what it tests.
+
+mod faults;
+mod lines;
