@@ -116,7 +116,9 @@ after_ all done (m ∷ after) n f e = go (fault_at all done m after) refl e (aft
 
   go : (o : Option ScriptFault) → fault_at all done m after ≡ o → option_or (option_map (λ (g : ScriptFault). (length (subjects_of done), g)) o) (first_from all (done ++ m ∷ []) after) ≡ Some (n, f)
       → (first_from all (done ++ m ∷ []) after ≡ Some (n, f) → After all (done ++ m ∷ []) after n f) → After all done (m ∷ after) n f
-  go (Some g) is e more = stop g is cc cc
+  go (Some g) is e more =
+      let both : (length (subjects_of done), g) ≡ (n, f) = cc in
+      stop g is (sym (ap (λ (x : ℕ × ScriptFault). x.0) both)) (ap (λ (x : ℕ × ScriptFault). x.1) both)
   go None is e more = more_ is (more e)
 
 first_after : (all : List Occurrence) (n : ℕ) (f : ScriptFault) → After all [] all n f → IsFirstAfter all n f
