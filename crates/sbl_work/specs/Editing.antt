@@ -4,21 +4,19 @@ use Rattle.sbl_bench.specs.Contents.{Contents}
 use Rattle.sbl_bench.specs.Edits.{Edit, Edits, Replace}
 use Rattle.sbl_bench.specs.declared.fault.EditFault.{EditFault}
 use Rattle.sbl_bench.specs.declared.fault.EditFault.TheVariants as fault
-use Rattle.sbl_print.specs.Canonical.{canonical}
 use Rattle.sbl_script.specs.Edits.{ScriptEdit}
 use Rattle.sbl_work.specs.Desks.{State, text_in}
 use Rattle.sbl_work.specs.History.{ToLimit, ToText, remembered}
 
--- two benches have scripts with the same canonical text
-abbrev pub SameText : Contents → Contents → Type 0
-SameText s t = canonical s.setting.script.items ≡ canonical t.setting.script.items
+-- two benches have the same script: the same items, and so the same canonical text
+abbrev pub SameScript : Contents → Contents → Type 0
+SameScript s t = t.setting.script ≡ s.setting.script
 
--- After an accepted edit of the script this text is kept, and the edit is remembered. It may be forgotten only if the canonical
--- text is the same after it.
+-- After an accepted edit of the script this text is kept. The edit is remembered exactly if the script is another one after it.
 pub record IsNoted (s t : Contents) (d e : State) (text : Option (List ℕ)) : Type 0 where
   pub text_is : e.text ≡ text
   pub marked : e.marked ≡ d.marked
-  pub past : (SameText s t × (e.past ≡ d.past)) ⊎ (e.past ≡ remembered d.past (ToText (text_in s d.text)))
+  pub past : (SameScript s t × (e.past ≡ d.past)) ⊎ (¬ (SameScript s t) × (e.past ≡ remembered d.past (ToText (text_in s d.text))))
 
 -- The bench makes an edit of the script, and the desk notes it with this text. After a fault the desk is unchanged.
 abbrev pub Replaces : Result (Unit {0}) EditFault → Edit → Option (List ℕ) → Contents → State → Contents → State → Type 0

@@ -1,14 +1,14 @@
 //! A desk: what is kept beside a bench at work, so that its edits can be undone and its rows compared with those at a mark.
-ghost use Rattle.std.specs.Prelude.{◌≡◌, ◌⊎◌, [], IfOk, OnErr, OnOk, None, Some, map, string_bytes, true};
-ghost use Rattle.sbl_bench.specs.Edits.{Edits, Replace, Whole};
+ghost use Rattle.std.specs.Prelude.{◌≡◌, [], IfOk, OnErr, OnOk, None, Some, false, map, true};
+ghost use Rattle.sbl_bench.specs.Edits.{Whole};
 ghost use Rattle.sbl_bench.specs.Kept.{contents_of};
-ghost use Rattle.sbl_print.specs.Canonical.{canonical};
 ghost use Rattle.sbl_sessions.specs.CommandViews.{IsAnswer, view_target};
 ghost use Rattle.sbl_sessions.specs.Commands.{line_command};
 ghost use Rattle.sbl_work.specs.Desks.{Redoes, Undoes, rows_now, state_of, text_in, view_marked, view_text};
 ghost use Rattle.sbl_work.specs.Editing.{IsLimitNoted, Replaces, ReplacesPart};
 ghost use Rattle.sbl_work.specs.History.{ToText, remembered};
 
+use crate::editing::{edit_part, edit_whole};
 use crate::history::{HistoryFault, text_of};
 use crate::marks::{MarkedRow, copy_rows};
 use crate::steps::{History, Step};
@@ -25,13 +25,6 @@ pub struct Desk {
     text: Option<Vec<u8>>,
     history: History,
     marked: Vec<MarkedRow>,
-}
-
-/// The script before an edit.
-#[derive(Drop)]
-struct Before {
-    text: Vec<u8>,
-    canonical: String,
 }
 
 impl Desk {
@@ -87,27 +80,17 @@ impl Desk {
         reply
     }
 
-    /// Returns the script before an edit. Returns `AllocError` if an allocation fails.
-    fn before(&self, bench: &Bench) -> Result<Before, AllocError>
-        ensures text { IfOk result (λ b. b.text.items ≡ text_in (contents_of bench.now) (view_text self.now.text)) }
-        ensures canonical { IfOk result (λ b. string_bytes b.canonical ≡ canonical (contents_of bench.now).setting.script.items) }
-    {
-        let text = text_of(self.alloc, bench, &self.text)?;
-        let canonical = bench.script().print(self.alloc)?;
-        Ok(Before { text, canonical })
-    }
-
-    /// Notes that the script was edited, with its text. Remembers the text before unless the canonical text is the same.
-    fn note(&mut self, bench: &Bench, before: Before, text: Option<Vec<u8>>)
+    /// Notes that the script was edited, with its text. Remembers the text before if the script is another one.
+    fn note(&mut self, before: Vec<u8>, text: Option<Vec<u8>>, is_changed: bool)
         ensures text { (state_of self.new).text ≡ view_text text }
         ensures marked { (state_of self.new).marked ≡ (state_of self.old).marked }
-        ensures past { ((canonical (contents_of bench.now).setting.script.items ≡ string_bytes before.canonical) × ((state_of self.new).past ≡ (state_of self.old).past)) ⊎ ((state_of self.new).past ≡ remembered (state_of self.old).past (ToText before.text.items)) }
+        ensures same { is_changed ≡ false → (state_of self.new).past ≡ (state_of self.old).past }
+        ensures other { is_changed ≡ true → (state_of self.new).past ≡ remembered (state_of self.old).past (ToText before.items) }
     {
         self.text = text;
-        if has_canonical(self.alloc, bench, before.canonical.as_str()) {
-            return;
+        if is_changed {
+            self.history.remember(Step::Text(before));
         }
-        self.history.remember(Step::Text(before.text));
     }
 
     /// Replaces the whole script, as `Bench::replace_script` does, and remembers the edit if it changed the script.
@@ -115,14 +98,13 @@ impl Desk {
     /// # Errors
     ///
     /// Returns the faults of `Bench::replace_script`. Then the desk is unchanged.
-    #[tactic(auto, using(crate::proofs::Refusing::nothing_tried))]
     pub fn replace(&mut self, bench: &mut Bench, text: &[u8]) -> Result<(), EditFault>
         ensures { Replaces result (Whole text.now) (Some text.now) (contents_of bench.old) (state_of self.old) (contents_of bench.new) (state_of self.new) }
     {
         let kept = Vec::from_slice(self.alloc, text)?;
-        let before = self.before(bench)?;
-        bench.replace_script(text)?;
-        self.note(bench, before, Some(kept));
+        let before = text_of(self.alloc, bench, &self.text)?;
+        let is_changed = edit_whole(self.alloc, bench, text)?;
+        self.note(before, Some(kept), is_changed);
         Ok(())
     }
 
@@ -141,9 +123,9 @@ impl Desk {
     ) -> Result<(), EditFault>
         ensures { ReplacesPart result (view_target target.now) text.now (contents_of bench.old) (state_of self.old) (contents_of bench.new) (state_of self.new) }
     {
-        let before = self.before(bench)?;
-        edit_part(bench, target, text)?;
-        self.note(bench, before, None);
+        let before = text_of(self.alloc, bench, &self.text)?;
+        let is_changed = edit_part(self.alloc, bench, target, text)?;
+        self.note(before, None, is_changed);
         Ok(())
     }
 
@@ -181,26 +163,5 @@ impl Desk {
         ensures { IfOk result (λ t. t.items ≡ text_in (contents_of bench.now) (state_of self.now).text) }
     {
         text_of(self.alloc, bench, &self.text)
-    }
-}
-
-/// Replaces a part of the script of a bench by a text. Returns the fault of the bench.
-fn edit_part(bench: &mut Bench, target: &Target, text: &str) -> Result<(), EditFault>
-    ensures { Edits result (contents_of bench.old) (Replace (view_target target.now) text.now) (contents_of bench.new) }
-{
-    match target {
-        Target::Body(name) => bench.replace_routine(name.as_str(), text),
-        Target::Among(name, k) => bench.replace_among(name.as_str(), *k, text),
-        Target::Terms(name) => bench.replace_grouping(name.as_str(), text),
-    }
-}
-
-/// Whether the script of a bench is known to have this canonical text; false also if an allocation fails.
-fn has_canonical(alloc: Global, bench: &Bench, text: &str) -> bool
-    ensures { result ≡ true → canonical (contents_of bench.now).setting.script.items ≡ text.now }
-{
-    match bench.script().print(alloc) {
-        Ok(canonical) => canonical.as_str() == text,
-        Err(_) => false,
     }
 }

@@ -3,6 +3,7 @@
 
 mod definitions;
 mod desk;
+mod editing;
 mod families;
 mod files;
 mod history;

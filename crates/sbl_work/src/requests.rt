@@ -1,10 +1,15 @@
 //! The commands of work.
+ghost use Rattle.std.specs.Prelude.{◌≡◌, codes};
+ghost use Rattle.std.specs.Str.{bytes_eq};
+ghost use Rattle.sbl_sessions.specs.Words as words;
+ghost use Rattle.sbl_work.specs.Commands as spec;
+ghost use Rattle.sbl_work.specs.WorkViews.{view_request};
 
 /// What a line without a block asks for.
 #[derive(Debug, Drop)]
 pub(crate) enum Request<'a> {
-    /// Nothing: the line is a comment.
-    Comment,
+    /// Nothing: the line is a comment or `help`.
+    Nothing,
     /// Replaces the whole script by what its file has now.
     Reload,
     /// Undoes an edit.
@@ -27,19 +32,22 @@ pub(crate) enum Request<'a> {
     Save(&'a str),
     /// Writes a text.
     Echo(&'a [u8]),
-    /// Reports nothing.
-    Help,
     /// A request of a session without a block.
     Session,
 }
 
 /// Whether a line ends the work.
-pub(crate) fn is_quit(line: &[u8]) -> bool {
+pub(crate) fn is_quit(line: &[u8]) -> bool
+    ensures { result ≡ bytes_eq line.now spec.quit_line }
+{
     line == b"quit".as_slice()
 }
 
 /// Returns the command word of a line and the bytes after the first space.
-fn split(line: &[u8]) -> (&[u8], &[u8]) {
+fn split(line: &[u8]) -> (&[u8], &[u8])
+    ensures word { result.0.now ≡ words.command_word line.now }
+    ensures argument { result.1.now ≡ words.argument line.now }
+{
     for i in 0..line.len() {
         if line[i] == b' ' {
             return (&line[..i], &line[i + 1..]);
@@ -52,20 +60,26 @@ fn split(line: &[u8]) -> (&[u8], &[u8]) {
 pub(crate) const REPLACE: &[u8] = b"replace";
 
 /// Whether a line is `families` alone: then a block of families follows it.
-pub(crate) fn asks_families(line: &[u8]) -> bool {
+pub(crate) fn asks_families(line: &[u8]) -> bool
+    ensures { result ≡ bytes_eq line.now (codes "families") }
+{
     line == b"families".as_slice()
 }
 
 /// Whether the command word of a line is `replace`: then a block follows the line, whatever else the line contains.
-pub(crate) fn asks_replace(line: &[u8]) -> bool {
+pub(crate) fn asks_replace(line: &[u8]) -> bool
+    ensures { result ≡ spec.is_replace line.now }
+{
     let (word, _) = split(line);
     word == REPLACE
 }
 
 /// Returns what a line without a block asks for.
-pub(crate) fn request_of(line: &[u8]) -> Request<'_> {
+pub(crate) fn request_of(line: &[u8]) -> Request<'_>
+    ensures { view_request line.now result ≡ spec.alone_command line.now }
+{
     if line.first() == Some(&b'#') {
-        return Request::Comment;
+        return Request::Nothing;
     }
     let (word, argument) = split(line);
     if word == b"echo".as_slice() {
@@ -78,33 +92,61 @@ pub(crate) fn request_of(line: &[u8]) -> Request<'_> {
 }
 
 /// Returns what a line that is UTF-8 asks for.
-fn text_request(line: &str) -> Request<'_> {
-    match line {
-        "reload" => return Request::Reload,
-        "undo" => return Request::Undo,
-        "redo" => return Request::Redo,
-        "mark" => return Request::Mark,
-        "changes" => return Request::Changes,
-        "stats" => return Request::Stats,
-        "help" => return Request::Help,
-        _ => {}
+fn text_request(line: &str) -> Request<'_>
+    ensures { view_request line.now result ≡ spec.text_command line.now }
+{
+    if line == "reload" {
+        return Request::Reload;
     }
+    if line == "undo" {
+        return Request::Undo;
+    }
+    if line == "redo" {
+        return Request::Redo;
+    }
+    if line == "mark" {
+        return Request::Mark;
+    }
+    if line == "changes" {
+        return Request::Changes;
+    }
+    if line == "stats" {
+        return Request::Stats;
+    }
+    if line == "help" {
+        return Request::Nothing;
+    }
+    word_request(line)
+}
+
+/// Returns what a line that is UTF-8 asks for by its command word.
+fn word_request(line: &str) -> Request<'_>
+    ensures { view_request line.now result ≡ spec.word_command line.now }
+{
     let (word, argument) = match line.split_once(' ') {
         Some((word, argument)) => (word, argument),
         None => (line, ""),
     };
-    match word {
-        "largest" => Request::Largest(argument),
-        "families" => Request::Families(argument),
-        "show" => Request::Show(argument),
-        "save" => Request::Save(argument),
-        _ => Request::Session,
+    if word == "largest" {
+        return Request::Largest(argument);
     }
+    if word == "families" {
+        return Request::Families(argument);
+    }
+    if word == "show" {
+        return Request::Show(argument);
+    }
+    if word == "save" {
+        return Request::Save(argument);
+    }
+    Request::Session
 }
 
 /// Returns the number above 0 that decimal digits write, and `usize::MAX` for each larger number; `None` if the bytes are not
 /// decimal digits or the number is 0.
-pub(crate) fn count_in(digits: &[u8]) -> Option<usize> {
+pub(crate) fn count_in(digits: &[u8]) -> Option<usize>
+    ensures { result ≡ spec.count_in digits.now }
+{
     let mut number: usize = 0;
     for i in 0..digits.len() {
         if !digits[i].is_ascii_digit() {

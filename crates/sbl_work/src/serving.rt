@@ -1,8 +1,15 @@
 //! Work: each request gets its reply before the next line is read.
 
-ghost use Rattle.std.specs.Prelude.{◌≤◌, OnOk};
+ghost use Rattle.std.specs.Prelude.{◌≡◌, ◌≤◌, Err, IfErr, IfOk, None, OnErr, OnOk};
+ghost use Rattle.sbl_bench.specs.Kept.{contents_of};
 ghost use Rattle.sbl_lines.specs.Devices.{WritesInTime};
-ghost use Rattle.sbl_lines.specs.Held.{KeepsTime, fuel_of};
+ghost use Rattle.sbl_lines.specs.Faults.{left_by};
+ghost use Rattle.sbl_lines.specs.Held.{IsDrained, KeepsTime, StaysEnded, TakesFeeds, fault_of, fuel_of, input_of, line_of};
+ghost use Rattle.sbl_sessions.specs.Answers.{ended};
+ghost use Rattle.sbl_work.specs.Commands as spec;
+ghost use Rattle.sbl_work.specs.Desks.{State, state_of};
+ghost use Rattle.sbl_work.specs.Work.{IsWork};
+ghost use Rattle.sbl_work.specs.WorkViews.{BreaksWorkBlock, IsWorkAnswer, IsWorkAnswered};
 
 use crate::definitions::definition_text;
 use crate::desk::Desk;
@@ -35,7 +42,9 @@ fn reload<F: Files + AllocGlobal>(
     folder: &mut Folder<'_, F>,
     desk: &mut Desk,
     bench: &mut Bench,
-) -> Reply {
+) -> Reply
+    ensures { IsWorkAnswer (contents_of bench.old) (state_of desk.old) spec.Reload result (contents_of bench.new) (state_of desk.new) }
+{
     let Ok(bytes) = fs::read(folder.files, folder.paths.script.as_str()) else {
         return Reply::Fixed(NO_FILE);
     };
@@ -50,7 +59,9 @@ fn save_as<F: Files + AllocGlobal>(
     desk: &Desk,
     bench: &Bench,
     path: &str,
-) -> Reply {
+) -> Reply
+    ensures { IsWorkAnswer (contents_of bench.now) (state_of desk.now) (spec.Save path.now) result (contents_of bench.now) (state_of desk.now) }
+{
     let Ok(text) = desk.text(bench) else {
         return edit_reply(Err(EditFault::OutOfMemory));
     };
@@ -62,7 +73,9 @@ fn save_as<F: Files + AllocGlobal>(
 }
 
 /// Returns the reply to `largest`.
-fn largest(alloc: Global, bench: &Bench, argument: &str) -> Reply {
+fn largest(alloc: Global, bench: &Bench, argument: &str) -> Reply
+    ensures { (d : State) → IsWorkAnswer (contents_of bench.now) d (spec.Largest (spec.count_in argument.now)) result (contents_of bench.now) d }
+{
     match count_in(argument.as_bytes()) {
         Some(number) => report(largest_text(alloc, bench, number)),
         None => Reply::Fixed(BAD_NUMBER),
@@ -70,7 +83,9 @@ fn largest(alloc: Global, bench: &Bench, argument: &str) -> Reply {
 }
 
 /// Returns the reply to `families` for a file.
-fn families<F: Files + AllocGlobal>(folder: &Folder<'_, F>, bench: &Bench, path: &str) -> Reply {
+fn families<F: Files + AllocGlobal>(folder: &Folder<'_, F>, bench: &Bench, path: &str) -> Reply
+    ensures { (d : State) → IsWorkAnswer (contents_of bench.now) d (spec.FamiliesFile path.now) result (contents_of bench.now) d }
+{
     let Ok(bytes) = fs::read(folder.files, path) else {
         return Reply::Fixed(NO_FILE);
     };
@@ -81,7 +96,9 @@ fn families<F: Files + AllocGlobal>(folder: &Folder<'_, F>, bench: &Bench, path:
 }
 
 /// Returns the reply to `show`.
-fn show(alloc: Global, bench: &Bench, name: &str) -> Reply {
+fn show(alloc: Global, bench: &Bench, name: &str) -> Reply
+    ensures { (d : State) → IsWorkAnswer (contents_of bench.now) d (spec.Show name.now) result (contents_of bench.now) d }
+{
     match definition_text(alloc, bench.script(), name) {
         Ok(Some(text)) => Reply::Report(text),
         Ok(None) => edit_reply(Err(EditFault::NoRoutine)),
@@ -90,7 +107,9 @@ fn show(alloc: Global, bench: &Bench, name: &str) -> Reply {
 }
 
 /// Returns a text and a line feed.
-fn echo_text(alloc: Global, text: &[u8]) -> Result<Vec<u8>, AllocError> {
+fn echo_text(alloc: Global, text: &[u8]) -> Result<Vec<u8>, AllocError>
+    ensures { IfOk result (λ line. line.items ≡ ended text.now) }
+{
     let mut line = Vec::from_slice(alloc, text)?;
     line.extend_from_slice(b"\n")?;
     Ok(line)
@@ -103,9 +122,11 @@ fn answer_alone<F: Files + AllocGlobal>(
     bench: &mut Bench,
     alloc: Global,
     line: &[u8],
-) -> Reply {
+) -> Reply
+    ensures { IsWorkAnswer (contents_of bench.old) (state_of desk.old) (spec.alone_command line.now) result (contents_of bench.new) (state_of desk.new) }
+{
     match request_of(line) {
-        Request::Comment => Reply::Fixed(""),
+        Request::Nothing => Reply::Fixed(""),
         Request::Reload => reload(folder, desk, bench),
         Request::Undo => undo_reply(desk.undo(bench)),
         Request::Redo => redo_reply(desk.redo(bench)),
@@ -117,7 +138,6 @@ fn answer_alone<F: Files + AllocGlobal>(
         Request::Show(name) => show(alloc, bench, name),
         Request::Save(path) => save_as(folder, desk, bench, path),
         Request::Echo(text) => report(echo_text(alloc, text)),
-        Request::Help => Reply::Fixed(""),
         Request::Session => desk.answer(bench, line),
     }
 }
@@ -130,7 +150,15 @@ fn answer<F: Files + AllocGlobal, R: Source + Drop>(
     bench: &mut Bench,
     lines: &mut Lines<R>,
 ) -> Result<Reply, ServeFault>
+    requires ready { fault_of lines.old ≡ None }
+    ensures answered { IfOk result (λ reply. IsWorkAnswered (input_of R.left lines.old) (input_of R.left lines.new) (line_of lines.old) (contents_of bench.old) (state_of desk.old) reply (contents_of bench.new) (state_of desk.new)) }
+    ensures broken { IfErr result (λ fault. BreaksWorkBlock (input_of R.left lines.old) (input_of R.left lines.new) (line_of lines.old) fault) }
+    ensures kept { OnErr result ((contents_of bench.new ≡ contents_of bench.old) × (state_of desk.new ≡ state_of desk.old)) }
+    ensures remembered { fault_of lines.new ≡ left_by result }
+    ensures drained { result ≡ Err ServeFault.Read → IsDrained lines.new }
     ensures fuel { OnOk result (fuel_of lines.new ≤ fuel_of lines.old) }
+    ensures stays { StaysEnded lines.old lines.new }
+    ensures feeds { OnOk result (TakesFeeds R.left lines.old lines.new) }
     ensures in_time { KeepsTime R.ended R.late R.interruptions R.reads lines.old lines.new }
 {
     if let Some(word) = block_word(lines.line()) {
@@ -154,6 +182,7 @@ fn serve<F: Files + AllocGlobal, R: Source + Drop, W: Sink>(
     lines: &mut Lines<R>,
     writer: &mut W,
 ) -> Result<(), ServeFault>
+    ensures works { fault_of lines.old ≡ None → IsWork prompt.now (input_of R.left lines.old) (input_of R.left lines.new) (W.held writer.old) (W.held writer.new) (contents_of bench.old) (state_of desk.old) (contents_of bench.new) (state_of desk.new) result }
     ensures reads_in_time { KeepsTime R.ended R.late R.interruptions R.reads lines.old lines.new }
     ensures writes_in_time { WritesInTime W.late W.interruptions writer.old writer.new }
 {
