@@ -5,7 +5,7 @@ ghost use Rattle.sbl_bench.specs.Kept.{contents_of};
 ghost use Rattle.sbl_script.specs.Edits as edits;
 ghost use Rattle.sbl_script.specs.Parsed.{source_of};
 ghost use Rattle.sbl_sessions.specs.CommandViews.{view_target};
-ghost use Rattle.sbl_work.specs.Editing.{EditsPart, EditsScript, IsInstalled};
+ghost use Rattle.sbl_work.specs.Edited.{EditsPart, EditsScript, IsInstalled};
 
 use sbl_bench::{Bench, EditFault};
 use sbl_script::laws::one_edit;
