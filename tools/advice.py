@@ -1,4 +1,5 @@
-"""Sentences for people after a command that is refused: what is wrong, and what to do."""
+"""The sentences after a refused command: what is wrong, and what to do."""
+import csv
 import os
 import re
 import unicodedata
@@ -12,6 +13,8 @@ PLAIN = "stems classes script runs reload undo redo mark changes stats help quit
 ONE_LINE = "add remove class trace limit largest show save echo".split()
 BLOCKS = "routine among grouping replace families".split()
 DROP = " Ctrl-C drops this block."
+# How a block may begin, as `show` writes a definition.
+HEADS = {"routine": r"^\s*define\s+\w+\s+as\b", "grouping": r"^\s*define\s+\w+"}
 
 
 def split(command):
@@ -29,8 +32,6 @@ class Advice:
         return "\n".join(self.desk.query(["script"]) or []) + "\n"
 
     def words(self):
-        import csv
-
         return [row[0] for row in csv.reader(self.desk.query(["stems"]) or []) if row]
 
     def lines(self, code, name, command):
@@ -154,7 +155,8 @@ class Advice:
         before, after = self.around(word, argument)
         if before is None:
             return ["docs/LANGUAGE.md says what %s means." % name]
-        block = re.sub(r"^\s*define\s+\w+\s+as\b" if word == "routine" else r"^\s*define\s+\w+" if word == "grouping" else r"^$", blanked, block)
+        if word in HEADS:
+            block = re.sub(HEADS[word], blanked, block)
         return explain_block("%s %s" % (word, named(argument)), before, block, after, desk.program, desk.external)
 
     def around(self, word, argument):
@@ -172,7 +174,7 @@ class Advice:
         return script[: first.end] + "\n", script[end:]
 
     def early(self, line):
-        """Returns the lines that are said before the text of a block is typed, if its first line is wrong already."""
+        """Returns the lines to show before the text of a block is typed, if the line before the block has a mistake."""
         word, argument = split(line)
         names = Names(self.script())
         if word == "routine" and argument not in names.of("routine", "external"):
@@ -190,7 +192,7 @@ class Advice:
         return []
 
     def note(self, command):
-        """Returns the lines on a command that is accepted, but may not be what was meant."""
+        """Returns the lines about an accepted command that the author may not have meant."""
         word, argument = split(command[0])
         if word == "add" and argument != argument.strip():
             return ['The word that was added is "%s", with a blank at its beginning. "remove %s" takes it out.' % (named(argument), named(argument))]
@@ -198,7 +200,7 @@ class Advice:
 
 
 def blanked(match):
-    """Blanks in the place of the beginning of a definition, which a block may have."""
+    """Returns as many blanks as the match has characters, so that places stay the same."""
     return re.sub(r"[^\n]", " ", match.group())
 
 

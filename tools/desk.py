@@ -1,9 +1,10 @@
 #!/usr/bin/env python3
-"""The verb work at a terminal, between the line editing of tools/work and the program: it passes commands on, lays out what is easier to
-read so than as rows, and says what to do if a command is refused.
+"""The verb `work` at a terminal. It runs between the line editing of tools/work and the program: it passes commands on, lays out rows for
+people, and says what to do if a command is refused.
 usage: desk.py PROGRAM SCRIPT WORDS OPTION..   (WORDS may be empty; the options are those of the program, --external among them)
-It reads requests on standard input: a number N, what it is about, and N lines, each ended by a zero byte. `ask` is a command with its
-block, `peek` the first line of a block that is still to be typed. It writes a line for each on descriptor 3: `ok`, `refused` or `ended`.
+It reads requests on standard input: a number N, the kind of request, and N lines, each ended by a zero byte. `start` begins, `ask` is a
+command with its block, `save` the same after a save, and `peek` the first line of a block that comes later. For each request it writes
+`ok`, `refused` or `ended` as a line on descriptor 3.
 """
 import csv
 import os
@@ -20,7 +21,7 @@ from warn import warnings_on
 REFUSAL = re.compile(r"^no (\d\d) ([A-Za-z0-9]+)$")
 # How many words, and classes of a kind, are shown after a save; `changes` shows all.
 MOST = 20
-# The most bytes of a line, and the seconds after which a command is said to be still running.
+# The most bytes of a line, and after how many seconds a sentence says that a command still runs.
 LONGEST, PATIENCE = 65536, 2
 
 
@@ -57,7 +58,7 @@ class Desk:
         return None
 
     def ask(self, lines, is_save=False):
-        """Answers a command, and returns what became of it."""
+        """Runs a command, shows the reply, and returns `ok`, `refused` or `ended`."""
         if any(len(line.encode("utf-8", "surrogateescape")) > LONGEST for line in lines):
             say(["A line may have %d bytes at most. Nothing was done." % LONGEST])
             return "refused"
@@ -103,7 +104,7 @@ class Desk:
                 say([line])
 
     def end(self):
-        """The program has ended: says why."""
+        """Says why the program has ended."""
         said = self.child.stderr.read().decode("utf-8", "surrogateescape")
         self.child.wait()
         for line in said.splitlines():
@@ -181,7 +182,7 @@ LAYOUTS = {"changes": lay_out_changes, "stats": lay_out_stats}
 
 
 def requests():
-    """Reads requests: what each is about, and its lines."""
+    """Yields the kind and the lines of each request."""
     stream = sys.stdin.buffer
 
     def record():

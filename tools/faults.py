@@ -27,7 +27,7 @@ def fault_of(program, options, text):
 
 
 class Fault:
-    """A fault of a script's bytes: its code and name, the place in the text and how many characters are concerned."""
+    """A fault of a script's bytes: its code and name, its offset in the text, and its token if there is one."""
 
     def __init__(self, line, text):
         self.code, self.name, self.text = int(line[1]), line[2], text.decode("utf-8", "surrogateescape")
@@ -87,7 +87,7 @@ class Fault:
         return said + ("; the ( of %s is still open" % opened if opened and starts_item else "") + self.reserved_word()
 
     def reserved_word(self):
-        """Returns a question if a name stands here that is a reserved word but for one letter in three."""
+        """Returns a question if the token is a name that differs from a reserved word by at most one letter in three."""
         if not self.token or self.token.kind != "name":
             return ""
         name = self.token.text
@@ -115,7 +115,7 @@ SENTENCES = {
     2: "the literal that begins here has no closing quote. Look for a missing quote before it, too",
     3: "the comment that begins here has no */",
     4: "no stringdef before this defines the name that is inserted here",
-    5: "this is no code of a character: hex wants 1 to 6 digits of 0-9 and A-F, decimal wants digits",
+    5: "this is no code of a character: hex needs 1 to 6 digits of 0-9 and A-F, decimal needs digits",
     6: "a number may be 2147483647 at most",
     8: "this is inside more than 64 others: put a part into a routine of its own",
     9: "T is declared twice: take one of the two away",

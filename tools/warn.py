@@ -1,16 +1,16 @@
 #!/usr/bin/env python3
-"""Warnings on the files of work: at most one line for each kind of thing that may not be meant.
+"""Warnings about the files of `work`: at most one line for each kind of thing that the author may not have meant.
 usage: warn.py SCRIPT [WORDS]
 """
+import os
 import re
 import stat
 import sys
-import os
 import unicodedata
 
 from plain import named
 
-# Larger files, and what is no regular file, are not looked at.
+# The script reads only regular files that are not larger.
 LARGEST = 1 << 26
 BOM = b"\xef\xbb\xbf"
 
@@ -34,8 +34,8 @@ def is_decomposed(line):
     return len(unicodedata.normalize("NFC", line)) < len(line)
 
 
-def counted(lines, one, many):
-    """Returns `:LINE: ` and what is there, with the number of further lines."""
+def from_line(lines, one, many):
+    """Returns the first line's number, what the line has, and how many more lines have it."""
     more = len(lines) - 1
     return ":%d: %s%s" % (lines[0], one, "" if more == 0 else " (and %d more %s)" % (more, "line" if more == 1 else many))
 
@@ -52,11 +52,11 @@ def on_encoding(name, data, lines):
     text = "\n".join(lines)
     if is_not_utf8(text):
         found = lines_that(lines, is_not_utf8)
-        said.append(name + counted(found, "not UTF-8", "lines") + ". If it is Latin-1: iconv -f latin1 -t utf-8 " + name + " > NEW")
+        said.append(name + from_line(found, "not UTF-8", "lines") + ". If it is Latin-1: iconv -f latin1 -t utf-8 " + name + " > NEW")
     elif not text.isascii() and is_decomposed(text):
         found = lines_that(lines, is_decomposed)
         said.append(
-            name + counted(found, "a letter and its accent are two characters (NFD)", "lines") + ", and one character (NFC) does not match them."
+            name + from_line(found, "a letter and its accent are two characters (NFD)", "lines") + ", and one character (NFC) does not match them."
             " To compose them: uconv -x any-nfc " + name + " > NEW"
         )
     return said
@@ -68,18 +68,18 @@ def on_words(name, lines):
     text = "\n".join(lines)
     if re.search(r"[^\S\n](?:\n|\Z)|(?:\n|\A)[^\S\n]", text):
         found = lines_that(lines, lambda line: line != line.strip())
-        said.append(name + counted(found, "a blank at an end of the word, which belongs to it", "lines") + ". To take them away: sed -i 's/^[ \\t]*//; s/[ \\t]*$//' " + name)
+        said.append(name + from_line(found, "a blank at an end of the word, which belongs to it", "lines") + ". To take them away: sed -i 's/^[ \\t]*//; s/[ \\t]*$//' " + name)
     found = lines_that(lines, lambda line: "\t" in line.strip()) if "\t" in text else []
     if found:
-        said.append(name + counted(found, "a tab inside the word, which belongs to it", "lines") + ". If this is a table: cut -f1 " + name + " > NEW")
+        said.append(name + from_line(found, "a tab inside the word, which belongs to it", "lines") + ". If this is a table: cut -f1 " + name + " > NEW")
     found = lines_that(lines, lambda line: line == ".")
     if found:
-        said.append(name + counted(found, "a single point. In a session it ends the list; here it is a word", "lines"))
+        said.append(name + from_line(found, "a single point. In a session it ends the list; here it is a word", "lines"))
     found = lines_that(lines, lambda line: len(line) > 255)
     if found:
-        said.append(name + counted(found, "more than 255 characters, which no word may have", "lines"))
+        said.append(name + from_line(found, "more than 255 characters, which no word may have", "lines"))
     if not any(lines):
-        said.append(name + ": no words. A word a line is wanted; add WORD adds one")
+        said.append(name + ": no words. Write one word on each line; add WORD adds one")
     return said
 
 
