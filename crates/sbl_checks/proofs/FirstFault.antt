@@ -16,7 +16,7 @@ none_second : {X : Type 0} (a b : Option X) → option_or a b ≡ None → b ≡
 none_second (Some x) b e = absurd cc
 none_second None b e = e
 
-nothing : (b c : List Occurrence) (x : Occurrence) → [] ≡ b ++ x ∷ c → ⊥
+pub nothing : (b c : List Occurrence) (x : Occurrence) → [] ≡ b ++ x ∷ c → ⊥
 nothing [] c x e = cc
 nothing (y ∷ b) c x e = cc
 
@@ -35,55 +35,56 @@ passes all done (m ∷ after) e (y ∷ b) c x parts =
     (passes all (done ++ m ∷ []) after (none_second (fault_at all done m after) (fault_behind all (done ++ m ∷ []) after) e) b c x rest))
 
 -- the first fault of the rest
-record FirstFrom (all done rest : List Occurrence) (f : ScriptFault) : Type 0 where
-  before : List Occurrence
-  occurrence : Occurrence
-  after : List Occurrence
-  parts : rest ≡ before ++ occurrence ∷ after
-  fault : fault_at all (done ++ before) occurrence after ≡ Some f
-  none_before : (b c : List Occurrence) (x : Occurrence) → before ≡ b ++ x ∷ c → fault_at all (done ++ b) x (c ++ occurrence ∷ after) ≡ None
+pub record FirstFrom (all done rest : List Occurrence) (f : ScriptFault) : Type 0 where
+  pub before : List Occurrence
+  pub occurrence : Occurrence
+  pub after : List Occurrence
+  pub parts : rest ≡ before ++ occurrence ∷ after
+  pub fault : fault_at all (done ++ before) occurrence after ≡ Some f
+  pub none_before : (b c : List Occurrence) (x : Occurrence) → before ≡ b ++ x ∷ c → fault_at all (done ++ b) x (c ++ occurrence ∷ after) ≡ None
 
-first : (all done rest : List Occurrence) (f : ScriptFault) → fault_behind all done rest ≡ Some f → FirstFrom all done rest f
-first all done [] f e = absurd cc
-first all done (m ∷ after) f e = go (fault_at all done m after) refl e (first all (done ++ m ∷ []) after f) where
-  here : (g : ScriptFault) → fault_at all done m after ≡ Some g → Some g ≡ Some f → FirstFrom all done (m ∷ after) f
-  here g is e = record {
-    before = [];
-    occurrence = m;
-    after = after;
-    parts = refl;
-    fault = rw append-nil (is ∙ e);
-    none_before = λ b c x parts. absurd (nothing b c x parts);
-  }
+-- it is the fault of the first occurrence
+abbrev pub here : (all done after : List Occurrence) (m : Occurrence) (f : ScriptFault) → fault_at all done m after ≡ Some f → FirstFrom all done (m ∷ after) f
+here all done after m f is = record {
+  before = [];
+  occurrence = m;
+  after = after;
+  parts = refl;
+  fault = rw append-nil is;
+  none_before = λ b c x parts. absurd (nothing b c x parts);
+}
 
-  earlier : fault_at all done m after ≡ None → (r : FirstFrom all (done ++ m ∷ []) after f) → (b c : List Occurrence) (x : Occurrence) → m ∷ r.before ≡ b ++ x ∷ c → fault_at all (done ++ b) x (c ++ r.occurrence ∷ r.after) ≡ None
-  earlier none r [] c x parts =
+-- or the first of those after it
+abbrev pub there : (all done after : List Occurrence) (m : Occurrence) (f : ScriptFault) → fault_at all done m after ≡ None → FirstFrom all (done ++ m ∷ []) after f → FirstFrom all done (m ∷ after) f
+there all done after m f none r = record {
+  before = m ∷ r.before;
+  occurrence = r.occurrence;
+  after = r.after;
+  parts = ap (λ (k : List Occurrence). m ∷ k) r.parts;
+  fault = subst (λ (k : List Occurrence). fault_at all k r.occurrence r.after ≡ Some f) (append_assoc done (m ∷ []) r.before) r.fault;
+  none_before = earlier;
+} where
+  earlier : (b c : List Occurrence) (x : Occurrence) → m ∷ r.before ≡ b ++ x ∷ c → fault_at all (done ++ b) x (c ++ r.occurrence ∷ r.after) ≡ None
+  earlier [] c x parts =
       let same : m ≡ x = cc in
       let rest : r.before ≡ c = cc in
       rw append-nil (subst (λ (y : Occurrence). fault_at all done y (c ++ r.occurrence ∷ r.after) ≡ None) same
       (subst (λ (k : List Occurrence). fault_at all done m (k ++ r.occurrence ∷ r.after) ≡ None) rest (subst (λ (k : List Occurrence). fault_at all done m k ≡ None) r.parts none)))
-  earlier none r (y ∷ b) c x parts =
+  earlier (y ∷ b) c x parts =
       let same : m ≡ y = cc in
       let rest : r.before ≡ b ++ x ∷ c = cc in
       subst (λ (z : Occurrence). fault_at all (done ++ z ∷ b) x (c ++ r.occurrence ∷ r.after) ≡ None) same
       (subst (λ (k : List Occurrence). fault_at all k x (c ++ r.occurrence ∷ r.after) ≡ None) (append_assoc done (m ∷ []) b) (r.none_before b c x rest))
 
-  there : fault_at all done m after ≡ None → FirstFrom all (done ++ m ∷ []) after f → FirstFrom all done (m ∷ after) f
-  there none r = record {
-    before = m ∷ r.before;
-    occurrence = r.occurrence;
-    after = r.after;
-    parts = ap (λ (k : List Occurrence). m ∷ k) r.parts;
-    fault = subst (λ (k : List Occurrence). fault_at all k r.occurrence r.after ≡ Some f) (append_assoc done (m ∷ []) r.before) r.fault;
-    none_before = earlier none r;
-  }
-
+first : (all done rest : List Occurrence) (f : ScriptFault) → fault_behind all done rest ≡ Some f → FirstFrom all done rest f
+first all done [] f e = absurd cc
+first all done (m ∷ after) f e = go (fault_at all done m after) refl e (first all (done ++ m ∷ []) after f) where
   go : (o : Option ScriptFault) → fault_at all done m after ≡ o → option_or o (fault_behind all (done ++ m ∷ []) after) ≡ Some f
       → (fault_behind all (done ++ m ∷ []) after ≡ Some f → FirstFrom all (done ++ m ∷ []) after f) → FirstFrom all done (m ∷ after) f
-  go (Some g) is e more = here g is e
-  go None is e more = there is (more e)
+  go (Some g) is e more = here all done after m f (is ∙ e)
+  go None is e more = there all done after m f is (more e)
 
-each : (all : List Occurrence) → fault_behind all [] all ≡ None → EachPasses all
+pub each : (all : List Occurrence) → fault_behind all [] all ≡ None → EachPasses all
 each all e = λ before after m parts. passes all [] all e before after m parts
 
 external_is : (items : List Item) (external : List ℕ) (all : List Occurrence) → fault_of_external items external all ≡ None → has_external items external all ≡ true
@@ -103,7 +104,7 @@ well_declared_passes items external e =
     let all = occurrences_of items in
     (each all (none_first (fault_behind all [] all) (fault_of_external items external all) e), external_is items external all (none_second (fault_behind all [] all) (fault_of_external items external all) e))
 
-found : (all : List Occurrence) (f : ScriptFault) → FirstFrom all [] all f → IsFirst all f
+abbrev pub found : (all : List Occurrence) (f : ScriptFault) → FirstFrom all [] all f → IsFirst all f
 found all f r = record { before = r.before; occurrence = r.occurrence; after = r.after; parts = r.parts; fault = r.fault; none_before = r.none_before }
 
 found_or_external : (items : List Item) (external : List ℕ) (all : List Occurrence) (f : ScriptFault) (o : Option ScriptFault) → fault_behind all [] all ≡ o → option_or o (fault_of_external items external all) ≡ Some f →

@@ -6,3 +6,4 @@ pub mod FirstFault
 pub mod Extends
 pub mod Sound
 pub mod Resolving
+pub mod Numbered

@@ -57,7 +57,7 @@ note_in ms i = get_or ms i any_occurrence
 pub taken : (ms : List noted.Occurrence) (i : ℕ) → i < length ms → view_occurrences (take (i + 1) ms) ≡ view_occurrences (take i ms) ++ view_occurrence (note_in ms i) ∷ []
 taken ms i lt = ap view_occurrences (take_more ms i any_occurrence lt) ∙ map_push view_occurrence (take i ms) (note_in ms i)
 
-left : (ms : List noted.Occurrence) (i : ℕ) → i < length ms → view_occurrences (drop i ms) ≡ view_occurrence (note_in ms i) ∷ view_occurrences (drop (i + 1) ms)
+pub left : (ms : List noted.Occurrence) (i : ℕ) → i < length ms → view_occurrences (drop i ms) ≡ view_occurrence (note_in ms i) ∷ view_occurrences (drop (i + 1) ms)
 left ms i lt = rw add-one (ap view_occurrences (drop-cons ms i any_occurrence lt))
 
 -- the faults from an occurrence on

@@ -4,6 +4,8 @@ pub mod Occurrences
 pub mod Checks
 pub mod Amongs
 pub mod Laws
+pub mod Subjects
 -- what the functions inside the crate promise each other; no public contract depends on these
 pub mod OccurrenceView
 pub mod Met
+pub mod Numbered

@@ -1,9 +1,12 @@
 //! The checks of a script beyond its grammar.
 
-ghost use Rattle.std.specs.Prelude.{◌≡◌, ℕ, ◌∷◌, [], ◌++◌, List, not, is_some, ◌||◌, ◌+◌, ◌<◌, length, drop, nat_eq, ◌&&◌, ◌⊎◌, IfOk, IfErr, OnOk, if◌then◌else◌, Some, None, ◌==◌};
+ghost use Rattle.std.specs.Prelude.{◌≡◌, ℕ, ◌∷◌, [], ◌++◌, List, not, is_some, ◌||◌, ◌+◌, ◌<◌, length, drop, nat_eq, ◌&&◌, ◌⊎◌, IfOk, IfErr, OnOk, MatchOption, if◌then◌else◌, Some, None, ◌==◌};
 ghost use Rattle.sbl_checks.specs.Checks as spec;
 ghost use Rattle.sbl_checks.specs.Occurrences.{Occurrence as PlainOccurrence, occurrences_of as spec_occurrences};
 ghost use Rattle.sbl_checks.specs.OccurrenceView.{view_notice, view_occurrence, view_occurrences};
+ghost use Rattle.sbl_checks.specs.Laws.{EachPasses};
+ghost use Rattle.sbl_checks.specs.Subjects.{subject_of, IsFirstAfter};
+ghost use Rattle.sbl_checks.specs.Numbered.{first_from, one_more};
 ghost use Rattle.sbl_checks.specs.Met.{at_name, has_string, HasPlaces, HasMet, Notes, Finds};
 ghost use Rattle.std.specs.Option.{option_or};
 ghost use Rattle.sbl_tree.specs.View.{view_items};
@@ -352,6 +355,42 @@ fn behind<'a, 'b>(occurrences: &'b [Occurrence<'a>], index: usize) -> &'b [Occur
     &occurrences[index + 1..]
 }
 
+/// Returns the number of tokens that the checks have looked at after this one, given the number before it. There is no
+/// token at the end of a region.
+fn number_after(notice: Notice<'_>, number: usize) -> usize
+    requires { number < 18446744073709551615 }
+    ensures { result ≡ one_more (subject_of (view_notice notice.entry)) number }
+{
+    match notice {
+        Notice::RegionEnd => number,
+        _ => number + 1,
+    }
+}
+
+/// Returns the first fault of these occurrences, with the number of tokens that the checks look at before it. Returns
+/// `AllocError` if an allocation fails.
+fn fault_among<'a>(
+    occurrences: &[Occurrence<'a>],
+    sites: &BTreeMap<&'a str, Site>,
+    met: &mut Met<'a>,
+) -> Result<Option<(usize, ScriptFault)>, AllocError>
+    requires sites { HasPlaces sites.now (view_occurrences occurrences.now) }
+    requires met { HasMet met.old [] }
+    ensures fault { IfOk result (λ o. o ≡ first_from (view_occurrences occurrences.now) [] (view_occurrences occurrences.now)) }
+    ensures met { IfOk result (λ o. o ≡ None → HasMet met.new (view_occurrences occurrences.now)) }
+{
+    let mut number = 0;
+    for index in 0..occurrences.len() {
+        let occurrence = &occurrences[index];
+        if let Some(fault) = fault_at(occurrence, behind(occurrences, index), sites, met) {
+            return Ok(Some((number, fault)));
+        }
+        note(occurrence, met)?;
+        number = number_after(occurrence.notice, number);
+    }
+    Ok(None)
+}
+
 /// Checks all occurrences in order.
 fn check_occurrences<'a>(
     occurrences: &[Occurrence<'a>],
@@ -363,14 +402,25 @@ fn check_occurrences<'a>(
     ensures fault { Finds result (spec.fault_behind (view_occurrences occurrences.now) [] (view_occurrences occurrences.now)) }
     ensures met { OnOk result (HasMet met.new (view_occurrences occurrences.now)) }
 {
-    for index in 0..occurrences.len() {
-        let occurrence = &occurrences[index];
-        if let Some(fault) = fault_at(occurrence, behind(occurrences, index), sites, met) {
-            return Err(fault);
-        }
-        note(occurrence, met)?;
+    match fault_among(occurrences, sites, met)? {
+        None => Ok(()),
+        Some((_, fault)) => Err(fault),
     }
-    Ok(())
+}
+
+/// Returns the first fault of a script's checks, but for the fault of its external: the number of tokens that the
+/// checks look at before it, and the fault. Returns `None` if no check fails at any occurrence, and `AllocError` if an
+/// allocation fails.
+pub fn first_fault(
+    alloc: Global,
+    items: &[Item],
+) -> Result<Option<(usize, ScriptFault)>, AllocError>
+    ensures { IfOk result (λ o. MatchOption o (EachPasses (spec_occurrences (view_items items.now))) (λ x. IsFirstAfter (spec_occurrences (view_items items.now)) x.0 x.1)) }
+{
+    let occurrences = occurrences_of(alloc, items)?;
+    let sites = sites_of(alloc, &occurrences)?;
+    let mut met = met_nothing(alloc);
+    fault_among(&occurrences, &sites, &mut met)
 }
 
 /// Runs all checks of a script with this external.

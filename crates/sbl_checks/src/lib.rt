@@ -9,5 +9,5 @@ mod occurrences;
 mod sofar;
 
 pub use bodies::body_in;
-pub use checks::check;
+pub use checks::{check, first_fault};
 pub use occurrences::{Site, Use};

@@ -1,22 +1,11 @@
-use Rattle.std.proofs.Common.{sym, ◌∙◌, inr, take}
-use Rattle.sbl_checks.specs.OccurrenceView.{view_occurrence, view_occurrences}
-use Rattle.sbl_checks.proofs.Turns.{found, passed, met_more, taken, note_in}
+use Rattle.std.proofs.Common.{sym, ap, ◌∙◌, ◌≡◌, inr, Some}
+use Rattle.sbl_checks.specs.OccurrenceView.{view_occurrences}
+use Rattle.sbl_checks.proofs.Numbered.{has_none, has_first}
 use Rattle.sbl_checks.proofs.checks.check_occurrences.Goals as goal
+
+pub returns-in-None-clause-fault : goal.returns-in-None-clause-fault
+returns-in-None-clause-fault c = has_none (view_occurrences c.args.occurrences.now) c.in_ok-fault_among.field-0 c.in_ok-fault_among.ensures.fault c.in-None.is
 
 pub returns-in-Some-clause-fault : goal.returns-in-Some-clause-fault
 returns-in-Some-clause-fault c =
-    let all = view_occurrences c.args.occurrences.now in
-    let before = view_occurrences (take c.loop-index.index c.args.occurrences.now) in
-    let is = rw c.behind.ensures at (c.fault_at.ensures all before c.requires.sites c.loop-index.invariant.met) in
-    inr (sym c.loop-index.invariant.none ∙ found all c.args.occurrences.now c.loop-index.index c.fault_at.result c.in-Some.fault c.loop-index-test.true is c.in-Some.is)
-
-pub loop-index-preserved : goal.loop-index-preserved
-loop-index-preserved c =
-    let all = view_occurrences c.args.occurrences.now in
-    let i = c.loop-index.index in
-    let before = view_occurrences (take i c.args.occurrences.now) in
-    let is = rw c.behind.ensures at (c.fault_at.ensures all before c.requires.sites c.loop-index.invariant.met) in
-    record {
-      met = rw (taken c.args.occurrences.now i c.loop-index-test.true) (met_more c.loop-index.met c.note.new.met before (view_occurrence (note_in c.args.occurrences.now i)) c.loop-index.invariant.met c.in_ok-note.ensures);
-      none = passed all c.args.occurrences.now i c.fault_at.result c.loop-index-test.true is c.in_default.is ∙ c.loop-index.invariant.none;
-    }
+    inr (has_first (view_occurrences c.args.occurrences.now) c.in_ok-fault_among.field-0 (c.in-Some.field-0-0, c.in-Some.fault) c.in_ok-fault_among.ensures.fault c.in-Some.is)
