@@ -13,7 +13,6 @@ pub mod Run
 pub mod Start
 pub mod Halts
 pub mod Kept
-pub mod Told
 -- what the functions inside the crate promise each other; no public contract depends on these
 pub mod Rows
 pub mod Marks

@@ -8,7 +8,7 @@ use Rattle.sbl_run.specs.Moves.{next}
 use Rattle.sbl_run.specs.Numbers.{value, given}
 use Rattle.sbl_program.specs.Program as programs
 use Rattle.sbl_run.specs.Search.{choice, search_all}
-use Rattle.sbl_run.specs.State.{State, Ending, Signals, Stops, Doing, after, then_on, pay, at_place, to_limit, saved_cursor, put_back, tell}
+use Rattle.sbl_run.specs.State.{State, Ending, Signals, Stops, Doing, after, then_on, pay, at_place, to_limit, saved_cursor, put_back, note_event}
 use Rattle.sbl_run.specs.Events.{Enters, Leaves}
 use Rattle.sbl_run.specs.Touches.{with_touch}
 use Rattle.sbl_tree.specs.declared.mode.Mode.{Mode}
@@ -140,11 +140,11 @@ does classes call c = paid (act classes call c)
 
 -- a call of a routine with n amongs touches it and begins with no choices
 abbrev pub enter : ℕ → ℕ → State → State
-enter i n s = tell (Enters i) (record s { choices = replicate n None; routine = i; touched = with_touch (Entered i) s.touched })
+enter i n s = note_event (Enters i) (record s { choices = replicate n None; routine = i; touched = with_touch (Entered i) s.touched })
 
 -- the routine and the choices of the caller, after a call with this signal
 abbrev pub back_in : ℕ → List (Option ℕ) → Bool → State → State
-back_in i choices b s = tell (Leaves b) (record s { choices = choices; routine = i })
+back_in i choices b s = note_event (Leaves b) (record s { choices = choices; routine = i })
 
 -- a call restores these when it returns
 abbrev pub leave : ℕ → List (Option ℕ) → Ending → Ending

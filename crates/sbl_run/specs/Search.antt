@@ -5,7 +5,7 @@ use Rattle.sbl_program.specs.Listed.{Listed}
 use Rattle.sbl_run.specs.Listing.{fits_at}
 use Rattle.sbl_run.specs.Events.{Searches, Finds}
 use Rattle.sbl_run.specs.declared.touch.Touch.TheVariants.{Searched}
-use Rattle.sbl_run.specs.State.{State, Ending, Signals, Doing, after, then_on, pay, saved_cursor, limit_of, place_after, tell}
+use Rattle.sbl_run.specs.State.{State, Ending, Signals, Doing, after, then_on, pay, saved_cursor, limit_of, place_after, note_event}
 use Rattle.sbl_run.specs.Touches.{with_touch}
 use Rattle.sbl_tree.specs.declared.mode.Mode.{Mode}
 use Rattle.sbl_tree.specs.declared.mode.Mode.TheVariants.{Forward, Backward}
@@ -16,10 +16,10 @@ choose k g s = record s { choices = slice_set s.choices k g }
 
 -- a search takes a string of this many characters and this group, or none
 abbrev pub take_string : ℕ → ℕ → ℕ → State → State
-take_string k n g s = tell (Finds k (Some n)) (choose k (Some g) s)
+take_string k n g s = note_event (Finds k (Some n)) (choose k (Some g) s)
 
 abbrev pub take_none : ℕ → State → State
-take_none k s = tell (Finds k None) (choose k None s)
+take_none k s = note_event (Finds k None) (choose k None s)
 
 abbrev pub choice : ℕ → State → Option ℕ
 choice k s = slice_index_or s.choices k None
@@ -29,9 +29,9 @@ abbrev pub bound_in : Mode → State → ℕ
 bound_in Forward s = limit_of s
 bound_in Backward s = if nat_lt s.left (length s.text) then s.left else length s.text
 
--- touches the among with this number in the current routine
-abbrev pub touch_among : ℕ → State → State
-touch_among k s = tell (Searches k s.cursor) (record s { touched = with_touch (Searched s.routine k) s.touched })
+-- begins a search of the among with this number in the current routine, which touches it
+abbrev pub touch_among : ℕ → Mode → State → State
+touch_among k m s = note_event (Searches s.routine k m s.cursor) (record s { touched = with_touch (Searched s.routine k) s.touched })
 
 -- the condition of a string: a call, which uses a step of its own
 abbrev pub condition_does : (ℕ → Doing) → Option ℕ → Mode → State → Ending
@@ -60,4 +60,4 @@ searched call k entries strings m s = tries call k entries m s (fits_at strings 
 
 -- a search touches its among, whatever its result
 abbrev pub search_all : (ℕ → Doing) → ℕ → List Candidate → Listed → Mode → State → Ending
-search_all call k entries strings m s = searched call k entries strings m (touch_among k s)
+search_all call k entries strings m s = searched call k entries strings m (touch_among k m s)

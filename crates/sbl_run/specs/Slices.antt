@@ -3,7 +3,7 @@ use Rattle.std.specs.Prelude.{ℕ, ◌+◌, ◌-◌, Bool, true, false, ◌&&◌
 use Rattle.std.specs.List.{splice}
 use Rattle.sbl_run.specs.Events.{Puts}
 use Rattle.sbl_run.specs.declared.fault.RunFault.TheVariants.{Slice, Cursor, TooLong}
-use Rattle.sbl_run.specs.State.{State, Ending, Signals, Stops, tell, max_text_length}
+use Rattle.sbl_run.specs.State.{State, Ending, Signals, Stops, note_event, max_text_length}
 use Rattle.sbl_tree.specs.declared.mode.Mode.{Mode}
 use Rattle.sbl_tree.specs.declared.mode.Mode.TheVariants.{Forward, Backward}
 
@@ -28,7 +28,7 @@ shifted n bra ket cursor = if nat_le ket cursor then cursor + n - (ket - bra) el
 -- the slice replaced by a string
 abbrev pub replaced : List ℕ → State → State
 replaced string s =
-    tell (Puts s.bra s.ket string) (record s {
+    note_event (Puts s.bra s.ket string) (record s {
       text = splice s.text s.bra s.ket string;
       cursor = shifted (length string) s.bra s.ket s.cursor;
       ket = s.bra + length string;
@@ -55,7 +55,7 @@ pushed n at place = if nat_le at place then place + n else place
 -- a string inserted at the cursor, which ends to the right of it or to the left of it
 abbrev pub inserted : Bool → List ℕ → State → State
 inserted right string s =
-    tell (Puts s.cursor s.cursor string) (record s {
+    note_event (Puts s.cursor s.cursor string) (record s {
       text = splice s.text s.cursor s.cursor string;
       cursor = if right then s.cursor + length string else s.cursor;
       bra = pushed (length string) s.cursor s.bra;

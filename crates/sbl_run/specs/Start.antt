@@ -28,7 +28,7 @@ blank = record {
   choices = [];
   routine = 0;
   touched = [];
-  told = None;
+  events = None;
   steps = 0;
 }
 
@@ -47,7 +47,7 @@ start p word steps = record {
   choices = [];
   routine = 0;
   touched = [];
-  told = None;
+  events = None;
   steps = steps;
 }
 

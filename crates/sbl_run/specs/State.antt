@@ -29,8 +29,8 @@ pub record State : Type 0 where
   pub routine : ℕ
   -- what was touched, in the order of first touch
   pub touched : List Touch
-  -- the events so far, if they are asked for
-  pub told : Option (List Event')
+  -- the events so far, if the run records them
+  pub events : Option (List Event')
   -- the steps that are left
   pub steps : ℕ
 
@@ -38,9 +38,9 @@ pub record State : Type 0 where
 abbrev pub max_text_length : ℕ
 max_text_length = 1024
 
--- records an event, if events are asked for
-abbrev pub tell : Event' → State → State
-tell x s = record s { told = with_event x s.told }
+-- records an event, if the run records events
+abbrev pub note_event : Event' → State → State
+note_event x s = record s { events = with_event x s.events }
 
 -- how a command ends: with its signal and a state, or the run is refused in a state
 pub data Ending : Type 0 where

@@ -83,7 +83,7 @@ impl<'a, T: Tables> Runner<'a, T> {
                 table,
                 entries,
             } => {
-                state.touch_among(*among)?;
+                state.touch_among(*among, self.mode)?;
                 self.run_search(*among, *table, entries, state)
             }
             Node::Among {

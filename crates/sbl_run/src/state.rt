@@ -2,15 +2,14 @@
 
 ghost use Rattle.std.specs.Prelude.{◌≡◌, ℕ, ◌+◌, ◌-◌, ◌<◌, ◌≤◌, [], length, map, replicate, IfOk, Some, None, false};
 ghost use Rattle.sbl_tables.specs.Fitting.{read_as};
-ghost use Rattle.sbl_run.specs.State.{State as RunState, pay, at_place, at_difference, to_limit, saved_cursor, put_back, step_over, place_after, ahead, room, tell};
+ghost use Rattle.sbl_run.specs.State.{State as RunState, pay, at_place, at_difference, to_limit, saved_cursor, put_back, step_over, place_after, ahead, room, note_event};
 ghost use Rattle.sbl_program.specs.Listed.{Listed};
 ghost use Rattle.sbl_program.specs.ProgramOf.{program_of, view_text};
 ghost use Rattle.sbl_run.specs.Moves.{characters};
-ghost use Rattle.sbl_run.specs.Events.{Event' as RunEvent, event_of, Puts};
+ghost use Rattle.sbl_run.specs.Events.{Event' as RunEvent, event_of, view_events, Puts};
 ghost use Rattle.sbl_run.specs.Kept.{Leads, IsSaved};
 ghost use Rattle.sbl_run.specs.Rows.{pays};
 ghost use Rattle.sbl_run.specs.Start.{blank, start, max_word_length};
-ghost use Rattle.sbl_run.specs.Told.{told_of};
 
 mod actions;
 mod control;
@@ -48,7 +47,7 @@ pub struct State {
     choices: Vec<Option<usize>>,
     routine: usize,
     touched: Touched,
-    told: Option<Vec<Event>>,
+    events: Option<Vec<Event>>,
     steps: u32,
     // The buffer for the next splice, and buffers for the choices of the next calls.
     spare: Vec<char>,
@@ -59,11 +58,11 @@ impl Model for State {
     ghost use Rattle.std.specs.Prelude.{map};
     ghost use Rattle.sbl_run.specs.State.{State as RunState};
     ghost use Rattle.sbl_run.specs.Kept.{IsWithin};
-    ghost use Rattle.sbl_run.specs.Told.{told_of};
+    ghost use Rattle.sbl_run.specs.Events.{view_events};
 
     ghost Value = { RunState };
 
-    ghost view = { λ s. record { text = s.text.items; cursor = s.cursor; left = s.left; beyond = s.beyond; bra = s.bra; ket = s.ket; integers = s.integers.items; booleans = s.booleans.items; strings = map (λ v. v.items) s.strings.items; choices = s.choices.items; routine = s.routine; touched = s.touched; told = told_of s.told; steps = s.steps } };
+    ghost view = { λ s. record { text = s.text.items; cursor = s.cursor; left = s.left; beyond = s.beyond; bra = s.bra; ket = s.ket; integers = s.integers.items; booleans = s.booleans.items; strings = map (λ v. v.items) s.strings.items; choices = s.choices.items; routine = s.routine; touched = s.touched; events = view_events s.events; steps = s.steps } };
 
     ghost invariant = { λ s. IsWithin s.text.items s.cursor s.left s.beyond s.bra s.ket };
 }
@@ -106,7 +105,7 @@ impl State {
             choices: Vec::new(alloc),
             routine: 0,
             touched: Touched::new(alloc),
-            told: None,
+            events: None,
             steps: 0,
             spare: Vec::new(alloc),
             spares: Vec::new(alloc),
@@ -139,32 +138,32 @@ impl State {
         self.choices.clear();
         self.routine = 0;
         self.touched.clear();
-        self.told = None;
+        self.events = None;
         self.steps = steps;
         Ok(())
     }
 
     /// Starts to record events.
-    pub fn ask(&mut self)
-        ensures { self.new ≡ record self.old { told = Some [] } }
+    pub fn record_events(&mut self)
+        ensures { self.new ≡ record self.old { events = Some [] } }
     {
-        self.told = Some(Vec::new(*self.text.allocator()));
+        self.events = Some(Vec::new(*self.text.allocator()));
     }
 
-    /// Returns the recorded events, or `None` if they were not asked for, and keeps none of them.
-    pub fn take_told(&mut self) -> Option<Vec<Event>>
-        ensures told { told_of result ≡ self.old.told }
-        ensures rest { self.new ≡ record self.old { told = None } }
+    /// Returns the recorded events, or `None` if the run records none. It keeps none of them, and records no more.
+    pub fn take_events(&mut self) -> Option<Vec<Event>>
+        ensures events { view_events result ≡ self.old.events }
+        ensures rest { self.new ≡ record self.old { events = None } }
     {
-        mem::replace(&mut self.told, None)
+        mem::replace(&mut self.events, None)
     }
 
-    // Records an event, if events are asked for. Returns `AllocError` if an allocation fails.
+    // Records an event, if the run records events. Returns `AllocError` if an allocation fails.
     #[inline(always)]
-    fn tell(&mut self, event: Event) -> Result<(), AllocError>
-        ensures { IfOk result (λ _. self.new ≡ tell (event_of event) self.old) }
+    fn note_event(&mut self, event: Event) -> Result<(), AllocError>
+        ensures { IfOk result (λ _. self.new ≡ note_event (event_of event) self.old) }
     {
-        if let Some(events) = &mut self.told {
+        if let Some(events) = &mut self.events {
             events.push(event)?;
         }
         Ok(())
@@ -172,29 +171,29 @@ impl State {
 
     // Does the same for the characters that replace those between two offsets of the text.
     #[inline(always)]
-    fn tell_put(&mut self, from: usize, to: usize, term: &StringTerm) -> Result<(), AllocError>
-        ensures { IfOk result (λ _. self.new ≡ tell (Puts from to (characters (view_text term.now) self.old)) self.old) }
+    fn note_put(&mut self, from: usize, to: usize, term: &StringTerm) -> Result<(), AllocError>
+        ensures { IfOk result (λ _. self.new ≡ note_event (Puts from to (characters (view_text term.now) self.old)) self.old) }
     {
-        if self.is_asked() {
-            let put = self.copied(term)?;
-            self.tell(Event::Puts(from, to, put))?;
+        if self.records_events() {
+            let put = self.copy_of(term)?;
+            self.note_event(Event::Puts(from, to, put))?;
         }
         Ok(())
     }
 
-    // Returns whether events are asked for. If not, none is recorded.
+    // Returns whether the run records events. If not, an event changes nothing.
     #[inline(always)]
-    fn is_asked(&self) -> bool
-        ensures { (x : RunEvent) → result ≡ false → tell x self.now ≡ self.now }
+    fn records_events(&self) -> bool
+        ensures { (x : RunEvent) → result ≡ false → note_event x self.now ≡ self.now }
     {
-        match &self.told {
+        match &self.events {
             None => false,
             Some(_) => true,
         }
     }
 
     // Returns a copy of a literal or of the value of a string variable. Returns `AllocError` if an allocation fails.
-    fn copied(&self, term: &StringTerm) -> Result<Vec<char>, AllocError>
+    fn copy_of(&self, term: &StringTerm) -> Result<Vec<char>, AllocError>
         ensures { IfOk result (λ v. v.items ≡ characters (view_text term.now) self.now) }
     {
         let alloc = *self.text.allocator();

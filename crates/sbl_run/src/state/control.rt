@@ -114,7 +114,7 @@ impl State {
         ensures { IfOk result (λ _. self.new ≡ take_string among length group self.old) }
     {
         self.choose(among, Some(group));
-        self.tell(Event::Finds(among, Some(length)))
+        self.note_event(Event::Finds(among, Some(length)))
     }
 
     /// Records that the search of an among takes no string. Returns `AllocError` if an allocation fails.
@@ -123,7 +123,7 @@ impl State {
         ensures { IfOk result (λ _. self.new ≡ take_none among self.old) }
     {
         self.choose(among, None);
-        self.tell(Event::Finds(among, None))
+        self.note_event(Event::Finds(among, None))
     }
 
     // Stores the group of the string that the search of an among took, or that it took none.
@@ -147,14 +147,19 @@ impl State {
         }
     }
 
-    /// Touches an among of the current routine, after its search is paid. Returns `AllocError` if an allocation fails
-    /// or a number is above `u32::MAX`.
+    /// Begins a search of an among of the current routine, after it is paid. It touches the among. Returns `AllocError`
+    /// if an allocation fails or a number is above `u32::MAX`.
     #[inline(always)]
-    pub fn touch_among(&mut self, among: usize) -> Result<(), AllocError>
-        ensures { IfOk result (λ _. self.new ≡ touch_among among self.old) }
+    pub fn touch_among(&mut self, among: usize, mode: Mode) -> Result<(), AllocError>
+        ensures { IfOk result (λ _. self.new ≡ touch_among among mode self.old) }
     {
         self.touched.search(self.routine, among)?;
-        self.tell(Event::Searches(among, self.cursor))
+        self.note_event(Event::Searches {
+            routine: self.routine,
+            among,
+            mode,
+            cursor: self.cursor,
+        })
     }
 
     /// Touches a grouping, after its test is paid. Returns `AllocError` if an allocation fails or the number is above
@@ -195,7 +200,7 @@ impl State {
         };
         self.routine = routine;
         let kept = mem::replace(&mut self.choices, fresh);
-        self.tell(Event::Enters(routine))?;
+        self.note_event(Event::Enters(routine))?;
         Ok(kept)
     }
 
@@ -231,6 +236,6 @@ impl State {
             // If there is no room for it, it is freed.
             let _ = self.spares.push(used);
         }
-        self.tell(Event::Leaves(signal))
+        self.note_event(Event::Leaves(signal))
     }
 }

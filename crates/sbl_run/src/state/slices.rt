@@ -74,7 +74,7 @@ impl State {
         let alloc = *self.text.allocator();
         let buffer = mem::replace(&mut self.spare, Vec::new(alloc));
         let made = spliced(buffer, &self.text, self.bra, self.ket, &[])?;
-        self.tell(Event::Puts(self.bra, self.ket, Vec::new(alloc)))?;
+        self.note_event(Event::Puts(self.bra, self.ket, Vec::new(alloc)))?;
         self.spare = mem::replace(&mut self.text, made);
         self.cursor = shift(self.cursor, self.bra, self.ket, 0);
         self.ket = self.bra;
@@ -97,7 +97,7 @@ impl State {
             return Err(Halt::TooLong);
         }
         let made = self.spliced(self.bra, self.ket, term)?;
-        self.tell_put(self.bra, self.ket, term)?;
+        self.note_put(self.bra, self.ket, term)?;
         self.spare = mem::replace(&mut self.text, made);
         self.cursor = shift(self.cursor, self.bra, self.ket, length);
         self.ket = self.bra + length;
@@ -133,7 +133,7 @@ impl State {
             return Err(Halt::TooLong);
         }
         let made = self.spliced(self.cursor, self.cursor, term)?;
-        self.tell_put(self.cursor, self.cursor, term)?;
+        self.note_put(self.cursor, self.cursor, term)?;
         self.spare = mem::replace(&mut self.text, made);
         self.bra = push(length, self.cursor, self.bra);
         self.ket = push(length, self.cursor, self.ket);

@@ -47,7 +47,7 @@ run_paid-returns-in_ok-touch_among-in-Search-clause-follows g t c =
     let m = c.args.self.now.mode in
     let q = c.args.state.now in
     let p = ap (λ n. runs_paid P levels (view_node T n) m q) a.is ∙ search_does T P levels a.among a.table a.entries m q in
-    let d = ap (λ es. searched (calls P levels) a.among es (T a.table) m (touch_among a.among q)) (sym c.deref-in-Search.ensures.value) in
+    let d = ap (λ es. searched (calls P levels) a.among es (T a.table) m (touch_among a.among m q)) (sym c.deref-in-Search.ensures.value) in
     let u = ap (searched (calls P levels) a.among c.deref-in-Search.result.now (T a.table) m) (sym c.in_ok-touch_among-in-Search.ensures) in
     follows_at c.run_search.result c.run_search.new.state _ _ (p ∙ d ∙ u) c.run_search.ensures.follows
 
