@@ -14,6 +14,7 @@ pub mod ClassesAreSound
 pub mod Undo
 pub mod Kept
 pub mod LeavesChanges
+pub mod Whys
 -- what the functions inside the crate promise each other: nothing in these need be believed
 pub mod Pairs
 pub mod Grouping

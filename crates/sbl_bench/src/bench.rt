@@ -1,11 +1,13 @@
 //! The bench and its queries.
 
-ghost use Rattle.std.specs.Prelude.{◌≡◌, ◌≤◌, ◌+◌, ◌^◌, ◌↔◌, IsTrue, false, length, map, None, Ok, IfOk, slice_get};
+ghost use Rattle.std.specs.Prelude.{◌≡◌, ◌≤◌, ◌+◌, ◌^◌, ◌↔◌, IsTrue, false, length, map, None, Some, Ok, Err, IfOk, IfErr, slice_get};
 
 use crate::change::Change;
+use crate::fault::EditFault;
 use crate::row::Row;
 use indexmap::IndexMap;
-use sbl_machine::{Item, Machine, Meter, Table, Traced};
+use sbl_machine::{Item, Machine, Meter, Table, Traced, Why};
+use sbl_run::MAX_WORD_LENGTH;
 use sbl_script::Script;
 use std::alloc::{AllocError, Global};
 use std::collections::BTreeSet;
@@ -58,6 +60,7 @@ impl Bench {
     ghost use Rattle.sbl_bench.specs.Rows.{rows_of, view_row};
     ghost use Rattle.sbl_bench.specs.Traces.{trace_of};
     ghost use Rattle.sbl_bench.specs.Vocabulary.{is_word};
+    ghost use Rattle.sbl_bench.specs.Whys.{IsWhy, refusal_of_why, routine_name};
 
     /// Returns the number of words of the vocabulary. Does not allocate.
     pub fn len(&self) -> usize
@@ -115,6 +118,34 @@ impl Bench {
             }
             None => Ok(None),
         }
+    }
+
+    /// Runs the script on a word under the limit, whether the word is in the vocabulary or not, and returns the outcome, the
+    /// events and the number of steps of the run. Routines and amongs have numbers in the events; `routine_name` has the names.
+    /// The run does not count among the runs of the bench.
+    ///
+    /// Returns `EmptyWord` if the word has no character, and `WordTooLong` if it has more than 255, both without an allocation,
+    /// and `OutOfMemory` if an allocation fails.
+    pub fn why(&self, word: &[char]) -> Result<Why, EditFault>
+        ensures why { IfOk result (IsWhy (setting_of self.now) word.now) }
+        ensures refused { (f : EditFault) → refusal_of_why word.now ≡ Some f → result ≡ Err f }
+        ensures memory { refusal_of_why word.now ≡ None → IfErr result (λ f. f ≡ EditFault.OutOfMemory) }
+    {
+        if word.is_empty() {
+            return Err(EditFault::EmptyWord);
+        }
+        if word.len() > MAX_WORD_LENGTH {
+            return Err(EditFault::WordTooLong);
+        }
+        Ok(self.machine.why(self.alloc, word, self.limit)?)
+    }
+
+    /// Returns the name of the routine with this number, or an empty name if there is none. Routines count from 0, in the order
+    /// of their definitions. Does not allocate.
+    pub fn routine_name(&self, number: usize) -> &str
+        ensures { result.now ≡ routine_name (setting_of self.now) number }
+    {
+        self.machine.routine_name(number)
     }
 
     /// Returns the number of runs that the bench has made, including those when it was opened. Does not allocate.

@@ -56,6 +56,23 @@ fn words_that_are_refused_change_nothing(rt: HostRuntime) -> Result<(), Fail> {
     Ok(())
 }
 
+#[test]
+fn why_takes_any_word_that_fits(rt: HostRuntime) -> Result<(), Fail> {
+    let bench = bench_of(rt.alloc(), PREFIXES, &["undo"])?;
+    assert_eq!(rt; bench.why(&[]), Err(EditFault::EmptyWord));
+    assert_eq!(rt; bench.why(&['a'; 256]), Err(EditFault::WordTooLong));
+    let why = bench.why(&['a'; 255])?;
+    assert_eq!(rt;
+        why.outcome,
+        Outcome::Stem(Vec::from_slice(rt.alloc(), &['a'; 255])?)
+    );
+    assert_eq!(rt; bench.routine_name(0), "stem");
+    assert_eq!(rt; bench.routine_name(1), "");
+    assert_eq!(rt; bench.runs(), 1);
+    bench.leak();
+    Ok(())
+}
+
 /// Adds a word to an empty bench, and once more where a growth was refused.
 fn takes_a_word(rt: &(impl Abort + Print), bench: &mut Bench) -> Result<(), Fail> {
     if let Err(fault) = bench.add(&['r', 'e', 'd', 'o']) {

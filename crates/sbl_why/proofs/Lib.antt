@@ -1,0 +1,10 @@
+mod Lines
+pub mod Parts
+pub mod Onward
+pub mod Commands
+pub mod Compounds
+pub mod FirstAmongs
+pub mod SearchesEnd
+pub mod Bodies
+pub mod EachSearch
+pub mod PlainSearches

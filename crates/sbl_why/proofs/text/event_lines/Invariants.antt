@@ -1,0 +1,13 @@
+use Rattle.std.proofs.Common.{◌≡◌, ◌++◌, map, drop}
+use Rattle.sbl_bench.specs.Kept.{setting_of}
+use Rattle.sbl_records.specs.Records.{records_text}
+use Rattle.sbl_run.specs.Events.{event_of}
+use Rattle.sbl_why.specs.Moments.{at_start}
+use Rattle.sbl_why.specs.Rows as spec
+use Rattle.sbl_why.proofs.text.event_lines.Given as goal
+
+-- the lines so far and those of the other events are those of all events
+abbrev pub invariant-loop-event : goal.invariant-loop-event
+invariant-loop-event l =
+    l.out.items ++ records_text (spec.rows_from (spec.routine_names (setting_of l.bench)) l.moment (map event_of (drop l.event-index l.events)))
+    ≡ records_text (spec.rows_from (spec.routine_names (setting_of l.bench)) (at_start l.word) (map event_of l.events))

@@ -1,0 +1,24 @@
+-- What the code's values of a walk over events stand for, and the two parts of a row.
+use Rattle.std.specs.Prelude.{ℕ, List, [], ◌∷◌, ◌++◌, codes, decimal}
+use Rattle.std.specs.Str.{encode_utf8_all}
+use Rattle.sbl_run.specs.Events.{Event', Enters, Leaves, Searches, Finds, Puts}
+use Rattle.sbl_why.specs.Moments as spec
+use Rattle.sbl_why.specs.Rows.{place_fields, row_of}
+use Rattle.sbl_why.specs.declared.moment.OpenSearch.{OpenSearch}
+
+abbrev pub view_search : OpenSearch → spec.OpenSearch
+view_search s = record { mode = s.mode; ahead = s.ahead.items }
+
+-- what the row of an event has of the time before it
+abbrev pub fields_before : List (List ℕ) → spec.Moment → Event' → List (List ℕ)
+fields_before names m (Enters i) = codes "call" ∷ []
+fields_before names m (Puts from to put) = codes "put" ∷ (place_fields names m ++ decimal from ∷ decimal to ∷ encode_utf8_all put ∷ [])
+fields_before names m (Leaves signal) = row_of names m (Leaves signal)
+fields_before names m (Searches i k mode cursor) = row_of names m (Searches i k mode cursor)
+fields_before names m (Finds k taken) = row_of names m (Finds k taken)
+
+-- what it has of the time after it
+abbrev pub fields_after : List (List ℕ) → spec.Moment → Event' → List (List ℕ)
+fields_after names m (Enters i) = place_fields names m
+fields_after names m (Puts from to put) = encode_utf8_all m.text ∷ []
+fields_after names m e = []

@@ -1,0 +1,9 @@
+//! The rows that tell why a word has its stem.
+#![tactic(auto)]
+
+pub mod laws;
+mod moment;
+mod rows;
+mod text;
+
+pub use text::why_text;

@@ -1,0 +1,243 @@
+//! The row of an event.
+ghost use Rattle.std.specs.Prelude.{◌≡◌, ◌++◌, ◌∷◌, [], OnOk, decimal};
+ghost use Rattle.std.specs.Str.{encode_utf8_all};
+ghost use Rattle.csv.specs.Records.{fields_of, partial_of};
+ghost use Rattle.sbl_bench.specs.Kept.{setting_of};
+ghost use Rattle.sbl_machine.specs.Outcome.{outcome_of};
+ghost use Rattle.sbl_records.specs.Records.{record_line, records_text};
+ghost use Rattle.sbl_run.specs.Events.{Finds, event_of};
+ghost use Rattle.sbl_why.specs.Moments.{after};
+ghost use Rattle.sbl_why.specs.Views.{fields_after, fields_before};
+ghost use Rattle.sbl_why.specs.Rows as spec;
+
+use crate::moment::Moment;
+use csv::ByteRecord;
+use sbl_bench::Bench;
+use sbl_machine::Outcome;
+use sbl_records::{record_line, set_text};
+use sbl_run::Event;
+use std::alloc::{AllocError, Global};
+
+/// Appends characters to a record, as one field. Returns `AllocError` if an allocation fails.
+fn push_text(
+    alloc: Global,
+    csv_record: &mut ByteRecord,
+    characters: &[char],
+) -> Result<(), AllocError>
+    requires { partial_of csv_record.old ≡ [] }
+    ensures fields { OnOk result (fields_of csv_record.new ≡ fields_of csv_record.old ++ encode_utf8_all characters.now ∷ []) }
+    ensures partial { OnOk result (partial_of csv_record.new ≡ []) }
+{
+    let mut text = String::new(alloc);
+    set_text(&mut text, characters)?;
+    csv_record.push_field(text.as_bytes())
+}
+
+/// Appends a number to a record, as one field. Returns `AllocError` if an allocation fails.
+fn push_number(alloc: Global, csv_record: &mut ByteRecord, number: usize) -> Result<(), AllocError>
+    requires { partial_of csv_record.old ≡ [] }
+    ensures fields { OnOk result (fields_of csv_record.new ≡ fields_of csv_record.old ++ decimal number ∷ []) }
+    ensures partial { OnOk result (partial_of csv_record.new ≡ []) }
+{
+    let digits = format!(in alloc; "{number}")?;
+    csv_record.push_field(digits.as_bytes())
+}
+
+/// Appends how deep the run is, and the name of its routine. Returns `AllocError` if an allocation fails.
+fn push_place(
+    alloc: Global,
+    csv_record: &mut ByteRecord,
+    bench: &Bench,
+    moment: &Moment,
+) -> Result<(), AllocError>
+    requires { partial_of csv_record.old ≡ [] }
+    ensures fields { OnOk result (fields_of csv_record.new ≡ fields_of csv_record.old ++ spec.place_fields (spec.routine_names (setting_of bench.now)) moment.now) }
+    ensures partial { OnOk result (partial_of csv_record.new ≡ []) }
+{
+    push_number(alloc, csv_record, moment.depth())?;
+    csv_record.push_field(bench.routine_name(moment.routine()).as_bytes())
+}
+
+/// Appends the place of the run, and the number of an among. Returns `AllocError` if an allocation fails.
+fn push_among(
+    alloc: Global,
+    csv_record: &mut ByteRecord,
+    bench: &Bench,
+    moment: &Moment,
+    among: usize,
+) -> Result<(), AllocError>
+    requires { partial_of csv_record.old ≡ [] }
+    ensures fields { OnOk result (fields_of csv_record.new ≡ fields_of csv_record.old ++ spec.among_fields (spec.routine_names (setting_of bench.now)) moment.now among) }
+    ensures partial { OnOk result (partial_of csv_record.new ≡ []) }
+{
+    push_place(alloc, csv_record, bench, moment)?;
+    let number = among as u128 + 1;
+    let digits = format!(in alloc; "{number}")?;
+    csv_record.push_field(digits.as_bytes())
+}
+
+/// Appends a signal. Returns `AllocError` if an allocation fails.
+fn push_signal(csv_record: &mut ByteRecord, signal: bool) -> Result<(), AllocError>
+    requires { partial_of csv_record.old ≡ [] }
+    ensures fields { OnOk result (fields_of csv_record.new ≡ fields_of csv_record.old ++ spec.signal_field signal ∷ []) }
+    ensures partial { OnOk result (partial_of csv_record.new ≡ []) }
+{
+    if signal {
+        csv_record.push_field(b"t")
+    } else {
+        csv_record.push_field(b"f")
+    }
+}
+
+/// Appends the end of the search of an among to an empty record: the string of this many characters that it takes, or that it
+/// takes none. Returns `AllocError` if an allocation fails.
+fn push_end(
+    alloc: Global,
+    csv_record: &mut ByteRecord,
+    bench: &Bench,
+    moment: &Moment,
+    among: usize,
+    length: Option<usize>,
+) -> Result<(), AllocError>
+    requires empty { fields_of csv_record.old ≡ [] }
+    requires whole { partial_of csv_record.old ≡ [] }
+    ensures fields { OnOk result (fields_of csv_record.new ≡ spec.row_of (spec.routine_names (setting_of bench.now)) moment.now (Finds among length)) }
+    ensures partial { OnOk result (partial_of csv_record.new ≡ []) }
+{
+    let Some(length) = length else {
+        csv_record.push_field(b"none")?;
+        return push_among(alloc, csv_record, bench, moment, among);
+    };
+    csv_record.push_field(b"taken")?;
+    push_among(alloc, csv_record, bench, moment, among)?;
+    push_text(alloc, csv_record, moment.string_taken(length))
+}
+
+/// Appends what the row of an event has of the time before it to an empty record. Returns `AllocError` if an allocation fails.
+fn fill_before(
+    alloc: Global,
+    csv_record: &mut ByteRecord,
+    bench: &Bench,
+    moment: &Moment,
+    event: &Event,
+) -> Result<(), AllocError>
+    requires empty { fields_of csv_record.old ≡ [] }
+    requires whole { partial_of csv_record.old ≡ [] }
+    ensures fields { OnOk result (fields_of csv_record.new ≡ fields_before (spec.routine_names (setting_of bench.now)) moment.now (event_of event.now)) }
+    ensures partial { OnOk result (partial_of csv_record.new ≡ []) }
+{
+    match event {
+        Event::Enters(_) => csv_record.push_field(b"call"),
+        Event::Leaves(signal) => {
+            csv_record.push_field(b"return")?;
+            push_place(alloc, csv_record, bench, moment)?;
+            push_signal(csv_record, *signal)
+        }
+        Event::Searches { among, .. } => {
+            csv_record.push_field(b"search")?;
+            push_among(alloc, csv_record, bench, moment, *among)
+        }
+        Event::Finds(among, length) => {
+            push_end(alloc, csv_record, bench, moment, *among, *length)
+        }
+        Event::Puts(from, to, put) => {
+            csv_record.push_field(b"put")?;
+            push_place(alloc, csv_record, bench, moment)?;
+            push_number(alloc, csv_record, *from)?;
+            push_number(alloc, csv_record, *to)?;
+            push_text(alloc, csv_record, put)
+        }
+    }
+}
+
+/// Appends what the row of an event has of the time after it. Returns `AllocError` if an allocation fails.
+fn fill_after(
+    alloc: Global,
+    csv_record: &mut ByteRecord,
+    bench: &Bench,
+    moment: &Moment,
+    event: &Event,
+) -> Result<(), AllocError>
+    requires { partial_of csv_record.old ≡ [] }
+    ensures fields { OnOk result (fields_of csv_record.new ≡ fields_of csv_record.old ++ fields_after (spec.routine_names (setting_of bench.now)) moment.now (event_of event.now)) }
+{
+    match event {
+        Event::Enters(_) => push_place(alloc, csv_record, bench, moment),
+        Event::Puts(_, _, _) => push_text(alloc, csv_record, moment.text()),
+        _ => Ok(()),
+    }
+}
+
+/// Appends the line of a record. Returns `AllocError` if an allocation fails.
+fn push_line(alloc: Global, out: &mut Vec<u8>, csv_record: &ByteRecord) -> Result<(), AllocError>
+    ensures { OnOk result (out.new.items ≡ out.old.items ++ record_line (fields_of csv_record.now)) }
+{
+    let line = record_line(alloc, csv_record)?;
+    out.extend_from_slice(&line)
+}
+
+/// Appends the line of an event, and goes past it. Returns `AllocError` if an allocation fails.
+pub(crate) fn push_event(
+    alloc: Global,
+    out: &mut Vec<u8>,
+    bench: &Bench,
+    moment: &mut Moment,
+    event: &Event,
+) -> Result<(), AllocError>
+    ensures line { OnOk result (out.new.items ≡ out.old.items ++ record_line (spec.row_of (spec.routine_names (setting_of bench.now)) moment.old (event_of event.now))) }
+    ensures after { OnOk result (moment.new ≡ after (event_of event.now) moment.old) }
+{
+    let mut csv_record = ByteRecord::new(alloc);
+    fill_before(alloc, &mut csv_record, bench, moment, event)?;
+    moment.pass(event)?;
+    fill_after(alloc, &mut csv_record, bench, moment, event)?;
+    push_line(alloc, out, &csv_record)
+}
+
+/// Appends the line of the number of events that have no row, if there are any. Returns `AllocError` if an allocation fails.
+pub(crate) fn push_more(alloc: Global, out: &mut Vec<u8>, number: usize) -> Result<(), AllocError>
+    ensures { OnOk result (out.new.items ≡ out.old.items ++ records_text (spec.more_rows number)) }
+{
+    if number == 0 {
+        return Ok(());
+    }
+    let mut csv_record = ByteRecord::new(alloc);
+    csv_record.push_field(b"more")?;
+    push_number(alloc, &mut csv_record, number)?;
+    push_line(alloc, out, &csv_record)
+}
+
+/// Appends the fields of an outcome to an empty record. Returns `AllocError` if an allocation fails.
+fn fill_outcome(
+    alloc: Global,
+    csv_record: &mut ByteRecord,
+    outcome: &Outcome,
+) -> Result<(), AllocError>
+    requires empty { fields_of csv_record.old ≡ [] }
+    requires whole { partial_of csv_record.old ≡ [] }
+    ensures { OnOk result (fields_of csv_record.new ≡ spec.outcome_row (outcome_of outcome.now)) }
+{
+    match outcome {
+        Outcome::Stem(stem) => {
+            csv_record.push_field(b"stem")?;
+            push_text(alloc, csv_record, stem)
+        }
+        Outcome::Refused(fault) => {
+            csv_record.push_field(b"refused")?;
+            csv_record.push_field(fault.name().as_bytes())
+        }
+    }
+}
+
+/// Appends the line of an outcome. Returns `AllocError` if an allocation fails.
+pub(crate) fn push_outcome(
+    alloc: Global,
+    out: &mut Vec<u8>,
+    outcome: &Outcome,
+) -> Result<(), AllocError>
+    ensures { OnOk result (out.new.items ≡ out.old.items ++ record_line (spec.outcome_row (outcome_of outcome.now))) }
+{
+    let mut csv_record = ByteRecord::new(alloc);
+    fill_outcome(alloc, &mut csv_record, outcome)?;
+    push_line(alloc, out, &csv_record)
+}
