@@ -17,7 +17,7 @@ use Rattle.sbl_work.specs.declared.marks.MarkedRow.{MarkedRow}
 use Rattle.std.specs.declared.vec.Vec.{Vec}
 use Rattle.std.specs.declared.alloc.Global.{Global}
 
--- the text that the script in force was read from, if it is kept; the edits that can be undone and redone; the rows at the mark
+-- a text of the script in force, if one is kept; the edits that can be undone and redone; the rows at the mark
 pub record State : Type 0 where
   pub text : Option (List ℕ)
   pub past : Past
@@ -43,7 +43,7 @@ state_of d = record { text = view_text d.text; past = past_of d.history; marked 
 abbrev pub rows_now : Contents → List Row
 rows_now s = rows_of s.setting s.words
 
--- the text of the script in force: the one that it was read from, or else its canonical text
+-- the text of the script in force: the one that is kept, or else its canonical text
 abbrev pub text_in : Contents → Option (List ℕ) → List ℕ
 text_in s (Some text) = text
 text_in s None = canonical s.setting.script.items

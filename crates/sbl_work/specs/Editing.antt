@@ -1,5 +1,5 @@
 -- Edits of the setting of a bench that are remembered.
-use Rattle.std.specs.Prelude.{◌≡◌, ◌⊎◌, ℕ, List, Option, None, Result, Ok, Err}
+use Rattle.std.specs.Prelude.{◌≡◌, ◌⊎◌, ℕ, List, Option, Result, Ok, Err}
 use Rattle.sbl_bench.specs.Contents.{Contents}
 use Rattle.sbl_bench.specs.Edits.{Edit, Edits, Replace}
 use Rattle.sbl_bench.specs.declared.fault.EditFault.{EditFault}
@@ -8,6 +8,7 @@ use Rattle.sbl_print.specs.Canonical.{canonical}
 use Rattle.sbl_script.specs.Edits.{ScriptEdit}
 use Rattle.sbl_work.specs.Desks.{State, text_in}
 use Rattle.sbl_work.specs.History.{ToLimit, ToText, remembered}
+use Rattle.sbl_work.specs.Splicing.{IsTextOf}
 
 -- two benches have scripts with the same canonical text
 abbrev pub SameText : Contents → Contents → Type 0
@@ -25,10 +26,12 @@ abbrev pub Replaces : Result (Unit {0}) EditFault → Edit → Option (List ℕ)
 Replaces (Ok u) edit text s d t e = Edits (Ok u) s edit t × IsNoted s t d e text
 Replaces (Err f) edit text s d t e = Edits (Err f) s edit t × (e ≡ d)
 
--- the same, or an allocation failed before anything was tried
+-- The same for a part of the script. The text that is kept then is a text of the script in force, if any is kept; or an allocation
+-- failed before anything was tried.
 abbrev pub ReplacesPart : Result (Unit {0}) EditFault → ScriptEdit → List ℕ → Contents → State → Contents → State → Type 0
 ReplacesPart result what text s d t e =
-    Replaces result (Replace what text) None s d t e ⊎ ((result ≡ Err fault.OutOfMemory) × (t ≡ s) × (e ≡ d))
+    ((kept : Option (List ℕ)) × IsTextOf s t kept × Replaces result (Replace what text) kept s d t e)
+    ⊎ ((result ≡ Err fault.OutOfMemory) × (t ≡ s) × (e ≡ d))
 
 -- After a request that may set the limit, the limit before is remembered if it was another one.
 abbrev pub IsLimitNoted : Contents → Contents → State → State → Type 0

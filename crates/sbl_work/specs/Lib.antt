@@ -5,3 +5,4 @@ pub mod Editing
 pub mod Reports
 pub mod Families
 pub mod Definitions
+pub mod Splicing

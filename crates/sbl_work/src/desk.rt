@@ -1,5 +1,5 @@
 //! A desk: what is kept beside a bench at work, so that its edits can be undone and its rows compared with those at a mark.
-ghost use Rattle.std.specs.Prelude.{◌≡◌, ◌⊎◌, [], IfOk, OnErr, OnOk, None, Some, map, string_bytes, true};
+ghost use Rattle.std.specs.Prelude.{◌≡◌, ◌⊎◌, ℕ, List, [], IfOk, IfSome, OnErr, OnOk, None, Some, map, string_bytes, true};
 ghost use Rattle.sbl_bench.specs.Edits.{Edits, Replace, Whole};
 ghost use Rattle.sbl_bench.specs.Kept.{contents_of};
 ghost use Rattle.sbl_print.specs.Canonical.{canonical};
@@ -8,9 +8,11 @@ ghost use Rattle.sbl_sessions.specs.Commands.{line_command};
 ghost use Rattle.sbl_work.specs.Desks.{Redoes, Undoes, rows_now, state_of, text_in, view_marked, view_text};
 ghost use Rattle.sbl_work.specs.Editing.{IsLimitNoted, Replaces, ReplacesPart};
 ghost use Rattle.sbl_work.specs.History.{ToText, remembered};
+ghost use Rattle.sbl_work.specs.Splicing.{Reads};
 
 use crate::history::{HistoryFault, text_of};
 use crate::marks::{MarkedRow, copy_rows};
+use crate::splice::{SplicedText, splice};
 use crate::steps::{History, Step};
 use sbl_bench::{Bench, EditFault};
 use sbl_sessions::{Reply, Target, answer_line};
@@ -21,7 +23,7 @@ use std::alloc::{AllocError, Global};
 #[derive(Drop)]
 pub struct Desk {
     alloc: Global,
-    // the text that the script in force was read from, if it was read whole
+    // a text of the script in force, if one is known
     text: Option<Vec<u8>>,
     history: History,
     marked: Vec<MarkedRow>,
@@ -127,7 +129,8 @@ impl Desk {
     }
 
     /// Replaces a part of the script by a text, as `Bench::replace_routine`, `Bench::replace_among` and `Bench::replace_grouping`
-    /// do, and remembers the edit if it changed the script.
+    /// do, and remembers the edit if it changed the script. The text in force is the text before with this part put into it, if
+    /// that is a text of the script after the edit; otherwise the canonical text.
     ///
     /// # Errors
     ///
@@ -142,8 +145,11 @@ impl Desk {
         ensures { ReplacesPart result (view_target target.now) text.now (contents_of bench.old) (state_of self.old) (contents_of bench.new) (state_of self.new) }
     {
         let before = self.before(bench)?;
+        let external = bench.script().external();
+        let found = splice(self.alloc, &before.text, external, target, text)?;
         edit_part(bench, target, text)?;
-        self.note(bench, before, None);
+        let kept = text_in_force(self.alloc, bench, found);
+        self.note(bench, before, kept);
         Ok(())
     }
 
@@ -171,8 +177,8 @@ impl Desk {
         self.history.redo(self.alloc, bench, &mut self.text)
     }
 
-    /// Returns the text of the script in force: the bytes that it was read from, or its canonical text after an edit of a part
-    /// of it.
+    /// Returns the text of the script in force: the bytes that it was read from, with the typed parts put into them, or its
+    /// canonical text.
     ///
     /// # Errors
     ///
@@ -192,6 +198,22 @@ fn edit_part(bench: &mut Bench, target: &Target, text: &str) -> Result<(), EditF
         Target::Body(name) => bench.replace_routine(name.as_str(), text),
         Target::Among(name, k) => bench.replace_among(name.as_str(), *k, text),
         Target::Terms(name) => bench.replace_grouping(name.as_str(), text),
+    }
+}
+
+/// Returns the text if it is known to be one of the script of the bench; `None` also if an allocation fails.
+fn text_in_force(alloc: Global, bench: &Bench, found: Option<SplicedText>) -> Option<Vec<u8>>
+    ensures { (external : List ℕ) → IfSome found (λ c. Reads external c.text.items (string_bytes c.canonical)) → IfSome (view_text result) (λ bytes. Reads external bytes (canonical (contents_of bench.now).setting.script.items)) }
+{
+    match found {
+        Some(spliced) => {
+            if has_canonical(alloc, bench, spliced.canonical.as_str()) {
+                Some(spliced.text)
+            } else {
+                None
+            }
+        }
+        None => None,
     }
 }
 

@@ -12,7 +12,9 @@ mod replies;
 mod reports;
 mod requests;
 mod serving;
+mod splice;
 mod steps;
+mod whys;
 mod words;
 
 pub use desk::Desk;

@@ -21,6 +21,8 @@ pub(crate) enum Request<'a> {
     Largest(&'a str),
     /// Reports on the families of a file.
     Families(&'a str),
+    /// Reports why a word has its stem.
+    Why(&'a str),
     /// Reports a definition.
     Show(&'a str),
     /// Writes the script to a file.
@@ -96,6 +98,7 @@ fn text_request(line: &str) -> Request<'_> {
     match word {
         "largest" => Request::Largest(argument),
         "families" => Request::Families(argument),
+        "why" | "events" => Request::Why(argument),
         "show" => Request::Show(argument),
         "save" => Request::Save(argument),
         _ => Request::Session,

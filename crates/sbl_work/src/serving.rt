@@ -12,6 +12,7 @@ use crate::parts::{answer_families, answer_part, answer_replace, families_reply}
 use crate::replies::{BAD_NUMBER, NO_FILE, edit_reply, memory_reply, redo_reply, undo_reply};
 use crate::reports::{changes_text, largest_text, stats_text};
 use crate::requests::{Request, asks_families, asks_replace, count_in, is_quit, request_of};
+use crate::whys::why_reply;
 use sbl_bench::{Bench, EditFault};
 use sbl_lines::{Lines, ServeFault, Sink, Source, write_all};
 use sbl_sessions::{LoadFault, Reply, block_word, report, write_reply};
@@ -21,6 +22,9 @@ use std::rt::Files;
 
 /// What is written before each line is read, if work is done at a terminal.
 const PROMPT: &[u8] = b"> ";
+
+/// What is written if an allocation fails for the line that says why there is no desk.
+const NO_MEMORY: &[u8] = b"snowbench: 49 OutOfMemory\n";
 
 /// The files of work, and the bytes that were read last from the file of the script.
 #[derive(Drop)]
@@ -80,6 +84,15 @@ fn families<F: Files + AllocGlobal>(folder: &Folder<'_, F>, bench: &Bench, path:
     }
 }
 
+/// Returns the reply to `why`.
+fn why(alloc: Global, bench: &Bench, word: &str) -> Reply {
+    let characters: Result<Vec<char>, AllocError> = word.chars().collect(alloc);
+    match characters {
+        Ok(characters) => why_reply(alloc, bench, &characters),
+        Err(refused) => report(Err(refused)),
+    }
+}
+
 /// Returns the reply to `show`.
 fn show(alloc: Global, bench: &Bench, name: &str) -> Reply {
     match definition_text(alloc, bench.script(), name) {
@@ -114,6 +127,7 @@ fn answer_alone<F: Files + AllocGlobal>(
         Request::Stats => report(stats_text(alloc, bench)),
         Request::Largest(argument) => largest(alloc, bench, argument),
         Request::Families(path) => families(folder, bench, path),
+        Request::Why(word) => why(alloc, bench, word),
         Request::Show(name) => show(alloc, bench, name),
         Request::Save(path) => save_as(folder, desk, bench, path),
         Request::Echo(text) => report(echo_text(alloc, text)),
@@ -177,10 +191,11 @@ fn write_fault<E: Sink>(alloc: Global, errors: &mut E, fault: &OpenFault)
         OpenFault::File(path, error) => format!(in alloc; "snowbench: {path}: {error}\n"),
         OpenFault::Load(fault) => format!(in alloc; "snowbench: {fault}\n"),
     };
-    if let Ok(line) = line {
-        // The status reports the fault even if its line cannot be written.
-        let _ = write_all(errors, line.as_bytes());
-    }
+    // The status reports the fault even if its line cannot be written.
+    let _ = match line {
+        Ok(line) => write_all(errors, line.as_bytes()),
+        Err(_) => write_all(errors, NO_MEMORY),
+    };
 }
 
 /// Replies to each request of the input in turn over the bench of a script and its words, up to `quit` or the end of input.
