@@ -1,5 +1,5 @@
 //! The lines of a reader, in buffers of fixed size.
-ghost use Rattle.std.specs.Prelude.{◌≡◌, ◌≢◌, ◌+◌, ◌≤◌, ◌<◌, ◌⊎◌, ℕ, List, Option, [], ◌∷◌, vec_len, vec_capacity, OnOk, OnErr, IfOk, IfErr, MatchOption, Some, None, Ok, Err, true, false, length, IsSome};
+ghost use Rattle.std.specs.Prelude.{◌≡◌, ◌≢◌, ◌+◌, ◌≤◌, ◌<◌, ◌⊎◌, ℕ, List, Option, [], ◌∷◌, vec_len, vec_capacity, OnOk, OnErr, IfOk, IfErr, MatchOption, Some, None, Ok, Err, true, false, length, min, IsSome};
 ghost use Rattle.std.specs.Io.KnownBytes.{Consumes, IsAtEnd, Keeps};
 ghost use Rattle.sbl_lines.specs.LinesOf.{chomped, max_line};
 
@@ -59,11 +59,13 @@ impl<R: Source + Drop> Lines<R> {
         Lines::with_reads(alloc, reader, MAX_READS)
     }
 
-    /// Does the same with `most` as the limit on reads.
-    fn with_reads(alloc: Global, reader: R, most: u64) -> Result<Lines<R>, AllocError>
+    /// Returns the lines of `reader`, which is read at most `most` times, and at most as often as by `new`. Allocates
+    /// all buffers. Returns `AllocError` if an allocation fails.
+    pub fn with_reads(alloc: Global, reader: R, most: u64) -> Result<Lines<R>, AllocError>
         ensures input { IfOk result (λ lines. input_of R.left lines ≡ R.left reader) }
         ensures fault { IfOk result (λ lines. fault_of lines ≡ None) }
-        ensures fields { IfOk result (λ lines. (lines.reads_left ≡ most) × (lines.reader ≡ reader) × (lines.ended ≡ false)) }
+        ensures bound { IfOk result (λ lines. reads_bound R.reads lines ≡ min (R.reads reader + most) max_reads) }
+        ensures in_time { IsUnasked R.ended R.late R.interruptions R.reads reader → IfOk result (λ lines. InTime R.ended R.late R.interruptions R.reads lines) }
     {
         let chunk = vec![in alloc; 0u8; CHUNK]?;
         let line = Vec::with_capacity(alloc, MAX_LINE + 1)?;
@@ -74,7 +76,7 @@ impl<R: Source + Drop> Lines<R> {
             at: 0,
             end: 0,
             line,
-            reads_left: most,
+            reads_left: most.min(MAX_READS),
             ended: false,
             fault: None,
         })

@@ -11,7 +11,7 @@ use Rattle.sbl_machine.specs.Meaning.{Offer, offering, condition_does, takes, tr
 use Rattle.sbl_run.specs.Run.{chosen, paid}
 use Rattle.sbl_run.specs.Search.{choose, choice, touch_among}
 use Rattle.sbl_run.specs.Events.{Event', Finds}
-use Rattle.sbl_run.specs.State.{tell, State, bound_of, Ending, Signals, Doing, after, then_on, pay, saved_cursor, put_back, place_after, step_over}
+use Rattle.sbl_run.specs.State.{note_event, State, bound_of, Ending, Signals, Doing, after, then_on, pay, saved_cursor, put_back, place_after, step_over}
 use Rattle.sbl_machine.proofs.Touching.{with_chosen, with_grows, not_then}
 use Rattle.sbl_machine.proofs.Stays.{pay_same, back_same, over_same}
 use Rattle.sbl_machine.proofs.FramePairs.{Here, dirty, dirty_at, Grown, Within, Kept, Pair, Alike, here_from, grown_after, dirty_after, within_dirty, after_pair, from_pair, same_grown, same_pair, signals_pair, spoiled_pair, chosen_pair, paid_alike}
@@ -19,7 +19,7 @@ use Rattle.sbl_machine.proofs.FramePairs.{Here, dirty, dirty_at, Grown, Within, 
 -- the search of an among, by its number, its strings and the mode of its place
 abbrev pub finds : (List ℕ → Doing) → ℕ → List Offer → Mode → Doing
 finds call k os r m s =
-    let t = touch_among k s in
+    let t = touch_among k m s in
     let x = ahead_at r t.text t.cursor (bound_of m t) in
     tried call k os r m t x (suc (length x)) t
 
@@ -50,7 +50,7 @@ module _ (picked : Touch → Bool) where
 
     pub finds_grown : (k : ℕ) (os : List Offer) (r m : Mode) (s : State) → Grown picked s (finds call k os r m s)
     finds_grown k os r m s =
-        let t = touch_among k s in
+        let t = touch_among k m s in
         let x = ahead_at r t.text t.cursor (bound_of m t) in
         let g = tried_grown k os r m t x (suc (length x)) t in
         record { up = λ d. g.up (with_grows picked (Searched s.routine k) s.touched d); here = g.here }
@@ -58,7 +58,7 @@ module _ (picked : Touch → Bool) where
     -- the search of a picked among
     pub finds_dirty : (i k : ℕ) → picked (Searched i k) ≡ true → (os : List Offer) (r m : Mode) (s : State) → Within picked i s → dirty_at picked (finds call k os r m s) ≡ true
     finds_dirty i k c os r m s w =
-        let t = touch_among k s in
+        let t = touch_among k m s in
         let x = ahead_at r t.text t.cursor (bound_of m t) in
         (tried_grown k os r m t x (suc (length x)) t).up (with_chosen picked (Searched s.routine k) s.touched (ap (λ n. picked (Searched n k)) w.here ∙ c))
 
@@ -93,13 +93,13 @@ module _ (picked : Touch → Bool) where
     condition_pair (Some n) m =
         after_pair picked i (λ s. pay s.steps s) (λ s. pay s.steps s) _ _ _ _ (same_pair picked i _ (λ s. pay_same s.steps s)) (λ s. (calls_alike n).in_mode m) (λ s. signals_pair picked i false)
 
-    choose_grown : (b : Bool) (k : ℕ) (x : Event') (g : Option ℕ) (s : State) → Grown picked s (Signals b (tell x (choose k g s)))
+    choose_grown : (b : Bool) (k : ℕ) (x : Event') (g : Option ℕ) (s : State) → Grown picked s (Signals b (note_event x (choose k g s)))
     choose_grown b k x g s = record { up = λ d. d; here = refl }
 
     other : (k l : ℕ) → picked (Searched i k) ≡ false → picked (Searched i l) ≡ true → l ≢ k
     other k l n c e = true≢false (sym c ∙ ap (λ x. picked (Searched i x)) e ∙ n)
 
-    choose_pair : (b : Bool) (k : ℕ) (x : Event') (g : Option ℕ) → picked (Searched i k) ≡ false → Pair picked i (λ s. Signals b (tell x (choose k g s))) (λ s. Signals b (tell x (choose k g s)))
+    choose_pair : (b : Bool) (k : ℕ) (x : Event') (g : Option ℕ) → picked (Searched i k) ≡ false → Pair picked i (λ s. Signals b (note_event x (choose k g s))) (λ s. Signals b (note_event x (choose k g s)))
     choose_pair b k x g n =
         record {
           grown = choose_grown b k x g;
@@ -123,13 +123,13 @@ module _ (picked : Touch → Bool) where
     tried_pair k n os r m from x zero = choose_pair false k (Finds k None) None n
     tried_pair k n os r m from x (suc l) = take_pair k n (offering r (take l x) os) m from _ _ (tried_pair k n os r m from x l)
 
-    searched_pair : (k : ℕ) (f f' : State → Ending) → Pair picked i f f' → Pair picked i (λ s. f (touch_among k s)) (λ s. f' (touch_among k s))
-    searched_pair k f f' h =
+    searched_pair : (k : ℕ) (m : Mode) (f f' : State → Ending) → Pair picked i f f' → Pair picked i (λ s. f (touch_among k m s)) (λ s. f' (touch_among k m s))
+    searched_pair k m f f' h =
         let grows = λ (s : State). with_grows picked (Searched s.routine k) s.touched in
         record {
-          grown = λ s. record { up = λ d. (h.grown (touch_among k s)).up (grows s d); here = (h.grown (touch_among k s)).here };
-          grown' = λ s. record { up = λ d. (h.grown' (touch_among k s)).up (grows s d); here = (h.grown' (touch_among k s)).here };
-          at = λ s w. h.at (touch_among k s) (record { here = w.here; quiet = λ l c clear. w.quiet l c (not_then _ _ (grows s) clear) });
+          grown = λ s. record { up = λ d. (h.grown (touch_among k m s)).up (grows s d); here = (h.grown (touch_among k m s)).here };
+          grown' = λ s. record { up = λ d. (h.grown' (touch_among k m s)).up (grows s d); here = (h.grown' (touch_among k m s)).here };
+          at = λ s w. h.at (touch_among k m s) (record { here = w.here; quiet = λ l c clear. w.quiet l c (not_then _ _ (grows s) clear) });
         }
 
     grown_call : (n : List ℕ) (m : Mode) (s : State) → Grown picked s (call n m s)
@@ -143,7 +143,7 @@ module _ (picked : Touch → Bool) where
     finds_alike k n os r =
         record {
           in_mode = λ m.
-              searched_pair k
+              searched_pair k m
               (λ t. tried call k os r m t (ahead_at r t.text t.cursor (bound_of m t)) (suc (length (ahead_at r t.text t.cursor (bound_of m t)))) t)
               (λ t. tried call' k os r m t (ahead_at r t.text t.cursor (bound_of m t)) (suc (length (ahead_at r t.text t.cursor (bound_of m t)))) t)
               (from_pair picked i (λ s. s)

@@ -1,7 +1,10 @@
--- What a run tells gives its text: each command keeps this.
+-- The recorded events give the text and, but for tests of groupings, the touches: each command keeps this.
 use Rattle.std.proofs.Common.{◌≡◌, ℕ, zero, suc, ◌+◌, ◌-◌, Bool, true, false, List, [], ◌∷◌, ◌++◌, length, Option, Some, None, Ok, Err, refl, sym, ap, ◌∙◌}
-use Rattle.std.specs.Prelude.{ℤ, ◌&&◌, nat_le, nat_lt, nat_eq, if◌then◌else◌, slice_get, slice_index_or, slice_set, take}
-use Rattle.std.specs.List.{splice, starts_with}
+use Rattle.std.specs.Prelude.{ℤ, ◌&&◌, ◌||◌, cond, nat_le, nat_lt, nat_eq, if◌then◌else◌, slice_get, slice_index_or, slice_set, take}
+use Rattle.std.specs.List.{filter, list_any, splice, starts_with}
+use Rattle.std.proofs.lemmas.Bool.{true≢false}
+use Rattle.std.proofs.lemmas.List.Elements.{filter-append}
+use Rattle.std.proofs.lemmas.List.{append-nil}
 use Rattle.sbl_tree.specs.declared.tree.Assignment.{Assignment}
 use Rattle.sbl_tree.specs.declared.tree.Comparison.{Comparison}
 use Rattle.sbl_tree.specs.declared.tree.Count.{Count}
@@ -29,28 +32,58 @@ use Rattle.sbl_numbering.specs.Items.{Known, Body, place_of, is_among, known_in,
 use Rattle.sbl_numbering.specs.Regions.{Among, among_at, behind, behind_rows, behind_others, behind_starter, first, first_rows, first_others, mode_behind, waits, waits_others}
 use Rattle.sbl_run.specs.declared.state.SavedCursor.{SavedCursor}
 use Rattle.sbl_run.specs.declared.state.Limits.{Limits}
+use Rattle.sbl_run.specs.declared.touch.Touch.{Touch}
+use Rattle.sbl_run.specs.declared.touch.Touch.TheVariants.{Entered, Searched, Tested}
+use Rattle.sbl_run.specs.Touches.{same_touch, with_touch}
 use Rattle.sbl_run.specs.Events.{Event', Enters, Leaves, Searches, Finds, Puts, with_event}
 use Rattle.sbl_run.specs.Moves.{match, next_is, one_of, touch_grouping, next, hop, at_mark, to_mark}
 use Rattle.sbl_run.specs.Numbers.{Value, given, natural, with_value, integer_at}
 use Rattle.sbl_run.specs.Run.{turns, times, count_of, seeks, found, limits, limited, limit_here, limit_back, backwards_from, backwards_end, chosen, back_in, enter, leave, paid}
 use Rattle.sbl_run.specs.Search.{choice, choose, take_none, take_string, touch_among}
 use Rattle.sbl_run.specs.Slices.{is_slice, replaced, replace, keep, inserted, put_in}
-use Rattle.sbl_run.specs.State.{State, Ending, Signals, Stops, Doing, bound_of, ahead, room, after, then_on, pay, at_place, at_difference, to_limit, saved_cursor, put_back, step_over, place_after, tell}
+use Rattle.sbl_run.specs.State.{State, Ending, Signals, Stops, Doing, bound_of, ahead, room, after, then_on, pay, at_place, at_difference, to_limit, saved_cursor, put_back, step_over, place_after, note_event}
 use Rattle.sbl_machine.specs.Meaning as meaning
 use Rattle.sbl_machine.specs.Meaning.{Offer, prefixed_does, counted_does, joined_does, limited_does, simple_does, moved_does, assigned_does, compared_does, named_does, edited_does, begins, takes, tried, search}
-use Rattle.sbl_machine.specs.Outcome.{Stem, outcome_at, run_of}
-use Rattle.sbl_machine.specs.Why.{events_at, events_in, events_of, text_after, text_behind, PutsGiveTheStem}
-use Rattle.sbl_machine.proofs.WhyLaw.{telling_changes_nothing}
+use Rattle.sbl_machine.specs.Outcome.{Stem, outcome_at, touched_at, run_of}
+use Rattle.sbl_machine.specs.Why.{events_at, events_in, events_of, text_after, text_after_one, PutsGiveTheStem, touches_after, touches_after_one, is_no_test, EventsTouch}
+use Rattle.sbl_machine.proofs.WhyLaw.{events_change_nothing}
 use Rattle.sbl_script.specs.Parsed.{Source}
 
-text_last : (text : List ℕ) (xs : List Event') (x : Event') → text_after text (xs ++ (x ∷ [])) ≡ text_behind (text_after text xs) x
+text_last : (text : List ℕ) (xs : List Event') (x : Event') → text_after text (xs ++ (x ∷ [])) ≡ text_after_one (text_after text xs) x
 text_last text [] x = refl
-text_last text (y ∷ ys) x = text_last (text_behind text y) ys x
+text_last text (y ∷ ys) x = text_last (text_after_one text y) ys x
+
+touches_last : (touches : List Touch) (xs : List Event') (x : Event') → touches_after touches (xs ++ (x ∷ [])) ≡ touches_after_one (touches_after touches xs) x
+touches_last touches [] x = refl
+touches_last touches (y ∷ ys) x = touches_last (touches_after_one touches y) ys x
+
+-- ---- touches without the tests of groupings
+
+any_kept : (y : Touch) → is_no_test y ≡ true → (ts : List Touch) → list_any (same_touch y) (filter is_no_test ts) ≡ list_any (same_touch y) ts
+any_kept y e [] = refl
+any_kept (Entered i) e (Entered j ∷ ts) = ap (λ b. same_touch (Entered i) (Entered j) || b) (any_kept (Entered i) e ts)
+any_kept (Entered i) e (Searched j k ∷ ts) = any_kept (Entered i) e ts
+any_kept (Entered i) e (Tested g ∷ ts) = any_kept (Entered i) e ts
+any_kept (Searched i k) e (Entered j ∷ ts) = any_kept (Searched i k) e ts
+any_kept (Searched i k) e (Searched j l ∷ ts) = ap (λ b. same_touch (Searched i k) (Searched j l) || b) (any_kept (Searched i k) e ts)
+any_kept (Searched i k) e (Tested g ∷ ts) = any_kept (Searched i k) e ts
+any_kept (Tested g) e ts = absurd (true≢false (sym e))
+
+with_step : (b : Bool) (y : Touch) (ts : List Touch) → is_no_test y ≡ true → (if b then filter is_no_test ts else filter is_no_test ts ++ (y ∷ [])) ≡ filter is_no_test (if b then ts else ts ++ (y ∷ []))
+with_step true y ts e = refl
+with_step false y ts e = sym (filter-append is_no_test ts (y ∷ []) ∙ ap (λ c. filter is_no_test ts ++ cond c (y ∷ []) []) e)
+
+with_kept : (y : Touch) → is_no_test y ≡ true → (ts : List Touch) → with_touch y (filter is_no_test ts) ≡ filter is_no_test (with_touch y ts)
+with_kept y e ts = ap (λ b. if b then filter is_no_test ts else filter is_no_test ts ++ (y ∷ [])) (any_kept y e ts) ∙ with_step (list_any (same_touch y) ts) y ts e
+
+test_step : (b : Bool) (g : ℕ) (ts : List Touch) → filter is_no_test ts ≡ filter is_no_test (if b then ts else ts ++ (Tested g ∷ []))
+test_step true g ts = refl
+test_step false g ts = sym (filter-append is_no_test ts (Tested g ∷ []) ∙ append-nil (filter is_no_test ts))
 
 module _ (word : List ℕ) where
-  -- what was told so far gives the text
+  -- the events so far give the text, and the touches but for tests
   abbrev Told : State → Type 0
-  Told s = (xs : List Event') × (s.told ≡ Some xs) × (text_after word xs ≡ s.text)
+  Told s = (xs : List Event') × (s.events ≡ Some xs) × (text_after word xs ≡ s.text) × (touches_after [] xs ≡ filter is_no_test s.touched)
 
   abbrev ToldAt : Ending → Type 0
   ToldAt (Signals b s) = Told s
@@ -62,11 +95,22 @@ module _ (word : List ℕ) where
   abbrev KeepsIn : Doing → Type 0
   KeepsIn d = (m : Mode) → Keeps (d m)
 
-  tell_keeps : (x : Event') (s : State) → ((t : List ℕ) → text_behind t x ≡ t) → Told s → Told (tell x s)
-  tell_keeps x s same h = (h.0 ++ (x ∷ []), ap (with_event x) h.1, text_last word h.0 x ∙ same (text_after word h.0) ∙ h.2)
+  tell_keeps : (x : Event') (s : State) → ((t : List ℕ) → text_after_one t x ≡ t) → ((ts : List Touch) → touches_after_one ts x ≡ ts) → Told s → Told (note_event x s)
+  tell_keeps x s same none h = (h.0 ++ (x ∷ []), ap (with_event x) h.1, text_last word h.0 x ∙ same (text_after word h.0) ∙ h.2, touches_last [] h.0 x ∙ none (touches_after [] h.0) ∙ h.3)
 
-  put_keeps : (from to : ℕ) (cs : List ℕ) (s : State) → Told s → Told (tell (Puts from to cs) (record s { text = splice s.text from to cs }))
-  put_keeps from to cs s h = (h.0 ++ (Puts from to cs ∷ []), ap (with_event (Puts from to cs)) h.1, text_last word h.0 (Puts from to cs) ∙ ap (λ t. splice t from to cs) h.2)
+  touch_keeps : (x : Event') (y : Touch) (s : State) → ((t : List ℕ) → text_after_one t x ≡ t) → ((ts : List Touch) → touches_after_one ts x ≡ with_touch y ts) → is_no_test y ≡ true → Told s → Told (note_event x (record s { touched = with_touch y s.touched }))
+  touch_keeps x y s same one e h = (
+    h.0 ++ (x ∷ []),
+    ap (with_event x) h.1,
+    text_last word h.0 x ∙ same (text_after word h.0) ∙ h.2,
+    touches_last [] h.0 x ∙ one (touches_after [] h.0) ∙ ap (with_touch y) h.3 ∙ with_kept y e s.touched,
+  )
+
+  test_keeps : (g : ℕ) (s : State) → Told s → Told (touch_grouping g s)
+  test_keeps g s h = (h.0, h.1, h.2, h.3 ∙ test_step (list_any (same_touch (Tested g)) s.touched) g s.touched)
+
+  put_keeps : (from to : ℕ) (cs : List ℕ) (s : State) → Told s → Told (note_event (Puts from to cs) (record s { text = splice s.text from to cs }))
+  put_keeps from to cs s h = (h.0 ++ (Puts from to cs ∷ []), ap (with_event (Puts from to cs)) h.1, text_last word h.0 (Puts from to cs) ∙ ap (λ t. splice t from to cs) h.2, touches_last [] h.0 (Puts from to cs) ∙ h.3)
 
   -- ---- one after another
 
@@ -284,17 +328,17 @@ module _ (word : List ℕ) where
         let taken : State → Ending = λ b. then_on (to b) end in
         then_keeps (to s) (λ a. after (meaning.condition_does call o.condition m a) taken go) (to_keeps s h)
         (λ a j. after_keeps (meaning.condition_does call o.condition m a) taken go (condition_keeps o.condition m a j)
-        (λ b k'. then_keeps (to b) end (to_keeps b k') (λ c l. tell_keeps (Finds k (Some (length o.string))) (choose k (Some o.group) c) (λ t. refl) l)) i)
+        (λ b k'. then_keeps (to b) end (to_keeps b k') (λ c l. tell_keeps (Finds k (Some (length o.string))) (choose k (Some o.group) c) (λ t. refl) (λ t. refl) l)) i)
 
     tried_keeps : (k : ℕ) (os : List Offer) (r m : Mode) (from : State) (x : List ℕ) (l : ℕ) → Keeps (tried call k os r m from x l)
-    tried_keeps k os r m from x zero s h = tell_keeps (Finds k None) (choose k None s) (λ t. refl) h
+    tried_keeps k os r m from x zero s h = tell_keeps (Finds k None) (choose k None s) (λ t. refl) (λ t. refl) h
     tried_keeps k os r m from x (suc l) s h = take_keeps k (meaning.offering r (take l x) os) m from (tried call k os r m from x l) (tried_keeps k os r m from x l) s h
 
     search_keeps : (a : Among) → KeepsIn (search call a)
     search_keeps a m s h =
-        let t = touch_among a.number s in
+        let t = touch_among a.number m s in
         let x = ahead_at a.mode t.text t.cursor (bound_of m t) in
-        tried_keeps a.number (meaning.offers 0 a.groups) a.mode m t x (suc (length x)) t (tell_keeps (Searches a.number s.cursor) (record s { touched = t.touched }) (λ t. refl) h)
+        tried_keeps a.number (meaning.offers 0 a.groups) a.mode m t x (suc (length x)) t (touch_keeps (Searches s.routine a.number m s.cursor) (Searched s.routine a.number) s (λ t. refl) (λ t. refl) refl h)
 
   -- ---- the commands of a script
 
@@ -307,7 +351,7 @@ module _ (word : List ℕ) where
     name_keeps x m s h =
         if_keeps (is_among (ns kinds.Strings) x) _ _ (match_keeps (slice_index_or s.strings (place_of (ns kinds.Strings) x) []) m s h)
         (if_keeps (is_among (ns kinds.Booleans) x) _ _ h
-        (if_keeps (is_among (ns kinds.Groupings) x) _ _ (class_keeps true (class x) m (touch_grouping (place_of (ns kinds.Groupings) x) s) h) (go x m s h)))
+        (if_keeps (is_among (ns kinds.Groupings) x) _ _ (class_keeps true (class x) m (touch_grouping (place_of (ns kinds.Groupings) x) s) (test_keeps (place_of (ns kinds.Groupings) x) s h)) (go x m s h)))
 
     abbrev does : Mode → ℕ → Bool → Option Among → trees.Command → Doing
     does = meaning.act ns class call
@@ -318,7 +362,7 @@ module _ (word : List ℕ) where
       act_keeps (simple_ y) r i w x m s h = simple_keeps (meaning.search_ahead ns class call x) (ahead_keeps x) y m s h
       act_keeps (literal_ q) r i w x m s h = match_keeps q.value m s h
       act_keeps (name_ y) r i w x m s h = name_keeps y m s h
-      act_keeps (non_ b y) r i w x m s h = class_keeps false (class y) m (touch_grouping (place_of (ns kinds.Groupings) y) s) h
+      act_keeps (non_ b y) r i w x m s h = class_keeps false (class y) m (touch_grouping (place_of (ns kinds.Groupings) y) s) (test_keeps (place_of (ns kinds.Groupings) y) s h)
       act_keeps (prefixed y c) r i w x m s h = prefixed_keeps y (paid (does (mode_behind y r) i w x c)) (paid_keeps (does (mode_behind y r) i w x c) (act_keeps c (mode_behind y r) i w x)) m s h
       act_keeps (counted y e c) r i w x m s h = counted_keeps y (meaning.worth ns e m s) (paid (does r i w x c)) (paid_keeps (does r i w x c) (act_keeps c r i w x)) m s h
       act_keeps (move_ y e) r i w x m s h = moved_keeps y (meaning.worth ns e m s) m s h
@@ -371,9 +415,9 @@ module _ (word : List ℕ) where
         let begun = enter i (behind_others b.others (behind b.first 0)) s in
         let row = others_keep b.others b.mode (behind b.first 0) (waits b.first false) None (does b.mode 0 false (first_others b.mode b.others (behind b.first 0) None) b.first) (act_keeps b.first b.mode 0 false (first_others b.mode b.others (behind b.first 0) None)) in
         after_keeps (paid d m begun) (λ t. Signals true (back_in s.routine s.choices true t)) (λ t. Signals false (back_in s.routine s.choices false t))
-        (paid_keeps d row m begun (tell_keeps (Enters i) (record s { choices = begun.choices; routine = i; touched = begun.touched }) (λ t. refl) h))
-        (λ t j. tell_keeps (Leaves true) (record t { choices = s.choices; routine = s.routine }) (λ t. refl) j)
-        (λ t j. tell_keeps (Leaves false) (record t { choices = s.choices; routine = s.routine }) (λ t. refl) j)
+        (paid_keeps d row m begun (touch_keeps (Enters i) (Entered i) s (λ t. refl) (λ t. refl) refl h))
+        (λ t j. tell_keeps (Leaves true) (record t { choices = s.choices; routine = s.routine }) (λ t. refl) (λ t. refl) j)
+        (λ t j. tell_keeps (Leaves false) (record t { choices = s.choices; routine = s.routine }) (λ t. refl) (λ t. refl) j)
 
   calls_keep : (ns : Known) (class : List ℕ → ℕ → Bool) (bodies : List ℕ → Option Body) (levels : ℕ) (x : List ℕ) → KeepsIn (meaning.calls ns class bodies levels x)
   calls_keep ns class bodies zero x m s h = h
@@ -383,11 +427,24 @@ module _ (word : List ℕ) where
   stem_of (Signals b s) stem h p = let same : s.text ≡ stem = cc in ap (λ o. text_after word (events_in o)) h.1 ∙ h.2 ∙ same
   stem_of (Stops fault s) stem h p = let no : ⊥ = cc in absurd no
 
+  touches_at : (e : Ending) → ToldAt e → touches_after [] (events_at e) ≡ filter is_no_test (touched_at e)
+  touches_at (Signals b s) h = ap (λ o. touches_after [] (events_in o)) h.1 ∙ h.3
+  touches_at (Stops fault s) h = ap (λ o. touches_after [] (events_in o)) h.1 ∙ h.3
+
 pub puts_give_the_stem : PutsGiveTheStem
-unfolding meaning.telling events_of
+unfolding meaning.ending_with_events events_of
 puts_give_the_stem script word limit stem p =
     let items = in_order script.items in
     let known = known_in items in
-    stem_of word (meaning.telling script word limit) stem
-    (calls_keep word known (class_of (classes_behind items [])) (body_named items) 32 script.external Forward (record (meaning.start known word limit) { told = Some [] }) ([], refl, refl))
-    ((telling_changes_nothing script word limit).0 ∙ p)
+    stem_of word (meaning.ending_with_events script word limit) stem
+    (calls_keep word known (class_of (classes_behind items [])) (body_named items) 32 script.external Forward (record (meaning.start known word limit) { events = Some [] }) ([], refl, refl, refl))
+    ((events_change_nothing script word limit).outcome ∙ p)
+
+pub events_touch : EventsTouch
+unfolding meaning.ending_with_events events_of
+events_touch script word limit =
+    let items = in_order script.items in
+    let known = known_in items in
+    touches_at word (meaning.ending_with_events script word limit)
+    (calls_keep word known (class_of (classes_behind items [])) (body_named items) 32 script.external Forward (record (meaning.start known word limit) { events = Some [] }) ([], refl, refl, refl))
+    ∙ ap (filter is_no_test) (events_change_nothing script word limit).touches

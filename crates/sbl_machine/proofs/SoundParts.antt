@@ -245,4 +245,4 @@ module _ (ns : Names) (known : Known) (agree : Agree ns known) where
         ∙ tries_same a.number os a.mode m s x (suc (length x)) s
 
     pub search_same : (a : Among) (m : Mode) (s : State) → search_all call (found_as ns a).number (found_as ns a).entries (found_as ns a).strings m s ≡ meaning.search call' a m s
-    search_same a m s = searched_same a m (touch_among a.number s)
+    search_same a m s = searched_same a m (touch_among a.number m s)

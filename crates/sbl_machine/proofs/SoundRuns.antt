@@ -24,7 +24,7 @@ use Rattle.sbl_tree.specs.declared.mode.Mode.TheVariants.{Forward}
 
 -- a run of a program that tells what it does
 abbrev pub telling_of : programs.Program → List ℕ → ℕ → Ending
-telling_of p word limit = run.calls p 32 p.external Forward (record (start p word limit) { told = Some [] })
+telling_of p word limit = run.calls p 32 p.external Forward (record (start p word limit) { events = Some [] })
 
 module _ (items : List ItemInMode) (external : List ℕ) where
   abbrev ns : Names
@@ -78,11 +78,11 @@ module _ (items : List ItemInMode) (external : List ℕ) where
       ∙ ap (λ l. started (known kinds.Integers) l ns.strings word limit) agree.booleans
       ∙ ap (λ l. started (known kinds.Integers) (known kinds.Booleans) l word limit) agree.strings
 
-  told_by_items : (word : List ℕ) (limit : ℕ) → telling_of program word limit ≡ meaning.calls known class (body_named items) 32 external Forward (record (meaning.start known word limit) { told = Some [] })
+  told_by_items : (word : List ℕ) (limit : ℕ) → telling_of program word limit ≡ meaning.calls known class (body_named items) 32 external Forward (record (meaning.start known word limit) { events = Some [] })
   told_by_items word limit =
-      let begun : State = record (start program word limit) { told = Some [] } in
+      let begun : State = record (start program word limit) { events = Some [] } in
       calls_same 32 external Forward begun
-      ∙ ap (λ (s : State). meaning.calls known class (body_named items) 32 external Forward (record s { told = Some [] })) (start_same word limit)
+      ∙ ap (λ (s : State). meaning.calls known class (body_named items) 32 external Forward (record s { events = Some [] })) (start_same word limit)
 
   by_items : (word : List ℕ) (limit : ℕ) → ending_of program word limit ≡ meaning.calls known class (body_named items) 32 external Forward (meaning.start known word limit)
   by_items word limit = calls_same 32 external Forward (start program word limit) ∙ ap (meaning.calls known class (body_named items) 32 external Forward) (start_same word limit)
@@ -91,6 +91,6 @@ pub ending_same : (script : Source) (word : List ℕ) (limit : ℕ) → ending_o
 unfolding numbered_items meaning.ending
 ending_same script word limit = by_items (in_order script.items) script.external word limit
 
-pub telling_same : (script : Source) (word : List ℕ) (limit : ℕ) → telling_of (numbered_script script) word limit ≡ meaning.telling script word limit
-unfolding numbered_items meaning.telling
+pub telling_same : (script : Source) (word : List ℕ) (limit : ℕ) → telling_of (numbered_script script) word limit ≡ meaning.ending_with_events script word limit
+unfolding numbered_items meaning.ending_with_events
 telling_same script word limit = told_by_items (in_order script.items) script.external word limit

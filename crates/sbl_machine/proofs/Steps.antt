@@ -13,7 +13,7 @@ use Rattle.sbl_tree.specs.declared.mode.Mode.TheVariants.{Forward, Backward}
 
 -- a state with k steps more, whose run is not asked what it does
 abbrev pub more : ℕ → State → State
-more k s = record s { steps = s.steps + k; told = None }
+more k s = record s { steps = s.steps + k; events = None }
 
 -- fewer than n steps are left, unless it ended for want of them
 abbrev pub Within : ℕ → Ending → Type 0
@@ -21,10 +21,10 @@ Within n (Signals b s) = s.steps < n
 Within n (Stops faults.Steps s) = Unit {0}
 Within n (Stops fault s) = s.steps < n
 
--- an ending with fewer than n steps left, and that of the same with k steps more
+-- an ending with fewer than n steps left, and that of the same with k steps more; with none more they are one
 abbrev pub Goes : ℕ → ℕ → Ending → Ending → Type 0
 Goes k n (Signals b s) e = (s.steps < n) × (e ≡ Signals b (more k s))
-Goes k n (Stops faults.Steps s) e = Within k e
+Goes k n (Stops faults.Steps s) e = (k ≡ 0 → e ≡ Stops faults.Steps (more 0 s)) × Within k e
 Goes k n (Stops fault s) e = (s.steps < n) × (e ≡ Stops fault (more k s))
 
 -- what goes on from a state goes on so with any number of steps more
@@ -62,14 +62,14 @@ after_low n (Stops fault s) f g h on_t on_f = h
 pub after_goes : (k n j : ℕ) (e e' : Ending) (f g f' g' : State → Ending) → j ≤ n → Goes k j e e' → Carries k n j f f' → Carries k n j g g' → Goes k n (after e f g) (after e' f' g')
 after_goes k n j (Signals true s) e' f g f' g' l h on_t on_f = subst (λ x. Goes k n (f s) (after x f' g')) (sym h.1) (on_t.same s h.0)
 after_goes k n j (Signals false s) e' f g f' g' l h on_t on_f = subst (λ x. Goes k n (g s) (after x f' g')) (sym h.1) (on_f.same s h.0)
-after_goes k n j (Stops faults.Steps s) e' f g f' g' l h on_t on_f = after_low k e' f' g' h on_t.low on_f.low
+after_goes k n j (Stops faults.Steps s) e' f g f' g' l h on_t on_f = (λ z. ap (λ x. after x f' g') (h.0 z), after_low k e' f' g' h.1 on_t.low on_f.low)
 after_goes k n j (Stops fault s) e' f g f' g' l h on_t on_f = (omega (arith, l, h.0), ap (λ x. after x f' g') h.1)
 
 pub signals_go : (b : Bool) → Steady (Signals b)
 signals_go b k n s l = (l, refl)
 
 pub stops_go : (fault : RunFault) → Steady (Stops fault)
-stops_go faults.Steps k n s l = tt
+stops_go faults.Steps k n s l = (λ z. ap (λ j. Stops faults.Steps (more j s)) z, tt)
 stops_go fault k n s l = (l, refl)
 
 -- the same going on in both
@@ -94,7 +94,7 @@ low_pay f h k zero s l = tt
 low_pay f h k (suc p) s l = steady_low f h k (record s { steps = p }) (omega (arith, l))
 
 pay_goes : (f : State → Ending) → Steady f → (k n c : ℕ) (s : State) → c ≤ n → Goes k n (then_on (pay c s) f) (then_on (pay (c + k) (more k s)) f)
-pay_goes f h k n zero s l = low_pay f h k (zero + k) (more k s) (omega arith)
+pay_goes f h k n zero s l = (λ z. ap (λ j. then_on (pay (zero + j) (more j s)) f) z, low_pay f h k (zero + k) (more k s) (omega arith))
 pay_goes f h k n (suc p) s l =
     let e : suc (p + k) ≡ suc p + k = omega arith in
     subst (λ c. Goes k n (f (record s { steps = p })) (then_on (pay c (more k s)) f)) e (h k n (record s { steps = p }) (omega (arith, l)))

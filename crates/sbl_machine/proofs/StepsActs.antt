@@ -252,5 +252,5 @@ module _ (call : List ℕ → Doing) (go : (x : List ℕ) (m : Mode) → Steady 
       (tried_go a.number os a.mode m s x (suc (length x)) k n s l)
 
   pub search_go : (a : Among) (m : Mode) → Steady (search call a m)
-  search_go a Forward k n s l = search_goes a Forward (ahead_at a.mode s.text s.cursor (bound_of Forward s)) k n (touch_among a.number s) l
-  search_go a Backward k n s l = search_goes a Backward (ahead_at a.mode s.text s.cursor (bound_of Backward s)) k n (touch_among a.number s) l
+  search_go a Forward k n s l = search_goes a Forward (ahead_at a.mode s.text s.cursor (bound_of Forward s)) k n (touch_among a.number Forward s) l
+  search_go a Backward k n s l = search_goes a Backward (ahead_at a.mode s.text s.cursor (bound_of Backward s)) k n (touch_among a.number Backward s) l

@@ -34,7 +34,7 @@ too_many k l (Stops fault s) h u = omega (arith, h, u)
 
 lower : (k l : ℕ) (e e' : Ending) → Goes k (suc l) e e' → used_at (l + k) e' ≤ l → Alike l (l + k) e e'
 lower k l (Signals b s) e' h u = turned (l + k) l e' (Signals b s) (ap outcome_at h.1, ap (used_at (l + k)) h.1 ∙ counted l k s, ap touched_at h.1)
-lower k l (Stops faults.Steps s) e' h u = absurd (too_many k l e' h u)
+lower k l (Stops faults.Steps s) e' h u = absurd (too_many k l e' h.1 u)
 lower k l (Stops fault s) e' h u = (sym (ap outcome_at h.1), sym (ap (used_at (l + k)) h.1 ∙ counted l k s), sym (ap touched_at h.1))
 
 ending_goes : (script : Source) (word : List ℕ) (limit k : ℕ) → Goes k (suc limit) (meaning.ending script word limit) (meaning.ending script word (limit + k))

@@ -1,24 +1,24 @@
--- A run that tells what it does gives the same for as many steps.
+-- A run that records its events gives the same for as many steps, and touches the same.
 use Rattle.std.proofs.Common.{◌≡◌, ℕ, suc, ◌+◌, ◌-◌, ◌<◌, List, [], Some, refl, sym, ap, subst, ◌∙◌, arith}
 use Rattle.sbl_run.specs.declared.fault.RunFault.TheVariants as faults
 use Rattle.sbl_machine.specs.Meaning as meaning
-use Rattle.sbl_machine.specs.Outcome.{Refused, outcome_at, used_at, run_of, used_of}
-use Rattle.sbl_machine.specs.Why.{TellingChangesNothing}
+use Rattle.sbl_machine.specs.Outcome.{outcome_at, touched_at, used_at, run_of, touches_of, used_of}
+use Rattle.sbl_machine.specs.Why.{EventsChangeNothing}
 use Rattle.sbl_run.specs.State.{State, Ending, Signals, Stops}
-use Rattle.sbl_machine.proofs.Steps.{Within, Goes}
+use Rattle.sbl_machine.proofs.Steps.{Goes}
 use Rattle.sbl_machine.proofs.StepsRuns.{calls_go}
 use Rattle.sbl_numbering.specs.Items.{known_in, class_of, classes_behind, body_named}
 use Rattle.sbl_script.specs.Parsed.{Source}
 use Rattle.sbl_tree.specs.Order.{in_order}
 use Rattle.sbl_tree.specs.declared.mode.Mode.TheVariants.{Forward}
 
-telling_goes : (script : Source) (word : List ℕ) (limit : ℕ) → Goes 0 (suc limit) (meaning.telling script word limit) (meaning.ending script word limit)
-unfolding meaning.ending meaning.telling
-telling_goes script word limit =
+recording_goes : (script : Source) (word : List ℕ) (limit : ℕ) → Goes 0 (suc limit) (meaning.ending_with_events script word limit) (meaning.ending script word limit)
+unfolding meaning.ending meaning.ending_with_events
+recording_goes script word limit =
     let items = in_order script.items in
     let known = known_in items in
     let class = class_of (classes_behind items []) in
-    let begun : State = record (meaning.start known word limit) { told = Some [] } in
+    let begun : State = record (meaning.start known word limit) { events = Some [] } in
     let run : State → Ending = meaning.calls known class (body_named items) 32 script.external Forward in
     let none : limit + 0 ≡ limit = omega arith in
     subst (λ l. Goes 0 (suc limit) (run begun) (run (meaning.start known word l))) none
@@ -27,16 +27,13 @@ telling_goes script word limit =
 counted : (l : ℕ) (s : State) → l - (s.steps + 0) ≡ l - s.steps
 counted l s = omega arith
 
-unpaid : (l : ℕ) (e : Ending) → Within 0 e → (outcome_at e ≡ Refused faults.Steps) × (used_at l e ≡ l + 1)
-unpaid l (Signals b s) h = absurd (omega (arith, h))
-unpaid l (Stops faults.Steps s) h = (refl, refl)
-unpaid l (Stops fault s) h = absurd (omega (arith, h))
+alike : (l : ℕ) (e e' : Ending) → Goes 0 (suc l) e e' → (outcome_at e ≡ outcome_at e') × (used_at l e ≡ used_at l e') × (touched_at e ≡ touched_at e')
+alike l (Signals b s) e' h = (sym (ap outcome_at h.1), sym (ap (used_at l) h.1 ∙ counted l s), sym (ap touched_at h.1))
+alike l (Stops faults.Steps s) e' h = let same = h.0 refl in (sym (ap outcome_at same), sym (ap (used_at l) same), sym (ap touched_at same))
+alike l (Stops fault s) e' h = (sym (ap outcome_at h.1), sym (ap (used_at l) h.1 ∙ counted l s), sym (ap touched_at h.1))
 
-alike : (l : ℕ) (e e' : Ending) → Goes 0 (suc l) e e' → (outcome_at e ≡ outcome_at e') × (used_at l e ≡ used_at l e')
-alike l (Signals b s) e' h = (sym (ap outcome_at h.1), sym (ap (used_at l) h.1 ∙ counted l s))
-alike l (Stops faults.Steps s) e' h = let u = unpaid l e' h in (sym u.0, sym u.1)
-alike l (Stops fault s) e' h = (sym (ap outcome_at h.1), sym (ap (used_at l) h.1 ∙ counted l s))
-
-pub telling_changes_nothing : TellingChangesNothing
-unfolding run_of used_of
-telling_changes_nothing script word limit = alike limit (meaning.telling script word limit) (meaning.ending script word limit) (telling_goes script word limit)
+pub events_change_nothing : EventsChangeNothing
+unfolding run_of used_of touches_of
+events_change_nothing script word limit =
+    let h = alike limit (meaning.ending_with_events script word limit) (meaning.ending script word limit) (recording_goes script word limit) in
+    record { outcome = h.0; used = h.1; touches = h.2 }

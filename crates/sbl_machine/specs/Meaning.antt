@@ -239,7 +239,7 @@ module _ (call : List ℕ → Doing) where
 
   -- a search touches its among, whether or not it finds a string
   abbrev pub search : Among → Doing
-  search a m s = searched a m (touch_among a.number s)
+  search a m s = searched a m (touch_among a.number m s)
 
 -- ---- what a command does, given the names of the script, its groupings, and what a call of each routine does
 
@@ -343,7 +343,7 @@ start ns word steps = record {
   choices = [];
   routine = 0;
   touched = [];
-  told = None;
+  events = None;
   steps = steps;
 }
 
@@ -355,8 +355,8 @@ ending script word limit =
     (start (known_in items) word limit)
 
 -- the same run, with its events recorded
-unfoldable pub telling : Source → List ℕ → ℕ → Ending
-telling script word limit =
+unfoldable pub ending_with_events : Source → List ℕ → ℕ → Ending
+ending_with_events script word limit =
     let items = in_order script.items in
     calls (known_in items) (class_of (classes_behind items [])) (body_named items) max_levels script.external Forward
-    (record (start (known_in items) word limit) { told = Some [] })
+    (record (start (known_in items) word limit) { events = Some [] })

@@ -9,7 +9,7 @@ ghost use Rattle.sbl_machine.specs.Marks.{EditedAreThere};
 ghost use Rattle.sbl_machine.specs.NamesStand.{NamesStand};
 ghost use Rattle.sbl_machine.specs.Searches.{SearchesAreExact, TablesDiffer};
 ghost use Rattle.sbl_machine.specs.Sound.{RunIsSound};
-ghost use Rattle.sbl_machine.specs.Why.{PutsGiveTheStem, TellingChangesNothing};
+ghost use Rattle.sbl_machine.specs.Why.{EventsChangeNothing, EventsTouch, PutsGiveTheStem};
 
 use sbl_checks::laws::{amongs_are_sound, names_resolve, well_declared_passes};
 use sbl_tables::laws::fitting_are_matches;
@@ -28,14 +28,21 @@ pub fn used_steps_suffice()
     ensures touch { UsedStepsTouch }
 {}
 
-/// A run that records its events gives the same outcome and uses the same number of steps as the run that does not.
-pub fn telling_changes_nothing()
-    ensures { TellingChangesNothing }
+/// A run that records its events gives the same outcome, uses the same number of steps and touches the same as the run
+/// that does not.
+pub fn events_change_nothing()
+    ensures { EventsChangeNothing }
 {}
 
 /// If a run gives a stem, making its recorded replacements on the word, one after another, gives that stem.
 pub fn puts_give_the_stem()
     ensures { PutsGiveTheStem }
+{}
+
+/// The routines that a run enters and the amongs that it searches, by its events, each once in the order of first
+/// occurrence, are what it touches besides groupings.
+pub fn events_touch()
+    ensures { EventsTouch }
 {}
 
 /// A run touches an item exactly if the item is in its list of touched items. That list is in strictly ascending order.

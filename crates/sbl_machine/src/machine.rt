@@ -1,6 +1,6 @@
 //! The machine.
 
-ghost use Rattle.std.specs.Prelude.{◌≡◌, ◌<◌, ◌≤◌, ◌+◌, true, length, map, IfOk, MatchResult, ◌↔◌, Err};
+ghost use Rattle.std.specs.Prelude.{◌≡◌, ◌<◌, ◌≤◌, ◌+◌, true, length, map, slice_index_or, [], IfOk, MatchResult, ◌↔◌, Err};
 ghost use Rattle.std.specs.List.{list_all, list_any};
 ghost use Rattle.sbl_run.specs.Kept.{Follows};
 ghost use Rattle.sbl_run.specs.Start.{max_word_length};
@@ -10,15 +10,14 @@ ghost use Rattle.sbl_machine.specs.Outcome.{outcome_at, outcome_of, run_of, touc
 ghost use Rattle.sbl_machine.specs.Touched.{item_of, items_in, items_of, named, names_of, same_item, touched_of};
 ghost use Rattle.sbl_script.specs.Parsed.{Source, source_of};
 ghost use Rattle.sbl_run.specs.State.{Ending};
-ghost use Rattle.sbl_run.specs.Events.{event_of};
-ghost use Rattle.sbl_run.specs.Told.{told_of};
+ghost use Rattle.sbl_run.specs.Events.{event_of, view_events};
 ghost use Rattle.sbl_machine.specs.Why.{events_at, events_in, events_of};
 
 use crate::fault::RunStop;
 use crate::item::Item;
 use crate::marks::marks_of;
 use crate::meter::Meter;
-use crate::naming::{Names, is_touched, items_touched};
+use crate::naming::{Names, is_touched, items_touched, routine_at};
 use crate::outcome::{Outcome, Ran, Traced, Why};
 use sbl_numbering::{Made, numbered};
 use sbl_program::Program;
@@ -129,7 +128,7 @@ impl<S: AmongSearch> Machine<S> {
     {
         let mut state = State::new(alloc);
         state.restart(&self.program, word, limit)?;
-        state.ask();
+        state.record_events();
         let runner = Runner {
             tables: &self.tables,
             program: &self.program,
@@ -140,9 +139,17 @@ impl<S: AmongSearch> Machine<S> {
         let traced = ended(alloc, end, limit, &state)?;
         Ok(Why {
             outcome: traced.outcome,
-            events: told_events(alloc, state.take_told()),
+            events: events_or_none(alloc, state.take_events()),
             used: traced.used,
         })
+    }
+
+    /// Returns the name of the routine with this number, or an empty name if there is none. Routines count from 0, in the
+    /// order of their definitions. Does not allocate.
+    pub fn routine_name(&self, number: usize) -> &str
+        ensures { (script : Source) → IsMachineOf S S.entries S.mode self.now script → result.now ≡ slice_index_or (names_of script).routines number [] }
+    {
+        routine_at(&self.names, number)
     }
 
     /// Returns the items that were touched, each once, in order: routines by name in code point order, then amongs by
@@ -263,7 +270,7 @@ fn ended(
     ensures outcome { (e : Ending) → Follows end state.now e → IfOk result (λ traced. outcome_of traced.outcome ≡ outcome_at e) }
     ensures touches { (e : Ending) → Follows end state.now e → IfOk result (λ traced. traced.touches.items ≡ touched_at e) }
     ensures used { (e : Ending) → Follows end state.now e → IfOk result (λ traced. traced.used ≡ used_at limit e) }
-    ensures told { (e : Ending) → Follows end state.now e → IfOk result (λ _. events_in state.now.told ≡ events_at e) }
+    ensures events { (e : Ending) → Follows end state.now e → IfOk result (λ _. events_in state.now.events ≡ events_at e) }
 {
     let paid = u64::from(limit.saturating_sub(state.steps()));
     let touches = state.touches().to_vec(alloc)?;
@@ -288,11 +295,11 @@ fn ended(
     }
 }
 
-/// Returns the recorded events, or none if events were not recorded.
-fn told_events(alloc: Global, told: Option<Vec<Event>>) -> Vec<Event>
-    ensures { map event_of result.items ≡ events_in (told_of told) }
+/// Returns the recorded events, or no events if the run recorded none.
+fn events_or_none(alloc: Global, events: Option<Vec<Event>>) -> Vec<Event>
+    ensures { map event_of result.items ≡ events_in (view_events events) }
 {
-    match told {
+    match events {
         None => Vec::new(alloc),
         Some(events) => events,
     }

@@ -39,6 +39,13 @@ fn name_at(names: &[String], number: usize) -> &str
     }
 }
 
+/// Returns the name of the routine with this number, or an empty name if there is none.
+pub fn routine_at(names: &Names, number: usize) -> &str
+    ensures { result.now ≡ slice_index_or names.now.routines number [] }
+{
+    name_at(&names.routines, number)
+}
+
 // Returns the item of a touch. Returns `AllocError` if an allocation fails.
 fn item_named(alloc: Global, names: &Names, touch: Touch) -> Result<Item, AllocError>
     ensures { IfOk result (λ item. item_of item ≡ named names.now touch) }

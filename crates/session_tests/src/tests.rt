@@ -1,4 +1,5 @@
 //! Tests of lines and sessions, one file for each subject.
 
+mod devices;
 mod lines;
 mod sessions;

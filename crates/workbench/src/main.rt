@@ -14,8 +14,14 @@ const REFUSED: u8 = 2;
 /// The text that is printed if an allocation fails before anything was read.
 const NO_MEMORY: &str = "snowbench: 49 OutOfMemory";
 
+/// The text that is printed if a word of the command line is not UTF-8.
+const NOT_UTF8: &str = "error: a word of the command line is not UTF-8";
+
 fn main(rt: HostRuntime) -> io::Result<ExitCode> {
-    let words: Vec<String> = std::env::args(&rt)?.collect(rt.alloc())?;
+    let words = match words_of(&rt) {
+        Ok(words) => words,
+        Err(error) => return Ok(refuse_words(&rt, &error)),
+    };
     match read_words(rt.alloc(), &words) {
         Ok(wanted) => {
             let Ok(mut lines) = Lines::new(rt.alloc(), Device::new(rt.stdin())) else {
@@ -40,6 +46,21 @@ fn main(rt: HostRuntime) -> io::Result<ExitCode> {
             Ok(ExitCode::from(REFUSED))
         }
     }
+}
+
+/// Returns the words of the command line. Returns `OutOfMemory` if an allocation fails, and `InvalidData` if a word is not UTF-8.
+fn words_of(rt: &HostRuntime) -> io::Result<Vec<String>> {
+    Ok(std::env::args(rt)?.collect(rt.alloc())?)
+}
+
+/// Prints why the words of the command line cannot be read, and returns the exit status.
+fn refuse_words(rt: &HostRuntime, error: &io::Error) -> ExitCode {
+    if error.kind() == io::ErrorKind::OutOfMemory {
+        let _ = eprintln!(rt; "{NO_MEMORY}");
+        return ExitCode::FAILURE;
+    }
+    let _ = eprintln!(rt; "{NOT_UTF8}");
+    ExitCode::from(REFUSED)
 }
 
 /// Works on the files of the command line, and returns the exit status. The prompt is written if the face is text, and both

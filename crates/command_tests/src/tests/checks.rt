@@ -92,6 +92,16 @@ fn a_line_of_a_check_has_at_most_65536_bytes(rt: HostRuntime) -> Result<(), Fail
 }
 
 #[test]
+fn the_fault_of_a_word_comes_before_that_of_its_stem(rt: HostRuntime) -> Result<(), Fail> {
+    let line = vec![in rt.alloc(); b'a'; 65_537]?;
+    let ended = check_of(rt.alloc(), PREFIXES, b"\xFF", line.as_slice())?;
+    assert!(rt; ended.ending == Err(ServeFault::NotText));
+    let ended = check_of(rt.alloc(), PREFIXES, line.as_slice(), b"\xFF")?;
+    assert!(rt; ended.ending == Err(ServeFault::LineTooLong));
+    Ok(())
+}
+
+#[test]
 fn a_check_ends_where_its_writer_fails(rt: HostRuntime) -> Result<(), Fail> {
     let script = Script::parse(rt.alloc(), PREFIXES, "stem")?;
     let mut failing = writer(rt.alloc(), 2);

@@ -333,3 +333,21 @@ fn a_script_under_another_external_is_another(rt: HostRuntime) {
     }
     script.discard();
 }
+
+#[test]
+fn faults_of_edits_are_printed_with_their_numbers(rt: HostRuntime) {
+    for (fault, want) in [
+        (EditFault::NoRoutine, "45 NoRoutine"),
+        (EditFault::NoAmong, "46 NoAmong"),
+        (EditFault::AmongCount, "47 AmongCount"),
+        (
+            EditFault::Script(ScriptFault::Undeclared { item: 2 }),
+            "48 10 Undeclared in item 2",
+        ),
+        (EditFault::OutOfMemory, "49 OutOfMemory"),
+        (EditFault::NoGrouping, "53 NoGrouping"),
+    ] {
+        let text = format!(in rt.alloc(); "{fault}").expect(&rt, "memory");
+        assert_eq!(rt; text.as_str(), want);
+    }
+}

@@ -1,14 +1,14 @@
 use Rattle.std.proofs.Common.{◌≡◌, [], Some, ap, ◌∙◌}
 use Rattle.sbl_tree.specs.declared.mode.Mode.TheVariants.{Forward}
 use Rattle.sbl_machine.specs.MachineOf.{IsMachineOf, listed_in, machine_plan}
-use Rattle.sbl_machine.specs.Meaning.{telling}
+use Rattle.sbl_machine.specs.Meaning.{ending_with_events}
 use Rattle.sbl_machine.specs.Outcome.{outcome_at, used_at}
 use Rattle.sbl_machine.specs.Why.{events_at, events_in, events_of}
 use Rattle.sbl_program.specs.Program.{Program}
 use Rattle.sbl_run.specs.Run.{calls}
 use Rattle.sbl_run.specs.State.{State}
 use Rattle.sbl_machine.proofs.SoundRuns.{telling_of, telling_same}
-use Rattle.sbl_machine.proofs.WhyLaw.{telling_changes_nothing}
+use Rattle.sbl_machine.proofs.WhyLaw.{events_change_nothing}
 use Rattle.sbl_machine.proofs.machine.Machine.why.Goals as goal
 
 pub returns-clause-outcome : goal.returns-clause-outcome
@@ -17,11 +17,11 @@ returns-clause-outcome g c script h =
     let m = c.args.self.now in
     let T = listed_in _ g.S.AmongSearch.entries g.S.AmongSearch.mode m in
     let does = calls (machine_plan _ g.S.AmongSearch.entries g.S.AmongSearch.mode m) 32 m.program.external Forward in
-    let begun = c.ask.new.self in
-    let same : does begun ≡ telling script c.args.word.now c.args.limit =
-    ap does (c.ask.ensures ∙ ap (λ (s : State). record s { told = Some [] }) (c.in_ok-restart.ensures T))
+    let begun = c.record_events.new.self in
+    let same : does begun ≡ ending_with_events script c.args.word.now c.args.limit =
+    ap does (c.record_events.ensures ∙ ap (λ (s : State). record s { events = Some [] }) (c.in_ok-restart.ensures T))
     ∙ ap (λ (p : Program). telling_of p c.args.word.now c.args.limit) h.0 ∙ telling_same script c.args.word.now c.args.limit in
-    c.in_ok-traced.ensures.outcome (does begun) c.run_call-end.ensures.follows ∙ ap outcome_at same ∙ (telling_changes_nothing script c.args.word.now c.args.limit).0
+    c.in_ok-traced.ensures.outcome (does begun) c.run_call-end.ensures.follows ∙ ap outcome_at same ∙ (events_change_nothing script c.args.word.now c.args.limit).outcome
 
 pub returns-clause-events : goal.returns-clause-events
 unfolding IsMachineOf events_of
@@ -29,11 +29,11 @@ returns-clause-events g c script h =
     let m = c.args.self.now in
     let T = listed_in _ g.S.AmongSearch.entries g.S.AmongSearch.mode m in
     let does = calls (machine_plan _ g.S.AmongSearch.entries g.S.AmongSearch.mode m) 32 m.program.external Forward in
-    let begun = c.ask.new.self in
-    let same : does begun ≡ telling script c.args.word.now c.args.limit =
-    ap does (c.ask.ensures ∙ ap (λ (s : State). record s { told = Some [] }) (c.in_ok-restart.ensures T))
+    let begun = c.record_events.new.self in
+    let same : does begun ≡ ending_with_events script c.args.word.now c.args.limit =
+    ap does (c.record_events.ensures ∙ ap (λ (s : State). record s { events = Some [] }) (c.in_ok-restart.ensures T))
     ∙ ap (λ (p : Program). telling_of p c.args.word.now c.args.limit) h.0 ∙ telling_same script c.args.word.now c.args.limit in
-    c.told_events.ensures ∙ ap events_in c.take_told.ensures.told ∙ c.in_ok-traced.ensures.told (does begun) c.run_call-end.ensures.follows ∙ ap events_at same
+    c.events_or_none.ensures ∙ ap events_in c.take_events.ensures.events ∙ c.in_ok-traced.ensures.events (does begun) c.run_call-end.ensures.follows ∙ ap events_at same
 
 pub returns-clause-used : goal.returns-clause-used
 unfolding IsMachineOf
@@ -41,8 +41,8 @@ returns-clause-used g c script h =
     let m = c.args.self.now in
     let T = listed_in _ g.S.AmongSearch.entries g.S.AmongSearch.mode m in
     let does = calls (machine_plan _ g.S.AmongSearch.entries g.S.AmongSearch.mode m) 32 m.program.external Forward in
-    let begun = c.ask.new.self in
-    let same : does begun ≡ telling script c.args.word.now c.args.limit =
-    ap does (c.ask.ensures ∙ ap (λ (s : State). record s { told = Some [] }) (c.in_ok-restart.ensures T))
+    let begun = c.record_events.new.self in
+    let same : does begun ≡ ending_with_events script c.args.word.now c.args.limit =
+    ap does (c.record_events.ensures ∙ ap (λ (s : State). record s { events = Some [] }) (c.in_ok-restart.ensures T))
     ∙ ap (λ (p : Program). telling_of p c.args.word.now c.args.limit) h.0 ∙ telling_same script c.args.word.now c.args.limit in
-    c.in_ok-traced.ensures.used (does begun) c.run_call-end.ensures.follows ∙ ap (used_at c.args.limit) same ∙ (telling_changes_nothing script c.args.word.now c.args.limit).1
+    c.in_ok-traced.ensures.used (does begun) c.run_call-end.ensures.follows ∙ ap (used_at c.args.limit) same ∙ (events_change_nothing script c.args.word.now c.args.limit).used

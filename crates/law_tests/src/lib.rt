@@ -1,0 +1,22 @@
+//! Uses of laws that no other crate uses: each statement is written out again, so that a weaker law is no longer enough. Nothing but
+//! tests is in this crate.
+#![tactic(auto)]
+
+pub mod amongs_replaced;
+pub mod bench_equal_scripts;
+pub mod bench_undo;
+pub mod changes_changes_are_sound;
+pub mod changes_families_are_sound;
+pub mod changes_largest_are_sound;
+pub mod machine_built_from;
+pub mod machine_frame;
+pub mod machine_groupings;
+pub mod machine_names_stand;
+pub mod machine_searches;
+pub mod machine_sound;
+pub mod machine_why;
+pub mod numbering_laws;
+pub mod script_only_the_item;
+pub mod tables_laws;
+pub mod text_laws;
+pub mod why_searches;

@@ -1,0 +1,15 @@
+//! Laws of sbl_machine (specs/BuiltFrom.antt), written out.
+
+ghost use Rattle.sbl_checks.specs.Checks.{WellDeclared};
+ghost use Rattle.sbl_machine.specs.Touched.{Item'};
+ghost use Rattle.sbl_script.specs.Parsed.{Source};
+ghost use Rattle.sbl_machine.specs.BuiltFrom.{IsClosed, affected};
+
+use sbl_machine::laws::affected_is_closed;
+
+/// Needs the whole of the law `affected_is_closed`.
+pub fn needs_affected_is_closed()
+    ensures { (s : Source) → WellDeclared s.items s.external → (x : Item') → IsClosed (affected s x) s }
+{
+    affected_is_closed();
+}

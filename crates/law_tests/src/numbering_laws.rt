@@ -1,0 +1,35 @@
+//! Laws of sbl_numbering (specs/Laws.antt), written out.
+
+ghost use Rattle.std.specs.Prelude.{◌≡◌, ℕ, false, List, []};
+ghost use Rattle.sbl_numbering.specs.Ahead.{routines_in};
+ghost use Rattle.sbl_numbering.specs.Items.{body_named, class_of, classes_behind};
+ghost use Rattle.sbl_numbering.specs.Numbered.{numbered_items, routines_behind};
+ghost use Rattle.sbl_numbering.specs.NumberedAmongs.{found_behind};
+ghost use Rattle.sbl_numbering.specs.NumberedNames.{Names, number_of};
+ghost use Rattle.sbl_program.specs.Terms.{class_at};
+ghost use Rattle.sbl_tree.specs.Order.{ItemInMode, in_order};
+ghost use Rattle.sbl_tree.specs.Tree.{Item};
+ghost use Rattle.sbl_numbering.specs.Laws.{names_in, routine_at};
+
+use sbl_numbering::laws::{classes_are_their_terms, own_is_made, routine_is_its_own};
+
+/// Needs the whole of the law `own_is_made`.
+pub fn needs_own_is_made()
+    ensures { (ns : Names) (items : List ItemInMode) → routines_behind ns items (record { coming = found_behind ns items []; behind = 0; waits = false }) [] ≡ routines_in ns items }
+{
+    own_is_made();
+}
+
+/// Needs the whole of the law `routine_is_its_own`.
+pub fn needs_routine_is_its_own()
+    ensures { (items items' : List Item) (external external' n : List ℕ) → names_in items ≡ names_in items' → body_named (in_order items) n ≡ body_named (in_order items') n → routine_at items external n ≡ routine_at items' external' n }
+{
+    routine_is_its_own();
+}
+
+/// Needs the whole of the law `classes_are_their_terms`.
+pub fn needs_classes_are_their_terms()
+    ensures { (items : List Item) (external n : List ℕ) (c : ℕ) → class_at (numbered_items items external).groupings (number_of (names_in items).groupings n) c ≡ class_of (classes_behind (in_order items) []) n c }
+{
+    classes_are_their_terms();
+}
