@@ -1,6 +1,7 @@
-/* Refuses memory to a program that is started with it (LD_PRELOAD): of the growths of the program's own buffers the one with the
-   number GROWTH is refused, and no other; none if GROWTH is 0. Growths are counted from the first read of standard input on.
-   At the end their number is written into the file GROWTHS. */
+/* Refuses memory to a program that is started with it (LD_PRELOAD): of the growths of the program's own buffers those from the number
+   GROWTH on are refused, ROW of them (1 if it is not set), and all to the end if ROW is 0; none if GROWTH is 0. Growths are counted
+   from the first read of standard input or of a file on, or if EARLY is set from the start on. At the end their number is written
+   into the file GROWTHS. */
 #define _GNU_SOURCE
 #include <errno.h>
 #include <fcntl.h>
@@ -17,11 +18,14 @@ extern void *__libc_realloc(void *old, size_t size);
 extern void *__libc_memalign(size_t alignment, size_t size);
 
 static int reading = 0;
-static unsigned long growths = 0, refused = 0;
+static unsigned long growths = 0, refused = 0, row = 1;
 
 __attribute__((constructor)) static void begin(void) {
   const char *growth = getenv("GROWTH");
+  const char *length = getenv("ROW");
   refused = growth ? strtoul(growth, NULL, 10) : 0;
+  row = length ? strtoul(length, NULL, 10) : 1;
+  reading = getenv("EARLY") != NULL;
 }
 
 __attribute__((destructor)) static void end(void) {
@@ -38,13 +42,13 @@ __attribute__((destructor)) static void end(void) {
 static int is_refused(void) {
   if (!reading) return 0;
   growths++;
-  if (growths != refused) return 0;
+  if (refused == 0 || growths < refused || (row > 0 && growths >= refused + row)) return 0;
   errno = ENOMEM;
   return 1;
 }
 
 ssize_t read(int file, void *buffer, size_t size) {
-  if (file == 0) reading = 1;
+  if (file == 0 || file > 2) reading = 1;
   return syscall(SYS_read, file, buffer, size);
 }
 
