@@ -15,7 +15,8 @@ import sys
 
 from advice import Advice
 from faults import explain_file
-from plain import named
+from plain import for_terminal, named
+from whys import lay_out_why
 from warn import warnings_on
 
 REFUSAL = re.compile(r"^no (\d\d) ([A-Za-z0-9]+)$")
@@ -68,6 +69,8 @@ class Desk:
         refusal = REFUSAL.match(answer[0]) if len(answer) == 1 else None
         if lines[0] in LAYOUTS and not refusal:
             answer = LAYOUTS[lines[0]](answer, is_save)
+        elif lines[0].startswith("why ") and not refusal:
+            answer = lay_out_why(answer, lines[0][4:])
         write(answer)
         if refusal:
             say(self.advice.lines(int(refusal[1]), refusal[2], lines))
@@ -130,12 +133,12 @@ def holds(path, text):
 
 
 def write(lines):
-    sys.stdout.buffer.write("".join(line + "\n" for line in lines).encode("utf-8", "surrogateescape"))
+    sys.stdout.buffer.write("".join(for_terminal(line) + "\n" for line in lines).encode("utf-8"))
     sys.stdout.flush()
 
 
 def say(lines):
-    sys.stderr.buffer.write("".join(line + "\n" for line in lines).encode("utf-8", "replace"))
+    sys.stderr.buffer.write("".join(for_terminal(line) + "\n" for line in lines).encode("utf-8"))
     sys.stderr.flush()
 
 

@@ -87,11 +87,11 @@ class Fault:
         return said + ("; the ( of %s is still open" % opened if opened and starts_item else "") + self.reserved_word()
 
     def reserved_word(self):
-        """Returns a question if the token is a name that differs from a reserved word by at most one letter in three."""
+        """Returns a question if the token is a name that differs from a reserved word in case, or by at most one letter in three."""
         if not self.token or self.token.kind != "name":
             return ""
         name = self.token.text
-        question = meant(name, [word for word in RESERVED if 3 * distance(name, word) <= len(name)])
+        question = meant(name, [word for word in RESERVED if 3 * distance(name.casefold(), word) <= len(name)])
         return question and "." + question
 
     def sentence_10(self):

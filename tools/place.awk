@@ -1,5 +1,5 @@
 # Shows where a script's fault is: its line and column, the line, and a caret below it. Of a fault with an item it shows
-# where the item begins. Columns count characters, from 1.
+# where the item begins. Columns count characters, from 1. A `?` is put for what a terminal would obey (see tools/plain).
 #   LC_ALL=C awk -v fault='snowbench: 10 Undeclared in item 4' -v verb=session -f tools/place.awk SESSION
 # The session is read up to the line that ends its script, in lines as the program takes them.
 BEGIN {
@@ -82,12 +82,17 @@ function show(line, row, column, what,   from, front, part) {
   gsub(/[\200-\277]/, "", front)
   print "  line " row ", column " length(front) + 1 what ":"
   from = column > 90 ? column - 60 : 0
+  while (continues(line, from + 1)) from--
   part = substr(line, from + 1, 120)
+  while (continues(line, from + length(part) + 1)) part = substr(line, from + 1, length(part) + 1)
   front = substr(part, 1, column - from)
   gsub(/[\001-\010\012-\037\177]/, "?", part)
+  gsub(/\302[\200-\237]|\330\234|\342\200[\213\216\217\250-\256]|\342\201[\240\246-\251]|\357\273\277/, "?", part)
   gsub(/[\200-\277]/, "", front)
   gsub(/[^\t]/, " ", front)
   print "    " part
   print "    " front "^"
   shown = 1
 }
+# Whether a byte of a line goes on with a character.
+function continues(line, at) { return substr(line, at, 1) ~ /[\200-\277]/ }

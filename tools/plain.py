@@ -1,4 +1,6 @@
-"""Text that a terminal shows as it is meant: control characters and marks that turn the direction of writing are named."""
+"""Text that a terminal shows as it is meant: control characters and marks that turn the direction of writing are named.
+tools/plain does so for ./snowbench, and for tools/work without python3, with a ? for each of them.
+"""
 import unicodedata
 
 # Marks that turn the direction of writing, and characters of no width that end or join lines.
@@ -12,7 +14,14 @@ def is_hidden(character):
 
 def named(text):
     """Returns the text with each hidden character as its number: <U+202E>. A byte that is not UTF-8 is <FF>."""
+    if text.isprintable():
+        return text
     return "".join(name_of(character) if is_hidden(character) else character for character in text)
+
+
+def for_terminal(text):
+    """Returns the text as `named` does, with its tabs."""
+    return "\t".join(named(part) for part in text.split("\t"))
 
 
 def name_of(character):

@@ -102,4 +102,4 @@ def warnings_on(script, words=""):
 
 if __name__ == "__main__":
     for line in warnings_on(*sys.argv[1:3]):
-        print(line, file=sys.stderr)
+        sys.stderr.buffer.write((line + "\n").encode("utf-8", "replace"))
