@@ -245,9 +245,10 @@ def judge(pages, words, texts, result):
 
 
 def without_echo(text, out):
-    """Returns the output without what `echo` gives back, whatever its bytes are."""
+    """Returns the output without the lines that `echo` gives back, whatever their bytes are."""
     echoed = {line[5:].removesuffix(b"\r") for line in text.split(b"\n") if line.startswith(b"echo ")}
-    return b"\n".join(line for line in out.split(b"\n") if line not in echoed)
+    *lines, rest = out.split(b"\n")
+    return b"\n".join([line for line in lines if line not in echoed] + [rest])
 
 
 def judge_fault(pages, texts, errors):

@@ -41,6 +41,9 @@ class Pair:
                 count = file.read().count(old)
             if count != 1:
                 wrong.append("%s: %s has this text %d times: %r" % (self.title, path, count, old))
+        for rows in self.rows:
+            if not os.path.exists(os.path.join(top, "tests", "cases", rows)):
+                wrong.append("%s: tests/cases has no file %s" % (self.title, rows))
         for part, name in (("/specs/", "definition"), ("/src/", "code")):
             if not any(part in path for path, _, _ in self.edits):
                 wrong.append("%s: it changes no %s" % (self.title, name))
