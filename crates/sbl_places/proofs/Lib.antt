@@ -1,0 +1,2 @@
+pub mod SubjectsAgree
+pub mod LastLines
