@@ -1,2 +1,4 @@
 pub mod SubjectsAgree
 pub mod LastLines
+pub mod Firsts
+pub mod AtTokens
