@@ -54,7 +54,7 @@ is_at_one places trees bytes f g t u h j =
 
 -- ---- the faults of a text
 
-fails : (items : List Item) (f : ScriptFault) → IsFirst (occurrences_of items) f → EachPasses (occurrences_of items) → ⊥
+pub fails : (items : List Item) (f : ScriptFault) → IsFirst (occurrences_of items) f → EachPasses (occurrences_of items) → ⊥
 fails items f h passes = some_none f _ (passes h.before h.after h.occurrence h.parts) h.fault
 
 is_fault : FaultIsFirst → WellDeclaredPasses → (items : List Item) (external : List ℕ) (f : ScriptFault) → IsFirst (occurrences_of items) f → fault_of items external ≡ Some f

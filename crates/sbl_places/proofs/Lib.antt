@@ -2,3 +2,4 @@ pub mod SubjectsAgree
 pub mod LastLines
 pub mod Firsts
 pub mod AtTokens
+pub mod NoPlaces

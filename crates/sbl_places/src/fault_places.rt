@@ -1,6 +1,6 @@
 //! The place of a fault of the checks.
 
-ghost use Rattle.std.specs.Prelude.{◌≡◌, ◌≤◌, List, None, IfOk, MatchOption, length, map};
+ghost use Rattle.std.specs.Prelude.{◌≡◌, ◌≤◌, List, None, Some, IfOk, MatchOption, length, map};
 ghost use Rattle.std.specs.Str.{IsUtf8, chars};
 ghost use Rattle.sbl_text.specs.Directives.{start};
 ghost use Rattle.sbl_text.specs.Tokens.{ArePlaced, Placed, placed_of};
@@ -8,7 +8,8 @@ ghost use Rattle.sbl_tree.specs.Tree as trees;
 ghost use Rattle.sbl_tree.specs.Texts.{script};
 ghost use Rattle.sbl_tree.specs.View.{view_items};
 ghost use Rattle.sbl_grammar.specs.Reading.{IsReadAs};
-ghost use Rattle.sbl_script.specs.Reading.{HasTokens, first_left_out, max_script, terminals};
+ghost use Rattle.sbl_script.specs.Reading as spec;
+ghost use Rattle.sbl_script.specs.Reading.{HasTokens, max_script, terminals};
 ghost use Rattle.sbl_places.specs.FaultPlaces.{HasNoFaultAt, IsPlaceIn};
 
 use crate::subject_tokens::subject_at;
@@ -48,22 +49,23 @@ fn tokens_of<'a>(alloc: Global, text: &'a str) -> Result<Option<Vec<Token<'a>>>,
     first_fault_is_one();
     match tokens(alloc, text) {
         Ok(found) => Ok(Some(found)),
-        Err(ScriptFault::OutOfMemory) => Err(AllocError),
-        Err(_) => Ok(None),
+        Err(fault) => match fault {
+            ScriptFault::OutOfMemory => Err(AllocError),
+            _ => Ok(None),
+        },
     }
 }
 
-/// Returns whether the workbench supports each of these tokens.
-fn are_offered(tokens: &[Token<'_>]) -> bool
-    ensures yes { result ≡ true → first_left_out (map placed_of tokens.now) ≡ None }
-    ensures no { result ≡ false → first_left_out (map placed_of tokens.now) ≡ None → ⊥ }
+/// Returns the byte offset of the first token that the workbench does not support; `None` if it supports all.
+fn first_left_out(tokens: &[Token<'_>]) -> Option<usize>
+    ensures { result ≡ spec.first_left_out (map placed_of tokens.now) }
 {
     for token in tokens {
         if is_left_out(token) {
-            return false;
+            return Some(token.start);
         }
     }
-    true
+    None
 }
 
 /// Returns the tree of these tokens, or `None` if one is not supported or they have no tree. `end` is the length of
@@ -73,16 +75,18 @@ fn tree_of(
     tokens: &[Token<'_>],
     end: usize,
 ) -> Result<Option<Vec<Item>>, AllocError>
-    ensures { IfOk result (λ o. MatchOption o ((items : List trees.Item) → first_left_out (map placed_of tokens.now) ≡ None → IsReadAs script (terminals (map placed_of tokens.now)) items → ⊥) (λ items. (first_left_out (map placed_of tokens.now) ≡ None) × IsReadAs script (terminals (map placed_of tokens.now)) (view_items items.items))) }
+    ensures { IfOk result (λ o. MatchOption o ((items : List trees.Item) → spec.first_left_out (map placed_of tokens.now) ≡ None → IsReadAs script (terminals (map placed_of tokens.now)) items → ⊥) (λ items. (spec.first_left_out (map placed_of tokens.now) ≡ None) × IsReadAs script (terminals (map placed_of tokens.now)) (view_items items.items))) }
 {
     one_fault();
-    if !are_offered(tokens) {
+    if let Some(_place) = first_left_out(tokens) {
         return Ok(None);
     }
     match parse(alloc, tokens, end) {
         Ok(items) => Ok(Some(items)),
-        Err(ScriptFault::OutOfMemory) => Err(AllocError),
-        Err(_) => Ok(None),
+        Err(fault) => match fault {
+            ScriptFault::OutOfMemory => Err(AllocError),
+            _ => Ok(None),
+        },
     }
 }
 
