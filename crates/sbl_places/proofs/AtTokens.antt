@@ -1,5 +1,5 @@
 -- The token of a fault.
-use Rattle.std.proofs.Common.{◌≡◌, ◌⊎◌, ℕ, List, Option, Some, None, refl, sym, ap, subst, ◌∙◌, inl, inr}
+use Rattle.std.proofs.Common.{◌≡◌, ◌⊎◌, ℕ, Bool, true, false, List, length, Option, Some, None, refl, sym, ap, subst, ◌∙◌, inl, inr}
 use Rattle.std.specs.Prelude.{option_map}
 use Rattle.std.specs.List.{slice_get}
 use Rattle.std.specs.Str.{chars}
@@ -19,7 +19,8 @@ use Rattle.sbl_checks.specs.Laws.{IsFirst, FaultIsFirst, WellDeclaredPasses, Eac
 use Rattle.sbl_checks.specs.Subjects.{Subject, subjects_of, IsFirstAfter}
 use Rattle.sbl_script.specs.Reading.{HasTokens, IsCheckFault, IsFaultOf, first_left_out, terminals}
 use Rattle.sbl_places.specs.SubjectTokens.{SubjectToken, subject_tokens, subjects}
-use Rattle.sbl_places.specs.FaultPlaces.{SubjectsAreTokens, IsFaultAt, TokenIsSubject, FaultIsAtOne, FaultAtIsFault, CheckFaultIsAt}
+use Rattle.sbl_places.specs.FaultPlaces.{SubjectsAreTokens, IsFaultAt, TokenIsSubject, FaultIsAtOne, FaultAtIsFault, FaultIsAt, is_of_token}
+use Rattle.sbl_places.proofs.Codes.{fault_of_token, not_of_text, not_of_grammar}
 use Rattle.sbl_places.proofs.SubjectsAgree.{subjects_agree}
 use Rattle.sbl_places.proofs.Firsts.{some_one, some_none, first_is_one, after_is_one, after_first, at_number}
 
@@ -68,13 +69,24 @@ is_fault first passes items external f h = go (fault_of items external) refl whe
 
 pub fault_at_is_fault : FaultIsFirst → WellDeclaredPasses → FaultAtIsFault
 fault_at_is_fault first passes bytes external f t h =
-    inr (inr (h.placed, h.tokens, h.offered, record { items = h.items; tree = h.tree; is = is_fault first passes h.items external f h.first.first }))
+    let i = h.first.first in
+    (fault_of_token (occurrences_of h.items) i.before i.after i.occurrence f i.fault,
+    inr (inr (h.placed, h.tokens, h.offered, record { items = h.items; tree = h.tree; is = is_fault first passes h.items external f i })))
 
-pub check_fault_is_at : PlacesAreWritten → FaultIsFirst → CheckFaultIsAt
-check_fault_is_at written first bytes external ts f tokens offered h = elim (first h.items external f h.is) [
+never : {X : Type 0} (f : ScriptFault) → is_of_token f ≡ true → is_of_token f ≡ false → X
+never f h e = absurd cc
+
+fault_of_check : PlacesAreWritten → FaultIsFirst → (bytes external : List ℕ) (ts : List Placed) (f : ScriptFault) → is_of_token f ≡ true → HasTokens start bytes ts → first_left_out ts ≡ None → IsCheckFault ts external f
+    → (t : SubjectToken) × IsFaultAt bytes f t
+fault_of_check written first bytes external ts f of_token tokens offered h = elim (first h.items external f h.is) [
   | inl j ↦
       let a = after_first (occurrences_of h.items) f j in
       let t = has_token written ts h.items a.0 f h.tree a.1 in
-      inr (t.0, record { placed = ts; tokens = tokens; offered = offered; items = h.items; tree = h.tree; number = a.0; first = a.1; token = t.1 })
-  | inr x ↦ inl x.2
+      (t.0, record { placed = ts; tokens = tokens; offered = offered; items = h.items; tree = h.tree; number = a.0; first = a.1; token = t.1 })
+  | inr x ↦ never f of_token (ap is_of_token x.2)
 ]
+
+pub fault_is_at : PlacesAreWritten → FaultIsFirst → FaultIsAt
+fault_is_at written first bytes external f of_token (inl h) = never f of_token (not_of_text start bytes f h)
+fault_is_at written first bytes external f of_token (inr (inl (ts, tokens, h))) = never f of_token (not_of_grammar script ts (length bytes) f h)
+fault_is_at written first bytes external f of_token (inr (inr (ts, tokens, offered, h))) = fault_of_check written first bytes external ts f of_token tokens offered h

@@ -1,5 +1,5 @@
 -- The token at which the checks find the fault of a text.
-use Rattle.std.specs.Prelude.{◌≡◌, ◌⊎◌, ℕ, List, Option, Some, None}
+use Rattle.std.specs.Prelude.{◌≡◌, ℕ, Bool, true, false, List, Some, None}
 use Rattle.std.specs.List.{slice_get}
 use Rattle.sbl_text.specs.declared.fault.ScriptFault.{ScriptFault}
 use Rattle.sbl_text.specs.declared.fault.ScriptFault.TheVariants as fault
@@ -10,7 +10,7 @@ use Rattle.sbl_tree.specs.Texts.{script}
 use Rattle.sbl_grammar.specs.Reading.{IsReadAs}
 use Rattle.sbl_checks.specs.Occurrences.{occurrences_of}
 use Rattle.sbl_checks.specs.Subjects.{subjects_of, IsFirstAfter}
-use Rattle.sbl_script.specs.Reading.{HasTokens, IsCheckFault, IsFaultOf, first_left_out, terminals}
+use Rattle.sbl_script.specs.Reading.{HasTokens, IsFaultOf, first_left_out, terminals}
 use Rattle.sbl_places.specs.SubjectTokens.{SubjectToken, subject_tokens, subjects}
 use Rattle.sbl_places.specs.declared.fault_places.FaultPlace.{FaultPlace}
 
@@ -55,12 +55,25 @@ TokenIsSubject = (bytes : List ℕ) (f : ScriptFault) (t : SubjectToken) (is : I
 abbrev pub FaultIsAtOne : Type 0
 FaultIsAtOne = (bytes : List ℕ) (f g : ScriptFault) (t u : SubjectToken) → IsFaultAt bytes f t → IsFaultAt bytes g u → (f ≡ g) × (t ≡ u)
 
--- a fault at a token is the fault of the bytes, with each external
-abbrev pub FaultAtIsFault : Type 0
-FaultAtIsFault = (bytes external : List ℕ) (f : ScriptFault) (t : SubjectToken) → IsFaultAt bytes f t → IsFaultOf bytes external f
+-- faults 9 to 19
+abbrev pub is_of_token : ScriptFault → Bool
+is_of_token (fault.DeclaredTwice item) = true
+is_of_token (fault.Undeclared item) = true
+is_of_token (fault.WrongKind item) = true
+is_of_token (fault.DefinedTwice item) = true
+is_of_token (fault.Undefined item) = true
+is_of_token (fault.WrongMode item) = true
+is_of_token (fault.Substring item) = true
+is_of_token (fault.Starter item) = true
+is_of_token (fault.RepeatedString item) = true
+is_of_token (fault.EmptyAmong item) = true
+is_of_token (fault.NestedBackwards item) = true
+is_of_token _ = false
 
--- a fault of a check is at a token, unless it is that of the external
-abbrev pub CheckFaultIsAt : Type 0
-CheckFaultIsAt =
-    (bytes external : List ℕ) (ts : List Placed) (f : ScriptFault) → HasTokens start bytes ts → first_left_out ts ≡ None → IsCheckFault ts external f
-    → (f ≡ fault.NoExternal) ⊎ ((t : SubjectToken) × IsFaultAt bytes f t)
+-- a fault at a token is one of these, and it is the fault of the bytes, with each external
+abbrev pub FaultAtIsFault : Type 0
+FaultAtIsFault = (bytes external : List ℕ) (f : ScriptFault) (t : SubjectToken) → IsFaultAt bytes f t → (is_of_token f ≡ true) × IsFaultOf bytes external f
+
+-- if the fault of the bytes is one of these, it is at a token
+abbrev pub FaultIsAt : Type 0
+FaultIsAt = (bytes external : List ℕ) (f : ScriptFault) → is_of_token f ≡ true → IsFaultOf bytes external f → (t : SubjectToken) × IsFaultAt bytes f t

@@ -1,6 +1,6 @@
 //! Laws of places.
 
-ghost use Rattle.sbl_places.specs.FaultPlaces.{CheckFaultIsAt, FaultAtIsFault, FaultIsAtOne, SubjectsAreTokens, TokenIsSubject};
+ghost use Rattle.sbl_places.specs.FaultPlaces.{FaultAtIsFault, FaultIsAt, FaultIsAtOne, SubjectsAreTokens, TokenIsSubject};
 
 use sbl_grammar::one_tree;
 use sbl_script::laws::{fault_is_first, well_declared_passes};
@@ -24,11 +24,11 @@ pub fn token_is_one()
     one_tree();
 }
 
-/// A fault at a token is the fault with which `Script::parse` refuses the text, with each external. A fault of the
-/// checks is at a token, unless it is that of the external.
+/// A fault at a token is one of those with the numbers 9 to 19, and `Script::parse` refuses the text with it, with each
+/// external. If `Script::parse` refuses a text with one of these, it is at a token.
 pub fn faults_are_at_tokens()
     ensures fault { FaultAtIsFault }
-    ensures token { CheckFaultIsAt }
+    ensures token { FaultIsAt }
 {
     one_tree();
     fault_is_first();
