@@ -1,11 +1,10 @@
 -- The token of a fault.
-use Rattle.std.proofs.Common.{◌≡◌, ◌⊎◌, ℕ, Bool, true, false, List, length, Option, Some, None, refl, sym, ap, subst, ◌∙◌, inl, inr}
+use Rattle.std.proofs.Common.{◌≡◌, ℕ, true, false, List, length, Option, Some, None, refl, sym, ap, subst, ◌∙◌, inl, inr}
 use Rattle.std.specs.Prelude.{option_map}
 use Rattle.std.specs.List.{slice_get}
 use Rattle.std.specs.Str.{chars}
 use Rattle.std.proofs.lemmas.Option.{slice_get-map}
 use Rattle.sbl_text.specs.declared.fault.ScriptFault.{ScriptFault}
-use Rattle.sbl_text.specs.declared.fault.ScriptFault.TheVariants as fault
 use Rattle.sbl_text.specs.Directives.{start}
 use Rattle.sbl_text.specs.Tokens.{Placed}
 use Rattle.sbl_text.specs.Laws.{PlacesAreOne}
@@ -16,9 +15,9 @@ use Rattle.sbl_grammar.specs.Laws.{TreesAreOne, PlacesAreWritten}
 use Rattle.sbl_checks.specs.Occurrences.{occurrences_of}
 use Rattle.sbl_checks.specs.Checks.{fault_of}
 use Rattle.sbl_checks.specs.Laws.{IsFirst, FaultIsFirst, WellDeclaredPasses, EachPasses}
-use Rattle.sbl_checks.specs.Subjects.{Subject, subjects_of, IsFirstAfter}
-use Rattle.sbl_script.specs.Reading.{HasTokens, IsCheckFault, IsFaultOf, first_left_out, terminals}
-use Rattle.sbl_places.specs.SubjectTokens.{SubjectToken, subject_tokens, subjects}
+use Rattle.sbl_checks.specs.Subjects.{Subject, IsFirstAfter}
+use Rattle.sbl_script.specs.Reading.{HasTokens, IsCheckFault, first_left_out, terminals}
+use Rattle.sbl_places.specs.SubjectTokens.{SubjectToken, subject_tokens}
 use Rattle.sbl_places.specs.FaultPlaces.{SubjectsAreTokens, IsFaultAt, TokenIsSubject, FaultIsAtOne, FaultAtIsFault, FaultIsAt, is_of_token}
 use Rattle.sbl_places.proofs.Codes.{fault_of_token, not_of_text, not_of_grammar}
 use Rattle.sbl_places.proofs.SubjectsAgree.{subjects_agree}
@@ -69,9 +68,10 @@ is_fault first passes items external f h = go (fault_of items external) refl whe
 
 pub fault_at_is_fault : FaultIsFirst → WellDeclaredPasses → FaultAtIsFault
 fault_at_is_fault first passes bytes external f t h =
-    let i = h.first.first in
-    (fault_of_token (occurrences_of h.items) i.before i.after i.occurrence f i.fault,
-    inr (inr (h.placed, h.tokens, h.offered, record { items = h.items; tree = h.tree; is = is_fault first passes h.items external f i })))
+    let i = h.first.first in (
+      fault_of_token (occurrences_of h.items) i.before i.after i.occurrence f i.fault,
+      inr (inr (h.placed, h.tokens, h.offered, record { items = h.items; tree = h.tree; is = is_fault first passes h.items external f i })),
+    )
 
 never : {X : Type 0} (f : ScriptFault) → is_of_token f ≡ true → is_of_token f ≡ false → X
 never f h e = absurd cc

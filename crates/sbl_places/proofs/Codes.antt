@@ -1,5 +1,5 @@
 -- Which faults are those of a check at a token.
-use Rattle.std.proofs.Common.{◌≡◌, ◌⊎◌, ℕ, ◌+◌, Bool, true, false, cond, ◌&&◌, ◌||◌, ◌==◌, List, [], ◌∷◌, ◌++◌, length, Option, Some, None, Result, Ok, Err, refl, sym, ap, subst, ◌∙◌, inl, inr, if◌then◌else◌}
+use Rattle.std.proofs.Common.{◌≡◌, ◌⊎◌, ℕ, ◌+◌, Bool, true, false, ◌&&◌, ◌||◌, ◌==◌, List, [], ◌∷◌, Option, Some, None, Result, Ok, Err, refl, sym, ap, subst, ◌∙◌, inl, inr, if◌then◌else◌}
 use Rattle.std.specs.List.{list_all}
 use Rattle.sbl_text.specs.declared.escapes.Inserts.{Inserts}
 use Rattle.sbl_text.specs.declared.fault.ScriptFault.{ScriptFault}
@@ -12,13 +12,13 @@ use Rattle.sbl_text.specs.Classes.{is_white, quote, slash}
 use Rattle.sbl_text.specs.Codes.{code_of, max_hex_digits}
 use Rattle.sbl_text.specs.Directives.{Directives}
 use Rattle.sbl_text.specs.Escapes.{InForce, opens, find}
-use Rattle.sbl_text.specs.Literals.{Refusal, byte_length, code_or_fault, character_named, alone, value_or_character, inserted, IsWrong, FirstWrong}
-use Rattle.sbl_text.specs.Tokens.{Placed, starts_star, pair_fault, token_fault, fault_at, IsRefused, IsFault, IsFirstFaultFrom}
+use Rattle.sbl_text.specs.Literals.{Refusal, byte_length, code_or_fault, character_named, value_or_character, inserted, IsWrong}
+use Rattle.sbl_text.specs.Tokens.{Placed, starts_star, pair_fault, token_fault, fault_at, IsRefused, IsFirstFaultFrom}
 use Rattle.sbl_tree.specs.Texts.{Text}
 use Rattle.sbl_grammar.specs.Reading.{IsSyntaxAt, IsTooDeepAt, IsOutOfProfileAt}
 use Rattle.sbl_checks.specs.Occurrences.{Occurrence}
 use Rattle.sbl_checks.specs.Checks as checks
-use Rattle.sbl_script.specs.Reading.{IsTextFault, IsGrammarFault, IsUnread, place_of, terminals}
+use Rattle.sbl_script.specs.Reading.{IsTextFault, IsUnread, place_of, terminals}
 use Rattle.sbl_places.specs.FaultPlaces.{is_of_token}
 
 -- ---- the faults of an occurrence
@@ -41,8 +41,8 @@ fault_of_token all before after m f e =
     one (checks.is_empty_among m.notice) (fault.EmptyAmong m.site.item) _ f refl (
     one (checks.is_nested m.site.mode m.notice) (fault.NestedBackwards m.site.item) None f refl (
     none f))))))))))) e where
-  none : (g : ScriptFault) → None ≡ Some g → is_of_token g ≡ true
-  none g h = absurd cc
+      none : (g : ScriptFault) → None ≡ Some g → is_of_token g ≡ true
+      none g h = absurd cc
 
 -- ---- the faults of an insertion
 

@@ -1,5 +1,5 @@
 -- The first fault is one, and its subject has its place among the subjects.
-use Rattle.std.proofs.Common.{◌≡◌, ◌⊎◌, ℕ, List, [], ◌∷◌, ◌++◌, length, Option, Some, None, refl, sym, ap, subst, ◌∙◌, inl, inr}
+use Rattle.std.proofs.Common.{◌≡◌, ◌⊎◌, ℕ, List, [], ◌∷◌, ◌++◌, length, Option, Some, None, refl, sym, ap, ◌∙◌, inl, inr}
 use Rattle.std.specs.List.{slice_get}
 use Rattle.sbl_text.specs.declared.fault.ScriptFault.{ScriptFault}
 use Rattle.sbl_checks.specs.Occurrences.{Occurrence, Notice, declares, defines_routine, defines_grouping, uses, substring, among, string, backwards, region_end}
@@ -39,9 +39,9 @@ first_is_one all f g h j = go (cuts h.before j.before h.occurrence j.occurrence 
   go : Cuts h.before j.before h.occurrence j.occurrence h.after j.after → (f ≡ g) × (h.before ≡ j.before)
   go (inl t) =
       let same : fault_at all h.before h.occurrence h.after ≡ fault_at all j.before j.occurrence j.after =
-          ap (λ (b : List Occurrence). fault_at all b h.occurrence h.after) t.0
-          ∙ ap (λ (m : Occurrence). fault_at all j.before m h.after) t.1
-          ∙ ap (λ (a : List Occurrence). fault_at all j.before j.occurrence a) t.2 in
+      ap (λ (b : List Occurrence). fault_at all b h.occurrence h.after) t.0
+      ∙ ap (λ (m : Occurrence). fault_at all j.before m h.after) t.1
+      ∙ ap (λ (a : List Occurrence). fault_at all j.before j.occurrence a) t.2 in
       (some_one f g (sym h.fault ∙ same ∙ j.fault), t.0)
   go (inr (inl t)) =
       let none = j.none_before h.before t.0 h.occurrence t.1 in
@@ -93,5 +93,5 @@ at_number all n f h =
     let before = subjects_of h.first.before in
     let after = subjects_of h.first.after in
     let parts : subjects_of all ≡ before ++ h.subject ∷ after =
-        ap subjects_of h.first.parts ∙ subjects_parted h.first.before h.first.occurrence h.first.after ∙ ap (λ (x : Option Subject). before ++ and_more x after) h.is in
+    ap subjects_of h.first.parts ∙ subjects_parted h.first.before h.first.occurrence h.first.after ∙ ap (λ (x : Option Subject). before ++ and_more x after) h.is in
     ap (slice_get (subjects_of all)) h.count ∙ ap (λ (xs : List Subject). slice_get xs (length before)) parts ∙ at_seam before h.subject after

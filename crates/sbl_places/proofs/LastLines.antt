@@ -1,5 +1,5 @@
 -- The last line of a text, one byte further.
-use Rattle.std.proofs.Common.{◌≡◌, ℕ, ◌+◌, ◌<◌, ◌≤◌, Bool, true, false, cond, ◌||◌, List, [], ◌∷◌, ◌++◌, length, take, get_or, refl, sym, ap, ◌∙◌, arith, length-take}
+use Rattle.std.proofs.Common.{◌≡◌, ℕ, ◌+◌, ◌<◌, ◌≤◌, Bool, true, false, cond, ◌||◌, List, [], ◌∷◌, ◌++◌, length, take, get_or, refl, ap, ◌∙◌, arith, length-take}
 use Rattle.std.specs.List.{list_any, count_by}
 use Rattle.std.proofs.lemmas.List.{take_more}
 use Rattle.std.proofs.lemmas.List.Folds.{list_any-append}
@@ -11,13 +11,13 @@ last_line-push [] b = refl
 last_line-push (c ∷ bs) b =
     ap (λ (x : Bool). cond x (last_line (bs ++ b ∷ [])) (cond (is_line_feed c) (bs ++ b ∷ []) (c ∷ bs ++ b ∷ []))) (list_any-append is_line_feed bs (b ∷ []))
     ∙ go (list_any is_line_feed bs) (is_line_feed b) (is_line_feed c) (last_line-push bs b) where
-  go : (x y z : Bool) → last_line (bs ++ b ∷ []) ≡ cond y [] (last_line bs ++ b ∷ [])
-      → cond (x || (y || false)) (last_line (bs ++ b ∷ [])) (cond z (bs ++ b ∷ []) (c ∷ bs ++ b ∷ [])) ≡ cond y [] (cond x (last_line bs) (cond z bs (c ∷ bs)) ++ b ∷ [])
-  go true true z e = e
-  go true false z e = e
-  go false true z e = e
-  go false false true e = refl
-  go false false false e = refl
+      go : (x y z : Bool) → last_line (bs ++ b ∷ []) ≡ cond y [] (last_line bs ++ b ∷ [])
+          → cond (x || (y || false)) (last_line (bs ++ b ∷ [])) (cond z (bs ++ b ∷ []) (c ∷ bs ++ b ∷ [])) ≡ cond y [] (cond x (last_line bs) (cond z bs (c ∷ bs)) ++ b ∷ [])
+      go true true z e = e
+      go true false z e = e
+      go false true z e = e
+      go false false true e = refl
+      go false false false e = refl
 
 last_line_short : (bs : List ℕ) → length (last_line bs) ≤ length bs
 last_line_short [] = omega arith

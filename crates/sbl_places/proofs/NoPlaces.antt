@@ -1,8 +1,7 @@
 -- What a text without a place lacks, and what a place is.
-use Rattle.std.proofs.Common.{◌≡◌, ◌≤◌, ℕ, length, List, [], ◌∷◌, Option, Some, None, map, refl, sym, ap, subst, ◌∙◌}
+use Rattle.std.proofs.Common.{◌≡◌, ◌≤◌, ℕ, length, List, [], ◌∷◌, Some, None, map, refl, sym, ap, subst, ◌∙◌}
 use Rattle.std.specs.Str.{chars, IsUtf8}
 use Rattle.std.specs.Prelude.{option_map}
-use Rattle.std.specs.List.{slice_get}
 use Rattle.sbl_lexemes.specs.declared.token.Token.{Token}
 use Rattle.sbl_lexemes.specs.Lexemes.{lexeme_of}
 use Rattle.sbl_text.specs.declared.fault.ScriptFault.{ScriptFault}
@@ -23,7 +22,6 @@ use Rattle.sbl_script.specs.Reading.{HasTokens, first_left_out, max_script, term
 use Rattle.sbl_places.specs.SubjectTokens.{SubjectToken, subject_tokens}
 use Rattle.sbl_places.specs.FaultPlaces.{IsFaultAt, HasNoFaultAt, IsPlaceIn}
 use Rattle.sbl_places.specs.Walks.{range_of, range_at}
-use Rattle.sbl_places.specs.declared.fault_places.FaultPlace.{FaultPlace}
 use Rattle.sbl_places.proofs.AtTokens.{has_token, fails}
 
 -- ---- texts without tokens, tokens without a tree
@@ -91,8 +89,8 @@ pub none_is_never : PlacesAreWritten → (bytes : List ℕ) (ts : List Placed) (
 none_is_never written bytes ts items n f read h none =
     let t = has_token written ts items n f read.tree h in
     never (none ∙ ap (option_map range_of) t.1) where
-  never : {X : Type 0} {x : X} → None ≡ Some x → ⊥
-  never e = cc
+      never : {X : Type 0} {x : X} → None ≡ Some x → ⊥
+      never e = cc
 
 pub place_is : PlacesAreWritten → (bytes : List ℕ) (ts : List Placed) (items : List Item) (n b e : ℕ) (f : ScriptFault) → IsRead bytes ts items → IsFirstAfter (occurrences_of items) n f → Some (b, e) ≡ range_at n (subject_tokens ts)
     → IsPlaceIn bytes (record { fault = f; begin = b; end = e })
@@ -105,5 +103,5 @@ place_is written bytes ts items n b e f read h is =
       begin = ap (λ (r : ℕ × ℕ). r.0) range;
       end = ap (λ (r : ℕ × ℕ). r.1) range;
     } where
-  same : {X : Type 0} {x y : X} → Some x ≡ Some y → x ≡ y
-  same e = cc
+      same : {X : Type 0} {x y : X} → Some x ≡ Some y → x ≡ y
+      same e = cc

@@ -33,9 +33,9 @@ same_subjects f o (u ∷ ts) =
     let x = terminal_of u.lexeme in
     one (subject_in (is_in_among o) x) u (subject_tokens_after (is_among x) (open_after f x o) ts)
     ∙ ap (and_more (subject_in (is_in_among o) x)) (same_subjects (is_among x) (open_after f x o) ts) where
-  one : (s : Option Subject) (v : Placed) (more : List SubjectToken) → subjects (tokens.and_more s v more) ≡ and_more s (subjects more)
-  one None v more = refl
-  one (Some y) v more = refl
+      one : (s : Option Subject) (v : Placed) (more : List SubjectToken) → subjects (tokens.and_more s v more) ≡ and_more s (subjects more)
+      one None v more = refl
+      one (Some y) v more = refl
 
 -- what is in these tokens, inside these parentheses
 abbrev at : List Bool → List Terminal → List Subject

@@ -70,11 +70,7 @@ fn first_left_out(tokens: &[Token<'_>]) -> Option<usize>
 
 /// Returns the tree of these tokens, or `None` if one is not supported or they have no tree. `end` is the length of
 /// their text in bytes. Returns `AllocError` if an allocation fails.
-fn tree_of(
-    alloc: Global,
-    tokens: &[Token<'_>],
-    end: usize,
-) -> Result<Option<Vec<Item>>, AllocError>
+fn tree_of(alloc: Global, tokens: &[Token<'_>], end: usize) -> Result<Option<Vec<Item>>, AllocError>
     ensures { IfOk result (λ o. MatchOption o ((items : List trees.Item) → spec.first_left_out (map placed_of tokens.now) ≡ None → IsReadAs script (terminals (map placed_of tokens.now)) items → ⊥) (λ items. (spec.first_left_out (map placed_of tokens.now) ≡ None) × IsReadAs script (terminals (map placed_of tokens.now)) (view_items items.items))) }
 {
     one_fault();
