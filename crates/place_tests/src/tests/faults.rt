@@ -1,0 +1,215 @@
+//! The token of each fault of the checks. Lines and columns were counted by hand.
+
+use sbl_places::{ScriptFault, place_of_fault, position_of};
+use std::alloc::{AllocError, Global};
+use std::test::Fail;
+
+/// A fault, its line and column, and the text of its token.
+#[derive(Clone, Copy, Debug, PartialEq, Eq)]
+struct Shown<'a> {
+    fault: ScriptFault,
+    line: usize,
+    column: usize,
+    token: &'a str,
+}
+
+fn shown_in<'a>(alloc: Global, text: &'a str) -> Result<Option<Shown<'a>>, AllocError> {
+    let Some(place) = place_of_fault(alloc, text.as_bytes())? else {
+        return Ok(None);
+    };
+    let position = position_of(text.as_bytes(), place.begin);
+    Ok(Some(Shown {
+        fault: place.fault,
+        line: position.line,
+        column: position.column,
+        token: text.get(place.begin..place.end).unwrap_or(""),
+    }))
+}
+
+fn at<'a>(fault: ScriptFault, line: usize, column: usize, token: &'a str) -> Option<Shown<'a>> {
+    Some(Shown {
+        fault,
+        line,
+        column,
+        token,
+    })
+}
+
+#[test]
+fn names_in_declarations_and_definitions(rt: HostRuntime) -> Result<(), Fail> {
+    for (text, want) in [
+        (
+            "externals ( stem )\nroutines ( a stem )\ndefine stem as true",
+            at(ScriptFault::DeclaredTwice { item: 2 }, 2, 14, "stem"),
+        ),
+        (
+            "externals ( stem )\ndefine  x as true\ndefine stem as true",
+            at(ScriptFault::Undeclared { item: 2 }, 2, 9, "x"),
+        ),
+        (
+            "externals ( stem ) integers ( i )\ndefine i as true",
+            at(ScriptFault::WrongKind { item: 3 }, 2, 8, "i"),
+        ),
+        (
+            "externals ( stem )\ngroupings ( g )\ndefine stem 'a'",
+            at(ScriptFault::WrongKind { item: 3 }, 3, 8, "stem"),
+        ),
+        (
+            "externals ( stem )\ndefine stem as true\ndefine stem as false",
+            at(ScriptFault::DefinedTwice { item: 3 }, 3, 8, "stem"),
+        ),
+        (
+            "externals ( stem ) groupings ( v w )\ndefine v 'aeiou' + w\ndefine w 'y'\ndefine stem as true",
+            at(ScriptFault::Undefined { item: 3 }, 2, 20, "w"),
+        ),
+    ] {
+        assert_eq!(rt; shown_in(rt.alloc(), text)?, want, "{text}");
+    }
+    Ok(())
+}
+
+#[test]
+fn names_in_commands(rt: HostRuntime) -> Result<(), Fail> {
+    for (text, want) in [
+        (
+            "externals ( stem )\ndefine stem as (\n  do true\n  do Step3\n)",
+            at(ScriptFault::Undeclared { item: 2 }, 4, 6, "Step3"),
+        ),
+        // an integer as a command
+        (
+            "externals ( stem ) integers ( i )\ndefine stem as ( true and i )",
+            at(ScriptFault::WrongKind { item: 3 }, 2, 27, "i"),
+        ),
+        (
+            "externals ( stem ) routines ( r )\ndefine stem as ( 'r' r )",
+            at(ScriptFault::Undefined { item: 3 }, 2, 22, "r"),
+        ),
+        (
+            "externals ( stem ) routines ( r )\nbackwardmode (\n  define r as true\n)\ndefine stem as ( 'r' or r )",
+            at(ScriptFault::WrongMode { item: 4 }, 5, 25, "r"),
+        ),
+        // in arithmetic, after strings that are commands
+        (
+            "externals ( stem ) integers ( i )\ndefine stem as ( 'a' $i = i + (2 * -k) )",
+            at(ScriptFault::Undeclared { item: 3 }, 2, 37, "k"),
+        ),
+        (
+            "externals ( stem ) integers ( i )\ndefine stem as $(i < lenof s)",
+            at(ScriptFault::Undeclared { item: 3 }, 2, 28, "s"),
+        ),
+        // after `non`, `set` and `<-`
+        (
+            "externals ( stem )\ndefine stem as non-v",
+            at(ScriptFault::Undeclared { item: 2 }, 2, 20, "v"),
+        ),
+        (
+            "externals ( stem )\ndefine stem as set b",
+            at(ScriptFault::Undeclared { item: 2 }, 2, 20, "b"),
+        ),
+        (
+            "externals ( stem )\ndefine stem as ( <- 'a' <- s )",
+            at(ScriptFault::Undeclared { item: 2 }, 2, 28, "s"),
+        ),
+    ] {
+        assert_eq!(rt; shown_in(rt.alloc(), text)?, want, "{text}");
+    }
+    Ok(())
+}
+
+#[test]
+fn strings_and_conditions_of_amongs(rt: HostRuntime) -> Result<(), Fail> {
+    for (text, want) in [
+        // a condition
+        (
+            "externals ( stem )\ndefine stem as among ( 'a' 'b' c (delete) 'd' )",
+            at(ScriptFault::Undeclared { item: 2 }, 2, 32, "c"),
+        ),
+        // a string of the outer among, after the inner one
+        (
+            "externals ( stem )\ndefine stem as among (\n  'a' ( among ( 'a' 'b' ( 'x' ) ) 'y' )\n  'b' 'a' ( true )\n)",
+            at(ScriptFault::RepeatedString { item: 2 }, 4, 7, "'a'"),
+        ),
+        // of the inner among; strings in a group are commands
+        (
+            "externals ( stem )\ndefine stem as among (\n  'a' ( 'a' 'a' among ( 'b' ( 'b' ) 'c' 'b' ) )\n)",
+            at(ScriptFault::RepeatedString { item: 2 }, 3, 41, "'b'"),
+        ),
+        // strings in a starter are commands
+        (
+            "externals ( stem )\ndefine stem as ( among ( ( 'a' 'a' ) 'a' ( true ) 'a' ) )",
+            at(ScriptFault::RepeatedString { item: 2 }, 2, 51, "'a'"),
+        ),
+        // two spellings of one string; macros have neither names nor strings for the checks
+        (
+            "stringescapes {}\nstringdef o' decimal '243'\nexternals ( stem )\ndefine stem as among ( '\u{f3}' 'o' '{o'}' )",
+            at(ScriptFault::RepeatedString { item: 4 }, 4, 32, "'{o'}'"),
+        ),
+    ] {
+        assert_eq!(rt; shown_in(rt.alloc(), text)?, want, "{text}");
+    }
+    Ok(())
+}
+
+#[test]
+fn words(rt: HostRuntime) -> Result<(), Fail> {
+    for (text, want) in [
+        // the routine ends, or the parentheses of a group, before an among comes
+        (
+            "externals ( stem ) routines ( r )\ndefine r as ( [substring] )\ndefine stem as among ( 'a' )",
+            at(ScriptFault::Substring { item: 3 }, 2, 16, "substring"),
+        ),
+        (
+            "externals ( stem )\ndefine stem as among ( 'a' ( [substring] ) 'b' ( among ( 'c' ) ) )",
+            at(ScriptFault::Substring { item: 2 }, 2, 31, "substring"),
+        ),
+        (
+            "externals ( stem )\ndefine stem as ( substring 'a' among ( (true) 'a' ) )",
+            at(ScriptFault::Starter { item: 2 }, 2, 32, "among"),
+        ),
+        (
+            "externals ( stem )\ndefine stem as ( among ( 'a' ) among ( ) )",
+            at(ScriptFault::EmptyAmong { item: 2 }, 2, 32, "among"),
+        ),
+        (
+            "externals ( stem )\ndefine stem as backwards ( do backwards true )",
+            at(ScriptFault::NestedBackwards { item: 2 }, 2, 31, "backwards"),
+        ),
+    ] {
+        assert_eq!(rt; shown_in(rt.alloc(), text)?, want, "{text}");
+    }
+    Ok(())
+}
+
+#[test]
+fn columns_are_characters(rt: HostRuntime) -> Result<(), Fail> {
+    for (text, want) in [
+        (
+            "externals ( stem )\r\n\tdefine stem as ( '\u{8a9e}' tial )",
+            at(ScriptFault::Undeclared { item: 2 }, 2, 23, "tial"),
+        ),
+        (
+            "externals ( stem ) /* \u{e9}\u{1f600} */ routines ( stem )",
+            at(ScriptFault::DeclaredTwice { item: 2 }, 1, 40, "stem"),
+        ),
+    ] {
+        assert_eq!(rt; shown_in(rt.alloc(), text)?, want, "{text}");
+    }
+    Ok(())
+}
+
+#[test]
+fn no_fault_at_a_token(rt: HostRuntime) -> Result<(), Fail> {
+    for text in [
+        "externals ( stem )\ndefine stem as true",
+        // a fault of the external, of the grammar, of the tokens, of the profile
+        "routines ( stem )\ndefine stem as true",
+        "define stem as ( x",
+        "define stem as x 'a",
+        "define stem as x size",
+    ] {
+        assert_eq!(rt; shown_in(rt.alloc(), text)?, None, "{text}");
+    }
+    // not UTF-8
+    assert_eq!(rt; place_of_fault(rt.alloc(), &[255])?, None);
+    Ok(())
+}

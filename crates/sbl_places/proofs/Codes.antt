@@ -1,0 +1,126 @@
+-- Which faults are those of a check at a token.
+use Rattle.std.proofs.Common.{◌≡◌, ◌⊎◌, ℕ, ◌+◌, Bool, true, false, ◌&&◌, ◌||◌, ◌==◌, List, [], ◌∷◌, Option, Some, None, Result, Ok, Err, refl, sym, ap, subst, ◌∙◌, inl, inr, if◌then◌else◌}
+use Rattle.std.specs.List.{list_all}
+use Rattle.sbl_text.specs.declared.escapes.Inserts.{Inserts}
+use Rattle.sbl_text.specs.declared.fault.ScriptFault.{ScriptFault}
+use Rattle.sbl_text.specs.declared.fault.ScriptFault.TheVariants as fault
+use Rattle.sbl_text.specs.declared.pieces.Shape.{Shape}
+use Rattle.sbl_text.specs.declared.pieces.Shape.TheVariants as shape
+use Rattle.sbl_text.specs.declared.pieces.Wanted.{Wanted}
+use Rattle.sbl_text.specs.declared.pieces.Wanted.TheVariants as wanted
+use Rattle.sbl_text.specs.Classes.{is_white, quote, slash}
+use Rattle.sbl_text.specs.Codes.{code_of, max_hex_digits}
+use Rattle.sbl_text.specs.Directives.{Directives}
+use Rattle.sbl_text.specs.Escapes.{InForce, opens, find}
+use Rattle.sbl_text.specs.Literals.{Refusal, byte_length, code_or_fault, character_named, value_or_character, inserted, IsWrong}
+use Rattle.sbl_text.specs.Tokens.{Placed, starts_star, pair_fault, token_fault, fault_at, IsRefused, IsFirstFaultFrom}
+use Rattle.sbl_tree.specs.Texts.{Text}
+use Rattle.sbl_grammar.specs.Reading.{IsSyntaxAt, IsTooDeepAt, IsOutOfProfileAt}
+use Rattle.sbl_checks.specs.Occurrences.{Occurrence}
+use Rattle.sbl_checks.specs.Checks as checks
+use Rattle.sbl_script.specs.Reading.{IsTextFault, IsUnread, place_of, terminals}
+use Rattle.sbl_places.specs.FaultPlaces.{is_of_token}
+
+-- ---- the faults of an occurrence
+
+one : (b : Bool) (x : ScriptFault) (rest : Option ScriptFault) (f : ScriptFault) → is_of_token x ≡ true → (rest ≡ Some f → is_of_token f ≡ true) → (if b then Some x else rest) ≡ Some f → is_of_token f ≡ true
+one true x rest f h more e = let same : x ≡ f = cc in ap is_of_token (sym same) ∙ h
+one false x rest f h more e = more e
+
+pub fault_of_token : (all before after : List Occurrence) (m : Occurrence) (f : ScriptFault) → checks.fault_at all before m after ≡ Some f → is_of_token f ≡ true
+fault_of_token all before after m f e =
+    one (checks.is_declared_twice before m.notice) (fault.DeclaredTwice m.site.item) _ f refl (
+    one (checks.is_undeclared before m.notice) (fault.Undeclared m.site.item) _ f refl (
+    one (checks.is_wrong_kind before m.notice) (fault.WrongKind m.site.item) _ f refl (
+    one (checks.is_defined_twice all m.site.item m.notice) (fault.DefinedTwice m.site.item) _ f refl (
+    one (checks.is_undefined all before m.site.item m.notice) (fault.Undefined m.site.item) _ f refl (
+    one (checks.is_wrong_mode all before m.site.mode m.notice) (fault.WrongMode m.site.item) _ f refl (
+    one (checks.is_unpaired m.site.mode m.notice after) (fault.Substring m.site.item) _ f refl (
+    one (checks.is_started_twice before m.notice) (fault.Starter m.site.item) _ f refl (
+    one (checks.is_repeated before m.site.item m.notice) (fault.RepeatedString m.site.item) _ f refl (
+    one (checks.is_empty_among m.notice) (fault.EmptyAmong m.site.item) _ f refl (
+    one (checks.is_nested m.site.mode m.notice) (fault.NestedBackwards m.site.item) None f refl (
+    none f))))))))))) e where
+      none : (g : ScriptFault) → None ≡ Some g → is_of_token g ≡ true
+      none g h = absurd cc
+
+-- ---- the faults of an insertion
+
+-- the refusal is none of these
+abbrev Mild : {X : Type 0} → Result X Refusal → Type 0
+Mild (Ok x) = Unit {0}
+Mild (Err g) = (n : ℕ) → is_of_token (g n) ≡ false
+
+mild_if : {X : Type 0} (b : Bool) (x y : Result X Refusal) → Mild x → Mild y → Mild (if b then x else y)
+mild_if true x y h j = h
+mild_if false x y h j = j
+
+mild_code : (o : Option ℕ) → Mild (code_or_fault o)
+mild_code None = λ n. refl
+mild_code (Some c) = tt
+
+mild_named : (e : Option Inserts) (name : List ℕ) → Mild (character_named e name)
+mild_named e [] = λ n. refl
+mild_named e (c ∷ []) = mild_if (c == quote || opens e c) (Ok c) (Err fault.UnknownEscape) tt (λ n. refl)
+mild_named e (c ∷ d ∷ cs) = mild_if (c == 85 && d == 43) (code_or_fault (code_of 16 max_hex_digits cs)) (Err fault.UnknownEscape) (mild_code (code_of 16 max_hex_digits cs)) (λ n. refl)
+
+mild_value : (o : Option (List ℕ)) (r : Result ℕ Refusal) → Mild r → Mild (value_or_character o r)
+mild_value (Some v) r h = tt
+mild_value None (Ok c) h = tt
+mild_value None (Err g) h = h
+
+mild_inserted : (e : InForce) (name : List ℕ) → Mild (inserted e name)
+mild_inserted e name =
+    mild_if (list_all is_white name) (Ok []) (value_or_character (find e.macros name) (character_named e.inserts name)) tt
+    (mild_value (find e.macros name) (character_named e.inserts name) (mild_named e.inserts name))
+
+wrong : (e : InForce) (text : List ℕ) (place : ℕ) (f : ScriptFault) → IsWrong e text place f → is_of_token f ≡ false
+wrong e text place f (inl (more, is, same)) = ap is_of_token same
+wrong e text place f (inr (x, name, more, is, insertion, g, refused, same)) = ap is_of_token same ∙ subst (λ (r : Result (List ℕ) Refusal). Mild r) refused (mild_inserted e name) place
+
+-- ---- the faults of a text
+
+pair : (text : List ℕ) (place : ℕ) → is_of_token (pair_fault text place) ≡ false
+pair [] place = refl
+pair (c ∷ cs) place = go (c == quote) where
+  go : (b : Bool) → is_of_token (if b then fault.BadCharacter place else fault.BadCharacter (place + byte_length (c ∷ []))) ≡ false
+  go true = refl
+  go false = refl
+
+token : (text : List ℕ) (place : ℕ) → is_of_token (token_fault text place) ≡ false
+token [] place = refl
+token (c ∷ cs) place = go (c == quote) (c == slash && starts_star cs) where
+  go : (a b : Bool) → is_of_token (if a then fault.UnclosedString place else (if b then fault.UnclosedComment place else fault.BadCharacter place)) ≡ false
+  go true b = refl
+  go false true = refl
+  go false false = refl
+
+no_piece : (w : Wanted) (text : List ℕ) (place : ℕ) → is_of_token (fault_at w text place) ≡ false
+no_piece wanted.Inserts text place = pair text place
+no_piece wanted.Token text place = token text place
+no_piece wanted.MacroName text place = token text place
+
+refused : (s : Directives) (k : Shape) (x : List ℕ) (place : ℕ) (f : ScriptFault) → IsRefused s k x place f → is_of_token f ≡ false
+refused s shape.Number x place f (large, same) = ap is_of_token same
+refused s shape.Literal x place f (inner, is, inl (before, rest, ps, parts, are, h)) = wrong s.escapes rest (place + 1 + byte_length before) f h
+refused s shape.Literal x place f (inner, is, inr (v, means, none, same)) = ap is_of_token same
+refused s _ x place f h = absurd h
+
+not_of_tokens : (s : Directives) (text : List ℕ) (f : ScriptFault) → IsFirstFaultFrom s text f → is_of_token f ≡ false
+not_of_tokens s text f (before, rest, ps, t, parts, cut, inl (ends, none, same)) = ap is_of_token same ∙ no_piece t.wanted rest (byte_length before)
+not_of_tokens s text f (before, rest, ps, t, parts, cut, inr (k, x, more, is, piece, h)) = refused t k x (byte_length before) f h
+
+pub not_of_text : (s : Directives) (bytes : List ℕ) (f : ScriptFault) → IsTextFault s bytes f → is_of_token f ≡ false
+not_of_text s bytes f (inl (long, same)) = ap is_of_token same
+not_of_text s bytes f (inr (inl (short, not_text, same))) = ap is_of_token same
+not_of_text s bytes f (inr (inr (short, text, h))) = not_of_tokens s _ f h
+
+-- ---- the faults of the grammar
+
+pub not_of_grammar : (w : Text) (ts : List Placed) (end : ℕ) (f : ScriptFault) → IsUnread w ts end f → is_of_token f ≡ false
+not_of_grammar w ts end f (inl (place, first, same)) = ap is_of_token same
+not_of_grammar w ts end f (inr (offered, h)) = go h.is where
+  go : (IsSyntaxAt w (terminals ts) (terminals h.rest) × (f ≡ fault.Syntax (place_of end h.rest))) ⊎ (IsTooDeepAt w (terminals ts) (terminals h.rest) × (f ≡ fault.TooDeep (place_of end h.rest))) ⊎ (IsOutOfProfileAt w (terminals ts) (terminals h.rest) × (f ≡ fault.OutOfProfile (place_of end h.rest))) → is_of_token f ≡ false
+  go (inl a) = ap is_of_token a.1
+  go (inr (inl a)) = ap is_of_token a.1
+  go (inr (inr a)) = ap is_of_token a.1

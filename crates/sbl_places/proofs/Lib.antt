@@ -1,0 +1,6 @@
+pub mod SubjectsAgree
+pub mod LastLines
+pub mod Firsts
+pub mod Codes
+pub mod AtTokens
+pub mod NoPlaces

@@ -1,0 +1,11 @@
+//! Where in its text a script's fault is.
+#![tactic(auto)]
+
+mod fault_places;
+pub mod laws;
+mod positions;
+mod subject_tokens;
+
+pub use fault_places::{FaultPlace, place_of_fault};
+pub use positions::{Position, position_of};
+pub use sbl_text::ScriptFault;
