@@ -163,9 +163,6 @@ def try_pair(pair, cases, names, sources):
             shutil.copy2(os.path.join(TOP, name), os.path.join(room, name))
         pair.apply(room)
         if pair.unit:
-            # (libraries that are proved here need not be proved again)
-            for rlib in glob.glob(os.path.join(TOP, "crates", "*", "out", "rlib")):
-                shutil.copytree(rlib, os.path.join(room, os.path.relpath(rlib, TOP)))
             return pair, keep(kept, try_unit(os.path.join(room, "crates", pair.unit)))
         made = subprocess.run(["bash", "tools/debug"], cwd=room, stdout=subprocess.PIPE, stderr=subprocess.PIPE, text=True, check=False)
         program = made.stdout.strip()
@@ -181,7 +178,7 @@ def try_pair(pair, cases, names, sources):
 
 def try_unit(crate):
     """Runs the tests of a crate, without proofs."""
-    done = subprocess.run(["rt", "test"], cwd=crate, stdout=subprocess.PIPE, stderr=subprocess.STDOUT, text=True, check=False).stdout
+    done = subprocess.run(["rt", "try", "--test"], cwd=crate, stdout=subprocess.PIPE, stderr=subprocess.STDOUT, text=True, check=False).stdout
     if "test result: " not in done:
         return "no tests: " + done[-400:]
     failed = [line.split()[1] for line in done.split("\n") if line.startswith("test ") and line.endswith("... FAILED")]

@@ -1,5 +1,5 @@
 -- The token at which the checks find the fault of a text.
-use Rattle.std.specs.Prelude.{◌≡◌, ℕ, Bool, true, false, List, Some, None}
+use Rattle.std.specs.Prelude.{◌≡◌, ℕ, Bool, true, false, List, Option, Some, None, MatchOption}
 use Rattle.std.specs.List.{slice_get}
 use Rattle.sbl_text.specs.declared.fault.ScriptFault.{ScriptFault}
 use Rattle.sbl_text.specs.declared.fault.ScriptFault.TheVariants as fault
@@ -44,6 +44,30 @@ pub record IsPlaceIn (bytes : List ℕ) (p : FaultPlace) : Type 0 where
   pub fault : IsFaultAt bytes p.fault token
   pub begin : p.begin ≡ token.token.start
   pub end : p.end ≡ token.token.end
+
+-- ---- the offset of a fault
+
+-- the byte offset of the token at which the checks find a fault of these bytes, if they find one at a token
+abbrev pub IsTokenOffset : List ℕ → Option ℕ → Type 0
+IsTokenOffset bytes o = MatchOption o (HasNoFaultAt bytes) (λ offset. (p : FaultPlace) × IsPlaceIn bytes p × (offset ≡ p.begin))
+
+-- The byte offset of a fault of these bytes: its place, or that of its token if the fault only has the item. Other faults
+-- are at no offset.
+abbrev pub IsOffset : List ℕ → ScriptFault → Option ℕ → Type 0
+IsOffset bytes (fault.BadCharacter place) o = o ≡ Some place
+IsOffset bytes (fault.UnclosedString place) o = o ≡ Some place
+IsOffset bytes (fault.UnclosedComment place) o = o ≡ Some place
+IsOffset bytes (fault.UnknownEscape place) o = o ≡ Some place
+IsOffset bytes (fault.BadCode place) o = o ≡ Some place
+IsOffset bytes (fault.NumberTooLarge place) o = o ≡ Some place
+IsOffset bytes (fault.Syntax place) o = o ≡ Some place
+IsOffset bytes (fault.TooDeep place) o = o ≡ Some place
+IsOffset bytes (fault.OutOfProfile place) o = o ≡ Some place
+IsOffset bytes fault.NoExternal o = o ≡ None
+IsOffset bytes fault.NotUtf8 o = o ≡ None
+IsOffset bytes fault.ScriptTooLong o = o ≡ None
+IsOffset bytes fault.OutOfMemory o = o ≡ None
+IsOffset bytes _ o = IsTokenOffset bytes o
 
 -- ---- laws
 

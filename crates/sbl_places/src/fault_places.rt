@@ -10,7 +10,7 @@ ghost use Rattle.sbl_tree.specs.View.{view_items};
 ghost use Rattle.sbl_grammar.specs.Reading.{IsReadAs};
 ghost use Rattle.sbl_script.specs.Reading as spec;
 ghost use Rattle.sbl_script.specs.Reading.{HasTokens, max_script, terminals};
-ghost use Rattle.sbl_places.specs.FaultPlaces.{HasNoFaultAt, IsPlaceIn};
+ghost use Rattle.sbl_places.specs.FaultPlaces.{HasNoFaultAt, IsOffset, IsPlaceIn, IsTokenOffset};
 
 use crate::subject_tokens::subject_at;
 use sbl_checks::first_fault;
@@ -111,5 +111,43 @@ pub fn place_of_fault(alloc: Global, text: &[u8]) -> Result<Option<FaultPlace>, 
     match subject_at(alloc, &tokens, number)? {
         Some((begin, end)) => Ok(Some(FaultPlace { fault, begin, end })),
         None => Ok(None),
+    }
+}
+
+/// Returns the byte offset of the token at which a check fails, or `None` if the text has no such fault. Returns `AllocError` if
+/// an allocation fails.
+fn token_offset(alloc: Global, text: &[u8]) -> Result<Option<usize>, AllocError>
+    ensures { IfOk result (λ o. IsTokenOffset text.now o) }
+{
+    match place_of_fault(alloc, text)? {
+        Some(place) => Ok(Some(place.begin)),
+        None => Ok(None),
+    }
+}
+
+/// Returns the byte offset of a fault with which `Script::parse` refuses a text: its place, or that of the token of a fault that
+/// only has its item. Returns `None` if the fault has neither, and `AllocError` if an allocation fails.
+pub fn offset_of_fault(
+    alloc: Global,
+    text: &[u8],
+    fault: ScriptFault,
+) -> Result<Option<usize>, AllocError>
+    ensures { IfOk result (λ o. IsOffset text.now fault o) }
+{
+    match fault {
+        ScriptFault::BadCharacter { place }
+        | ScriptFault::UnclosedString { place }
+        | ScriptFault::UnclosedComment { place }
+        | ScriptFault::UnknownEscape { place }
+        | ScriptFault::BadCode { place }
+        | ScriptFault::NumberTooLarge { place }
+        | ScriptFault::Syntax { place }
+        | ScriptFault::TooDeep { place }
+        | ScriptFault::OutOfProfile { place } => Ok(Some(place)),
+        ScriptFault::NoExternal
+        | ScriptFault::NotUtf8
+        | ScriptFault::ScriptTooLong
+        | ScriptFault::OutOfMemory => Ok(None),
+        _ => token_offset(alloc, text),
     }
 }

@@ -6,6 +6,6 @@ pub mod laws;
 mod positions;
 mod subject_tokens;
 
-pub use fault_places::{FaultPlace, place_of_fault};
+pub use fault_places::{FaultPlace, offset_of_fault, place_of_fault};
 pub use positions::{Position, position_of};
 pub use sbl_text::ScriptFault;

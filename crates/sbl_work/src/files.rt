@@ -2,7 +2,7 @@
 
 use crate::words::words_in;
 use sbl_bench::Bench;
-use sbl_script::Script;
+use sbl_script::{Script, ScriptFault};
 use sbl_sessions::LoadFault;
 use std::alloc::{AllocError, Global};
 use std::rt::Files;
@@ -24,14 +24,10 @@ pub struct Paths {
 pub(crate) enum OpenFault {
     /// The file of this name cannot be read.
     File(String, io::Error),
-    /// The script or the words are refused.
+    /// The script of this text is refused.
+    Script(Vec<u8>, ScriptFault),
+    /// The words are refused, or an allocation fails.
     Load(LoadFault),
-}
-
-impl From<LoadFault> for OpenFault {
-    fn from(fault: LoadFault) -> OpenFault {
-        OpenFault::Load(fault)
-    }
 }
 
 impl From<AllocError> for OpenFault {
@@ -61,19 +57,10 @@ fn read_words<F: Files + AllocGlobal>(
 }
 
 /// Returns the bench of a script and words.
-fn bench_of(
-    alloc: Global,
-    text: &[u8],
-    external: &str,
-    words: Vec<Vec<char>>,
-) -> Result<Bench, LoadFault> {
-    let script = match Script::parse(alloc, text, external) {
-        Ok(script) => script,
-        Err(fault) => return Err(LoadFault::Script(fault)),
-    };
+fn bench_of(alloc: Global, script: Script, words: Vec<Vec<char>>) -> Result<Bench, OpenFault> {
     match Bench::open(alloc, script, words) {
         Ok(bench) => Ok(bench),
-        Err(fault) => Err(LoadFault::Open(fault)),
+        Err(fault) => Err(OpenFault::Load(LoadFault::Open(fault))),
     }
 }
 
@@ -84,8 +71,10 @@ pub(crate) fn open<F: Files + AllocGlobal>(
 ) -> Result<(Bench, Vec<u8>), OpenFault> {
     let text = read_named(files, paths.script.as_str())?;
     let words = read_words(files, paths)?;
-    let bench = bench_of(files.alloc(), &text, paths.external.as_str(), words)?;
-    Ok((bench, text))
+    match Script::parse(files.alloc(), &text, paths.external.as_str()) {
+        Ok(script) => Ok((bench_of(files.alloc(), script, words)?, text)),
+        Err(fault) => Err(OpenFault::Script(text, fault)),
+    }
 }
 
 /// Whether a file has exactly these bytes.
