@@ -2,7 +2,7 @@
 
 use crate::words::words_in;
 use sbl_bench::Bench;
-use sbl_script::{Script, ScriptFault};
+use sbl_script::Script;
 use sbl_sessions::LoadFault;
 use std::alloc::{AllocError, Global};
 use std::rt::Files;
@@ -24,10 +24,14 @@ pub struct Paths {
 pub(crate) enum OpenFault {
     /// The file of this name cannot be read.
     File(String, io::Error),
-    /// The script of this text is refused.
-    Script(Vec<u8>, ScriptFault),
-    /// The words are refused, or an allocation fails.
+    /// The script or the words are refused.
     Load(LoadFault),
+}
+
+impl From<LoadFault> for OpenFault {
+    fn from(fault: LoadFault) -> OpenFault {
+        OpenFault::Load(fault)
+    }
 }
 
 impl From<AllocError> for OpenFault {
@@ -57,10 +61,19 @@ fn read_words<F: Files + AllocGlobal>(
 }
 
 /// Returns the bench of a script and words.
-fn bench_of(alloc: Global, script: Script, words: Vec<Vec<char>>) -> Result<Bench, OpenFault> {
+fn bench_of(
+    alloc: Global,
+    text: &[u8],
+    external: &str,
+    words: Vec<Vec<char>>,
+) -> Result<Bench, LoadFault> {
+    let script = match Script::parse(alloc, text, external) {
+        Ok(script) => script,
+        Err(fault) => return Err(LoadFault::Script(fault)),
+    };
     match Bench::open(alloc, script, words) {
         Ok(bench) => Ok(bench),
-        Err(fault) => Err(OpenFault::Load(LoadFault::Open(fault))),
+        Err(fault) => Err(LoadFault::Open(fault)),
     }
 }
 
@@ -71,10 +84,8 @@ pub(crate) fn open<F: Files + AllocGlobal>(
 ) -> Result<(Bench, Vec<u8>), OpenFault> {
     let text = read_named(files, paths.script.as_str())?;
     let words = read_words(files, paths)?;
-    match Script::parse(files.alloc(), &text, paths.external.as_str()) {
-        Ok(script) => Ok((bench_of(files.alloc(), script, words)?, text)),
-        Err(fault) => Err(OpenFault::Script(text, fault)),
-    }
+    let bench = bench_of(files.alloc(), &text, paths.external.as_str(), words)?;
+    Ok((bench, text))
 }
 
 /// Whether a file has exactly these bytes.

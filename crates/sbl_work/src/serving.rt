@@ -15,8 +15,6 @@ use crate::requests::{Request, asks_families, asks_replace, count_in, is_quit, r
 use crate::whys::{integers_reply, why_reply};
 use sbl_bench::{Bench, EditFault};
 use sbl_lines::{Lines, ServeFault, Sink, Source, write_all};
-use sbl_places::{Position, offset_of_fault, position_of};
-use sbl_script::ScriptFault;
 use sbl_sessions::{LoadFault, Reply, block_word, report, write_reply};
 use std::alloc::{AllocError, Global};
 use std::fs;
@@ -187,40 +185,14 @@ fn serve<F: Files + AllocGlobal, R: Source + Drop, W: Sink>(
     Ok(())
 }
 
-/// Returns the line with the place of a fault in the text of a script, as compilers write it; an empty text if the fault has no
-/// place. Returns `AllocError` if an allocation fails.
-fn place_line(
-    alloc: Global,
-    path: &str,
-    text: &[u8],
-    fault: ScriptFault,
-) -> Result<String, AllocError> {
-    match offset_of_fault(alloc, text, fault)? {
-        None => Ok(String::new(alloc)),
-        Some(offset) => {
-            let Position { line, column } = position_of(text, offset);
-            format!(in alloc; "{path}:{line}:{column}: {fault}\n")
-        }
-    }
-}
-
-/// Returns why there is no desk, in a line, and the place of a fault of the script in another one.
-fn fault_lines(alloc: Global, paths: &Paths, fault: &OpenFault) -> Result<String, AllocError> {
-    match fault {
-        OpenFault::File(path, error) => format!(in alloc; "snowbench: {path}: {error}\n"),
-        OpenFault::Load(fault) => format!(in alloc; "snowbench: {fault}\n"),
-        OpenFault::Script(text, fault) => {
-            let place = place_line(alloc, paths.script.as_str(), text, *fault)?;
-            format!(in alloc; "snowbench: {fault}\n{place}")
-        }
-    }
-}
-
 /// Writes why there is no desk.
-fn write_fault<E: Sink>(alloc: Global, paths: &Paths, errors: &mut E, fault: &OpenFault)
+fn write_fault<E: Sink>(alloc: Global, errors: &mut E, fault: &OpenFault)
     ensures { WritesInTime E.late E.interruptions errors.old errors.new }
 {
-    let line = fault_lines(alloc, paths, fault);
+    let line = match fault {
+        OpenFault::File(path, error) => format!(in alloc; "snowbench: {path}: {error}\n"),
+        OpenFault::Load(fault) => format!(in alloc; "snowbench: {fault}\n"),
+    };
     // The status reports the fault even if its line cannot be written.
     let _ = match line {
         Ok(line) => write_all(errors, line.as_bytes()),
@@ -285,7 +257,7 @@ pub fn work<F: Files + AllocGlobal, R: Source + Drop, W: Sink, E: Sink>(
     match work_on(files, paths, prompts, lines, writer) {
         Ok(()) => 0,
         Err(fault) => {
-            write_fault(lines.alloc(), paths, errors, &fault);
+            write_fault(lines.alloc(), errors, &fault);
             1
         }
     }
