@@ -14,7 +14,11 @@ fn lines_and_columns_are_counted_from_one(rt: HostRuntime) {
         ("\n\n", 0, 1, 1),
         ("\n\n", 1, 2, 1),
     ] {
-        assert_eq!(rt; position_of(text.as_bytes(), offset), Position { line, column }, "{text} {offset}");
+        assert_eq!(rt;
+            position_of(text.as_bytes(), offset),
+            Position { line, column },
+            "{text} {offset}"
+        );
     }
 }
 
@@ -29,7 +33,11 @@ fn an_offset_past_the_last_byte_is_the_end_of_the_last_line(rt: HostRuntime) {
         ("", 0, 1, 1),
         ("", 7, 1, 1),
     ] {
-        assert_eq!(rt; position_of(text.as_bytes(), offset), Position { line, column }, "{text} {offset}");
+        assert_eq!(rt;
+            position_of(text.as_bytes(), offset),
+            Position { line, column },
+            "{text} {offset}"
+        );
     }
 }
 
@@ -44,6 +52,10 @@ fn columns_count_characters(rt: HostRuntime) {
         ("a\t\r\nb", 3, 1, 4),
         ("a\t\r\nb", 4, 2, 1),
     ] {
-        assert_eq!(rt; position_of(text.as_bytes(), offset), Position { line, column }, "{text} {offset}");
+        assert_eq!(rt;
+            position_of(text.as_bytes(), offset),
+            Position { line, column },
+            "{text} {offset}"
+        );
     }
 }
