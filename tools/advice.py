@@ -10,9 +10,10 @@ from near import listed, meant, near
 from plain import named
 
 PLAIN = "stems classes script runs reload undo redo mark changes stats help quit".split()
-ONE_LINE = "add remove class trace limit largest show save echo".split()
+ONE_LINE = "add remove class trace why events integers limit largest show save echo".split()
 BLOCKS = "routine among grouping replace families".split()
-DROP = " Ctrl-C drops this block."
+# What `show` does not show, and what does.
+VARIABLES = {"integer": " integers WORD shows its value at the end of a run.", "string": "", "boolean": ""}
 # How a block may begin, as `show` writes a definition.
 HEADS = {"routine": r"^\s*define\s+\w+\s+as\b", "grouping": r"^\s*define\s+\w+"}
 
@@ -42,7 +43,7 @@ class Advice:
             return of_code(word, argument, command)
         if code == 48:
             return self.lines_on_fault(name, word, argument, command) + ["Nothing changed."]
-        return [SENTENCES[code].replace("COMMAND", named(word)).replace("WORD", named(argument))] if code in SENTENCES else []
+        return [SENTENCES[code].replace("COMMAND", named(word)).replace("THE_WORD", named(argument))] if code in SENTENCES else []
 
     def lines_41(self, word, argument, command):
         words = self.words()
@@ -74,6 +75,10 @@ class Advice:
         if word != "show" and names.kinds.get(name) and name in names.defined:
             kind = names.kinds[name]
             return '%sthis is a %s. Use "%s %s".' % (begin, kind, "grouping" if kind == "grouping" else "routine", name)
+        if names.kinds.get(name) in VARIABLES:
+            kind = names.kinds[name]
+            shows = " show shows routines and groupings." + VARIABLES[kind] if word == "show" else ""
+            return "%sthis is %s %s variable, and no %s.%s" % (begin, "an" if kind == "integer" else "a", kind, what, shows)
         if name in names.kinds and name not in names.defined:
             return "%sit is declared, but not defined: add its define to the script." % begin
         question = meant(name, there)
@@ -124,7 +129,7 @@ class Advice:
             return 'Type "%s %s" first, and then this as its text.' % ("routine" if " as " in line else "grouping", named(name))
         if line.lstrip().split(" ")[0] in PLAIN + ONE_LINE + BLOCKS:
             return "A command begins at the beginning of the line."
-        return "%s is no command.%s help lists the commands." % (named(word[:60]), meant(word, PLAIN + ONE_LINE + BLOCKS))
+        return "%s is no command.%s help lists the commands." % (named(word[:60]), command_meant(word))
 
     def lines_57(self, word, argument, command):
         if word == "save":
@@ -136,8 +141,8 @@ class Advice:
         if not path:
             return "save needs a file: save FILE."
         folder = os.path.dirname(path) or "."
-        if os.path.exists(path) and os.path.exists(self.desk.script) and os.path.samefile(path, self.desk.script):
-            return "%s was changed since it was read. Save to another file, or reload first." % named(path)
+        if self.desk.files.is_script(path) and os.access(path, os.W_OK):
+            return "%s has changed since it was read, and was not overwritten. Enter reads it again; save to another file to keep both." % named(path)
         if not os.path.isdir(folder):
             return "%s cannot be written: there is no folder %s." % (named(path), named(folder))
         return "%s cannot be written: %s." % (named(path), "it is a folder" if os.path.isdir(path) else "you may not write there")
@@ -151,13 +156,17 @@ class Advice:
         if word == "reload":
             return explain_file(desk.script, desk.program, desk.external)
         if word == "replace":
-            return explain_block("replace", "", block, "", desk.program, desk.external)
+            return explain_block("replace", name, "", block, "", desk.program, desk.external)
         before, after = self.around(word, argument)
         if before is None:
             return ["docs/LANGUAGE.md says what %s means." % name]
+        wrong = wrong_beginning(word, argument.partition(" ")[0], read_tokens(block))
+        if wrong:
+            return [wrong]
         if word in HEADS:
             block = re.sub(HEADS[word], blanked, block)
-        return explain_block("%s %s" % (word, named(argument)), before, block, after, desk.program, desk.external)
+        said = explain_block("%s %s" % (word, named(argument)), name, before, block, after, desk.program, desk.external)
+        return said or [WHOLE[word]]
 
     def around(self, word, argument):
         """Returns the canonical script before and after what the block of a command replaces."""
@@ -174,21 +183,23 @@ class Advice:
         return script[: first.end] + "\n", script[end:]
 
     def early(self, line):
-        """Returns the lines to show before the text of a block is typed, if the line before the block has a mistake."""
+        """Returns the lines on the line before a block, if it has a mistake."""
         word, argument = split(line)
+        if word == "replace" and argument:
+            return ["replace takes nothing after it: the script goes on the lines after it."]
         names = Names(self.script())
         if word == "routine" and argument not in names.of("routine", "external"):
-            return [self.no_name(word, argument, "routine", ("routine", "external")) + DROP]
+            return [self.no_name(word, argument, "routine", ("routine", "external"))]
         if word == "grouping" and argument not in names.of("grouping"):
-            return [self.no_name(word, argument, "grouping", ("grouping",)) + DROP]
+            return [self.no_name(word, argument, "grouping", ("grouping",))]
         if word == "among":
             name, _, k = argument.partition(" ")
             if name and k and name not in names.of("routine", "external"):
-                return [self.no_name(word, name, "routine", ("routine", "external")) + DROP]
+                return [self.no_name(word, name, "routine", ("routine", "external"))]
             if not re.match(r"^[0-9]+$", k):
-                return [self.bad_command(word, argument, line) + DROP]
+                return [self.bad_command(word, argument, line)]
             if not 1 <= int(k) <= self.count(name):
-                return [self.amongs_of(name) + DROP]
+                return [self.amongs_of(name)]
         return []
 
     def note(self, command):
@@ -199,9 +210,26 @@ class Advice:
         return []
 
 
+def command_meant(word):
+    """Returns the question after a word that is no command: a near one, or those that begin with it."""
+    commands = PLAIN + ONE_LINE + BLOCKS
+    longer = [command for command in commands if command.startswith(word.casefold())]
+    return meant(word, commands) or (" Did you mean %s?" % listed(longer) if 0 < len(longer) < 4 else "")
+
+
 def blanked(match):
     """Returns as many blanks as the match has characters, so that places stay the same."""
     return re.sub(r"[^\n]", " ", match.group())
+
+
+def wrong_beginning(word, name, tokens):
+    """Returns the sentence on a text that begins as something else than the text of a routine, an among or a grouping."""
+    if word == "among":
+        return WHOLE[word] if tokens and not is_word(tokens[0], "among") else None
+    if len(tokens) < 2 or not is_word(tokens[0], "define") or tokens[1].text == name:
+        return None
+    other = named(tokens[1].text)
+    return "The text begins with the definition of %s, and %s %s replaces that of %s." % (other, word, name, name)
 
 
 def folded(word):
@@ -231,13 +259,19 @@ def why_unreadable(path):
     try:
         with open(path, "rb") as file:
             file.read(1)
-        return "it has changed"
+        return "but now it can be. Try again."
     except OSError as why:
         return why.strerror
 
 
+# What the text of a block is.
+WHOLE = {
+    "among": "The text of among is a whole among ( .. ), and nothing else.",
+    "routine": "The text of routine is one command: put several into parentheses.",
+    "grouping": "The text of grouping is what follows the name in its definition, such as v + 'y'.",
+}
 SENTENCES = {
-    40: "WORD is in the vocabulary already.",
+    40: "THE_WORD is in the vocabulary already.",
     42: "COMMAND needs a word: COMMAND WORD.",
     43: "A word may have 255 characters at most.",
     44: "The vocabulary has 100,000 words, and takes no more.",

@@ -3,8 +3,8 @@
 people, and says what to do if a command is refused.
 usage: desk.py PROGRAM SCRIPT WORDS OPTION..   (WORDS may be empty; the options are those of the program, --external among them)
 It reads requests on standard input: a number N, the kind of request, and N lines, each ended by a zero byte. `start` begins, `ask` is a
-command with its block, `save` the same after a save, and `peek` the first line of a block that comes later. For each request it writes
-`ok`, `refused` or `ended` as a line on descriptor 3.
+command with its block, `save` the same after an edit, `peek` the first line of a block that comes later, and `quit` asks whether to end.
+For each request it writes `ok`, `refused` or `ended` as a line on descriptor 3.
 """
 import csv
 import os
@@ -15,12 +15,14 @@ import sys
 
 from advice import Advice
 from faults import explain_file
+from files import Files
+from history import EDITS, History, put_aside
 from plain import for_terminal, named
 from whys import lay_out_why
 from warn import warnings_on
 
 REFUSAL = re.compile(r"^no (\d\d) ([A-Za-z0-9]+)$")
-# How many words, and classes of a kind, are shown after a save; `changes` shows all.
+# How many words, and classes of a kind, are shown after an edit; `changes` shows all.
 MOST = 20
 # The most bytes of a line, and after how many seconds a sentence says that a command still runs.
 LONGEST, PATIENCE = 65536, 2
@@ -39,6 +41,10 @@ class Desk:
             stderr=subprocess.PIPE,
         )
         self.advice = Advice(self)
+        self.files = Files(script, words)
+        self.history = None
+        # A save or an end that was refused, and is accepted if it is asked for again.
+        self.doubted = None
 
     def query(self, lines, is_slow=False):
         """Sends lines to the program, and returns the lines of its answer, or nothing if it has ended."""
@@ -63,22 +69,78 @@ class Desk:
         if any(len(line.encode("utf-8", "surrogateescape")) > LONGEST for line in lines):
             say(["A line may have %d bytes at most. Nothing was done." % LONGEST])
             return "refused"
+        word, _, argument = lines[0].partition(" ")
+        if word == "save" and not self.may_save(argument):
+            return "refused"
+        if word == "save" and self.files.is_script(argument):
+            lines = ["save " + self.script]
+        typed = self.definitions() if word == "reload" else {}
         answer = self.query(lines, is_slow=True)
         if answer is None:
             return self.end()
         refusal = REFUSAL.match(answer[0]) if len(answer) == 1 else None
-        if lines[0] in LAYOUTS and not refusal:
-            answer = LAYOUTS[lines[0]](answer, is_save)
-        elif lines[0].startswith("why ") and not refusal:
-            answer = lay_out_why(answer, lines[0][4:], self.query(["integers " + lines[0][4:]]))
-        write(answer)
         if refusal:
+            write(answer)
             say(self.advice.lines(int(refusal[1]), refusal[2], lines))
             return "refused"
+        write(self.lay_out(lines[0], answer, is_save))
         say(self.advice.note(lines))
-        if lines[0] == "reload":
-            self.warn([self.script])
+        if word == "save":
+            self.files.note_saved(argument)
+            self.history.note_saved(argument)
+        elif word in EDITS:
+            self.note_edit(lines[0], typed)
         return "ok"
+
+    def lay_out(self, command, answer, is_save):
+        if command in LAYOUTS:
+            return LAYOUTS[command](answer, is_save)
+        if command.startswith("why "):
+            return lay_out_why(answer, command[4:], self.query(["integers " + command[4:]]))
+        return answer
+
+    def may_save(self, path):
+        """Whether `save` may write to a file; otherwise says why not."""
+        why = self.files.refusal(path)
+        if not why and self.files.is_script(path) and self.history.is_older() and self.doubted != "save":
+            self.doubted = "save"
+            name = named(path)
+            why = "%s has a change that undo took back. Nothing was written: Enter reads it again, save %s again overwrites it." % (name, name)
+        if why:
+            say([why])
+        return not why
+
+    def quit(self):
+        """Returns `ok` if no typed edit would be lost, or if it is asked for again; otherwise says so."""
+        if not self.history or not self.history.unsaved() or self.doubted == "quit":
+            return "ok"
+        self.doubted = "quit"
+        say(["The edits that you typed are in no file: save FILE keeps them, quit again drops them."])
+        return "refused"
+
+    def peek(self, line):
+        """Returns `ok` if a block may follow a line; otherwise says what is wrong with it."""
+        wrong = self.advice.early(line)
+        say(wrong + ["Nothing was done."] if wrong else [])
+        return "refused" if wrong else "ok"
+
+    def definitions(self):
+        """Returns the definition of each part that is typed and in force, by its name; the whole script has no name."""
+        names = dict.fromkeys(edit.name() for edit in self.history.typed() if self.history.script_file not in edit.files)
+        return {name: self.query(["show " + name if name else "script"]) for name in names}
+
+    def note_edit(self, command, typed):
+        """Notes an accepted edit, and says which one was undone or redone, or which typed parts are put aside."""
+        self.doubted = None
+        before, is_reload = self.history.script, command == "reload"
+        edit = self.history.note(command, self.query(["script"]) or [])
+        if edit:
+            write(["%s: %s" % ("undid" if command == "undo" else "redid", edit.command)])
+        if is_reload:
+            self.history.note_read(before == self.history.script, self.files.note_read())
+            gone = [name for name, lines in typed.items() if self.query(["show " + name if name else "script"]) != lines]
+            say([put_aside(gone)] if gone else [])
+            self.warn([self.script])
 
     def start(self):
         """Writes how many words and classes there are, and warnings."""
@@ -92,6 +154,9 @@ class Desk:
         print("%s, %s, %s refused" % (*size, figures["refused"]), flush=True)
         if figures["refused"] != "0":
             self.explain_refused()
+        if figures["words"] == "0" and not self.words:
+            say(["To see stems: add WORD, or start with a file of words: ./snowbench work SCRIPT WORDS"])
+        self.history = History(self.script, self.query(["script"]) or [])
         return "ok"
 
     def explain_refused(self):
@@ -211,8 +276,9 @@ def main():
             if kind == "start":
                 said = desk.start()
             elif kind == "peek":
-                say(desk.advice.early(lines[0]))
-                said = "ok"
+                said = desk.peek(lines[0])
+            elif kind == "quit":
+                said = desk.quit()
             else:
                 said = desk.ask(lines, kind == "save")
             print(said, file=replies, flush=True)

@@ -32,6 +32,8 @@ class Fault:
     def __init__(self, line, text):
         self.code, self.name, self.text = int(line[1]), line[2], text.decode("utf-8", "surrogateescape")
         self.tokens, self.token, self.at = read_tokens(self.text), None, None
+        # Where the text of the author begins.
+        self.begin = 0
         if self.code == 23:
             self.at = next(at for at, character in enumerate(self.text) if "\udc80" <= character <= "\udcff")
         elif line[3]:
@@ -44,7 +46,7 @@ class Fault:
 
     def shown(self):
         """Returns the line of the fault with carets below its token, as two lines."""
-        begin = self.text.rfind("\n", 0, self.at) + 1
+        begin = max(self.begin, self.text.rfind("\n", 0, self.at) + 1)
         end = self.text.find("\n", self.at)
         line = self.text[begin : end if end >= 0 else len(self.text)].rstrip("\r")
         column = min(self.at - begin, len(line))
@@ -67,8 +69,8 @@ class Fault:
 
     def opened(self):
         """Returns the place of the innermost parenthesis that is open at the fault."""
-        token = open_in(self.text[: self.at])
-        return "%d:%d" % position(self.text, token.start) if token else None
+        token = open_in(self.text[self.begin : self.at])
+        return "%d:%d" % position(self.text[self.begin :], token.start) if token else None
 
     def sentence(self):
         """Returns the sentence for this fault."""
@@ -173,21 +175,46 @@ def open_in(text):
     return open_ones[-1] if open_ones else None
 
 
-def explain_block(title, before, block, after, program, options):
-    """Returns the lines on the fault of a script that has the text of a block in one place: its line in the block, a sentence."""
+def closing_too_many(text):
+    """Returns the first parenthesis that closes none in a text, or nothing."""
+    depth = 0
+    for token in read_tokens(text):
+        depth += (token.text == "(") - (token.text == ")")
+        if depth < 0:
+            return token
+    return None
+
+
+def start_of_item(text):
+    """Returns the place at which the last item of a text begins, or nothing."""
+    return max((token.start for token in read_tokens(text) if is_word(token, *ITEMS)), default=None)
+
+
+def explain_block(title, name, before, block, after, program, options):
+    """Returns the lines on the fault of this name of a script that has the text of a block in one place: its line in the block, and
+    a sentence. Returns none if it is another fault."""
     text = (before + block + after).encode("utf-8", "surrogateescape")
     line = fault_of(program, options, text)
-    if not line:
-        return []
     if not block.strip():
         return ["%s: the text is empty" % title]
+    if not line or line[2] != name:
+        return []
     if int(line[1]) == 21:
         return [explain_external(text, options)]
     fault = Fault(line, text)
+    fault.begin = len(before)
     opened = open_in(block)
+    closing = closing_too_many(block)
+    if fault.code == 7 and closing and fault.at >= len(before) + closing.start:
+        fault.at, fault.token = len(before) + closing.start, closing
+        place = position(block, closing.start)
+        return ["%s, line %d, column %d: this ) closes no parenthesis of the text: take it away, or put a ( before it" % (title, *place)] + fault.shown()
     if fault.code == 7 and fault.at > len(before) + len(block.rstrip()) and opened:
         return ["%s: the text ends, and the ( of its line %d, column %d is still open" % (title, *position(block, opened.start))]
+    if not fault.token and fault.at == start_of_item(before):
+        return ["%s: %s" % (title, fault.sentence())]
     if fault.at is None or not len(before) <= fault.at <= len(before) + len(block):
+        fault.begin = 0
         return ["%s, outside the new text: %s" % (title, fault.sentence())] if fault.at is not None else []
     row, column = position(block, fault.at - len(before))
     return ["%s, line %d, column %d: %s" % (title, row, column, fault.sentence())] + fault.shown()

@@ -182,6 +182,27 @@ def nested_backwards(item):
             return token
 
 
+def lone_substring(item):
+    """The substring without an among after it in its parentheses, before the next substring; nothing if several may be."""
+    tokens, lone = item.tokens, []
+    for at, token in enumerate(tokens):
+        if is_word(token, "substring") and not has_among(tokens[at + 1 :]):
+            lone.append(token)
+    return lone[0] if len(lone) == 1 else None
+
+
+def has_among(tokens):
+    """Whether there is an among in the tokens before the next substring or the parenthesis that closes none of them."""
+    depth = 0
+    for token in tokens:
+        depth += (token.text == "(") - (token.text == ")")
+        if depth < 0 or is_word(token, "substring"):
+            return False
+        if is_word(token, "among"):
+            return True
+    return False
+
+
 SEARCHES = {
     9: declared_twice,
     10: undeclared,
@@ -189,6 +210,7 @@ SEARCHES = {
     12: defined_twice,
     13: undefined,
     14: wrong_mode,
+    15: lone_substring,
     17: repeated_string,
     18: empty_among,
     19: nested_backwards,

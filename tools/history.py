@@ -1,0 +1,115 @@
+"""What `undo` and `redo` concern, as the program remembers it, and which files have the edits that were typed."""
+import hashlib
+import os
+
+from near import listed
+
+# How many edits `undo` and `redo` hold together.
+MOST = 100
+# The commands that type a part of the script or all of it, and those that make an edit besides.
+TYPED = "routine among grouping replace".split()
+EDITS = TYPED + "limit reload undo redo".split()
+
+
+class Edit:
+    """An accepted edit: its command, the script and the limit before and after, and the files that were written with it."""
+
+    def __init__(self, command, before, after):
+        self.command, self.before, self.after, self.files = command, before, after, set()
+        self.word, _, self.argument = command.partition(" ")
+
+    def name(self):
+        """Returns the name of the part that was typed, or nothing for a whole script."""
+        return self.argument.partition(" ")[0]
+
+
+class History:
+    """The edits in the program's order. A script is known by a checksum of its canonical lines."""
+
+    def __init__(self, script_file, lines):
+        self.script_file = os.path.realpath(script_file)
+        self.past, self.future, self.limit = [], [], "100000"
+        self.script = digest(lines)
+        # How many edits there were when the file was read last, and whether an edit was made after these were undone.
+        self.read_at, self.has_parted = 0, False
+
+    def note(self, command, lines):
+        """Notes an accepted command of EDITS, after which the script has these lines. Returns the edit that it undid or redid."""
+        before, word = (self.script, self.limit), command.partition(" ")[0]
+        self.script = digest(lines)
+        if word in ("undo", "redo"):
+            return self.turn(is_undo=word == "undo")
+        if word == "limit":
+            self.limit = command.partition(" ")[2].lstrip("0")
+        after = (self.script, self.limit)
+        if after != before:
+            self.remember(Edit(command, before, after))
+        return None
+
+    def remember(self, edit):
+        self.has_parted = self.has_parted or len(self.past) < self.read_at
+        self.future = []
+        self.past.append(edit)
+        if len(self.past) > MOST:
+            self.past.pop(0)
+            self.read_at = max(0, self.read_at - 1)
+
+    def turn(self, is_undo):
+        """Moves the edit that was undone or redone, and returns it. If it is not the one that is expected, all edits are forgotten."""
+        taken, given = (self.past, self.future) if is_undo else (self.future, self.past)
+        edit = taken.pop() if taken else None
+        state = edit and (edit.before if is_undo else edit.after)
+        if not edit or state[0] != self.script:
+            self.past, self.future, self.read_at = [], [], 0
+            return None
+        given.append(edit)
+        self.limit = state[1]
+        return edit
+
+    def typed(self):
+        """Returns the typed edits in force: those after the file was read last."""
+        edits = []
+        for edit in self.past:
+            if edit.word in ("reload", "replace"):
+                edits = []
+            if edit.word in TYPED:
+                edits.append(edit)
+        return edits
+
+    def unsaved(self):
+        """Returns the typed edits in force that no file has."""
+        return [edit for edit in self.typed() if not edit.files]
+
+    def note_read(self, is_same, is_new):
+        """Notes that the file was read: whether it has the script in force before, and whether it has new bytes."""
+        for edit in self.past:
+            if is_same:
+                edit.files.add(self.script_file)
+            else:
+                edit.files.discard(self.script_file)
+        if is_new:
+            self.read_at, self.has_parted = len(self.past), False
+
+    def note_saved(self, path):
+        """Notes that the script in force was written to a file."""
+        for edit in self.past:
+            edit.files.add(os.path.realpath(path))
+        for edit in self.future:
+            edit.files.discard(os.path.realpath(path))
+        if self.is_older() and os.path.realpath(path) == self.script_file:
+            self.read_at, self.has_parted = 0, False
+
+    def is_older(self):
+        """Whether `undo` took back what was read from the file last."""
+        return self.has_parted or len(self.past) < self.read_at
+
+
+def digest(lines):
+    return hashlib.sha256("\n".join(lines).encode("utf-8", "surrogateescape")).digest()
+
+
+def put_aside(names):
+    """Returns the sentence on typed parts that reading the file has put aside."""
+    shown = [name or "the whole script" for name in names[:4]] + (["%d more" % (len(names) - 4)] if len(names) > 4 else [])
+    edits, them = ("edit", "it") if len(names) == 1 else ("edits", "them")
+    return "Your %s of %s %s put aside: undo brings %s back." % (edits, listed(shown, "and"), "was" if len(names) == 1 else "were", them)
