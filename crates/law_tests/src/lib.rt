@@ -16,6 +16,7 @@ pub mod machine_searches;
 pub mod machine_sound;
 pub mod machine_why;
 pub mod numbering_laws;
+pub mod places_laws;
 pub mod script_only_the_item;
 pub mod tables_laws;
 pub mod text_laws;

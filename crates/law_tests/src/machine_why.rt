@@ -3,7 +3,7 @@
 ghost use Rattle.std.specs.Prelude.{◌≡◌, ℕ, List, []};
 ghost use Rattle.std.specs.List.{filter};
 ghost use Rattle.sbl_machine.specs.Meaning.{ending_with_events};
-ghost use Rattle.sbl_machine.specs.Outcome.{Stem, outcome_at, run_of, touched_at, touches_of, used_at, used_of};
+ghost use Rattle.sbl_machine.specs.Outcome.{Stem, integers_at, integers_of, outcome_at, run_of, touched_at, touches_of, used_at, used_of};
 ghost use Rattle.sbl_script.specs.Parsed.{Source};
 ghost use Rattle.sbl_machine.specs.Why.{events_of, text_after, touches_after, is_no_test};
 
@@ -14,6 +14,7 @@ pub fn needs_events_change_nothing()
     ensures outcome { (script : Source) (word : List ℕ) (limit : ℕ) → outcome_at (ending_with_events script word limit) ≡ run_of script word limit }
     ensures used { (script : Source) (word : List ℕ) (limit : ℕ) → used_at limit (ending_with_events script word limit) ≡ used_of script word limit }
     ensures touches { (script : Source) (word : List ℕ) (limit : ℕ) → touched_at (ending_with_events script word limit) ≡ touches_of script word limit }
+    ensures integers { (script : Source) (word : List ℕ) (limit : ℕ) → integers_at (ending_with_events script word limit) ≡ integers_of script word limit }
 {
     events_change_nothing();
 }

@@ -1,0 +1,38 @@
+//! Laws of sbl_places (specs/FaultPlaces.antt), written out.
+
+ghost use Rattle.std.specs.Prelude.{◌≡◌, ℕ, true, List};
+ghost use Rattle.sbl_checks.specs.Occurrences.{occurrences_of};
+ghost use Rattle.sbl_checks.specs.Subjects.{subjects_of};
+ghost use Rattle.sbl_grammar.specs.Reading.{IsReadAs};
+ghost use Rattle.sbl_places.specs.FaultPlaces.{IsFaultAt, is_of_token};
+ghost use Rattle.sbl_places.specs.SubjectTokens.{SubjectToken, subject_tokens, subjects};
+ghost use Rattle.sbl_script.specs.Reading.{IsFaultOf, terminals};
+ghost use Rattle.sbl_text.specs.Tokens.{Placed};
+ghost use Rattle.sbl_text.specs.declared.fault.ScriptFault.{ScriptFault as AnyFault};
+ghost use Rattle.sbl_tree.specs.Texts.{script};
+ghost use Rattle.sbl_tree.specs.Tree.{Item};
+
+use sbl_places::laws::{faults_are_at_tokens, subjects_are_tokens, token_is_one};
+
+/// Needs the whole of the law `subjects_are_tokens`.
+pub fn needs_subjects_are_tokens()
+    ensures { (ts : List Placed) (items : List Item) → IsReadAs script (terminals ts) items → subjects (subject_tokens ts) ≡ subjects_of (occurrences_of items) }
+{
+    subjects_are_tokens();
+}
+
+/// Needs the whole of the law `token_is_one`.
+pub fn needs_token_is_one()
+    ensures subject { (bytes : List ℕ) (f : AnyFault) (t : SubjectToken) (is : IsFaultAt bytes f t) → t.subject ≡ is.first.subject }
+    ensures one { (bytes : List ℕ) (f g : AnyFault) (t u : SubjectToken) → IsFaultAt bytes f t → IsFaultAt bytes g u → (f ≡ g) × (t ≡ u) }
+{
+    token_is_one();
+}
+
+/// Needs the whole of the law `faults_are_at_tokens`.
+pub fn needs_faults_are_at_tokens()
+    ensures fault { (bytes external : List ℕ) (f : AnyFault) (t : SubjectToken) → IsFaultAt bytes f t → (is_of_token f ≡ true) × IsFaultOf bytes external f }
+    ensures token { (bytes external : List ℕ) (f : AnyFault) → is_of_token f ≡ true → IsFaultOf bytes external f → (t : SubjectToken) × IsFaultAt bytes f t }
+{
+    faults_are_at_tokens();
+}
