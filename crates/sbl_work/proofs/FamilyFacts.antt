@@ -27,7 +27,6 @@ word_last ws (c ∷ w) parts = rw (append-nil w) (sym (append_assoc ws ((c ∷ w
 word_only : (ws : List (List ℕ)) (w : List ℕ) → ws ++ words_from w [] ≡ with_word ws w
 word_only ws w = word_last ws w [] ∙ append-nil (with_word ws w)
 
-
 -- a word that has no part yet
 unbegun : (parts : List (List ℕ)) → filter has_some (begun [] parts) ≡ filter has_some parts
 unbegun [] = refl

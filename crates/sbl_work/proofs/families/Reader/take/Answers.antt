@@ -25,9 +25,10 @@ returns-then-character-eq32 c =
     let r : Reader = c.args.self.now in
     let other : is_feed c.args.character ≡ false = search rules in
     let separates : is_separator c.args.character ≡ true = elim c.then-character-eq32.branch [
-        then-character-eq32-via-then-character-eq32 w ↦ search rules
+      | then-character-eq32-via-then-character-eq32 w ↦ search rules
       | then-character-eq32-via-else-character-eq32+then-character-eq9 w ↦ search rules
-      | then-character-eq32-via-else-character-eq32+else-character-eq9+then-character-eq44 w ↦ search rules ] in
+      | then-character-eq32-via-else-character-eq32+else-character-eq9+then-character-eq44 w ↦ search rules
+    ] in
     on_ok c.end_word.result c.end_word.ensures.families c.end_word.ensures.family c.end_word.ensures.word
     (λ a b d text. rw (a, b, d) (sym (read_separator (families_read r.families.items) (words_read r.family.items) r.word.items c.args.character text other separates)))
 
