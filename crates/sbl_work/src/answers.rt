@@ -21,7 +21,7 @@ use std::alloc::{AllocError, Global};
 
 /// Returns the reply to `reload`.
 fn reload(desk: &mut Desk, bench: &mut Bench, file: Option<&[u8]>) -> Reply
-    ensures { IsWorkAnswer (contents_of bench.old) (state_of desk.old) (spec.with_file spec.EditWhole (view_file file)) result (contents_of bench.new) (state_of desk.new) }
+    ensures { IsWorkAnswer (contents_of bench.old) (state_of desk.old) (spec.with_file spec.EditWhole (view_file file.entry)) result (contents_of bench.new) (state_of desk.new) }
 {
     match file {
         Some(bytes) => edit_reply(desk.replace(bench, bytes)),
@@ -76,7 +76,7 @@ fn largest(alloc: Global, bench: &Bench, argument: &str) -> Reply
 
 /// Returns the reply to `families` for a file.
 fn families(alloc: Global, bench: &Bench, file: Option<&[u8]>) -> Reply
-    ensures { (d : State) → IsWorkAnswer (contents_of bench.now) d (spec.with_file spec.families_in_file (view_file file)) result (contents_of bench.now) d }
+    ensures { (d : State) → IsWorkAnswer (contents_of bench.now) d (spec.with_file spec.families_in_file (view_file file.entry)) result (contents_of bench.now) d }
 {
     let Some(bytes) = file else {
         return Reply::Fixed(NO_FILE);
@@ -107,7 +107,7 @@ fn show(alloc: Global, bench: &Bench, name: &str) -> Reply
 
 /// Returns the reply to `save`.
 fn saved(bench: &Bench, file: Option<&[u8]>) -> Reply
-    ensures { (d : State) → IsWorkAnswer (contents_of bench.now) d (spec.with_file (λ bytes. spec.Saved) (view_file file)) result (contents_of bench.now) d }
+    ensures { (d : State) → IsWorkAnswer (contents_of bench.now) d (spec.with_file (λ bytes. spec.Saved) (view_file file.entry)) result (contents_of bench.now) d }
 {
     match file {
         Some(_) => edit_reply(Ok(())),
@@ -145,7 +145,7 @@ pub fn answer_line(
     line: &[u8],
     file: Option<&[u8]>,
 ) -> Reply
-    ensures { IsWorkAnswer (contents_of bench.old) (state_of desk.old) (spec.alone_command (view_file file) line.now) result (contents_of bench.new) (state_of desk.new) }
+    ensures { IsWorkAnswer (contents_of bench.old) (state_of desk.old) (spec.alone_command (view_file file.entry) line.now) result (contents_of bench.new) (state_of desk.new) }
 {
     match request_of(line) {
         Request::Comment => Reply::Fixed(""),
