@@ -4,6 +4,7 @@
 use clap::error::ErrorKind;
 use sbl_work::{Paths, work};
 use snowbench::{Device, Face, Lines, Sink, Source, Verb, Wanted, read_words, run};
+use std::hash::RandomState;
 use std::io;
 use std::io::IsTerminal;
 use std::process::ExitCode;
@@ -17,6 +18,9 @@ const NO_MEMORY: &str = "snowbench: 49 OutOfMemory";
 /// The text that is printed if a word of the command line is not UTF-8.
 const NOT_UTF8: &str = "error: a word of the command line is not UTF-8";
 
+/// The text that is printed if the system gives no random numbers.
+const NO_KEYS: &str = "error: the system gives no random numbers";
+
 fn main(rt: HostRuntime) -> io::Result<ExitCode> {
     let words = match words_of(&rt) {
         Ok(words) => words,
@@ -28,12 +32,16 @@ fn main(rt: HostRuntime) -> io::Result<ExitCode> {
                 let _ = eprintln!(rt; "{NO_MEMORY}");
                 return Ok(ExitCode::FAILURE);
             };
+            let Ok(keys) = RandomState::new(&rt) else {
+                let _ = eprintln!(rt; "{NO_KEYS}");
+                return Ok(ExitCode::FAILURE);
+            };
             let mut writer = Device::new(rt.stdout());
             let mut errors = Device::new(rt.stderr());
             let status = if wanted.verb == Verb::Work {
-                start_work(&rt, wanted, &mut lines, &mut writer, &mut errors)
+                start_work(&rt, keys, wanted, &mut lines, &mut writer, &mut errors)
             } else {
-                run(&wanted, &mut lines, &mut writer, &mut errors)
+                run(&wanted, keys, &mut lines, &mut writer, &mut errors)
             };
             Ok(ExitCode::from(status))
         }
@@ -67,6 +75,7 @@ fn refuse_words(rt: &HostRuntime, error: &io::Error) -> ExitCode {
 /// input and output are a terminal.
 fn start_work<R: Source + Drop, W: Sink, E: Sink>(
     rt: &HostRuntime,
+    keys: RandomState,
     wanted: Wanted,
     lines: &mut Lines<R>,
     writer: &mut W,
@@ -89,5 +98,5 @@ fn start_work<R: Source + Drop, W: Sink, E: Sink>(
     };
     let is_terminal = rt.stdin().is_terminal() && rt.stdout().is_terminal();
     let prompts = is_terminal && face != Some(Face::Rows);
-    work(rt, &paths, prompts, lines, writer, errors)
+    work(rt, keys, &paths, prompts, lines, writer, errors)
 }
