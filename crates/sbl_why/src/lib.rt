@@ -1,9 +1,11 @@
 //! The rows that tell why a word has its stem.
 #![tactic(auto)]
 
+mod integers;
 pub mod laws;
 mod moment;
 mod rows;
 mod text;
 
+pub use integers::integers_text;
 pub use text::why_text;
