@@ -27,24 +27,7 @@ fn main(rt: HostRuntime) -> io::Result<ExitCode> {
         Err(error) => return Ok(refuse_words(&rt, &error)),
     };
     match read_words(rt.alloc(), &words) {
-        Ok(wanted) => {
-            let Ok(mut lines) = Lines::new(rt.alloc(), Device::new(rt.stdin())) else {
-                let _ = eprintln!(rt; "{NO_MEMORY}");
-                return Ok(ExitCode::FAILURE);
-            };
-            let Ok(keys) = RandomState::new(&rt) else {
-                let _ = eprintln!(rt; "{NO_KEYS}");
-                return Ok(ExitCode::FAILURE);
-            };
-            let mut writer = Device::new(rt.stdout());
-            let mut errors = Device::new(rt.stderr());
-            let status = if wanted.verb == Verb::Work {
-                start_work(&rt, keys, wanted, &mut lines, &mut writer, &mut errors)
-            } else {
-                run(&wanted, keys, &mut lines, &mut writer, &mut errors)
-            };
-            Ok(ExitCode::from(status))
-        }
+        Ok(wanted) => Ok(start(&rt, wanted)),
         Err(error) if error.kind() == ErrorKind::OutOfMemory => {
             let _ = eprintln!(rt; "{NO_MEMORY}");
             Ok(ExitCode::FAILURE)
@@ -54,6 +37,27 @@ fn main(rt: HostRuntime) -> io::Result<ExitCode> {
             Ok(ExitCode::from(REFUSED))
         }
     }
+}
+
+/// Does what the command line asks for, and returns the exit status. The keys of the hash by which words are found come from the
+/// system, so that nobody who chooses the words knows them.
+fn start(rt: &HostRuntime, wanted: Wanted) -> ExitCode {
+    let Ok(mut lines) = Lines::new(rt.alloc(), Device::new(rt.stdin())) else {
+        let _ = eprintln!(rt; "{NO_MEMORY}");
+        return ExitCode::FAILURE;
+    };
+    let Ok(keys) = RandomState::new(rt) else {
+        let _ = eprintln!(rt; "{NO_KEYS}");
+        return ExitCode::FAILURE;
+    };
+    let mut writer = Device::new(rt.stdout());
+    let mut errors = Device::new(rt.stderr());
+    let status = if wanted.verb == Verb::Work {
+        start_work(rt, keys, wanted, &mut lines, &mut writer, &mut errors)
+    } else {
+        run(&wanted, keys, &mut lines, &mut writer, &mut errors)
+    };
+    ExitCode::from(status)
 }
 
 /// Returns the words of the command line. Returns `OutOfMemory` if an allocation fails, and `InvalidData` if a word is not UTF-8.
