@@ -6,4 +6,5 @@ mod moment;
 mod rows;
 mod text;
 
+pub use moment::Moment;
 pub use text::why_text;
