@@ -70,7 +70,7 @@ class Desk:
         if lines[0] in LAYOUTS and not refusal:
             answer = LAYOUTS[lines[0]](answer, is_save)
         elif lines[0].startswith("why ") and not refusal:
-            answer = lay_out_why(answer, lines[0][4:])
+            answer = lay_out_why(answer, lines[0][4:], self.query(["integers " + lines[0][4:]]))
         write(answer)
         if refusal:
             say(self.advice.lines(int(refusal[1]), refusal[2], lines))

@@ -4,8 +4,9 @@ import csv
 from plain import named
 
 
-def lay_out_why(answer, word):
-    """Returns a line for each row of `why WORD` that took a string, asked a routine or changed the text, and one for the outcome."""
+def lay_out_why(answer, word, figures):
+    """Returns a line for each row of `why WORD` that took a string, asked a routine or changed the text, and one for the outcome, with
+    the steps and the values of the integer variables, which are the rows `figures` of `integers WORD`."""
     rows = list(csv.reader(answer))
     text, lines, calls = word, [], []
     for row in rows:
@@ -29,9 +30,17 @@ def lay_out_why(answer, word):
         elif kind == "more":
             lines.append(("..", "%s more events" % row[1]))
         else:
-            lines.append((kind, named(row[1])))
+            lines.append((kind, "%s   %s" % (named(row[1]) or "''", lay_out_figures(figures))))
     column = max(len(name) for name, _ in lines)
     return ["  %-*s  %s" % (column, name, what) for name, what in lines]
+
+
+def lay_out_figures(figures):
+    """Returns the steps of a run, and the names and values of the integer variables at its end."""
+    rows = list(csv.reader(figures))
+    steps = "%s step%s" % (rows[0][1], "" if rows[0][1] == "1" else "s")
+    values = " ".join("%s=%s" % (name, value) for _, name, value in rows[1:])
+    return "%s, %s" % (steps, values) if values else steps
 
 
 def quoted(text):

@@ -4,7 +4,7 @@ use Rattle.sbl_bench.specs.Setting.{Setting}
 use Rattle.sbl_bench.specs.declared.fault.EditFault.{EditFault}
 use Rattle.sbl_bench.specs.declared.fault.EditFault.TheVariants as fault
 use Rattle.sbl_machine.specs.declared.outcome.Why.{Why}
-use Rattle.sbl_machine.specs.Outcome.{outcome_of, run_of, used_of}
+use Rattle.sbl_machine.specs.Outcome.{integers_of, outcome_of, run_of, used_of}
 use Rattle.sbl_machine.specs.Touched.{names_of}
 use Rattle.sbl_machine.specs.Why.{events_of}
 use Rattle.sbl_run.specs.Events.{event_of}
@@ -15,11 +15,12 @@ abbrev pub refusal_of_why : List ℕ → Option EditFault
 refusal_of_why [] = Some fault.EmptyWord
 refusal_of_why word = if nat_lt max_word_length (length word) then Some fault.WordTooLong else None
 
--- the outcome, the events and the number of steps of a fresh run of a word
+-- the outcome, the events and the number of steps of a fresh run of a word, and the integer variables at its end
 pub record IsWhy (s : Setting) (word : List ℕ) (why : Why) : Type 0 where
   pub outcome : outcome_of why.outcome ≡ run_of s.script word s.limit
   pub events : map event_of why.events.items ≡ events_of s.script word s.limit
   pub used : why.used ≡ used_of s.script word s.limit
+  pub integers : why.integers.items ≡ integers_of s.script word s.limit
 
 -- the name of the routine with this number, in the order of the definitions; empty if there is none
 abbrev pub routine_name : Setting → ℕ → List ℕ

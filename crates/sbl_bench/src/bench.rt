@@ -121,7 +121,8 @@ impl Bench {
     }
 
     /// Runs the script on a word under the limit, whether the word is in the vocabulary or not, and returns the outcome, the
-    /// events and the number of steps of the run. Routines and amongs have numbers in the events; `routine_name` has the names.
+    /// events and the number of steps of the run, and the values of the integer variables at its end. Routines and amongs have
+    /// numbers in the events; `routine_name` has the names. Integers are in the order of their declarations.
     /// The run does not count among the runs of the bench.
     ///
     /// Returns `EmptyWord` if the word has no character, and `WordTooLong` if it has more than 255, both without an allocation,

@@ -2,7 +2,7 @@
 use Rattle.std.proofs.Common.{◌≡◌, ℕ, suc, ◌+◌, ◌-◌, ◌<◌, List, [], Some, refl, sym, ap, subst, ◌∙◌, arith}
 use Rattle.sbl_run.specs.declared.fault.RunFault.TheVariants as faults
 use Rattle.sbl_machine.specs.Meaning as meaning
-use Rattle.sbl_machine.specs.Outcome.{outcome_at, touched_at, used_at, run_of, touches_of, used_of}
+use Rattle.sbl_machine.specs.Outcome.{integers_at, integers_of, outcome_at, touched_at, used_at, run_of, touches_of, used_of}
 use Rattle.sbl_machine.specs.Why.{EventsChangeNothing}
 use Rattle.sbl_run.specs.State.{State, Ending, Signals, Stops}
 use Rattle.sbl_machine.proofs.Steps.{Goes}
@@ -27,13 +27,13 @@ recording_goes script word limit =
 counted : (l : ℕ) (s : State) → l - (s.steps + 0) ≡ l - s.steps
 counted l s = omega arith
 
-alike : (l : ℕ) (e e' : Ending) → Goes 0 (suc l) e e' → (outcome_at e ≡ outcome_at e') × (used_at l e ≡ used_at l e') × (touched_at e ≡ touched_at e')
-alike l (Signals b s) e' h = (sym (ap outcome_at h.1), sym (ap (used_at l) h.1 ∙ counted l s), sym (ap touched_at h.1))
-alike l (Stops faults.Steps s) e' h = let same = h.0 refl in (sym (ap outcome_at same), sym (ap (used_at l) same), sym (ap touched_at same))
-alike l (Stops fault s) e' h = (sym (ap outcome_at h.1), sym (ap (used_at l) h.1 ∙ counted l s), sym (ap touched_at h.1))
+alike : (l : ℕ) (e e' : Ending) → Goes 0 (suc l) e e' → (outcome_at e ≡ outcome_at e') × (used_at l e ≡ used_at l e') × (touched_at e ≡ touched_at e') × (integers_at e ≡ integers_at e')
+alike l (Signals b s) e' h = (sym (ap outcome_at h.1), sym (ap (used_at l) h.1 ∙ counted l s), sym (ap touched_at h.1), sym (ap integers_at h.1))
+alike l (Stops faults.Steps s) e' h = let same = h.0 refl in (sym (ap outcome_at same), sym (ap (used_at l) same), sym (ap touched_at same), sym (ap integers_at same))
+alike l (Stops fault s) e' h = (sym (ap outcome_at h.1), sym (ap (used_at l) h.1 ∙ counted l s), sym (ap touched_at h.1), sym (ap integers_at h.1))
 
 pub events_change_nothing : EventsChangeNothing
-unfolding run_of used_of touches_of
+unfolding run_of used_of touches_of integers_of
 events_change_nothing script word limit =
     let h = alike limit (meaning.ending_with_events script word limit) (meaning.ending script word limit) (recording_goes script word limit) in
-    record { outcome = h.0; used = h.1; touches = h.2 }
+    record { outcome = h.0; used = h.1; touches = h.2; integers = h.3 }

@@ -1,5 +1,5 @@
 -- The outcome of a run on a word, and the steps that it uses.
-use Rattle.std.specs.Prelude.{ℕ, ◌+◌, ◌-◌, List}
+use Rattle.std.specs.Prelude.{ℕ, ℤ, ◌+◌, ◌-◌, List}
 use Rattle.sbl_run.specs.declared.fault.RunFault.{RunFault}
 use Rattle.sbl_run.specs.declared.fault.RunFault.TheVariants as faults
 use Rattle.sbl_machine.specs.declared.outcome.Outcome.{Outcome}
@@ -35,6 +35,11 @@ abbrev pub touched_at : Ending → List Touch
 touched_at (Signals b s) = s.touched
 touched_at (Stops fault s) = s.touched
 
+-- the values of the integer variables at the end of the run, by number
+abbrev pub integers_at : Ending → List ℤ
+integers_at (Signals b s) = s.integers
+integers_at (Stops fault s) = s.integers
+
 -- the outcome of a run of a script on a word, with this limit of steps
 unfoldable pub run_of : Source → List ℕ → ℕ → Outcome'
 run_of script word limit = outcome_at (ending script word limit)
@@ -45,3 +50,7 @@ used_of script word limit = used_at limit (ending script word limit)
 -- what this run touches, by number
 unfoldable pub touches_of : Source → List ℕ → ℕ → List Touch
 touches_of script word limit = touched_at (ending script word limit)
+
+-- the values of the integer variables at the end of this run, by number
+unfoldable pub integers_of : Source → List ℕ → ℕ → List ℤ
+integers_of script word limit = integers_at (ending script word limit)

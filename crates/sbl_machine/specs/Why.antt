@@ -2,7 +2,7 @@
 use Rattle.std.specs.Prelude.{◌≡◌, ℕ, Bool, true, false, List, [], ◌∷◌, Option, Some, None}
 use Rattle.std.specs.List.{filter, splice}
 use Rattle.sbl_machine.specs.Meaning.{ending_with_events}
-use Rattle.sbl_machine.specs.Outcome.{Outcome', Stem, outcome_at, touched_at, used_at, run_of, touches_of, used_of}
+use Rattle.sbl_machine.specs.Outcome.{Outcome', Stem, integers_at, integers_of, outcome_at, touched_at, used_at, run_of, touches_of, used_of}
 use Rattle.sbl_run.specs.Events.{Event', Enters, Searches, Puts}
 use Rattle.sbl_run.specs.State.{Ending, Signals, Stops}
 use Rattle.sbl_run.specs.Touches.{with_touch}
@@ -22,12 +22,13 @@ events_at (Stops fault s) = events_in s.events
 unfoldable pub events_of : Source → List ℕ → ℕ → List Event'
 events_of script word limit = events_at (ending_with_events script word limit)
 
--- a run that records its events gives the same outcome, uses the same number of steps and touches the same as the run
--- that does not
+-- a run that records its events gives the same outcome, uses the same number of steps, touches the same and leaves the
+-- same in the integer variables as the run that does not
 pub record ChangesNothing (script : Source) (word : List ℕ) (limit : ℕ) : Type 0 where
   pub outcome : outcome_at (ending_with_events script word limit) ≡ run_of script word limit
   pub used : used_at limit (ending_with_events script word limit) ≡ used_of script word limit
   pub touches : touched_at (ending_with_events script word limit) ≡ touches_of script word limit
+  pub integers : integers_at (ending_with_events script word limit) ≡ integers_of script word limit
 
 abbrev pub EventsChangeNothing : Type 0
 EventsChangeNothing = (script : Source) (word : List ℕ) (limit : ℕ) → ChangesNothing script word limit

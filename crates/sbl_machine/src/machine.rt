@@ -6,7 +6,7 @@ ghost use Rattle.sbl_run.specs.Kept.{Follows};
 ghost use Rattle.sbl_run.specs.Start.{max_word_length};
 ghost use Rattle.sbl_machine.specs.MachineOf.{IsMachineOf};
 ghost use Rattle.sbl_machine.specs.Marks.{AreMarksOf, has_item};
-ghost use Rattle.sbl_machine.specs.Outcome.{outcome_at, outcome_of, run_of, touched_at, touches_of, used_at, used_of};
+ghost use Rattle.sbl_machine.specs.Outcome.{integers_at, integers_of, outcome_at, outcome_of, run_of, touched_at, touches_of, used_at, used_of};
 ghost use Rattle.sbl_machine.specs.Touched.{item_of, items_in, items_of, named, names_of, same_item, touched_of};
 ghost use Rattle.sbl_script.specs.Parsed.{Source, source_of};
 ghost use Rattle.sbl_run.specs.State.{Ending};
@@ -117,7 +117,8 @@ impl<S: AmongSearch> Machine<S> {
         Ok(traced)
     }
 
-    /// Runs the script on a word with at most `limit` steps, and returns the events of the run, too.
+    /// Runs the script on a word with at most `limit` steps, and returns the events of the run and the values of the integer
+    /// variables at its end, too.
     ///
     /// Returns `AllocError` if an allocation fails.
     pub fn why(&self, alloc: Global, word: &[char], limit: u32) -> Result<Why, AllocError>
@@ -125,6 +126,7 @@ impl<S: AmongSearch> Machine<S> {
         ensures outcome { (script : Source) → IsMachineOf S S.entries S.mode self.now script → IfOk result (λ why. outcome_of why.outcome ≡ run_of script word.now limit) }
         ensures events { (script : Source) → IsMachineOf S S.entries S.mode self.now script → IfOk result (λ why. map event_of why.events.items ≡ events_of script word.now limit) }
         ensures used { (script : Source) → IsMachineOf S S.entries S.mode self.now script → IfOk result (λ why. why.used ≡ used_of script word.now limit) }
+        ensures integers { (script : Source) → IsMachineOf S S.entries S.mode self.now script → IfOk result (λ why. why.integers.items ≡ integers_of script word.now limit) }
     {
         let mut state = State::new(alloc);
         state.restart(&self.program, word, limit)?;
@@ -137,9 +139,11 @@ impl<S: AmongSearch> Machine<S> {
         };
         let end = runner.run_call(self.program.external, &mut state);
         let traced = ended(alloc, end, limit, &state)?;
+        let integers = state.integers().to_vec(alloc)?;
         Ok(Why {
             outcome: traced.outcome,
             events: events_or_none(alloc, state.take_events()),
+            integers,
             used: traced.used,
         })
     }
@@ -271,6 +275,7 @@ fn ended(
     ensures touches { (e : Ending) → Follows end state.now e → IfOk result (λ traced. traced.touches.items ≡ touched_at e) }
     ensures used { (e : Ending) → Follows end state.now e → IfOk result (λ traced. traced.used ≡ used_at limit e) }
     ensures events { (e : Ending) → Follows end state.now e → IfOk result (λ _. events_in state.now.events ≡ events_at e) }
+    ensures integers { (e : Ending) → Follows end state.now e → IfOk result (λ _. state.now.integers ≡ integers_at e) }
 {
     let paid = u64::from(limit.saturating_sub(state.steps()));
     let touches = state.touches().to_vec(alloc)?;

@@ -40,8 +40,10 @@ pub struct Traced {
 pub struct Why {
     /// The stem, or why there is none.
     pub outcome: Outcome,
-    /// The events of the run, in order, up to its end or to where it was refused.
+    /// The events of the run, in order, up to its end or to the point of its refusal.
     pub events: Vec<Event>,
+    /// The values of the integer variables at that point, in the order of their declarations.
+    pub integers: Vec<i32>,
     /// The number of steps used; `limit` + 1 if the run was refused for its steps.
     pub used: u64,
 }

@@ -200,6 +200,13 @@ impl State {
         self.characters(term).to_vec(alloc)
     }
 
+    /// Returns the values of the integer variables, by number. Does not allocate.
+    pub fn integers(&self) -> &[i32]
+        ensures { result.now ≡ self.now.integers }
+    {
+        &self.integers
+    }
+
     /// Returns the number of steps that are left.
     pub fn steps(&self) -> u32
         ensures { result ≡ self.now.steps }

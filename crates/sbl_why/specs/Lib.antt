@@ -1,6 +1,7 @@
 -- definitions that public contracts depend on
 pub mod Moments
 pub mod Rows
+pub mod Integers
 pub mod RoutineAmongs
 pub mod Searches
 -- definitions that functions inside the crate promise each other

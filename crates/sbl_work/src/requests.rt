@@ -23,6 +23,8 @@ pub(crate) enum Request<'a> {
     Families(&'a str),
     /// Reports why a word has its stem.
     Why(&'a str),
+    /// Reports the steps of a run of a word and the integer variables at its end.
+    Integers(&'a str),
     /// Reports a definition.
     Show(&'a str),
     /// Writes the script to a file.
@@ -99,6 +101,7 @@ fn text_request(line: &str) -> Request<'_> {
         "largest" => Request::Largest(argument),
         "families" => Request::Families(argument),
         "why" | "events" => Request::Why(argument),
+        "integers" => Request::Integers(argument),
         "show" => Request::Show(argument),
         "save" => Request::Save(argument),
         _ => Request::Session,

@@ -12,7 +12,7 @@ use crate::parts::{answer_families, answer_part, answer_replace, families_reply}
 use crate::replies::{BAD_NUMBER, NO_FILE, edit_reply, memory_reply, redo_reply, undo_reply};
 use crate::reports::{changes_text, largest_text, stats_text};
 use crate::requests::{Request, asks_families, asks_replace, count_in, is_quit, request_of};
-use crate::whys::why_reply;
+use crate::whys::{integers_reply, why_reply};
 use sbl_bench::{Bench, EditFault};
 use sbl_lines::{Lines, ServeFault, Sink, Source, write_all};
 use sbl_sessions::{LoadFault, Reply, block_word, report, write_reply};
@@ -84,10 +84,11 @@ fn families<F: Files + AllocGlobal>(folder: &Folder<'_, F>, bench: &Bench, path:
     }
 }
 
-/// Returns the reply to `why`.
-fn why(alloc: Global, bench: &Bench, word: &str) -> Reply {
+/// Returns the reply to `why` or `integers`.
+fn why(alloc: Global, bench: &Bench, word: &str, asks_integers: bool) -> Reply {
     let characters: Result<Vec<char>, AllocError> = word.chars().collect(alloc);
     match characters {
+        Ok(characters) if asks_integers => integers_reply(alloc, bench, &characters),
         Ok(characters) => why_reply(alloc, bench, &characters),
         Err(refused) => report(Err(refused)),
     }
@@ -127,7 +128,8 @@ fn answer_alone<F: Files + AllocGlobal>(
         Request::Stats => report(stats_text(alloc, bench)),
         Request::Largest(argument) => largest(alloc, bench, argument),
         Request::Families(path) => families(folder, bench, path),
-        Request::Why(word) => why(alloc, bench, word),
+        Request::Why(word) => why(alloc, bench, word, false),
+        Request::Integers(word) => why(alloc, bench, word, true),
         Request::Show(name) => show(alloc, bench, name),
         Request::Save(path) => save_as(folder, desk, bench, path),
         Request::Echo(text) => report(echo_text(alloc, text)),
