@@ -5,7 +5,7 @@ use Rattle.sbl_amongs.specs.Amongs.{Held, amongs, amongs_of_body, amongs_of_grou
 use Rattle.sbl_tree.specs.Tree.{Command, bracket, simple_, literal_, name_, non_, prefixed, counted, move_, named, splice_, setlimit_, assign_, compare_, compare_values_, among_, Rows, no_rows, row, Others, no_others, joined, Starter, no_starter, starter, Groups, bare, group}
 use Rattle.sbl_tree.specs.View.{RowView}
 use Rattle.sbl_unused.specs.Parts.{groups_held}
-use Rattle.sbl_unused.specs.Views.{gathered, gathered_groups, gathered_others, gathered_rows, gathered_starter}
+use Rattle.sbl_unused.specs.Gathered.{gathered, gathered_groups, gathered_others, gathered_rows, gathered_starter}
 
 mutual
   in_command : (c : Command) (d : ℕ) (sofar : List Groups) (rest : List Held) → gathered c sofar ++ groups_held rest ≡ sofar ++ groups_held (amongs c d rest)

@@ -1,1 +1,6 @@
 pub mod Gathering
+pub mod Sets
+pub mod PartFacts
+pub mod Bases
+pub mod RowWords
+pub mod Lines

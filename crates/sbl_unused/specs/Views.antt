@@ -1,9 +1,18 @@
 -- What the code's values stand for.
-use Rattle.std.specs.Prelude.{ℕ, List, [], ◌∷◌, ◌++◌, map}
+use Rattle.std.specs.Prelude.{◌≡◌, ℕ, Bool, ◌&&◌, ◌||◌, List, map}
 use Rattle.std.specs.Borrow.{Bor}
-use Rattle.sbl_tree.specs.Tree.{Command, bracket, simple_, literal_, name_, non_, prefixed, counted, move_, named, splice_, setlimit_, assign_, compare_, compare_values_, among_, Rows, no_rows, row, Others, no_others, joined, Starter, no_starter, starter, Groups, bare, group}
+use Rattle.std.specs.BTreeSet.{BTreeSet}
+use Rattle.std.specs.Global.{Vec}
+use Rattle.std.specs.List.{list_any}
+use Rattle.sbl_bench.specs.Setting.{Setting}
+use Rattle.sbl_machine.specs.BuiltFrom.{built_on}
+use Rattle.sbl_machine.specs.Touched.{Item', Grouping, item_of, items_in, same_item}
+use Rattle.sbl_machine.specs.declared.item.Item.{Item}
+use Rattle.sbl_tree.specs.Tree.{Groups, Plain, grouping}
 use Rattle.sbl_tree.specs.View.{view_among}
 use Rattle.sbl_tree.specs.declared.tree.Among.{Among}
+use Rattle.sbl_unused.specs.Parts.{Part}
+use Rattle.sbl_unused.specs.Unused.{Take, is_met, is_taken, same_take}
 
 -- the groups of some amongs
 abbrev pub view_amongs : List (Bor Among) → List Groups
@@ -12,37 +21,32 @@ view_amongs amongs = map (λ a. (view_among a.now).1) amongs
 abbrev pub texts_of : List (Bor (List ℕ)) → List (List ℕ)
 texts_of texts = map (λ t. t.now) texts
 
--- The groups of the amongs of a command, in the order of their words `among`, after those so far.
-abbrev mutual
-  pub gathered : Command → List Groups → List Groups
-  gathered (bracket rs) sofar = gathered_rows rs sofar
-  gathered (prefixed p c) sofar = gathered c sofar
-  gathered (counted n e c) sofar = gathered c sofar
-  gathered (setlimit_ b c) sofar = gathered c (gathered b sofar)
-  gathered (among_ s gs) sofar = gathered_groups gs (gathered_starter s (sofar ++ gs ∷ []))
-  gathered (simple_ x) sofar = sofar
-  gathered (literal_ q) sofar = sofar
-  gathered (name_ n) sofar = sofar
-  gathered (non_ b n) sofar = sofar
-  gathered (move_ x e) sofar = sofar
-  gathered (named x n) sofar = sofar
-  gathered (splice_ x a) sofar = sofar
-  gathered (assign_ n o e) sofar = sofar
-  gathered (compare_ n o e) sofar = sofar
-  gathered (compare_values_ e o f) sofar = sofar
+abbrev pub view_part : Item × Vec (Bor (List ℕ)) → Part
+view_part e = (item_of e.0, texts_of e.1.items)
 
-  pub gathered_rows : Rows → List Groups → List Groups
-  gathered_rows no_rows sofar = sofar
-  gathered_rows (row c os rs) sofar = gathered_rows rs (gathered_others os (gathered c sofar))
+abbrev pub view_parts : List (Item × Vec (Bor (List ℕ))) → List Part
+view_parts entries = map view_part entries
 
-  pub gathered_others : Others → List Groups → List Groups
-  gathered_others no_others sofar = sofar
-  gathered_others (joined j c os) sofar = gathered_others os (gathered c sofar)
+-- an among and a string that it takes
+abbrev pub Key : Type 0
+Key = Item × Vec ℕ
 
-  pub gathered_starter : Starter → List Groups → List Groups
-  gathered_starter no_starter sofar = sofar
-  gathered_starter (starter rs) sofar = gathered_rows rs sofar
+abbrev pub take_of : Key → Take
+take_of k = (item_of k.0, k.1.items)
 
-  pub gathered_groups : Groups → List Groups → List Groups
-  gathered_groups (bare es) sofar = sofar
-  gathered_groups (group e es rs gs) sofar = gathered_groups gs (gathered_rows rs sofar)
+abbrev pub takes_in : BTreeSet Key → List Take
+takes_in set = map take_of set.keys
+
+-- Whether an item is touched after what a definition adds: if it is a touched grouping, the groupings that its terms name
+-- count as touched.
+abbrev pub and_terms : Plain → (Item' → Bool) → Item' → Bool
+and_terms (grouping r a ts) touched x = (touched (Grouping r) && built_on (λ k. same_item x (Grouping k)) a ts) || touched x
+and_terms p touched x = touched x
+
+-- the items are those that the words meet
+abbrev pub HasMet : Setting → List (List ℕ) → BTreeSet Item → Type 0
+HasMet s words met = (x : Item') → list_any (same_item x) (items_in met) ≡ is_met s words x
+
+-- the strings are those that the words take
+abbrev pub HasTaken : Setting → List (List ℕ) → BTreeSet Key → Type 0
+HasTaken s words taken = (t : Take) → list_any (same_take t) (takes_in taken) ≡ is_taken s words t

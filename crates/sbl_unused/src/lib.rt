@@ -2,3 +2,10 @@
 #![tactic(auto)]
 
 mod amongs;
+mod parts;
+mod takes;
+mod text;
+mod touched;
+mod words;
+
+pub use text::unused_text;
