@@ -169,7 +169,11 @@ fn fill_after(
 }
 
 /// Appends the line of a record. Returns `AllocError` if an allocation fails.
-pub(crate) fn push_line(alloc: Global, out: &mut Vec<u8>, csv_record: &ByteRecord) -> Result<(), AllocError>
+pub(crate) fn push_line(
+    alloc: Global,
+    out: &mut Vec<u8>,
+    csv_record: &ByteRecord,
+) -> Result<(), AllocError>
     ensures { OnOk result (out.new.items ≡ out.old.items ++ record_line (fields_of csv_record.now)) }
 {
     let line = record_line(alloc, csv_record)?;
