@@ -4,3 +4,4 @@ pub mod PartFacts
 pub mod Bases
 pub mod RowWords
 pub mod Lines
+pub mod Unions
