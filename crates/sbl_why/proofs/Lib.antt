@@ -8,3 +8,4 @@ pub mod SearchesEnd
 pub mod Bodies
 pub mod EachSearch
 pub mod PlainSearches
+pub mod IntegerLines

@@ -12,14 +12,14 @@ use Rattle.sbl_tree.specs.declared.tree.DeclarationKind.TheVariants as kinds
 abbrev pub integer_names : Setting → List (List ℕ)
 integer_names s = known_in (in_order s.script.items) kinds.Integers
 
--- the name and the value of an integer variable
-abbrev pub value_row : List ℕ → ℤ → List (List ℕ)
-value_row name value = codes "integer" ∷ name ∷ signed_decimal value ∷ []
+-- the row of the integer variable with this number
+unfoldable pub value_row : List (List ℕ) → ℕ → ℤ → List (List ℕ)
+value_row names i value = codes "integer" ∷ slice_index_or names i [] ∷ signed_decimal value ∷ []
 
 -- a row for each value; the first one has number i
 abbrev pub value_rows : List (List ℕ) → ℕ → List ℤ → List (List (List ℕ))
 value_rows names i [] = []
-value_rows names i (v ∷ vs) = value_row (slice_index_or names i []) v ∷ value_rows names (suc i) vs
+value_rows names i (v ∷ vs) = value_row names i v ∷ value_rows names (suc i) vs
 
 abbrev pub steps_row : ℕ → List (List ℕ)
 steps_row used = codes "steps" ∷ decimal used ∷ []

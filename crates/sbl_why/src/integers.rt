@@ -17,7 +17,7 @@ use sbl_bench::{Bench, EditFault};
 use sbl_numbering::NameList;
 use sbl_script::Script;
 use sbl_script::laws::is_spelled;
-use sbl_tree::{DeclarationKind, Plain, items_in_order};
+use sbl_tree::{DeclarationKind, ItemInMode, Plain, items_in_order};
 use std::alloc::{AllocError, Global};
 
 /// Appends names to a list. Returns `AllocError` if an allocation fails.
@@ -40,6 +40,17 @@ fn add_integers(alloc: Global, plain: &Plain, names: &mut NameList) -> Result<()
     }
 }
 
+/// Returns the names of the integer variables that items declare, in their order. Returns `AllocError` if an allocation fails.
+fn names_in(alloc: Global, items: &[ItemInMode]) -> Result<NameList, AllocError>
+    ensures { IfOk result (λ names. names ≡ known_in (map view_in_mode items.now) kinds.Integers) }
+{
+    let mut names = NameList::new(alloc);
+    for item in items {
+        add_integers(alloc, item.plain, &mut names)?;
+    }
+    Ok(names)
+}
+
 /// Returns the names of the integer variables of a script, in the order of their declarations. Returns `AllocError` if an
 /// allocation fails.
 fn integer_names(alloc: Global, script: &Script) -> Result<Vec<String>, AllocError>
@@ -47,10 +58,7 @@ fn integer_names(alloc: Global, script: &Script) -> Result<Vec<String>, AllocErr
 {
     is_spelled(script);
     let items = items_in_order(alloc, script.items())?;
-    let mut names = NameList::new(alloc);
-    for item in &items {
-        add_integers(alloc, item.plain, &mut names)?;
-    }
+    let names = names_in(alloc, &items)?;
     Ok(names.into_names())
 }
 
@@ -75,13 +83,20 @@ fn push_steps(alloc: Global, out: &mut Vec<u8>, used: u64) -> Result<(), AllocEr
     push_line(alloc, out, &csv_record)
 }
 
-/// Appends the line of an integer variable. Returns `AllocError` if an allocation fails.
-fn push_value(alloc: Global, out: &mut Vec<u8>, name: &str, value: i32) -> Result<(), AllocError>
-    ensures { OnOk result (out.new.items ≡ out.old.items ++ record_line (spec.value_row name.now value)) }
+/// Appends the line of the integer variable with this number. Returns `AllocError` if an allocation fails.
+#[tactic(auto, unfolding(crate::specs::Integers::value_row))]
+fn push_value(
+    alloc: Global,
+    out: &mut Vec<u8>,
+    names: &[String],
+    number: usize,
+    value: i32,
+) -> Result<(), AllocError>
+    ensures { OnOk result (out.new.items ≡ out.old.items ++ record_line (spec.value_row (map string_bytes names.now) number value)) }
 {
     let mut csv_record = ByteRecord::new(alloc);
     csv_record.push_field(b"integer")?;
-    csv_record.push_field(name.as_bytes())?;
+    csv_record.push_field(name_at(names, number).as_bytes())?;
     let digits = format!(in alloc; "{value}")?;
     csv_record.push_field(digits.as_bytes())?;
     push_line(alloc, out, &csv_record)
@@ -97,7 +112,7 @@ fn push_values(
     ensures { OnOk result (out.new.items ≡ out.old.items ++ records_text (spec.value_rows (map string_bytes names.now) 0 values.now)) }
 {
     for (number, value) in values.iter().enumerate() {
-        push_value(alloc, out, name_at(names, number), *value)?;
+        push_value(alloc, out, names, number, *value)?;
     }
     Ok(())
 }
