@@ -25,7 +25,7 @@ fn put_part<'a>(
     item: Item,
     strings: Vec<&'a [char]>,
 ) -> Result<(), AllocError>
-    ensures { OnOk result (view_parts parts.new.entries ≡ insert_entry item_cmp (view_parts parts.old.entries) (item_of item) (texts_of strings.items)) }
+    ensures { OnOk result (view_parts parts.new.entries ≡ insert_entry item_cmp (view_parts parts.old.entries) (item_of item) (texts_of strings.entry.items)) }
 {
     match parts.insert(item, strings) {
         Ok(_) => Ok(()),
