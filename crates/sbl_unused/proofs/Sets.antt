@@ -12,7 +12,7 @@ use Rattle.std.specs.Cmp.{unsigned_tied}
 use Rattle.std.proofs.lemmas.Map.Text.{is_eq-slice_cmp}
 use Rattle.sbl_bench.proofs.PairFacts.{then_eq}
 use Rattle.sbl_machine.proofs.Order.{inserted}
-use Rattle.sbl_machine.proofs.TouchedOrder.{any_inserted, item_exact}
+use Rattle.sbl_machine.proofs.TouchedOrder.{item_exact}
 use Rattle.sbl_machine.specs.Touched.{Item', Routine, Among, Grouping, item_cmp, item_of, same_item}
 use Rattle.sbl_machine.specs.contracts.item.ItemOrd.TheImpl.{cmp-value}
 use Rattle.sbl_machine.specs.declared.item.Item.{Item}
@@ -21,6 +21,25 @@ use Rattle.sbl_unused.specs.Unused.{Take, same_take}
 use Rattle.sbl_unused.specs.Views.{Key, take_of}
 
 -- ---- items
+
+or_again : (a b : Bool) → (a || b) ≡ (a || (a || b))
+or_again true b = refl
+or_again false b = refl
+
+or_swap : (a b c : Bool) → (a || (b || c)) ≡ (b || (a || c))
+or_swap true true c = refl
+or_swap true false c = refl
+or_swap false b c = refl
+
+any_inserted : (test : Item' → Bool) (xs : List Item') (k : Item') → list_any test (insert_key item_cmp xs k) ≡ (test k || list_any test xs)
+any_inserted test [] k = refl
+any_inserted test (x ∷ xs) k = by (item_cmp k x) refl (any_inserted test xs k)
+  where
+    by : (o : Ordering) → item_cmp k x ≡ o → list_any test (insert_key item_cmp xs k) ≡ (test k || list_any test xs)
+        → list_any test (match_ordering (item_cmp k x) (k ∷ x ∷ xs) (x ∷ xs) (x ∷ insert_key item_cmp xs k)) ≡ (test k || (test x || list_any test xs))
+    by Less h rest = rw h refl
+    by Equal h rest = rw h (subst (λ (y : Item'). (test x || list_any test xs) ≡ (test y || (test x || list_any test xs))) (sym (item_exact k x h)) (or_again (test x) (list_any test xs)))
+    by Greater h rest = rw h (ap (λ (b : Bool). test x || b) rest ∙ or_swap (test x) (test k) (list_any test xs))
 
 pub item_added : (ks : List Item) (k : Item) (test : Item' → Bool) → list_any test (map item_of (insert_key cmp-value.it ks k)) ≡ (test (item_of k) || list_any test (map item_of ks))
 item_added ks k test = ap (list_any test) (inserted ks k) ∙ any_inserted test (map item_of ks) (item_of k)
@@ -69,15 +88,6 @@ take_exact : (p q : Key) → key_order p q ≡ Equal → take_of p ≡ take_of q
 take_exact p q h =
     let both = both_equal (cmp-value.it p.0 q.0) (slice_cmp nat_cmp p.1.items q.1.items) h in
     ap₂ (λ (x : Item') (s : List ℕ). (x, s)) (item_exact (item_of p.0) (item_of q.0) (sym (same_order p.0 q.0) ∙ both.0)) (exact_bytes p.1.items q.1.items both.1)
-
-or_again : (a b : Bool) → (a || b) ≡ (a || (a || b))
-or_again true b = refl
-or_again false b = refl
-
-or_swap : (a b c : Bool) → (a || (b || c)) ≡ (b || (a || c))
-or_swap true true c = refl
-or_swap true false c = refl
-or_swap false b c = refl
 
 pub take_added : (ks : List Key) (k : Key) (test : Take → Bool) → list_any test (map take_of (insert_key key_order ks k)) ≡ (test (take_of k) || list_any test (map take_of ks))
 take_added [] k test = refl

@@ -27,10 +27,8 @@ fn put_part<'a>(
 ) -> Result<(), AllocError>
     ensures { OnOk result (view_parts parts.new.entries ≡ insert_entry item_cmp (view_parts parts.old.entries) (item_of item) (texts_of strings.entry.items)) }
 {
-    match parts.insert(item, strings) {
-        Ok(_) => Ok(()),
-        Err(_) => Err(AllocError),
-    }
+    parts.insert(item, strings)?;
+    Ok(())
 }
 
 /// Puts the amongs of a routine at their places. Returns `AllocError` if an allocation fails.

@@ -25,10 +25,8 @@ pub(crate) type Takes = BTreeSet<(Item, Vec<char>)>;
 fn add_take(takes: &mut Takes, among: Item, string: Vec<char>) -> Result<(), AllocError>
     ensures { OnOk result ((test : Take → Bool) → list_any test (takes_in takes.new) ≡ (test (item_of among, string.items) || list_any test (takes_in takes.old))) }
 {
-    match takes.insert((among, string)) {
-        Ok(_) => Ok(()),
-        Err(_) => Err(AllocError),
-    }
+    takes.insert((among, string))?;
+    Ok(())
 }
 
 /// Adds what an event takes. Returns `AllocError` if an allocation fails, or if the number of an among is above `u64::MAX`: no

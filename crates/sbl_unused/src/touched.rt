@@ -22,10 +22,8 @@ use std::collections::BTreeSet;
 fn add_item(items: &mut BTreeSet<Item>, item: Item) -> Result<(), AllocError>
     ensures { OnOk result ((test : Item' → Bool) → list_any test (items_in items.new) ≡ (test (item_of item) || list_any test (items_in items.old))) }
 {
-    match items.insert(item) {
-        Ok(_) => Ok(()),
-        Err(_) => Err(AllocError),
-    }
+    items.insert(item)?;
+    Ok(())
 }
 
 /// Adds some items. Returns `AllocError` if an allocation fails.

@@ -7,4 +7,4 @@ use Rattle.sbl_unused.specs.Views.{view_parts}
 use Rattle.sbl_unused.proofs.parts.parts_of.Given as goal
 
 abbrev pub invariant-loop-item : goal.invariant-loop-item
-invariant-loop-item l = put_in_order (view_parts l.parts.entries) (flat_map (λ (x : ItemInMode). parts_by x.plain) (map view_in_mode (drop l.item-index l.items.items))) ≡ parts_of (source_of l.script)
+invariant-loop-item l = put_in_order (view_parts l.parts.entries) (flat_map (λ (x : ItemInMode). parts_by x.plain) (map view_in_mode (drop l.item-index l.item-items))) ≡ parts_of (source_of l.script)
