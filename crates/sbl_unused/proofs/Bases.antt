@@ -134,18 +134,19 @@ module _ (us : List Item') where
   -- the names that are built from some, and the names that are reached
   built_is : (ps : List ItemInMode) (ns : List (List ℕ)) → list_any touched (built_behind ps ns) ≡ list_any (λ m. reached us ps (Grouping m)) ns
   built_is [] ns = refl
-  built_is (p ∷ ps) ns = at p.plain
+  built_is (p ∷ ps) ns = at p.plain (built_is ps)
     where
-      at : (x : Plain) → list_any touched (built_behind ps (and_built x ns)) ≡ list_any (λ m. and_terms x (reached us ps) (Grouping m)) ns
-      at (grouping r a ts) =
-          built_is ps (if built_on (is_among ns) a ts then ns ++ r ∷ [] else ns)
+      at : (x : Plain) → ((ms : List (List ℕ)) → list_any touched (built_behind ps ms) ≡ list_any (λ m. reached us ps (Grouping m)) ms) →
+          list_any touched (built_behind ps (and_built x ns)) ≡ list_any (λ m. and_terms x (reached us ps) (Grouping m)) ns
+      at (grouping r a ts) rest =
+          rest (if built_on (is_among ns) a ts then ns ++ r ∷ [] else ns)
           ∙ any_if (λ m. reached us ps (Grouping m)) ns r (built_on (is_among ns) a ts)
           ∙ ap (λ (b : Bool). (reached us ps (Grouping r) && b) || list_any (λ m. reached us ps (Grouping m)) ns) (built_any ns a ts)
           ∙ sym (any_and (reached us ps (Grouping r)) (λ m. built_on (bytes_eq m) a ts) (λ m. reached us ps (Grouping m)) ns)
-      at (declaration k xs) = built_is ps ns
-      at (escapes a b) = built_is ps ns
-      at (macro n b q) = built_is ps ns
-      at (routine n c os) = built_is ps ns
+      at (declaration k xs) rest = rest ns
+      at (escapes a b) rest = rest ns
+      at (macro n b q) rest = rest ns
+      at (routine n c os) rest = rest ns
 
 among_any : (ns : List (List ℕ)) (n : List ℕ) → is_among ns n ≡ list_any (λ k. bytes_eq k n) ns
 among_any [] n = refl

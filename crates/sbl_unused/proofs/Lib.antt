@@ -5,3 +5,4 @@ pub mod Bases
 pub mod RowWords
 pub mod Lines
 pub mod Unions
+pub mod Loops
