@@ -8,18 +8,17 @@ use Rattle.sbl_records.specs.Records.{records_text}
 use Rattle.sbl_unused.specs.Unused as spec
 use Rattle.sbl_unused.specs.Views.{texts_of}
 use Rattle.sbl_unused.proofs.Lines.{more_text}
-use Rattle.sbl_unused.proofs.Loops.{at_front}
+use Rattle.sbl_unused.proofs.Loops.{at_index}
 use Rattle.sbl_unused.proofs.text.push_strings.Goals as goal
 
 pub loop-string-preserved : goal.loop-string-preserved
 loop-string-preserved c = λ s words taken.
     let strings = c.args.strings.now in
     let i = c.loop-string.string-index in
-    let string = c.string-item.result in
     let rows = λ (q : List ℕ). spec.string_rows s words (item_of c.args.among.now, q) in
-    more_text rows string.now (texts_of (drop (i + 1) strings)) c.loop-string.out.items c.push_untaken.new.out.items _
+    more_text rows _ (texts_of (drop (i + 1) strings)) c.loop-string.out.items c.push_untaken.new.out.items _
     (c.in_ok-push_untaken.ensures s words taken)
-    (ap (λ (l : List (List ℕ)). c.loop-string.out.items ++ records_text (flat_map rows l)) (sym (at_front (λ (t : Bor (List ℕ)). t.now) strings i string c.loop-string-test.true c.string-item.is))
+    (ap (λ (l : List (List ℕ)). c.loop-string.out.items ++ records_text (flat_map rows l)) (sym (at_index (λ (t : Bor (List ℕ)). t.now) strings i _ c.loop-string-test.true))
     ∙ c.loop-string.invariant s words taken)
 
 pub returns : goal.returns
