@@ -9,7 +9,7 @@ from lexer import Names, is_word, read_tokens
 from near import listed, meant, near
 from plain import named
 
-PLAIN = "stems classes script runs reload undo redo mark changes stats help quit".split()
+PLAIN = "stems classes script runs reload undo redo mark changes stats unused help quit".split()
 ONE_LINE = "add remove class trace why events integers limit largest show save echo".split()
 BLOCKS = "routine among grouping replace families".split()
 # What `show` does not show, and what does.

@@ -8,4 +8,5 @@ mod rows;
 mod text;
 
 pub use integers::integers_text;
+pub use moment::Moment;
 pub use text::why_text;

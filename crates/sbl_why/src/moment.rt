@@ -19,9 +19,9 @@ pub(crate) struct OpenSearch {
     pub(crate) ahead: Vec<char>,
 }
 
-/// The routines whose bodies the run is in, the searches that have not ended, and the text.
+/// Where a run is between two of its events: the routines whose bodies it is in, the searches that have not ended, and the text.
 #[derive(Drop)]
-pub(crate) struct Moment {
+pub struct Moment {
     alloc: Global,
     // the latest last
     routines: Vec<usize>,
@@ -100,7 +100,7 @@ fn spliced(
 
 impl Moment {
     /// Returns where a run on a word is before its first event. Returns `AllocError` if an allocation fails.
-    pub(crate) fn new(alloc: Global, word: &[char]) -> Result<Moment, AllocError>
+    pub fn new(alloc: Global, word: &[char]) -> Result<Moment, AllocError>
         ensures { IfOk result (λ m. m ≡ spec.at_start word.now) }
     {
         Ok(Moment {
@@ -112,7 +112,7 @@ impl Moment {
     }
 
     /// Goes past an event. Returns `AllocError` if an allocation fails.
-    pub(crate) fn pass(&mut self, event: &Event) -> Result<(), AllocError>
+    pub fn pass(&mut self, event: &Event) -> Result<(), AllocError>
         ensures { OnOk result (self.new ≡ spec.after (event_of event.now) self.old) }
     {
         match event {
@@ -135,7 +135,7 @@ impl Moment {
     }
 
     /// Returns the number of the routine whose commands the run makes.
-    pub(crate) fn routine(&self) -> usize
+    pub fn routine(&self) -> usize
         ensures { result ≡ spec.routine_of self.now }
     {
         match self.routines.last() {
@@ -159,7 +159,7 @@ impl Moment {
     }
 
     /// Returns the string of this many characters that the search which began last takes.
-    pub(crate) fn string_taken(&self, length: usize) -> &[char]
+    pub fn string_taken(&self, length: usize) -> &[char]
         ensures { result.now ≡ spec.string_taken length self.now }
     {
         match self.searches.last() {

@@ -17,6 +17,8 @@ pub(crate) enum Request<'a> {
     Changes,
     /// Reports figures of the rows and classes.
     Stats,
+    /// Reports what no word uses.
+    Unused,
     /// Reports the largest classes.
     Largest(&'a str),
     /// Reports on the families of a file.
@@ -90,6 +92,7 @@ fn text_request(line: &str) -> Request<'_> {
         "mark" => return Request::Mark,
         "changes" => return Request::Changes,
         "stats" => return Request::Stats,
+        "unused" => return Request::Unused,
         "help" => return Request::Help,
         _ => {}
     }

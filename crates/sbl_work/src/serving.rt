@@ -16,6 +16,7 @@ use crate::whys::{integers_reply, why_reply};
 use sbl_bench::{Bench, EditFault};
 use sbl_lines::{Lines, ServeFault, Sink, Source, write_all};
 use sbl_sessions::{LoadFault, Reply, block_word, report, write_reply};
+use sbl_unused::unused_text;
 use std::alloc::{AllocError, Global};
 use std::fs;
 use std::rt::Files;
@@ -126,6 +127,7 @@ fn answer_alone<F: Files + AllocGlobal>(
         Request::Mark => memory_reply(desk.mark(bench)),
         Request::Changes => report(changes_text(alloc, desk, bench)),
         Request::Stats => report(stats_text(alloc, bench)),
+        Request::Unused => report(unused_text(alloc, bench)),
         Request::Largest(argument) => largest(alloc, bench, argument),
         Request::Families(path) => families(folder, bench, path),
         Request::Why(word) => why(alloc, bench, word, false),

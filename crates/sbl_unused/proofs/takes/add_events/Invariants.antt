@@ -1,0 +1,12 @@
+use Rattle.std.proofs.Common.{◌≡◌, ◌||◌, Bool, drop, map}
+use Rattle.std.specs.List.{list_any}
+use Rattle.sbl_bench.specs.Kept.{setting_of}
+use Rattle.sbl_run.specs.Events.{event_of}
+use Rattle.sbl_unused.specs.Unused.{Take, takes_from}
+use Rattle.sbl_unused.specs.Views.{takes_in}
+use Rattle.sbl_why.specs.Moments.{at_start}
+use Rattle.sbl_why.specs.Rows.{routine_names}
+use Rattle.sbl_unused.proofs.takes.add_events.Given as goal
+
+abbrev pub invariant-loop-event : goal.invariant-loop-event
+invariant-loop-event l = (test : Take → Bool) → (list_any test (takes_from (routine_names (setting_of l.bench)) l.moment (map event_of (drop l.event-index l.events))) || list_any test (takes_in l.takes)) ≡ (list_any test (takes_from (routine_names (setting_of l.bench)) (at_start l.word) (map event_of l.events)) || list_any test (takes_in l.initial.takes))

@@ -1,0 +1,29 @@
+use Rattle.std.proofs.Common.{◌≡◌, ◌∙◌, ◌++◌, List, ℕ, ap, subst, sym}
+use Rattle.std.specs.Borrow.{Bor}
+use Rattle.std.specs.List.{flat_map}
+use Rattle.sbl_bench.specs.Kept.{setting_of}
+use Rattle.sbl_records.specs.Records.{records_text}
+use Rattle.sbl_script.specs.Parsed.{Parsed, source_of}
+use Rattle.sbl_unused.specs.Parts.{Part, parts_of}
+use Rattle.sbl_unused.specs.Unused.{entry_rows, item_rows, unused_text}
+use Rattle.sbl_unused.specs.Views.{HasMet, HasTaken, texts_of, view_parts}
+use Rattle.sbl_unused.proofs.Lines.{both_texts}
+use Rattle.sbl_unused.proofs.text.unused_text.Goals as goal
+
+pub returns : goal.returns
+unfolding unused_text
+returns c =
+    let s = setting_of c.args.bench.now in
+    let words = c.args.bench.now.words in
+    let are : texts_of c.deref.result.now ≡ words = ap (λ (l : List (Bor (List ℕ))). texts_of l) c.deref.ensures.value ∙ c.in_ok-words.ensures in
+    let also : texts_of c.deref-2.result.now ≡ words = ap (λ (l : List (Bor (List ℕ))). texts_of l) c.deref-2.ensures.value ∙ c.in_ok-words.ensures in
+    let met : HasMet s words c.in_ok-met.met = c.in_ok-met.ensures are in
+    let taken : HasTaken s words c.in_ok-taken.taken = subst (λ (ws : List (List ℕ)). HasTaken s ws c.in_ok-taken.taken) also c.in_ok-taken.ensures in
+    let parts : view_parts c.in_ok-parts.parts.entries ≡ parts_of s.script = c.in_ok-parts.ensures ∙ ap (λ (p : Parsed). parts_of (source_of p)) c.script.ensures in
+    let items = λ (ps : List Part). flat_map (λ (p : Part). item_rows s words p.0) ps in
+    let entries = λ (ps : List Part). flat_map (entry_rows s words) ps in
+    c.in_ok-push_entries.ensures s words met taken
+    ∙ ap (λ (t : List ℕ). t ++ records_text (entries (view_parts c.in_ok-parts.parts.entries)))
+    (c.in_ok-push_items.ensures s words met ∙ ap (λ (t : List ℕ). t ++ records_text (items (view_parts c.in_ok-parts.parts.entries))) c.new-out.ensures.items)
+    ∙ sym (both_texts (items (view_parts c.in_ok-parts.parts.entries)) (entries (view_parts c.in_ok-parts.parts.entries)))
+    ∙ ap (λ (ps : List Part). records_text (items ps ++ entries ps)) parts

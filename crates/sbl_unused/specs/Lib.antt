@@ -1,0 +1,6 @@
+-- definitions that public contracts depend on
+pub mod Parts
+pub mod Unused
+-- definitions that functions inside the crate promise each other
+pub mod Gathered
+pub mod Views

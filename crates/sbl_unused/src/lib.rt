@@ -1,0 +1,11 @@
+//! What no word of a vocabulary uses: routines, amongs, groupings, and strings of amongs.
+#![tactic(auto)]
+
+mod amongs;
+mod parts;
+mod takes;
+mod text;
+mod touched;
+mod words;
+
+pub use text::unused_text;
