@@ -11,6 +11,7 @@ mod changed_row;
 mod class;
 mod edit;
 mod fault;
+mod last_run;
 pub mod laws;
 mod open;
 mod pairs;

@@ -1,0 +1,145 @@
+//! The last run of a word. Runs with equal touches share one list of them.
+
+ghost use Rattle.std.specs.Prelude.{◌≡◌, IfOk};
+
+use sbl_machine::{Outcome, Touch, Traced};
+use std::alloc::{AllocError, Global};
+use std::collections::BTreeMap;
+use std::marker::Model;
+use std::rc::Rc;
+
+/// The last run of a word: its outcome, what it touched, and the steps that it used.
+#[derive(Drop)]
+pub(crate) struct LastRun {
+    outcome: Outcome,
+    // may be the list of other runs too
+    touches: Rc<Vec<Touch>>,
+    used: u64,
+}
+
+impl Model for LastRun {
+    ghost use Rattle.std.specs.Coded.{codes};
+    ghost use Rattle.sbl_machine.specs.contracts.outcome.Traced as e;
+    ghost use Rattle.sbl_machine.specs.declared.outcome.Traced as declared;
+
+    ghost Value = { declared.Traced };
+
+    ghost coded = { Prim.hlevel (codes, e.the_row.coded) };
+
+    ghost view = { λ r. record { outcome = r.outcome; touches = r.touches.value; used = r.used } };
+}
+
+impl LastRun {
+    /// Returns a run whose touches share the list of the run before it, if that has the same. Returns `AllocError` if an
+    /// allocation fails.
+    pub(crate) fn after(
+        alloc: Global,
+        before: Option<&LastRun>,
+        traced: Traced,
+    ) -> Result<LastRun, AllocError>
+        ensures outcome { IfOk result (λ run. run.outcome ≡ traced.outcome) }
+        ensures touches { IfOk result (λ run. run.touches.items ≡ traced.touches.items) }
+        ensures used { IfOk result (λ run. run.used ≡ traced.used) }
+    {
+        let list = match before {
+            Some(run) => Some(&run.touches),
+            None => None,
+        };
+        let touches = list_of(alloc, list, traced.touches.as_slice())?;
+        Ok(LastRun {
+            outcome: traced.outcome,
+            touches,
+            used: traced.used,
+        })
+    }
+
+    /// Returns the outcome. Does not allocate.
+    pub(crate) fn outcome(&self) -> &Outcome
+        ensures { result.now ≡ self.now.outcome }
+    {
+        &self.outcome
+    }
+
+    /// Returns the touches, each once, in the order of first touch. Does not allocate.
+    pub(crate) fn touches(&self) -> &[Touch]
+        ensures { result.now ≡ self.now.touches.items }
+    {
+        self.touches.as_slice()
+    }
+
+    /// Returns the number of steps. Does not allocate.
+    pub(crate) fn used(&self) -> u64
+        ensures { result ≡ self.now.used }
+    {
+        self.used
+    }
+}
+
+/// Lists of touches that runs share, each at its digest. Of lists that have one digest, the last is kept.
+#[derive(Drop)]
+pub(crate) struct SharedLists {
+    lists: BTreeMap<u64, Rc<Vec<Touch>>>,
+}
+
+impl SharedLists {
+    /// Returns no lists. Does not allocate.
+    pub(crate) fn new(alloc: Global) -> SharedLists {
+        SharedLists {
+            lists: BTreeMap::new(alloc),
+        }
+    }
+
+    /// Returns a run whose touches share one of the lists, if that is equal; otherwise keeps its own among the lists. Returns
+    /// `AllocError` if an allocation fails.
+    pub(crate) fn keep(&mut self, alloc: Global, traced: Traced) -> Result<LastRun, AllocError>
+        ensures outcome { IfOk result (λ run. run.outcome ≡ traced.outcome) }
+        ensures touches { IfOk result (λ run. run.touches.items ≡ traced.touches.items) }
+        ensures used { IfOk result (λ run. run.used ≡ traced.used) }
+    {
+        let number = digest(traced.touches.as_slice());
+        let touches = list_of(alloc, self.lists.get(&number), traced.touches.as_slice())?;
+        self.lists.insert(number, touches.clone()?)?;
+        Ok(LastRun {
+            outcome: traced.outcome,
+            touches,
+            used: traced.used,
+        })
+    }
+}
+
+// Another owner of the list if it has these touches, and otherwise a new list of them, with no spare room.
+fn list_of(
+    alloc: Global,
+    list: Option<&Rc<Vec<Touch>>>,
+    touches: &[Touch],
+) -> Result<Rc<Vec<Touch>>, AllocError>
+    ensures { IfOk result (λ list. list.value.items ≡ touches.now) }
+{
+    if let Some(list) = list {
+        if list.as_slice() == touches {
+            return list.clone();
+        }
+    }
+    let touches = Vec::from_slice(alloc, touches)?;
+    Ok(Rc::new(alloc, touches)?)
+}
+
+// A number that is made of the touches in their order. Nothing rests on it but how many lists are shared.
+fn digest(touches: &[Touch]) -> u64 {
+    let mut digest = touches.len() as u64;
+    for touch in touches {
+        digest = mix(digest, *touch);
+    }
+    digest
+}
+
+// The digest with one touch more.
+fn mix(digest: u64, touch: Touch) -> u64 {
+    let (kind, number) = match touch {
+        Touch::Entered(routine) => (1, u64::from(routine)),
+        Touch::Searched(routine, among) => (u64::from(among).wrapping_mul(4), u64::from(routine)),
+        Touch::Tested(grouping) => (2, u64::from(grouping)),
+    };
+    let word = number.rotate_left(32) ^ kind;
+    (digest.rotate_left(5) ^ word).wrapping_mul(0x9E37_79B9_7F4A_7C15)
+}
