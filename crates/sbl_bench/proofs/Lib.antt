@@ -2,6 +2,7 @@ pub mod Words
 pub mod Refusals
 pub mod Opening
 pub mod Taking
+pub mod TouchFacts
 pub mod PairFacts
 pub mod Sorting
 pub mod OrderFacts

@@ -12,9 +12,10 @@ ghost use Rattle.sbl_machine.specs.Touched.{item_of, names_of};
 ghost use Rattle.sbl_run.specs.Touches.{same_touch};
 ghost use Rattle.sbl_script.specs.Parsed.{source_of};
 
+use crate::last_run::LastRun;
 use sbl_diff::differences;
 use sbl_machine::laws::differing_agree;
-use sbl_machine::{Item, Machine, Table, Touch, Touched, Traced};
+use sbl_machine::{Item, Machine, Table, Touch, Touched};
 use sbl_script::Script;
 use std::alloc::{AllocError, Global};
 
@@ -81,12 +82,12 @@ fn has_one(marks: &Touched, touches: &[Touch]) -> bool
 }
 
 /// Returns whether the last run of a word is affected. Does not allocate.
-pub(crate) fn is_affected(affected: &Affected, last: &Traced) -> bool
+pub(crate) fn is_affected(affected: &Affected, last: &LastRun) -> bool
     ensures { result ≡ spec.is_affected_run (affected_of affected.now) last.now.touches.items last.now.used }
 {
     match affected {
-        Affected::Touching(marks) => has_one(marks, last.touches.as_slice()),
-        Affected::Above(steps) => *steps < last.used,
+        Affected::Touching(marks) => has_one(marks, last.touches()),
+        Affected::Above(steps) => *steps < last.used(),
         Affected::Every => true,
     }
 }

@@ -4,9 +4,10 @@ ghost use Rattle.std.specs.Prelude.{◌≡◌, ◌≤◌, ◌+◌, ◌^◌, ◌�
 
 use crate::change::Change;
 use crate::fault::EditFault;
+use crate::last_run::LastRun;
 use crate::row::Row;
 use indexmap::IndexMap;
-use sbl_machine::{Item, Machine, Meter, Table, Traced, Why};
+use sbl_machine::{Item, Machine, Meter, Table, Why};
 use sbl_run::MAX_WORD_LENGTH;
 use sbl_script::Script;
 use std::alloc::{AllocError, Global};
@@ -29,7 +30,7 @@ pub struct Bench {
     // the maximum number of steps of a run
     pub(crate) limit: u32,
     // the last run of each word; a fresh run would be equal
-    pub(crate) traces: IndexMap<Vec<char>, Traced>,
+    pub(crate) traces: IndexMap<Vec<char>, LastRun>,
     pub(crate) meter: Meter,
     // the words that the last edit ran again, each with its run before
     pub(crate) last: Vec<Change>,
@@ -81,10 +82,10 @@ impl Bench {
     pub fn row(&self, i: usize) -> Option<Row<'_>>
         ensures { option_map view_row result ≡ slice_get (rows_of (setting_of self.now) self.now.words) i }
     {
-        let (word, traced) = self.traces.get_index(i)?;
+        let (word, last) = self.traces.get_index(i)?;
         Some(Row {
             word: word.as_slice(),
-            outcome: &traced.outcome,
+            outcome: last.outcome(),
         })
     }
 
@@ -93,10 +94,10 @@ impl Bench {
         ensures { IfOk result (λ rows. map view_row rows.items ≡ rows_of (setting_of self.now) self.now.words) }
     {
         let mut rows = Vec::with_capacity(self.alloc, self.len())?;
-        for (word, traced) in self.traces.iter() {
+        for (word, last) in self.traces.iter() {
             let row = Row {
                 word: word.as_slice(),
-                outcome: &traced.outcome,
+                outcome: last.outcome(),
             };
             rows.push(row).map_err(|_| AllocError)?;
         }
@@ -112,8 +113,8 @@ impl Bench {
         ensures absent { is_word word.now self.now.words ≡ false → result ≡ Ok None }
     {
         match self.traces.get(word) {
-            Some(traced) => {
-                let items = self.machine.items(self.alloc, traced.touches.as_slice())?;
+            Some(last) => {
+                let items = self.machine.items(self.alloc, last.touches())?;
                 Ok(Some(items))
             }
             None => Ok(None),

@@ -18,9 +18,10 @@ ghost use Rattle.sbl_bench.specs.Stops.{IsStopOf};
 
 use crate::affected::{Affected, is_affected};
 use crate::fault::EditFault;
+use crate::last_run::{LastRun, SharedLists};
 use crate::traces::words_are_unique;
 use indexmap::IndexMap;
-use sbl_machine::{Machine, Meter, Table, Traced};
+use sbl_machine::{Machine, Meter, Table};
 use std::alloc::{AllocError, Global};
 use std::mem::swap;
 
@@ -28,11 +29,11 @@ use std::mem::swap;
 #[derive(Drop)]
 pub(crate) struct Change {
     pub(crate) word: Vec<char>,
-    pub(crate) traced: Traced,
+    pub(crate) traced: LastRun,
 }
 
 /// Exchanges the run of a word of the vocabulary and the run of its change. Does not allocate.
-fn commit_one(traces: &mut IndexMap<Vec<char>, Traced>, change: &mut Change)
+fn commit_one(traces: &mut IndexMap<Vec<char>, LastRun>, change: &mut Change)
     requires { IsSome (find change.old.word.items traces.old.entries) }
     ensures finds { (w : Text) → find w.items traces.new.entries ≡ (if bytes_eq change.old.word.items w.items then Some change.old.traced else find w.items traces.old.entries) }
     ensures before { word_run change.new ≡ word_found traces.old.entries change.old }
@@ -44,7 +45,7 @@ fn commit_one(traces: &mut IndexMap<Vec<char>, Traced>, change: &mut Change)
 }
 
 /// Exchanges the run of each word of the changes and the run of its change. Does not allocate.
-fn commit(traces: &mut IndexMap<Vec<char>, Traced>, changes: &mut [Change])
+fn commit(traces: &mut IndexMap<Vec<char>, LastRun>, changes: &mut [Change])
     requires there { AreThere traces.old.entries changes.old }
     requires apart { AreApart changes.old }
     ensures run { All (λ c. find c.word.items traces.new.entries ≡ Some c.traced) changes.old }
@@ -62,7 +63,7 @@ fn push_change(
     alloc: Global,
     changes: &mut Vec<Change>,
     word: &[char],
-    traced: Traced,
+    traced: LastRun,
 ) -> Result<(), AllocError>
     ensures { OnOk result (map view_change changes.new.items ≡ map view_change changes.old.items ++ view_run word.now traced ∷ []) }
 {
@@ -77,7 +78,7 @@ fn push_change(
 fn met_words<'a>(
     alloc: Global,
     affected: &Affected,
-    traces: &'a IndexMap<Vec<char>, Traced>,
+    traces: &'a IndexMap<Vec<char>, LastRun>,
 ) -> Result<Vec<&'a [char]>, AllocError>
     ensures words { IfOk result (λ words. map (λ w. w.now) words.items ≡ spec.met_words (affected_of affected.now) traces.now.entries) }
     ensures unique { IsUnique (λ (x y : Text). bytes_eq x.items y.items) traces.now }
@@ -107,9 +108,13 @@ fn run_words(
     ensures some { OnErr result ((n : ℕ) × (n ≤ length words.now) × (meter.new ≡ meter.old + n)) }
 {
     let mut changes = Vec::new(alloc);
+    let mut lists = SharedLists::new(alloc);
     for word in words {
         match machine.trace(alloc, meter, word, limit) {
-            Ok(traced) => push_change(alloc, &mut changes, word, traced)?,
+            Ok(traced) => {
+                let last = lists.keep(alloc, traced)?;
+                push_change(alloc, &mut changes, word, last)?;
+            }
             Err(_) => return Err(AllocError),
         }
     }
@@ -128,7 +133,7 @@ pub(crate) fn rerun(
     limit: u32,
     affected: &Affected,
     meter: &mut Meter,
-    traces: &IndexMap<Vec<char>, Traced>,
+    traces: &IndexMap<Vec<char>, LastRun>,
 ) -> Result<Vec<Change>, EditFault>
     requires sound { All IsWord (words_in traces.now.entries) }
     ensures changes { (s : Source) → IsLinkedMachineOf machine.now s → IfOk result (λ changes. map view_change changes.items ≡ reruns (under s limit) (spec.met_words (affected_of affected.now) traces.now.entries)) }
@@ -147,7 +152,7 @@ pub(crate) fn rerun(
 
 /// Applies the changes of an edit, and returns them with the runs before. Does not allocate.
 pub(crate) fn make_changes(
-    traces: &mut IndexMap<Vec<char>, Traced>,
+    traces: &mut IndexMap<Vec<char>, LastRun>,
     changes: Vec<Change>,
 ) -> Vec<Change>
     requires changes { (t : Setting) × AreAnew t traces.old.entries changes.items }

@@ -9,8 +9,9 @@ ghost use Rattle.sbl_bench.specs.Last.{changed_since, last_changes};
 
 use crate::bench::Bench;
 use crate::change::Change;
+use crate::last_run::LastRun;
 use indexmap::IndexMap;
-use sbl_machine::{Outcome, Traced};
+use sbl_machine::Outcome;
 use std::alloc::{AllocError, Global};
 
 /// A word with two outcomes.
@@ -39,7 +40,7 @@ impl Bench {
 /// allocation fails.
 fn changes_of<'a>(
     alloc: Global,
-    traces: &'a IndexMap<Vec<char>, Traced>,
+    traces: &'a IndexMap<Vec<char>, LastRun>,
     last: &'a [Change],
 ) -> Result<Vec<ChangedRow<'a>>, AllocError>
     ensures { IfOk result (λ changes. map view_changed_row changes.items ≡ last_changes traces.now.entries last.now) }
@@ -56,20 +57,22 @@ fn changes_of<'a>(
 fn push_changed<'a>(
     changes: &mut Vec<ChangedRow<'a>>,
     change: &'a Change,
-    now: Option<&'a Traced>,
+    now: Option<&'a LastRun>,
 ) -> Result<(), AllocError>
     ensures { OnOk result (map view_changed_row changes.new.items ≡ map view_changed_row changes.old.items ++ option_to_list (changed_since change.now (option_map (λ t. t.now) now.entry))) }
 {
     let Some(now) = now else {
         return Ok(());
     };
-    if is_same(&change.traced.outcome, &now.outcome) {
+    let before = change.traced.outcome();
+    let after = now.outcome();
+    if is_same(before, after) {
         return Ok(());
     }
     let row = ChangedRow {
         word: change.word.as_slice(),
-        before: &change.traced.outcome,
-        after: &now.outcome,
+        before,
+        after,
     };
     changes.push(row).map_err(|_| AllocError)
 }

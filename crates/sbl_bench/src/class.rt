@@ -53,10 +53,10 @@ impl Bench {
         ensures { IfOk result (λ class. option_map view_class class ≡ class_of (rows_of (setting_of self.now) self.now.words) word.now) }
     {
         words_are_unique(&self.traces);
-        let Some(traced) = self.traces.get(word) else {
+        let Some(last) = self.traces.get(word) else {
             return Ok(None);
         };
-        match &traced.outcome {
+        match last.outcome() {
             Outcome::Stem(stem) => {
                 let pairs = pairs_of(self.alloc, &self.traces)?;
                 let words = words_with(self.alloc, stem.as_slice(), &pairs)?;

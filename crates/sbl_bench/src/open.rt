@@ -13,10 +13,11 @@ ghost use Rattle.sbl_bench.specs.Setting.{under};
 
 use crate::bench::{Bench, MAX_WORDS};
 use crate::fault::EditFault;
+use crate::last_run::{LastRun, SharedLists};
 use crate::traces::has_word;
 use indexmap::IndexMap;
 use indexmap::map::{Entry, OccupiedEntry};
-use sbl_machine::{DEFAULT_LIMIT, Machine, Meter, Table, Traced};
+use sbl_machine::{DEFAULT_LIMIT, Machine, Meter, Table};
 use sbl_run::MAX_WORD_LENGTH;
 use sbl_script::Script;
 use std::alloc::Global;
@@ -38,8 +39,16 @@ impl Bench {
         let machine = Machine::new(alloc, &script)?;
         let mut meter = Meter::new();
         let mut traces = IndexMap::new(alloc);
+        let mut lists = SharedLists::new(alloc);
         for word in words {
-            take_word(alloc, &machine, &mut meter, &mut traces, word)?;
+            take_word(
+                alloc,
+                &machine,
+                &mut meter,
+                &mut lists,
+                &mut traces,
+                word,
+            )?;
         }
         Ok(Bench {
             alloc,
@@ -54,19 +63,20 @@ impl Bench {
 }
 
 // Whether the vocabulary is full and the word is not in it.
-fn has_no_room(traces: &IndexMap<Vec<char>, Traced>, word: &[char]) -> bool
+fn has_no_room(traces: &IndexMap<Vec<char>, LastRun>, word: &[char]) -> bool
     ensures { result ≡ (is_full (words_in traces.now.entries) && not (is_word word.now (words_in traces.now.entries))) }
 {
     traces.len() >= MAX_WORDS && !has_word(traces, word)
 }
 
-/// Takes one word of the list. Skips the word if it is empty or in the vocabulary; otherwise runs it and appends it. Returns
+/// Takes one word of the list; its run shares a list of touches if one of them is equal. Skips the word if it is empty or in the vocabulary; otherwise runs it and appends it. Returns
 /// `WordTooLong`, `Full` or `OutOfMemory` as `Bench::open` does.
 fn take_word(
     alloc: Global,
     machine: &Machine<Table>,
     meter: &mut Meter,
-    traces: &mut IndexMap<Vec<char>, Traced>,
+    lists: &mut SharedLists,
+    traces: &mut IndexMap<Vec<char>, LastRun>,
     word: Vec<char>,
 ) -> Result<(), EditFault>
     requires counted { meter.old ≡ length traces.old.entries }
@@ -93,7 +103,8 @@ fn take_word(
         Entry::Occupied(entry) => leave(entry),
         Entry::Vacant(entry) => {
             let traced = machine.trace(alloc, meter, entry.key().as_slice(), DEFAULT_LIMIT)?;
-            entry.insert(traced);
+            let last = lists.keep(alloc, traced)?;
+            entry.insert(last);
         }
     }
     Ok(())
@@ -101,7 +112,7 @@ fn take_word(
 
 // Leaves the entry of a word, and the others, unchanged. (The map promises this for an entry that is swapped with itself, but
 // promises nothing for an entry that is dropped.)
-fn leave(entry: OccupiedEntry<'_, Vec<char>, Traced>)
+fn leave(entry: OccupiedEntry<'_, Vec<char>, LastRun>)
     ensures { entry.exit.0.now.entries ≡ (entry_map (Occupied entry.entry)).entries }
 {
     let index = entry.index();

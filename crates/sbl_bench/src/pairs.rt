@@ -4,23 +4,24 @@ ghost use Rattle.std.specs.Prelude.{◌≡◌, ◌||◌, IfOk, OnOk, OnErr};
 ghost use Rattle.sbl_machine.specs.Outcome.{outcome_of};
 ghost use Rattle.sbl_bench.specs.Pairs.{ArePaired, Key, has, is_pair_of};
 
+use crate::last_run::LastRun;
 use crate::traces::words_are_unique;
 use indexmap::IndexMap;
-use sbl_machine::{Outcome, Traced};
+use sbl_machine::Outcome;
 use std::alloc::{AllocError, Global};
 use std::collections::BTreeSet;
 
 /// Returns the pairs of the words that have a stem. Returns `AllocError` if an allocation fails.
 pub(crate) fn pairs_of(
     alloc: Global,
-    traces: &IndexMap<Vec<char>, Traced>,
+    traces: &IndexMap<Vec<char>, LastRun>,
 ) -> Result<BTreeSet<(Vec<char>, Vec<char>)>, AllocError>
     ensures { IfOk result (λ pairs. ArePaired traces.now.entries pairs) }
 {
     words_are_unique(traces);
     let mut pairs = BTreeSet::new(alloc);
-    for (word, traced) in traces.iter() {
-        insert_pair(alloc, &mut pairs, word.as_slice(), &traced.outcome)?;
+    for (word, last) in traces.iter() {
+        insert_pair(alloc, &mut pairs, word.as_slice(), last.outcome())?;
     }
     Ok(pairs)
 }

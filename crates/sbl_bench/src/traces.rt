@@ -12,32 +12,39 @@ ghost use Rattle.sbl_bench.specs.Setting.{under};
 ghost use Rattle.sbl_bench.specs.Stops.{IsStop};
 
 use crate::fault::EditFault;
+use crate::last_run::LastRun;
 use indexmap::IndexMap;
-use sbl_machine::{Machine, Meter, Table, Traced};
+use sbl_machine::{Machine, Meter, Table};
 use std::alloc::Global;
 
 /// A map does not contain a word twice.
-pub(crate) fn words_are_unique(traces: &IndexMap<Vec<char>, Traced>)
+pub(crate) fn words_are_unique(traces: &IndexMap<Vec<char>, LastRun>)
     ensures { IsUnique (λ (x y : Text). bytes_eq x.items y.items) traces.now }
 {
     let _count = traces.len();
 }
 
 /// Returns whether the word is in the vocabulary. Does not allocate.
-pub(crate) fn has_word(traces: &IndexMap<Vec<char>, Traced>, word: &[char]) -> bool
+pub(crate) fn has_word(traces: &IndexMap<Vec<char>, LastRun>, word: &[char]) -> bool
     ensures { result ≡ is_word word.now (words_in traces.now.entries) }
 {
     traces.contains_key(word)
 }
 
-/// Runs a new word once and appends it, with its run. Returns `OutOfMemory` if an allocation fails and `MeterFull` if no
+// The run of the last word.
+fn last_of(traces: &IndexMap<Vec<char>, LastRun>) -> Option<&LastRun> {
+    let (_, last) = traces.last()?;
+    Some(last)
+}
+
+/// Runs a new word once and appends it, with its run, which shares the list of the word before if they touch the same. Returns `OutOfMemory` if an allocation fails and `MeterFull` if no
 /// further run can be counted. Then the words and their runs are unchanged, and after `MeterFull` the count too.
 pub(crate) fn put_last(
     alloc: Global,
     machine: &Machine<Table>,
     limit: u32,
     meter: &mut Meter,
-    traces: &mut IndexMap<Vec<char>, Traced>,
+    traces: &mut IndexMap<Vec<char>, LastRun>,
     word: Vec<char>,
 ) -> Result<(), EditFault>
     requires sound { IsWord word.items }
@@ -51,6 +58,7 @@ pub(crate) fn put_last(
 {
     traces.reserve(1)?;
     let traced = machine.trace(alloc, meter, word.as_slice(), limit)?;
-    traces.insert(word, traced).unwrap();
+    let last = LastRun::after(alloc, last_of(traces), traced)?;
+    traces.insert(word, last).unwrap();
     Ok(())
 }

@@ -4,7 +4,7 @@ use Rattle.indexmap.specs.declared.map.entry.Entry.TheVariants.{Vacant}
 use Rattle.indexmap.specs.Entry.{map_with_value}
 use Rattle.sbl_script.specs.Parsed.{Source}
 use Rattle.sbl_machine.specs.MachineOf.{IsLinkedMachineOf}
-use Rattle.sbl_machine.specs.Outcome.{run_of, touches_of, used_of}
+use Rattle.sbl_machine.specs.Outcome.{outcome_of, run_of, touches_of, used_of}
 use Rattle.sbl_bench.specs.Kept.{words_in, IsKept, IsWord}
 use Rattle.sbl_machine.specs.Limit.{default_limit}
 use Rattle.sbl_bench.specs.Setting.{under}
@@ -22,22 +22,22 @@ returns-in-Occupied-clause-words c =
     let there = sym (found_word c.args.word.items old) ∙ found.0 in
     search (comes_home {left = c.leave.new.entry.0} (λ es. words_in es ≡ with_word (words_in old) c.args.word.items) old home stays (sym (skips c.args.word.items (words_in old) there)))
 
-pub returns-in_ok-traced-in-Vacant-clause-words : goal.returns-in_ok-traced-in-Vacant-clause-words
-returns-in_ok-traced-in-Vacant-clause-words c =
+pub returns-in_ok-last-in-Vacant-clause-words : goal.returns-in_ok-last-in-Vacant-clause-words
+returns-in_ok-last-in-Vacant-clause-words c =
     let home = sym (rw c.in-Vacant.is at c.in-Ok.ensures.same_map) in
     let none = rw c.in-Vacant.is at c.in-Ok.ensures.found in
-    let put = goes_last c.args.traces.now c.args.word c.insert.result.now c.in_ok-traced-in-Vacant.traced _ none c.insert.ensures.value (rw c.in-Vacant.is at c.in-Ok.ensures.update.1 c.insert.result.now) in
+    let put = goes_last c.args.traces.now c.args.word c.insert.result.now c.in_ok-last-in-Vacant.last _ none c.insert.ensures.value (rw c.in-Vacant.is at c.in-Ok.ensures.update.1 c.insert.result.now) in
     let old = c.args.traces.now.entries in
     let new = sym (found_word c.args.word.items old) ∙ ap is_some none in
     let some = ap (λ (n : ℕ). nat_eq n 0) (sym c.args.word.ok.0) ∙ sym c.is_empty.ensures ∙ c.if-is_empty.false in
     search (comes_home {left = map_with_value (Vacant c.in-Vacant.entry) c.insert.result.now} (λ es. words_in es ≡ with_word (words_in old) c.args.word.items) _ home put
     (words-push old _ ∙ sym (takes c.args.word.items (words_in old) some new)))
 
-pub returns-in_ok-traced-in-Vacant-clause-kept : goal.returns-in_ok-traced-in-Vacant-clause-kept
-returns-in_ok-traced-in-Vacant-clause-kept c =
+pub returns-in_ok-last-in-Vacant-clause-kept : goal.returns-in_ok-last-in-Vacant-clause-kept
+returns-in_ok-last-in-Vacant-clause-kept c =
     let home = sym (rw c.in-Vacant.is at c.in-Ok.ensures.same_map) in
     let none = rw c.in-Vacant.is at c.in-Ok.ensures.found in
-    let put = goes_last c.args.traces.now c.args.word c.insert.result.now c.in_ok-traced-in-Vacant.traced _ none c.insert.ensures.value (rw c.in-Vacant.is at c.in-Ok.ensures.update.1 c.insert.result.now) in
+    let put = goes_last c.args.traces.now c.args.word c.insert.result.now c.in_ok-last-in-Vacant.last _ none c.insert.ensures.value (rw c.in-Vacant.is at c.in-Ok.ensures.update.1 c.insert.result.now) in
     let old = c.args.traces.now.entries in
     let key = (rw c.in-Vacant.is at c.in-Ok.ensures.key) ((rw c.in-Vacant.is at c.in-Ok.ensures.value) ∙ none) in
     let read = c.as_slice-in-Vacant.ensures.value ∙ ap (λ v. v.items) (c.key.ensures ∙ key) in
@@ -46,8 +46,8 @@ returns-in_ok-traced-in-Vacant-clause-kept c =
     let some : nat_eq (length c.args.word.items) 0 ≡ false = ap (λ (n : ℕ). nat_eq n 0) (sym c.args.word.ok.0) ∙ sym c.is_empty.ensures ∙ c.if-is_empty.false in
     let sound : IsWord c.args.word.items = (grind (arith, tests, some), grind (arith, tests, c.args.word.ok.0, c.len.ensures, c.if-len-gt-MAX_WORD_LENGTH.false)) in
     search (comes_home {left = map_with_value (Vacant c.in-Vacant.entry) c.insert.result.now} (λ es. (s : Source) → IsLinkedMachineOf c.args.machine.now s → IsKept (under s default_limit) old → IsKept (under s default_limit) es) _ home put
-    (λ s made kept. kept-push (under s default_limit) old (c.args.word, c.in_ok-traced-in-Vacant.traced) kept sound room (record {
-      outcome = c.in_ok-traced-in-Vacant.ensures.outcome s made ∙ ap (λ w. run_of s w default_limit) read;
-      touches = c.in_ok-traced-in-Vacant.ensures.touches s made ∙ ap (λ w. touches_of s w default_limit) read;
-      used = c.in_ok-traced-in-Vacant.ensures.used s made ∙ ap (λ w. used_of s w default_limit) read;
+    (λ s made kept. kept-push (under s default_limit) old (c.args.word, c.in_ok-last-in-Vacant.last) kept sound room (record {
+      outcome = ap outcome_of c.in_ok-last-in-Vacant.ensures.outcome ∙ c.in_ok-traced-in-Vacant.ensures.outcome s made ∙ ap (λ w. run_of s w default_limit) read;
+      touches = c.in_ok-last-in-Vacant.ensures.touches ∙ c.in_ok-traced-in-Vacant.ensures.touches s made ∙ ap (λ w. touches_of s w default_limit) read;
+      used = c.in_ok-last-in-Vacant.ensures.used ∙ c.in_ok-traced-in-Vacant.ensures.used s made ∙ ap (λ w. used_of s w default_limit) read;
     })))

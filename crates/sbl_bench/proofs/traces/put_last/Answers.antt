@@ -3,7 +3,7 @@ use Rattle.std.specs.Map.{lookup}
 use Rattle.std.specs.Str.{bytes_eq}
 use Rattle.std.specs.declared.vec.Vec.{Vec}
 use Rattle.std.specs.declared.alloc.Global.{Global}
-use Rattle.sbl_machine.specs.Outcome.{run_of, touches_of, used_of}
+use Rattle.sbl_machine.specs.Outcome.{outcome_of, run_of, touches_of, used_of}
 use Rattle.sbl_bench.specs.Kept.{KeptWord, words_in, IsKept}
 use Rattle.sbl_bench.specs.Setting.{under}
 use Rattle.indexmap.proofs.CallerLemmas.{insert_entry-new}
@@ -11,14 +11,14 @@ use Rattle.sbl_bench.proofs.Words.{is_key, not_found, words-push, kept-push}
 use Rattle.sbl_bench.proofs.traces.put_last.Goals as goal
 
 -- the new word goes last
-goes_last : (c : goal.Joined-unwrap) → c.insert.new.self.entries ≡ c.args.traces.now.entries ++ (c.args.word, c.in_ok-traced.traced) ∷ []
+goes_last : (c : goal.Joined-unwrap) → c.insert.new.self.entries ≡ c.args.traces.now.entries ++ (c.args.word, c.in_ok-last.last) ∷ []
 goes_last c =
     let es = c.args.traces.now.entries in
     let eq = λ (x y : Vec ℕ Global). bytes_eq x.items y.items in
     let inserted = rw c.unwrap.ensures at c.insert.ensures.entries in
     let none : lookup (is_key c.args.word.items) c.reserve.new.self.entries ≡ None =
     ap (lookup (is_key c.args.word.items)) c.reserve.ensures.entries ∙ not_found c.args.word.items es c.requires.new in
-    inserted ∙ insert_entry-new eq c.reserve.new.self c.args.word c.in_ok-traced.traced none ∙ ap (λ (l : List KeptWord). l ++ (c.args.word, c.in_ok-traced.traced) ∷ []) c.reserve.ensures.entries
+    inserted ∙ insert_entry-new eq c.reserve.new.self c.args.word c.in_ok-last.last none ∙ ap (λ (l : List KeptWord). l ++ (c.args.word, c.in_ok-last.last) ∷ []) c.reserve.ensures.entries
 
 pub returns-clause-words : goal.returns-clause-words
 returns-clause-words c = ap words_in (goes_last c) ∙ words-push c.args.traces.now.entries _
@@ -26,9 +26,9 @@ returns-clause-words c = ap words_in (goes_last c) ∙ words-push c.args.traces.
 pub returns-clause-kept : goal.returns-clause-kept
 returns-clause-kept c s made kept =
     subst (IsKept (under s c.args.limit)) (sym (goes_last c))
-    (kept-push (under s c.args.limit) c.args.traces.now.entries (c.args.word, c.in_ok-traced.traced) kept c.requires.sound c.requires.room
+    (kept-push (under s c.args.limit) c.args.traces.now.entries (c.args.word, c.in_ok-last.last) kept c.requires.sound c.requires.room
     (record {
-      outcome = c.in_ok-traced.ensures.outcome s made ∙ ap (λ (w : List ℕ). run_of s w c.args.limit) c.as_slice.ensures.value;
-      touches = c.in_ok-traced.ensures.touches s made ∙ ap (λ (w : List ℕ). touches_of s w c.args.limit) c.as_slice.ensures.value;
-      used = c.in_ok-traced.ensures.used s made ∙ ap (λ (w : List ℕ). used_of s w c.args.limit) c.as_slice.ensures.value;
+      outcome = ap outcome_of c.in_ok-last.ensures.outcome ∙ c.in_ok-traced.ensures.outcome s made ∙ ap (λ (w : List ℕ). run_of s w c.args.limit) c.as_slice.ensures.value;
+      touches = c.in_ok-last.ensures.touches ∙ c.in_ok-traced.ensures.touches s made ∙ ap (λ (w : List ℕ). touches_of s w c.args.limit) c.as_slice.ensures.value;
+      used = c.in_ok-last.ensures.used ∙ c.in_ok-traced.ensures.used s made ∙ ap (λ (w : List ℕ). used_of s w c.args.limit) c.as_slice.ensures.value;
     }))

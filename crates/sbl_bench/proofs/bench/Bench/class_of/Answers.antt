@@ -22,15 +22,15 @@ returns-in_ok-stem-in-Stem c =
           (c.in_ok-words-in-Stem.ensures.words ∙ ap (λ (s : List ℕ). words_paired s (map plain c.in_ok-pairs-in-Stem.pairs.keys)) c.as_slice.ensures.value
           ∙ words_kept (under (source_of b.script) b.limit) b.traces.entries c.in_ok-pairs-in-Stem.pairs stem c.self.invariant.1.fresh c.words_are_unique.ensures c.in_ok-pairs-in-Stem.ensures c.words_with.ensures.ordered c.words_with.ensures.found) i;
     }))
-    ∙ ap (λ (o : Outcome). option_map (class_with rows) (stem_of (outcome_of o))) (sym c.in-Stem.is)
-    ∙ class_found (under (source_of b.script) b.limit) b.traces.entries c.args.word.now c.self.invariant.1.fresh (Some c.in-Some.traced.now) c.in-Some.ensures.value
+    ∙ ap (λ (o : Outcome). option_map (class_with rows) (stem_of (outcome_of o))) (sym c.in-Stem.is ∙ c.outcome.ensures)
+    ∙ class_found (under (source_of b.script) b.limit) b.traces.entries c.args.word.now c.self.invariant.1.fresh (Some c.in-Some.last.now) c.in-Some.ensures.value
     ∙ ap (λ (k : Kept). class_of (rows_of (setting_of k) k.words) c.args.word.now) c.self.view_is
 
 pub returns-in-Refused : goal.returns-in-Refused
 returns-in-Refused c =
     let b = c.self.inside in
-    ap (λ (o : Outcome). option_map (class_with (rows_of (under (source_of b.script) b.limit) (words_in b.traces.entries))) (stem_of (outcome_of o))) (sym c.in-Refused.is)
-    ∙ class_found (under (source_of b.script) b.limit) b.traces.entries c.args.word.now c.self.invariant.1.fresh (Some c.in-Some.traced.now) c.in-Some.ensures.value
+    ap (λ (o : Outcome). option_map (class_with (rows_of (under (source_of b.script) b.limit) (words_in b.traces.entries))) (stem_of (outcome_of o))) (sym c.in-Refused.is ∙ c.outcome.ensures)
+    ∙ class_found (under (source_of b.script) b.limit) b.traces.entries c.args.word.now c.self.invariant.1.fresh (Some c.in-Some.last.now) c.in-Some.ensures.value
     ∙ ap (λ (k : Kept). class_of (rows_of (setting_of k) k.words) c.args.word.now) c.self.view_is
 
 pub returns-in_default : goal.returns-in_default

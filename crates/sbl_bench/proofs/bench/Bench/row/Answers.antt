@@ -17,7 +17,8 @@ row_with w o = Some (record { word = w; outcome = outcome_of o })
 pub returns : goal.returns
 returns c =
     let es = c.self.inside.traces.entries in
-    ap (λ (w : List ℕ). row_with w c.in_ok-word.traced.now.outcome) c.as_slice.ensures.value
+    ap (λ (o : Outcome). row_with c.as_slice.result.now o) c.outcome.ensures
+    ∙ ap (λ (w : List ℕ). row_with w c.in_ok-word.last.now.outcome) c.as_slice.ensures.value
     ∙ ap (option_map shown) c.in_ok-word.ensures.entry
     ∙ sym (slice_get-map shown es c.args.i)
     ∙ ap (λ (rows : List Row). slice_get rows c.args.i) (rows_shown (under (source_of c.self.inside.script) c.self.inside.limit) es c.self.invariant.1.fresh)
