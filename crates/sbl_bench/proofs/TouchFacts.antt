@@ -50,6 +50,7 @@ equal_all same is (x ∷ xs) (y ∷ ys) h =
 pub equal_lists : {same : Touch → Touch → Bool} (xs ys : List Touch) (r : Bool) → r ≡ pointwise same xs ys → r ≡ true → IsTouchTest same → xs ≡ ys
 equal_lists {same} xs ys r is h test = equal_all same test xs ys (sym is ∙ h)
 
-pub ok_more : {T E : Type 0} {P R : T → Type 0} {Q : E → Type 0} (r : Result T E) → ((x : T) → P x → R x) → MatchResult r P Q → IfOk r R
-ok_more (Ok x) f h = f x h
-ok_more (Err e) f h = tt
+-- what a result gives if it is a success
+pub ok_more : {T E : Type 0} (P R : T → Type 0) (Q : E → Type 0) (r : Result T E) → ((x : T) → P x → R x) → MatchResult r P Q → IfOk r R
+ok_more P R Q (Ok x) f h = f x h
+ok_more P R Q (Err e) f h = tt
