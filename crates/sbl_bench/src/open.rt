@@ -41,14 +41,7 @@ impl Bench {
         let mut traces = IndexMap::new(alloc);
         let mut lists = SharedLists::new(alloc);
         for word in words {
-            take_word(
-                alloc,
-                &machine,
-                &mut meter,
-                &mut lists,
-                &mut traces,
-                word,
-            )?;
+            take_word(alloc, &machine, &mut meter, &mut lists, &mut traces, word)?;
         }
         Ok(Bench {
             alloc,
