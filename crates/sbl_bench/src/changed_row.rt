@@ -9,7 +9,7 @@ ghost use Rattle.sbl_bench.specs.Last.{changed_since, last_changes};
 
 use crate::bench::Bench;
 use crate::change::Change;
-use indexmap::IndexMap;
+use crate::traces::Traces;
 use sbl_machine::{Outcome, Traced};
 use std::alloc::{AllocError, Global};
 
@@ -39,7 +39,7 @@ impl Bench {
 /// allocation fails.
 fn changes_of<'a>(
     alloc: Global,
-    traces: &'a IndexMap<Vec<char>, Traced>,
+    traces: &'a Traces,
     last: &'a [Change],
 ) -> Result<Vec<ChangedRow<'a>>, AllocError>
     ensures { IfOk result (λ changes. map view_changed_row changes.items ≡ last_changes traces.now.entries last.now) }

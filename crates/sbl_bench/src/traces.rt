@@ -15,16 +15,21 @@ use crate::fault::EditFault;
 use indexmap::IndexMap;
 use sbl_machine::{Machine, Meter, Table, Traced};
 use std::alloc::Global;
+use std::hash::RandomState;
+
+/// The words of a bench in their order, each with its last run. They are found by a hash with keys, so that nobody who does not
+/// know the keys can choose words that collide.
+pub(crate) type Traces = IndexMap<Vec<char>, Traced, RandomState>;
 
 /// A map does not contain a word twice.
-pub(crate) fn words_are_unique(traces: &IndexMap<Vec<char>, Traced>)
+pub(crate) fn words_are_unique(traces: &Traces)
     ensures { IsUnique (λ (x y : Text). bytes_eq x.items y.items) traces.now }
 {
     let _count = traces.len();
 }
 
 /// Returns whether the word is in the vocabulary. Does not allocate.
-pub(crate) fn has_word(traces: &IndexMap<Vec<char>, Traced>, word: &[char]) -> bool
+pub(crate) fn has_word(traces: &Traces, word: &[char]) -> bool
     ensures { result ≡ is_word word.now (words_in traces.now.entries) }
 {
     traces.contains_key(word)
@@ -37,7 +42,7 @@ pub(crate) fn put_last(
     machine: &Machine<Table>,
     limit: u32,
     meter: &mut Meter,
-    traces: &mut IndexMap<Vec<char>, Traced>,
+    traces: &mut Traces,
     word: Vec<char>,
 ) -> Result<(), EditFault>
     requires sound { IsWord word.items }

@@ -15,6 +15,7 @@ use sbl_bench::Bench;
 use sbl_lines::{Lines, ServeFault, Source};
 use sbl_script::{Script, ScriptFault};
 use std::alloc::Global;
+use std::hash::RandomState;
 
 /// Reads the text of the script block: its lines up to a line `.`, each followed by a line feed. The block is read to its end
 /// before it is checked.
@@ -82,7 +83,7 @@ fn read_words<R: Source + Drop>(lines: &mut Lines<R>) -> Result<Vec<Vec<char>>, 
 
 /// Loads the bench of an input. The input is a script block and then words. The script block is the lines up to a line `.`,
 /// each followed by a line feed; it is read as a script with this external. The words are one per line, up to a line `.` or the
-/// end of input. The lines after that are left.
+/// end of input. The lines after that are left. The keys are those of the hash by which words are found, as in `Bench::open`.
 ///
 /// # Errors
 ///
@@ -95,7 +96,11 @@ fn read_words<R: Source + Drop>(lines: &mut Lines<R>) -> Result<Vec<Vec<char>>, 
 /// After `Cut`, the input is at its end. After a fault of the script, the next line is the one after its block. After
 /// `NotText`, it is the one after the line that is not UTF-8. The lines keep `Read` and `LineTooLong` and return them again,
 /// and so does every later `load`, which then reads nothing.
-pub fn load<R: Source + Drop>(lines: &mut Lines<R>, external: &str) -> Result<Bench, LoadFault>
+pub fn load<R: Source + Drop>(
+    lines: &mut Lines<R>,
+    keys: RandomState,
+    external: &str,
+) -> Result<Bench, LoadFault>
     ensures loaded { fault_of lines.old ≡ None → IsLoaded (input_of R.left lines.old) (input_of R.left lines.new) external.now (λ b. contents_of b) result }
     ensures later { R.failures lines.old.reader ≤ R.failures lines.new.reader }
     ensures steady { OnOk result (R.failures lines.new.reader ≡ R.failures lines.old.reader) }
@@ -117,7 +122,7 @@ pub fn load<R: Source + Drop>(lines: &mut Lines<R>, external: &str) -> Result<Be
             return Err(fault);
         }
     };
-    match Bench::open(lines.alloc(), script, words) {
+    match Bench::open(lines.alloc(), keys, script, words) {
         Ok(bench) => Ok(bench),
         Err(fault) => Err(LoadFault::Open(fault)),
     }
