@@ -1,17 +1,21 @@
 //! Loading a bench from an input: a script block, and then words.
-ghost use Rattle.std.specs.Prelude.{◌≡◌, ◌⊎◌, ◌≤◌, None, Some, Err, IfOk, IfErr, OnOk, true, false};
+ghost use Rattle.std.specs.Prelude.{◌≡◌, ◌⊎◌, ◌≤◌, ℕ, List, None, Some, Err, IfOk, IfErr, OnOk, true, false};
 ghost use Rattle.std.specs.Str.{chars, is_utf8};
 ghost use Rattle.sbl_bench.specs.Kept.{contents_of};
+ghost use Rattle.sbl_bench.specs.Contents.{Opens};
+ghost use Rattle.sbl_script.specs.Parsed.{source_of};
+ghost use Rattle.sbl_sessions.specs.WordLists.{HoldsWords, ReadsWords};
 ghost use Rattle.std.specs.Io.KnownBytes.{Keeps};
 ghost use Rattle.sbl_lines.specs.Faults.{serve_fault_of};
 ghost use Rattle.sbl_sessions.specs.Faults.{left_by_load};
 ghost use Rattle.sbl_lines.specs.declared.faults.LineFault.{LineFault};
 ghost use Rattle.sbl_lines.specs.Held.{KeepsTime, fault_of, input_of, reads_bound};
-ghost use Rattle.sbl_sessions.specs.Loaded.{HasReason, IsLoaded, ReadsScript, ReadsWords};
+ghost use Rattle.sbl_sessions.specs.Loaded.{HasReason, IsLoaded, ReadsScript};
 
 use crate::block_text::{BlockFault, read_block};
 use crate::faults::LoadFault;
-use sbl_bench::Bench;
+use crate::word_list::WordList;
+use sbl_bench::{Bench, EditFault};
 use sbl_lines::{Lines, ServeFault, Source};
 use sbl_script::{Script, ScriptFault};
 use std::alloc::Global;
@@ -60,8 +64,11 @@ fn characters_of(alloc: Global, line: &[u8]) -> Result<Vec<char>, LoadFault>
     Ok(word)
 }
 
-/// Reads the words, up to a line `.` or the end of input.
-fn read_words<R: Source + Drop>(lines: &mut Lines<R>) -> Result<Vec<Vec<char>>, LoadFault>
+/// Reads the words, up to a line `.` or the end of input. Keeps only those that decide how a bench opens.
+fn read_words<R: Source + Drop>(
+    lines: &mut Lines<R>,
+    keys: RandomState,
+) -> Result<WordList, LoadFault>
     ensures reads { fault_of lines.old ≡ None → ReadsWords (input_of R.left lines.old) (input_of R.left lines.new) result }
     ensures remembered { fault_of lines.new ≡ left_by_load result }
     ensures later { R.failures lines.old.reader ≤ R.failures lines.new.reader }
@@ -70,7 +77,7 @@ fn read_words<R: Source + Drop>(lines: &mut Lines<R>) -> Result<Vec<Vec<char>>, 
     ensures why { IfErr result (λ fault. HasReason R.failures R.interruptions R.reads lines.old lines.new fault) }
     ensures in_time { KeepsTime R.ended R.late R.interruptions R.reads lines.old lines.new }
 {
-    let mut words = Vec::new(lines.alloc());
+    let mut words = WordList::new(lines.alloc(), keys);
     while lines.next_line()? {
         if lines.line() == b".".as_slice() {
             return Ok(words);
@@ -79,6 +86,25 @@ fn read_words<R: Source + Drop>(lines: &mut Lines<R>) -> Result<Vec<Vec<char>>, 
         words.push(word)?;
     }
     Ok(words)
+}
+
+/// Returns the bench of a script and of words that were read. Returns `WordTooLong`, `Full` and `OutOfMemory` as `Bench::open`
+/// does with all of them.
+fn open_words(
+    alloc: Global,
+    keys: RandomState,
+    script: Script,
+    words: WordList,
+) -> Result<Bench, EditFault>
+    ensures { (all : List (List ℕ)) → HoldsWords words all → Opens (source_of script) all (λ b. contents_of b) result }
+{
+    match words.into_words(alloc) {
+        Ok(words) => Bench::open(alloc, keys, script, words),
+        Err(_) => {
+            script.discard();
+            Err(EditFault::OutOfMemory)
+        }
+    }
 }
 
 /// Loads the bench of an input. The input is a script block and then words. The script block is the lines up to a line `.`,
@@ -115,14 +141,14 @@ pub fn load<R: Source + Drop>(
         Ok(script) => script,
         Err(fault) => return Err(LoadFault::Script(fault)),
     };
-    let words = match read_words(lines) {
+    let words = match read_words(lines, keys) {
         Ok(words) => words,
         Err(fault) => {
             script.discard();
             return Err(fault);
         }
     };
-    match Bench::open(lines.alloc(), keys, script, words) {
+    match open_words(lines.alloc(), keys, script, words) {
         Ok(bench) => Ok(bench),
         Err(fault) => Err(LoadFault::Open(fault)),
     }
