@@ -4,9 +4,8 @@ ghost use Rattle.std.specs.Prelude.{◌≡◌, ◌≤◌, ◌+◌, ◌^◌, ◌�
 
 use crate::change::Change;
 use crate::fault::EditFault;
-use crate::last_run::LastRun;
 use crate::row::Row;
-use indexmap::IndexMap;
+use crate::traces::Traces;
 use sbl_machine::{Item, Machine, Meter, Table, Why};
 use sbl_run::MAX_WORD_LENGTH;
 use sbl_script::Script;
@@ -30,7 +29,7 @@ pub struct Bench {
     // the maximum number of steps of a run
     pub(crate) limit: u32,
     // the last run of each word; a fresh run would be equal
-    pub(crate) traces: IndexMap<Vec<char>, LastRun>,
+    pub(crate) traces: Traces,
     pub(crate) meter: Meter,
     // the words that the last edit ran again, each with its run before
     pub(crate) last: Vec<Change>,

@@ -19,8 +19,7 @@ ghost use Rattle.sbl_bench.specs.Stops.{IsStopOf};
 use crate::affected::{Affected, is_affected};
 use crate::fault::EditFault;
 use crate::last_run::{LastRun, SharedLists};
-use crate::traces::words_are_unique;
-use indexmap::IndexMap;
+use crate::traces::{Traces, words_are_unique};
 use sbl_machine::{Machine, Meter, Table};
 use std::alloc::{AllocError, Global};
 use std::mem::swap;
@@ -33,7 +32,7 @@ pub(crate) struct Change {
 }
 
 /// Exchanges the run of a word of the vocabulary and the run of its change. Does not allocate.
-fn commit_one(traces: &mut IndexMap<Vec<char>, LastRun>, change: &mut Change)
+fn commit_one(traces: &mut Traces, change: &mut Change)
     requires { IsSome (find change.old.word.items traces.old.entries) }
     ensures finds { (w : Text) → find w.items traces.new.entries ≡ (if bytes_eq change.old.word.items w.items then Some change.old.traced else find w.items traces.old.entries) }
     ensures before { word_run change.new ≡ word_found traces.old.entries change.old }
@@ -45,7 +44,7 @@ fn commit_one(traces: &mut IndexMap<Vec<char>, LastRun>, change: &mut Change)
 }
 
 /// Exchanges the run of each word of the changes and the run of its change. Does not allocate.
-fn commit(traces: &mut IndexMap<Vec<char>, LastRun>, changes: &mut [Change])
+fn commit(traces: &mut Traces, changes: &mut [Change])
     requires there { AreThere traces.old.entries changes.old }
     requires apart { AreApart changes.old }
     ensures run { All (λ c. find c.word.items traces.new.entries ≡ Some c.traced) changes.old }
@@ -78,7 +77,7 @@ fn push_change(
 fn met_words<'a>(
     alloc: Global,
     affected: &Affected,
-    traces: &'a IndexMap<Vec<char>, LastRun>,
+    traces: &'a Traces,
 ) -> Result<Vec<&'a [char]>, AllocError>
     ensures words { IfOk result (λ words. map (λ w. w.now) words.items ≡ spec.met_words (affected_of affected.now) traces.now.entries) }
     ensures unique { IsUnique (λ (x y : Text). bytes_eq x.items y.items) traces.now }
@@ -133,7 +132,7 @@ pub(crate) fn rerun(
     limit: u32,
     affected: &Affected,
     meter: &mut Meter,
-    traces: &IndexMap<Vec<char>, LastRun>,
+    traces: &Traces,
 ) -> Result<Vec<Change>, EditFault>
     requires sound { All IsWord (words_in traces.now.entries) }
     ensures changes { (s : Source) → IsLinkedMachineOf machine.now s → IfOk result (λ changes. map view_change changes.items ≡ reruns (under s limit) (spec.met_words (affected_of affected.now) traces.now.entries)) }
@@ -151,10 +150,7 @@ pub(crate) fn rerun(
 }
 
 /// Applies the changes of an edit, and returns them with the runs before. Does not allocate.
-pub(crate) fn make_changes(
-    traces: &mut IndexMap<Vec<char>, LastRun>,
-    changes: Vec<Change>,
-) -> Vec<Change>
+pub(crate) fn make_changes(traces: &mut Traces, changes: Vec<Change>) -> Vec<Change>
     requires changes { (t : Setting) × AreAnew t traces.old.entries changes.items }
     requires apart { AreApart changes.items }
     requires unique { IsUnique (λ (x y : Text). bytes_eq x.items y.items) traces.old }

@@ -10,7 +10,7 @@ ghost use Rattle.sbl_bench.specs.Last.{changed_since, last_changes};
 use crate::bench::Bench;
 use crate::change::Change;
 use crate::last_run::LastRun;
-use indexmap::IndexMap;
+use crate::traces::Traces;
 use sbl_machine::Outcome;
 use std::alloc::{AllocError, Global};
 
@@ -40,7 +40,7 @@ impl Bench {
 /// allocation fails.
 fn changes_of<'a>(
     alloc: Global,
-    traces: &'a IndexMap<Vec<char>, LastRun>,
+    traces: &'a Traces,
     last: &'a [Change],
 ) -> Result<Vec<ChangedRow<'a>>, AllocError>
     ensures { IfOk result (λ changes. map view_changed_row changes.items ≡ last_changes traces.now.entries last.now) }

@@ -14,13 +14,14 @@ ghost use Rattle.sbl_bench.specs.Setting.{under};
 use crate::bench::{Bench, MAX_WORDS};
 use crate::fault::EditFault;
 use crate::last_run::{LastRun, SharedLists};
-use crate::traces::has_word;
+use crate::traces::{Traces, has_word};
 use indexmap::IndexMap;
 use indexmap::map::{Entry, OccupiedEntry};
 use sbl_machine::{DEFAULT_LIMIT, Machine, Meter, Table};
 use sbl_run::MAX_WORD_LENGTH;
 use sbl_script::Script;
 use std::alloc::Global;
+use std::hash::RandomState;
 
 impl Bench {
     ghost use Rattle.sbl_bench.specs.Kept.{contents_of};
@@ -30,15 +31,23 @@ impl Bench {
     /// Returns the bench of a script and a list of words. The words are taken in order. Empty words and repeats are skipped, so
     /// a word keeps its first position. Each word of the vocabulary is run once.
     ///
+    /// Words are found by a hash with these keys; the bench is the same with any keys. If they come from the system, as those of
+    /// `RandomState::new`, nobody can choose words that collide, which would make each word take as long as all before it.
+    ///
     /// Returns `WordTooLong` at a word of more than 255 characters, even if it is a repeat, and `Full` at a new word after
     /// 100,000 others, whichever comes first. Returns `OutOfMemory` if an allocation fails. (Our own choice.)
-    pub fn open(alloc: Global, script: Script, words: Vec<Vec<char>>) -> Result<Bench, EditFault>
+    pub fn open(
+        alloc: Global,
+        keys: RandomState,
+        script: Script,
+        words: Vec<Vec<char>>,
+    ) -> Result<Bench, EditFault>
         ensures opens { Opens (source_of script) (map (λ w. w.items) words.items) (λ b. contents_of b) result }
         ensures changes { IfOk result (λ b. b.changes ≡ []) }
     {
         let machine = Machine::new(alloc, &script)?;
         let mut meter = Meter::new();
-        let mut traces = IndexMap::new(alloc);
+        let mut traces = IndexMap::with_hasher(alloc, keys);
         let mut lists = SharedLists::new(alloc);
         for word in words {
             take_word(alloc, &machine, &mut meter, &mut lists, &mut traces, word)?;
@@ -56,7 +65,7 @@ impl Bench {
 }
 
 // Whether the vocabulary is full and the word is not in it.
-fn has_no_room(traces: &IndexMap<Vec<char>, LastRun>, word: &[char]) -> bool
+fn has_no_room(traces: &Traces, word: &[char]) -> bool
     ensures { result ≡ (is_full (words_in traces.now.entries) && not (is_word word.now (words_in traces.now.entries))) }
 {
     traces.len() >= MAX_WORDS && !has_word(traces, word)
@@ -69,7 +78,7 @@ fn take_word(
     machine: &Machine<Table>,
     meter: &mut Meter,
     lists: &mut SharedLists,
-    traces: &mut IndexMap<Vec<char>, LastRun>,
+    traces: &mut Traces,
     word: Vec<char>,
 ) -> Result<(), EditFault>
     requires counted { meter.old ≡ length traces.old.entries }
@@ -105,7 +114,7 @@ fn take_word(
 
 // Leaves the entry of a word, and the others, unchanged. (The map promises this for an entry that is swapped with itself, but
 // promises nothing for an entry that is dropped.)
-fn leave(entry: OccupiedEntry<'_, Vec<char>, LastRun>)
+fn leave(entry: OccupiedEntry<'_, Vec<char>, LastRun, RandomState>)
     ensures { entry.exit.0.now.entries ≡ (entry_map (Occupied entry.entry)).entries }
 {
     let index = entry.index();

@@ -4,9 +4,7 @@ ghost use Rattle.std.specs.Prelude.{◌≡◌, ◌||◌, IfOk, OnOk, OnErr};
 ghost use Rattle.sbl_machine.specs.Outcome.{outcome_of};
 ghost use Rattle.sbl_bench.specs.Pairs.{ArePaired, Key, has, is_pair_of};
 
-use crate::last_run::LastRun;
-use crate::traces::words_are_unique;
-use indexmap::IndexMap;
+use crate::traces::{Traces, words_are_unique};
 use sbl_machine::Outcome;
 use std::alloc::{AllocError, Global};
 use std::collections::BTreeSet;
@@ -14,7 +12,7 @@ use std::collections::BTreeSet;
 /// Returns the pairs of the words that have a stem. Returns `AllocError` if an allocation fails.
 pub(crate) fn pairs_of(
     alloc: Global,
-    traces: &IndexMap<Vec<char>, LastRun>,
+    traces: &Traces,
 ) -> Result<BTreeSet<(Vec<char>, Vec<char>)>, AllocError>
     ensures { IfOk result (λ pairs. ArePaired traces.now.entries pairs) }
 {

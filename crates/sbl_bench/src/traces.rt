@@ -16,35 +16,41 @@ use crate::last_run::LastRun;
 use indexmap::IndexMap;
 use sbl_machine::{Machine, Meter, Table};
 use std::alloc::Global;
+use std::hash::RandomState;
+
+/// The words of a bench in their order, each with its last run. They are found by a hash with keys, so that nobody who does not
+/// know the keys can choose words that collide.
+pub(crate) type Traces = IndexMap<Vec<char>, LastRun, RandomState>;
 
 /// A map does not contain a word twice.
-pub(crate) fn words_are_unique(traces: &IndexMap<Vec<char>, LastRun>)
+pub(crate) fn words_are_unique(traces: &Traces)
     ensures { IsUnique (λ (x y : Text). bytes_eq x.items y.items) traces.now }
 {
     let _count = traces.len();
 }
 
 /// Returns whether the word is in the vocabulary. Does not allocate.
-pub(crate) fn has_word(traces: &IndexMap<Vec<char>, LastRun>, word: &[char]) -> bool
+pub(crate) fn has_word(traces: &Traces, word: &[char]) -> bool
     ensures { result ≡ is_word word.now (words_in traces.now.entries) }
 {
     traces.contains_key(word)
 }
 
 // The run of the last word.
-fn last_of(traces: &IndexMap<Vec<char>, LastRun>) -> Option<&LastRun> {
+fn last_of(traces: &Traces) -> Option<&LastRun> {
     let (_, last) = traces.last()?;
     Some(last)
 }
 
-/// Runs a new word once and appends it, with its run, which shares the list of the word before if they touch the same. Returns `OutOfMemory` if an allocation fails and `MeterFull` if no
-/// further run can be counted. Then the words and their runs are unchanged, and after `MeterFull` the count too.
+/// Runs a new word once and appends it, with its run, which shares the touches of the run before it if they are the same. Returns
+/// `OutOfMemory` if an allocation fails and `MeterFull` if no further run can be counted. Then the words and their runs are
+/// unchanged, and after `MeterFull` the count too.
 pub(crate) fn put_last(
     alloc: Global,
     machine: &Machine<Table>,
     limit: u32,
     meter: &mut Meter,
-    traces: &mut IndexMap<Vec<char>, LastRun>,
+    traces: &mut Traces,
     word: Vec<char>,
 ) -> Result<(), EditFault>
     requires sound { IsWord word.items }

@@ -2,6 +2,7 @@ pub mod BlockFacts
 pub mod EditFacts
 pub mod FirstFacts
 pub mod LoadFacts
+pub mod WordListFacts
 pub mod ReportFacts
 pub mod SessionFacts
 pub mod CommandFacts

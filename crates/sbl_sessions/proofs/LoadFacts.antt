@@ -8,13 +8,14 @@ use Rattle.sbl_text.specs.declared.fault.ScriptFault.{ScriptFault}
 use Rattle.sbl_text.specs.declared.fault.ScriptFault.TheVariants as script
 use Rattle.sbl_script.specs.Parsed.{Parsed, Source, source_of}
 use Rattle.sbl_script.specs.Reading.{IsFaultOf, IsScriptOf}
-use Rattle.sbl_bench.specs.Contents.{IsFaultOrMemory, Contents, opening_fault}
+use Rattle.sbl_bench.specs.Contents.{IsFaultOrMemory, Contents, Opens, opening_fault}
 use Rattle.sbl_bench.specs.declared.fault.EditFault.{EditFault}
 use Rattle.sbl_bench.specs.declared.fault.EditFault.TheVariants as edit
 use Rattle.sbl_sessions.specs.Block.{AllText, BlockLines, Breaks, NoPoint, point}
 use Rattle.sbl_lines.specs.Held.{AllFit, Took}
 use Rattle.sbl_lines.specs.Faults.{serve_fault_of}
-use Rattle.sbl_sessions.specs.Loaded.{IsInput, IsLoaded, ReadsScript, ReadsWords, TookFault, TookSource, WordLines}
+use Rattle.sbl_sessions.specs.Loaded.{IsLoaded, ReadsScript, TookFault, TookSource, TookWords, WordLines}
+use Rattle.sbl_sessions.specs.WordLists.{ReadsWords}
 use Rattle.sbl_lines.specs.declared.faults.LineFault.{LineFault}
 use Rattle.sbl_sessions.proofs.BlockFacts.{all_fit-push, no_point-push}
 use Rattle.sbl_lines.specs.declared.faults.LineFault.TheVariants as line
@@ -27,11 +28,9 @@ pub all_text-push : (lines : List (List ℕ)) (line : List ℕ) → AllText line
 all_text-push [] line h text = (text, tt)
 all_text-push (l ∷ lines) line h text = (h.0, all_text-push lines line h.1 text)
 
-pub words-push : (words : List (Vec ℕ Global)) (lines : List (List ℕ)) (word : Vec ℕ Global) (line : List ℕ) → map (λ w. w.items) words ≡ map chars lines
-    → word.items ≡ chars line → map (λ w. w.items) (words ++ word ∷ []) ≡ map chars (lines ++ line ∷ [])
-words-push words lines word line before is =
-    map-append {A = Vec ℕ Global} (λ w. w.items) words (word ∷ []) ∙ ap (λ (x : List (List ℕ)). x ++ word.items ∷ []) before
-    ∙ ap (λ (w : List ℕ). map chars lines ++ w ∷ []) is ∙ sym (map-append chars lines (line ∷ []))
+-- the words of lines, and of one more
+pub chars-push : (lines : List (List ℕ)) (line word : List ℕ) → word ≡ chars line → map chars (lines ++ line ∷ []) ≡ map chars lines ++ word ∷ []
+chars-push lines line word is = map-append chars lines (line ∷ []) ∙ ap (λ (w : List ℕ). map chars lines ++ w ∷ []) (sym is)
 
 -- a block that was not read to its end
 pub script_broken : (a b : Option (List ℕ)) (f : ServeFault) → Breaks BlockLines a b f → ReadsScript a b (Err (Input f))
@@ -105,26 +104,25 @@ words_refused old between new external s state (Input serve.LengthsDiffer) begin
 words_refused old between new external s state (Input serve.NotText) begins reads = (s, between, begins, reads)
 words_refused old between new external s state (Input serve.OutOfMemory) begins reads = inr (s, between, begins, reads)
 
-words_given : (old between new : Option (List ℕ)) (external : List ℕ) (s : Source) (words : Vec (Vec ℕ Global) Global) (f : EditFault)
-    → TookSource old between external s → ReadsWords between new (Ok words) → opening_fault [] (map (λ w. w.items) words.items) ≡ Some f
-    → (s : Source) × (lines : List (List ℕ)) × IsInput old new external s lines × (opening_fault [] (map chars lines) ≡ Some f)
-words_given old between new external s words f begins reads fault =
-    (s, reads.0, (between, begins, reads.1), ap (opening_fault []) (sym reads.2) ∙ fault)
+-- words that make a vocabulary
+pub bench_loaded : {B : Type 0} (old between new : Option (List ℕ)) (external : List ℕ) (s : Source) (lines : List (List ℕ)) (state : B → Contents) (bench : B)
+    → TookSource old between external s → TookWords between new lines → Opens s (map chars lines) state (Ok bench) → IsLoaded old new external state (Ok bench)
+bench_loaded old between new external s lines state bench begins took opens = (s, lines, (between, begins, took), opens.0, opens.1)
 
 -- words that make no vocabulary
-pub bench_refused : {B : Type 0} (old between new : Option (List ℕ)) (external : List ℕ) (s : Source) (words : Vec (Vec ℕ Global) Global) (state : B → Contents) (f : EditFault)
-    → TookSource old between external s → ReadsWords between new (Ok words) → IsFaultOrMemory (opening_fault [] (map (λ w. w.items) words.items)) f
+pub bench_refused : {B : Type 0} (old between new : Option (List ℕ)) (external : List ℕ) (s : Source) (lines : List (List ℕ)) (state : B → Contents) (f : EditFault)
+    → TookSource old between external s → TookWords between new lines → IsFaultOrMemory (opening_fault [] (map chars lines)) f
     → IsLoaded old new external state (Err (Open f))
-bench_refused old between new external s words state edit.Present begins reads fault = words_given old between new external s words edit.Present begins reads fault
-bench_refused old between new external s words state edit.Absent begins reads fault = words_given old between new external s words edit.Absent begins reads fault
-bench_refused old between new external s words state edit.EmptyWord begins reads fault = words_given old between new external s words edit.EmptyWord begins reads fault
-bench_refused old between new external s words state edit.WordTooLong begins reads fault = words_given old between new external s words edit.WordTooLong begins reads fault
-bench_refused old between new external s words state edit.Full begins reads fault = words_given old between new external s words edit.Full begins reads fault
-bench_refused old between new external s words state edit.NoRoutine begins reads fault = words_given old between new external s words edit.NoRoutine begins reads fault
-bench_refused old between new external s words state edit.NoAmong begins reads fault = words_given old between new external s words edit.NoAmong begins reads fault
-bench_refused old between new external s words state edit.AmongCount begins reads fault = words_given old between new external s words edit.AmongCount begins reads fault
-bench_refused old between new external s words state (edit.Script f) begins reads fault = words_given old between new external s words (edit.Script f) begins reads fault
-bench_refused old between new external s words state edit.OutOfMemory begins reads fault = (s, reads.0, (between, begins, reads.1))
-bench_refused old between new external s words state edit.MeterFull begins reads fault = words_given old between new external s words edit.MeterFull begins reads fault
-bench_refused old between new external s words state edit.BadLimit begins reads fault = words_given old between new external s words edit.BadLimit begins reads fault
-bench_refused old between new external s words state edit.NoGrouping begins reads fault = words_given old between new external s words edit.NoGrouping begins reads fault
+bench_refused old between new external s lines state edit.Present begins took fault = (s, lines, (between, begins, took), fault)
+bench_refused old between new external s lines state edit.Absent begins took fault = (s, lines, (between, begins, took), fault)
+bench_refused old between new external s lines state edit.EmptyWord begins took fault = (s, lines, (between, begins, took), fault)
+bench_refused old between new external s lines state edit.WordTooLong begins took fault = (s, lines, (between, begins, took), fault)
+bench_refused old between new external s lines state edit.Full begins took fault = (s, lines, (between, begins, took), fault)
+bench_refused old between new external s lines state edit.NoRoutine begins took fault = (s, lines, (between, begins, took), fault)
+bench_refused old between new external s lines state edit.NoAmong begins took fault = (s, lines, (between, begins, took), fault)
+bench_refused old between new external s lines state edit.AmongCount begins took fault = (s, lines, (between, begins, took), fault)
+bench_refused old between new external s lines state (edit.Script f) begins took fault = (s, lines, (between, begins, took), fault)
+bench_refused old between new external s lines state edit.OutOfMemory begins took fault = (s, lines, (between, begins, took))
+bench_refused old between new external s lines state edit.MeterFull begins took fault = (s, lines, (between, begins, took), fault)
+bench_refused old between new external s lines state edit.BadLimit begins took fault = (s, lines, (between, begins, took), fault)
+bench_refused old between new external s lines state edit.NoGrouping begins took fault = (s, lines, (between, begins, took), fault)

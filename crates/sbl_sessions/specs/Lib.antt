@@ -16,3 +16,4 @@ pub mod Loaded
 pub mod OneLoading
 -- what the functions inside the crate promise each other: nothing in these need be believed
 pub mod RowWriter
+pub mod WordLists

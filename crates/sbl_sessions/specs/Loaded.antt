@@ -51,15 +51,6 @@ ReadsScript old new (Err (Open f)) = ⊥
 ReadsScript old new (Err (Input fault.OutOfMemory)) = (lines : List (List ℕ)) × TookBlock old new lines
 ReadsScript old new (Err (Input f)) = Breaks BlockLines old new f
 
-abbrev pub ReadsWords : Option (List ℕ) → Option (List ℕ) → Result (Vec (Vec ℕ Global) Global) LoadFault → Type 0
-ReadsWords old new (Ok words) = (lines : List (List ℕ)) × TookWords old new lines × (map (λ w. w.items) words.items ≡ map chars lines)
-ReadsWords old new (Err (Script f)) = ⊥
-ReadsWords old new (Err (Open f)) = ⊥
-ReadsWords old new (Err (Input fault.NotText)) = TookNoText old new
-ReadsWords old new (Err (Input fault.OutOfMemory)) = TookSome old new
-ReadsWords old new (Err (Input fault.Cut)) = ⊥
-ReadsWords old new (Err (Input f)) = Breaks WordLines old new f
-
 -- ---- loading
 
 -- A script block was taken, and is read as this script with this external.

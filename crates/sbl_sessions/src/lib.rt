@@ -12,6 +12,7 @@ mod records;
 mod replies;
 mod reports;
 mod serving;
+mod word_list;
 
 pub use block_text::{BlockFault, BlockText, read_block};
 pub use commands::{BlockWord, Target, block_word, target_of};

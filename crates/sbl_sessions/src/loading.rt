@@ -1,20 +1,25 @@
 //! Loading a bench from an input: a script block, and then words.
-ghost use Rattle.std.specs.Prelude.{◌≡◌, ◌⊎◌, ◌≤◌, None, Some, Err, IfOk, IfErr, OnOk, true, false};
+ghost use Rattle.std.specs.Prelude.{◌≡◌, ◌⊎◌, ◌≤◌, ℕ, List, None, Some, Err, IfOk, IfErr, OnOk, true, false};
 ghost use Rattle.std.specs.Str.{chars, is_utf8};
 ghost use Rattle.sbl_bench.specs.Kept.{contents_of};
+ghost use Rattle.sbl_bench.specs.Contents.{Opens};
+ghost use Rattle.sbl_script.specs.Parsed.{source_of};
+ghost use Rattle.sbl_sessions.specs.WordLists.{HoldsWords, ReadsWords};
 ghost use Rattle.std.specs.Io.KnownBytes.{Keeps};
 ghost use Rattle.sbl_lines.specs.Faults.{serve_fault_of};
 ghost use Rattle.sbl_sessions.specs.Faults.{left_by_load};
 ghost use Rattle.sbl_lines.specs.declared.faults.LineFault.{LineFault};
 ghost use Rattle.sbl_lines.specs.Held.{KeepsTime, fault_of, input_of, reads_bound};
-ghost use Rattle.sbl_sessions.specs.Loaded.{HasReason, IsLoaded, ReadsScript, ReadsWords};
+ghost use Rattle.sbl_sessions.specs.Loaded.{HasReason, IsLoaded, ReadsScript};
 
 use crate::block_text::{BlockFault, read_block};
 use crate::faults::LoadFault;
-use sbl_bench::Bench;
+use crate::word_list::WordList;
+use sbl_bench::{Bench, EditFault};
 use sbl_lines::{Lines, ServeFault, Source};
 use sbl_script::{Script, ScriptFault};
 use std::alloc::Global;
+use std::hash::RandomState;
 
 /// Reads the text of the script block: its lines up to a line `.`, each followed by a line feed. The block is read to its end
 /// before it is checked.
@@ -59,8 +64,11 @@ fn characters_of(alloc: Global, line: &[u8]) -> Result<Vec<char>, LoadFault>
     Ok(word)
 }
 
-/// Reads the words, up to a line `.` or the end of input.
-fn read_words<R: Source + Drop>(lines: &mut Lines<R>) -> Result<Vec<Vec<char>>, LoadFault>
+/// Reads the words, up to a line `.` or the end of input. Keeps only those that decide how a bench opens.
+fn read_words<R: Source + Drop>(
+    lines: &mut Lines<R>,
+    keys: RandomState,
+) -> Result<WordList, LoadFault>
     ensures reads { fault_of lines.old ≡ None → ReadsWords (input_of R.left lines.old) (input_of R.left lines.new) result }
     ensures remembered { fault_of lines.new ≡ left_by_load result }
     ensures later { R.failures lines.old.reader ≤ R.failures lines.new.reader }
@@ -69,7 +77,7 @@ fn read_words<R: Source + Drop>(lines: &mut Lines<R>) -> Result<Vec<Vec<char>>, 
     ensures why { IfErr result (λ fault. HasReason R.failures R.interruptions R.reads lines.old lines.new fault) }
     ensures in_time { KeepsTime R.ended R.late R.interruptions R.reads lines.old lines.new }
 {
-    let mut words = Vec::new(lines.alloc());
+    let mut words = WordList::new(lines.alloc(), keys);
     while lines.next_line()? {
         if lines.line() == b".".as_slice() {
             return Ok(words);
@@ -80,9 +88,28 @@ fn read_words<R: Source + Drop>(lines: &mut Lines<R>) -> Result<Vec<Vec<char>>, 
     Ok(words)
 }
 
+/// Returns the bench of a script and of words that were read. Returns `WordTooLong`, `Full` and `OutOfMemory` as `Bench::open`
+/// does with all of them.
+fn open_words(
+    alloc: Global,
+    keys: RandomState,
+    script: Script,
+    words: WordList,
+) -> Result<Bench, EditFault>
+    ensures { (all : List (List ℕ)) → HoldsWords words all → Opens (source_of script) all (λ b. contents_of b) result }
+{
+    match words.into_words(alloc) {
+        Ok(words) => Bench::open(alloc, keys, script, words),
+        Err(_) => {
+            script.discard();
+            Err(EditFault::OutOfMemory)
+        }
+    }
+}
+
 /// Loads the bench of an input. The input is a script block and then words. The script block is the lines up to a line `.`,
 /// each followed by a line feed; it is read as a script with this external. The words are one per line, up to a line `.` or the
-/// end of input. The lines after that are left.
+/// end of input. The lines after that are left. The keys are those of the hash by which words are found, as in `Bench::open`.
 ///
 /// # Errors
 ///
@@ -95,7 +122,11 @@ fn read_words<R: Source + Drop>(lines: &mut Lines<R>) -> Result<Vec<Vec<char>>, 
 /// After `Cut`, the input is at its end. After a fault of the script, the next line is the one after its block. After
 /// `NotText`, it is the one after the line that is not UTF-8. The lines keep `Read` and `LineTooLong` and return them again,
 /// and so does every later `load`, which then reads nothing.
-pub fn load<R: Source + Drop>(lines: &mut Lines<R>, external: &str) -> Result<Bench, LoadFault>
+pub fn load<R: Source + Drop>(
+    lines: &mut Lines<R>,
+    keys: RandomState,
+    external: &str,
+) -> Result<Bench, LoadFault>
     ensures loaded { fault_of lines.old ≡ None → IsLoaded (input_of R.left lines.old) (input_of R.left lines.new) external.now (λ b. contents_of b) result }
     ensures later { R.failures lines.old.reader ≤ R.failures lines.new.reader }
     ensures steady { OnOk result (R.failures lines.new.reader ≡ R.failures lines.old.reader) }
@@ -110,14 +141,14 @@ pub fn load<R: Source + Drop>(lines: &mut Lines<R>, external: &str) -> Result<Be
         Ok(script) => script,
         Err(fault) => return Err(LoadFault::Script(fault)),
     };
-    let words = match read_words(lines) {
+    let words = match read_words(lines, keys) {
         Ok(words) => words,
         Err(fault) => {
             script.discard();
             return Err(fault);
         }
     };
-    match Bench::open(lines.alloc(), script, words) {
+    match open_words(lines.alloc(), keys, script, words) {
         Ok(bench) => Ok(bench),
         Err(fault) => Err(LoadFault::Open(fault)),
     }

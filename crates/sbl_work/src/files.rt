@@ -5,6 +5,7 @@ use sbl_bench::Bench;
 use sbl_script::Script;
 use sbl_sessions::LoadFault;
 use std::alloc::{AllocError, Global};
+use std::hash::RandomState;
 use std::rt::Files;
 use std::{fs, io};
 
@@ -63,6 +64,7 @@ fn read_words<F: Files + AllocGlobal>(
 /// Returns the bench of a script and words.
 fn bench_of(
     alloc: Global,
+    keys: RandomState,
     text: &[u8],
     external: &str,
     words: Vec<Vec<char>>,
@@ -71,7 +73,7 @@ fn bench_of(
         Ok(script) => script,
         Err(fault) => return Err(LoadFault::Script(fault)),
     };
-    match Bench::open(alloc, script, words) {
+    match Bench::open(alloc, keys, script, words) {
         Ok(bench) => Ok(bench),
         Err(fault) => Err(LoadFault::Open(fault)),
     }
@@ -80,11 +82,12 @@ fn bench_of(
 /// Reads the files and opens the bench. Returns it with the bytes of the script.
 pub(crate) fn open<F: Files + AllocGlobal>(
     files: &F,
+    keys: RandomState,
     paths: &Paths,
 ) -> Result<(Bench, Vec<u8>), OpenFault> {
     let text = read_named(files, paths.script.as_str())?;
     let words = read_words(files, paths)?;
-    let bench = bench_of(files.alloc(), &text, paths.external.as_str(), words)?;
+    let bench = bench_of(files.alloc(), keys, &text, paths.external.as_str(), words)?;
     Ok((bench, text))
 }
 

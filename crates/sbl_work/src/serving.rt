@@ -19,6 +19,7 @@ use sbl_sessions::{LoadFault, Reply, block_word, report, write_reply};
 use sbl_unused::unused_text;
 use std::alloc::{AllocError, Global};
 use std::fs;
+use std::hash::RandomState;
 use std::rt::Files;
 
 /// What is written before each line is read, if work is done at a terminal.
@@ -221,6 +222,7 @@ fn serve_bench<F: Files + AllocGlobal, R: Source + Drop, W: Sink>(
 /// Opens the bench of the files, and replies to each request of the input in turn, up to `quit` or the end of input.
 fn work_on<F: Files + AllocGlobal, R: Source + Drop, W: Sink>(
     files: &F,
+    keys: RandomState,
     paths: &Paths,
     prompts: bool,
     lines: &mut Lines<R>,
@@ -229,7 +231,7 @@ fn work_on<F: Files + AllocGlobal, R: Source + Drop, W: Sink>(
     ensures reads_in_time { KeepsTime R.ended R.late R.interruptions R.reads lines.old lines.new }
     ensures writes_in_time { WritesInTime W.late W.interruptions writer.old writer.new }
 {
-    let (mut bench, seen) = open(files, paths)?;
+    let (mut bench, seen) = open(files, keys, paths)?;
     let mut folder = Folder { files, paths, seen };
     let prompt = if prompts { PROMPT } else { b"".as_slice() };
     let served = serve_bench(&mut folder, &mut bench, prompt, lines, writer);
@@ -242,9 +244,10 @@ fn work_on<F: Files + AllocGlobal, R: Source + Drop, W: Sink>(
 
 /// Works on the files of a script and of words: replies to each request of the input in turn, up to `quit` or the end of input.
 /// Returns the exit status: 0, or 1 after a fault, which is one line in `errors`. Before each line a prompt is written if
-/// `prompts` is true.
+/// `prompts` is true. The keys are those of the hash by which words are found, as in `Bench::open`.
 pub fn work<F: Files + AllocGlobal, R: Source + Drop, W: Sink, E: Sink>(
     files: &F,
+    keys: RandomState,
     paths: &Paths,
     prompts: bool,
     lines: &mut Lines<R>,
@@ -256,7 +259,7 @@ pub fn work<F: Files + AllocGlobal, R: Source + Drop, W: Sink, E: Sink>(
     ensures writes_in_time { WritesInTime W.late W.interruptions writer.old writer.new }
     ensures errors_in_time { WritesInTime E.late E.interruptions errors.old errors.new }
 {
-    match work_on(files, paths, prompts, lines, writer) {
+    match work_on(files, keys, paths, prompts, lines, writer) {
         Ok(()) => 0,
         Err(fault) => {
             write_fault(lines.alloc(), errors, &fault);

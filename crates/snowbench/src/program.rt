@@ -11,19 +11,22 @@ use sbl_script::Script;
 use sbl_sessions::{LoadFault, load, read_script, serve, stems_text};
 use std::alloc::AllocError;
 use std::fmt::InlineText;
+use std::hash::RandomState;
 
 /// The greatest length of the line of a fault in bytes; the longest line is shorter.
 const MAX_FAULT_LINE: usize = 96;
 
 /// Runs the whole program: does what the command line asks for, reads `lines`, writes to `writer`, and returns the exit
 /// status: 0, or 1 after a fault or a difference. A fault is one line in `errors`: `snowbench: ` and the text of the
-/// fault. What was written before the fault stays in `writer`.
+/// fault. What was written before the fault stays in `writer`. The keys are those of the hash by which words are found, as in
+/// `Bench::open`.
 ///
 /// `session` loads a bench and answers the commands after it. `stem` loads a bench and writes the row of each word.
 /// `check` reads a script block, a block of words and the expected stems up to the end of input, all before it runs
 /// anything, and then writes a row for each difference.
 pub fn run<R: Source + Drop, W: Sink, E: Sink>(
     wanted: &Wanted,
+    keys: RandomState,
     lines: &mut Lines<R>,
     writer: &mut W,
     errors: &mut E,
@@ -33,7 +36,7 @@ pub fn run<R: Source + Drop, W: Sink, E: Sink>(
     ensures writes_in_time { WritesInTime W.late W.interruptions writer.old writer.new }
     ensures errors_in_time { WritesInTime E.late E.interruptions errors.old errors.new }
 {
-    match answer(wanted, lines, writer) {
+    match answer(wanted, keys, lines, writer) {
         Ok(0) => 0,
         Ok(_) => 1,
         Err(fault) => {
@@ -48,6 +51,7 @@ pub fn run<R: Source + Drop, W: Sink, E: Sink>(
 /// Does what the command line asks for, and returns the number of differences.
 fn answer<R: Source + Drop, W: Sink>(
     wanted: &Wanted,
+    keys: RandomState,
     lines: &mut Lines<R>,
     writer: &mut W,
 ) -> Result<u64, LoadFault>
@@ -57,14 +61,14 @@ fn answer<R: Source + Drop, W: Sink>(
     let external = wanted.external.as_str();
     match wanted.verb {
         Verb::Session => {
-            let mut bench = load(lines, external)?;
+            let mut bench = load(lines, keys, external)?;
             let served = serve(&mut bench, lines, writer);
             bench.leak();
             served?;
             Ok(0)
         }
         Verb::Stem => {
-            stem(lines, external, writer)?;
+            stem(lines, keys, external, writer)?;
             Ok(0)
         }
         Verb::Check => check_input(lines, external, writer),
@@ -76,6 +80,7 @@ fn answer<R: Source + Drop, W: Sink>(
 /// Loads a bench and writes its rows. The input after the vocabulary is not read.
 fn stem<R: Source + Drop, W: Sink>(
     lines: &mut Lines<R>,
+    keys: RandomState,
     external: &str,
     writer: &mut W,
 ) -> Result<(), LoadFault>
@@ -83,7 +88,7 @@ fn stem<R: Source + Drop, W: Sink>(
     ensures reads_in_time { KeepsTime R.ended R.late R.interruptions R.reads lines.old lines.new }
     ensures writes_in_time { WritesInTime W.late W.interruptions writer.old writer.new }
 {
-    let bench = load(lines, external)?;
+    let bench = load(lines, keys, external)?;
     let text = stems_text(lines.alloc(), &bench);
     bench.leak();
     write_all(writer, &text?)?;

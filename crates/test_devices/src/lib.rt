@@ -5,6 +5,7 @@ ghost use Rattle.std.specs.Prelude.{◌≡◌, ◌<◌};
 
 use std::io;
 use std::io::{ErrorKind, Read, Write};
+use std::random::RandomSource;
 
 /// When a device stops: the number of interruptions before each call that is completed, and the number of the call that
 /// fails.
@@ -85,4 +86,14 @@ pub fn in_pieces<D>(inner: D, piece: usize, fails_at: u64, interruptions: u64) -
         fails_at,
     };
     Pieces { inner, piece, plan }
+}
+
+/// A source that gives the same bytes again and again, so that tests take the same keys in each run.
+pub struct SameBytes;
+
+impl RandomSource for SameBytes {
+    fn fill_bytes(&self, buf: &mut [u8]) -> io::Result<()> {
+        buf.fill(5);
+        Ok(())
+    }
 }

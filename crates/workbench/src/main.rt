@@ -4,6 +4,7 @@
 use clap::error::ErrorKind;
 use sbl_work::{Paths, work};
 use snowbench::{Device, Face, Lines, Sink, Source, Verb, Wanted, read_words, run};
+use std::hash::RandomState;
 use std::io;
 use std::io::IsTerminal;
 use std::process::ExitCode;
@@ -17,26 +18,16 @@ const NO_MEMORY: &str = "snowbench: 49 OutOfMemory";
 /// The text that is printed if a word of the command line is not UTF-8.
 const NOT_UTF8: &str = "error: a word of the command line is not UTF-8";
 
+/// The text that is printed if the system gives no random numbers.
+const NO_KEYS: &str = "error: the system gives no random numbers";
+
 fn main(rt: HostRuntime) -> io::Result<ExitCode> {
     let words = match words_of(&rt) {
         Ok(words) => words,
         Err(error) => return Ok(refuse_words(&rt, &error)),
     };
     match read_words(rt.alloc(), &words) {
-        Ok(wanted) => {
-            let Ok(mut lines) = Lines::new(rt.alloc(), Device::new(rt.stdin())) else {
-                let _ = eprintln!(rt; "{NO_MEMORY}");
-                return Ok(ExitCode::FAILURE);
-            };
-            let mut writer = Device::new(rt.stdout());
-            let mut errors = Device::new(rt.stderr());
-            let status = if wanted.verb == Verb::Work {
-                start_work(&rt, wanted, &mut lines, &mut writer, &mut errors)
-            } else {
-                run(&wanted, &mut lines, &mut writer, &mut errors)
-            };
-            Ok(ExitCode::from(status))
-        }
+        Ok(wanted) => Ok(start(&rt, wanted)),
         Err(error) if error.kind() == ErrorKind::OutOfMemory => {
             let _ = eprintln!(rt; "{NO_MEMORY}");
             Ok(ExitCode::FAILURE)
@@ -46,6 +37,27 @@ fn main(rt: HostRuntime) -> io::Result<ExitCode> {
             Ok(ExitCode::from(REFUSED))
         }
     }
+}
+
+/// Does what the command line asks for, and returns the exit status. The keys of the hash by which words are found come from the
+/// system, so that nobody who chooses the words knows them.
+fn start(rt: &HostRuntime, wanted: Wanted) -> ExitCode {
+    let Ok(mut lines) = Lines::new(rt.alloc(), Device::new(rt.stdin())) else {
+        let _ = eprintln!(rt; "{NO_MEMORY}");
+        return ExitCode::FAILURE;
+    };
+    let Ok(keys) = RandomState::new(rt) else {
+        let _ = eprintln!(rt; "{NO_KEYS}");
+        return ExitCode::FAILURE;
+    };
+    let mut writer = Device::new(rt.stdout());
+    let mut errors = Device::new(rt.stderr());
+    let status = if wanted.verb == Verb::Work {
+        start_work(rt, keys, wanted, &mut lines, &mut writer, &mut errors)
+    } else {
+        run(&wanted, keys, &mut lines, &mut writer, &mut errors)
+    };
+    ExitCode::from(status)
 }
 
 /// Returns the words of the command line. Returns `OutOfMemory` if an allocation fails, and `InvalidData` if a word is not UTF-8.
@@ -67,6 +79,7 @@ fn refuse_words(rt: &HostRuntime, error: &io::Error) -> ExitCode {
 /// input and output are a terminal.
 fn start_work<R: Source + Drop, W: Sink, E: Sink>(
     rt: &HostRuntime,
+    keys: RandomState,
     wanted: Wanted,
     lines: &mut Lines<R>,
     writer: &mut W,
@@ -89,5 +102,5 @@ fn start_work<R: Source + Drop, W: Sink, E: Sink>(
     };
     let is_terminal = rt.stdin().is_terminal() && rt.stdout().is_terminal();
     let prompts = is_terminal && face != Some(Face::Rows);
-    work(rt, &paths, prompts, lines, writer, errors)
+    work(rt, keys, &paths, prompts, lines, writer, errors)
 }

@@ -5,8 +5,10 @@ use sbl_bench::{Bench, EditFault, Row};
 use sbl_machine::Outcome;
 use sbl_script::{Script, ScriptFault};
 use std::alloc::Global;
+use std::hash::RandomState;
 use std::process::Abort;
 use std::test::Fail;
+use test_devices::SameBytes;
 use test_scripts::PREFIXES;
 
 /// A bench over this script and these words.
@@ -16,7 +18,8 @@ pub(crate) fn bench_of(alloc: Global, script: &str, words: &[&str]) -> Result<Be
         list.push(word_of(alloc, word)?)?;
     }
     let script = Script::parse(alloc, script.as_bytes(), "stem")?;
-    Ok(Bench::open(alloc, script, list)?)
+    let keys = RandomState::new(&SameBytes)?;
+    Ok(Bench::open(alloc, keys, script, list)?)
 }
 
 /// A row as `WORD STEM`, or `WORD` and the fault.
@@ -94,7 +97,8 @@ fn a_refused_growth_changes_nothing(rt: HostRuntime) -> Result<(), Fail> {
         println!(rt; "the script was refused")?;
         return Ok(());
     };
-    let Ok(mut bench) = Bench::open(rt.alloc(), script, Vec::new(rt.alloc())) else {
+    let keys = RandomState::new(&SameBytes)?;
+    let Ok(mut bench) = Bench::open(rt.alloc(), keys, script, Vec::new(rt.alloc())) else {
         println!(rt; "the bench was refused")?;
         return Ok(());
     };

@@ -2,8 +2,9 @@
 
 use snowbench::{Device, Lines, Verb, Wanted, run};
 use std::alloc::Global;
+use std::hash::RandomState;
 use std::test::Fail;
-use test_devices::{Pieces, in_pieces};
+use test_devices::{Pieces, SameBytes, in_pieces};
 
 /// Returns a writer in memory that takes four bytes at each write and fails at write `fails_at` (0 for never).
 fn writer(alloc: Global, fails_at: u64) -> Device<Pieces<Vec<u8>>> {
@@ -36,7 +37,8 @@ fn run_of(
     let mut text = writer(alloc, 0);
     let mut errors = writer(alloc, fails_at);
     let mut lines = Lines::new(alloc, Device::new(in_pieces(input, 16, 0, 0)))?;
-    let status = run(&wanted, &mut lines, &mut text, &mut errors);
+    let keys = RandomState::new(&SameBytes)?;
+    let status = run(&wanted, keys, &mut lines, &mut text, &mut errors);
     Ok(Ran {
         status,
         text: text.into_inner().inner,

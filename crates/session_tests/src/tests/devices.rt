@@ -3,8 +3,9 @@
 use sbl_lines::{Device, Lines, ServeFault};
 use sbl_sessions::{LoadFault, load, serve};
 use std::alloc::Global;
+use std::hash::RandomState;
 use std::test::Fail;
-use test_devices::in_pieces;
+use test_devices::{SameBytes, in_pieces};
 
 const SCRIPT: &[u8] =
     b"externals ( stem )\ndefine stem as ( [ among ( 'un' () 're' () ) ] delete )\n.\n.\n";
@@ -36,7 +37,8 @@ fn session(alloc: Global, most: u64, read: u64, write: u64) -> Result<Ended, Fai
     let mut writer = Device::new(in_pieces(Vec::new(alloc), 1, write, 0));
     let reader = Device::new(in_pieces(input.as_slice(), 1, read, 0));
     let mut lines = Lines::with_reads(alloc, reader, most)?;
-    let ending = match load(&mut lines, "stem") {
+    let keys = RandomState::new(&SameBytes)?;
+    let ending = match load(&mut lines, keys, "stem") {
         Ok(mut bench) => {
             let served = serve(&mut bench, &mut lines, &mut writer);
             bench.leak();

@@ -5,8 +5,9 @@ use sbl_lines::{Device, Lines, ServeFault};
 use sbl_script::ScriptFault;
 use sbl_sessions::{LoadFault, load, serve};
 use std::alloc::Global;
+use std::hash::RandomState;
 use std::test::Fail;
-use test_devices::in_pieces;
+use test_devices::{SameBytes, in_pieces};
 
 /// What a session wrote, and how it ended.
 #[derive(Debug, Drop)]
@@ -20,7 +21,8 @@ struct Ended {
 fn session(alloc: Global, input: &[u8], read: u64, write: u64) -> Result<Ended, Fail> {
     let mut writer = Device::new(in_pieces(Vec::new(alloc), 4, write, 0));
     let mut lines = Lines::new(alloc, Device::new(in_pieces(input, 16, read, 0)))?;
-    let ending = match load(&mut lines, "stem") {
+    let keys = RandomState::new(&SameBytes)?;
+    let ending = match load(&mut lines, keys, "stem") {
         Ok(mut bench) => {
             let served = serve(&mut bench, &mut lines, &mut writer);
             bench.leak();
@@ -172,7 +174,8 @@ fn a_script_has_at_most_1048576_bytes(rt: HostRuntime) -> Result<(), Fail> {
     let mut block = vec![in rt.alloc(); b'\n'; 1_048_577]?;
     block.extend_from_slice(b".\n")?;
     let mut lines = Lines::new(rt.alloc(), Device::new(block.as_slice()))?;
-    match load(&mut lines, "stem") {
+    let keys = RandomState::new(&SameBytes)?;
+    match load(&mut lines, keys, "stem") {
         Ok(bench) => {
             bench.leak();
             assert!(rt; false);
@@ -245,7 +248,8 @@ fn a_writer_may_be_interrupted_a_thousand_times_in_a_row(rt: HostRuntime) -> Res
     ] {
         let mut writer = Device::new(in_pieces(Vec::new(rt.alloc()), 2, 0, interruptions));
         let mut lines = Lines::new(rt.alloc(), Device::new(input.as_slice()))?;
-        let mut bench = load(&mut lines, "stem")?;
+        let keys = RandomState::new(&SameBytes)?;
+        let mut bench = load(&mut lines, keys, "stem")?;
         let ended = serve(&mut bench, &mut lines, &mut writer).map_err(LoadFault::Input);
         bench.leak();
         assert!(rt; ended == ending, "{interruptions}");

@@ -4,7 +4,9 @@ use sbl_bench::{Bench, EditFault};
 use sbl_script::{Script, ScriptFault};
 use sbl_work::{Desk, HistoryFault};
 use std::alloc::Global;
+use std::hash::RandomState;
 use std::test::Fail;
+use test_devices::SameBytes;
 
 /// A script that leaves each word as it is.
 const STAYS: &str = "externals ( stem ) define stem as true";
@@ -17,7 +19,8 @@ fn bench_of_ab(alloc: Global) -> Result<Bench, Fail> {
     let script = Script::parse(alloc, STAYS.as_bytes(), "stem")?;
     let mut words = Vec::new(alloc);
     words.push(Vec::from_slice(alloc, &['a', 'b'])?)?;
-    Ok(Bench::open(alloc, script, words)?)
+    let keys = RandomState::new(&SameBytes)?;
+    Ok(Bench::open(alloc, keys, script, words)?)
 }
 
 /// Returns the desk of a bench of `STAYS`.

@@ -1,4 +1,5 @@
-use Rattle.std.proofs.Common.{rules, ap, ◌∙◌}
+use Rattle.std.proofs.Common.{rules, ap, map, ◌∙◌}
+use Rattle.std.specs.Str.{chars}
 use Rattle.std.proofs.lemmas.Result.{err_from_is_err_and}
 use Rattle.sbl_bench.specs.Kept.{contents_of}
 use Rattle.sbl_script.specs.Parsed.{source_of}
@@ -35,5 +36,6 @@ returns-clause-loaded g c = λ none.
     let left = g.R.Source.left in
     let source = script_parsed _ _ c.in_ok-text.text c.deref.result.now c.args.external.now c.in-Ok.script (c.in_ok-text.ensures.reads none) c.deref.ensures.value c.in-Ok.ensures.script in
     let ready = c.read_script.ensures.remembered ∙ ap left_by_load c.in_ok-text.was in
-    bench_refused (input_of left c.args.lines.now) _ (input_of left c.read_words.new.lines) c.args.external.now (source_of c.in-Ok.script) c.in-Ok-read_words.words (λ b. contents_of b) c.in-Err-open.fault
-    source (c.in-Ok-read_words.ensures.reads ready) c.in-Err-open.ensures.opens
+    let reads = c.in-Ok-read_words.ensures.reads ready in
+    bench_refused (input_of left c.args.lines.now) _ (input_of left c.read_words.new.lines) c.args.external.now (source_of c.in-Ok.script) reads.0 (λ b. contents_of b) c.in-Err-open_words.fault
+    source reads.1 (c.in-Err-open_words.ensures (map chars reads.0) reads.2)

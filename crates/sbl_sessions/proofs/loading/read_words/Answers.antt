@@ -1,18 +1,17 @@
 use Rattle.std.proofs.Common.{refl, ap, ◌≡◌, ◌≢◌, ◌∙◌, ◌++◌, [], ◌∷◌, arith, rules, inl, inr, map, sym, subst, List, ℕ, true}
 use Rattle.std.specs.Str.{chars, is_utf8}
 use Rattle.std.proofs.lemmas.Result.{err_from_is_err_and}
-use Rattle.std.specs.declared.vec.Vec.{Vec}
-use Rattle.std.specs.declared.alloc.Global.{Global}
 use Rattle.sbl_sessions.specs.Block.{point}
+use Rattle.sbl_sessions.specs.WordLists.{HoldsWords}
 use Rattle.sbl_lines.specs.Held.{input_of, line_of, GivesLine}
 use Rattle.sbl_sessions.proofs.BlockFacts.{all_fit-push, no_point-push}
 use Rattle.sbl_lines.proofs.Bytes.{took-kept, took-none, took-trans}
-use Rattle.sbl_sessions.proofs.LoadFacts.{IsUnreadWord, all_text-push, word_unread, words-push, words_stopped}
+use Rattle.sbl_sessions.proofs.LoadFacts.{IsUnreadWord, all_text-push, chars-push, word_unread, words_stopped}
 use Rattle.sbl_sessions.proofs.loading.read_words.Goals as goal
 
 pub loop-words-init : goal.loop-words-init
 loop-words-init g c =
-    ([], tt, tt, took-none _, ap (λ (ws : List (Vec ℕ Global)). map (λ w. w.items) ws) c.new-words.ensures.items, refl, omega arith, tt, refl, (λ timely. timely), refl)
+    ([], tt, tt, took-none _, c.new-words.ensures, refl, omega arith, tt, refl, (λ timely. timely), refl)
 
 pub returns-in_err-word-clause-reads : goal.returns-in_err-word-clause-reads
 returns-in_err-word-clause-reads g c = λ _.
@@ -53,9 +52,9 @@ loop-words-preserved g c =
     let other : line ≢ point = search rules in
     let same : c.line-in-loop-words.result.now ≡ line = c.line-in-loop-words.ensures in
     let text : is_utf8 line ≡ true = subst (λ (x : List ℕ). is_utf8 x ≡ true) same c.in_ok-word.ensures.text.0 in
-    let words : map (λ w. w.items) c.push.new.self.items ≡ map chars (so.0 ++ line ∷ []) =
-    ap (λ (ws : List (Vec ℕ Global)). map (λ w. w.items) ws) c.in_ok-push.ensures.items
-    ∙ words-push c.loop-words.words.items so.0 c.in_ok-word.word line so.4 (c.in_ok-word.ensures.text.1 ∙ ap chars same) in (
+    let words : HoldsWords c.push.new.self (map chars (so.0 ++ line ∷ [])) =
+    subst (λ (ws : List (List ℕ)). HoldsWords c.push.new.self ws) (sym (chars-push so.0 line c.in_ok-word.word.items (c.in_ok-word.ensures.text.1 ∙ ap chars same)))
+    (c.in_ok-push.ensures (map chars so.0) so.4) in (
       so.0 ++ line ∷ [],
       no_point-push so.0 line so.1 other,
       all_text-push so.0 line so.2 text,

@@ -1,12 +1,13 @@
 use Rattle.std.proofs.Common.{◌≡◌, ◌≤◌, List, ℕ, map}
 use Rattle.std.specs.Str.{chars}
 use Rattle.sbl_sessions.specs.Block.{AllText, NoPoint}
+use Rattle.sbl_sessions.specs.WordLists.{HoldsWords}
 use Rattle.sbl_lines.specs.Held.{AllFit, KeepsTime, Took, fault_of, fuel_of, input_of, reads_bound}
 use Rattle.sbl_sessions.proofs.loading.read_words.Given as goal
 
 abbrev pub invariant-loop-words : goal.invariant-loop-words
 invariant-loop-words g l = (taken : List (List ℕ)) × NoPoint taken × AllText taken × Took (input_of g.R.Source.left l.fn.lines) (input_of g.R.Source.left l.lines) taken
-    × (map (λ w. w.items) l.words.items ≡ map chars taken) × (fault_of l.lines ≡ fault_of l.fn.lines)
+    × HoldsWords l.words (map chars taken) × (fault_of l.lines ≡ fault_of l.fn.lines)
     × (g.R.Source.failures l.fn.lines.reader ≤ g.R.Source.failures l.lines.reader)
     × AllFit taken × (reads_bound g.R.Source.reads l.lines ≡ reads_bound g.R.Source.reads l.fn.lines)
     × KeepsTime g.R.Source.ended g.R.Source.late g.R.Source.interruptions g.R.Source.reads l.fn.lines l.lines
