@@ -42,6 +42,12 @@ class Child:
         """Sends lines to the program, and returns the lines of its answer, or nothing if it has ended."""
         return self.answer() if self.send(lines) else None
 
+    def query_each(self, *commands):
+        """Sends commands at once, and returns the answer of each."""
+        if not self.send([line for lines in commands for line in [*lines, "echo " + self.mark]][:-1]):
+            return [None for _ in commands]
+        return [self.answer() for _ in commands]
+
     def send(self, lines):
         sent = "".join(line + "\n" for line in [*lines, "echo " + self.mark])
         try:

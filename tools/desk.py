@@ -3,7 +3,7 @@
 people, and says what to do if a command is refused.
 usage: desk.py PROGRAM SCRIPT WORDS OPTION..   (WORDS may be empty; the options are those of the program, --external among them)
 It reads requests on standard input: a number N, the kind of request, and N lines, each ended by a zero byte. `start` begins, `ask` is a
-command with its block, `save` the same after an edit, `peek` the first line of a block that comes later, and `quit` asks whether to end.
+command with its block, `edit` the same with the changes that it makes, `peek` the first line of a block that comes later, and `quit` asks whether to end.
 `saved` asks whether the script was saved since it was read, and `watch` has the parent get SIGWINCH each time that it is.
 For each request it writes `ok`, `refused` or `ended` as a line on descriptor 3.
 """
@@ -46,8 +46,8 @@ class Desk:
     def query(self, lines):
         return self.child.query(lines)
 
-    def ask(self, lines, is_save=False):
-        """Runs a command, shows the reply, and returns `ok`, `refused` or `ended`."""
+    def ask(self, lines, is_edit=False):
+        """Runs a command, shows the reply and, after an edit, the changes. Returns `ok`, `refused` or `ended`."""
         if any(len(line.encode("utf-8", "surrogateescape")) > LONGEST for line in lines):
             say(["A line may have %d bytes at most. Nothing was done." % LONGEST])
             return "refused"
@@ -67,18 +67,21 @@ class Desk:
             write(answer)
             say(self.advice.lines(int(refusal[1]), refusal[2], lines))
             return "refused"
-        write(self.lay_out(lines[0], answer, is_save))
+        write(self.lay_out(lines[0], answer))
         say(self.advice.note(lines))
         if word == "save":
             self.files.note_saved(argument)
             self.history.note_saved(argument)
-        elif word in EDITS:
-            self.note_edit(lines[0], typed)
-        return "ok"
+        script, changes = self.child.query_each(["script"], ["changes"]) if word in EDITS else (None, [])
+        if script is not None:
+            self.note_edit(lines[0], typed, script)
+        if changes is not None and is_edit:
+            write(lay_out_changes(changes, is_edit))
+        return "ok" if changes is not None else self.end()
 
-    def lay_out(self, command, answer, is_save):
+    def lay_out(self, command, answer):
         if command in LAYOUTS:
-            return LAYOUTS[command](answer, is_save)
+            return LAYOUTS[command](answer)
         if command.startswith("why "):
             return lay_out_why(answer, command[4:], self.query(["integers " + command[4:]]))
         return answer
@@ -130,11 +133,11 @@ class Desk:
         names = dict.fromkeys(edit.name() for edit in self.history.typed() if self.history.script_file not in edit.files)
         return {name: self.query(["show " + name if name else "script"]) for name in names}
 
-    def note_edit(self, command, typed):
+    def note_edit(self, command, typed, script):
         """Notes an accepted edit, and says which one was undone or redone, or which typed parts are put aside."""
         self.doubted = None
         before, is_reload = self.history.script, command == "reload"
-        edit = self.history.note(command, self.query(["script"]) or [])
+        edit = self.history.note(command, script)
         if edit:
             write(["%s: %s" % ("undid" if command == "undo" else "redid", edit.command)])
         if is_reload:
@@ -216,38 +219,47 @@ def outcome(kind, text):
     return "refused %s" % text if kind == "refused" else named(text) or "(empty)"
 
 
+def stem(name):
+    return outcome("stem", name)
+
+
+def stems(names):
+    return ", ".join(map(stem, names))
+
+
 def counted(count, one, many):
     return "%d %s" % (count, one if count == 1 else many)
 
 
-def cut(lines, is_save):
-    if is_save and len(lines) > MOST:
-        return lines[:MOST] + ['  .. and %d more: "changes" shows all' % (len(lines) - MOST)]
-    return lines
+def shown(rows, is_edit, lay_out):
+    """Lays out rows, after an edit the first of them."""
+    most = MOST if is_edit and len(rows) > MOST else len(rows)
+    more = ['  .. and %d more: "changes" shows all' % (len(rows) - most)] if most < len(rows) else []
+    return [lay_out(row) for row in rows[:most]] + more
 
 
-def lay_out_changes(answer, is_save=False):
+def lay_out_changes(answer, is_edit=False):
     """Lays out the rows of `changes`: words with their stems before and after, then classes."""
-    rows = list(csv.reader(answer))
-    kinds = {kind: [row[1:] for row in rows if row[0] == kind] for kind in ("added", "removed", "changed", "split", "merged", "renamed")}
-    if not rows:
+    kinds = {kind: [] for kind in ("added", "removed", "changed", "split", "merged", "renamed")}
+    for row in csv.reader(answer):
+        kinds[row[0]].append(row[1:])
+    if not any(kinds.values()):
         return ["no word and no class differs from the mark"]
     changed, lines = kinds["changed"], []
     for kind in ("added", "removed"):
         if kinds[kind]:
-            lines += [counted(len(kinds[kind]), "word", "words") + " " + kind] + cut(["  " + named(row[0]) for row in kinds[kind]], is_save)
+            lines += [counted(len(kinds[kind]), "word", "words") + " " + kind] + shown(kinds[kind], is_edit, lambda row: "  " + named(row[0]))
     column = min(24, max([len(row[0]) for row in changed], default=0))
-    words = ["  %-*s  %s -> %s" % (column, named(row[0]), outcome(*row[1:3]), outcome(*row[3:5])) for row in changed]
-    lines += [counted(len(changed), "word has", "words have") + " another stem"] + cut(words, is_save)
+    lines += [counted(len(changed), "word has", "words have") + " another stem"]
+    lines += shown(changed, is_edit, lambda row: "  %-*s  %s -> %s" % (column, named(row[0]), outcome(*row[1:3]), outcome(*row[3:5])))
     counts = tuple(len(kinds[kind]) for kind in ("split", "merged", "renamed"))
     lines += ["classes: %d split, %d merged, %d renamed" % counts] if any(counts) else []
-    names = {kind: [[outcome("stem", name) for name in row] for row in kinds[kind]] for kind in ("split", "merged", "renamed")}
-    lines += cut(["  split    %s -> %s" % (row[0], ", ".join(row[1:])) for row in names["split"]], is_save)
-    lines += cut(["  merged   %s -> %s" % (", ".join(row[1:]), row[0]) for row in names["merged"]], is_save)
-    return lines + cut(["  renamed  %s -> %s" % tuple(row) for row in names["renamed"]], is_save)
+    lines += shown(kinds["split"], is_edit, lambda row: "  split    %s -> %s" % (stem(row[0]), stems(row[1:])))
+    lines += shown(kinds["merged"], is_edit, lambda row: "  merged   %s -> %s" % (stems(row[1:]), stem(row[0])))
+    return lines + shown(kinds["renamed"], is_edit, lambda row: "  renamed  %s -> %s" % (stem(row[0]), stem(row[1])))
 
 
-def lay_out_stats(answer, is_save=False):
+def lay_out_stats(answer):
     return ["%-10s %s" % tuple(row) for row in csv.reader(answer)]
 
 
@@ -286,7 +298,7 @@ def reply(desk, kind, lines):
     if kind == "watch":
         watch(desk.script, os.getppid(), desk.files.state)
         return "ok"
-    return desk.ask(lines, kind == "save")
+    return desk.ask(lines, kind == "edit")
 
 
 def main():
