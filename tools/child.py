@@ -16,6 +16,7 @@ KEPT = "add remove mark limit reload undo redo routine among grouping replace".s
 PATIENCE = 2
 INTERRUPT = b"\x03"
 LONG = 'This takes long. %sIf the script loops, "limit 1000" lets each run end sooner.'
+LONG_START = "This takes long. %sIt may be that the script loops."
 
 
 class Child:
@@ -74,14 +75,20 @@ class Child:
             fill(self.copy, text)
         if not self.send(lines):
             return None
-        if self.is_broken_off(say):
+        if self.is_broken_off(say, LONG, "Ctrl-C breaks it off. "):
             return False
         answer = self.answer()
         if answer == ["ok"] and lines[0].partition(" ")[0] in KEPT:
             self.accepted.append((lines, text))
         return answer
 
-    def is_broken_off(self, say):
+    def begin(self, say):
+        """Asks for `stats` at the start. Otherwise as `run`."""
+        if not self.send(["stats"]):
+            return None
+        return False if self.is_broken_off(say, LONG_START, "Ctrl-C ends it. ") else self.answer()
+
+    def is_broken_off(self, say, sentence, keys_do):
         """Waits for the first line of an answer. Returns whether Ctrl-C came before it."""
         can_break = self.terminal is not None and None not in self.first
         keys = self.take_interrupts() if can_break else None
@@ -89,7 +96,7 @@ class Child:
         awaited = [self.process.stdout, self.bell[0], sys.stdin]
         ready = select.select(awaited, [], [], PATIENCE)[0]
         if not ready:
-            say([LONG % ("Ctrl-C breaks it off. " if can_break else "")])
+            say([sentence % (keys_do if can_break else "")])
             ready = select.select(awaited, [], [])[0]
         if keys:
             set_keys(self.terminal, keys)

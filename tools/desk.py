@@ -150,7 +150,7 @@ class Desk:
         """Writes how many words and classes there are, and warnings."""
         if not looks_swapped(self.script, self.words):
             self.warn([self.script, self.words])
-        answer = self.child.run(["stats"], say)
+        answer = self.child.begin(say)
         if answer is False:
             self.child.stop()
             self.status = INTERRUPTED
