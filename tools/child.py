@@ -75,7 +75,8 @@ class Child:
             fill(self.copy, text)
         if not self.send(lines):
             return None
-        if self.is_broken_off(say, LONG, "Ctrl-C breaks it off. "):
+        if self.is_broken_off(say, LONG, "Ctrl-C breaks it off. ", self.terminal is not None and None not in self.first):
+            self.drop_keys()
             return False
         answer = self.answer()
         if answer == ["ok"] and lines[0].partition(" ")[0] in KEPT:
@@ -86,11 +87,10 @@ class Child:
         """Asks for `stats` at the start. Otherwise as `run`."""
         if not self.send(["stats"]):
             return None
-        return False if self.is_broken_off(say, LONG_START, "Ctrl-C ends it. ") else self.answer()
+        return False if self.is_broken_off(say, LONG_START, "Ctrl-C ends it. ", self.terminal is not None) else self.answer()
 
-    def is_broken_off(self, say, sentence, keys_do):
+    def is_broken_off(self, say, sentence, keys_do, can_break):
         """Waits for the first line of an answer. Returns whether Ctrl-C came before it."""
-        can_break = self.terminal is not None and None not in self.first
         keys = self.take_interrupts() if can_break else None
         # (no request comes before this one is answered: what can be read of standard input is its end)
         awaited = [self.process.stdout, self.bell[0], sys.stdin]
@@ -105,6 +105,13 @@ class Child:
             self.process.kill()
         return self.bell[0] in ready and self.process.stdout not in ready
 
+    def drop_keys(self):
+        """Drops what was typed ahead."""
+        try:
+            termios.tcflush(self.terminal, termios.TCIFLUSH)
+        except termios.error:
+            pass
+
     def take_interrupts(self):
         """Makes Ctrl-C a signal, which rings the bell, and shows no keys meanwhile. Returns how the terminal took keys before."""
         try:
@@ -114,7 +121,8 @@ class Child:
         signal.signal(signal.SIGINT, lambda number, frame: os.write(self.bell[1], b"!"))
         keys = keys_of(self.terminal)
         if keys:
-            other = [*keys[:3], keys[3] & ~termios.ECHO, *keys[4:6], list(keys[6])]
+            # (with NOFLSH the signal drops no output that is on its way)
+            other = [*keys[:3], (keys[3] | termios.NOFLSH) & ~termios.ECHO, *keys[4:6], list(keys[6])]
             other[6][termios.VINTR] = INTERRUPT
             set_keys(self.terminal, other)
         return keys
