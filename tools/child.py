@@ -1,6 +1,7 @@
 """The program of the desk, and how it came to its state: Ctrl-C ends it in the middle of an edit, and then it is started anew and
 accepts again what it had accepted before.
 """
+import contextlib
 import os
 import select
 import signal
@@ -128,8 +129,12 @@ class Child:
         return keys
 
     def stop(self):
+        """Ends the program at once."""
         self.process.kill()
-        self.process.communicate()
+        self.process.wait()
+        for pipe in (self.process.stdin, self.process.stdout, self.process.stderr):
+            with contextlib.suppress(BrokenPipeError):
+                pipe.close()
 
     def bring_back(self):
         """Starts the program anew, and brings it to where it was after the last accepted command."""

@@ -35,6 +35,7 @@ class Desk:
     def __init__(self, program, script, words, options):
         self.program, self.script, self.words, self.options = program, script, words, options
         self.external = [word for at, word in enumerate(options) if word.startswith("--external") or options[at - 1 : at] == ["--external"]]
+        # What was said already; the status at the end if it is not the program's.
         self.warned, self.status = [], None
         self.files = Files(script, words)
         self.child = Child(program, options, script, words)
@@ -120,10 +121,15 @@ class Desk:
 
     def bring_back(self):
         """Has the program begin anew and go to where it was, after an edit that Ctrl-C broke off."""
-        self.child.bring_back()
-        if digest(self.query(["script"]) or []) != self.history.script:
-            say(["The edit was broken off, but the others before it could not be made again. Start again."])
+        try:
+            self.child.bring_back()
+            is_back = digest(self.query(["script"]) or []) == self.history.script
+        except OSError:
+            is_back = False
+        if not is_back:
+            say(["The command was broken off, but the edits before it could not be made again. Start again."])
             self.child.stop()
+            self.status = 1
             return "ended"
         say(["The command was broken off. Nothing changed."])
         return "refused"
