@@ -3,69 +3,52 @@
 people, and says what to do if a command is refused.
 usage: desk.py PROGRAM SCRIPT WORDS OPTION..   (WORDS may be empty; the options are those of the program, --external among them)
 It reads requests on standard input: a number N, the kind of request, and N lines, each ended by a zero byte. `start` begins, `ask` is a
-command with its block, `save` the same after an edit, `peek` the first line of a block that comes later, and `quit` asks whether to end.
+command with its block, `edit` the same with the changes that it makes, `peek` the first line of a block that comes later, and `quit` asks whether to end.
+`saved` asks whether the script was saved since it was read, and `watch` has the parent get SIGWINCH each time that it is.
 For each request it writes `ok`, `refused` or `ended` as a line on descriptor 3.
 """
 import csv
 import os
 import re
-import select
-import subprocess
 import sys
 
 from advice import Advice
+from child import Child
 from faults import explain_file
 from files import Files
-from history import EDITS, History, put_aside
+from history import EDITS, History, digest, put_aside
 from plain import for_terminal, named
 from whys import lay_out_why
-from warn import warnings_on
+from warn import read, warnings_on
+from watch import watch
 
 REFUSAL = re.compile(r"^no (\d\d) ([A-Za-z0-9]+)$")
 # How many words, and classes of a kind, are shown after an edit; `changes` shows all.
 MOST = 20
-# The most bytes of a line, and after how many seconds a sentence says that a command still runs.
-LONGEST, PATIENCE = 65536, 2
+# The most bytes of a line.
+LONGEST = 65536
+# The status after Ctrl-C at the start.
+INTERRUPTED = 130
 
 
 class Desk:
     def __init__(self, program, script, words, options):
         self.program, self.script, self.words, self.options = program, script, words, options
         self.external = [word for at, word in enumerate(options) if word.startswith("--external") or options[at - 1 : at] == ["--external"]]
-        self.mark = "end of answer %d-%s" % (os.getpid(), os.urandom(8).hex())
-        self.warned = []
-        self.child = subprocess.Popen(
-            [program, "work", "--rows", *options, *[name for name in ("--", script, words) if name]],
-            stdin=subprocess.PIPE,
-            stdout=subprocess.PIPE,
-            stderr=subprocess.PIPE,
-        )
-        self.advice = Advice(self)
+        # What was said already; the status at the end if it is not the program's.
+        self.warned, self.status = [], None
         self.files = Files(script, words)
+        self.child = Child(program, options, script, words)
+        self.advice = Advice(self)
         self.history = None
         # A save or an end that was refused, and is accepted if it is asked for again.
         self.doubted = None
 
-    def query(self, lines, is_slow=False):
-        """Sends lines to the program, and returns the lines of its answer, or nothing if it has ended."""
-        sent = "".join(line + "\n" for line in [*lines, "echo " + self.mark])
-        answer = []
-        try:
-            self.child.stdin.write(sent.encode("utf-8", "surrogateescape"))
-            self.child.stdin.flush()
-        except BrokenPipeError:
-            return None
-        if is_slow and not select.select([self.child.stdout], [], [], PATIENCE)[0]:
-            say(['This takes long. If the script loops, "limit 1000" lets each run end sooner.'])
-        for line in self.child.stdout:
-            line = line.decode("utf-8", "surrogateescape")[:-1]
-            if line == self.mark:
-                return answer
-            answer.append(line)
-        return None
+    def query(self, lines):
+        return self.child.query(lines)
 
-    def ask(self, lines, is_save=False):
-        """Runs a command, shows the reply, and returns `ok`, `refused` or `ended`."""
+    def ask(self, lines, is_edit=False):
+        """Runs a command, shows the reply and, after an edit, the changes. Returns `ok`, `refused` or `ended`."""
         if any(len(line.encode("utf-8", "surrogateescape")) > LONGEST for line in lines):
             say(["A line may have %d bytes at most. Nothing was done." % LONGEST])
             return "refused"
@@ -74,27 +57,32 @@ class Desk:
             return "refused"
         if word == "save" and self.files.is_script(argument):
             lines = ["save " + self.script]
-        typed = self.definitions() if word == "reload" else {}
-        answer = self.query(lines, is_slow=True)
+        typed, text = self.before_reload() if word == "reload" else ({}, None)
+        answer = self.child.run(lines, say, text)
         if answer is None:
             return self.end()
+        if answer is False:
+            return self.bring_back()
         refusal = REFUSAL.match(answer[0]) if len(answer) == 1 else None
         if refusal:
             write(answer)
             say(self.advice.lines(int(refusal[1]), refusal[2], lines))
             return "refused"
-        write(self.lay_out(lines[0], answer, is_save))
+        write(self.lay_out(lines[0], answer))
         say(self.advice.note(lines))
         if word == "save":
             self.files.note_saved(argument)
             self.history.note_saved(argument)
-        elif word in EDITS:
-            self.note_edit(lines[0], typed)
-        return "ok"
+        script, changes = self.child.query_each(["script"], ["changes"]) if word in EDITS else (None, [])
+        if script is not None:
+            self.note_edit(lines[0], typed, script)
+        if changes is not None and is_edit:
+            write(lay_out_changes(changes, is_edit))
+        return "ok" if changes is not None else self.end()
 
-    def lay_out(self, command, answer, is_save):
+    def lay_out(self, command, answer):
         if command in LAYOUTS:
-            return LAYOUTS[command](answer, is_save)
+            return LAYOUTS[command](answer)
         if command.startswith("why "):
             return lay_out_why(answer, command[4:], self.query(["integers " + command[4:]]))
         return answer
@@ -102,6 +90,8 @@ class Desk:
     def may_save(self, path):
         """Whether `save` may write to a file; otherwise says why not."""
         why = self.files.refusal(path)
+        if not why and self.files.is_script(path) and self.child.copy is not None and self.files.seen != read(self.script):
+            why = self.advice.cannot_save(path)
         if not why and self.files.is_script(path) and self.history.is_older() and self.doubted != "save":
             self.doubted = "save"
             name = named(path)
@@ -124,16 +114,36 @@ class Desk:
         say(wrong + ["Nothing was done."] if wrong else [])
         return "refused" if wrong else "ok"
 
+    def before_reload(self):
+        """Returns the definitions that are typed, and what the script's file has now."""
+        self.files.look()
+        return self.definitions(), read(self.script)
+
+    def bring_back(self):
+        """Has the program begin anew and go to where it was, after an edit that Ctrl-C broke off."""
+        try:
+            self.child.bring_back()
+            is_back = digest(self.query(["script"]) or []) == self.history.script
+        except OSError:
+            is_back = False
+        if not is_back:
+            say(["The command was broken off, but the edits before it could not be made again. Start again."])
+            self.child.stop()
+            self.status = 1
+            return "ended"
+        say(["The command was broken off. Nothing changed."])
+        return "refused"
+
     def definitions(self):
         """Returns the definition of each part that is typed and in force, by its name; the whole script has no name."""
         names = dict.fromkeys(edit.name() for edit in self.history.typed() if self.history.script_file not in edit.files)
         return {name: self.query(["show " + name if name else "script"]) for name in names}
 
-    def note_edit(self, command, typed):
+    def note_edit(self, command, typed, script):
         """Notes an accepted edit, and says which one was undone or redone, or which typed parts are put aside."""
         self.doubted = None
         before, is_reload = self.history.script, command == "reload"
-        edit = self.history.note(command, self.query(["script"]) or [])
+        edit = self.history.note(command, script)
         if edit:
             write(["%s: %s" % ("undid" if command == "undo" else "redid", edit.command)])
         if is_reload:
@@ -144,9 +154,13 @@ class Desk:
 
     def start(self):
         """Writes how many words and classes there are, and warnings."""
-        answer = self.query(["stats"])
         if not looks_swapped(self.script, self.words):
             self.warn([self.script, self.words])
+        answer = self.child.begin(say)
+        if answer is False:
+            self.child.stop()
+            self.status = INTERRUPTED
+            return "ended"
         if answer is None:
             return self.end()
         figures = dict(csv.reader(answer))
@@ -173,8 +187,8 @@ class Desk:
 
     def end(self):
         """Says why the program has ended."""
-        said = self.child.stderr.read().decode("utf-8", "surrogateescape")
-        self.child.wait()
+        said = self.child.process.stderr.read().decode("utf-8", "surrogateescape")
+        self.child.process.wait()
         for line in said.splitlines():
             say([line])
         fault = re.match(r"snowbench: (\d+) \w+", said)
@@ -211,38 +225,47 @@ def outcome(kind, text):
     return "refused %s" % text if kind == "refused" else named(text) or "(empty)"
 
 
+def stem(name):
+    return outcome("stem", name)
+
+
+def stems(names):
+    return ", ".join(map(stem, names))
+
+
 def counted(count, one, many):
     return "%d %s" % (count, one if count == 1 else many)
 
 
-def cut(lines, is_save):
-    if is_save and len(lines) > MOST:
-        return lines[:MOST] + ['  .. and %d more: "changes" shows all' % (len(lines) - MOST)]
-    return lines
+def shown(rows, is_edit, lay_out):
+    """Lays out rows, after an edit the first of them."""
+    most = MOST if is_edit and len(rows) > MOST else len(rows)
+    more = ['  .. and %d more: "changes" shows all' % (len(rows) - most)] if most < len(rows) else []
+    return [lay_out(row) for row in rows[:most]] + more
 
 
-def lay_out_changes(answer, is_save=False):
+def lay_out_changes(answer, is_edit=False):
     """Lays out the rows of `changes`: words with their stems before and after, then classes."""
-    rows = list(csv.reader(answer))
-    kinds = {kind: [row[1:] for row in rows if row[0] == kind] for kind in ("added", "removed", "changed", "split", "merged", "renamed")}
-    if not rows:
+    kinds = {kind: [] for kind in ("added", "removed", "changed", "split", "merged", "renamed")}
+    for row in csv.reader(answer):
+        kinds[row[0]].append(row[1:])
+    if not any(kinds.values()):
         return ["no word and no class differs from the mark"]
     changed, lines = kinds["changed"], []
     for kind in ("added", "removed"):
         if kinds[kind]:
-            lines += [counted(len(kinds[kind]), "word", "words") + " " + kind] + cut(["  " + named(row[0]) for row in kinds[kind]], is_save)
+            lines += [counted(len(kinds[kind]), "word", "words") + " " + kind] + shown(kinds[kind], is_edit, lambda row: "  " + named(row[0]))
     column = min(24, max([len(row[0]) for row in changed], default=0))
-    words = ["  %-*s  %s -> %s" % (column, named(row[0]), outcome(*row[1:3]), outcome(*row[3:5])) for row in changed]
-    lines += [counted(len(changed), "word has", "words have") + " another stem"] + cut(words, is_save)
+    lines += [counted(len(changed), "word has", "words have") + " another stem"]
+    lines += shown(changed, is_edit, lambda row: "  %-*s  %s -> %s" % (column, named(row[0]), outcome(*row[1:3]), outcome(*row[3:5])))
     counts = tuple(len(kinds[kind]) for kind in ("split", "merged", "renamed"))
     lines += ["classes: %d split, %d merged, %d renamed" % counts] if any(counts) else []
-    names = {kind: [[outcome("stem", name) for name in row] for row in kinds[kind]] for kind in ("split", "merged", "renamed")}
-    lines += cut(["  split    %s -> %s" % (row[0], ", ".join(row[1:])) for row in names["split"]], is_save)
-    lines += cut(["  merged   %s -> %s" % (", ".join(row[1:]), row[0]) for row in names["merged"]], is_save)
-    return lines + cut(["  renamed  %s -> %s" % tuple(row) for row in names["renamed"]], is_save)
+    lines += shown(kinds["split"], is_edit, lambda row: "  split    %s -> %s" % (stem(row[0]), stems(row[1:])))
+    lines += shown(kinds["merged"], is_edit, lambda row: "  merged   %s -> %s" % (stems(row[1:]), stem(row[0])))
+    return lines + shown(kinds["renamed"], is_edit, lambda row: "  renamed  %s -> %s" % (stem(row[0]), stem(row[1])))
 
 
-def lay_out_stats(answer, is_save=False):
+def lay_out_stats(answer):
     return ["%-10s %s" % tuple(row) for row in csv.reader(answer)]
 
 
@@ -268,27 +291,37 @@ def requests():
         yield record(), [record() for _ in range(int(count))]
 
 
+def reply(desk, kind, lines):
+    """Returns what is written for a request."""
+    if kind == "start":
+        return desk.start()
+    if kind == "peek":
+        return desk.peek(lines[0])
+    if kind == "quit":
+        return desk.quit()
+    if kind == "saved":
+        return "ok" if desk.files.is_saved() else "refused"
+    if kind == "watch":
+        watch(desk.script, os.getppid(), desk.files.state)
+        return "ok"
+    return desk.ask(lines, kind == "edit")
+
+
 def main():
     program, script, words, *options = sys.argv[1:]
     desk = Desk(program, script, words, options)
     with os.fdopen(3, "w") as replies:
         for kind, lines in requests():
-            if kind == "start":
-                said = desk.start()
-            elif kind == "peek":
-                said = desk.peek(lines[0])
-            elif kind == "quit":
-                said = desk.quit()
-            else:
-                said = desk.ask(lines, kind == "save")
+            said = reply(desk, kind, lines)
             print(said, file=replies, flush=True)
             if said == "ended":
                 break
     try:
-        desk.child.stdin.close()
+        desk.child.process.stdin.close()
     except BrokenPipeError:
         pass
-    return desk.child.wait()
+    status = desk.child.process.wait()
+    return status if desk.status is None else desk.status
 
 
 if __name__ == "__main__":

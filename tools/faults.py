@@ -2,7 +2,6 @@
 import os
 import re
 import subprocess
-import tempfile
 
 from lexer import ITEMS, Names, RESERVED, is_word, position, read_tokens
 from locate import locate
@@ -17,12 +16,8 @@ SHOWN = 100
 
 def fault_of(program, options, text):
     """Returns the program's line for a fault of the script with this text, or nothing if it has none."""
-    with tempfile.NamedTemporaryFile(suffix=".sbl") as file:
-        file.write(text)
-        file.flush()
-        ended = subprocess.run(
-            [program, "work", "--rows", *options, file.name], stdin=subprocess.DEVNULL, stdout=subprocess.DEVNULL, stderr=subprocess.PIPE
-        )
+    words = [program, "work", "--rows", *options, "/dev/stdin"]
+    ended = subprocess.run(words, input=text, stdout=subprocess.DEVNULL, stderr=subprocess.PIPE)
     return FAULT.search(ended.stderr.decode("utf-8", "replace"))
 
 

@@ -10,6 +10,15 @@ class Files:
 
     def __init__(self, script, words):
         self.script, self.words, self.written, self.seen = script, words, {}, read(script)
+        self.look()
+
+    def look(self):
+        """Notes the state of the script's file before it is read."""
+        self.state = state_of(self.script)
+
+    def is_saved(self):
+        """Returns whether the script's file is another one than when it was read or written here."""
+        return state_of(self.script) not in (None, self.state)
 
     def is_script(self, path):
         return is_same(path, self.script)
@@ -30,6 +39,7 @@ class Files:
     def note_saved(self, path):
         if self.is_script(path):
             self.seen = read(path)
+            self.look()
         else:
             self.written[os.path.realpath(path)] = state_of(path)
 

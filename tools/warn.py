@@ -12,7 +12,7 @@ from plain import named
 
 # The script reads only regular files that are not larger.
 LARGEST = 1 << 26
-BOM = b"\xef\xbb\xbf"
+BOM, GZIP = b"\xef\xbb\xbf", b"\x1f\x8b"
 
 
 def read(path):
@@ -89,6 +89,9 @@ def warnings_on(script, words=""):
     for path in (script, words):
         data = read(path) if path else None
         if data is None:
+            continue
+        if data.startswith(GZIP):
+            said.append(named(path) + ": compressed by gzip. To unpack it: gzip -d < " + named(path) + " > NEW")
             continue
         lines = [line[:-1] if line.endswith("\r") else line for line in data.decode("utf-8", "surrogateescape").split("\n")]
         if data.endswith(b"\n") or not data:

@@ -1,0 +1,188 @@
+"""The program of the desk, and how it came to its state: Ctrl-C ends it in the middle of an edit, and then it is started anew and
+accepts again what it had accepted before.
+"""
+import contextlib
+import os
+import select
+import signal
+import subprocess
+import sys
+import termios
+
+from warn import read
+
+# The accepted commands that change what the program has.
+KEPT = "add remove mark limit reload undo redo routine among grouping replace".split()
+# After how many seconds a sentence says that an edit still runs.
+PATIENCE = 2
+INTERRUPT = b"\x03"
+LONG = 'This takes long. %sIf the script loops, "limit 1000" lets each run end sooner.'
+LONG_START = "This takes long. %sIt may be that the script loops."
+
+
+class Child:
+    def __init__(self, program, options, script, words):
+        self.command = [program, "work", "--rows", *options]
+        self.mark = "end of answer %d-%s" % (os.getpid(), os.urandom(8).hex())
+        # The bytes of the files at the start, and the accepted commands, each with the bytes that `reload` read.
+        self.first = [read(path) for path in (script, words) if path]
+        self.accepted = []
+        # The script of a program that was started anew.
+        self.copy = None
+        self.terminal = open_terminal()
+        # Ctrl-C rings it.
+        self.bell = os.pipe()
+        os.set_blocking(self.bell[0], False)
+        self.start([name for name in (script, words) if name])
+
+    def start(self, names, files=()):
+        pipe = subprocess.PIPE
+        words = [*self.command, *(["--", *names] if names else [])]
+        self.process = subprocess.Popen(words, stdin=pipe, stdout=pipe, stderr=pipe, pass_fds=files)
+
+    def query(self, lines):
+        """Sends lines to the program, and returns the lines of its answer, or nothing if it has ended."""
+        return self.answer() if self.send(lines) else None
+
+    def query_each(self, *commands):
+        """Sends commands at once, and returns the answer of each."""
+        if not self.send([line for lines in commands for line in [*lines, "echo " + self.mark]][:-1]):
+            return [None for _ in commands]
+        return [self.answer() for _ in commands]
+
+    def send(self, lines):
+        sent = "".join(line + "\n" for line in [*lines, "echo " + self.mark])
+        try:
+            self.process.stdin.write(sent.encode("utf-8", "surrogateescape"))
+            self.process.stdin.flush()
+            return True
+        except BrokenPipeError:
+            return False
+
+    def answer(self):
+        answer = []
+        for line in self.process.stdout:
+            line = line.decode("utf-8", "surrogateescape")[:-1]
+            if line == self.mark:
+                return answer
+            answer.append(line)
+        return None
+
+    def run(self, lines, say, text=None):
+        """Does as `query`, and notes what is accepted. Ctrl-C breaks it off: then the result is false. `text` is what `reload` reads."""
+        if lines[0] == "reload" and self.copy is not None:
+            if text is None:
+                return ["no 57 NoFile"]
+            fill(self.copy, text)
+        if not self.send(lines):
+            return None
+        if self.is_broken_off(say, LONG, "Ctrl-C breaks it off. ", self.terminal is not None and None not in self.first):
+            self.drop_keys()
+            return False
+        answer = self.answer()
+        if answer == ["ok"] and lines[0].partition(" ")[0] in KEPT:
+            self.accepted.append((lines, text))
+        return answer
+
+    def begin(self, say):
+        """Asks for `stats` at the start. Otherwise as `run`."""
+        if not self.send(["stats"]):
+            return None
+        return False if self.is_broken_off(say, LONG_START, "Ctrl-C ends it. ", self.terminal is not None) else self.answer()
+
+    def is_broken_off(self, say, sentence, keys_do, can_break):
+        """Waits for the first line of an answer. Returns whether Ctrl-C came before it."""
+        keys = self.take_interrupts() if can_break else None
+        # (no request comes before this one is answered: what can be read of standard input is its end)
+        awaited = [self.process.stdout, self.bell[0], sys.stdin]
+        ready = select.select(awaited, [], [], PATIENCE)[0]
+        if not ready:
+            say([sentence % (keys_do if can_break else "")])
+            ready = select.select(awaited, [], [])[0]
+        if keys:
+            set_keys(self.terminal, keys)
+            signal.signal(signal.SIGINT, signal.SIG_IGN)
+        if sys.stdin in ready:
+            self.process.kill()
+        return self.bell[0] in ready and self.process.stdout not in ready
+
+    def drop_keys(self):
+        """Drops what was typed ahead."""
+        try:
+            termios.tcflush(self.terminal, termios.TCIFLUSH)
+        except termios.error:
+            pass
+
+    def take_interrupts(self):
+        """Makes Ctrl-C a signal, which rings the bell, and shows no keys meanwhile. Returns how the terminal took keys before."""
+        try:
+            os.read(self.bell[0], 65536)
+        except BlockingIOError:
+            pass
+        signal.signal(signal.SIGINT, lambda number, frame: os.write(self.bell[1], b"!"))
+        keys = keys_of(self.terminal)
+        if keys:
+            # (with NOFLSH the signal drops no output that is on its way)
+            other = [*keys[:3], (keys[3] | termios.NOFLSH) & ~termios.ECHO, *keys[4:6], list(keys[6])]
+            other[6][termios.VINTR] = INTERRUPT
+            set_keys(self.terminal, other)
+        return keys
+
+    def stop(self):
+        """Ends the program at once."""
+        self.process.kill()
+        self.process.wait()
+        for pipe in (self.process.stdin, self.process.stdout, self.process.stderr):
+            with contextlib.suppress(BrokenPipeError):
+                pipe.close()
+
+    def bring_back(self):
+        """Starts the program anew, and brings it to where it was after the last accepted command."""
+        self.stop()
+        files = [memory_file(data) for data in self.first]
+        if self.copy is not None:
+            os.close(self.copy)
+        self.copy = files[0]
+        self.start(["/dev/fd/%d" % file for file in files], files)
+        # (now it has read them)
+        self.query(["echo"])
+        for lines, text in self.accepted:
+            if text is not None:
+                fill(self.copy, text)
+            self.query(lines)
+        for file in files[1:]:
+            os.close(file)
+
+
+def memory_file(data):
+    file = os.memfd_create("snowbench")
+    fill(file, data)
+    return file
+
+
+def fill(file, data):
+    os.ftruncate(file, 0)
+    at = 0
+    while at < len(data):
+        at += os.pwrite(file, data[at:], at)
+
+
+def open_terminal():
+    try:
+        return os.open("/dev/tty", os.O_RDWR | os.O_NOCTTY | os.O_CLOEXEC)
+    except OSError:
+        return None
+
+
+def keys_of(terminal):
+    try:
+        return termios.tcgetattr(terminal)
+    except termios.error:
+        return None
+
+
+def set_keys(terminal, keys):
+    try:
+        termios.tcsetattr(terminal, termios.TCSANOW, keys)
+    except termios.error:
+        pass
