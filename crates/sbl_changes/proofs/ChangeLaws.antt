@@ -23,7 +23,7 @@ pub none_made : {A B : Type 0} (h : A → Option B) (xs : List A) → AllByRecur
 none_made h [] a = refl
 none_made h (x ∷ xs) a = (λ i. cons_option (a.0 i) (filter_map h xs)) ∙ none_made h xs a.1
 
-each : {A : Type 0} (P Q : A → Type 0) → ((x : A) → P x → Q x) → (xs : List A) → AllByRecursion P xs → AllByRecursion Q xs
+pub each : {A : Type 0} (P Q : A → Type 0) → ((x : A) → P x → Q x) → (xs : List A) → AllByRecursion P xs → AllByRecursion Q xs
 each P Q f [] a = tt
 each P Q f (x ∷ xs) a = (f x a.0, each P Q f xs a.1)
 

@@ -18,14 +18,14 @@ pub any-same : {A : Type 0} (s t : A → Bool) → ((x : A) → s x ≡ t x) →
 any-same s t same [] = refl
 any-same s t same (x ∷ xs) = λ i. same x i || any-same s t same xs i
 
-any-class : (test : List ℕ → Bool) (pairs : List Pair) (stem : List ℕ) → list_any test (in_order (members_of stem pairs)) ≡ list_any (λ p. bytes_eq stem p.0 && test p.1) pairs
+pub any-class : (test : List ℕ → Bool) (pairs : List Pair) (stem : List ℕ) → list_any test (in_order (members_of stem pairs)) ≡ list_any (λ p. bytes_eq stem p.0 && test p.1) pairs
 any-class test pairs stem = any-in_order test (members_of stem pairs) ∙ any-members test stem pairs
 
-abbrev some_stem : List ℕ → List Pair → Bool
+abbrev pub some_stem : List ℕ → List Pair → Bool
 some_stem stem pairs = list_any (λ p. bytes_eq stem p.0) pairs
 
 -- the stem, if a pair has it, and what is so of it
-any-given : (holds : List ℕ → Bool) (stem : List ℕ) (pairs : List Pair) → list_any (λ p. bytes_eq stem p.0 && holds p.0) pairs ≡ (some_stem stem pairs && holds stem)
+pub any-given : (holds : List ℕ → Bool) (stem : List ℕ) (pairs : List Pair) → list_any (λ p. bytes_eq stem p.0 && holds p.0) pairs ≡ (some_stem stem pairs && holds stem)
 any-given holds stem [] = refl
 any-given holds stem (p ∷ pairs) = here (bytes_eq stem p.0) refl (any-given holds stem pairs)
   where

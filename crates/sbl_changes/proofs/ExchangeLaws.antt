@@ -1,18 +1,18 @@
 -- If the lists are exchanged, each change is told the other way.
-use Rattle.std.proofs.Common.{◌≡◌, ◌∙◌, ◌||◌, ◌&&◌, ◌++◌, Bool, true, false, cond, ℕ, List, [], ◌∷◌, map, Option, Some, None, if◌then◌else◌, refl, sym, ap}
+use Rattle.std.proofs.Common.{◌≡◌, ◌∙◌, ◌||◌, ◌&&◌, ◌++◌, Bool, true, false, not, cond, ℕ, List, [], ◌∷◌, map, Option, Some, None, if◌then◌else◌, refl, sym, ap}
 use Rattle.std.specs.List.{AllByRecursion, cons_option, filter_map, find, list_any}
 use Rattle.std.specs.Option.{option_map}
 use Rattle.std.specs.Ordering.{is_eq}
 use Rattle.std.specs.Str.{bytes_eq}
 use Rattle.std.proofs.lemmas.Slice.Eq.{bytes_eq-Decides}
-use Rattle.sbl_changes.specs.Changes.{Change, Changed, Renamed, added, changed, is_from_one, merged, removed, renamed, split}
+use Rattle.sbl_changes.specs.Changes.{Change, Changed, Renamed, added, changed, is_from_one, is_one, merged, removed, renamed, split}
 use Rattle.sbl_changes.specs.ChangesAreSound.{ExchangedListsTurnChanges, HasOneRowEach, other_way}
 use Rattle.sbl_changes.specs.Classes.{Class, Pair, class_with, classes_of, in_order, members_of}
 use Rattle.sbl_changes.specs.Moves.{move_of, moves_of, turned}
 use Rattle.sbl_changes.specs.Rows.{Outcome, Refused, Row, Stem, outcome_in, same_outcome}
-use Rattle.sbl_changes.proofs.ChangeLaws.{Known, found}
-use Rattle.sbl_changes.proofs.ClassLaws.{any-map, any-same}
-use Rattle.sbl_changes.proofs.OrderFacts.{any-members, any-stems, bytes_eq-back, one_order, text_cmp}
+use Rattle.sbl_changes.proofs.ChangeLaws.{Known, each, found}
+use Rattle.sbl_changes.proofs.ClassLaws.{any-class, any-given, any-map, any-same, some_stem}
+use Rattle.sbl_changes.proofs.OrderFacts.{any-in_order, any-members, any-stems, bytes_eq-back, one_order, text_cmp}
 
 -- ---- tests of lists
 
@@ -163,22 +163,99 @@ merged-split test classes = alike test (back test) (λ c. merged c c.members) (�
     by c (m ∷ []) = refl
     by c (m ∷ n ∷ ms) = refl
 
-none-renamed : (test : Change → Bool) → ((o n : List ℕ) → test (Renamed o n) ≡ false) → (new classes : List Class) → list_any test (filter_map (λ c. renamed new c c.members) classes) ≡ false
-none-renamed test none new classes = any-made test (λ c. renamed new c c.members) classes ∙ all classes
+-- ---- renamed classes
+
+-- two tests that are the same for each item of the list
+any-same-in : {A : Type 0} (s t : A → Bool) (xs : List A) → AllByRecursion (λ x. s x ≡ t x) xs → list_any s xs ≡ list_any t xs
+any-same-in s t [] a = refl
+any-same-in s t (x ∷ xs) a = λ i. a.0 i || any-same-in s t xs a.1 i
+
+-- a test that an item passes has some item that passes
+abbrev Passes : {A : Type 0} → List A → A → Type 0
+Passes {A = A} xs x = (t : A → Bool) → t x ≡ true → list_any t xs ≡ true
+
+inside : {A : Type 0} (xs : List A) → AllByRecursion (Passes xs) xs
+inside [] = tt
+inside {A = A} (x ∷ xs) = ((λ t e. ap (λ (b : Bool). b || list_any t xs) e), each (Passes xs) (Passes (x ∷ xs)) later xs (inside xs))
   where
-    at : (c : Class) (n : List ℕ) (same one : Bool) → passes test (if same then None else (if one then Some (Renamed c.stem n) else None)) ≡ false
-    at c n true one = refl
-    at c n false true = none c.stem n
-    at c n false false = refl
+    or_true : (b : Bool) → (b || true) ≡ true
+    or_true true = refl
+    or_true false = refl
 
-    by : (c : Class) (ms : List (List ℕ)) → passes test (renamed new c ms) ≡ false
-    by c [] = refl
-    by c (n ∷ []) = at c n (bytes_eq c.stem n) (is_from_one new n)
-    by c (n ∷ m ∷ ms) = refl
+    later : (y : A) → Passes xs y → Passes (x ∷ xs) y
+    later y f t e = ap (λ (b : Bool). t x || b) (f t e) ∙ or_true (t x)
 
-    all : (cs : List Class) → list_any (λ c. passes test (renamed new c c.members)) cs ≡ false
-    all [] = refl
-    all (c ∷ cs) = λ i. by c c.members i || all cs i
+abbrev has_one : List Pair → List ℕ → Bool
+has_one pairs stem = is_one (in_order (members_of stem pairs))
+
+-- a class of these pairs with this stem and one member, if a pair has the stem
+from-one : (pairs : List Pair) (stem : List ℕ) → some_stem stem pairs ≡ true → is_from_one (classes_of pairs) stem ≡ has_one pairs stem
+from-one pairs stem there =
+    any-map (class_with pairs) (λ c. bytes_eq c.stem stem && is_one c.members) (in_order (map (λ p. p.0) pairs))
+    ∙ any-in_order (λ s. bytes_eq s stem && has_one pairs s) (map (λ p. p.0) pairs)
+    ∙ any-stems (λ s. bytes_eq s stem && has_one pairs s) pairs
+    ∙ any-same (λ p. bytes_eq p.0 stem && has_one pairs p.0) (λ p. bytes_eq stem p.0 && has_one pairs p.0) (λ p. ap (λ (b : Bool). b && has_one pairs p.0) (bytes_eq-back p.0 stem)) pairs
+    ∙ any-given (has_one pairs) stem pairs
+    ∙ ap (λ (b : Bool). b && has_one pairs stem) there
+
+-- the pair's stem has one member alone, and so does its member in the other pairs
+abbrev is_renamed : List Pair → List Pair → Pair → Bool
+is_renamed ps qs p = not (bytes_eq p.0 p.1) && (has_one ps p.0 && has_one qs p.1)
+
+renamed-pairs : (test : Change → Bool) (ps qs : List Pair) → ((t : Pair → Bool) → list_any t qs ≡ list_any (λ p. t (flip p)) ps)
+    → list_any test (filter_map (λ c. renamed (classes_of qs) c c.members) (classes_of ps)) ≡ list_any (λ p. is_renamed ps qs p && test (Renamed p.0 p.1)) ps
+renamed-pairs test ps qs h =
+    any-made test (λ c. renamed (classes_of qs) c c.members) (classes_of ps)
+    ∙ any-map (class_with ps) (λ c. passes test (renamed (classes_of qs) c c.members)) (in_order (map (λ p. p.0) ps))
+    ∙ any-in_order made (map (λ p. p.0) ps)
+    ∙ any-stems made ps
+    ∙ any-same-in (λ p. made p.0) (λ p. is_renamed ps qs p && test (Renamed p.0 p.1)) ps (each (Passes ps) (λ p. made p.0 ≡ (is_renamed ps qs p && test (Renamed p.0 p.1))) here ps (inside ps))
+  where
+    made : List ℕ → Bool
+    made s = passes test (renamed (classes_of qs) (class_with ps s) (in_order (members_of s ps)))
+
+    -- a class of one member
+    alone : (p : Pair) (same one : Bool) → passes test (if same then None else (if one then Some (Renamed p.0 p.1) else None)) ≡ ((not same && one) && test (Renamed p.0 p.1))
+    alone p true one = refl
+    alone p false true = refl
+    alone p false false = refl
+
+    at : (p : Pair) → some_stem p.1 qs ≡ true → (ms : List (List ℕ)) → list_any (bytes_eq p.1) ms ≡ true
+        → passes test (renamed (classes_of qs) (class_with ps p.0) ms) ≡ ((not (bytes_eq p.0 p.1) && (is_one ms && has_one qs p.1)) && test (Renamed p.0 p.1))
+    at p there [] e = cc e
+    at p there (n ∷ []) e =
+        ap (λ (m : List ℕ). passes test (renamed (classes_of qs) (class_with ps p.0) (m ∷ []))) (sym ((bytes_eq-Decides p.1 n).0 (first (bytes_eq p.1 n) e)))
+        ∙ alone p (bytes_eq p.0 p.1) (is_from_one (classes_of qs) p.1)
+        ∙ ap (λ (b : Bool). (not (bytes_eq p.0 p.1) && b) && test (Renamed p.0 p.1)) (from-one qs p.1 there)
+      where
+        first : (b : Bool) → (b || false) ≡ true → b ≡ true
+        first true e = refl
+        first false e = e
+    at p there (n ∷ m ∷ ms) e = sym (ap (λ (b : Bool). b && test (Renamed p.0 p.1)) (none (bytes_eq p.0 p.1)))
+      where
+        none : (b : Bool) → (not b && false) ≡ false
+        none true = refl
+        none false = refl
+
+    here : (p : Pair) → Passes ps p → made p.0 ≡ (is_renamed ps qs p && test (Renamed p.0 p.1))
+    here p there =
+        at p (h (λ q. bytes_eq p.1 q.0) ∙ there (λ q. bytes_eq p.1 q.1) ((bytes_eq-Decides p.1 p.1).1 refl)) (in_order (members_of p.0 ps))
+        (any-class (bytes_eq p.1) ps p.0 ∙ there (λ q. bytes_eq p.0 q.0 && bytes_eq p.1 q.1) (λ i. (bytes_eq-Decides p.0 p.0).1 refl i && (bytes_eq-Decides p.1 p.1).1 refl i))
+
+renamed-turned : (test : Change → Bool) (ps qs : List Pair) → ((t : Pair → Bool) → list_any t qs ≡ list_any (λ p. t (flip p)) ps)
+    → list_any test (filter_map (λ c. renamed (classes_of qs) c c.members) (classes_of ps)) ≡ list_any (back test) (filter_map (λ c. renamed (classes_of ps) c c.members) (classes_of qs))
+renamed-turned test ps qs h =
+    renamed-pairs test ps qs h
+    ∙ sym (h (λ q. is_renamed ps qs (flip q) && test (Renamed q.1 q.0)))
+    ∙ any-same (λ q. is_renamed ps qs (flip q) && test (Renamed q.1 q.0)) (λ q. is_renamed qs ps q && test (Renamed q.1 q.0))
+    (λ q. ap (λ (b : Bool). b && test (Renamed q.1 q.0)) ((λ i. not (bytes_eq-back q.1 q.0 i) && and_turned (has_one ps q.1) (has_one qs q.0) i))) qs
+    ∙ sym (renamed-pairs (back test) qs ps (λ t. sym (h (λ p. t (flip p)))))
+  where
+    and_turned : (a b : Bool) → (a && b) ≡ (b && a)
+    and_turned true true = refl
+    and_turned true false = refl
+    and_turned false true = refl
+    and_turned false false = refl
 
 -- words that are added, the other way
 added-removed : (test : Change → Bool) (f : List ℕ → Option Outcome) (rows : List Row) → list_any test (filter_map (λ r. added (f r.word) r) rows) ≡ list_any (back test) (filter_map (λ r. removed (f r.word) r) rows)
@@ -243,7 +320,7 @@ parts test a b c d e f =
     || (any-append test (d ++ e) f ∙ ap (λ (x : Bool). x || list_any test f) (any-append test d e)) i)
 
 pub turned_changes : ExchangedListsTurnChanges
-turned_changes before after one other test none =
+turned_changes before after one other test =
     let moves : List Pair = moves_of (outcome_in before) after in
     let back_moves : List Pair = moves_of (outcome_in after) before in
     let old : classes_of moves ≡ classes_of (turned back_moves) =
@@ -268,8 +345,10 @@ turned_changes before after one other test none =
     (λ i. (split-merged test (classes_of moves) ∙ ap (λ (cs : List Class). list_any (back test) (filter_map (λ k. merged k k.members) cs)) old) i
     || (merged-split test (classes_of (turned moves)) ∙ ap (λ (cs : List Class). list_any (back test) (filter_map (λ k. split k k.members) cs)) new) i)
     ∙ or_turned (list_any (back test) e') (list_any (back test) d') in
-    let no_f : list_any test f ≡ list_any (back test) f' =
-    none-renamed test none (classes_of (turned moves)) (classes_of moves) ∙ sym (none-renamed (back test) (λ o n. none n o) (classes_of (turned back_moves)) (classes_of back_moves)) in
+    let ff : list_any test f ≡ list_any (back test) f' =
+    (λ i. list_any test (filter_map (λ k. renamed (new i) k k.members) (classes_of moves)))
+    ∙ renamed-turned test moves back_moves (λ t. moves-turned after before other one t)
+    ∙ (λ i. list_any (back test) (filter_map (λ k. renamed (old i) k k.members) (classes_of back_moves))) in
     parts test a b c d e f
-    ∙ (λ i. (ab i || changed-turned test before after one other i) || (de i || no_f i))
+    ∙ (λ i. (ab i || changed-turned test before after one other i) || (de i || ff i))
     ∙ sym (parts (back test) a' b' c' d' e' f')

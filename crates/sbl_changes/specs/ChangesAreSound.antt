@@ -1,5 +1,5 @@
 -- Laws of the changes between any two lists of rows, and of the classes of any pairs.
-use Rattle.std.specs.Prelude.{◌≡◌, ◌⊎◌, ◌&&◌, ◌<◌, ℕ, Bool, false, List, [], map, length, None, All}
+use Rattle.std.specs.Prelude.{◌≡◌, ◌⊎◌, ◌&&◌, ◌<◌, ℕ, Bool, List, [], map, length, None, All}
 use Rattle.std.specs.List.{IsDistinct, list_any}
 use Rattle.std.specs.List.Sorted.{IsStrictlySortedBy}
 use Rattle.std.specs.Ordering.{nat_cmp}
@@ -19,7 +19,7 @@ EqualListsHaveNoChanges = (rows : List Row) → HasOneRowEach rows → changes_o
 abbrev pub NoClassIsSplitAndRenamed : Type 0
 NoClassIsSplitAndRenamed = (new : List Class) (c : Class) → (split c c.members ≡ None) ⊎ (renamed new c c.members ≡ None)
 
--- the change, told of the exchanged lists
+-- the change, seen from the second list to the first
 abbrev pub other_way : Change → Change
 other_way (Added w) = Removed w
 other_way (Removed w) = Added w
@@ -28,11 +28,11 @@ other_way (Split s ns) = Merged s ns
 other_way (Merged s os) = Split s os
 other_way (Renamed o n) = Renamed n o
 
--- If the lists are exchanged, each change is told the other way, be it added, removed, changed, split or merged: a property that no
--- renamed class has is one of some change exactly if, told the other way, it is one of some change of the exchanged lists.
+-- If the lists are exchanged, each change becomes the other way round: some change of the lists has a property exactly if some
+-- change of the exchanged lists has it the other way round.
 abbrev pub ExchangedListsTurnChanges : Type 0
 ExchangedListsTurnChanges =
-    (before after : List Row) → HasOneRowEach before → HasOneRowEach after → (test : Change → Bool) → ((o n : List ℕ) → test (Renamed o n) ≡ false)
+    (before after : List Row) → HasOneRowEach before → HasOneRowEach after → (test : Change → Bool)
     → list_any test (changes_of before after) ≡ list_any (λ c. test (other_way c)) (changes_of after before)
 
 -- each text is before the next in code point order; a prefix comes first

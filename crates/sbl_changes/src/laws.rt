@@ -5,7 +5,8 @@ ghost use Rattle.sbl_changes.specs.FamiliesAreSound.{NoneApartIfNoUnder, NoneJoi
 ghost use Rattle.sbl_changes.specs.ChangesAreSound.{ClassesAreOfPairs, ClassesRise, EqualListsHaveNoChanges, ExchangedListsTurnChanges, NoClassIsSplitAndRenamed};
 
 /// Two equal lists have no changes, if each word has one row. No class is both split and renamed. If the lists are exchanged, added and
-/// removed words change places, so do split and merged classes, and each changed word has its two outcomes exchanged.
+/// removed words change places, so do split and merged classes; each changed word has its two outcomes exchanged, and each renamed
+/// class its two stems.
 pub fn changes_are_sound()
     ensures none { EqualListsHaveNoChanges }
     ensures either { NoClassIsSplitAndRenamed }

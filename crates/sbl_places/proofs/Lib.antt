@@ -4,3 +4,4 @@ pub mod Firsts
 pub mod Codes
 pub mod AtTokens
 pub mod NoPlaces
+pub mod FaultKinds

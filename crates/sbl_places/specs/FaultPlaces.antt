@@ -47,27 +47,26 @@ pub record IsPlaceIn (bytes : List ℕ) (p : FaultPlace) : Type 0 where
 
 -- ---- the offset of a fault
 
--- the byte offset of the token at which the checks find a fault of these bytes, if they find one at a token
-abbrev pub IsTokenOffset : List ℕ → Option ℕ → Type 0
-IsTokenOffset bytes o = MatchOption o (HasNoFaultAt bytes) (λ offset. (p : FaultPlace) × IsPlaceIn bytes p × (offset ≡ p.begin))
+-- the byte offset of the token at which the checks find this fault, if it is what they find in these bytes
+abbrev pub IsTokenOffset : List ℕ → ScriptFault → Option ℕ → Type 0
+IsTokenOffset bytes f o = MatchOption o ((t : SubjectToken) → IsFaultAt bytes f t → ⊥) (λ offset. (t : SubjectToken) × IsFaultAt bytes f t × (offset ≡ t.token.start))
 
--- The byte offset of a fault of these bytes: its place, or that of its token if the fault only has the item. Other faults
--- are at no offset.
+-- the place that a fault itself has
+abbrev pub place_in : ScriptFault → Option ℕ
+place_in (fault.BadCharacter place) = Some place
+place_in (fault.UnclosedString place) = Some place
+place_in (fault.UnclosedComment place) = Some place
+place_in (fault.UnknownEscape place) = Some place
+place_in (fault.BadCode place) = Some place
+place_in (fault.NumberTooLarge place) = Some place
+place_in (fault.Syntax place) = Some place
+place_in (fault.TooDeep place) = Some place
+place_in (fault.OutOfProfile place) = Some place
+place_in _ = None
+
+-- the byte offset of a fault: its place, or that of its token in these bytes if it has no place
 abbrev pub IsOffset : List ℕ → ScriptFault → Option ℕ → Type 0
-IsOffset bytes (fault.BadCharacter place) o = o ≡ Some place
-IsOffset bytes (fault.UnclosedString place) o = o ≡ Some place
-IsOffset bytes (fault.UnclosedComment place) o = o ≡ Some place
-IsOffset bytes (fault.UnknownEscape place) o = o ≡ Some place
-IsOffset bytes (fault.BadCode place) o = o ≡ Some place
-IsOffset bytes (fault.NumberTooLarge place) o = o ≡ Some place
-IsOffset bytes (fault.Syntax place) o = o ≡ Some place
-IsOffset bytes (fault.TooDeep place) o = o ≡ Some place
-IsOffset bytes (fault.OutOfProfile place) o = o ≡ Some place
-IsOffset bytes fault.NoExternal o = o ≡ None
-IsOffset bytes fault.NotUtf8 o = o ≡ None
-IsOffset bytes fault.ScriptTooLong o = o ≡ None
-IsOffset bytes fault.OutOfMemory o = o ≡ None
-IsOffset bytes _ o = IsTokenOffset bytes o
+IsOffset bytes f o = MatchOption (place_in f) (IsTokenOffset bytes f o) (λ place. o ≡ Some place)
 
 -- ---- laws
 

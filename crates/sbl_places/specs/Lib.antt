@@ -4,3 +4,4 @@ pub mod FaultPlaces
 pub mod Positions
 -- what the functions inside the crate promise each other; no public contract depends on these
 pub mod Walks
+pub mod FaultKinds

@@ -10,8 +10,11 @@ ghost use Rattle.sbl_tree.specs.View.{view_items};
 ghost use Rattle.sbl_grammar.specs.Reading.{IsReadAs};
 ghost use Rattle.sbl_script.specs.Reading as spec;
 ghost use Rattle.sbl_script.specs.Reading.{HasTokens, max_script, terminals};
+ghost use Rattle.sbl_places.specs.FaultPlaces as places;
 ghost use Rattle.sbl_places.specs.FaultPlaces.{HasNoFaultAt, IsOffset, IsPlaceIn, IsTokenOffset};
 
+use crate::fault_kinds::is_same;
+use crate::laws::{faults_are_at_tokens, token_is_one};
 use crate::subject_tokens::subject_at;
 use sbl_checks::first_fault;
 use sbl_grammar::{is_left_out, one_fault, one_tree, parse};
@@ -114,25 +117,22 @@ pub fn place_of_fault(alloc: Global, text: &[u8]) -> Result<Option<FaultPlace>, 
     }
 }
 
-/// Returns the byte offset of the token at which a check fails, or `None` if the text has no such fault. Returns `AllocError` if
-/// an allocation fails.
-fn token_offset(alloc: Global, text: &[u8]) -> Result<Option<usize>, AllocError>
-    ensures { IfOk result (λ o. IsTokenOffset text.now o) }
+/// Returns the byte offset of the token at which the checks find this fault, or `None` if they do not find it in this text. Returns
+/// `AllocError` if an allocation fails.
+fn token_offset(alloc: Global, text: &[u8], fault: ScriptFault) -> Result<Option<usize>, AllocError>
+    ensures { IfOk result (λ o. IsTokenOffset text.now fault o) }
 {
+    token_is_one();
+    faults_are_at_tokens();
     match place_of_fault(alloc, text)? {
-        Some(place) => Ok(Some(place.begin)),
-        None => Ok(None),
+        Some(place) if is_same(place.fault, fault) => Ok(Some(place.begin)),
+        _ => Ok(None),
     }
 }
 
-/// Returns the byte offset of a fault with which `Script::parse` refuses a text: its place, or that of the token of a fault that
-/// only has its item. Returns `None` if the fault has neither, and `AllocError` if an allocation fails.
-pub fn offset_of_fault(
-    alloc: Global,
-    text: &[u8],
-    fault: ScriptFault,
-) -> Result<Option<usize>, AllocError>
-    ensures { IfOk result (λ o. IsOffset text.now fault o) }
+/// Returns the place that a fault has. Does not allocate.
+fn place_in(fault: ScriptFault) -> Option<usize>
+    ensures { result ≡ places.place_in fault }
 {
     match fault {
         ScriptFault::BadCharacter { place }
@@ -143,11 +143,23 @@ pub fn offset_of_fault(
         | ScriptFault::NumberTooLarge { place }
         | ScriptFault::Syntax { place }
         | ScriptFault::TooDeep { place }
-        | ScriptFault::OutOfProfile { place } => Ok(Some(place)),
-        ScriptFault::NoExternal
-        | ScriptFault::NotUtf8
-        | ScriptFault::ScriptTooLong
-        | ScriptFault::OutOfMemory => Ok(None),
-        _ => token_offset(alloc, text),
+        | ScriptFault::OutOfProfile { place } => Some(place),
+        _ => None,
+    }
+}
+
+/// Returns the byte offset of a fault: the place that the fault has, or that of the token at which the checks find this fault in
+/// this text. Returns `None` if the fault has no place and the checks do not find it in this text, and `AllocError` if an
+/// allocation fails.
+pub fn offset_of_fault(
+    alloc: Global,
+    text: &[u8],
+    fault: ScriptFault,
+) -> Result<Option<usize>, AllocError>
+    ensures { IfOk result (λ o. IsOffset text.now fault o) }
+{
+    match place_in(fault) {
+        Some(place) => Ok(Some(place)),
+        None => token_offset(alloc, text, fault),
     }
 }

@@ -1,6 +1,7 @@
 //! Where in its text a script's fault is.
 #![tactic(auto)]
 
+mod fault_kinds;
 mod fault_places;
 pub mod laws;
 mod positions;

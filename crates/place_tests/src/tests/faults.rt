@@ -181,6 +181,32 @@ fn words(rt: HostRuntime) -> Result<(), Fail> {
 }
 
 #[test]
+fn amongs_in_backward_mode(rt: HostRuntime) -> Result<(), Fail> {
+    for (text, want) in [
+        (
+            "externals ( stem ) routines ( r )\nbackwardmode (\n  define r as ( [substring] among ( 'a' 'b' (delete) 'a' ) )\n)\ndefine stem as backwards r",
+            at(ScriptFault::RepeatedString { item: 3 }, 3, 54, "'a'"),
+        ),
+        (
+            "externals ( stem ) routines ( r )\nbackwardmode (\n  define r as ( among ( ) )\n)\ndefine stem as backwards r",
+            at(ScriptFault::EmptyAmong { item: 3 }, 3, 17, "among"),
+        ),
+        // a condition that is defined in forward mode
+        (
+            "externals ( stem ) routines ( r c )\ndefine c as true\nbackwardmode (\n  define r as among ( 'a' 'b' c (delete) )\n)\ndefine stem as backwards r",
+            at(ScriptFault::WrongMode { item: 4 }, 4, 31, "c"),
+        ),
+        (
+            "externals ( stem ) routines ( r )\nbackwardmode (\n  define r as backwards among ( 'a' )\n)\ndefine stem as true",
+            at(ScriptFault::NestedBackwards { item: 3 }, 3, 15, "backwards"),
+        ),
+    ] {
+        assert_eq!(rt; shown_in(rt.alloc(), text)?, want, "{text}");
+    }
+    Ok(())
+}
+
+#[test]
 fn columns_are_characters(rt: HostRuntime) -> Result<(), Fail> {
     for (text, want) in [
         (
