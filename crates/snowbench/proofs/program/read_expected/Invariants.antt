@@ -1,5 +1,5 @@
 use Rattle.sbl_lines.specs.Held.{KeepsTime, fuel_of}
-use Rattle.snowbench.proofs.program.read_block.Given as goal
+use Rattle.snowbench.proofs.program.read_expected.Given as goal
 
 -- what was read so far was read in time
 abbrev pub invariant-loop-text : goal.invariant-loop-text
