@@ -1,14 +1,13 @@
 -- What the program writes for its input, and its exit status.
-use Rattle.std.specs.Prelude.{◌≡◌, ◌⊎◌, ◌++◌, ◌==◌, ℕ, List, [], ◌∷◌, Option, Some, Result, Ok, Err, codes, if◌then◌else◌, take}
+use Rattle.std.specs.Prelude.{◌≡◌, ◌⊎◌, ◌++◌, ◌==◌, ℕ, List, [], ◌∷◌, Option, Result, Ok, Err, codes, if◌then◌else◌, take}
 use Rattle.std.specs.Io.KnownBytes.{Appends, Keeps}
 use Rattle.sbl_command_line.specs.declared.command_line.Verb.{Verb}
 use Rattle.sbl_command_line.specs.declared.command_line.Verb.TheVariants.{Session, Stem, Check, Work}
 use Rattle.sbl_sessions.specs.declared.faults.LoadFault.{LoadFault}
 use Rattle.sbl_sessions.specs.declared.faults.LoadFault.TheVariants.{Input}
 use Rattle.sbl_lines.specs.Devices.{HasStopped}
-use Rattle.sbl_lines.specs.Held.{HasCause, fault_of}
+use Rattle.sbl_lines.specs.Held.{HasCause}
 use Rattle.sbl_lines.specs.declared.lines.Lines.{Lines}
-use Rattle.sbl_lines.specs.declared.faults.LineFault.TheVariants as line
 use Rattle.sbl_lines.specs.declared.faults.ServeFault.TheVariants as fault
 use Rattle.snowbench.specs.Stemmed.{IsStemmed}
 use Rattle.snowbench.specs.WholeCheck.{IsWholeCheck}
@@ -28,10 +27,10 @@ IsAnswer Work external input left held new_held result = (result ≡ Ok 0) × Ke
 
 -- ---- why it ends with a fault
 
--- A fault of reading or writing is caused by the device or a limit, or the lines returned it before.
+-- A fault of reading or writing is caused by the device or a limit.
 abbrev pub HasReasons : {R W : Type 0} → (R → ℕ) → (R → ℕ) → (R → ℕ) → (W → ℕ) → (W → ℕ) → Lines R → Lines R → W → W → LoadFault → Type 0
 HasReasons read_failures read_row reads write_failures write_row lines new_lines writer new_writer f =
-    (f ≡ Input fault.Read → HasCause read_failures read_row reads lines new_lines ⊎ (fault_of lines ≡ Some line.Read))
+    (f ≡ Input fault.Read → HasCause read_failures read_row reads lines new_lines)
     × (f ≡ Input fault.Write → HasStopped write_failures write_row writer new_writer)
 
 -- ---- the line of a fault, and the status

@@ -1,7 +1,7 @@
 //! The program over the lines of a reader and two writers.
 ghost use Rattle.std.specs.Prelude.{◌≡◌, ◌≤◌, ◌++◌, ◌∷◌, [], ℕ, List, Result, None, IfOk, IfErr, OnOk, string_bytes};
 ghost use Rattle.std.specs.Fmt.InlineText.{inline_text};
-ghost use Rattle.sbl_lines.specs.Devices.{HasStopped, WritesInTime};
+ghost use Rattle.sbl_lines.specs.Devices.{WritesInTime};
 ghost use Rattle.sbl_lines.specs.Faults.{left_by};
 ghost use Rattle.sbl_lines.specs.Held.{KeepsTime, HasReason, fault_of, input_of, reads_bound};
 ghost use Rattle.sbl_script.specs.Parsed.{source_of};
@@ -79,7 +79,7 @@ fn answer<R: Source + Drop, W: Sink>(
     writer: &mut W,
 ) -> Result<u64, LoadFault>
     ensures answers { fault_of lines.old ≡ None → IsAnswer wanted.now.verb (string_bytes wanted.now.external) (input_of R.left lines.old) (input_of R.left lines.new) (W.held writer.old) (W.held writer.new) result }
-    ensures why { IfErr result (λ fault. HasReasons R.failures R.interruptions R.reads W.failures W.interruptions lines.old lines.new writer.old writer.new fault) }
+    ensures why { fault_of lines.old ≡ None → IfErr result (λ fault. HasReasons R.failures R.interruptions R.reads W.failures W.interruptions lines.old lines.new writer.old writer.new fault) }
     ensures reads_in_time { KeepsTime R.ended R.late R.interruptions R.reads lines.old lines.new }
     ensures writes_in_time { WritesInTime W.late W.interruptions writer.old writer.new }
 {
@@ -106,7 +106,7 @@ fn session<R: Source + Drop, W: Sink>(
     writer: &mut W,
 ) -> Result<(), LoadFault>
     ensures session { fault_of lines.old ≡ None → IsWholeSession (input_of R.left lines.old) (input_of R.left lines.new) external.now (W.held writer.old) (W.held writer.new) result }
-    ensures why { IfErr result (λ fault. HasReasons R.failures R.interruptions R.reads W.failures W.interruptions lines.old lines.new writer.old writer.new fault) }
+    ensures why { fault_of lines.old ≡ None → IfErr result (λ fault. HasReasons R.failures R.interruptions R.reads W.failures W.interruptions lines.old lines.new writer.old writer.new fault) }
     ensures reads_in_time { KeepsTime R.ended R.late R.interruptions R.reads lines.old lines.new }
     ensures writes_in_time { WritesInTime W.late W.interruptions writer.old writer.new }
 {
@@ -124,7 +124,7 @@ fn stem<R: Source + Drop, W: Sink>(
     writer: &mut W,
 ) -> Result<(), LoadFault>
     ensures stemmed { fault_of lines.old ≡ None → IsStemmed (input_of R.left lines.old) (input_of R.left lines.new) external.now (W.held writer.old) (W.held writer.new) result }
-    ensures why { IfErr result (λ fault. HasReasons R.failures R.interruptions R.reads W.failures W.interruptions lines.old lines.new writer.old writer.new fault) }
+    ensures why { fault_of lines.old ≡ None → IfErr result (λ fault. HasReasons R.failures R.interruptions R.reads W.failures W.interruptions lines.old lines.new writer.old writer.new fault) }
     ensures reads_in_time { KeepsTime R.ended R.late R.interruptions R.reads lines.old lines.new }
     ensures writes_in_time { WritesInTime W.late W.interruptions writer.old writer.new }
 {
@@ -143,7 +143,7 @@ fn check_input<R: Source + Drop, W: Sink>(
     writer: &mut W,
 ) -> Result<u64, LoadFault>
     ensures checked { fault_of lines.old ≡ None → IsWholeCheck (input_of R.left lines.old) (input_of R.left lines.new) external.now (W.held writer.old) (W.held writer.new) result }
-    ensures why { IfErr result (λ fault. HasReasons R.failures R.interruptions R.reads W.failures W.interruptions lines.old lines.new writer.old writer.new fault) }
+    ensures why { fault_of lines.old ≡ None → IfErr result (λ fault. HasReasons R.failures R.interruptions R.reads W.failures W.interruptions lines.old lines.new writer.old writer.new fault) }
     ensures reads_in_time { KeepsTime R.ended R.late R.interruptions R.reads lines.old lines.new }
     ensures writes_in_time { WritesInTime W.late W.interruptions writer.old writer.new }
 {
@@ -168,8 +168,7 @@ fn check_lists<R: Source + Drop, W: Sink>(
     writer: &mut W,
 ) -> Result<u64, ServeFault>
     ensures checked { fault_of lines.old ≡ None → ChecksLists (source_of script.now) (input_of R.left lines.old) (input_of R.left lines.new) (W.held writer.old) (W.held writer.new) result }
-    ensures why { IfErr result (λ fault. HasReason R.failures R.interruptions R.reads lines.old lines.new fault) }
-    ensures stopped { IfErr result (λ fault. fault ≡ ServeFault.Write → HasStopped W.failures W.interruptions writer.old writer.new) }
+    ensures why { fault_of lines.old ≡ None → IfErr result (λ fault. HasReasons R.failures R.interruptions R.reads W.failures W.interruptions lines.old lines.new writer.old writer.new (LoadFault.Input fault)) }
     ensures reads_in_time { KeepsTime R.ended R.late R.interruptions R.reads lines.old lines.new }
     ensures writes_in_time { WritesInTime W.late W.interruptions writer.old writer.new }
 {

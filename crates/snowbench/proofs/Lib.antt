@@ -1,0 +1,3 @@
+pub mod ListFacts
+pub mod ReasonFacts
+pub mod AnswerFacts
