@@ -7,13 +7,13 @@ use Rattle.sbl_bench.specs.Contents.{Contents}
 use Rattle.sbl_bench.specs.declared.fault.EditFault.TheVariants as edit
 use Rattle.sbl_differences.specs.Differences.{IsChecked}
 use Rattle.sbl_script.specs.Parsed.{Source}
-use Rattle.sbl_sessions.specs.Loaded.{IsLoaded, ReadsScript, TookFault, TookSource}
+use Rattle.sbl_sessions.specs.Loaded.{IsLoaded, ReadsScript, TookSource}
 use Rattle.sbl_sessions.specs.Session.{IsSession}
 use Rattle.sbl_sessions.specs.declared.faults.LoadFault.{LoadFault}
 use Rattle.sbl_sessions.specs.declared.faults.LoadFault.TheVariants.{Input, Open, Script}
-use Rattle.sbl_text.specs.declared.fault.ScriptFault.{ScriptFault}
 use Rattle.sbl_lines.specs.declared.faults.ServeFault.{ServeFault}
 use Rattle.sbl_lines.specs.declared.faults.ServeFault.TheVariants as fault
+use Rattle.sbl_sessions.proofs.LoadFacts.{script_unread}
 use Rattle.snowbench.specs.WholeCheck.{ChecksLists, IsWholeCheck, ReadsExpected, ReadsWords}
 use Rattle.snowbench.specs.WholeSession.{IsWholeSession, as_load}
 
@@ -74,11 +74,10 @@ lists_checked s a b c h i words expected w e result p q same also checked =
     )
 
 pub check_no_text : (a b : Option (List ℕ)) (external : List ℕ) (h : Option (List ℕ)) (f : LoadFault) → ReadsScript a b (Err f) → IsWholeCheck a b external h h (Err f)
-check_no_text a b external h f reads = inl (f, refl, inl reads, Appends-nil h)
-
-pub check_no_script : (a b : Option (List ℕ)) (external : List ℕ) (h : Option (List ℕ)) (f : ScriptFault) → TookFault a b external f
-    → IsWholeCheck a b external h h (Err (Script f))
-check_no_script a b external h f took = inl (Script f, refl, inr (f, refl, took), Appends-nil h)
+check_no_text a b external h (Script f) reads =
+    inl (Script f, refl, script_unread a b external (λ (s : Contents). s) (Script f) reads, Appends-nil h)
+check_no_text a b external h (Open f) reads = absurd reads
+check_no_text a b external h (Input f) reads = inl (Input f, refl, reads, Appends-nil h)
 
 pub check_lists : (a b c : Option (List ℕ)) (external : List ℕ) (h i : Option (List ℕ)) (s : Source) (checked : Result ℕ ServeFault) → TookSource a b external s
     → ChecksLists s b c h i checked → IsWholeCheck a c external h i (as_load checked)

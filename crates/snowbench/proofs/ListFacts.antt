@@ -1,5 +1,7 @@
 -- The lists of a check.
-use Rattle.std.proofs.Common.{◌≡◌, ◌++◌, ℕ, List, [], ◌∷◌, Option, Err, ap, ◌∙◌}
+use Rattle.std.proofs.Common.{◌≡◌, ◌≤◌, ◌++◌, ℕ, List, [], ◌∷◌, Option, Err, ap, length, refl, ◌∙◌}
+use Rattle.std.proofs.lemmas.Bool.{le-leb}
+use Rattle.std.specs.Fmt.Cut.{cut_to}
 use Rattle.std.proofs.lemmas.List.{flat_map_more}
 use Rattle.sbl_lines.specs.Held.{AllFit, Took}
 use Rattle.sbl_lines.specs.Faults.{serve_fault_of}
@@ -20,3 +22,8 @@ words_broken a b TooLong breaks = breaks
 pub expected_broken : (a b : Option (List ℕ)) (f : LineFault) → Breaks AllFit a b (serve_fault_of f) → ReadsExpected a b (Err (serve_fault_of f))
 expected_broken a b Read breaks = breaks
 expected_broken a b TooLong breaks = breaks
+
+-- a text that fits is not cut
+pub cut_to_fits : (room : ℕ) (text : List ℕ) → length text ≤ room → cut_to room text ≡ text
+unfolding cut_to
+cut_to_fits room text fits = rw (le-leb (length text) room fits) refl

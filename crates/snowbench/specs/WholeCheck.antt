@@ -5,7 +5,6 @@ use Rattle.std.specs.Io.KnownBytes.{Appends, IsAtEnd}
 use Rattle.std.specs.declared.vec.Vec.{Vec}
 use Rattle.std.specs.declared.alloc.Global.{Global}
 use Rattle.sbl_script.specs.Parsed.{Source}
-use Rattle.sbl_text.specs.declared.fault.ScriptFault.{ScriptFault}
 use Rattle.sbl_differences.specs.Differences.{IsChecked}
 use Rattle.sbl_sessions.specs.Block.{BlockLines, Breaks, TookBlock}
 use Rattle.sbl_sessions.specs.Loaded.{ReadsScript, TookFault, TookSource}
@@ -44,9 +43,10 @@ ReadsExpected old new (Err f) = BreaksList AllFit old new f
 
 -- ---- checks
 
--- There is no script: its block has no text, or the text has this fault.
+-- There is no script: the text of its block has this fault, or the block has no text.
 abbrev pub LacksScript : Option (List ℕ) → Option (List ℕ) → List ℕ → LoadFault → Type 0
-LacksScript old new external f = ReadsScript old new (Err f) ⊎ ((g : ScriptFault) × (f ≡ Script g) × TookFault old new external g)
+LacksScript old new external (Script f) = TookFault old new external f
+LacksScript old new external f = ReadsScript old new (Err f)
 
 -- One of the lists has no text. The expected stems are read after the words.
 abbrev pub LacksLists : Option (List ℕ) → Option (List ℕ) → ServeFault → Type 0

@@ -2,7 +2,7 @@ use Rattle.std.proofs.Common.{◌≡◌, ◌∙◌, ◌++◌, ◌∷◌, [], ◌
 use Rattle.std.specs.Prelude.{codes}
 use Rattle.std.specs.Fmt.Cut.{cut_to}
 use Rattle.std.specs.Fmt.InlineText.{inline_text}
-use Rattle.core.proofs.fmt.Cut.{cut_to_fits}
+use Rattle.snowbench.proofs.ListFacts.{cut_to_fits}
 use Rattle.snowbench.proofs.program.line_of_fault.Goals as goal
 
 pub returns : goal.returns
