@@ -1,6 +1,6 @@
 -- Why the parts of an answer end with a fault.
 use Rattle.std.proofs.Common.{◌≡◌, ◌⊎◌, inl, inr, ◌<◌, ◌≤◌, ◌∙◌, ℕ, Bool, true, false, List, [], ◌∷◌, Option, Some, None, Result, Ok, Err, sym, refl, subst, length}
-use Rattle.std.specs.Prelude.{if◌then◌else◌, nat_lt}
+use Rattle.std.specs.Prelude.{IfErr, if◌then◌else◌, nat_lt}
 use Rattle.std.specs.Option.{option_or}
 use Rattle.std.specs.Str.{is_utf8}
 use Rattle.sbl_bench.specs.Contents.{Contents}
@@ -132,6 +132,12 @@ module _ {R W : Type 0} (failures row reads : R → ℕ) (write_failures write_r
   check_reasons a b w v fault.LengthsDiffer s words expected old new checked stopped = (λ is. cc is, λ is. cc is)
   check_reasons a b w v fault.NotText s words expected old new checked stopped = (λ is. cc is, λ is. cc is)
   check_reasons a b w v fault.OutOfMemory s words expected old new checked stopped = (λ is. cc is, λ is. cc is)
+
+  pub check_result_reasons : (a b : Lines R) (w v : W) (r : Result ℕ ServeFault) (s : Source) (words expected : List ℕ) (old new : Option (List ℕ))
+      → IsChecked s words expected old new r → IfErr r (λ f. f ≡ fault.Write → HasStopped write_failures write_row w v)
+      → IfErr r (λ f. HasReasons failures row reads write_failures write_row a b w v (Input f))
+  check_result_reasons a b w v (Ok n) s words expected old new checked stopped = tt
+  check_result_reasons a b w v (Err f) s words expected old new checked stopped = check_reasons a b w v f s words expected old new checked stopped
 
   -- a fault of a session from its bench on
   pub serve_reasons : (a b c : Lines R) (w v : W) (f : ServeFault) → fault_of b ≡ None → failures b.reader ≡ failures a.reader

@@ -154,10 +154,7 @@ fn check_input<R: Source + Drop, W: Sink>(
     };
     let differences = check_lists(lines, &script, writer);
     script.discard();
-    match differences {
-        Ok(differences) => Ok(differences),
-        Err(fault) => Err(LoadFault::Input(fault)),
-    }
+    Ok(differences?)
 }
 
 /// Reads a block of words and the expected stems, runs the script on the words and compares the results with the
