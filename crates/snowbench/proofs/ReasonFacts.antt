@@ -11,7 +11,7 @@ use Rattle.sbl_sessions.specs.Loaded.{AfterSource, IsLoaded, ReadsScript, WordLi
 use Rattle.sbl_sessions.specs.Block.{BlockLines, Breaks}
 use Rattle.sbl_sessions.specs.Session.{Ends}
 use Rattle.sbl_sessions.specs.declared.faults.LoadFault.{LoadFault}
-use Rattle.sbl_sessions.specs.declared.faults.LoadFault.TheVariants.{Input, Open, Script}
+use Rattle.sbl_sessions.specs.declared.faults.LoadFault.TheVariants.{Input}
 use Rattle.sbl_lines.specs.Devices.{HasStopped}
 use Rattle.sbl_lines.specs.Held.{HasCause, HasReason, fault_of, reads_bound}
 use Rattle.sbl_lines.specs.LinesOf.{max_line}

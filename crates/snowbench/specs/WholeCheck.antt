@@ -59,11 +59,11 @@ abbrev pub ChecksLists : Source → Option (List ℕ) → Option (List ℕ) → 
 ChecksLists script old new held new_held result =
     ((f : ServeFault) × (result ≡ Err f) × LacksLists old new f × Appends held new_held [])
     ⊎ ((between : Option (List ℕ)) × (words : List (List ℕ)) × (expected : List (List ℕ)) × TookBlock old between words × TookRest between new expected
-      × IsChecked script (list_text words) (list_text expected) held new_held result)
+    × IsChecked script (list_text words) (list_text expected) held new_held result)
 
 -- There is no script: the result is its fault, and nothing is written. Or the lists after it are checked.
 abbrev pub IsWholeCheck : Option (List ℕ) → Option (List ℕ) → List ℕ → Option (List ℕ) → Option (List ℕ) → Result ℕ LoadFault → Type 0
 IsWholeCheck input left external held new_held result =
     ((f : LoadFault) × (result ≡ Err f) × LacksScript input left external f × Appends held new_held [])
     ⊎ ((between : Option (List ℕ)) × (script : Source) × (checked : Result ℕ ServeFault) × (result ≡ as_load checked)
-      × TookSource input between external script × ChecksLists script between left held new_held checked)
+    × TookSource input between external script × ChecksLists script between left held new_held checked)

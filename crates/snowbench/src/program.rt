@@ -200,11 +200,11 @@ fn read_expected<R: Source + Drop>(lines: &mut Lines<R>) -> Result<Vec<u8>, Serv
     ensures why { IfErr result (λ fault. HasReason R.failures R.interruptions R.reads lines.old lines.new fault) }
     ensures in_time { KeepsTime R.ended R.late R.interruptions R.reads lines.old lines.new }
 {
-    let mut text = Vec::new(lines.alloc());
+    let mut stems = Vec::new(lines.alloc());
     while lines.next_line()? {
-        push_line(&mut text, lines.line())?;
+        push_line(&mut stems, lines.line())?;
     }
-    Ok(text)
+    Ok(stems)
 }
 
 /// Appends a line, a carriage return and a line feed. If the line itself ends with a carriage return, that one is kept

@@ -16,9 +16,8 @@ returns c =
     let second : inline_text c.and_str-2.result ≡ name ++ text =
     c.and_str-2.ensures.within (omega (arith, first_length))
     ∙ ap (λ (l : List ℕ). l ++ cut_to 80 text) first ∙ ap (λ (l : List ℕ). name ++ l) (cut_to_fits 80 text c.as_str.ensures.len) in
-    let second_length : length (inline_text c.and_str-2.result) ≤ 91 = omega (arith, ap length second, length-append name text, c.as_str.ensures.len) in
-    (
+    let second_length : length (inline_text c.and_str-2.result) ≤ 91 = omega (arith, ap length second, length-append name text, c.as_str.ensures.len) in (
       text,
       c.and_str-3.ensures.within (omega (arith, second_length))
-      ∙ ap (λ (l : List ℕ). l ++ cut_to 1 (10 ∷ [])) second ∙ ap (λ (l : List ℕ). (name ++ text) ++ l) (cut_to_fits 1 (10 ∷ []) (omega arith)),
+          ∙ ap (λ (l : List ℕ). l ++ cut_to 1 (10 ∷ [])) second ∙ ap (λ (l : List ℕ). (name ++ text) ++ l) (cut_to_fits 1 (10 ∷ []) (omega arith)),
     )

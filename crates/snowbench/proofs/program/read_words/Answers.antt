@@ -1,10 +1,9 @@
-use Rattle.std.proofs.Common.{◌≡◌, ◌≢◌, ◌∙◌, ◌++◌, [], ◌∷◌, refl, rules, sym, subst, ap, List, ℕ, Option}
+use Rattle.std.proofs.Common.{◌≡◌, ◌≢◌, ◌∙◌, ◌++◌, [], ◌∷◌, refl, rules, sym, subst, ap, List, ℕ}
 use Rattle.std.proofs.lemmas.Result.{err_from_is_err_and}
 use Rattle.sbl_lines.specs.Held.{GivesLine, fault_of, input_of, line_of}
 use Rattle.sbl_lines.proofs.Bytes.{took-kept, took-none, took-trans}
 use Rattle.sbl_sessions.specs.Block.{BlockLines, point}
 use Rattle.sbl_sessions.proofs.BlockFacts.{all_fit-push, broken, no_point-push}
-use Rattle.snowbench.specs.WholeCheck.{list_text}
 use Rattle.snowbench.proofs.ListFacts.{list-push, words_broken}
 use Rattle.snowbench.proofs.program.read_words.Goals as goal
 
@@ -46,7 +45,7 @@ loop-text-preserved g c =
     let line = line_of c.next_line.new.self in
     let other : line ≢ point = search rules in
     let same : c.line-in-loop-text.result.now ≡ line = c.line-in-loop-text.ensures in
-    let grown = c.in_ok-push_line.ensures ∙ ap (λ (x : List ℕ). c.loop-text.text.items ++ (x ++ 13 ∷ 10 ∷ [])) same in (
+    let grown : c.push_line.new.text.items ≡ c.loop-text.text.items ++ (line ++ 13 ∷ 10 ∷ []) = c.in_ok-push_line.ensures ∙ ap (λ (x : List ℕ). c.loop-text.text.items ++ (x ++ 13 ∷ 10 ∷ [])) same in (
       so.0 ++ line ∷ [],
       (no_point-push so.0 line so.1.0 other, all_fit-push so.0 line so.1.1 (c.in_ok-next_line.ensures.fits c.if-branch.true)),
       took-trans _ (input_of left c.loop-text.lines) _ so.0 (line ∷ []) so.2 (c.in_ok-next_line.ensures.more c.if-branch.true),
