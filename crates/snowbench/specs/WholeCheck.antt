@@ -1,5 +1,5 @@
 -- What a check of an input writes: a script block, a block of words, and the expected stems up to the end of input.
-use Rattle.std.specs.Prelude.{◌≡◌, ◌⊎◌, ◌++◌, ℕ, List, [], ◌∷◌, Option, Result, Ok, Err}
+use Rattle.std.specs.Prelude.{◌≡◌, ◌⊎◌, ◌++◌, ℕ, List, [], ◌∷◌, Option, Some, Result, Ok, Err}
 use Rattle.std.specs.List.{flat_map}
 use Rattle.std.specs.Io.KnownBytes.{Appends, IsAtEnd}
 use Rattle.std.specs.declared.vec.Vec.{Vec}
@@ -11,6 +11,7 @@ use Rattle.sbl_sessions.specs.Loaded.{ReadsScript, TookFault, TookSource}
 use Rattle.sbl_sessions.specs.declared.faults.LoadFault.{LoadFault}
 use Rattle.sbl_sessions.specs.declared.faults.LoadFault.TheVariants.{Script}
 use Rattle.sbl_lines.specs.Held.{AllFit, Took}
+use Rattle.sbl_lines.specs.LinesOf.{lines_of}
 use Rattle.sbl_lines.specs.declared.faults.ServeFault.{ServeFault}
 use Rattle.sbl_lines.specs.declared.faults.ServeFault.TheVariants as fault
 use Rattle.snowbench.specs.WholeSession.{as_load}
@@ -20,6 +21,11 @@ use Rattle.snowbench.specs.WholeSession.{as_load}
 -- The text of a list: each line, a carriage return and a line feed. The law `lists_are_read` says that it has these lines.
 abbrev pub list_text : List (List ℕ) → List ℕ
 list_text lines = flat_map (λ line. line ++ 13 ∷ 10 ∷ []) lines
+
+-- The first lines of an input are the lines of their text.
+abbrev pub ListsAreRead : Type 0
+ListsAreRead =
+    (input rest : List ℕ) (lines more : List (List ℕ)) → Took (Some input) (Some rest) (lines ++ more) → lines_of (list_text lines) ≡ lines
 
 -- the lines up to the end of input were taken
 abbrev pub TookRest : Option (List ℕ) → Option (List ℕ) → List (List ℕ) → Type 0
