@@ -1,2 +1,5 @@
--- what the functions inside the crate promise each other; no public contract depends on these
+-- what the contracts of public calls rest on
 pub mod Stemmed
+pub mod WholeSession
+pub mod WholeCheck
+pub mod Program

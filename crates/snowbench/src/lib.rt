@@ -2,8 +2,10 @@
 //! stems with the expected stems.
 #![tactic(auto)]
 
+mod laws;
 mod program;
 
+pub use laws::lists_are_read;
 pub use program::run;
 pub use sbl_command_line::{Face, Verb, Wanted, read_words};
 pub use sbl_differences::check;

@@ -1,8 +1,15 @@
 //! The program over the lines of a reader and two writers.
-ghost use Rattle.std.specs.Prelude.{◌≡◌, ◌≤◌, None, IfOk};
+ghost use Rattle.std.specs.Prelude.{◌≡◌, ◌≤◌, ◌++◌, ◌∷◌, [], ℕ, List, Result, None, IfOk, IfErr, OnOk, string_bytes};
+ghost use Rattle.std.specs.Fmt.InlineText.{inline_text};
 ghost use Rattle.sbl_lines.specs.Devices.{WritesInTime};
-ghost use Rattle.sbl_lines.specs.Held.{KeepsTime, fault_of, input_of};
+ghost use Rattle.sbl_lines.specs.Faults.{left_by};
+ghost use Rattle.sbl_lines.specs.Held.{KeepsTime, HasReason, fault_of, input_of, reads_bound};
+ghost use Rattle.sbl_script.specs.Parsed.{source_of};
+ghost use Rattle.sbl_sessions.specs.declared.faults.LoadFault.{LoadFault};
+ghost use Rattle.snowbench.specs.Program.{HasReasons, IsAnswer, IsReported, fault_line};
 ghost use Rattle.snowbench.specs.Stemmed.{IsStemmed};
+ghost use Rattle.snowbench.specs.WholeCheck.{ChecksLists, IsWholeCheck, ReadsExpected, ReadsWords};
+ghost use Rattle.snowbench.specs.WholeSession.{IsWholeSession};
 
 use sbl_command_line::{Verb, Wanted};
 use sbl_differences::check;
@@ -13,7 +20,13 @@ use std::alloc::AllocError;
 use std::fmt::InlineText;
 use std::hash::RandomState;
 
-/// The greatest length of the line of a fault in bytes; the longest line is shorter.
+/// The beginning of the line of a fault.
+const NAME: &str = "snowbench: ";
+
+/// The greatest length of the text of a fault in bytes; the longest text is shorter.
+const MAX_FAULT_TEXT: usize = 80;
+
+/// The room for the line of a fault in bytes; the longest line is shorter.
 const MAX_FAULT_LINE: usize = 96;
 
 /// Runs the whole program: does what the command line asks for, reads `lines`, writes to `writer`, and returns the exit
@@ -31,6 +44,9 @@ pub fn run<R: Source + Drop, W: Sink, E: Sink>(
     writer: &mut W,
     errors: &mut E,
 ) -> u8
+    ensures runs { fault_of lines.old ≡ None → (answer : Result ℕ LoadFault) × IsAnswer wanted.now.verb (string_bytes wanted.now.external) (input_of R.left lines.old) (input_of R.left lines.new) (W.held writer.old) (W.held writer.new) answer
+        × IfErr answer (λ fault. HasReasons R.failures R.interruptions R.reads W.failures W.interruptions lines.old lines.new writer.old writer.new fault)
+        × IsReported E.held E.failures E.interruptions errors.old errors.new result answer }
     ensures status { result ≤ 1 }
     ensures reads_in_time { KeepsTime R.ended R.late R.interruptions R.reads lines.old lines.new }
     ensures writes_in_time { WritesInTime W.late W.interruptions writer.old writer.new }
@@ -40,12 +56,23 @@ pub fn run<R: Source + Drop, W: Sink, E: Sink>(
         Ok(0) => 0,
         Ok(_) => 1,
         Err(fault) => {
-            let line = InlineText::<MAX_FAULT_LINE>::of(format_args!("snowbench: {fault}\n"));
+            let line = line_of_fault(fault);
             // The status reports the fault even if its line cannot be written.
             let _ = write_all(errors, line.as_str().as_bytes());
             1
         }
     }
+}
+
+/// Returns the line of a fault: `snowbench: `, the text of the fault, and a line feed.
+fn line_of_fault(fault: LoadFault) -> InlineText<MAX_FAULT_LINE>
+    ensures { (text : List ℕ) × (inline_text result ≡ fault_line text) }
+{
+    let text = InlineText::<MAX_FAULT_TEXT>::of(fault);
+    InlineText::new()
+        .and_str(NAME, NAME.len())
+        .and_str(text.as_str(), MAX_FAULT_TEXT)
+        .and_str("\n", 1)
 }
 
 /// Does what the command line asks for, and returns the number of differences.
@@ -55,16 +82,15 @@ fn answer<R: Source + Drop, W: Sink>(
     lines: &mut Lines<R>,
     writer: &mut W,
 ) -> Result<u64, LoadFault>
+    ensures answers { fault_of lines.old ≡ None → IsAnswer wanted.now.verb (string_bytes wanted.now.external) (input_of R.left lines.old) (input_of R.left lines.new) (W.held writer.old) (W.held writer.new) result }
+    ensures why { fault_of lines.old ≡ None → IfErr result (λ fault. HasReasons R.failures R.interruptions R.reads W.failures W.interruptions lines.old lines.new writer.old writer.new fault) }
     ensures reads_in_time { KeepsTime R.ended R.late R.interruptions R.reads lines.old lines.new }
     ensures writes_in_time { WritesInTime W.late W.interruptions writer.old writer.new }
 {
     let external = wanted.external.as_str();
     match wanted.verb {
         Verb::Session => {
-            let mut bench = load(lines, keys, external)?;
-            let served = serve(&mut bench, lines, writer);
-            bench.leak();
-            served?;
+            session(lines, keys, external, writer)?;
             Ok(0)
         }
         Verb::Stem => {
@@ -77,6 +103,25 @@ fn answer<R: Source + Drop, W: Sink>(
     }
 }
 
+/// Loads a bench and answers the commands after it.
+fn session<R: Source + Drop, W: Sink>(
+    lines: &mut Lines<R>,
+    keys: RandomState,
+    external: &str,
+    writer: &mut W,
+) -> Result<(), LoadFault>
+    ensures session { fault_of lines.old ≡ None → IsWholeSession (input_of R.left lines.old) (input_of R.left lines.new) external.now (W.held writer.old) (W.held writer.new) result }
+    ensures why { fault_of lines.old ≡ None → IfErr result (λ fault. HasReasons R.failures R.interruptions R.reads W.failures W.interruptions lines.old lines.new writer.old writer.new fault) }
+    ensures reads_in_time { KeepsTime R.ended R.late R.interruptions R.reads lines.old lines.new }
+    ensures writes_in_time { WritesInTime W.late W.interruptions writer.old writer.new }
+{
+    let mut bench = load(lines, keys, external)?;
+    let served = serve(&mut bench, lines, writer);
+    bench.leak();
+    served?;
+    Ok(())
+}
+
 /// Loads a bench and writes its rows. The input after the vocabulary is not read.
 fn stem<R: Source + Drop, W: Sink>(
     lines: &mut Lines<R>,
@@ -85,6 +130,7 @@ fn stem<R: Source + Drop, W: Sink>(
     writer: &mut W,
 ) -> Result<(), LoadFault>
     ensures stemmed { fault_of lines.old ≡ None → IsStemmed (input_of R.left lines.old) (input_of R.left lines.new) external.now (W.held writer.old) (W.held writer.new) result }
+    ensures why { fault_of lines.old ≡ None → IfErr result (λ fault. HasReasons R.failures R.interruptions R.reads W.failures W.interruptions lines.old lines.new writer.old writer.new fault) }
     ensures reads_in_time { KeepsTime R.ended R.late R.interruptions R.reads lines.old lines.new }
     ensures writes_in_time { WritesInTime W.late W.interruptions writer.old writer.new }
 {
@@ -102,6 +148,8 @@ fn check_input<R: Source + Drop, W: Sink>(
     external: &str,
     writer: &mut W,
 ) -> Result<u64, LoadFault>
+    ensures checked { fault_of lines.old ≡ None → IsWholeCheck (input_of R.left lines.old) (input_of R.left lines.new) external.now (W.held writer.old) (W.held writer.new) result }
+    ensures why { fault_of lines.old ≡ None → IfErr result (λ fault. HasReasons R.failures R.interruptions R.reads W.failures W.interruptions lines.old lines.new writer.old writer.new fault) }
     ensures reads_in_time { KeepsTime R.ended R.late R.interruptions R.reads lines.old lines.new }
     ensures writes_in_time { WritesInTime W.late W.interruptions writer.old writer.new }
 {
@@ -112,7 +160,7 @@ fn check_input<R: Source + Drop, W: Sink>(
     };
     let differences = check_lists(lines, &script, writer);
     script.discard();
-    differences
+    Ok(differences?)
 }
 
 /// Reads a block of words and the expected stems, runs the script on the words and compares the results with the
@@ -121,18 +169,25 @@ fn check_lists<R: Source + Drop, W: Sink>(
     lines: &mut Lines<R>,
     script: &Script,
     writer: &mut W,
-) -> Result<u64, LoadFault>
+) -> Result<u64, ServeFault>
+    ensures checked { fault_of lines.old ≡ None → ChecksLists (source_of script.now) (input_of R.left lines.old) (input_of R.left lines.new) (W.held writer.old) (W.held writer.new) result }
+    ensures why { fault_of lines.old ≡ None → IfErr result (λ fault. HasReasons R.failures R.interruptions R.reads W.failures W.interruptions lines.old lines.new writer.old writer.new (LoadFault.Input fault)) }
     ensures reads_in_time { KeepsTime R.ended R.late R.interruptions R.reads lines.old lines.new }
     ensures writes_in_time { WritesInTime W.late W.interruptions writer.old writer.new }
 {
-    let words = read_block(lines)?;
-    let expected = read_rest(lines)?;
-    Ok(check(lines.alloc(), script, &words, &expected, writer)?)
+    let words = read_words(lines)?;
+    let expected = read_expected(lines)?;
+    check(lines.alloc(), script, &words, &expected, writer)
 }
 
 /// Reads the lines up to a line `.` and returns them, each as `push_line` appends it. Returns `Cut` if the input ends
 /// before.
-fn read_block<R: Source + Drop>(lines: &mut Lines<R>) -> Result<Vec<u8>, LoadFault>
+fn read_words<R: Source + Drop>(lines: &mut Lines<R>) -> Result<Vec<u8>, ServeFault>
+    ensures reads { fault_of lines.old ≡ None → ReadsWords (input_of R.left lines.old) (input_of R.left lines.new) result }
+    ensures remembered { fault_of lines.new ≡ left_by result }
+    ensures steady { OnOk result (R.failures lines.new.reader ≡ R.failures lines.old.reader) }
+    ensures bound { reads_bound R.reads lines.new ≡ reads_bound R.reads lines.old }
+    ensures why { IfErr result (λ fault. HasReason R.failures R.interruptions R.reads lines.old lines.new fault) }
     ensures in_time { KeepsTime R.ended R.late R.interruptions R.reads lines.old lines.new }
 {
     let mut text = Vec::new(lines.alloc());
@@ -142,23 +197,27 @@ fn read_block<R: Source + Drop>(lines: &mut Lines<R>) -> Result<Vec<u8>, LoadFau
         }
         push_line(&mut text, lines.line())?;
     }
-    Err(LoadFault::Input(ServeFault::Cut))
+    Err(ServeFault::Cut)
 }
 
 /// Reads the lines up to the end of input and returns them, each as `push_line` appends it.
-fn read_rest<R: Source + Drop>(lines: &mut Lines<R>) -> Result<Vec<u8>, LoadFault>
+fn read_expected<R: Source + Drop>(lines: &mut Lines<R>) -> Result<Vec<u8>, ServeFault>
+    ensures reads { fault_of lines.old ≡ None → ReadsExpected (input_of R.left lines.old) (input_of R.left lines.new) result }
+    ensures why { IfErr result (λ fault. HasReason R.failures R.interruptions R.reads lines.old lines.new fault) }
     ensures in_time { KeepsTime R.ended R.late R.interruptions R.reads lines.old lines.new }
 {
-    let mut text = Vec::new(lines.alloc());
+    let mut stems = Vec::new(lines.alloc());
     while lines.next_line()? {
-        push_line(&mut text, lines.line())?;
+        push_line(&mut stems, lines.line())?;
     }
-    Ok(text)
+    Ok(stems)
 }
 
 /// Appends a line, a carriage return and a line feed. If the line itself ends with a carriage return, that one is kept
 /// when the text is split into lines again.
-fn push_line(text: &mut Vec<u8>, line: &[u8]) -> Result<(), AllocError> {
+fn push_line(text: &mut Vec<u8>, line: &[u8]) -> Result<(), AllocError>
+    ensures { OnOk result (text.new.items ≡ text.old.items ++ (line.now ++ 13 ∷ 10 ∷ [])) }
+{
     text.extend_from_slice(line)?;
     text.extend_from_slice(b"\r\n")?;
     Ok(())

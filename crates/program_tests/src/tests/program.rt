@@ -104,6 +104,59 @@ fn stems_are_written_for_a_vocabulary_alone(rt: HostRuntime) -> Result<(), Fail>
     Ok(())
 }
 
+/// The script of the checks below: it removes `un` at the beginning of a word.
+const UN: &[u8] = b"externals ( stem )\ndefine stem as ( [ 'un' ] delete )\n.\n";
+
+// Returns whether each check of this script, with these words and expected stems, ends and writes as expected.
+fn checks_so(alloc: Global, rows: &[Run]) -> Result<bool, Fail> {
+    for (lists, status, text, errors) in rows {
+        let mut input = Vec::new(alloc);
+        input.extend_from_slice(UN)?;
+        input.extend_from_slice(lists)?;
+        let row: Run = (input.as_slice(), *status, *text, *errors);
+        if !runs_so(alloc, Verb::Check, &[row])? {
+            return Ok(false);
+        }
+    }
+    Ok(true)
+}
+
+#[test]
+fn a_check_has_status_0_without_a_difference(rt: HostRuntime) -> Result<(), Fail> {
+    let rows: [Run; 4] = [
+        (b"undo\nredo\n.\ndo\nredo\n", 0, b"", b""),
+        // Two lists without lines.
+        (b".\n", 0, b"", b""),
+        // The expected stems go on after a line `.`, which is one of them.
+        (b"un.\nredo\n.\n.\nredo\n", 0, b"", b""),
+        // A carriage return that belongs to a word is kept.
+        (b"undo\r\r\n.\ndo\r\r\n", 0, b"", b""),
+    ];
+    assert!(rt; checks_so(rt.alloc(), &rows)?);
+    Ok(())
+}
+
+#[test]
+fn a_check_has_status_1_after_a_difference_or_a_fault(rt: HostRuntime) -> Result<(), Fail> {
+    let rows: [Run; 6] = [
+        (b"undo\nredo\n.\ndo\ndo\n", 1, b"2,redo,do,redo\n", b""),
+        // The last word has no line feed after it, and neither has the last expected stem.
+        (b"redo\nundo\n.\nredo\nun", 1, b"2,undo,un,do\n", b""),
+        // A carriage return that belongs to a word is kept.
+        (b"undo\r\r\n.\ndo\n", 1, b"1,\"undo\r\",do,\"do\r\"\n", b""),
+        (
+            b"redo\nundo\n.\nx\n",
+            1,
+            b"1,redo,x,redo\n",
+            b"snowbench: 74 LengthsDiffer\n",
+        ),
+        (b"undo\n", 1, b"", b"snowbench: 73 Cut\n"),
+        (b"\xff\n.\nx\n", 1, b"", b"snowbench: 75 NotText\n"),
+    ];
+    assert!(rt; checks_so(rt.alloc(), &rows)?);
+    Ok(())
+}
+
 #[test]
 fn a_fault_has_its_status_without_its_line(rt: HostRuntime) -> Result<(), Fail> {
     let cut = run_of(rt.alloc(), Verb::Stem, "stem", b"externals", 1)?;
@@ -114,9 +167,32 @@ fn a_fault_has_its_status_without_its_line(rt: HostRuntime) -> Result<(), Fail> 
 
 #[test]
 fn the_external_that_is_wanted_is_run(rt: HostRuntime) -> Result<(), Fail> {
-    let input = b"externals ( go ) define go as next\n.\na\n";
-    let other = run_of(rt.alloc(), Verb::Stem, "go", input, 0)?;
+    let alloc = rt.alloc();
+    let input = b"externals ( go stem ) define go as delete define stem as next\n.\na\n.\nstems\n";
+    let other = run_of(alloc, Verb::Stem, "stem", input, 0)?;
     assert!(rt; other.status == 0);
     assert!(rt; other.text.as_slice() == b"a,stem,a\n".as_slice());
+    let stems = run_of(alloc, Verb::Stem, "go", input, 0)?;
+    assert!(rt; stems.status == 0);
+    assert!(rt; stems.text.as_slice() == b"a,refused,Slice\n".as_slice());
+    let served = run_of(alloc, Verb::Session, "go", input, 0)?;
+    assert!(rt; served.status == 0);
+    assert!(rt; served.text.as_slice() == b"a,refused,Slice\n".as_slice());
+    let checked = run_of(alloc, Verb::Check, "go", input, 0)?;
+    assert!(rt; checked.status == 1);
+    assert!(rt; checked.text.as_slice() == b"1,a,stems,refused Slice\n".as_slice());
+    let none = run_of(alloc, Verb::Check, "gone", input, 0)?;
+    assert!(rt; none.status == 1);
+    assert!(rt; none.text.is_empty());
+    assert!(rt; none.errors.as_slice() == b"snowbench: 21 NoExternal\n".as_slice());
+    Ok(())
+}
+
+#[test]
+fn work_reads_and_writes_nothing_here(rt: HostRuntime) -> Result<(), Fail> {
+    let ran = run_of(rt.alloc(), Verb::Work, "stem", b"externals", 0)?;
+    assert!(rt; ran.status == 0);
+    assert!(rt; ran.text.is_empty());
+    assert!(rt; ran.errors.is_empty());
     Ok(())
 }

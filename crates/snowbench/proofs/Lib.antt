@@ -1,0 +1,4 @@
+pub mod ListFacts
+pub mod LineFacts
+pub mod ReasonFacts
+pub mod AnswerFacts

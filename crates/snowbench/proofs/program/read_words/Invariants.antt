@@ -1,0 +1,16 @@
+use Rattle.std.proofs.Common.{◌≡◌, List, ℕ}
+use Rattle.sbl_sessions.specs.Block.{BlockLines}
+use Rattle.snowbench.specs.WholeCheck.{list_text}
+use Rattle.sbl_lines.specs.Held.{KeepsTime, Took, fault_of, fuel_of, input_of, reads_bound}
+use Rattle.snowbench.proofs.program.read_words.Given as goal
+
+-- the lines so far, which were read in time
+abbrev pub invariant-loop-text : goal.invariant-loop-text
+invariant-loop-text g l = (taken : List (List ℕ)) × BlockLines taken × Took (input_of g.R.Source.left l.fn.lines) (input_of g.R.Source.left l.lines) taken
+    × (l.text.items ≡ list_text taken) × (fault_of l.lines ≡ fault_of l.fn.lines)
+    × (g.R.Source.failures l.lines.reader ≡ g.R.Source.failures l.fn.lines.reader)
+    × (reads_bound g.R.Source.reads l.lines ≡ reads_bound g.R.Source.reads l.fn.lines)
+    × KeepsTime g.R.Source.ended g.R.Source.late g.R.Source.interruptions g.R.Source.reads l.fn.lines l.lines
+
+abbrev pub decreases-loop-text : goal.decreases-loop-text
+decreases-loop-text g l = fuel_of l.lines

@@ -1,0 +1,54 @@
+-- What the program writes for its input, and its exit status.
+use Rattle.std.specs.Prelude.{◌≡◌, ◌⊎◌, ◌++◌, ◌==◌, ℕ, List, [], ◌∷◌, Option, Result, Ok, Err, codes, if◌then◌else◌, take}
+use Rattle.std.specs.Io.KnownBytes.{Appends, Keeps}
+use Rattle.sbl_command_line.specs.declared.command_line.Verb.{Verb}
+use Rattle.sbl_command_line.specs.declared.command_line.Verb.TheVariants.{Session, Stem, Check, Work}
+use Rattle.sbl_sessions.specs.declared.faults.LoadFault.{LoadFault}
+use Rattle.sbl_sessions.specs.declared.faults.LoadFault.TheVariants.{Input}
+use Rattle.sbl_lines.specs.Devices.{HasStopped}
+use Rattle.sbl_lines.specs.Held.{HasCause}
+use Rattle.sbl_lines.specs.declared.lines.Lines.{Lines}
+use Rattle.sbl_lines.specs.declared.faults.ServeFault.TheVariants as fault
+use Rattle.snowbench.specs.Stemmed.{IsStemmed}
+use Rattle.snowbench.specs.WholeCheck.{IsWholeCheck}
+use Rattle.snowbench.specs.WholeSession.{IsWholeSession}
+
+-- ---- what is written
+
+-- What a subcommand with this external writes for an input, and the number of differences or the fault; `session` and `stem`
+-- have no differences. `work` has an entry of its own: here it reads and writes nothing.
+abbrev pub IsAnswer : Verb → List ℕ → Option (List ℕ) → Option (List ℕ) → Option (List ℕ) → Option (List ℕ) → Result ℕ LoadFault → Type 0
+IsAnswer Session external input left held new_held (Ok n) = IsWholeSession input left external held new_held (Ok tt) × (n ≡ 0)
+IsAnswer Session external input left held new_held (Err f) = IsWholeSession input left external held new_held (Err f)
+IsAnswer Stem external input left held new_held (Ok n) = IsStemmed input left external held new_held (Ok tt) × (n ≡ 0)
+IsAnswer Stem external input left held new_held (Err f) = IsStemmed input left external held new_held (Err f)
+IsAnswer Check external input left held new_held result = IsWholeCheck input left external held new_held result
+IsAnswer Work external input left held new_held result = (result ≡ Ok 0) × Keeps input left × Appends held new_held []
+
+-- ---- why it ends with a fault
+
+-- A fault of reading or writing is caused by the device or a limit.
+abbrev pub HasReasons : {R W : Type 0} → (R → ℕ) → (R → ℕ) → (R → ℕ) → (W → ℕ) → (W → ℕ) → Lines R → Lines R → W → W → LoadFault → Type 0
+HasReasons read_failures read_row reads write_failures write_row lines new_lines writer new_writer f =
+    (f ≡ Input fault.Read → HasCause read_failures read_row reads lines new_lines)
+    × (f ≡ Input fault.Write → HasStopped write_failures write_row writer new_writer)
+
+-- ---- the line of a fault, and the status
+
+-- The line of a fault with this text. What the text of a fault is, no definition says.
+abbrev pub fault_line : List ℕ → List ℕ
+fault_line text = codes "snowbench: " ++ text ++ 10 ∷ []
+
+-- The line is written, or a prefix of it if the device stops.
+abbrev pub IsWritten : {E : Type 0} → (E → Option (List ℕ)) → (E → ℕ) → (E → ℕ) → E → E → List ℕ → Type 0
+IsWritten held failures row errors new_errors text =
+    Appends (held errors) (held new_errors) text
+    ⊎ ((n : ℕ) × Appends (held errors) (held new_errors) (take n text) × HasStopped failures row errors new_errors)
+
+-- The status is 0 if there is neither a difference nor a fault, and 1 otherwise. A fault is one line in `errors`; without a
+-- fault nothing is written there.
+abbrev pub IsReported : {E : Type 0} → (E → Option (List ℕ)) → (E → ℕ) → (E → ℕ) → E → E → ℕ → Result ℕ LoadFault → Type 0
+IsReported held failures row errors new_errors status (Ok n) =
+    (status ≡ (if n == 0 then 0 else 1)) × Appends (held errors) (held new_errors) []
+IsReported held failures row errors new_errors status (Err f) =
+    (status ≡ 1) × (text : List ℕ) × IsWritten held failures row errors new_errors (fault_line text)
