@@ -3,6 +3,7 @@
 
 mod blocks;
 mod messages;
+mod near;
 mod places;
 mod reasons;
 mod sessions;
@@ -20,9 +21,13 @@ use std::process::ExitCode;
 /// The text that is printed if a word of the command line is not UTF-8.
 const NOT_UTF8: &str = "error: a word of the command line is not UTF-8";
 
-/// The text that is printed if standard input is named twice.
+/// The text that is printed if `run` names standard input twice.
 const NAMED_TWICE: &str =
-    "error: standard input can be only one of the files, and WORDS if they have no file";
+    "snowbench: standard input can be only one of SCRIPT, WORDS and COMMANDS. Without WORDS it is these";
+
+/// The text that is printed if `check` names standard input twice.
+const NAMED_TWICE_BY_CHECK: &str =
+    "snowbench: standard input can be only one of SCRIPT, WORDS and STEMS";
 
 /// The text that is printed if `check` has one file or two.
 const THREE_FILES: &str =
@@ -85,33 +90,42 @@ fn start(rt: &HostRuntime, wanted: Wanted) -> u8 {
 
 /// Runs a session or a check over files, and returns the exit status.
 fn run_files(rt: &HostRuntime, wanted: &Wanted, script: &str) -> u8 {
-    let stems = text_in(&wanted.stems);
     let words = match &wanted.words {
         Some(words) => words.as_str(),
         None => "-",
     };
-    let rest = if wanted.verb == Verb::Check {
-        stems
-    } else {
-        text_in(&wanted.commands)
-    };
+    if wanted.verb == Verb::Check {
+        return check_files(rt, wanted, script, words);
+    }
+    let rest = text_in(&wanted.commands);
     let named = Named {
         script,
         words,
         rest,
     };
-    if wanted.verb == Verb::Check && stems.is_none() {
-        let _ = eprintln!(rt; "{THREE_FILES}");
-        return REFUSED;
-    }
     if reads_twice(named) {
         let _ = eprintln!(rt; "{NAMED_TWICE}");
         return REFUSED;
     }
-    match stems {
-        Some(stems) => run_check(rt, wanted, named, stems),
-        None => run_session(rt, wanted, named),
+    run_session(rt, wanted, named)
+}
+
+/// Compares stems of files, and returns the exit status.
+fn check_files(rt: &HostRuntime, wanted: &Wanted, script: &str, words: &str) -> u8 {
+    let Some(stems) = text_in(&wanted.stems) else {
+        let _ = eprintln!(rt; "{THREE_FILES}");
+        return REFUSED;
+    };
+    let named = Named {
+        script,
+        words,
+        rest: Some(stems),
+    };
+    if reads_twice(named) {
+        let _ = eprintln!(rt; "{NAMED_TWICE_BY_CHECK}");
+        return REFUSED;
     }
+    run_check(rt, wanted, named, stems)
 }
 
 /// Returns the text, if there is one.

@@ -2,10 +2,11 @@
 
 use crate::blocks::line_at;
 use crate::messages::plain;
+use crate::near::near_name;
 use crate::reasons::{begins_sentence, reason};
 use sbl_places::{Position, ScriptFault, offset_of_fault, place_of_fault, position_of};
 use sbl_script::Script;
-use sbl_text::tokens;
+use sbl_text::{Token, tokens};
 use std::alloc::{AllocError, Global};
 
 /// Up to this column a line is shown from its beginning (our own choice).
@@ -163,12 +164,65 @@ pub(crate) fn place_text(
     let before = column.saturating_sub(1);
     let length = length_of(text, range);
     let mut shown = format!(in alloc; "{title}:{line}:{column}: ")?;
-    if !begins_sentence(fault) {
-        push_thing(&mut shown, &characters, before, length)?;
+    if is_at_end(text, range.begin) && matches!(fault, ScriptFault::Syntax { .. }) {
+        shown.push_str("the text ends here, and more is needed")?;
+    } else {
+        if !begins_sentence(fault) {
+            push_thing(&mut shown, &characters, before, length)?;
+        }
+        shown.push_str(reason(fault))?;
+        push_near(alloc, &mut shown, text, range, fault)?;
     }
-    shown.push_str(reason(fault))?;
     push_line(&mut shown, &characters, before, length)?;
     Ok(Some(shown))
+}
+
+/// Returns whether only white space follows an offset.
+fn is_at_end(text: &[u8], offset: usize) -> bool {
+    let rest = text.get(offset..).unwrap_or(&[]);
+    for byte in rest {
+        if !byte.is_ascii_whitespace() {
+            return false;
+        }
+    }
+    true
+}
+
+/// Appends a question if a declared name is near one that is not declared, and otherwise what to do.
+fn push_near(
+    alloc: Global,
+    shown: &mut String,
+    text: &[u8],
+    range: Range,
+    fault: ScriptFault,
+) -> Result<(), AllocError> {
+    if !matches!(fault, ScriptFault::Undeclared { .. }) {
+        return Ok(());
+    }
+    let Ok(text) = str::from_utf8(text) else {
+        return Ok(());
+    };
+    let Ok(tokens) = tokens(alloc, text) else {
+        return Ok(());
+    };
+    match near_name(&tokens, name_at(&tokens, range.begin)) {
+        Some(name) => {
+            shown.push_str(" Did you mean ")?;
+            shown.push_str(name)?;
+            shown.push_str("?")
+        }
+        None => shown.push_str(" Declare it, or use another name."),
+    }
+}
+
+/// Returns the text of the token that begins at an offset.
+fn name_at<'a>(tokens: &[Token<'a>], offset: usize) -> &'a str {
+    for token in tokens {
+        if token.start == offset {
+            return token.text;
+        }
+    }
+    ""
 }
 
 /// Appends what is at the place, as it is spelled, and a blank.

@@ -45,7 +45,7 @@ pub(crate) fn reason(fault: ScriptFault) -> &'static str {
             "this is inside more than 64 others: put a part into a routine of its own"
         }
         ScriptFault::DeclaredTwice { .. } => "is declared twice: take one of the two away",
-        ScriptFault::Undeclared { .. } => "is not declared. Declare it, or use another name.",
+        ScriptFault::Undeclared { .. } => "is not declared.",
         ScriptFault::WrongKind { .. } => { "is declared as something that cannot be used here" }
         ScriptFault::DefinedTwice { .. } => "is defined twice: take one of the two away",
         ScriptFault::Undefined { .. } => {

@@ -173,10 +173,10 @@ fn run_front<R: Read + Drop>(
 }
 
 /// Returns the bytes of a file, or of standard input if its name is `-`. If it cannot be read, prints why and returns the exit
-/// status.
-fn read_named(rt: &HostRuntime, path: &str) -> Result<Vec<u8>, u8> {
+/// status. `what` are its lines.
+fn read_named(rt: &HostRuntime, path: &str, what: &str) -> Result<Vec<u8>, u8> {
     if path == "-" {
-        return read_input(rt);
+        return read_input(rt, what);
     }
     match fs::read(rt, path) {
         Ok(bytes) => Ok(bytes),
@@ -189,10 +189,12 @@ fn read_named(rt: &HostRuntime, path: &str) -> Result<Vec<u8>, u8> {
     }
 }
 
-/// Returns the bytes of standard input.
-fn read_input(rt: &HostRuntime) -> Result<Vec<u8>, u8> {
+/// Returns the bytes of standard input. At a terminal it says which lines are to be typed.
+fn read_input(rt: &HostRuntime, what: &str) -> Result<Vec<u8>, u8> {
     if rt.stdin().is_terminal() {
-        let _ = eprintln!(rt; "snowbench: one a line; the end of input (control-D) ends them");
+        let _ = eprintln!(rt;
+            "snowbench: {what}, one a line; the end of input (control-D) ends them"
+        );
     }
     let mut bytes = Vec::new(rt.alloc());
     match rt.stdin().read_to_end(&mut bytes) {
@@ -207,8 +209,8 @@ fn read_input(rt: &HostRuntime) -> Result<Vec<u8>, u8> {
 }
 
 /// Returns the bytes of a file that is a block of the input. A line that is a single point would end the block: it is refused.
-fn read_block(rt: &HostRuntime, command: &str, path: &str) -> Result<Vec<u8>, u8> {
-    let bytes = read_named(rt, path)?;
+fn read_block(rt: &HostRuntime, command: &str, path: &str, what: &str) -> Result<Vec<u8>, u8> {
+    let bytes = read_named(rt, path, what)?;
     let Some(line) = point_line(&bytes) else {
         return Ok(bytes);
     };
@@ -256,11 +258,11 @@ fn run_bytes(rt: &HostRuntime, wanted: &Wanted, input: &[u8]) -> Result<Ended, A
 
 /// Returns the input of a session. Without a file of commands the command is `stems`.
 fn session_input(rt: &HostRuntime, named: Named<'_>) -> Result<Vec<u8>, u8> {
-    let script = read_block(rt, "run", named.script)?;
-    let words = read_block(rt, "run", named.words)?;
+    let script = read_block(rt, "run", named.script, "lines of the script")?;
+    let words = read_block(rt, "run", named.words, "words")?;
     let composed = match named.rest {
         Some(path) => {
-            let commands = read_named(rt, path)?;
+            let commands = read_named(rt, path, "commands")?;
             compose(rt.alloc(), &script, &words, &commands)
         }
         None => compose(rt.alloc(), &script, &words, b"stems\n"),
@@ -291,9 +293,9 @@ pub(crate) fn run_check(rt: &HostRuntime, wanted: &Wanted, named: Named<'_>, ste
 
 /// Returns the input of a check, and the number of its words.
 fn check_input(rt: &HostRuntime, named: Named<'_>, stems: &str) -> Result<(Vec<u8>, u64), u8> {
-    let script = read_block(rt, "check", named.script)?;
-    let words = read_block(rt, "check", named.words)?;
-    let expected = read_named(rt, stems)?;
+    let script = read_block(rt, "check", named.script, "lines of the script")?;
+    let words = read_block(rt, "check", named.words, "words")?;
+    let expected = read_named(rt, stems, "stems")?;
     let (count, other) = (line_count(&words), line_count(&expected));
     if count != other {
         let text = lengths_text(rt.alloc(), named.words, count, stems, other);
