@@ -1,4 +1,3 @@
-use Rattle.std.proofs.Common.{◌≡◌}
 use Rattle.sbl_command_line.proofs.command_line.file_arg.Goals as goal
 
 pub returns-clause-rule : goal.returns-clause-rule

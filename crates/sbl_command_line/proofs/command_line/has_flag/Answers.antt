@@ -1,4 +1,3 @@
-use Rattle.std.proofs.Common.{◌≡◌}
 use Rattle.sbl_command_line.proofs.command_line.has_flag.Goals as goal
 
 pub returns : goal.returns

@@ -1,4 +1,4 @@
-use Rattle.std.proofs.Common.{◌≡◌, ap, true}
+use Rattle.std.proofs.Common.{ap, true}
 use Rattle.clap.specs.Words.{Rule}
 use Rattle.sbl_command_line.proofs.command_line.required_file.Goals as goal
 
