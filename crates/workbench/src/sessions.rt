@@ -3,10 +3,11 @@
 use crate::blocks::{after_point, compose, line_count, point_line};
 use crate::messages::{FAILED, REFUSED, fail_memory, print_line};
 use crate::places::{fault_of, place_text};
-use crate::streams::{Front, Output};
+use crate::streams::{Front, Kept, Output};
 use sbl_sessions::read_script;
 use snowbench::{Device, Lines, Source, Verb, Wanted, run};
 use std::alloc::{AllocError, Global};
+use std::cell::RefCell;
 use std::io::{IsTerminal, Read};
 use std::{fs, io};
 
@@ -32,16 +33,14 @@ fn run_lines<R: Source + Drop>(
     wanted: &Wanted,
     lines: &mut Lines<R>,
 ) -> Result<Ended, AllocError> {
-    let mut said = Vec::with_capacity(rt.alloc(), MAX_FAULT_LINE)?;
-    let mut output = Output::new(rt.stdout());
-    let status = {
-        let mut writer = Device::new(&mut output);
-        let mut errors = Device::new(&mut said);
-        run(wanted, lines, &mut writer, &mut errors)
-    };
+    let said = Vec::with_capacity(rt.alloc(), MAX_FAULT_LINE)?;
+    let mut writer = Device::new(Output::new(rt.stdout()));
+    let mut errors = Device::new(said);
+    let status = run(wanted, lines, &mut writer, &mut errors);
+    let output = writer.into_inner();
     Ok(Ended {
         status,
-        said,
+        said: errors.into_inner(),
         rows: output.lines(),
         has_refusal: output.has_refusal(),
         is_closed: output.is_closed(),
@@ -145,31 +144,33 @@ fn has_text(text: &[u8]) -> bool {
 
 /// Runs what is wanted over standard input, and returns the exit status.
 pub(crate) fn run_input(rt: &HostRuntime, wanted: &Wanted) -> u8 {
-    let mut front = Front::new(rt.alloc(), rt.stdin());
-    let ended = match run_front(rt, wanted, &mut front) {
-        Ok(ended) => ended,
-        Err(_) => return fail_memory(rt),
+    let kept = RefCell::new(Kept::new(rt.alloc()));
+    let Ok(ended) = run_front(rt, wanted, &kept) else {
+        return fail_memory(rt);
     };
     if !wanted.shows_places {
         print_said(rt, &ended);
         return status_of(wanted, &ended);
     }
-    if ended.status == 0 && front.is_whole() {
-        if let Some(text) = hint(wanted.verb, front.kept()) {
-            let _ = eprintln!(rt; "{text}");
-        }
+    let kept = kept.into_inner();
+    if ended.status == 0 && kept.is_whole() {
+        print_hint(rt, wanted.verb, kept.bytes());
     }
-    print_fault(rt, wanted, "standard input", front.kept(), &ended)
+    print_fault(rt, wanted, "standard input", kept.bytes(), &ended)
 }
 
-/// Runs what is wanted over a reader.
-fn run_front<R: Read + Drop>(
-    rt: &HostRuntime,
-    wanted: &Wanted,
-    front: &mut Front<R>,
-) -> Result<Ended, AllocError> {
+/// Runs what is wanted over standard input, of which the first bytes are kept.
+fn run_front(rt: &HostRuntime, wanted: &Wanted, kept: &RefCell<Kept>) -> Result<Ended, AllocError> {
+    let front = Front::new(rt.stdin(), kept);
     let mut lines = Lines::new(rt.alloc(), Device::new(front))?;
     run_lines(rt, wanted, &mut lines)
+}
+
+/// Prints what of an input is not read.
+fn print_hint(rt: &HostRuntime, verb: Verb, input: &[u8]) {
+    if let Some(text) = hint(verb, input) {
+        let _ = eprintln!(rt; "{text}");
+    }
 }
 
 /// Returns the bytes of a file, or of standard input if its name is `-`. If it cannot be read, prints why and returns the exit

@@ -1,33 +1,32 @@
 //! Streams that remember what passes through them.
 
 use std::alloc::Global;
+use std::cell::RefCell;
 use std::io;
 use std::io::{ErrorKind, Read, Write};
 
 /// The most bytes of an input that are kept to show a place; a script has fewer (our own choice).
 const MOST_KEPT: usize = 2_097_152;
 
-/// A reader, and the bytes that were read from it.
+/// The first bytes that were read.
 #[derive(Drop)]
-pub(crate) struct Front<R> {
-    inner: R,
-    kept: Vec<u8>,
+pub(crate) struct Kept {
+    bytes: Vec<u8>,
     is_whole: bool,
 }
 
-impl<R> Front<R> {
-    /// Returns the reader before its first read.
-    pub(crate) fn new(alloc: Global, inner: R) -> Front<R> {
-        Front {
-            inner,
-            kept: Vec::new(alloc),
+impl Kept {
+    /// Returns no bytes.
+    pub(crate) fn new(alloc: Global) -> Kept {
+        Kept {
+            bytes: Vec::new(alloc),
             is_whole: true,
         }
     }
 
-    /// Returns the first bytes that were read.
-    pub(crate) fn kept(&self) -> &[u8] {
-        self.kept.as_slice()
+    /// Returns the bytes.
+    pub(crate) fn bytes(&self) -> &[u8] {
+        self.bytes.as_slice()
     }
 
     /// Returns whether these are all bytes that were read.
@@ -35,25 +34,41 @@ impl<R> Front<R> {
         self.is_whole
     }
 
-    /// Keeps these bytes, if there is room for them and for all before them.
+    /// Keeps more bytes, if there is room for them and for all before them.
     fn keep(&mut self, bytes: &[u8]) {
         if !self.is_whole {
             return;
         }
-        let room = MOST_KEPT.saturating_sub(self.kept.len());
-        if bytes.len() > room || self.kept.extend_from_slice(bytes).is_err() {
+        let room = MOST_KEPT.saturating_sub(self.bytes.len());
+        if bytes.len() > room || self.bytes.extend_from_slice(bytes).is_err() {
             self.is_whole = false;
         }
     }
 }
 
-impl<R: Read> Read for Front<R> {
+/// A reader, of which the first bytes are kept.
+#[derive(Drop)]
+pub(crate) struct Front<'a, R> {
+    inner: R,
+    kept: &'a RefCell<Kept>,
+}
+
+impl<'a, R> Front<'a, R> {
+    /// Returns the reader before its first read.
+    pub(crate) fn new(inner: R, kept: &'a RefCell<Kept>) -> Front<'a, R> {
+        Front { inner, kept }
+    }
+}
+
+impl<R: Read> Read for Front<'_, R> {
     ghost remaining = { λ f. R.remaining f.inner };
 
     fn read(&mut self, buf: &mut [u8]) -> io::Result<usize> {
         match self.inner.read(buf) {
             Ok(count) => {
-                self.keep(&buf[..count]);
+                if let Ok(mut kept) = self.kept.try_borrow_mut() {
+                    kept.keep(&buf[..count]);
+                }
                 Ok(count)
             }
             Err(error) => Err(error),
