@@ -144,7 +144,7 @@ fn has_text(text: &[u8]) -> bool {
 
 /// Runs what is wanted over standard input, and returns the exit status.
 pub(crate) fn run_input(rt: &HostRuntime, wanted: &Wanted) -> u8 {
-    let kept = RefCell::new(Kept::new(rt.alloc()));
+    let kept = RefCell::new(Kept::new(rt.alloc(), wanted.shows_places));
     let Ok(ended) = run_front(rt, wanted, &kept) else {
         return fail_memory(rt);
     };

@@ -8,7 +8,7 @@ use std::io::{ErrorKind, Read, Write};
 /// The most bytes of an input that are kept to show a place; a script has fewer (our own choice).
 const MOST_KEPT: usize = 2_097_152;
 
-/// The first bytes that were read.
+/// The first bytes that were read, and whether they are all.
 #[derive(Drop)]
 pub(crate) struct Kept {
     bytes: Vec<u8>,
@@ -16,11 +16,11 @@ pub(crate) struct Kept {
 }
 
 impl Kept {
-    /// Returns no bytes.
-    pub(crate) fn new(alloc: Global) -> Kept {
+    /// Returns no bytes. More are kept only if they are wanted.
+    pub(crate) fn new(alloc: Global, is_wanted: bool) -> Kept {
         Kept {
             bytes: Vec::new(alloc),
-            is_whole: true,
+            is_whole: is_wanted,
         }
     }
 
