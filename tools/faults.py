@@ -4,7 +4,6 @@ import re
 import subprocess
 
 from lexer import ITEMS, Names, RESERVED, is_word, position, read_tokens
-from locate import locate
 from near import distance, listed, meant
 from plain import below, masked, named
 
@@ -21,10 +20,24 @@ def fault_of(program, options, text):
     return FAULT.search(ended.stderr.decode("utf-8", "replace"))
 
 
+def place_of(program, options, text):
+    """Returns the line and the column at which the program shows the fault of the script with this text, or nothing."""
+    ended = subprocess.run(
+        [program, "stem", "--places", *options], input=text + b"\n.\n.\n", stdout=subprocess.DEVNULL, stderr=subprocess.PIPE
+    )
+    place = re.search(rb"^standard input:(\d+):(\d+): ", ended.stderr, re.M)
+    return place and (int(place[1]), int(place[2]))
+
+
+def offset_of(text, row, column):
+    """Returns the offset of a line and a column in a text."""
+    return sum(len(line) + 1 for line in text.split("\n")[: row - 1]) + column - 1
+
+
 class Fault:
     """A fault of a script's bytes: its code and name, its offset in the text, and its token if there is one."""
 
-    def __init__(self, line, text):
+    def __init__(self, line, text, program, options):
         self.code, self.name, self.text = int(line[1]), line[2], text.decode("utf-8", "surrogateescape")
         self.tokens, self.token, self.at = read_tokens(self.text), None, None
         # Where the text of the author begins.
@@ -35,9 +48,9 @@ class Fault:
             self.at = len(text[: int(line[3])].decode("utf-8", "surrogateescape"))
             self.token = next((token for token in self.tokens if token.start == self.at), None)
         elif line[4]:
-            self.token = locate(self.tokens, int(line[4]), self.code)
-            starts = [token.start for token in self.tokens if is_word(token, *ITEMS)]
-            self.at = self.token.start if self.token else starts[int(line[4]) - 1] if int(line[4]) <= len(starts) else None
+            place = place_of(program, options, text)
+            self.at = offset_of(self.text, *place) if place else None
+            self.token = next((token for token in self.tokens if token.start == self.at), None)
 
     def shown(self):
         """Returns the line of the fault with carets below its token, as two lines."""
@@ -153,7 +166,7 @@ def explain_file(path, program, options):
         return ["%s has no fault any more." % named(os.path.basename(path))]
     if int(line[1]) == 21:
         return ["%s: %s" % (named(path), explain_external(text, options))]
-    fault = Fault(line, text)
+    fault = Fault(line, text, program, options)
     if fault.at is None:
         return ["%s: %s" % (named(path), fault.sentence())]
     return ["%s:%d:%d: %s" % (named(path), *position(fault.text, fault.at), fault.sentence())] + fault.shown()
@@ -196,7 +209,7 @@ def explain_block(title, name, before, block, after, program, options):
         return []
     if int(line[1]) == 21:
         return [explain_external(text, options)]
-    fault = Fault(line, text)
+    fault = Fault(line, text, program, options)
     fault.begin = len(before)
     opened = open_in(block)
     closing = closing_too_many(block)

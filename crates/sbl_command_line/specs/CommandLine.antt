@@ -1,5 +1,5 @@
 -- The command line as a definition of `clap`, and its result for a list of words.
-use Rattle.std.specs.Prelude.{true, List, [], ◌∷◌, Option, Some, codes, option_map, option_and_then}
+use Rattle.std.specs.Prelude.{◌≡◌, ◌⊎◌, Bool, true, false, List, [], ◌∷◌, Option, None, Some, codes, option_map, option_and_then}
 use Rattle.clap.specs.Words.{App, Rule, Text, first_of, new_app, new_rule, one_of, subcommand_of, with_rule, with_subcommand}
 use Rattle.clap.specs.declared.builder.action.ArgAction.TheVariants.{SetTrue}
 use Rattle.sbl_command_line.specs.declared.command_line.Verb.{Verb}
@@ -13,20 +13,32 @@ external = record (new_rule (codes "external")) { long = Some (codes "external")
 abbrev pub verb_app : Text → App
 verb_app name = with_rule (new_app name) external
 
--- the file of the script, which is required, and the file of the words: two arguments by their position
-abbrev pub script : Rule
-script = record (new_rule (codes "SCRIPT")) { required = true }
-
-abbrev pub words : Rule
-words = new_rule (codes "WORDS")
+-- an argument by its position: a file that may be given, `new_rule name`, or one that has to be given
+abbrev pub required : Text → Rule
+required name = record (new_rule name) { required = true }
 
 -- `--NAME`: an option without a value
 abbrev pub flag : Text → Rule
 flag name = record (new_rule name) { long = Some name; action = Some SetTrue }
 
+-- `run` has three files
+abbrev pub run_app : App
+run_app = with_rule (with_rule (with_rule (with_rule (verb_app (codes "run")) (required (codes "SCRIPT"))) (new_rule (codes "WORDS"))) (new_rule (codes "COMMANDS"))) (flag (codes "strict"))
+
+-- `session` and `stem` have flags
+abbrev pub session_app : App
+session_app = with_rule (with_rule (verb_app (codes "session")) (flag (codes "strict"))) (flag (codes "places"))
+
+abbrev pub stem_app : App
+stem_app = with_rule (verb_app (codes "stem")) (flag (codes "places"))
+
+-- `check` may have three files
+abbrev pub check_app : App
+check_app = with_rule (with_rule (with_rule (with_rule (verb_app (codes "check")) (new_rule (codes "SCRIPT"))) (new_rule (codes "WORDS"))) (new_rule (codes "STEMS"))) (flag (codes "places"))
+
 -- `work` has two files, and the faces of its answers
 abbrev pub work_app : App
-work_app = with_rule (with_rule (with_rule (with_rule (verb_app (codes "work")) script) words) (flag (codes "rows"))) (flag (codes "text"))
+work_app = with_rule (with_rule (with_rule (with_rule (verb_app (codes "work")) (required (codes "SCRIPT"))) (new_rule (codes "WORDS"))) (flag (codes "rows"))) (flag (codes "text"))
 
 -- the program itself
 abbrev pub top : App
@@ -37,16 +49,16 @@ abbrev pub asking : App
 asking = record top { top = record top.top { subcommand_required = true; arg_required_else_help = true } }
 
 abbrev pub program : App
-program = with_subcommand (with_subcommand (with_subcommand (with_subcommand
+program = with_subcommand (with_subcommand (with_subcommand (with_subcommand (with_subcommand
     asking
-    (verb_app (codes "session")).top) (verb_app (codes "stem")).top) (verb_app (codes "check")).top) work_app.top
+    run_app.top) session_app.top) stem_app.top) check_app.top) work_app.top
 
--- the name of a subcommand
-abbrev pub verb_name : Verb → Text
-verb_name Session = codes "session"
-verb_name Stem = codes "stem"
-verb_name Check = codes "check"
-verb_name Work = codes "work"
+-- whether a subcommand of this name does what the verb says: `run` is a session over files
+abbrev pub IsVerb : Text → Verb → Type 0
+IsVerb name Session = (name ≡ codes "run") ⊎ (name ≡ codes "session")
+IsVerb name Stem = name ≡ codes "stem"
+IsVerb name Check = name ≡ codes "check"
+IsVerb name Work = name ≡ codes "work"
 
 -- the subcommand in these words, and the value of its option
 abbrev pub wanted_of : List Text → Option (Text × Text)
@@ -59,3 +71,9 @@ value_in id words = option_and_then (λ p. first_of id p.1) (subcommand_of progr
 -- whether an option without a value is given: `true` or `false`, and none if the subcommand has no such option
 abbrev pub flag_in : Text → List Text → Option Text
 flag_in id words = option_and_then (λ p. one_of id p.1) (subcommand_of program words)
+
+-- whether this is the truth of an option without a value: it is false if the subcommand has no such option
+pub record IsFlag (text : Option Text) (is : Bool) : Type 0 where
+  pub given : text ≡ Some (codes "true") → is ≡ true
+  pub missing : text ≡ Some (codes "false") → is ≡ false
+  pub none : text ≡ None → is ≡ false

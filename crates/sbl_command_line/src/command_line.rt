@@ -1,14 +1,15 @@
 //! The command line, defined with `clap`.
-ghost use Rattle.std.specs.Prelude.{◌≡◌, IfOk, None, Some, codes, map, option_map};
+ghost use Rattle.std.specs.Prelude.{◌≡◌, IfOk, None, Some, codes, false, map, option_map};
 ghost use Rattle.std.specs.String.{string_bytes};
-ghost use Rattle.clap.specs.Words.{app_of, first_value, found_of, one_text};
-ghost use Rattle.sbl_command_line.specs.CommandLine.{flag_in, program, value_in, verb_app, verb_name, wanted_of, work_app};
+ghost use Rattle.clap.specs.Walk.{rule_of};
+ghost use Rattle.clap.specs.Words.{Text, app_of, first_value, found_of, new_rule, one_text};
+ghost use Rattle.sbl_command_line.specs.CommandLine.{IsFlag, IsVerb, check_app, flag, flag_in, program, required, run_app, session_app, stem_app, value_in, verb_app, wanted_of, work_app};
 
 use clap::error::ErrorKind;
 use clap::{Arg, ArgAction, ArgMatches, Command, Error};
 use std::alloc::{AllocError, Global};
 
-/// The subcommands of the program.
+/// What the subcommands of the program do.
 #[derive(Clone, Copy, Debug, PartialEq, Eq)]
 pub enum Verb {
     /// Runs the commands of a session.
@@ -33,14 +34,22 @@ pub enum Face {
 /// What a command line asks for: a subcommand and the external to run.
 #[derive(Debug, Drop)]
 pub struct Wanted {
-    /// The subcommand.
+    /// The subcommand; that of `run` is `Session`.
     pub verb: Verb,
     /// The external to run.
     pub external: String,
-    /// The file of the script; only `work` has one.
+    /// The file of the script; `run` and `work` have one, and `check` may.
     pub script: Option<String>,
-    /// The file of the words, if `work` has one.
+    /// The file of the words, if there is one.
     pub words: Option<String>,
+    /// The file of the commands, if `run` has one.
+    pub commands: Option<String>,
+    /// The file of the expected stems, if `check` has one.
+    pub stems: Option<String>,
+    /// Whether the exit status is 1 if a command was refused.
+    pub is_strict: bool,
+    /// Whether the place of a fault is shown.
+    pub shows_places: bool,
     /// The face of the answers, if `work` has one.
     pub face: Option<Face>,
 }
@@ -51,7 +60,8 @@ const ABOUT: &str =
 
 /// The last lines of the help of the program.
 const READ_ON: &str = "\
-Everything is read from standard input. A script stands first, up to a line that is only a point.
+run and work take files. The others read standard input: a script, up to a line that is only a
+point, and then words. check takes files, too.
 Answers go to standard output; a fault is one line on standard error, and ends with status 1.
 
 Example:
@@ -60,6 +70,24 @@ Example:
 
 'snowbench COMMAND --help' says what each command reads and writes. To read on: README.md,
 docs/LANGUAGE.md (the language of scripts), docs/SESSION.md (input, commands, faults, limits).";
+
+/// The first lines of the help of `run`.
+const ABOUT_RUN: &str = "Runs the commands of a session over files";
+
+/// The last lines of the help of `run`.
+const HELP_RUN: &str = "\
+In:   a script, words (one a line) and commands, each from a file. A file '-' is standard input.
+      Without WORDS they come from standard input, and without COMMANDS the command is 'stems'.
+Out:  the answer to each command, as of 'session'.
+
+Example:
+  printf '%s\\n' 'externals ( stem )' \"define stem as ( [ 'un' ] delete )\" > un.sbl
+  printf '%s\\n' undo redo | snowbench run un.sbl
+writes
+  undo,stem,do
+  redo,stem,redo
+
+To read on: docs/SESSION.md has every command with its answers.";
 
 /// The first lines of the help of `session`.
 const ABOUT_SESSION: &str = "Answers commands that add words and edit the script";
@@ -104,7 +132,7 @@ const ABOUT_CHECK: &str = "Writes where stems differ from those that are expecte
 /// The last lines of the help of `check`.
 const HELP_CHECK: &str = "\
 In:   the lines of a script, a line '.', words (one a line), a line '.', and the expected stems,
-      one for each word, to the end of input.
+      one for each word, to the end of input. Or three files, SCRIPT, WORDS and STEMS.
 Out:  a row 'LINE,WORD,EXPECTED,GOT' for each difference, lines counted from 1. GOT is the stem,
       or 'refused NAME' where the run is refused, which is always a difference.
 Status: 0 where nothing differs, 1 for a difference or a fault.
@@ -135,6 +163,18 @@ writes
 
 To read on: docs/WORK.md has every command with its answers.";
 
+/// The help of an argument.
+const SCRIPT_HELP: &str = "The file of the script";
+
+/// The help of an argument.
+const WORDS_HELP: &str = "The file of the words, one on each line";
+
+/// The help of an argument.
+const STRICT_HELP: &str = "Ends with status 1 if a command was refused";
+
+/// The help of an argument.
+const PLACES_HELP: &str = "Shows the place of a fault, and what a cut input lacks";
+
 /// Returns the definition of a subcommand, with the option `--external NAME` and its default `stem`.
 fn verb_command<'a>(
     alloc: Global,
@@ -153,27 +193,85 @@ fn verb_command<'a>(
     Ok(command.about(about).after_help(help))
 }
 
+/// Returns the definition of a file that may be given.
+fn file_arg<'a>(alloc: Global, name: &'a str, help: &'a str) -> Arg<'a>
+    ensures rule { rule_of result ≡ new_rule name.entry.now }
+    ensures here { result.global ≡ false }
+{
+    Arg::new(alloc, name).help(help)
+}
+
+/// Returns the definition of a file that has to be given.
+fn required_file<'a>(alloc: Global, name: &'a str, help: &'a str) -> Arg<'a>
+    ensures rule { rule_of result ≡ required name.entry.now }
+    ensures here { result.global ≡ false }
+{
+    Arg::new(alloc, name).required(true).help(help)
+}
+
+/// Returns the definition of an option without a value.
+fn flag_arg<'a>(alloc: Global, name: &'a str, help: &'a str) -> Arg<'a>
+    ensures rule { rule_of result ≡ flag name.entry.now }
+    ensures here { result.global ≡ false }
+{
+    Arg::new(alloc, name)
+        .long(name)
+        .action(ArgAction::SetTrue)
+        .help(help)
+}
+
+/// Returns the definition of `run`: a subcommand with the files SCRIPT, WORDS and COMMANDS, and the flag `--strict`.
+fn run_command<'a>(alloc: Global) -> Result<Command<'a>, AllocError>
+    ensures { IfOk result (λ c. app_of c ≡ run_app) }
+{
+    verb_command(alloc, "run", ABOUT_RUN, HELP_RUN)?
+        .arg(required_file(alloc, "SCRIPT", SCRIPT_HELP))?
+        .arg(file_arg(alloc, "WORDS", WORDS_HELP))?
+        .arg(file_arg(alloc, "COMMANDS", "The file of the commands"))?
+        .arg(flag_arg(alloc, "strict", STRICT_HELP))
+}
+
+/// Returns the definition of `session`: a subcommand with the flags `--strict` and `--places`.
+fn session_command<'a>(alloc: Global) -> Result<Command<'a>, AllocError>
+    ensures { IfOk result (λ c. app_of c ≡ session_app) }
+{
+    verb_command(alloc, "session", ABOUT_SESSION, HELP_SESSION)?
+        .arg(flag_arg(alloc, "strict", STRICT_HELP))?
+        .arg(flag_arg(alloc, "places", PLACES_HELP))
+}
+
+/// Returns the definition of `stem`: a subcommand with the flag `--places`.
+fn stem_command<'a>(alloc: Global) -> Result<Command<'a>, AllocError>
+    ensures { IfOk result (λ c. app_of c ≡ stem_app) }
+{
+    verb_command(alloc, "stem", ABOUT_STEM, HELP_STEM)?.arg(flag_arg(alloc, "places", PLACES_HELP))
+}
+
+/// Returns the definition of `check`: a subcommand with the files SCRIPT, WORDS and STEMS, all of which may be missing,
+/// and the flag `--places`.
+fn check_command<'a>(alloc: Global) -> Result<Command<'a>, AllocError>
+    ensures { IfOk result (λ c. app_of c ≡ check_app) }
+{
+    verb_command(alloc, "check", ABOUT_CHECK, HELP_CHECK)?
+        .arg(file_arg(alloc, "SCRIPT", SCRIPT_HELP))?
+        .arg(file_arg(alloc, "WORDS", WORDS_HELP))?
+        .arg(file_arg(
+            alloc,
+            "STEMS",
+            "The file of the expected stems, one on each line",
+        ))?
+        .arg(flag_arg(alloc, "places", PLACES_HELP))
+}
+
 /// Returns the definition of `work`: a subcommand with the files SCRIPT and WORDS, and the flags `--rows` and `--text`.
 fn work_command<'a>(alloc: Global) -> Result<Command<'a>, AllocError>
     ensures { IfOk result (λ c. app_of c ≡ work_app) }
 {
-    let script = Arg::new(alloc, "SCRIPT")
-        .required(true)
-        .help("The file of the script");
-    let words = Arg::new(alloc, "WORDS").help("The file of the words, one on each line");
-    let rows = Arg::new(alloc, "rows")
-        .long("rows")
-        .action(ArgAction::SetTrue)
-        .help("Answers in rows, for programs");
-    let text = Arg::new(alloc, "text")
-        .long("text")
-        .action(ArgAction::SetTrue)
-        .help("Answers in text, for people");
     verb_command(alloc, "work", ABOUT_WORK, HELP_WORK)?
-        .arg(script)?
-        .arg(words)?
-        .arg(rows)?
-        .arg(text)
+        .arg(required_file(alloc, "SCRIPT", SCRIPT_HELP))?
+        .arg(file_arg(alloc, "WORDS", WORDS_HELP))?
+        .arg(flag_arg(alloc, "rows", "Answers in rows, for programs"))?
+        .arg(flag_arg(alloc, "text", "Answers in text, for people"))
 }
 
 /// Returns the text of an argument, if it is given. Returns `AllocError` if an allocation fails.
@@ -184,6 +282,13 @@ fn text_of(alloc: Global, options: &ArgMatches, name: &str) -> Result<Option<Str
         Some(text) => Ok(Some(String::from_str(alloc, text)?)),
         None => Ok(None),
     }
+}
+
+/// Returns whether an option without a value is given.
+fn has_flag(options: &ArgMatches, name: &str) -> bool
+    ensures { IsFlag (one_text (found_of options.now) name.now) result }
+{
+    options.get_flag(name)
 }
 
 /// Returns the face that is asked for: rows, if both are.
@@ -202,7 +307,7 @@ fn face_of(options: &ArgMatches) -> Option<Face>
     None
 }
 
-/// Returns the definition of the command line, with four subcommands.
+/// Returns the definition of the command line, with five subcommands.
 fn make_program<'a>(alloc: Global) -> Result<Command<'a>, AllocError>
     ensures { IfOk result (λ c. app_of c ≡ program) }
 {
@@ -212,14 +317,16 @@ fn make_program<'a>(alloc: Global) -> Result<Command<'a>, AllocError>
         .after_help(READ_ON)
         .subcommand_required(true)
         .arg_required_else_help(true)
-        .subcommand(verb_command(alloc, "session", ABOUT_SESSION, HELP_SESSION)?)?
-        .subcommand(verb_command(alloc, "stem", ABOUT_STEM, HELP_STEM)?)?
-        .subcommand(verb_command(alloc, "check", ABOUT_CHECK, HELP_CHECK)?)?
+        .subcommand(run_command(alloc)?)?
+        .subcommand(session_command(alloc)?)?
+        .subcommand(stem_command(alloc)?)?
+        .subcommand(check_command(alloc)?)?
         .subcommand(work_command(alloc)?)
 }
 
-/// Parses the words of a command line, the first of which is the name of the program: one of the subcommands `session`,
-/// `stem`, `check` and `work`, the value of its option `--external`, by default `stem`, and the files and the face of `work`. `clap` does the parsing.
+/// Parses the words of a command line, the first of which is the name of the program: one of the subcommands `run`,
+/// `session`, `stem`, `check` and `work`, the value of its option `--external`, by default `stem`, its files, and its flags.
+/// `clap` does the parsing.
 ///
 /// # Errors
 ///
@@ -227,9 +334,13 @@ fn make_program<'a>(alloc: Global) -> Result<Command<'a>, AllocError>
 /// or is given twice. A request for help is also an error, with the help as its text. A failed allocation is an error
 /// of its own kind.
 pub fn read_words<'a>(alloc: Global, words: &'a [String]) -> Result<Wanted, Error>
-    ensures wanted { IfOk result (λ wanted. wanted_of (map string_bytes words.now) ≡ Some (verb_name wanted.verb, string_bytes wanted.external)) }
+    ensures wanted { IfOk result (λ wanted. (name : Text) × (wanted_of (map string_bytes words.now) ≡ Some (name, string_bytes wanted.external)) × IsVerb name wanted.verb) }
     ensures script { IfOk result (λ wanted. option_map string_bytes wanted.script ≡ value_in (codes "SCRIPT") (map string_bytes words.now)) }
     ensures words { IfOk result (λ wanted. option_map string_bytes wanted.words ≡ value_in (codes "WORDS") (map string_bytes words.now)) }
+    ensures commands { IfOk result (λ wanted. option_map string_bytes wanted.commands ≡ value_in (codes "COMMANDS") (map string_bytes words.now)) }
+    ensures stems { IfOk result (λ wanted. option_map string_bytes wanted.stems ≡ value_in (codes "STEMS") (map string_bytes words.now)) }
+    ensures strict { IfOk result (λ wanted. IsFlag (flag_in (codes "strict") (map string_bytes words.now)) wanted.is_strict) }
+    ensures places { IfOk result (λ wanted. IsFlag (flag_in (codes "places") (map string_bytes words.now)) wanted.shows_places) }
     ensures rows { IfOk result (λ wanted. flag_in (codes "rows") (map string_bytes words.now) ≡ Some (codes "true") → wanted.face ≡ Some Face.Rows) }
     ensures text { IfOk result (λ wanted. flag_in (codes "rows") (map string_bytes words.now) ≡ Some (codes "false") → flag_in (codes "text") (map string_bytes words.now) ≡ Some (codes "true") → wanted.face ≡ Some Face.Text) }
     ensures neither { IfOk result (λ wanted. flag_in (codes "rows") (map string_bytes words.now) ≡ Some (codes "false") → flag_in (codes "text") (map string_bytes words.now) ≡ Some (codes "false") → wanted.face ≡ None) }
@@ -239,6 +350,7 @@ pub fn read_words<'a>(alloc: Global, words: &'a [String]) -> Result<Wanted, Erro
         return Err(make_program(alloc)?.error(ErrorKind::MissingSubcommand, "no subcommand")?);
     };
     let verb = match name {
+        "run" => Verb::Session,
         "session" => Verb::Session,
         "stem" => Verb::Stem,
         "check" => Verb::Check,
@@ -255,12 +367,20 @@ pub fn read_words<'a>(alloc: Global, words: &'a [String]) -> Result<Wanted, Erro
     };
     let script = text_of(alloc, options, "SCRIPT")?;
     let list = text_of(alloc, options, "WORDS")?;
+    let commands = text_of(alloc, options, "COMMANDS")?;
+    let stems = text_of(alloc, options, "STEMS")?;
+    let is_strict = has_flag(options, "strict");
+    let shows_places = has_flag(options, "places");
     let face = face_of(options);
     Ok(Wanted {
         verb,
         external: String::from_str(alloc, external)?,
         script,
         words: list,
+        commands,
+        stems,
+        is_strict,
+        shows_places,
         face,
     })
 }

@@ -1,25 +1,38 @@
-//! The program `snowbench`: parses its command line, and runs on standard input, output and error.
+//! The program `snowbench`: parses its command line, and runs on files and on standard input, output and error.
 #![tactic(auto)]
 
+mod blocks;
+mod messages;
+mod near;
+mod places;
+mod reasons;
+mod sessions;
+mod streams;
+
+use crate::messages::{FAILED, NO_KEYS, NO_MEMORY, REFUSED, fail_memory, plain_text};
+use crate::sessions::{Named, reads_twice, run_check, run_input, run_session};
 use clap::error::ErrorKind;
 use sbl_work::{Paths, work};
-use snowbench::{Device, Face, Lines, Sink, Source, Verb, Wanted, read_words, run};
+use snowbench::{Device, Face, Lines, Verb, Wanted, read_words};
 use std::hash::RandomState;
 use std::io;
 use std::io::IsTerminal;
 use std::process::ExitCode;
 
-/// The exit status if the command line is refused, and also after help.
-const REFUSED: u8 = 2;
-
-/// The text that is printed if an allocation fails before anything was read.
-const NO_MEMORY: &str = "snowbench: 49 OutOfMemory";
-
 /// The text that is printed if a word of the command line is not UTF-8.
 const NOT_UTF8: &str = "error: a word of the command line is not UTF-8";
 
-/// The text that is printed if the system gives no random numbers.
-const NO_KEYS: &str = "error: the system gives no random numbers";
+/// The text that is printed if `run` names standard input twice.
+const NAMED_TWICE: &str =
+    "snowbench: standard input can be only one of SCRIPT, WORDS and COMMANDS. Without WORDS it is these";
+
+/// The text that is printed if `check` names standard input twice.
+const NAMED_TWICE_BY_CHECK: &str =
+    "snowbench: standard input can be only one of SCRIPT, WORDS and STEMS";
+
+/// The text that is printed if `check` has one file or two.
+const THREE_FILES: &str =
+    "snowbench: check takes three files, ./snowbench check SCRIPT WORDS STEMS, or all from standard input, ./snowbench check < INPUT";
 
 fn main(rt: HostRuntime) -> io::Result<ExitCode> {
     let words = match words_of(&rt) {
@@ -27,37 +40,12 @@ fn main(rt: HostRuntime) -> io::Result<ExitCode> {
         Err(error) => return Ok(refuse_words(&rt, &error)),
     };
     match read_words(rt.alloc(), &words) {
-        Ok(wanted) => Ok(start(&rt, wanted)),
+        Ok(wanted) => Ok(ExitCode::from(start(&rt, wanted))),
         Err(error) if error.kind() == ErrorKind::OutOfMemory => {
-            let _ = eprintln!(rt; "{NO_MEMORY}");
-            Ok(ExitCode::FAILURE)
+            Ok(ExitCode::from(fail_memory(&rt)))
         }
-        Err(error) => {
-            let _ = eprint!(rt; "{error}");
-            Ok(ExitCode::from(REFUSED))
-        }
+        Err(error) => Ok(ExitCode::from(refuse_line(&rt, &error))),
     }
-}
-
-/// Does what the command line asks for, and returns the exit status. The keys of the hash by which words are found come from the
-/// system, so that nobody who chooses the words knows them.
-fn start(rt: &HostRuntime, wanted: Wanted) -> ExitCode {
-    let Ok(mut lines) = Lines::new(rt.alloc(), Device::new(rt.stdin())) else {
-        let _ = eprintln!(rt; "{NO_MEMORY}");
-        return ExitCode::FAILURE;
-    };
-    let Ok(keys) = RandomState::new(rt) else {
-        let _ = eprintln!(rt; "{NO_KEYS}");
-        return ExitCode::FAILURE;
-    };
-    let mut writer = Device::new(rt.stdout());
-    let mut errors = Device::new(rt.stderr());
-    let status = if wanted.verb == Verb::Work {
-        start_work(rt, keys, wanted, &mut lines, &mut writer, &mut errors)
-    } else {
-        run(&wanted, keys, &mut lines, &mut writer, &mut errors)
-    };
-    ExitCode::from(status)
 }
 
 /// Returns the words of the command line. Returns `OutOfMemory` if an allocation fails, and `InvalidData` if a word is not UTF-8.
@@ -75,21 +63,92 @@ fn refuse_words(rt: &HostRuntime, error: &io::Error) -> ExitCode {
     ExitCode::from(REFUSED)
 }
 
+/// Prints why the command line is refused, and returns the exit status.
+fn refuse_line(rt: &HostRuntime, error: &clap::Error) -> u8 {
+    let text = match format!(in rt.alloc(); "{error}") {
+        Ok(text) => plain_text(rt.alloc(), text.as_str()),
+        Err(error) => Err(error),
+    };
+    match text {
+        Ok(text) => {
+            let _ = eprint!(rt; "{text}");
+            REFUSED
+        }
+        Err(_) => fail_memory(rt),
+    }
+}
+
+/// Does what the command line asks for, and returns the exit status.
+fn start(rt: &HostRuntime, wanted: Wanted) -> u8 {
+    if wanted.verb == Verb::Work {
+        return start_work(rt, wanted);
+    }
+    match &wanted.script {
+        None => run_input(rt, &wanted),
+        Some(script) => run_files(rt, &wanted, script.as_str()),
+    }
+}
+
+/// Runs a session or a check over files, and returns the exit status.
+fn run_files(rt: &HostRuntime, wanted: &Wanted, script: &str) -> u8 {
+    let words = match &wanted.words {
+        Some(words) => words.as_str(),
+        None => "-",
+    };
+    if wanted.verb == Verb::Check {
+        return check_files(rt, wanted, script, words);
+    }
+    let rest = text_in(&wanted.commands);
+    let named = Named {
+        script,
+        words,
+        rest,
+    };
+    if reads_twice(named) {
+        let _ = eprintln!(rt; "{NAMED_TWICE}");
+        return REFUSED;
+    }
+    run_session(rt, wanted, named)
+}
+
+/// Compares stems of files, and returns the exit status.
+fn check_files(rt: &HostRuntime, wanted: &Wanted, script: &str, words: &str) -> u8 {
+    let Some(stems) = text_in(&wanted.stems) else {
+        let _ = eprintln!(rt; "{THREE_FILES}");
+        return REFUSED;
+    };
+    let named = Named {
+        script,
+        words,
+        rest: Some(stems),
+    };
+    if reads_twice(named) {
+        let _ = eprintln!(rt; "{NAMED_TWICE_BY_CHECK}");
+        return REFUSED;
+    }
+    run_check(rt, wanted, named, stems)
+}
+
+/// Returns the text, if there is one.
+fn text_in(text: &Option<String>) -> Option<&str> {
+    match text {
+        Some(text) => Some(text.as_str()),
+        None => None,
+    }
+}
+
 /// Works on the files of the command line, and returns the exit status. The prompt is written if the face is text, and both
 /// input and output are a terminal.
-fn start_work<R: Source + Drop, W: Sink, E: Sink>(
-    rt: &HostRuntime,
-    keys: RandomState,
-    wanted: Wanted,
-    lines: &mut Lines<R>,
-    writer: &mut W,
-    errors: &mut E,
-) -> u8 {
+fn start_work(rt: &HostRuntime, wanted: Wanted) -> u8 {
     let Wanted {
         verb: _,
         external,
         script,
         words,
+        commands: _,
+        stems: _,
+        is_strict: _,
+        shows_places: _,
         face,
     } = wanted;
     let Some(script) = script else {
@@ -100,7 +159,24 @@ fn start_work<R: Source + Drop, W: Sink, E: Sink>(
         words,
         external,
     };
+    let Ok(mut lines) = Lines::new(rt.alloc(), Device::new(rt.stdin())) else {
+        return fail_memory(rt);
+    };
+    let Ok(keys) = RandomState::new(rt) else {
+        let _ = eprint!(rt; "{NO_KEYS}");
+        return FAILED;
+    };
+    let mut writer = Device::new(rt.stdout());
+    let mut errors = Device::new(rt.stderr());
     let is_terminal = rt.stdin().is_terminal() && rt.stdout().is_terminal();
     let prompts = is_terminal && face != Some(Face::Rows);
-    work(rt, keys, &paths, prompts, lines, writer, errors)
+    work(
+        rt,
+        keys,
+        &paths,
+        prompts,
+        &mut lines,
+        &mut writer,
+        &mut errors,
+    )
 }

@@ -38,6 +38,36 @@ fn a_command_line_is_a_verb_and_an_external(rt: HostRuntime) -> Result<(), Fail>
 }
 
 #[test]
+fn files_and_flags_are_those_of_the_line(rt: HostRuntime) -> Result<(), Fail> {
+    let alloc = rt.alloc();
+    let line = line_of(alloc, &["run", "a", "--strict", "b", "c"])?;
+    let Ok(wanted) = read_words(alloc, line.as_slice()) else {
+        assert!(rt; false);
+        return Ok(());
+    };
+    assert!(rt; wanted.verb == Verb::Session && wanted.is_strict && !wanted.shows_places);
+    assert!(rt; names(&wanted.script, "a") && names(&wanted.words, "b"));
+    assert!(rt; names(&wanted.commands, "c") && wanted.stems.is_none());
+    let line = line_of(alloc, &["check", "--places", "a", "-", "c"])?;
+    let Ok(wanted) = read_words(alloc, line.as_slice()) else {
+        assert!(rt; false);
+        return Ok(());
+    };
+    assert!(rt; wanted.verb == Verb::Check && !wanted.is_strict && wanted.shows_places);
+    assert!(rt; names(&wanted.words, "-") && names(&wanted.stems, "c"));
+    assert!(rt; wanted.commands.is_none());
+    Ok(())
+}
+
+/// Returns whether this is the name of the file.
+fn names(file: &Option<String>, name: &str) -> bool {
+    match file {
+        Some(file) => file.as_str() == name,
+        None => false,
+    }
+}
+
+#[test]
 fn other_command_lines_are_refused(rt: HostRuntime) -> Result<(), Fail> {
     let alloc = rt.alloc();
     let rows: [&[&str]; 16] = [

@@ -15,11 +15,13 @@ returns c =
     let start : app_of c.arg_required_else_help.result ≡ asking =
     rw c.arg_required_else_help.ensures (rw c.subcommand_required.ensures (rw c.after_help.ensures (rw c.about.ensures (rw c.in_ok-bin_name.ensures.0
     (ap (λ (a : App). record a { top = record a.top { subcommand_required = true; arg_required_else_help = true } }) c.new.ensures.app))))) in
-    let first = c.in_ok-subcommand.ensures.shape (third _ _ _ _ (ap (λ (a : App). a.top.is_plain) c.in_ok-verb_command.ensures))
-    ∙ ap₂ with_subcommand start (ap (λ (a : App). a.top) c.in_ok-verb_command.ensures) in
-    let second = c.in_ok-subcommand-2.ensures.shape (third _ _ _ _ (ap (λ (a : App). a.top.is_plain) c.in_ok-verb_command-2.ensures))
-    ∙ ap₂ with_subcommand first (ap (λ (a : App). a.top) c.in_ok-verb_command-2.ensures) in
-    let checked = c.in_ok-subcommand-3.ensures.shape (third _ _ _ _ (ap (λ (a : App). a.top.is_plain) c.in_ok-verb_command-3.ensures))
-    ∙ ap₂ with_subcommand second (ap (λ (a : App). a.top) c.in_ok-verb_command-3.ensures) in
-    IfOk-weaker c.subcommand-4.result _ _ (λ r h. h.shape (third _ _ _ _ (ap (λ (a : App). a.top.is_plain) c.in_ok-work_command.ensures))
-    ∙ ap₂ with_subcommand checked (ap (λ (a : App). a.top) c.in_ok-work_command.ensures)) c.subcommand-4.ensures
+    let run = c.in_ok-subcommand.ensures.shape (third _ _ _ _ (ap (λ (a : App). a.top.is_plain) c.in_ok-run_command.ensures))
+    ∙ ap₂ with_subcommand start (ap (λ (a : App). a.top) c.in_ok-run_command.ensures) in
+    let session = c.in_ok-subcommand-2.ensures.shape (third _ _ _ _ (ap (λ (a : App). a.top.is_plain) c.in_ok-session_command.ensures))
+    ∙ ap₂ with_subcommand run (ap (λ (a : App). a.top) c.in_ok-session_command.ensures) in
+    let stem = c.in_ok-subcommand-3.ensures.shape (third _ _ _ _ (ap (λ (a : App). a.top.is_plain) c.in_ok-stem_command.ensures))
+    ∙ ap₂ with_subcommand session (ap (λ (a : App). a.top) c.in_ok-stem_command.ensures) in
+    let check = c.in_ok-subcommand-4.ensures.shape (third _ _ _ _ (ap (λ (a : App). a.top.is_plain) c.in_ok-check_command.ensures))
+    ∙ ap₂ with_subcommand stem (ap (λ (a : App). a.top) c.in_ok-check_command.ensures) in
+    IfOk-weaker c.subcommand-5.result _ _ (λ r h. h.shape (third _ _ _ _ (ap (λ (a : App). a.top.is_plain) c.in_ok-work_command.ensures))
+    ∙ ap₂ with_subcommand check (ap (λ (a : App). a.top) c.in_ok-work_command.ensures)) c.subcommand-5.ensures
