@@ -1,0 +1,32 @@
+-- Laws of the rows that a filter writes.
+use Rattle.std.specs.Prelude.{◌≡◌, ◌++◌, ◌&&◌, ℕ, false, List, [], ◌∷◌, Option, Some, Ok}
+use Rattle.sbl_bench.specs.Contents.{Contents, opened}
+use Rattle.sbl_bench.specs.Vocabulary.{is_word, vocabulary}
+use Rattle.sbl_filter.specs.Filter.{IsFiltered, filtered, is_filled}
+use Rattle.sbl_script.specs.Parsed.{Source}
+use Rattle.sbl_sessions.specs.Loaded.{IsLoaded}
+use Rattle.sbl_sessions.specs.Rows.{stems_text}
+
+-- no word that is not empty is there again
+abbrev pub NoRepeats : List (List ℕ) → Type 0
+NoRepeats [] = ⊤
+NoRepeats (w ∷ ws) = ((is_filled w && is_word w ws) ≡ false) × NoRepeats ws
+
+-- the rows of a list of words are those of its first part and then those of the rest
+abbrev pub PartsMakeWhole : Type 0
+PartsMakeWhole = (s : Source) (first rest : List (List ℕ)) → filtered s (first ++ rest) ≡ filtered s first ++ filtered s rest
+
+-- the rows that `stem` writes for some words are those that a filter writes for their vocabulary
+abbrev pub StemsAreFiltered : Type 0
+StemsAreFiltered = (s : Source) (words : List (List ℕ)) → stems_text (opened s words) ≡ filtered s (vocabulary words)
+
+-- without repeats both write the same
+abbrev pub SameWithoutRepeats : Type 0
+SameWithoutRepeats = (s : Source) (words : List (List ℕ)) → NoRepeats words → filtered s words ≡ stems_text (opened s words)
+
+-- If an input has a bench, and a filter writes all rows of the same input, both are of one script and one list of words.
+abbrev pub SameInput : Type 0
+SameInput =
+    (bytes external : List ℕ) (a b : Option (List ℕ)) (c : Contents) (text : List ℕ) → IsLoaded (Some bytes) a external (λ c. c) (Ok c)
+    → IsFiltered (Some bytes) b external (Some []) (Some text) (Ok tt)
+    → (s : Source) × (words : List (List ℕ)) × (c ≡ opened s words) × (text ≡ filtered s words)
