@@ -1,0 +1,98 @@
+-- What was written for the lines so far, and how it goes on or ends.
+use Rattle.std.proofs.Common.{◌≡◌, ◌≢◌, ◌⊎◌, inl, inr, ◌∙◌, ◌++◌, ◌≤◌, ℕ, List, [], ◌∷◌, Option, Some, None, Result, Ok, Err, refl, sym, ap, subst, map, length}
+use Rattle.std.proofs.KnownBytes.{Appends-nil, Appends-trans}
+use Rattle.std.proofs.lemmas.List.{map-append}
+use Rattle.std.specs.Io.KnownBytes.{Appends, IsAtEnd, Keeps}
+use Rattle.std.specs.Str.{chars}
+use Rattle.sbl_filter.specs.Filter.{AllShort, Filters, IsFiltered, Rows, Stops, TookLine, WritesLine, filtered}
+use Rattle.sbl_filter.proofs.RowFacts.{filtered-append, filtered-none}
+use Rattle.sbl_lines.proofs.Bytes.{took-kept, took-none, took-trans}
+use Rattle.sbl_lines.specs.Faults.{serve_fault_of}
+use Rattle.sbl_lines.specs.Held.{BeginsLong, BreaksOff, GivesLine}
+use Rattle.sbl_lines.specs.declared.faults.LineFault.{LineFault}
+use Rattle.sbl_lines.specs.declared.faults.LineFault.TheVariants as line
+use Rattle.sbl_lines.specs.declared.faults.ServeFault.TheVariants as fault
+use Rattle.sbl_script.specs.Parsed.{Source}
+use Rattle.sbl_sessions.proofs.BlockFacts.{all_fit-push, no_point-push}
+use Rattle.sbl_sessions.proofs.LoadFacts.{all_text-push, script_unread}
+use Rattle.sbl_sessions.specs.Block.{point}
+use Rattle.sbl_sessions.specs.Loaded.{ReadsScript, TookSource}
+use Rattle.sbl_sessions.specs.declared.faults.LoadFault.{LoadFault}
+use Rattle.sbl_sessions.specs.declared.faults.LoadFault.TheVariants.{Input, Open, Script}
+use Rattle.sbl_bench.specs.Contents.{Contents}
+
+all_short-push : (lines : List (List ℕ)) (l : List ℕ) → AllShort lines → length (chars l) ≤ 255 → AllShort (lines ++ l ∷ [])
+all_short-push [] l h short = (short, tt)
+all_short-push (x ∷ lines) l h short = (h.0, all_short-push lines l h.1 short)
+
+pub rows-none : (s : Source) (a h : Option (List ℕ)) → Rows s a a h h []
+rows-none s a h = record {
+  words = (((tt, tt), tt), tt);
+  took = took-none a;
+  text = subst (λ (t : List ℕ). Appends h h t) (sym (filtered-none s)) (Appends-nil h);
+}
+
+module _ {s : Source} {a b h k : Option (List ℕ)} {lines : List (List ℕ)} (so : Rows s a b h k lines) where
+  pub rows-push : (c m : Option (List ℕ)) (l : List ℕ) → TookLine b c l → WritesLine s l k m (Ok tt) → Rows s a c h m (lines ++ l ∷ [])
+  rows-push c m l next writes =
+      let whole : filtered s (map chars (lines ++ l ∷ [])) ≡ filtered s (map chars lines) ++ filtered s (chars l ∷ []) =
+      ap (filtered s) (map-append chars lines (l ∷ [])) ∙ filtered-append s (map chars lines) (chars l ∷ []) in
+      record {
+        words =
+            (((no_point-push lines l so.words.0.0.0 next.0, all_fit-push lines l so.words.0.0.1 next.1), all_text-push lines l so.words.0.1 writes.0), all_short-push lines l so.words.1 writes.1);
+        took = took-trans a b c lines (l ∷ []) so.took next.2;
+        text = subst (λ (t : List ℕ). Appends h m t) (sym whole) (Appends-trans h k m _ _ so.text writes.2);
+      }
+
+  pub filters-end : (c : Option (List ℕ)) → Keeps b c → IsAtEnd c → Filters s a c h k (Ok tt)
+  filters-end c keeps end = (lines, (so.words.0, inr (took-kept a b c lines so.took keeps, end)), so.words.1, so.text)
+
+  pub filters-point : (c : Option (List ℕ)) → GivesLine b c point → Filters s a c h k (Ok tt)
+  filters-point c gives = (lines, (so.words.0, inl (took-trans a b c lines (point ∷ []) so.took gives)), so.words.1, so.text)
+
+  -- there is no next line
+  pub filters-broken : (c : Option (List ℕ)) (o : Option LineFault) (part : List ℕ) (f : LineFault) → o ≡ None
+      → (f ≡ line.TooLong → BeginsLong b ⊎ (o ≡ Some f)) → (f ≡ line.Read → o ≡ None → BreaksOff b c part) → Filters s a c h k (Err (Input (serve_fault_of f)))
+  filters-broken c o part line.Read none long cut = (lines, b, k, so, (part, cut refl none), Appends-nil k)
+  filters-broken c o part line.TooLong none long cut = (lines, b, k, so, by (long refl), Appends-nil k)
+    where
+      by : BeginsLong b ⊎ (o ≡ Some line.TooLong) → BeginsLong b
+      by (inl is) = is
+      by (inr is) = let e : Some line.TooLong ≡ None = sym is ∙ none in cc e
+
+  -- the next line gives no row, or not a whole one
+  pub filters-fault : (c m : Option (List ℕ)) (l : List ℕ) (f : LoadFault) → TookLine b c l → WritesLine s l k m (Err f) → Filters s a c h m (Err f)
+  filters-fault c m l f next writes = (lines, b, k, so, by f writes)
+    where
+      by : (f : LoadFault) → WritesLine s l k m (Err f) → Stops s b c k m f
+      by (Script f) w = absurd w
+      by (Open f) w = (l, next, w)
+      by (Input fault.Read) w = absurd w
+      by (Input fault.Write) w = (l, next, w)
+      by (Input fault.LineTooLong) w = absurd w
+      by (Input fault.Cut) w = absurd w
+      by (Input fault.LengthsDiffer) w = absurd w
+      by (Input fault.NotText) w = (l, next, w)
+      by (Input fault.OutOfMemory) w = (inr (l, next), w)
+
+-- an allocation failed before the first line
+pub filters-none : (s : Source) (a h : Option (List ℕ)) → Filters s a a h h (Err (Input fault.OutOfMemory))
+filters-none s a h = ([], a, h, rows-none s a h, inl (took-none a), Appends-nil h)
+
+-- ---- the whole input
+
+abbrev same : Contents → Contents
+same c = c
+
+-- a script block that gave no text
+pub filtered-unread : (old new : Option (List ℕ)) (external : List ℕ) (h : Option (List ℕ)) (f : LoadFault) → ReadsScript old new (Err f) → IsFiltered old new external h h (Err f)
+filtered-unread old new external h (Script f) reads = (script_unread old new external same (Script f) reads, Appends-nil h)
+filtered-unread old new external h (Open f) reads = absurd reads
+filtered-unread old new external h (Input f) reads = inl (reads, Appends-nil h)
+
+pub filtered-words : (old between new : Option (List ℕ)) (external : List ℕ) (h k : Option (List ℕ)) (s : Source) (r : Result (Unit {0}) LoadFault) → TookSource old between external s
+    → Filters s between new h k r → IsFiltered old new external h k r
+filtered-words old between new external h k s (Ok u) source so = (s, so.0, (between, source, so.1), so.2, so.3)
+filtered-words old between new external h k s (Err (Script f)) source so = absurd so.4.2
+filtered-words old between new external h k s (Err (Open f)) source so = inr (s, between, source, so)
+filtered-words old between new external h k s (Err (Input f)) source so = inr (s, between, source, so)

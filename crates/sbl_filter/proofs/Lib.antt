@@ -1,0 +1,3 @@
+pub mod RowFacts
+pub mod FilterFacts
+pub mod LawFacts

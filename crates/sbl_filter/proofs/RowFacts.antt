@@ -1,0 +1,38 @@
+-- The text of the rows of some words.
+use Rattle.std.proofs.Common.{◌≡◌, ◌≢◌, ◌∙◌, ◌++◌, ℕ, List, [], ◌∷◌, refl, ap, map}
+use Rattle.std.proofs.lemmas.Grind.{flat_map-append}
+use Rattle.std.proofs.lemmas.List.{append-nil, map-append}
+use Rattle.std.proofs.lemmas.List.Elements.{filter-append}
+use Rattle.std.specs.List.{filter}
+use Rattle.sbl_bench.specs.Rows.{Row, row_of, rows_of}
+use Rattle.sbl_bench.specs.Setting.{under}
+use Rattle.sbl_filter.specs.Filter.{filtered, is_filled}
+use Rattle.sbl_machine.specs.Limit.{default_limit}
+use Rattle.sbl_records.specs.Records.{record_line, records_text}
+use Rattle.sbl_script.specs.Parsed.{Source}
+use Rattle.sbl_sessions.specs.Rows.{row_fields}
+
+pub filtered-none : (s : Source) → filtered s [] ≡ []
+unfolding filtered
+filtered-none s = refl
+
+-- an empty word has no row
+pub filtered-empty : (s : Source) (word : List ℕ) → word ≡ [] → filtered s (word ∷ []) ≡ []
+unfolding filtered
+filtered-empty s word e = rw e refl
+
+pub filtered-one : (s : Source) (word : List ℕ) → word ≢ [] → filtered s (word ∷ []) ≡ record_line (row_fields (row_of (under s default_limit) word))
+unfolding filtered
+filtered-one s [] some = absurd (some refl)
+filtered-one s (c ∷ word) some = append-nil (record_line (row_fields (row_of (under s default_limit) (c ∷ word))))
+
+pub filtered-append : (s : Source) (a b : List (List ℕ)) → filtered s (a ++ b) ≡ filtered s a ++ filtered s b
+unfolding filtered
+filtered-append s a b =
+    let u = under s default_limit in
+    let x = filter is_filled a in
+    let y = filter is_filled b in
+    let fields : map row_fields (rows_of u (filter is_filled (a ++ b))) ≡ map row_fields (rows_of u x) ++ map row_fields (rows_of u y) =
+    ap (λ (ws : List (List ℕ)). map row_fields (rows_of u ws)) (filter-append is_filled a b) ∙ ap (λ (rs : List Row). map row_fields rs) (map-append (row_of u) x y)
+    ∙ map-append row_fields (rows_of u x) (rows_of u y) in
+    ap records_text fields ∙ flat_map-append record_line (map row_fields (rows_of u x)) (map row_fields (rows_of u y))
