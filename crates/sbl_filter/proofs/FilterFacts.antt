@@ -1,25 +1,32 @@
 -- What was written for the lines so far, and how it goes on or ends.
-use Rattle.std.proofs.Common.{◌≡◌, ◌≢◌, ◌⊎◌, inl, inr, ◌∙◌, ◌++◌, ◌≤◌, ℕ, List, [], ◌∷◌, Option, Some, None, Result, Ok, Err, refl, sym, ap, subst, map, length}
+use Rattle.std.proofs.Common.{◌≡◌, ◌≢◌, ◌⊎◌, inl, inr, ◌∙◌, ◌++◌, ◌≤◌, ◌<◌, ℕ, true, List, [], ◌∷◌, Option, Some, None, Result, Ok, Err, refl, sym, ap, subst, map, length, take, arith}
 use Rattle.std.proofs.KnownBytes.{Appends-nil, Appends-trans}
 use Rattle.std.proofs.lemmas.List.{map-append}
 use Rattle.std.specs.Io.KnownBytes.{Appends, IsAtEnd, Keeps}
-use Rattle.std.specs.Str.{chars}
+use Rattle.std.specs.Str.{chars, is_utf8}
 use Rattle.sbl_filter.specs.Filter.{AllShort, Filters, IsFiltered, Rows, Stops, TookLine, WritesLine, filtered}
-use Rattle.sbl_filter.proofs.RowFacts.{filtered-append, filtered-none}
+use Rattle.sbl_filter.proofs.RowFacts.{filtered-append, filtered-empty, filtered-none, filtered-one}
 use Rattle.sbl_lines.proofs.Bytes.{took-kept, took-none, took-trans}
 use Rattle.sbl_lines.specs.Faults.{serve_fault_of}
 use Rattle.sbl_lines.specs.Held.{BeginsLong, BreaksOff, GivesLine}
 use Rattle.sbl_lines.specs.declared.faults.LineFault.{LineFault}
 use Rattle.sbl_lines.specs.declared.faults.LineFault.TheVariants as line
 use Rattle.sbl_lines.specs.declared.faults.ServeFault.TheVariants as fault
+use Rattle.sbl_machine.specs.Limit.{default_limit}
+use Rattle.sbl_records.specs.Records.{record_line}
 use Rattle.sbl_script.specs.Parsed.{Source}
 use Rattle.sbl_sessions.proofs.BlockFacts.{all_fit-push, no_point-push}
 use Rattle.sbl_sessions.proofs.LoadFacts.{all_text-push, script_unread}
 use Rattle.sbl_sessions.specs.Block.{point}
+use Rattle.sbl_sessions.specs.Faults.{left_by_load}
 use Rattle.sbl_sessions.specs.Loaded.{ReadsScript, TookSource}
 use Rattle.sbl_sessions.specs.declared.faults.LoadFault.{LoadFault}
 use Rattle.sbl_sessions.specs.declared.faults.LoadFault.TheVariants.{Input, Open, Script}
 use Rattle.sbl_bench.specs.Contents.{Contents}
+use Rattle.sbl_bench.specs.Rows.{row_of}
+use Rattle.sbl_bench.specs.Setting.{under}
+use Rattle.sbl_bench.specs.declared.fault.EditFault.TheVariants as edit
+use Rattle.sbl_sessions.specs.Rows.{row_fields}
 
 all_short-push : (lines : List (List ℕ)) (l : List ℕ) → AllShort lines → length (chars l) ≤ 255 → AllShort (lines ++ l ∷ [])
 all_short-push [] l h short = (short, tt)
@@ -53,8 +60,8 @@ module _ {s : Source} {a b h k : Option (List ℕ)} {lines : List (List ℕ)} (s
   -- there is no next line
   pub filters-broken : (c : Option (List ℕ)) (o : Option LineFault) (part : List ℕ) (f : LineFault) → o ≡ None
       → (f ≡ line.TooLong → BeginsLong b ⊎ (o ≡ Some f)) → (f ≡ line.Read → o ≡ None → BreaksOff b c part) → Filters s a c h k (Err (Input (serve_fault_of f)))
-  filters-broken c o part line.Read none long cut = (lines, b, k, so, (part, cut refl none), Appends-nil k)
-  filters-broken c o part line.TooLong none long cut = (lines, b, k, so, by (long refl), Appends-nil k)
+  filters-broken c o part line.Read none long cut = (lines, b, k, so, ((part, cut refl none), Appends-nil k))
+  filters-broken c o part line.TooLong none long cut = (lines, b, k, so, (by (long refl), Appends-nil k))
     where
       by : BeginsLong b ⊎ (o ≡ Some line.TooLong) → BeginsLong b
       by (inl is) = is
@@ -75,9 +82,56 @@ module _ {s : Source} {a b h k : Option (List ℕ)} {lines : List (List ℕ)} (s
       by (Input fault.NotText) w = (l, next, w)
       by (Input fault.OutOfMemory) w = (inr (l, next), w)
 
+-- ---- one line
+
+-- a line of these characters
+module _ {s : Source} {l characters : List ℕ} {h : Option (List ℕ)} (text : is_utf8 l ≡ true) (items : characters ≡ chars l) where
+  pub line-long : 255 < length characters → WritesLine s l h h (Err (Open edit.WordTooLong))
+  line-long long = (text, subst (λ (w : List ℕ). 255 < length w) items long, Appends-nil h)
+
+  pub line-empty : characters ≡ [] → WritesLine s l h h (Ok tt)
+  line-empty none =
+      let empty : chars l ≡ [] = sym items ∙ none in
+      let short : length (chars l) ≤ 255 = subst (λ (w : List ℕ). length w ≤ 255) (sym empty) (omega arith) in
+      (text, short, subst (λ (t : List ℕ). Appends h h t) (sym (filtered-empty s (chars l) empty)) (Appends-nil h))
+
+  module _ {k : Option (List ℕ)} (row : List ℕ) (some : characters ≢ []) (short : length characters ≤ 255)
+      (is : row ≡ record_line (row_fields (row_of (under s default_limit) (chars l)))) where
+    one : row ≡ filtered s (chars l ∷ [])
+    one = is ∙ sym (filtered-one s (chars l) (λ empty. some (items ∙ empty)))
+
+    short_line : length (chars l) ≤ 255
+    short_line = subst (λ (w : List ℕ). length w ≤ 255) items short
+
+    pub line-row : Appends h k row → WritesLine s l h k (Ok tt)
+    line-row writes = (text, short_line, subst (λ (t : List ℕ). Appends h k t) one writes)
+
+    pub line-cut : (n : ℕ) → Appends h k (take n row) → WritesLine s l h k (Err (Input fault.Write))
+    line-cut n writes = (text, short_line, n, subst (λ (t : List ℕ). Appends h k (take n t)) one writes)
+
+-- a line without a row leaves no fault to the lines
+pub line-leaves : (s : Source) (l : List ℕ) (k m : Option (List ℕ)) (f : LoadFault) → WritesLine s l k m (Err f) → left_by_load {A = Unit {0}} (Err f) ≡ None
+line-leaves s l k m (Script f) w = refl
+line-leaves s l k m (Open f) w = refl
+line-leaves s l k m (Input fault.Read) w = absurd w
+line-leaves s l k m (Input fault.Write) w = refl
+line-leaves s l k m (Input fault.LineTooLong) w = absurd w
+line-leaves s l k m (Input fault.Cut) w = refl
+line-leaves s l k m (Input fault.LengthsDiffer) w = refl
+line-leaves s l k m (Input fault.NotText) w = refl
+line-leaves s l k m (Input fault.OutOfMemory) w = refl
+
+pub line-no_read : (s : Source) (l : List ℕ) (k m : Option (List ℕ)) (f : LoadFault) → WritesLine s l k m (Err f) → f ≡ Input fault.Read → ⊥
+line-no_read s l k m f w e = let no : WritesLine s l k m (Err (Input fault.Read)) = subst (λ (x : LoadFault). WritesLine s l k m (Err x)) e w in no
+
+-- reading a line does not fail as a write
+pub no_write : (f : LineFault) → Input (serve_fault_of f) ≡ Input fault.Write → ⊥
+no_write line.Read e = cc e
+no_write line.TooLong e = cc e
+
 -- an allocation failed before the first line
 pub filters-none : (s : Source) (a h : Option (List ℕ)) → Filters s a a h h (Err (Input fault.OutOfMemory))
-filters-none s a h = ([], a, h, rows-none s a h, inl (took-none a), Appends-nil h)
+filters-none s a h = ([], a, h, rows-none s a h, (inl (took-none a), Appends-nil h))
 
 -- ---- the whole input
 

@@ -1,5 +1,5 @@
 -- The rows of a filter, and those of `stem`.
-use Rattle.std.proofs.Common.{◌≡◌, ◌∙◌, ◌++◌, ◌&&◌, ◌||◌, ◌×◌, ℕ, Bool, true, false, List, [], ◌∷◌, Option, Some, None, Result, Ok, Err, refl, sym, ap, subst, map, append_assoc, length, nat_lt}
+use Rattle.std.proofs.Common.{◌≡◌, ◌∙◌, ◌++◌, ◌&&◌, ◌||◌, ℕ, Bool, true, false, List, [], ◌∷◌, Option, Some, None, Result, Ok, Err, refl, sym, ap, subst, map, append_assoc, length, nat_lt}
 use Rattle.std.proofs.lemmas.Bool.{or_from, or_parts, and_right}
 use Rattle.std.proofs.lemmas.List.{append-nil}
 use Rattle.std.proofs.lemmas.List.Elements.{filter-append}
@@ -51,7 +51,7 @@ abbrev text_of : Source → List (List ℕ) → List ℕ
 text_of s words = records_text (map row_fields (rows_of (under s default_limit) words))
 
 pub stems-filtered : StemsAreFiltered
-unfolding (stems_text, filtered)
+unfolding stems_text filtered
 stems-filtered s words = ap (text_of s) (sym (filled-all [] words refl))
 
 -- ---- words without repeats
@@ -90,7 +90,7 @@ all-filled words ((c ∷ w) ∷ ws) apart single =
     ∙ append_assoc words ((c ∷ w) ∷ []) (filter is_filled ws)
 
 pub same-without-repeats : SameWithoutRepeats
-unfolding (stems_text, filtered)
+unfolding stems_text filtered
 same-without-repeats s words single = ap (text_of s) (sym (all-filled [] words (apart-none words) single))
 
 -- ---- one input

@@ -4,13 +4,15 @@ use Rattle.std.proofs.lemmas.Grind.{flat_map-append}
 use Rattle.std.proofs.lemmas.List.{append-nil, map-append}
 use Rattle.std.proofs.lemmas.List.Elements.{filter-append}
 use Rattle.std.specs.List.{filter}
+use Rattle.std.specs.Str.{encode_utf8_all}
 use Rattle.sbl_bench.specs.Rows.{Row, row_of, rows_of}
 use Rattle.sbl_bench.specs.Setting.{under}
 use Rattle.sbl_filter.specs.Filter.{filtered, is_filled}
 use Rattle.sbl_machine.specs.Limit.{default_limit}
+use Rattle.sbl_machine.specs.Outcome.{Outcome'}
 use Rattle.sbl_records.specs.Records.{record_line, records_text}
 use Rattle.sbl_script.specs.Parsed.{Source}
-use Rattle.sbl_sessions.specs.Rows.{row_fields}
+use Rattle.sbl_sessions.specs.Rows.{outcome_fields, row_fields}
 
 pub filtered-none : (s : Source) → filtered s [] ≡ []
 unfolding filtered
@@ -36,3 +38,8 @@ filtered-append s a b =
     ap (λ (ws : List (List ℕ)). map row_fields (rows_of u ws)) (filter-append is_filled a b) ∙ ap (λ (rs : List Row). map row_fields rs) (map-append (row_of u) x y)
     ∙ map-append row_fields (rows_of u x) (rows_of u y) in
     ap records_text fields ∙ flat_map-append record_line (map row_fields (rows_of u x)) (map row_fields (rows_of u y))
+
+-- the fields of a row
+pub fields-are : (word : List ℕ) (o : Outcome') → row_fields (record { word = word; outcome = o }) ≡ encode_utf8_all word ∷ outcome_fields o
+unfolding row_fields
+fields-are word o = refl

@@ -1,5 +1,5 @@
 //! Reads a script and words, and writes the row of each word before it reads the next.
-ghost use Rattle.std.specs.Prelude.{◌≡◌, ◌×◌, ◌≤◌, None, Some, Err, IfErr, OnOk};
+ghost use Rattle.std.specs.Prelude.{◌≡◌, ◌≤◌, None, Some, Err, IfErr, OnOk};
 ghost use Rattle.std.specs.Io.KnownBytes.{Keeps};
 ghost use Rattle.sbl_filter.specs.Filter.{Filters, IsFiltered, WritesLine};
 ghost use Rattle.sbl_lines.specs.Devices.{HasStopped, WritesInTime};

@@ -1,6 +1,7 @@
 //! Laws of the rows that a filter writes.
 ghost use Rattle.sbl_filter.specs.Laws as spec;
 
+use sbl_script::laws::one_reading;
 use sbl_sessions::loading_is_one;
 
 /// The rows of a list of words are the rows of its parts, one after another.
@@ -23,4 +24,12 @@ pub fn inputs_are_one()
     ensures { spec.SameInput }
 {
     loading_is_one();
+}
+
+/// A filter of an input has one result and one text. With the same external, the same bytes always give the same, unless an
+/// allocation fails or the reader or the writer stops.
+pub fn filtering_is_one()
+    ensures { spec.FilteringIsOne }
+{
+    one_reading();
 }

@@ -1,7 +1,7 @@
 //! The row of one word.
-ghost use Rattle.std.specs.Prelude.{◌≡◌, ◌≤◌, length, IfOk};
+ghost use Rattle.std.specs.Prelude.{◌≡◌, ◌≤◌, ◌∷◌, [], length, IfOk, OnOk};
 ghost use Rattle.std.specs.Str.{chars};
-ghost use Rattle.csv.specs.Records.{fields_of};
+ghost use Rattle.csv.specs.Records.{fields_of, partial_of};
 ghost use Rattle.sbl_bench.specs.Rows.{row_of};
 ghost use Rattle.sbl_bench.specs.Setting.{under};
 ghost use Rattle.sbl_machine.specs.Limit.{default_limit};
@@ -10,30 +10,35 @@ ghost use Rattle.sbl_machine.specs.Outcome.{outcome_of};
 ghost use Rattle.sbl_records.specs.Records as texts;
 ghost use Rattle.sbl_run.specs.Start.{max_word_length};
 ghost use Rattle.sbl_script.specs.Parsed.{Source};
-ghost use Rattle.sbl_sessions.specs.Rows.{row_fields};
+ghost use Rattle.sbl_sessions.specs.Rows.{outcome_fields, row_fields};
 
 use csv::ByteRecord;
 use sbl_machine::{DEFAULT_LIMIT, Machine, Meter, Outcome, Table, Traced};
 use sbl_records::{record_line, text_of};
 use std::alloc::{AllocError, Global};
 
-/// Returns the fields of the row of a word with this outcome. Returns `AllocError` if an allocation fails.
-#[tactic(auto, unfolding(Rattle.sbl_sessions.specs.Rows::row_fields))]
-fn record_of(alloc: Global, word: &str, outcome: Outcome) -> Result<ByteRecord, AllocError>
-    ensures { IfOk result (λ record. fields_of record ≡ row_fields (record { word = chars word.now; outcome = outcome_of outcome })) }
+/// Appends the fields of the row of a word with this outcome to an empty record. Returns `AllocError` if an allocation fails.
+fn fill_record(
+    alloc: Global,
+    word: &str,
+    outcome: Outcome,
+    csv_record: &mut ByteRecord,
+) -> Result<(), AllocError>
+    requires empty { fields_of csv_record.old ≡ [] }
+    requires whole { partial_of csv_record.old ≡ [] }
+    ensures { OnOk result (fields_of csv_record.new ≡ word.now ∷ outcome_fields (outcome_of outcome)) }
 {
+    csv_record.push_field(word.as_bytes())?;
     match outcome {
         Outcome::Stem(stem) => {
             let stem = text_of(alloc, &stem)?;
-            ByteRecord::from_fields(
-                alloc,
-                &[word.as_bytes(), b"stem", stem.as_bytes()],
-            )
+            csv_record.push_field(b"stem")?;
+            csv_record.push_field(stem.as_bytes())
         }
-        Outcome::Refused(fault) => ByteRecord::from_fields(
-            alloc,
-            &[word.as_bytes(), b"refused", fault.name().as_bytes()],
-        ),
+        Outcome::Refused(fault) => {
+            csv_record.push_field(b"refused")?;
+            csv_record.push_field(fault.name().as_bytes())
+        }
     }
 }
 
@@ -59,6 +64,7 @@ pub(crate) fn row_text(
         touches: _,
         used: _,
     } = traced;
-    let record = record_of(alloc, word, outcome)?;
-    record_line(alloc, &record)
+    let mut csv_record = ByteRecord::new(alloc);
+    fill_record(alloc, word, outcome, &mut csv_record)?;
+    record_line(alloc, &csv_record)
 }
