@@ -1,7 +1,7 @@
 -- What was written for the lines so far, and how it goes on or ends.
-use Rattle.std.proofs.Common.{◌≡◌, ◌≢◌, ◌⊎◌, inl, inr, ◌∙◌, ◌++◌, ◌≤◌, ◌<◌, ℕ, true, List, [], ◌∷◌, Option, Some, None, Result, Ok, Err, refl, sym, ap, subst, map, length, take, arith}
+use Rattle.std.proofs.Common.{◌≡◌, ◌≢◌, ◌⊎◌, inl, inr, ◌∙◌, ◌++◌, ◌≤◌, ◌<◌, ◌==◌, ℕ, zero, suc, Bool, true, false, List, [], ◌∷◌, Option, Some, None, Result, Ok, Err, refl, sym, ap, subst, map, length, take, arith}
 use Rattle.std.proofs.KnownBytes.{Appends-nil, Appends-trans}
-use Rattle.std.proofs.lemmas.List.{map-append}
+use Rattle.std.proofs.lemmas.List.{map-append, nil_from_length}
 use Rattle.std.specs.Io.KnownBytes.{Appends, IsAtEnd, Keeps}
 use Rattle.std.specs.Str.{chars, is_utf8}
 use Rattle.sbl_filter.specs.Filter.{AllShort, Filters, IsFiltered, Rows, Stops, TookLine, WritesLine, filtered}
@@ -84,6 +84,15 @@ module _ {s : Source} {a b h k : Option (List ℕ)} {lines : List (List ℕ)} (s
 
 -- ---- one line
 
+-- a test for no characters
+pub is_none : (xs : List ℕ) (n : ℕ) (b : Bool) → b ≡ (n == 0) → b ≡ true → n ≡ length xs → xs ≡ []
+is_none xs zero b test yes len = nil_from_length xs (sym len)
+is_none xs (suc n) b test yes len = let no : true ≡ false = sym yes ∙ test in cc no
+
+pub is_some : (xs : List ℕ) (n : ℕ) (b : Bool) → b ≡ (n == 0) → b ≡ false → n ≡ length xs → xs ≢ []
+is_some xs zero b test no len e = let bad : false ≡ true = sym no ∙ test in cc bad
+is_some xs (suc n) b test no len e = let none : suc n ≡ 0 = len ∙ ap length e in absurd (omega (arith, none))
+
 -- a line of these characters
 module _ {s : Source} {l characters : List ℕ} {h : Option (List ℕ)} (text : is_utf8 l ≡ true) (items : characters ≡ chars l) where
   pub line-long : 255 < length characters → WritesLine s l h h (Err (Open edit.WordTooLong))
@@ -137,6 +146,12 @@ filters-none s a h = ([], a, h, rows-none s a h, (inl (took-none a), Appends-nil
 
 abbrev same : Contents → Contents
 same c = c
+
+-- reading a script block does not fail as a write
+pub script-no_write : (o : Option LineFault) (a b : Option (List ℕ)) (f : LoadFault) → (o ≡ None → ReadsScript a b (Err f)) → ((l : LineFault) → o ≡ Some l → f ≡ Input (serve_fault_of l))
+    → f ≡ Input fault.Write → ⊥
+script-no_write None a b f reads again e = let no : ReadsScript a b (Err (Input fault.Write)) = subst (λ (x : LoadFault). ReadsScript a b (Err x)) e (reads refl) in no
+script-no_write (Some l) a b f reads again e = no_write l (sym (again l refl) ∙ e)
 
 -- a script block that gave no text
 pub filtered-unread : (old new : Option (List ℕ)) (external : List ℕ) (h : Option (List ℕ)) (f : LoadFault) → ReadsScript old new (Err f) → IsFiltered old new external h h (Err f)

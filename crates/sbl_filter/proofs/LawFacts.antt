@@ -7,6 +7,7 @@ use Rattle.std.proofs.lemmas.List.Folds.{list_any-append}
 use Rattle.std.proofs.lemmas.Slice.Eq.{bytes_eq-Decides}
 use Rattle.std.specs.List.{filter, list_any}
 use Rattle.std.specs.Option.{option_or}
+use Rattle.std.specs.Prelude.{⊤}
 use Rattle.std.specs.Str.{bytes_eq, chars}
 use Rattle.sbl_bench.specs.Contents.{Contents, is_full, opened, opening_fault, word_fault}
 use Rattle.sbl_bench.specs.Rows.{rows_of}
@@ -95,24 +96,15 @@ same-without-repeats s words single = ap (text_of s) (sym (all-filled [] words (
 
 -- ---- one input
 
-word-not-memory : (words : List (List ℕ)) (w : List ℕ) → word_fault words w ≡ Some edit.OutOfMemory → ⊥
-word-not-memory words w e = by (nat_lt 255 (length w)) refl (is_skipped w words) refl (is_full words) refl
-  where
-    by : (a : Bool) → nat_lt 255 (length w) ≡ a → (b : Bool) → is_skipped w words ≡ b → (c : Bool) → is_full words ≡ c → ⊥
-    by true p b q c r = let is : word_fault words w ≡ Some edit.WordTooLong = rw p refl in let two : Some edit.WordTooLong ≡ Some edit.OutOfMemory = sym is ∙ e in cc two
-    by false p true q c r = let is : word_fault words w ≡ None = rw (p, q) refl in let two : None ≡ Some edit.OutOfMemory = sym is ∙ e in cc two
-    by false p false q true r = let is : word_fault words w ≡ Some edit.Full = rw (p, q, r) refl in let two : Some edit.Full ≡ Some edit.OutOfMemory = sym is ∙ e in cc two
-    by false p false q false r = let is : word_fault words w ≡ None = rw (p, q, r) refl in let two : None ≡ Some edit.OutOfMemory = sym is ∙ e in cc two
-
-not-memory : (words ws : List (List ℕ)) → opening_fault words ws ≡ Some edit.OutOfMemory → ⊥
+word-not-memory : (words ws : List (List ℕ)) → opening_fault words ws ≡ Some edit.OutOfMemory → ⊥
 not-memory words [] e = cc e
-not-memory words (w ∷ ws) e = by (word_fault words w) refl
+not-memory words (w ∷ ws) e = by (not-memory (with_word words w) ws) (word_fault words w) refl
   where
-    by : (o : Option EditFault) → word_fault words w ≡ o → ⊥
-    by None p =
+    by : (opening_fault (with_word words w) ws ≡ Some edit.OutOfMemory → ⊥) → (o : Option EditFault) → word_fault words w ≡ o → ⊥
+    by later None p =
         let goes : opening_fault words (w ∷ ws) ≡ opening_fault (with_word words w) ws = ap (λ (x : Option EditFault). option_or x (opening_fault (with_word words w) ws)) p in
-        not-memory (with_word words w) ws (sym goes ∙ e)
-    by (Some f) p =
+        later (sym goes ∙ e)
+    by later (Some f) p =
         let stops : opening_fault words (w ∷ ws) ≡ Some f = ap (λ (x : Option EditFault). option_or x (opening_fault (with_word words w) ws)) p in
         word-not-memory words w (p ∙ sym stops ∙ e)
 

@@ -1,15 +1,16 @@
 -- The text of the rows of some words.
-use Rattle.std.proofs.Common.{◌≡◌, ◌≢◌, ◌∙◌, ◌++◌, ℕ, List, [], ◌∷◌, refl, ap, map}
+use Rattle.std.proofs.Common.{◌≡◌, ◌≢◌, ◌∙◌, ◌++◌, ℕ, List, [], ◌∷◌, refl, sym, ap, map}
 use Rattle.std.proofs.lemmas.Grind.{flat_map-append}
 use Rattle.std.proofs.lemmas.List.{append-nil, map-append}
 use Rattle.std.proofs.lemmas.List.Elements.{filter-append}
+use Rattle.std.proofs.lemmas.Str.{encodes-chars}
 use Rattle.std.specs.List.{filter}
-use Rattle.std.specs.Str.{encode_utf8_all}
+use Rattle.std.specs.Str.{IsUtf8, chars, encode_utf8_all}
 use Rattle.sbl_bench.specs.Rows.{Row, row_of, rows_of}
 use Rattle.sbl_bench.specs.Setting.{under}
 use Rattle.sbl_filter.specs.Filter.{filtered, is_filled}
 use Rattle.sbl_machine.specs.Limit.{default_limit}
-use Rattle.sbl_machine.specs.Outcome.{Outcome'}
+use Rattle.sbl_machine.specs.Outcome.{Outcome', run_of}
 use Rattle.sbl_records.specs.Records.{record_line, records_text}
 use Rattle.sbl_script.specs.Parsed.{Source}
 use Rattle.sbl_sessions.specs.Rows.{outcome_fields, row_fields}
@@ -43,3 +44,11 @@ filtered-append s a b =
 pub fields-are : (word : List ℕ) (o : Outcome') → row_fields (record { word = word; outcome = o }) ≡ encode_utf8_all word ∷ outcome_fields o
 unfolding row_fields
 fields-are word o = refl
+
+-- the row of a word is that of its outcome
+pub row-is : (s : Source) (word characters : List ℕ) (o : Outcome') → IsUtf8 word → characters ≡ chars word → o ≡ run_of s characters default_limit
+    → word ∷ outcome_fields o ≡ row_fields (row_of (under s default_limit) (chars word))
+row-is s word characters o text is ran =
+    ap (λ (w : List ℕ). w ∷ outcome_fields o) (sym (encodes-chars word text))
+    ∙ ap (λ (x : Outcome'). encode_utf8_all (chars word) ∷ outcome_fields x) (ran ∙ ap (λ (w : List ℕ). run_of s w default_limit) is)
+    ∙ sym (fields-are (chars word) (run_of s (chars word) default_limit))
