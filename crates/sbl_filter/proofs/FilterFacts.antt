@@ -1,6 +1,7 @@
 -- What was written for the lines so far, and how it goes on or ends.
 use Rattle.std.proofs.Common.{◌≡◌, ◌≢◌, ◌⊎◌, inl, inr, ◌∙◌, ◌++◌, ◌≤◌, ◌<◌, ◌==◌, ℕ, zero, suc, Bool, true, false, List, [], ◌∷◌, Option, Some, None, Result, Ok, Err, refl, sym, ap, subst, map, length, take, arith}
 use Rattle.std.proofs.KnownBytes.{Appends-nil, Appends-trans}
+use Rattle.std.proofs.lemmas.Bool.{eqb-true}
 use Rattle.std.proofs.lemmas.List.{map-append, nil_from_length}
 use Rattle.std.specs.Io.KnownBytes.{Appends, IsAtEnd, Keeps}
 use Rattle.std.specs.Str.{chars, is_utf8}
@@ -86,15 +87,14 @@ module _ {s : Source} {a b h k : Option (List ℕ)} {lines : List (List ℕ)} (s
 
 -- a test for no characters
 pub is_none : (xs : List ℕ) (n : ℕ) (b : Bool) → b ≡ (n == 0) → b ≡ true → n ≡ length xs → xs ≡ []
-is_none xs zero b test yes len = nil_from_length xs (sym len)
-is_none xs (suc n) b test yes len = let no : true ≡ false = sym yes ∙ test in cc no
+is_none xs n b test holds len = nil_from_length xs (sym len ∙ eqb-true n 0 (sym test ∙ holds))
 
 pub is_some : (xs : List ℕ) (n : ℕ) (b : Bool) → b ≡ (n == 0) → b ≡ false → n ≡ length xs → xs ≢ []
-is_some xs zero b test no len e = let bad : false ≡ true = sym no ∙ test in cc bad
-is_some xs (suc n) b test no len e = let none : suc n ≡ 0 = len ∙ ap length e in absurd (omega (arith, none))
+is_some xs zero b test fails len e = let bad : false ≡ true = sym fails ∙ test in cc bad
+is_some xs (suc n) b test fails len e = let none : suc n ≡ 0 = len ∙ ap length e in absurd (omega (arith, none))
 
 -- a line of these characters
-module _ {s : Source} {l characters : List ℕ} {h : Option (List ℕ)} (text : is_utf8 l ≡ true) (items : characters ≡ chars l) where
+module _ (s : Source) (l : List ℕ) (h : Option (List ℕ)) {characters : List ℕ} (text : is_utf8 l ≡ true) (items : characters ≡ chars l) where
   pub line-long : 255 < length characters → WritesLine s l h h (Err (Open edit.WordTooLong))
   line-long long = (text, subst (λ (w : List ℕ). 255 < length w) items long, Appends-nil h)
 
@@ -104,7 +104,7 @@ module _ {s : Source} {l characters : List ℕ} {h : Option (List ℕ)} (text : 
       let short : length (chars l) ≤ 255 = subst (λ (w : List ℕ). length w ≤ 255) (sym empty) (omega arith) in
       (text, short, subst (λ (t : List ℕ). Appends h h t) (sym (filtered-empty s (chars l) empty)) (Appends-nil h))
 
-  module _ {k : Option (List ℕ)} (row : List ℕ) (some : characters ≢ []) (short : length characters ≤ 255)
+  module _ (k : Option (List ℕ)) (row : List ℕ) (some : characters ≢ []) (short : length characters ≤ 255)
       (is : row ≡ record_line (row_fields (row_of (under s default_limit) (chars l)))) where
     one : row ≡ filtered s (chars l ∷ [])
     one = is ∙ sym (filtered-one s (chars l) (λ empty. some (items ∙ empty)))

@@ -1,21 +1,21 @@
 -- The rows of a filter, and those of `stem`.
-use Rattle.std.proofs.Common.{◌≡◌, ◌∙◌, ◌++◌, ◌&&◌, ◌||◌, ℕ, Bool, true, false, List, [], ◌∷◌, Option, Some, None, Result, Ok, Err, refl, sym, ap, subst, map, append_assoc, length, nat_lt}
+use Rattle.std.proofs.Common.{◌≡◌, ◌∙◌, ◌++◌, ◌&&◌, ℕ, Bool, true, false, List, [], ◌∷◌, Option, Some, None, Result, Ok, Err, refl, sym, ap, map, append_assoc, length, nat_lt}
 use Rattle.std.proofs.lemmas.Bool.{or_from, or_parts, and_right}
 use Rattle.std.proofs.lemmas.List.{append-nil}
 use Rattle.std.proofs.lemmas.List.Elements.{filter-append}
 use Rattle.std.proofs.lemmas.List.Folds.{list_any-append}
 use Rattle.std.proofs.lemmas.Slice.Eq.{bytes_eq-Decides}
-use Rattle.std.specs.List.{filter, list_any}
+use Rattle.std.specs.List.{filter}
 use Rattle.std.specs.Option.{option_or}
 use Rattle.std.specs.Prelude.{⊤}
 use Rattle.std.specs.Str.{bytes_eq, chars}
 use Rattle.sbl_bench.specs.Contents.{Contents, is_full, opened, opening_fault, word_fault}
 use Rattle.sbl_bench.specs.Rows.{rows_of}
 use Rattle.sbl_bench.specs.Setting.{under}
-use Rattle.sbl_bench.specs.Vocabulary.{is_skipped, is_word, vocabulary, with_all, with_word}
+use Rattle.sbl_bench.specs.Vocabulary.{is_skipped, is_word, with_all, with_word}
 use Rattle.sbl_bench.specs.declared.fault.EditFault.{EditFault}
 use Rattle.sbl_bench.specs.declared.fault.EditFault.TheVariants as edit
-use Rattle.sbl_filter.specs.Filter.{IsFiltered, filtered, is_filled}
+use Rattle.sbl_filter.specs.Filter.{filtered, is_filled}
 use Rattle.sbl_filter.specs.Laws.{NoRepeats, PartsMakeWhole, SameInput, SameWithoutRepeats, StemsAreFiltered}
 use Rattle.sbl_filter.proofs.RowFacts.{filtered-append}
 use Rattle.sbl_machine.specs.Limit.{default_limit}
@@ -96,7 +96,16 @@ same-without-repeats s words single = ap (text_of s) (sym (all-filled [] words (
 
 -- ---- one input
 
-word-not-memory : (words ws : List (List ℕ)) → opening_fault words ws ≡ Some edit.OutOfMemory → ⊥
+word-not-memory : (words : List (List ℕ)) (w : List ℕ) → word_fault words w ≡ Some edit.OutOfMemory → ⊥
+word-not-memory words w e = by (nat_lt 255 (length w)) refl (is_skipped w words) refl (is_full words) refl
+  where
+    by : (a : Bool) → nat_lt 255 (length w) ≡ a → (b : Bool) → is_skipped w words ≡ b → (c : Bool) → is_full words ≡ c → ⊥
+    by true p b q c r = let is : word_fault words w ≡ Some edit.WordTooLong = rw p refl in let two : Some edit.WordTooLong ≡ Some edit.OutOfMemory = sym is ∙ e in cc two
+    by false p true q c r = let is : word_fault words w ≡ None = rw (p, q) refl in let two : None ≡ Some edit.OutOfMemory = sym is ∙ e in cc two
+    by false p false q true r = let is : word_fault words w ≡ Some edit.Full = rw (p, q, r) refl in let two : Some edit.Full ≡ Some edit.OutOfMemory = sym is ∙ e in cc two
+    by false p false q false r = let is : word_fault words w ≡ None = rw (p, q, r) refl in let two : None ≡ Some edit.OutOfMemory = sym is ∙ e in cc two
+
+not-memory : (words ws : List (List ℕ)) → opening_fault words ws ≡ Some edit.OutOfMemory → ⊥
 not-memory words [] e = cc e
 not-memory words (w ∷ ws) e = by (not-memory (with_word words w) ws) (word_fault words w) refl
   where

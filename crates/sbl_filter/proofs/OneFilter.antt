@@ -3,11 +3,10 @@ use Rattle.std.proofs.Common.{◌≡◌, ◌≢◌, ◌⊎◌, inl, inr, ◌∙�
 use Rattle.std.proofs.lemmas.Bool.Decides.{nat_tests}
 use Rattle.std.proofs.lemmas.List.{append-nil}
 use Rattle.std.proofs.lemmas.Slice.Eq.{bytes_eq-Decides}
-use Rattle.std.specs.Io.KnownBytes.{Appends, IsAtEnd}
+use Rattle.std.specs.Io.KnownBytes.{IsAtEnd}
 use Rattle.std.specs.Str.{bytes_eq, chars, is_utf8}
-use Rattle.sbl_bench.specs.declared.fault.EditFault.{EditFault}
 use Rattle.sbl_bench.specs.declared.fault.EditFault.TheVariants as edit
-use Rattle.sbl_filter.specs.Filter.{AllShort, Filters, IsFiltered, Rows, Stops, TookLine, WritesLine, filtered}
+use Rattle.sbl_filter.specs.Filter.{AllShort, Filters, IsFiltered, Rows, Stops, TookLine, filtered}
 use Rattle.sbl_filter.specs.Laws.{FilteringIsOne, IsToldByBytes}
 use Rattle.sbl_filter.proofs.RowFacts.{filtered-append, filtered-none}
 use Rattle.sbl_lines.proofs.Bytes.{none_of, stand_lines}
@@ -141,7 +140,7 @@ all-given s x h k (Some y) so = by so.1.1
     given rest are ends none = (
       sym (ap ending are ∙ ending-after so.0 rest (so.1.0, so.2) ∙ ends),
       so.3
-      ∙ ap (λ (t : List ℕ). h ++ t) (sym (ap (text s) are ∙ text-after s so.0 rest (so.1.0, so.2) ∙ ap (λ (t : List ℕ). rows ++ t) none ∙ append-nil rows)),
+          ∙ ap (λ (t : List ℕ). h ++ t) (sym (ap (text s) are ∙ text-after s so.0 rest (so.1.0, so.2) ∙ ap (λ (t : List ℕ). rows ++ t) none ∙ append-nil rows)),
     )
 
     by : Took (Some x) (Some y) (so.0 ++ point ∷ []) ⊎ (Took (Some x) (Some y) so.0 × IsAtEnd (Some y)) → Gives s x h k (Ok tt)

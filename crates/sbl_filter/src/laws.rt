@@ -7,16 +7,14 @@ use sbl_sessions::loading_is_one;
 /// The rows of a list of words are the rows of its parts, one after another.
 pub fn parts_make_whole()
     ensures { spec.PartsMakeWhole }
-{
-}
+{}
 
 /// The rows that `stem` writes for some words are those that `filter` writes for their vocabulary, which is the words that are
 /// not empty, each at its first place. If no word is there again, both write the same.
 pub fn stem_is_filter()
     ensures vocabulary { spec.StemsAreFiltered }
     ensures same { spec.SameWithoutRepeats }
-{
-}
+{}
 
 /// If `load` makes a bench of an input and `filter` writes all rows of the same input, both are of one script and one list of
 /// words.

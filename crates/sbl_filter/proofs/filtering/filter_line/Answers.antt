@@ -26,13 +26,13 @@ returns-then-len-gt-MAX_WORD_LENGTH-clause-writes g c = λ s made.
     let of_word : c.in_ok-characters.characters.items ≡ chars c.in-Ok.word.now = search (rules, chars_from_encodes) in
     let items : c.in_ok-characters.characters.items ≡ chars c.args.line.now = of_word ∙ ap chars c.in-Ok.ensures.cases.0 in
     let long : 255 < length c.in_ok-characters.characters.items = search rules in
-    line-long (is_utf8-from_IsUtf8 c.args.line.now c.in-Ok.ensures.cases.1) items long
+    line-long s c.args.line.now (g.W.Sink.held c.args.writer.now) (is_utf8-from_IsUtf8 c.args.line.now c.in-Ok.ensures.cases.1) items long
 
 pub returns-then-is_empty-clause-writes : goal.returns-then-is_empty-clause-writes
 returns-then-is_empty-clause-writes g c = λ s made.
     let of_word : c.in_ok-characters.characters.items ≡ chars c.in-Ok.word.now = search (rules, chars_from_encodes) in
     let items : c.in_ok-characters.characters.items ≡ chars c.args.line.now = of_word ∙ ap chars c.in-Ok.ensures.cases.0 in
-    line-empty (is_utf8-from_IsUtf8 c.args.line.now c.in-Ok.ensures.cases.1) items (is_none c.in_ok-characters.characters.items _ c.is_empty.result c.is_empty.ensures c.if-is_empty.true (search rules))
+    line-empty s c.args.line.now (g.W.Sink.held c.args.writer.now) (is_utf8-from_IsUtf8 c.args.line.now c.in-Ok.ensures.cases.1) items (is_none c.in_ok-characters.characters.items _ c.is_empty.result c.is_empty.ensures c.if-is_empty.true (search rules))
 
 pub row_text-requires-clause-is : goal.row_text-requires-clause-is
 row_text-requires-clause-is g c =
@@ -48,7 +48,7 @@ returns-in_err-write_all-clause-writes g c = λ s made.
     let row = c.deref-2.ensures.value ∙ c.in_ok-row.ensures s made ∙ ap (λ (w : List ℕ). record_line (row_fields (row_of (under s default_limit) (chars w)))) c.in-Ok.ensures.cases.0 in
     let p = err_from_is_err_and c.from_residual-in_err-write_all.result c.from_residual-in_err-write_all.ensures.1 in
     rw (p.1, p.2, c.in_err-write_all.ensures.why.0)
-    (line-cut (is_utf8-from_IsUtf8 c.args.line.now c.in-Ok.ensures.cases.1) items c.deref-2.result.now some short row c.write_all.ensures.front.0 c.write_all.ensures.front.1)
+    (line-cut s c.args.line.now (g.W.Sink.held c.args.writer.now) (is_utf8-from_IsUtf8 c.args.line.now c.in-Ok.ensures.cases.1) items (g.W.Sink.held c.write_all.new.writer) c.deref-2.result.now some short row c.write_all.ensures.front.0 c.write_all.ensures.front.1)
 
 pub returns-clause-writes : goal.returns-clause-writes
 returns-clause-writes g c = λ s made.
@@ -57,4 +57,4 @@ returns-clause-writes g c = λ s made.
     let some = is_some c.in_ok-characters.characters.items _ c.is_empty.result c.is_empty.ensures c.if-is_empty.false (search rules) in
     let short : length c.in_ok-characters.characters.items ≤ 255 = search rules in
     let row = c.deref-2.ensures.value ∙ c.in_ok-row.ensures s made ∙ ap (λ (w : List ℕ). record_line (row_fields (row_of (under s default_limit) (chars w)))) c.in-Ok.ensures.cases.0 in
-    line-row (is_utf8-from_IsUtf8 c.args.line.now c.in-Ok.ensures.cases.1) items c.deref-2.result.now some short row c.in_ok-write_all.ensures.all
+    line-row s c.args.line.now (g.W.Sink.held c.args.writer.now) (is_utf8-from_IsUtf8 c.args.line.now c.in-Ok.ensures.cases.1) items (g.W.Sink.held c.write_all.new.writer) c.deref-2.result.now some short row c.in_ok-write_all.ensures.all

@@ -1,4 +1,4 @@
-use Rattle.std.proofs.Common.{◌≡◌, ◌≤◌, List, ℕ}
+use Rattle.std.proofs.Common.{◌≡◌, List, ℕ}
 use Rattle.sbl_filter.specs.Filter.{Rows}
 use Rattle.sbl_lines.specs.Devices.{WritesInTime}
 use Rattle.sbl_lines.specs.Held.{KeepsTime, fault_of, fuel_of, input_of, reads_bound}

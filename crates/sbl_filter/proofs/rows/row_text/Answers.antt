@@ -1,11 +1,6 @@
 use Rattle.std.proofs.Common.{◌≡◌, ◌∙◌, List, ℕ, IfOk, subst}
-use Rattle.std.specs.Str.{chars}
-use Rattle.sbl_bench.specs.Rows.{row_of}
-use Rattle.sbl_bench.specs.Setting.{under}
-use Rattle.sbl_machine.specs.Limit.{default_limit}
 use Rattle.sbl_machine.specs.Outcome.{outcome_of}
 use Rattle.sbl_records.specs.Records as texts
-use Rattle.sbl_sessions.specs.Rows.{row_fields}
 use Rattle.sbl_filter.proofs.RowFacts.{row-is}
 use Rattle.sbl_filter.proofs.rows.row_text.Goals as goal
 
