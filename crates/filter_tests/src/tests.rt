@@ -1,0 +1,4 @@
+//! Tests of filters, one file for each subject.
+
+mod devices;
+mod rows;

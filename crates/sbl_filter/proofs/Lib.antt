@@ -1,0 +1,4 @@
+pub mod RowFacts
+pub mod FilterFacts
+pub mod LawFacts
+pub mod OneFilter

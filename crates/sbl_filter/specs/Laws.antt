@@ -1,0 +1,52 @@
+-- Laws of the rows that a filter writes.
+use Rattle.std.specs.Prelude.{◌≡◌, ◌++◌, ◌&&◌, ℕ, false, List, [], ◌∷◌, Option, Some, Result, Ok, Err, ⊤}
+use Rattle.sbl_bench.specs.Contents.{Contents, opened}
+use Rattle.sbl_bench.specs.Vocabulary.{is_word, vocabulary}
+use Rattle.sbl_filter.specs.Filter.{IsFiltered, filtered, is_filled}
+use Rattle.sbl_lines.specs.declared.faults.ServeFault.TheVariants as fault
+use Rattle.sbl_script.specs.Parsed.{Source}
+use Rattle.sbl_sessions.specs.Loaded.{IsLoaded}
+use Rattle.sbl_sessions.specs.Rows.{stems_text}
+use Rattle.sbl_sessions.specs.declared.faults.LoadFault.{LoadFault}
+use Rattle.sbl_sessions.specs.declared.faults.LoadFault.TheVariants.{Input, Script}
+use Rattle.sbl_text.specs.declared.fault.ScriptFault.TheVariants as script
+
+-- no word that is not empty is there again
+abbrev pub NoRepeats : List (List ℕ) → Type 0
+NoRepeats [] = ⊤
+NoRepeats (w ∷ ws) = ((is_filled w && is_word w ws) ≡ false) × NoRepeats ws
+
+-- the rows of a list of words are those of its first part and then those of the rest
+abbrev pub PartsMakeWhole : Type 0
+PartsMakeWhole = (s : Source) (first rest : List (List ℕ)) → filtered s (first ++ rest) ≡ filtered s first ++ filtered s rest
+
+-- the rows that `stem` writes for some words are those that a filter writes for their vocabulary
+abbrev pub StemsAreFiltered : Type 0
+StemsAreFiltered = (s : Source) (words : List (List ℕ)) → stems_text (opened s words) ≡ filtered s (vocabulary words)
+
+-- without repeats both write the same
+abbrev pub SameWithoutRepeats : Type 0
+SameWithoutRepeats = (s : Source) (words : List (List ℕ)) → NoRepeats words → filtered s words ≡ stems_text (opened s words)
+
+-- If an input has a bench, and a filter writes all rows of the same input, both are of one script and one list of words.
+abbrev pub SameInput : Type 0
+SameInput =
+    (bytes external : List ℕ) (a b : Option (List ℕ)) (c : Contents) (text : List ℕ) → IsLoaded (Some bytes) a external (λ c. c) (Ok c)
+    → IsFiltered (Some bytes) b external (Some []) (Some text) (Ok tt)
+    → (s : Source) × (words : List (List ℕ)) × (c ≡ opened s words) × (text ≡ filtered s words)
+
+-- the bytes alone determine the result: the reader and the writer did not stop, and no allocation failed
+abbrev pub IsToldByBytes : Result (Unit {0}) LoadFault → Type 0
+IsToldByBytes (Ok u) = ⊤
+IsToldByBytes (Err (Script script.OutOfMemory)) = ⊥
+IsToldByBytes (Err (Input fault.OutOfMemory)) = ⊥
+IsToldByBytes (Err (Input fault.Read)) = ⊥
+IsToldByBytes (Err (Input fault.Write)) = ⊥
+IsToldByBytes (Err f) = ⊤
+
+-- with the same external, the same bytes always give one result and one text
+abbrev pub FilteringIsOne : Type 0
+FilteringIsOne =
+    (bytes external : List ℕ) (a b : Option (List ℕ)) (text other : List ℕ) (r q : Result (Unit {0}) LoadFault) → IsToldByBytes r → IsToldByBytes q
+    → IsFiltered (Some bytes) a external (Some []) (Some text) r → IsFiltered (Some bytes) b external (Some []) (Some other) q
+    → (r ≡ q) × (text ≡ other)

@@ -1,0 +1,3 @@
+-- definitions that the contracts of public functions use
+pub mod Filter
+pub mod Laws

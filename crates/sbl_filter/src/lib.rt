@@ -1,0 +1,8 @@
+//! The rows of words as the words come: each word is read, run and forgotten.
+#![tactic(auto)]
+
+mod filtering;
+pub mod laws;
+mod rows;
+
+pub use filtering::filter;

@@ -1,0 +1,70 @@
+//! The row of one word.
+ghost use Rattle.std.specs.Prelude.{◌≡◌, ◌≤◌, ◌∷◌, [], length, IfOk, OnOk};
+ghost use Rattle.std.specs.Str.{chars};
+ghost use Rattle.csv.specs.Records.{fields_of, partial_of};
+ghost use Rattle.sbl_bench.specs.Rows.{row_of};
+ghost use Rattle.sbl_bench.specs.Setting.{under};
+ghost use Rattle.sbl_machine.specs.Limit.{default_limit};
+ghost use Rattle.sbl_machine.specs.MachineOf.{IsLinkedMachineOf};
+ghost use Rattle.sbl_machine.specs.Outcome.{outcome_of};
+ghost use Rattle.sbl_records.specs.Records as texts;
+ghost use Rattle.sbl_run.specs.Start.{max_word_length};
+ghost use Rattle.sbl_script.specs.Parsed.{Source};
+ghost use Rattle.sbl_sessions.specs.Rows.{outcome_fields, row_fields};
+
+use csv::ByteRecord;
+use sbl_machine::{DEFAULT_LIMIT, Machine, Meter, Outcome, Table, Traced};
+use sbl_records::{record_line, text_of};
+use std::alloc::{AllocError, Global};
+
+/// Appends the fields of the row of a word with this outcome to an empty record. Returns `AllocError` if an allocation fails.
+fn fill_record(
+    alloc: Global,
+    word: &str,
+    outcome: Outcome,
+    csv_record: &mut ByteRecord,
+) -> Result<(), AllocError>
+    requires empty { fields_of csv_record.old ≡ [] }
+    requires whole { partial_of csv_record.old ≡ [] }
+    ensures { OnOk result (fields_of csv_record.new ≡ word.now ∷ outcome_fields (outcome_of outcome)) }
+{
+    csv_record.push_field(word.as_bytes())?;
+    match outcome {
+        Outcome::Stem(stem) => {
+            let stem = text_of(alloc, &stem)?;
+            csv_record.push_field(b"stem")?;
+            csv_record.push_field(stem.as_bytes())
+        }
+        Outcome::Refused(fault) => {
+            csv_record.push_field(b"refused")?;
+            csv_record.push_field(fault.name().as_bytes())
+        }
+    }
+}
+
+/// Runs the script on a word of these characters and returns the text of the word's row. Returns `AllocError` if an
+/// allocation fails.
+pub(crate) fn row_text(
+    alloc: Global,
+    machine: &Machine<Table>,
+    meter: &mut Meter,
+    word: &str,
+    characters: &[char],
+) -> Result<Vec<u8>, AllocError>
+    requires is { characters.now ≡ chars word.now }
+    requires fits { length characters.now ≤ max_word_length }
+    ensures { (s : Source) → IsLinkedMachineOf machine.now s → IfOk result (λ text. text.items ≡ texts.record_line (row_fields (row_of (under s default_limit) (chars word.now)))) }
+{
+    // The lines of a reader are fewer than a meter counts, so the only error is a failed allocation.
+    let Ok(traced) = machine.trace(alloc, meter, characters, DEFAULT_LIMIT) else {
+        return Err(AllocError);
+    };
+    let Traced {
+        outcome,
+        touches: _,
+        used: _,
+    } = traced;
+    let mut csv_record = ByteRecord::new(alloc);
+    fill_record(alloc, word, outcome, &mut csv_record)?;
+    record_line(alloc, &csv_record)
+}
