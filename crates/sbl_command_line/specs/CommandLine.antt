@@ -3,7 +3,7 @@ use Rattle.std.specs.Prelude.{◌≡◌, ◌⊎◌, Bool, true, false, List, [],
 use Rattle.clap.specs.Words.{App, Rule, Text, first_of, new_app, new_rule, one_of, subcommand_of, with_rule, with_subcommand}
 use Rattle.clap.specs.declared.builder.action.ArgAction.TheVariants.{SetTrue}
 use Rattle.sbl_command_line.specs.declared.command_line.Verb.{Verb}
-use Rattle.sbl_command_line.specs.declared.command_line.Verb.TheVariants.{Session, Stem, Check, Work}
+use Rattle.sbl_command_line.specs.declared.command_line.Verb.TheVariants.{Session, Stem, Filter, Check, Work}
 
 -- `--external NAME`: an option with one value, by default `stem`
 abbrev pub external : Rule
@@ -32,6 +32,10 @@ session_app = with_rule (with_rule (verb_app (codes "session")) (flag (codes "st
 abbrev pub stem_app : App
 stem_app = with_rule (verb_app (codes "stem")) (flag (codes "places"))
 
+-- `filter` may have a file
+abbrev pub filter_app : App
+filter_app = with_rule (with_rule (verb_app (codes "filter")) (new_rule (codes "SCRIPT"))) (flag (codes "places"))
+
 -- `check` may have three files
 abbrev pub check_app : App
 check_app = with_rule (with_rule (with_rule (with_rule (verb_app (codes "check")) (new_rule (codes "SCRIPT"))) (new_rule (codes "WORDS"))) (new_rule (codes "STEMS"))) (flag (codes "places"))
@@ -49,14 +53,15 @@ abbrev pub asking : App
 asking = record top { top = record top.top { subcommand_required = true; arg_required_else_help = true } }
 
 abbrev pub program : App
-program = with_subcommand (with_subcommand (with_subcommand (with_subcommand (with_subcommand
+program = with_subcommand (with_subcommand (with_subcommand (with_subcommand (with_subcommand (with_subcommand
     asking
-    run_app.top) session_app.top) stem_app.top) check_app.top) work_app.top
+    run_app.top) session_app.top) stem_app.top) filter_app.top) check_app.top) work_app.top
 
 -- whether a subcommand of this name does what the verb says: `run` is a session over files
 abbrev pub IsVerb : Text → Verb → Type 0
 IsVerb name Session = (name ≡ codes "run") ⊎ (name ≡ codes "session")
 IsVerb name Stem = name ≡ codes "stem"
+IsVerb name Filter = name ≡ codes "filter"
 IsVerb name Check = name ≡ codes "check"
 IsVerb name Work = name ≡ codes "work"
 

@@ -3,7 +3,7 @@ ghost use Rattle.std.specs.Prelude.{◌≡◌, IfOk, None, Some, codes, false, m
 ghost use Rattle.std.specs.String.{string_bytes};
 ghost use Rattle.clap.specs.Walk.{rule_of};
 ghost use Rattle.clap.specs.Words.{Text, app_of, first_value, found_of, new_rule, one_text};
-ghost use Rattle.sbl_command_line.specs.CommandLine.{IsFlag, IsVerb, check_app, flag, flag_in, program, required, run_app, session_app, stem_app, value_in, verb_app, wanted_of, work_app};
+ghost use Rattle.sbl_command_line.specs.CommandLine.{IsFlag, IsVerb, check_app, flag, flag_in, program, required, run_app, session_app, stem_app, filter_app, value_in, verb_app, wanted_of, work_app};
 
 use clap::error::ErrorKind;
 use clap::{Arg, ArgAction, ArgMatches, Command, Error};
@@ -16,6 +16,8 @@ pub enum Verb {
     Session,
     /// Writes the stem of each word of a vocabulary.
     Stem,
+    /// Writes the stem of each word as it comes.
+    Filter,
     /// Compares stems with the expected stems.
     Check,
     /// Works on a script and words in files.
@@ -125,6 +127,25 @@ writes
   redo,stem,redo
 
 To read on: docs/LANGUAGE.md for scripts, docs/SESSION.md for rows and refusals.";
+
+/// The first lines of the help of `filter`.
+const ABOUT_FILTER: &str = "Writes the stem of each word as it comes";
+
+/// The last lines of the help of `filter`.
+const HELP_FILTER: &str = "\
+In:   the lines of a script, a line '.', and words (one a line) up to a line '.' or the end.
+      With a file SCRIPT the input is the words alone.
+Out:  a row for each word, as 'stem' writes it, before the next word is read. Empty lines are
+      skipped, repeats are not: nothing is kept of a word, so there may be any number of them.
+
+Example:
+  printf '%s\\n' 'externals ( stem )' \"define stem as ( [ 'un' ] delete )\" > un.sbl
+  printf '%s\\n' undo undo | snowbench filter un.sbl
+writes
+  undo,stem,do
+  undo,stem,do
+
+To read on: docs/AT-SCALE.md.";
 
 /// The first lines of the help of `check`.
 const ABOUT_CHECK: &str = "Writes where stems differ from those that are expected";
@@ -247,6 +268,15 @@ fn stem_command<'a>(alloc: Global) -> Result<Command<'a>, AllocError>
     verb_command(alloc, "stem", ABOUT_STEM, HELP_STEM)?.arg(flag_arg(alloc, "places", PLACES_HELP))
 }
 
+/// Returns the definition of `filter`: a subcommand with the file SCRIPT, which may be missing, and the flag `--places`.
+fn filter_command<'a>(alloc: Global) -> Result<Command<'a>, AllocError>
+    ensures { IfOk result (λ c. app_of c ≡ filter_app) }
+{
+    verb_command(alloc, "filter", ABOUT_FILTER, HELP_FILTER)?
+        .arg(file_arg(alloc, "SCRIPT", SCRIPT_HELP))?
+        .arg(flag_arg(alloc, "places", PLACES_HELP))
+}
+
 /// Returns the definition of `check`: a subcommand with the files SCRIPT, WORDS and STEMS, all of which may be missing,
 /// and the flag `--places`.
 fn check_command<'a>(alloc: Global) -> Result<Command<'a>, AllocError>
@@ -307,7 +337,7 @@ fn face_of(options: &ArgMatches) -> Option<Face>
     None
 }
 
-/// Returns the definition of the command line, with five subcommands.
+/// Returns the definition of the command line, with six subcommands.
 fn make_program<'a>(alloc: Global) -> Result<Command<'a>, AllocError>
     ensures { IfOk result (λ c. app_of c ≡ program) }
 {
@@ -320,12 +350,13 @@ fn make_program<'a>(alloc: Global) -> Result<Command<'a>, AllocError>
         .subcommand(run_command(alloc)?)?
         .subcommand(session_command(alloc)?)?
         .subcommand(stem_command(alloc)?)?
+        .subcommand(filter_command(alloc)?)?
         .subcommand(check_command(alloc)?)?
         .subcommand(work_command(alloc)?)
 }
 
 /// Parses the words of a command line, the first of which is the name of the program: one of the subcommands `run`,
-/// `session`, `stem`, `check` and `work`, the value of its option `--external`, by default `stem`, its files, and its flags.
+/// `session`, `stem`, `filter`, `check` and `work`, the value of its option `--external`, by default `stem`, its files, and its flags.
 /// `clap` does the parsing.
 ///
 /// # Errors
@@ -353,6 +384,7 @@ pub fn read_words<'a>(alloc: Global, words: &'a [String]) -> Result<Wanted, Erro
         "run" => Verb::Session,
         "session" => Verb::Session,
         "stem" => Verb::Stem,
+        "filter" => Verb::Filter,
         "check" => Verb::Check,
         "work" => Verb::Work,
         _ => {

@@ -6,7 +6,7 @@ use Rattle.clap.specs.declared.parser.matches.Found.{Found}
 use Rattle.clap.proofs.WalkLemmas.{first_value-rows, one_text-rows}
 use Rattle.sbl_command_line.specs.CommandLine.{IsVerb, flag_in, program, value_in}
 use Rattle.sbl_command_line.proofs.command_line.read_words.Goals as goal
-use Rattle.sbl_command_line.proofs.command_line.read_words.Goals.{in-run, in-session, in-stem, in-check, in-work}
+use Rattle.sbl_command_line.proofs.command_line.read_words.Goals.{in-run, in-session, in-stem, in-filter, in-check, in-work}
 
 some_same : {X : Type 0} (x y : X) → Some x ≡ Some y → x ≡ y
 some_same x y e = cc
@@ -34,7 +34,7 @@ returns-clause-wanted c =
     let options = rows_of (found_of c.in-Some.options.now) in
     let entered_is : subcommand_rows_of c.in_ok-matches.matches ≡ Some (c.in-Some.name.now, options) = both _ _ _ _ _ (sym c.in-Some.ensures.name) (sym c.in-Some.ensures.rows) in
     let found : first_of (codes "external") options ≡ Some c.in-Some-get_str.external.now = sym (first_value-rows (found_of c.in-Some.options.now) (codes "external")) ∙ sym c.in-Some-get_str.ensures in
-    let verb_is : IsVerb c.in-Some.name.now c.match-name.verb = elim c.match-name.branch [ in-run w ↦ search rules | in-session w ↦ search rules | in-stem w ↦ search rules | in-check w ↦ search rules | in-work w ↦ search rules ] in
+    let verb_is : IsVerb c.in-Some.name.now c.match-name.verb = elim c.match-name.branch [ in-run w ↦ search rules | in-session w ↦ search rules | in-stem w ↦ search rules | in-filter w ↦ search rules | in-check w ↦ search rules | in-work w ↦ search rules ] in
     let same : string_bytes c.in_ok-from_str.field-0 ≡ c.in-Some-get_str.external.now = c.in_ok-from_str.ensures.ok in
     let texts : option_and_then pick (subcommand_of program words) ≡ Some (c.in-Some.name.now, string_bytes c.in_ok-from_str.field-0) =
     ap (option_and_then pick) (program_is ∙ entered_is) ∙ ap (option_map (λ (name : Text). (c.in-Some.name.now, name))) found ∙ ap (λ (b : Text). Some (c.in-Some.name.now, b)) (sym same) in
