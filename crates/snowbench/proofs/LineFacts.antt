@@ -1,5 +1,5 @@
 -- The lines of an input have no line feed, so they are read again from their text.
-use Rattle.std.proofs.Common.{◌≡◌, ◌≢◌, ◌∙◌, ◌++◌, ◌==◌, ◌-◌, ◌+◌, ℕ, suc, zero, Bool, true, false, List, [], ◌∷◌, Some, refl, sym, ap, subst, map, length, take, length-append, append_assoc, slice_index_or, arith}
+use Rattle.std.proofs.Common.{◌≡◌, ◌≢◌, ◌∙◌, ◌++◌, ◌==◌, ◌-◌, ℕ, suc, zero, Bool, true, false, List, [], ◌∷◌, refl, sym, ap, subst, map, length, take, length-append, append_assoc, slice_index_or, arith}
 use Rattle.std.proofs.lemmas.List.Concat.{flat_map-cons}
 use Rattle.std.specs.Prelude.{⊤, if◌then◌else◌}
 use Rattle.sbl_lines.specs.Held.{NoFeed}

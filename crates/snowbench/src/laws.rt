@@ -5,5 +5,4 @@ ghost use Rattle.snowbench.specs.WholeCheck.{ListsAreRead};
 /// words and of the expected stems, as they are in the input.
 pub fn lists_are_read()
     ensures { ListsAreRead }
-{
-}
+{}

@@ -168,19 +168,20 @@ fn a_fault_has_its_status_without_its_line(rt: HostRuntime) -> Result<(), Fail> 
 #[test]
 fn the_external_that_is_wanted_is_run(rt: HostRuntime) -> Result<(), Fail> {
     let alloc = rt.alloc();
-    let input = b"externals ( go stem ) define go as delete define stem as next\n.\na\n.\nstems\n";
+    let input =
+        b"externals ( go stem ) define go as insert 'b' define stem as next\n.\na\n.\nstems\n";
     let other = run_of(alloc, Verb::Stem, "stem", input, 0)?;
     assert!(rt; other.status == 0);
     assert!(rt; other.text.as_slice() == b"a,stem,a\n".as_slice());
     let stems = run_of(alloc, Verb::Stem, "go", input, 0)?;
     assert!(rt; stems.status == 0);
-    assert!(rt; stems.text.as_slice() == b"a,refused,Slice\n".as_slice());
+    assert!(rt; stems.text.as_slice() == b"a,stem,ba\n".as_slice());
     let served = run_of(alloc, Verb::Session, "go", input, 0)?;
     assert!(rt; served.status == 0);
-    assert!(rt; served.text.as_slice() == b"a,refused,Slice\n".as_slice());
+    assert!(rt; served.text.as_slice() == b"a,stem,ba\n".as_slice());
     let checked = run_of(alloc, Verb::Check, "go", input, 0)?;
     assert!(rt; checked.status == 1);
-    assert!(rt; checked.text.as_slice() == b"1,a,stems,refused Slice\n".as_slice());
+    assert!(rt; checked.text.as_slice() == b"1,a,stems,ba\n".as_slice());
     let none = run_of(alloc, Verb::Check, "gone", input, 0)?;
     assert!(rt; none.status == 1);
     assert!(rt; none.text.is_empty());
