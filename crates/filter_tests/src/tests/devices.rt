@@ -58,7 +58,10 @@ fn each_row_is_written_before_the_next_read(rt: HostRuntime) -> Result<(), Fail>
         let ended = filtered(rt.alloc(), read, 0, 0)?;
         let rows = rows_of(rt.alloc(), read - 1)?;
         assert!(rt; ended.text == rows, "{read} {:?}", ended.text);
-        assert!(rt; ended.ending == Err(LoadFault::Input(ServeFault::Read)), "{read}");
+        assert!(rt;
+            ended.ending == Err(LoadFault::Input(ServeFault::Read)),
+            "{read}"
+        );
     }
     Ok(())
 }
@@ -68,9 +71,16 @@ fn a_filter_ends_if_its_writer_fails(rt: HostRuntime) -> Result<(), Fail> {
     let rows = rows_of(rt.alloc(), 1_000)?;
     for write in 1..36 {
         let ended = filtered(rt.alloc(), 0, write, 0)?;
-        assert!(rt; ended.ending == Err(LoadFault::Input(ServeFault::Write)), "{write}");
+        assert!(rt;
+            ended.ending == Err(LoadFault::Input(ServeFault::Write)),
+            "{write}"
+        );
         assert!(rt; ended.text.len() as u64 == write - 1);
-        assert!(rt; rows.as_slice().starts_with(ended.text.as_slice()), "{:?}", ended.text);
+        assert!(rt;
+            rows.as_slice().starts_with(ended.text.as_slice()),
+            "{:?}",
+            ended.text
+        );
     }
     Ok(())
 }

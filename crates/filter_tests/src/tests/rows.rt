@@ -53,12 +53,7 @@ fn a_filter_writes_a_row_for_each_word(rt: HostRuntime) -> Result<(), Fail> {
             b"",
         ),
         // A line `.` ends the words.
-        (
-            UN,
-            b"undo\n.\nredo\n",
-            b"undo,stem,do\n",
-            b"redo",
-        ),
+        (UN, b"undo\n.\nredo\n", b"undo,stem,do\n", b"redo"),
         (UN, b".\r\nundo\n", b"", b"undo"),
         (
             UN,
@@ -120,13 +115,7 @@ fn a_filter_ends_at_the_first_fault(rt: HostRuntime) -> Result<(), Fail> {
             LoadFault::Script(ScriptFault::NoExternal),
             b"undo",
         ),
-        (
-            b"",
-            b"",
-            b"",
-            LoadFault::Input(ServeFault::Cut),
-            b"",
-        ),
+        (b"", b"", b"", LoadFault::Input(ServeFault::Cut), b""),
     ];
     for (script, rest, text, fault, next) in rows {
         let ended = filtered(rt.alloc(), script, rest)?;
