@@ -1,5 +1,4 @@
-use Rattle.std.proofs.Common.{rules, ◌≡◌, ◌∙◌, List, ap, sym}
-use Rattle.sbl_run.specs.declared.touch.Touch.{Touch}
+use Rattle.std.proofs.Common.{rules, ◌≡◌, ◌∙◌, ap, sym}
 use Rattle.sbl_bench.proofs.TouchFacts.{equal_lists, ok_more}
 use Rattle.sbl_bench.proofs.last_run.list_of.Goals as goal
 
