@@ -16,6 +16,7 @@ use Rattle.sbl_lines.specs.declared.faults.ServeFault.TheVariants as fault
 use Rattle.sbl_sessions.proofs.LoadFacts.{script_unread}
 use Rattle.snowbench.specs.WholeCheck.{ChecksLists, IsWholeCheck, ReadsExpected, ReadsWords, list_text}
 use Rattle.snowbench.specs.WholeSession.{IsWholeSession, as_load}
+use Rattle.sbl_filter.specs.Filter.{IsFiltered}
 use Rattle.snowbench.specs.Stemmed.{IsStemmed}
 use Rattle.snowbench.specs.Program.{IsAnswer, IsReported, IsWritten, fault_line}
 use Rattle.sbl_command_line.specs.declared.command_line.Verb.{Verb}
@@ -109,6 +110,15 @@ pub answer_stem_fault : (v : Verb) (e x : List ℕ) (a b h i : Option (List ℕ)
     → IsAnswer v e a b h i (Err f)
 answer_stem_fault v e x a b h i f is same stems =
     subst (λ (k : Verb). IsAnswer k e a b h i (Err f)) (sym is) (subst (λ (y : List ℕ). IsStemmed a b y h i (Err f)) same stems)
+
+pub answer_filter : (v : Verb) (e x : List ℕ) (a b h i : Option (List ℕ)) → v ≡ verb.Filter → x ≡ e → IsFiltered a b x h i (Ok tt) → IsAnswer v e a b h i (Ok 0)
+answer_filter v e x a b h i is same rows =
+    subst (λ (k : Verb). IsAnswer k e a b h i (Ok 0)) (sym is) (subst (λ (y : List ℕ). IsFiltered a b y h i (Ok tt)) same rows, refl)
+
+pub answer_filter_fault : (v : Verb) (e x : List ℕ) (a b h i : Option (List ℕ)) (f : LoadFault) → v ≡ verb.Filter → x ≡ e → IsFiltered a b x h i (Err f)
+    → IsAnswer v e a b h i (Err f)
+answer_filter_fault v e x a b h i f is same rows =
+    subst (λ (k : Verb). IsAnswer k e a b h i (Err f)) (sym is) (subst (λ (y : List ℕ). IsFiltered a b y h i (Err f)) same rows)
 
 pub answer_check : (v : Verb) (e x : List ℕ) (a b h i : Option (List ℕ)) (r : Result ℕ LoadFault) → v ≡ verb.Check → x ≡ e → IsWholeCheck a b x h i r
     → IsAnswer v e a b h i r

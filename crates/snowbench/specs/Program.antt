@@ -2,26 +2,29 @@
 use Rattle.std.specs.Prelude.{◌≡◌, ◌⊎◌, ◌++◌, ◌==◌, ℕ, List, [], ◌∷◌, Option, Result, Ok, Err, codes, if◌then◌else◌, take}
 use Rattle.std.specs.Io.KnownBytes.{Appends, Keeps}
 use Rattle.sbl_command_line.specs.declared.command_line.Verb.{Verb}
-use Rattle.sbl_command_line.specs.declared.command_line.Verb.TheVariants.{Session, Stem, Check, Work}
+use Rattle.sbl_command_line.specs.declared.command_line.Verb.TheVariants.{Session, Stem, Filter, Check, Work}
 use Rattle.sbl_sessions.specs.declared.faults.LoadFault.{LoadFault}
 use Rattle.sbl_sessions.specs.declared.faults.LoadFault.TheVariants.{Input}
 use Rattle.sbl_lines.specs.Devices.{HasStopped}
 use Rattle.sbl_lines.specs.Held.{HasCause}
 use Rattle.sbl_lines.specs.declared.lines.Lines.{Lines}
 use Rattle.sbl_lines.specs.declared.faults.ServeFault.TheVariants as fault
+use Rattle.sbl_filter.specs.Filter.{IsFiltered}
 use Rattle.snowbench.specs.Stemmed.{IsStemmed}
 use Rattle.snowbench.specs.WholeCheck.{IsWholeCheck}
 use Rattle.snowbench.specs.WholeSession.{IsWholeSession}
 
 -- ---- what is written
 
--- What a subcommand with this external writes for an input, and the number of differences or the fault; `session` and `stem`
--- have no differences. `work` has an entry of its own: here it reads and writes nothing.
+-- What a subcommand with this external writes for an input, and the number of differences or the fault; only `check` has
+-- differences. `work` has an entry of its own: here it reads and writes nothing.
 abbrev pub IsAnswer : Verb → List ℕ → Option (List ℕ) → Option (List ℕ) → Option (List ℕ) → Option (List ℕ) → Result ℕ LoadFault → Type 0
 IsAnswer Session external input left held new_held (Ok n) = IsWholeSession input left external held new_held (Ok tt) × (n ≡ 0)
 IsAnswer Session external input left held new_held (Err f) = IsWholeSession input left external held new_held (Err f)
 IsAnswer Stem external input left held new_held (Ok n) = IsStemmed input left external held new_held (Ok tt) × (n ≡ 0)
 IsAnswer Stem external input left held new_held (Err f) = IsStemmed input left external held new_held (Err f)
+IsAnswer Filter external input left held new_held (Ok n) = IsFiltered input left external held new_held (Ok tt) × (n ≡ 0)
+IsAnswer Filter external input left held new_held (Err f) = IsFiltered input left external held new_held (Err f)
 IsAnswer Check external input left held new_held result = IsWholeCheck input left external held new_held result
 IsAnswer Work external input left held new_held result = (result ≡ Ok 0) × Keeps input left × Appends held new_held []
 

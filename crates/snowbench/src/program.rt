@@ -13,6 +13,7 @@ ghost use Rattle.snowbench.specs.WholeSession.{IsWholeSession};
 
 use sbl_command_line::{Verb, Wanted};
 use sbl_differences::check;
+use sbl_filter::filter;
 use sbl_lines::{Lines, ServeFault, Sink, Source, write_all};
 use sbl_script::Script;
 use sbl_sessions::{LoadFault, load, read_script, serve, stems_text};
@@ -34,7 +35,8 @@ const MAX_FAULT_LINE: usize = 96;
 /// fault. What was written before the fault stays in `writer`. The keys are those of the hash by which words are found, as in
 /// `Bench::open`.
 ///
-/// `session` loads a bench and answers the commands after it. `stem` loads a bench and writes the row of each word.
+/// `session` loads a bench and answers the commands after it. `stem` loads a bench and writes the row of each word. `filter`
+/// writes the row of each word before it reads the next.
 /// `check` reads a script block, a block of words and the expected stems up to the end of input, all before it runs
 /// anything, and then writes a row for each difference.
 pub fn run<R: Source + Drop, W: Sink, E: Sink>(
@@ -95,6 +97,10 @@ fn answer<R: Source + Drop, W: Sink>(
         }
         Verb::Stem => {
             stem(lines, keys, external, writer)?;
+            Ok(0)
+        }
+        Verb::Filter => {
+            filter(lines, external, writer)?;
             Ok(0)
         }
         Verb::Check => check_input(lines, external, writer),

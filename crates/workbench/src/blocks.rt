@@ -63,6 +63,13 @@ fn push_block(input: &mut Vec<u8>, block: &[u8]) -> Result<(), AllocError> {
     input.extend_from_slice(b".\n")
 }
 
+/// Returns the input with a script alone, before the first word.
+pub(crate) fn script_block(alloc: Global, script: &[u8]) -> Result<Vec<u8>, AllocError> {
+    let mut input = Vec::new(alloc);
+    push_block(&mut input, script)?;
+    Ok(input)
+}
+
 /// Returns the input with a script, words, and what follows them.
 pub(crate) fn compose(
     alloc: Global,

@@ -10,7 +10,7 @@ mod sessions;
 mod streams;
 
 use crate::messages::{FAILED, NO_KEYS, NO_MEMORY, REFUSED, fail_memory, plain_text};
-use crate::sessions::{Named, reads_twice, run_check, run_input, run_session};
+use crate::sessions::{Named, reads_twice, run_check, run_filter, run_input, run_session};
 use clap::error::ErrorKind;
 use sbl_work::{Paths, work};
 use snowbench::{Device, Face, Lines, Verb, Wanted, read_words};
@@ -95,6 +95,9 @@ fn run_files(rt: &HostRuntime, wanted: &Wanted, script: &str) -> u8 {
         Some(words) => words.as_str(),
         None => "-",
     };
+    if wanted.verb == Verb::Filter {
+        return run_filter(rt, wanted, script);
+    }
     if wanted.verb == Verb::Check {
         return check_files(rt, wanted, script, words);
     }

@@ -1,6 +1,6 @@
 //! Runs over files, and over standard input.
 
-use crate::blocks::{after_point, compose, line_count, point_line};
+use crate::blocks::{after_point, compose, line_count, point_line, script_block};
 use crate::messages::{FAILED, NO_KEYS, REFUSED, fail_memory, print_line};
 use crate::places::{fault_of, place_text};
 use crate::streams::{Front, Kept, Output};
@@ -287,6 +287,35 @@ fn session_input(rt: &HostRuntime, named: Named<'_>) -> Result<Vec<u8>, u8> {
         Ok(input) => Ok(input),
         Err(_) => Err(fail_memory(rt)),
     }
+}
+
+/// Writes the row of each word of standard input by the script of a file, as they come, and returns the exit status. With the
+/// name `-` the script is at the beginning of standard input.
+pub(crate) fn run_filter(rt: &HostRuntime, wanted: &Wanted, script: &str) -> u8 {
+    if script == "-" {
+        return run_input(rt, wanted);
+    }
+    let text = match read_block(rt, "filter", script, "lines of the script") {
+        Ok(text) => text,
+        Err(status) => return status,
+    };
+    match filter_words(rt, wanted, &text) {
+        Ok((input, ended)) => print_fault(rt, wanted, script, &input, &ended),
+        Err(_) => fail_memory(rt),
+    }
+}
+
+/// Writes the row of each word of standard input by this script. Returns the input before the words, too.
+fn filter_words(
+    rt: &HostRuntime,
+    wanted: &Wanted,
+    script: &[u8],
+) -> Result<(Vec<u8>, Ended), AllocError> {
+    let input = script_block(rt.alloc(), script)?;
+    let reader = input.as_slice().chain(rt.stdin());
+    let mut lines = Lines::new(rt.alloc(), Device::new(reader))?;
+    let ended = run_lines(rt, wanted, &mut lines)?;
+    Ok((input, ended))
 }
 
 /// Compares the stems of the words of a file with those of another, and returns the exit status. Prints how many differ.
