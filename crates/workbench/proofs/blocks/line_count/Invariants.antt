@@ -1,5 +1,5 @@
 use Rattle.std.proofs.Common.{length}
 use Rattle.workbench.proofs.blocks.line_count.Given as goal
 
-abbrev pub decreases-loop-line : goal.decreases-loop-line
-decreases-loop-line l = length l.rest
+abbrev pub decreases-loop-after : goal.decreases-loop-after
+decreases-loop-after l = length l.rest
