@@ -106,44 +106,16 @@ fn part_after(part: LinePart, byte: u8) -> LinePart {
     }
 }
 
-/// A writer, and what the lines written to it were.
+/// What lines were.
 #[derive(Drop)]
-pub(crate) struct Output<W> {
-    inner: W,
+struct Seen {
     part: LinePart,
     lines: u64,
     has_refusal: bool,
-    is_closed: bool,
 }
 
-impl<W> Output<W> {
-    /// Returns the writer before its first write.
-    pub(crate) fn new(inner: W) -> Output<W> {
-        Output {
-            inner,
-            part: LinePart::Nothing,
-            lines: 0,
-            has_refusal: false,
-            is_closed: false,
-        }
-    }
-
-    /// Returns the number of lines that were written.
-    pub(crate) fn lines(&self) -> u64 {
-        self.lines
-    }
-
-    /// Returns whether one of the lines is the reply to a command that was refused.
-    pub(crate) fn has_refusal(&self) -> bool {
-        self.has_refusal
-    }
-
-    /// Returns whether a write failed because the reader of the pipe has closed it.
-    pub(crate) fn is_closed(&self) -> bool {
-        self.is_closed
-    }
-
-    /// Notes bytes that were written.
+impl Seen {
+    /// Notes more bytes of the lines.
     fn note(&mut self, bytes: &[u8]) {
         for byte in bytes {
             if *byte == b'\n' {
@@ -157,13 +129,52 @@ impl<W> Output<W> {
     }
 }
 
+/// A writer, and what the lines written to it were.
+#[derive(Drop)]
+pub(crate) struct Output<W> {
+    inner: W,
+    seen: Seen,
+    is_closed: bool,
+}
+
+impl<W> Output<W> {
+    /// Returns the writer before its first write.
+    pub(crate) fn new(inner: W) -> Output<W> {
+        let seen = Seen {
+            part: LinePart::Nothing,
+            lines: 0,
+            has_refusal: false,
+        };
+        Output {
+            inner,
+            seen,
+            is_closed: false,
+        }
+    }
+
+    /// Returns the number of lines that were written.
+    pub(crate) fn lines(&self) -> u64 {
+        self.seen.lines
+    }
+
+    /// Returns whether one of the lines is the reply to a command that was refused.
+    pub(crate) fn has_refusal(&self) -> bool {
+        self.seen.has_refusal
+    }
+
+    /// Returns whether a write failed because the reader of the pipe has closed it.
+    pub(crate) fn is_closed(&self) -> bool {
+        self.is_closed
+    }
+}
+
 impl<W: Write> Write for Output<W> {
     ghost contents = { λ o. W.contents o.inner };
 
     fn write(&mut self, buf: &[u8]) -> io::Result<usize> {
         match self.inner.write(buf) {
             Ok(count) => {
-                self.note(&buf[..count]);
+                self.seen.note(&buf[..count]);
                 Ok(count)
             }
             Err(error) => {
