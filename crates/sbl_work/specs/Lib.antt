@@ -12,3 +12,4 @@ pub mod HeadReader
 pub mod Commands
 pub mod Replies
 pub mod ReplyViews
+pub mod Works

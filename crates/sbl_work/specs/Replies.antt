@@ -94,7 +94,7 @@ abbrev pub IsLargestReply : Option ℕ → Contents → State → List ℕ → C
 IsLargestReply None s d text t e = TellsAlone bad_number_text s d text t e
 IsLargestReply (Some n) s d text t e = TellsReport (largest_text n s) s d text t e
 
--- The reply to a command.
+-- The reply to a command. A file that is to be written may need memory for its text.
 abbrev pub IsWorkReply : Contents → State → WorkCommand → List ℕ → Contents → State → Type 0
 IsWorkReply s d Nothing text t e = TellsAlone [] s d text t e
 IsWorkReply s d (Session command) text t e = IsTextAnswer s command text t × IsLimitNoted s t d e
@@ -111,6 +111,6 @@ IsWorkReply s d (Families bytes) text t e = TellsReport (families_reply_text s b
 IsWorkReply s d (Why word) text t e = TellsReport (why_reply_text s word) s d text t e
 IsWorkReply s d (Integers word) text t e = TellsReport (integers_reply_text s word) s d text t e
 IsWorkReply s d (Show name) text t e = IsDefinitionReply (definition_text s.setting.script name) s d text t e
-IsWorkReply s d Saved text t e = TellsAlone (edit_text None) s d text t e
+IsWorkReply s d Saved text t e = TellsReport (edit_text None) s d text t e
 IsWorkReply s d NoFile text t e = TellsAlone no_file_text s d text t e
 IsWorkReply s d (Echo echoed) text t e = TellsReport (ended echoed) s d text t e

@@ -9,7 +9,6 @@ use Rattle.sbl_bench.specs.Contents.{Contents}
 use Rattle.sbl_bench.specs.declared.fault.EditFault.{EditFault}
 use Rattle.sbl_bench.specs.declared.fault.EditFault.TheVariants as edit
 use Rattle.sbl_script.specs.Edits.{ScriptEdit}
-use Rattle.sbl_sessions.specs.Answers.{edit_text}
 use Rattle.sbl_sessions.specs.Block.{max_script}
 use Rattle.sbl_sessions.specs.CommandViews.{FindsTarget, IsReply}
 use Rattle.sbl_sessions.specs.Commands.{line_command}
@@ -54,12 +53,9 @@ view_request file line variants.Session = command.Session (line_command line)
 abbrev pub IsWorkAnswer : Contents → State → WorkCommand → Reply → Contents → State → Type 0
 IsWorkAnswer s d c r t e = (text : List ℕ) × IsReply r text × IsWorkReply s d c text t e
 
--- The reply to a line without a block: for some bytes of its file, if it needs one, since no definition says what a file has; or
--- an allocation for the text to be saved fails.
+-- the reply to a line without a block, for some bytes of its file, if it needs one
 abbrev pub IsFileAnswer : Contents → State → List ℕ → Reply → Contents → State → Type 0
-IsFileAnswer s d line r t e =
-    ((file : Option (List ℕ)) × IsWorkAnswer s d (alone_command file line) r t e)
-    ⊎ (IsReply r (edit_text (Some edit.OutOfMemory)) × (t ≡ s) × (e ≡ d))
+IsFileAnswer s d line r t e = (file : Option (List ℕ)) × IsWorkAnswer s d (alone_command file line) r t e
 
 -- ---- a line and its block
 

@@ -1,11 +1,14 @@
 //! Work: each request gets its reply before the next line is read.
 
-ghost use Rattle.std.specs.Prelude.{◌≤◌, OnOk};
+ghost use Rattle.std.specs.Prelude.{◌≡◌, ◌≤◌, [], IfErr, IfOk, None, OnOk, Some};
 ghost use Rattle.sbl_bench.specs.Kept.{contents_of};
 ghost use Rattle.sbl_lines.specs.Devices.{WritesInTime};
-ghost use Rattle.sbl_lines.specs.Held.{KeepsTime, fuel_of};
+ghost use Rattle.sbl_lines.specs.Faults.{left_by};
+ghost use Rattle.sbl_lines.specs.Held.{KeepsTime, fault_of, fuel_of, input_of, line_of};
+ghost use Rattle.sbl_work.specs.Commands as spec;
 ghost use Rattle.sbl_work.specs.Desks.{state_of};
 ghost use Rattle.sbl_work.specs.ReplyViews.{IsFileAnswer};
+ghost use Rattle.sbl_work.specs.Works.{BreaksWork, IsWork, IsWorkAnswered};
 
 use crate::answers::answer_line;
 use crate::desk::Desk;
@@ -69,7 +72,7 @@ fn families<F: Files + AllocGlobal>(
     }
 }
 
-/// Writes the text of the script in force to a file, and returns the reply.
+/// Writes the text of the script in force to a file, and returns the reply to the line, which is `save` with the path of this file.
 fn save_as<F: Files + AllocGlobal>(
     folder: &mut Folder<'_, F>,
     desk: &mut Desk,
@@ -78,7 +81,7 @@ fn save_as<F: Files + AllocGlobal>(
     line: &[u8],
     path: &str,
 ) -> Reply
-    ensures { IsFileAnswer (contents_of bench.old) (state_of desk.old) line.now result (contents_of bench.new) (state_of desk.new) }
+    ensures { spec.alone_command (Some []) line.now ≡ spec.Saved → IsFileAnswer (contents_of bench.old) (state_of desk.old) line.now result (contents_of bench.new) (state_of desk.new) }
 {
     let Ok(text) = desk.text(bench) else {
         return edit_reply(Err(EditFault::OutOfMemory));
@@ -107,13 +110,17 @@ fn answer_alone<F: Files + AllocGlobal>(
 }
 
 /// Makes the edit or the report that the current line asks for, with the block after it if it asks for one, and returns the
-/// reply.
+/// reply. If the block is not read to its end, makes no edit and returns the fault.
 fn answer<F: Files + AllocGlobal, R: Source + Drop>(
     folder: &mut Folder<'_, F>,
     desk: &mut Desk,
     bench: &mut Bench,
     lines: &mut Lines<R>,
 ) -> Result<Reply, ServeFault>
+    requires ready { fault_of lines.old ≡ None }
+    ensures answered { IfOk result (λ reply. IsWorkAnswered (input_of R.left lines.old) (input_of R.left lines.new) (line_of lines.old) (contents_of bench.old) (state_of desk.old) reply (contents_of bench.new) (state_of desk.new)) }
+    ensures broken { IfErr result (λ fault. BreaksWork (input_of R.left lines.old) (input_of R.left lines.new) (line_of lines.old) fault × (contents_of bench.new ≡ contents_of bench.old) × (state_of desk.new ≡ state_of desk.old)) }
+    ensures remembered { fault_of lines.new ≡ left_by result }
     ensures fuel { OnOk result (fuel_of lines.new ≤ fuel_of lines.old) }
     ensures in_time { KeepsTime R.ended R.late R.interruptions R.reads lines.old lines.new }
 {
@@ -124,7 +131,7 @@ fn answer<F: Files + AllocGlobal, R: Source + Drop>(
     Ok(answer_block(lines.alloc(), desk, bench, request, block))
 }
 
-/// Replies to each request of the input in turn, up to `quit` or the end of input.
+/// Replies to each request of the input in turn, up to `quit` or the end of input. Before each line the prompt is written.
 fn serve<F: Files + AllocGlobal, R: Source + Drop, W: Sink>(
     folder: &mut Folder<'_, F>,
     desk: &mut Desk,
@@ -133,6 +140,7 @@ fn serve<F: Files + AllocGlobal, R: Source + Drop, W: Sink>(
     lines: &mut Lines<R>,
     writer: &mut W,
 ) -> Result<(), ServeFault>
+    ensures work { fault_of lines.old ≡ None → IsWork prompt.now (input_of R.left lines.old) (input_of R.left lines.new) (W.held writer.old) (W.held writer.new) (contents_of bench.old) (state_of desk.old) (contents_of bench.new) (state_of desk.new) result }
     ensures reads_in_time { KeepsTime R.ended R.late R.interruptions R.reads lines.old lines.new }
     ensures writes_in_time { WritesInTime W.late W.interruptions writer.old writer.new }
 {
