@@ -102,11 +102,21 @@ pub fn block_request(alloc: Global, line: &[u8]) -> Option<BlockRequest>
     None
 }
 
+/// Whether a line begins with `#`.
+fn is_comment(line: &[u8]) -> bool
+    ensures { result ≡ spec.is_comment line.now }
+{
+    if line.is_empty() {
+        return false;
+    }
+    line[0] == b'#'
+}
+
 /// Returns what a line without a block asks for.
 pub(crate) fn request_of(line: &[u8]) -> Request<'_>
     ensures { (file : Option (List ℕ)) → view_request file line.now result ≡ spec.alone_command file line.now }
 {
-    if line.first() == Some(&b'#') {
+    if is_comment(line) {
         return Request::Comment;
     }
     let (word, argument) = split(line);
