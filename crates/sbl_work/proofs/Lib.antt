@@ -4,4 +4,3 @@ pub mod LineFacts
 pub mod FamilyFacts
 pub mod HeadFacts
 pub mod ReplyFacts
-pub mod WorkFacts

@@ -1,8 +1,9 @@
 -- The replies to lines with a block.
 use Rattle.std.proofs.Common.{◌≡◌, ◌⊎◌, inl, inr, ◌∙◌, ◌<◌, ◌≤◌, ℕ, Bool, true, false, List, [], Option, Some, None, Result, Ok, Err, if◌then◌else◌, length, nat_lt, codes, refl, sym, ap, subst, arith}
-use Rattle.std.proofs.lemmas.Bool.{nat_tests}
+use Rattle.std.proofs.lemmas.Bool.Decides.{nat_tests}
 use Rattle.std.specs.Option.{is_some}
-use Rattle.std.specs.Str.{bytes_eq, is_utf8}
+use Rattle.std.proofs.lemmas.Str.{IsUtf8-from_is_utf8, is_utf8-from_IsUtf8}
+use Rattle.std.specs.Str.{IsUtf8, bytes_eq, chars, is_utf8}
 use Rattle.std.specs.declared.alloc.AllocError.{AllocError}
 use Rattle.std.specs.declared.alloc.Global.{Global}
 use Rattle.std.specs.declared.vec.Vec.{Vec}
@@ -22,11 +23,12 @@ use Rattle.sbl_sessions.specs.declared.replies.Reply.{Reply}
 use Rattle.sbl_text.specs.declared.fault.ScriptFault.{ScriptFault}
 use Rattle.sbl_text.specs.declared.fault.ScriptFault.TheVariants as script
 use Rattle.sbl_work.specs.Commands as command
-use Rattle.sbl_work.specs.Commands.{WorkCommand, block_command, families_command, is_replace, part_command, replace_command}
+use Rattle.sbl_work.specs.Commands.{WorkCommand, alone_command, block_command, families_command, is_replace, part_command, replace_command}
 use Rattle.sbl_work.specs.Desks.{State}
 use Rattle.sbl_work.specs.Editing.{Replaces}
-use Rattle.sbl_work.specs.Replies.{IsWorkReply}
-use Rattle.sbl_work.specs.ReplyViews.{IsPartResult, IsTextResult, IsWorkAnswer, NamesText}
+use Rattle.sbl_work.specs.Families.{families_in, families_text}
+use Rattle.sbl_work.specs.Replies.{IsWorkReply, TellsReport, not_text_text}
+use Rattle.sbl_work.specs.ReplyViews.{IsFamiliesAnswer, IsFileAnswer, IsPartResult, IsTextResult, IsWorkAnswer, NamesText}
 use Rattle.sbl_work.proofs.Refusing.{nothing_tried}
 
 -- ---- any command
@@ -34,6 +36,22 @@ use Rattle.sbl_work.proofs.Refusing.{nothing_tried}
 -- the reply to one command is that to another name of it
 pub same_command : (s t : Contents) (d e : State) (a b : WorkCommand) (r : Reply) → a ≡ b → IsWorkAnswer s d a r t e → IsWorkAnswer s d b r t e
 same_command s t d e a b r is answer = subst (λ (x : WorkCommand). IsWorkAnswer s d x r t e) is answer
+
+-- a report, or memory for it is refused
+pub told : (s : Contents) (d : State) (report : List ℕ) (r : Reply) → IsReply r report ⊎ IsReply r (edit_text (Some fault.OutOfMemory)) → (text : List ℕ) × IsReply r text × TellsReport report s d text s d
+told s d report r (inl shown) = (report, shown, inl (refl, refl, refl))
+told s d report r (inr shown) = (edit_text (Some fault.OutOfMemory), shown, inr (refl, refl, refl))
+
+pub no_utf8 : (bytes : List ℕ) → ¬ (IsUtf8 bytes) → is_utf8 bytes ≡ false
+no_utf8 bytes not = by (is_utf8 bytes) refl
+  where
+    by : (t : Bool) → is_utf8 bytes ≡ t → is_utf8 bytes ≡ false
+    by true e = absurd (not (IsUtf8-from_is_utf8 bytes e))
+    by false e = e
+
+-- an allocation for the text to be saved fails
+pub save_memory : (s : Contents) (d : State) (line : List ℕ) (r : Reply) → alone_command (Some []) line ≡ command.Saved → IsReply r (edit_text (Some fault.OutOfMemory)) → IsFileAnswer s d line r s d
+save_memory s d line r is shown = (Some [], same_command s s d d command.Saved (alone_command (Some []) line) r (sym is) (edit_text (Some fault.OutOfMemory), shown, inr (refl, refl, refl)))
 
 -- ---- a whole script
 
@@ -121,7 +139,22 @@ part_held s t d e what bytes lines result r same few so shown = by (is_utf8 (mad
         same_command s t d e (part_command (Some what) (Err script.NotUtf8)) (part_command (Some what) (text_of_block lines)) r (ap (part_command (Some what)) (sym (text_is lines false few is)))
         (edit_text (fault_in result), shown, ((Enough, (ap (λ (x : Result (Unit {0}) EditFault). edit_text (fault_in x)) bad.0, bad.1)), inl (ap (λ (x : Contents). x.setting.limit) bad.1, bad.2)))
 
+-- ---- the bytes of a part
+
+pub part_bytes : (s : Contents) (d : State) (what : ScriptEdit) (bytes : List ℕ) → ¬ (IsUtf8 bytes) → IsPartResult (Err (fault.Script script.NotUtf8)) what bytes s d s d
+part_bytes s d what bytes not = rw (no_utf8 bytes not) (refl, refl, refl)
+
+pub part_utf8 : (s t : Contents) (d e : State) (what : ScriptEdit) (text bytes : List ℕ) (result : Result (Unit {0}) EditFault) → text ≡ bytes → IsUtf8 bytes
+    → IsTextResult result what text s d t e → IsPartResult result what bytes s d t e
+part_utf8 s t d e what text bytes result same utf8 so = rw (is_utf8-from_IsUtf8 bytes utf8) (subst (λ (b : List ℕ). IsTextResult result what b s d t e) same so)
+
 -- ---- families
+
+pub families_utf8 : (s : Contents) (d : State) (text bytes : List ℕ) (r : Reply) → text ≡ bytes → IsUtf8 bytes → IsFamiliesAnswer s d text r → IsWorkAnswer s d (command.Families bytes) r s d
+families_utf8 s d text bytes r same utf8 answer = rw (is_utf8-from_IsUtf8 bytes utf8) (subst (λ (b : List ℕ). IsFamiliesAnswer s d b r) same answer)
+
+pub families_bytes : (s : Contents) (d : State) (bytes : List ℕ) (r : Reply) → ¬ (IsUtf8 bytes) → IsReply r not_text_text → IsWorkAnswer s d (command.Families bytes) r s d
+families_bytes s d bytes r not shown = rw (no_utf8 bytes not) (not_text_text, shown, inl (refl, refl, refl))
 
 pub families_held : (s : Contents) (d : State) (bytes : List ℕ) (lines : List (List ℕ)) (r : Reply) → bytes ≡ made_text lines → length (made_text lines) ≤ max_script
     → IsWorkAnswer s d (command.Families bytes) r s d → IsWorkAnswer s d (families_command lines) r s d
@@ -150,3 +183,8 @@ pub part_block : (s t : Contents) (d e : State) (line : List ℕ) (lines : List 
     → IsWorkAnswer s d (part_command (target_of line) (text_of_block lines)) r t e
     → IsWorkAnswer s d (if asked then part_command (target_of line) (text_of_block lines) else (if is_replace line then replace_command line lines else families_command lines)) r t e
 part_block s t d e line lines r asked is answer = rw is answer
+
+pub families_block : (s t : Contents) (d e : State) (line : List ℕ) (lines : List (List ℕ)) (r : Reply) (asked replaces : Bool) → asked ≡ false → replaces ≡ false
+    → IsWorkAnswer s d (families_command lines) r t e
+    → IsWorkAnswer s d (if asked then part_command (target_of line) (text_of_block lines) else (if replaces then replace_command line lines else families_command lines)) r t e
+families_block s t d e line lines r asked replaces is other answer = rw (is, other) answer

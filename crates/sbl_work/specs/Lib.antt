@@ -12,4 +12,3 @@ pub mod HeadReader
 pub mod Commands
 pub mod Replies
 pub mod ReplyViews
-pub mod Works

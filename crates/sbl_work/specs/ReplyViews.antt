@@ -20,7 +20,8 @@ use Rattle.sbl_work.specs.Commands.{WorkCommand, alone_command, count_in, famili
 use Rattle.sbl_work.specs.Desks.{State}
 use Rattle.sbl_work.specs.Editing.{ReplacesPart}
 use Rattle.sbl_work.specs.Heads.{IsWithoutHead}
-use Rattle.sbl_work.specs.Replies.{IsWorkReply}
+use Rattle.sbl_work.specs.Families.{families_in, families_text}
+use Rattle.sbl_work.specs.Replies.{IsWorkReply, TellsReport}
 use Rattle.sbl_work.specs.declared.requests.BlockRequest.{BlockRequest}
 use Rattle.sbl_work.specs.declared.requests.BlockRequest.TheVariants as blocks
 use Rattle.sbl_work.specs.declared.requests.Request.{Request}
@@ -64,6 +65,10 @@ abbrev pub FindsBlock : BlockRequest → List ℕ → Type 0
 FindsBlock (blocks.Part target) line = (asks_block line ≡ true) × FindsTarget target line
 FindsBlock (blocks.Whole is_good) line = (asks_block line ≡ false) × (is_replace line ≡ true) × (is_good ≡ bytes_eq line (codes "replace"))
 FindsBlock blocks.Families line = (asks_block line ≡ false) × (is_replace line ≡ false) × (bytes_eq line (codes "families") ≡ true)
+
+-- the report of the families of a text, or an allocation for it fails; nothing is changed
+abbrev pub IsFamiliesAnswer : Contents → State → List ℕ → Reply → Type 0
+IsFamiliesAnswer s d text r = (report : List ℕ) × IsReply r report × TellsReport (families_text s (families_in (chars text))) s d report s d
 
 -- the bytes of a text; or it is too long for a script, or an allocation failed
 abbrev pub NamesText : Result (Vec ℕ Global) EditFault → List ℕ → Type 0

@@ -9,7 +9,7 @@ ghost use Rattle.sbl_sessions.specs.Commands.{target_of, text_of_block};
 ghost use Rattle.sbl_work.specs.Commands as spec;
 ghost use Rattle.sbl_work.specs.Desks.{State, state_of};
 ghost use Rattle.sbl_work.specs.Editing.{Replaces};
-ghost use Rattle.sbl_work.specs.ReplyViews.{FindsBlock, IsPartResult, IsWorkAnswer, NamesText};
+ghost use Rattle.sbl_work.specs.ReplyViews.{FindsBlock, IsFamiliesAnswer, IsPartResult, IsWorkAnswer, NamesText};
 
 use crate::definitions::without_head;
 use crate::desk::Desk;
@@ -105,12 +105,19 @@ fn replace_reply(desk: &mut Desk, bench: &mut Bench, is_good: bool, block: Block
     }
 }
 
+/// Returns the reply to `families`, for the text of the families.
+fn families_text_reply(alloc: Global, bench: &Bench, text: &str) -> Reply
+    ensures { (d : State) → IsFamiliesAnswer (contents_of bench.now) d text.now result }
+{
+    report(families_text(alloc, bench, text))
+}
+
 /// Returns the reply to `families`, for the bytes of the families.
 pub(crate) fn families_reply(alloc: Global, bench: &Bench, bytes: &[u8]) -> Reply
     ensures { (d : State) → IsWorkAnswer (contents_of bench.now) d (spec.Families bytes.now) result (contents_of bench.now) d }
 {
     match str::from_utf8(bytes) {
-        Ok(text) => report(families_text(alloc, bench, text)),
+        Ok(text) => families_text_reply(alloc, bench, text),
         Err(_) => Reply::Fixed(NOT_TEXT),
     }
 }

