@@ -153,8 +153,8 @@ part_utf8 s t d e what text bytes result same utf8 so = rw (is_utf8-from_IsUtf8 
 pub families_utf8 : (s : Contents) (d : State) (text bytes : List ℕ) (r : Reply) → text ≡ bytes → IsUtf8 bytes → IsFamiliesAnswer s d text r → IsWorkAnswer s d (command.Families bytes) r s d
 families_utf8 s d text bytes r same utf8 answer = rw (is_utf8-from_IsUtf8 bytes utf8) (subst (λ (b : List ℕ). IsFamiliesAnswer s d b r) same answer)
 
-pub families_bytes : (s : Contents) (d : State) (bytes : List ℕ) (r : Reply) → ¬ (IsUtf8 bytes) → IsReply r not_text_text → IsWorkAnswer s d (command.Families bytes) r s d
-families_bytes s d bytes r not shown = rw (no_utf8 bytes not) (not_text_text, shown, inl (refl, refl, refl))
+pub families_bytes : (s : Contents) (d : State) (bytes : List ℕ) → ¬ (IsUtf8 bytes) → (text : List ℕ) × (not_text_text ≡ text) × IsWorkReply s d (command.Families bytes) text s d
+families_bytes s d bytes not = rw (no_utf8 bytes not) (not_text_text, refl, inl (refl, refl, refl))
 
 pub families_held : (s : Contents) (d : State) (bytes : List ℕ) (lines : List (List ℕ)) (r : Reply) → bytes ≡ made_text lines → length (made_text lines) ≤ max_script
     → IsWorkAnswer s d (command.Families bytes) r s d → IsWorkAnswer s d (families_command lines) r s d
