@@ -1,7 +1,7 @@
 -- The words of a definition, read one after another.
-use Rattle.std.proofs.Common.{◌≡◌, ◌≢◌, ◌⊎◌, inl, inr, ◌∙◌, ◌++◌, ◌+◌, ◌-◌, ◌≤◌, ◌<◌, ◌&&◌, ℕ, Bool, true, false, List, [], ◌∷◌, Option, Some, None, Result, Ok, Err, IfOk, MatchOption, length, drop, codes, slice_range, encode_utf8_all, refl, sym, ap, subst, append_assoc, arith}
+use Rattle.std.proofs.Common.{◌≡◌, ◌≢◌, ◌⊎◌, inl, inr, ◌∙◌, ◌++◌, ◌-◌, ◌&&◌, ℕ, Bool, true, false, List, [], ◌∷◌, Option, Some, None, Result, Ok, Err, IfOk, MatchOption, length, drop, slice_range, encode_utf8_all, refl, sym, ap, subst, append_assoc, arith}
 use Rattle.std.proofs.lemmas.List.{length-drop, take_all}
-use Rattle.std.proofs.lemmas.Str.{IsCharBoundary-at_seam, IsCharBoundary-end, encodes-append, encodes-chars, scalars-chars}
+use Rattle.std.proofs.lemmas.Str.{IsCharBoundary-at_seam, encodes-append, encodes-chars, scalars-chars}
 use Rattle.std.proofs.Math.Seq.{drop-append_seam}
 use Rattle.std.proofs.Math.Utf8.{scalars}
 use Rattle.std.specs.Str.{IsCharBoundary, IsUtf8, chars}
@@ -12,8 +12,8 @@ use Rattle.sbl_text.specs.Tokens.{IsAnswer, IsFresh, IsNext, Reading, Stops, beg
 use Rattle.sbl_text.specs.declared.fault.ScriptFault.{ScriptFault}
 use Rattle.sbl_text.specs.declared.fault.ScriptFault.TheVariants as fault
 use Rattle.sbl_text.proofs.Lists.{bytes_append}
-use Rattle.sbl_work.specs.Heads.{Follows, IsWithout}
-use Rattle.sbl_work.specs.HeadReader.{IsAfterWord, IsEndOf, as_words, head_words}
+use Rattle.sbl_work.specs.Heads.{Follows}
+use Rattle.sbl_work.specs.HeadReader.{IsAfterWord, IsEndOf}
 
 fresh : (r t : Reading) (result : Result (Option Token) ScriptFault) → r.fault ≡ None → IsNext r t result → IsFresh r t result
 fresh r t result none next = subst (λ (f : Option ScriptFault). IsAnswer f r t result) none next

@@ -1,11 +1,11 @@
 -- The argument of a line, and the number above 0 in it.
-use Rattle.std.proofs.Common.{◌≡◌, ◌≢◌, ◌==◌, codes, Bool, ◌∙◌, ◌+◌, ◌≤◌, ◌<◌, ℕ, zero, suc, true, false, List, [], ◌∷◌, Option, Some, None, length, drop, get_or, min, refl, sym, ap, arith}
+use Rattle.std.proofs.Common.{◌≡◌, ◌≢◌, ◌==◌, codes, ◌∙◌, ◌+◌, ◌≤◌, ◌<◌, ℕ, zero, suc, true, false, List, [], ◌∷◌, Option, Some, None, length, drop, get_or, min, refl, sym, ap, arith}
 use Rattle.std.proofs.lemmas.List.Sums.{position_or_len_is}
 use Rattle.std.proofs.lemmas.List.{drop_all}
 use Rattle.std.specs.Option.{option_and_then}
 use Rattle.sbl_text.specs.Classes.{is_digit}
 use Rattle.sbl_text.specs.Tokens.{digits_value}
-use Rattle.sbl_sessions.specs.Numbers.{max_number, number_in}
+use Rattle.sbl_sessions.specs.Numbers.{max_number}
 use Rattle.std.specs.Str.{bytes_eq, is_utf8}
 use Rattle.sbl_sessions.specs.Commands.{line_command}
 use Rattle.sbl_work.specs.Commands.{Echo, Nothing, Session, alone_command, count_in, is_comment, positive, text_command}

@@ -1,12 +1,9 @@
 -- The replies to lines with a block.
-use Rattle.std.proofs.Common.{◌≡◌, ◌⊎◌, inl, inr, ◌∙◌, ◌<◌, ◌≤◌, ℕ, Bool, true, false, List, [], Option, Some, None, Result, Ok, Err, if◌then◌else◌, length, nat_lt, codes, refl, sym, ap, subst, arith}
+use Rattle.std.proofs.Common.{◌≡◌, ◌⊎◌, inl, inr, ◌<◌, ◌≤◌, ℕ, Bool, true, false, List, [], Option, Some, None, Result, Ok, Err, if◌then◌else◌, length, nat_lt, codes, refl, sym, ap, subst, arith}
 use Rattle.std.proofs.lemmas.Bool.Decides.{nat_tests}
 use Rattle.std.specs.Option.{is_some}
 use Rattle.std.proofs.lemmas.Str.{IsUtf8-from_is_utf8, is_utf8-from_IsUtf8}
-use Rattle.std.specs.Str.{IsUtf8, bytes_eq, chars, is_utf8}
-use Rattle.std.specs.declared.alloc.AllocError.{AllocError}
-use Rattle.std.specs.declared.alloc.Global.{Global}
-use Rattle.std.specs.declared.vec.Vec.{Vec}
+use Rattle.std.specs.Str.{IsUtf8, bytes_eq, is_utf8}
 use Rattle.sbl_bench.specs.Contents.{Contents}
 use Rattle.sbl_bench.specs.Edits.{Edits, Whole}
 use Rattle.sbl_bench.specs.declared.fault.EditFault.{EditFault}
@@ -14,11 +11,9 @@ use Rattle.sbl_bench.specs.declared.fault.EditFault.TheVariants as fault
 use Rattle.sbl_script.specs.Edits.{ScriptEdit}
 use Rattle.sbl_sessions.specs.Answers.{BlockRefused, Enough, edit_text, ended}
 use Rattle.sbl_sessions.specs.Block.{made_text, max_script}
-use Rattle.sbl_sessions.specs.CommandViews.{FindsTarget, IsReply, view_found}
+use Rattle.sbl_sessions.specs.CommandViews.{FindsTarget, IsReply}
 use Rattle.sbl_sessions.specs.Commands.{target_of, text_of_block}
-use Rattle.sbl_sessions.specs.Commands as session
 use Rattle.sbl_sessions.specs.Edits.{fault_in}
-use Rattle.sbl_sessions.specs.declared.commands.Target.{Target}
 use Rattle.sbl_sessions.specs.declared.replies.Reply.{Reply}
 use Rattle.sbl_text.specs.declared.fault.ScriptFault.{ScriptFault}
 use Rattle.sbl_text.specs.declared.fault.ScriptFault.TheVariants as script
@@ -26,7 +21,6 @@ use Rattle.sbl_work.specs.Commands as command
 use Rattle.sbl_work.specs.Commands.{WorkCommand, alone_command, block_command, families_command, is_replace, part_command, replace_command}
 use Rattle.sbl_work.specs.Desks.{State}
 use Rattle.sbl_work.specs.Editing.{Replaces}
-use Rattle.sbl_work.specs.Families.{families_in, families_text}
 use Rattle.sbl_work.specs.Replies.{IsWorkReply, TellsReport, not_text_text}
 use Rattle.sbl_work.specs.ReplyViews.{IsFamiliesAnswer, IsFileAnswer, IsPartResult, IsTextResult, IsWorkAnswer, NamesText}
 use Rattle.sbl_work.proofs.Refusing.{nothing_tried}

@@ -1,5 +1,5 @@
 -- The report of families.
-use Rattle.std.specs.Prelude.{ℕ, Bool, true, false, ◌==◌, ◌||◌, List, [], ◌∷◌, ◌++◌, codes, decimal, map}
+use Rattle.std.specs.Prelude.{ℕ, Bool, true, false, ◌==◌, ◌||◌, List, [], ◌∷◌, codes, decimal, map}
 use Rattle.std.specs.List.{filter, slice_split}
 use Rattle.sbl_bench.specs.Contents.{Contents}
 use Rattle.sbl_changes.specs.Families.{FamilyResult, Under, Over, Pairs, family_results}

@@ -4,11 +4,12 @@ pub mod Desks
 pub mod Editing
 pub mod Reports
 pub mod Families
-pub mod FamilyReader
 pub mod Definitions
 pub mod Splicing
 pub mod Heads
-pub mod HeadReader
 pub mod Commands
 pub mod Replies
 pub mod ReplyViews
+-- definitions that functions inside the crate promise each other
+pub mod FamilyReader
+pub mod HeadReader

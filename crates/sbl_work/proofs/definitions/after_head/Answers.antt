@@ -1,4 +1,4 @@
-use Rattle.std.proofs.Common.{rules, ◌≡◌, ◌∙◌, ℕ, Some, length, slice_range, subst}
+use Rattle.std.proofs.Common.{rules, ◌≡◌, ◌∙◌, Some, length, slice_range, subst}
 use Rattle.std.proofs.lemmas.Str.{IsCharBoundary-end}
 use Rattle.sbl_work.specs.HeadReader.{IsEndOf, head_words}
 use Rattle.sbl_work.proofs.HeadFacts.{is_boundary, rest_is, slice_is}

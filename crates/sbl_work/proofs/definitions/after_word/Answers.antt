@@ -1,5 +1,4 @@
-use Rattle.std.proofs.Common.{rules, ◌≡◌, ◌≢◌, Some, None, Ok, Err, subst}
-use Rattle.sbl_text.specs.Tokens.{IsNext}
+use Rattle.std.proofs.Common.{rules, ◌≡◌, ◌≢◌, Some, None, Ok}
 use Rattle.sbl_text.specs.declared.fault.ScriptFault.TheVariants as fault
 use Rattle.sbl_work.proofs.HeadFacts.{word_end, word_fault, word_if}
 use Rattle.sbl_work.proofs.definitions.after_word.Goals as goal

@@ -1,4 +1,4 @@
-use Rattle.std.proofs.Common.{rules, ◌≡◌, ◌∷◌, ℕ, Bool, Some, None, Option, codes, subst, sym}
+use Rattle.std.proofs.Common.{rules, ◌≡◌, ◌∷◌, Bool, Some, None, codes, subst, sym}
 use Rattle.sbl_work.specs.HeadReader.{IsAfterWord, IsEndOf, as_words, head_words}
 use Rattle.std.specs.Str.{chars}
 use Rattle.sbl_work.proofs.HeadFacts.{if_ok, one_none, three, two, two_none}

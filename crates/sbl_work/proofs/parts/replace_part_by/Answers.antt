@@ -1,4 +1,4 @@
-use Rattle.std.proofs.Common.{List, ℕ, inl, inr, refl, subst, sym, Err}
+use Rattle.std.proofs.Common.{inl, inr, refl, Err}
 use Rattle.sbl_bench.specs.Kept.{contents_of}
 use Rattle.sbl_bench.specs.declared.fault.EditFault.TheVariants as fault
 use Rattle.sbl_sessions.specs.CommandViews.{view_target}

@@ -1,8 +1,8 @@
-use Rattle.std.proofs.Common.{◌≡◌, ◌+◌, ◌-◌, ◌*◌, ◌≤◌, ◌≢◌, min, get_or, true, false, arith, rules}
+use Rattle.std.proofs.Common.{◌≡◌, ◌+◌, ◌-◌, ◌*◌, ◌≤◌, min, get_or, true, arith, rules}
 use Rattle.sbl_text.specs.Classes.{is_digit}
 use Rattle.sbl_sessions.specs.Numbers.{max_number}
-use Rattle.sbl_sessions.proofs.NumberFacts.{reads_more, reads_none}
-use Rattle.sbl_work.proofs.LineFacts.{counts_all, counts_no, counts_zero}
+use Rattle.sbl_sessions.proofs.NumberFacts.{reads_more}
+use Rattle.sbl_work.proofs.LineFacts.{counts_all, counts_zero}
 use Rattle.sbl_work.proofs.requests.count_in.Goals as goal
 
 pub loop-i-preserved : goal.loop-i-preserved

@@ -1,6 +1,6 @@
 use Rattle.std.proofs.Common.{rules, ◌≡◌, ◌∙◌, ap, codes, true, false, refl, subst, Bool, List, ℕ}
 use Rattle.std.specs.Str.{bytes_eq, is_utf8}
-use Rattle.sbl_sessions.specs.Words.{argument, command_word}
+use Rattle.sbl_sessions.specs.Words.{command_word}
 use Rattle.std.specs.Str.{IsUtf8}
 use Rattle.std.proofs.lemmas.Str.{IsUtf8-from_is_utf8, is_utf8-from_IsUtf8}
 use Rattle.sbl_work.specs.Commands.{Echo, alone_command, is_comment, text_command}

@@ -1,6 +1,6 @@
-use Rattle.std.proofs.Common.{rules, arith, ◌≡◌, ◌∙◌, ◌++◌, ◌∷◌, [], ℕ, List, OnOk, Ok, Err, Result, Bool, true, false, sym, refl}
+use Rattle.std.proofs.Common.{rules, ◌≡◌, ◌++◌, ◌∷◌, [], ℕ, OnOk, Ok, Err, Result, true, false, sym, refl}
 use Rattle.sbl_work.specs.Families.{is_feed, is_separator}
-use Rattle.sbl_work.specs.FamilyReader.{families_read, read_by, read_on, with_word, words_read}
+use Rattle.sbl_work.specs.FamilyReader.{families_read, words_read}
 use Rattle.sbl_work.specs.declared.families.Reader.{Reader}
 use Rattle.sbl_work.proofs.FamilyFacts.{read_feed, read_other, read_separator}
 use Rattle.sbl_work.proofs.families.Reader.take.Goals as goal
