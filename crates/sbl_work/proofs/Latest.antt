@@ -1,5 +1,5 @@
 -- The last 100 of some turns.
-use Rattle.std.proofs.Common.{◌≡◌, ◌∙◌, ◌≤◌, ◌+◌, ℕ, zero, suc, List, [], ◌∷◌, ◌++◌, length, map, refl, ap, sym, arith}
+use Rattle.std.proofs.Common.{◌≡◌, ◌∙◌, ℕ, zero, suc, List, [], ◌∷◌, ◌++◌, length, map, refl, ap, sym, arith}
 use Rattle.std.specs.Prelude.{◌-◌, drop}
 use Rattle.std.proofs.lemmas.List.{length-append, length-map, map-append, drop-append-le}
 use Rattle.sbl_work.specs.History.{Turn, latest}

@@ -1,2 +1,6 @@
 pub mod Latest
 pub mod Refusing
+pub mod LineFacts
+pub mod FamilyFacts
+pub mod HeadFacts
+pub mod ReplyFacts

@@ -6,3 +6,10 @@ pub mod Reports
 pub mod Families
 pub mod Definitions
 pub mod Splicing
+pub mod Heads
+pub mod Commands
+pub mod Replies
+pub mod ReplyViews
+-- definitions that functions inside the crate promise each other
+pub mod FamilyReader
+pub mod HeadReader

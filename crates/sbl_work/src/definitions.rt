@@ -1,22 +1,27 @@
 //! Definitions of a script: their lines, and the text of one that was typed whole.
-ghost use Rattle.std.specs.Prelude.{◌≡◌, IfOk, MatchOption, None, Some, map};
-ghost use Rattle.std.specs.Option.{option_map};
+ghost use Rattle.std.specs.Prelude.{◌≡◌, IfOk, MatchOption, None, OnErr, Some, map, true};
+ghost use Rattle.std.specs.Option.{is_some, option_map};
 ghost use Rattle.sbl_print.specs.Canonical.{plain_text};
 ghost use Rattle.sbl_script.specs.Edits as edits;
 ghost use Rattle.sbl_script.specs.Parsed.{source_of};
+ghost use Rattle.sbl_sessions.specs.CommandViews.{view_target};
 ghost use Rattle.sbl_tree.specs.View.{view_items, view_plain};
 ghost use Rattle.sbl_work.specs.Definitions as spec;
+ghost use Rattle.sbl_work.specs.HeadReader.{IsAfterWord, IsEndOf, head_words};
+ghost use Rattle.sbl_work.specs.Heads as heads;
 
 use sbl_print::canonical_text;
 use sbl_script::{Item, Plain, Script};
 use sbl_sessions::Target;
-use sbl_text::{Lexer, ScriptFault};
+use sbl_text::{Lexer, ScriptFault, Token};
 use sbl_tree::copy_plain;
 use std::alloc::{AllocError, Global};
 use std::slice::from_ref;
 
-/// Returns the words that a definition of this target begins with; `None` if a text for it is no definition.
-fn head_of(target: &Target) -> Option<(&str, bool)> {
+/// Returns the name of a target and whether it is a routine; `None` if a definition has no text for it.
+fn head_of(target: &Target) -> Option<(&str, bool)>
+    ensures { MatchOption result (heads.head_of (view_target target.now) ≡ None) (λ x. heads.head_of (view_target target.now) ≡ Some (head_words x.0.now x.1)) }
+{
     match target {
         Target::Body(name) => Some((name.as_str(), true)),
         Target::Terms(name) => Some((name.as_str(), false)),
@@ -24,17 +29,29 @@ fn head_of(target: &Target) -> Option<(&str, bool)> {
     }
 }
 
+/// Returns where a token ends if it is this word.
+fn end_if(token: &Token<'_>, word: &str) -> Option<usize>
+    ensures { MatchOption result (¬ (token.now.text.now ≡ word.now)) (λ end. (token.now.text.now ≡ word.now) × (end ≡ token.now.end)) }
+{
+    if token.text == word {
+        Some(token.end)
+    } else {
+        None
+    }
+}
+
 /// Returns the text after the next token if that token is this word; `None` if it is another one.
-fn after_word(lexer: &mut Lexer<'_>, word: &str) -> Result<Option<usize>, AllocError> {
+fn after_word(lexer: &mut Lexer<'_>, word: &str) -> Result<Option<usize>, AllocError>
+    requires { lexer.old.fault ≡ None }
+    ensures { IfOk result (λ end. IsAfterWord lexer.old lexer.new word.now end) }
+{
     match lexer.next() {
-        Ok(Some(token)) => Ok(if token.text == word {
-            Some(token.end)
-        } else {
-            None
-        }),
+        Ok(Some(token)) => Ok(end_if(&token, word)),
         Ok(None) => Ok(None),
-        Err(ScriptFault::OutOfMemory) => Err(AllocError),
-        Err(_) => Ok(None),
+        Err(fault) => match fault {
+            ScriptFault::OutOfMemory => Err(AllocError),
+            _ => Ok(None),
+        },
     }
 }
 
@@ -45,7 +62,9 @@ fn end_of_head(
     name: &str,
     is_routine: bool,
     text: &str,
-) -> Result<Option<usize>, AllocError> {
+) -> Result<Option<usize>, AllocError>
+    ensures { IfOk result (λ end. IsEndOf (head_words name.now is_routine) text.now end) }
+{
     let mut lexer = Lexer::new(alloc, text);
     let Some(_) = after_word(&mut lexer, "define")? else {
         return Ok(None);
@@ -60,20 +79,34 @@ fn end_of_head(
     }
 }
 
-/// Returns the text without `define NAME as`, or `define NAME` for a grouping, if these are its first tokens.
-pub(crate) fn without_head<'a>(
+/// Returns the text after the words that a definition of this name begins with, if these are its first tokens.
+fn after_head<'a>(
     alloc: Global,
-    target: &Target,
+    name: &str,
+    is_routine: bool,
     text: &'a str,
-) -> Result<&'a str, AllocError> {
-    let Some((name, is_routine)) = head_of(target) else {
-        return Ok(text);
-    };
+) -> Result<&'a str, AllocError>
+    ensures { IfOk result (λ rest. heads.IsWithout (Some (head_words name.now is_routine)) text.now rest.now) }
+{
     let Some(end) = end_of_head(alloc, name, is_routine, text)? else {
         return Ok(text);
     };
     match text.get(end..) {
         Some(rest) => Ok(rest),
+        None => Ok(text),
+    }
+}
+
+/// Returns the text without `define NAME as`, or `define NAME` for a grouping, if these are its first tokens.
+pub(crate) fn without_head<'a>(
+    alloc: Global,
+    target: &Target,
+    text: &'a str,
+) -> Result<&'a str, AllocError>
+    ensures { IfOk result (λ rest. heads.IsWithoutHead (view_target target.now) text.now rest.now) }
+{
+    match head_of(target) {
+        Some((name, is_routine)) => after_head(alloc, name, is_routine, text),
         None => Ok(text),
     }
 }
@@ -152,7 +185,8 @@ pub(crate) fn definition_text(
     script: &Script,
     name: &str,
 ) -> Result<Option<Vec<u8>>, AllocError>
-    ensures { IfOk result (λ text. option_map (λ t. t.items) text ≡ spec.definition_text (source_of script.now) name.now) }
+    ensures text { IfOk result (λ text. option_map (λ t. t.items) text ≡ spec.definition_text (source_of script.now) name.now) }
+    ensures some { OnErr result (is_some (spec.definition_text (source_of script.now) name.now) ≡ true) }
 {
     match definition_of(script.items(), name) {
         Some(plain) => Ok(Some(line_of(alloc, plain)?)),

@@ -1,11 +1,15 @@
 //! Families: lists of words that belong together, and the report of how far their stems agree with that.
-ghost use Rattle.std.specs.Prelude.{◌≡◌, ◌++◌, IfOk, OnOk, map};
+ghost use Rattle.std.specs.Prelude.{◌≡◌, ◌++◌, ◌∷◌, [], ℕ, IfOk, List, OnOk, map};
+ghost use Rattle.std.specs.Str.{chars};
 ghost use Rattle.csv.specs.Records.{fields_of, partial_of};
-ghost use Rattle.std.specs.Prelude.{[]};
 ghost use Rattle.sbl_bench.specs.Kept.{contents_of};
 ghost use Rattle.sbl_changes.specs.Families.{view_result, view_results, view_words};
+ghost use Rattle.sbl_changes.specs.Rows.{texts_of};
+ghost use Rattle.sbl_lines.specs.LinesOf.{lines_of};
 ghost use Rattle.sbl_records.specs.Records.{record_line, records_text};
+ghost use Rattle.sbl_sessions.specs.Block.{made_text};
 ghost use Rattle.sbl_work.specs.Families as spec;
+ghost use Rattle.sbl_work.specs.FamilyReader.{families_read, read_by, read_on, with_word, words_read};
 
 use crate::reports::{named_rows, push_line, push_stems, push_text};
 use csv::ByteRecord;
@@ -25,7 +29,9 @@ struct Reader {
 
 impl Reader {
     /// Returns a reader at the start of a text.
-    fn new(alloc: Global) -> Reader {
+    fn new(alloc: Global) -> Reader
+        ensures { (text : List ℕ) → read_by result text ≡ read_on [] [] [] text }
+    {
         Reader {
             alloc,
             families: Vec::new(alloc),
@@ -35,34 +41,51 @@ impl Reader {
     }
 
     /// Ends the current word.
-    fn end_word(&mut self) -> Result<(), AllocError> {
+    fn end_word(&mut self) -> Result<(), AllocError>
+        ensures families { OnOk result (families_read self.new.families.items ≡ families_read self.old.families.items) }
+        ensures family { OnOk result (words_read self.new.family.items ≡ with_word (words_read self.old.family.items) self.old.word.items) }
+        ensures word { OnOk result (self.new.word.items ≡ []) }
+    {
         if self.word.is_empty() {
             return Ok(());
         }
         let word = std::mem::replace(&mut self.word, Vec::new(self.alloc));
-        self.family.push(word).map_err(|_| AllocError)
+        self.family.push(word)?;
+        Ok(())
     }
 
     /// Ends the current line.
-    fn end_line(&mut self) -> Result<(), AllocError> {
+    fn end_line(&mut self) -> Result<(), AllocError>
+        ensures families { OnOk result (families_read self.new.families.items ≡ families_read self.old.families.items ++ with_word (words_read self.old.family.items) self.old.word.items ∷ []) }
+        ensures family { OnOk result (words_read self.new.family.items ≡ []) }
+        ensures word { OnOk result (self.new.word.items ≡ []) }
+    {
         self.end_word()?;
         let family = std::mem::replace(&mut self.family, Vec::new(self.alloc));
-        self.families.push(family).map_err(|_| AllocError)
+        self.families.push(family)?;
+        Ok(())
     }
 
     /// Takes a character. A space, a tab or a comma ends a word, and a line feed ends a line.
-    fn take(&mut self, character: char) -> Result<(), AllocError> {
-        match character {
-            '\n' => self.end_line(),
-            ' ' | '\t' | ',' => self.end_word(),
-            _ => self.word.push(character).map_err(|_| AllocError),
+    fn take(&mut self, character: char) -> Result<(), AllocError>
+        ensures { OnOk result ((text : List ℕ) → read_by self.new text ≡ read_by self.old (character ∷ text)) }
+    {
+        if character == '\n' {
+            return self.end_line();
         }
+        if character == ' ' || character == '\t' || character == ',' {
+            return self.end_word();
+        }
+        self.word.push(character)?;
+        Ok(())
     }
 }
 
 /// Returns the families of a text: of each line its words, with spaces, tabs or commas between them. Returns `AllocError` if an
 /// allocation fails.
-fn families_in(alloc: Global, text: &str) -> Result<Vec<Vec<Vec<char>>>, AllocError> {
+fn families_in(alloc: Global, text: &str) -> Result<Vec<Vec<Vec<char>>>, AllocError>
+    ensures { IfOk result (λ families. families_read families.items ≡ spec.families_in (chars text.now)) }
+{
     let mut reader = Reader::new(alloc);
     for character in text.chars() {
         reader.take(character)?;
@@ -72,7 +95,9 @@ fn families_in(alloc: Global, text: &str) -> Result<Vec<Vec<Vec<char>>>, AllocEr
 }
 
 /// Returns the words of a family. Returns `AllocError` if an allocation fails.
-fn words_of(alloc: Global, family: &[Vec<char>]) -> Result<Vec<&[char]>, AllocError> {
+fn words_of(alloc: Global, family: &[Vec<char>]) -> Result<Vec<&[char]>, AllocError>
+    ensures { IfOk result (λ words. texts_of words.items ≡ words_read family.now) }
+{
     let mut words = Vec::with_capacity(alloc, family.len())?;
     for word in family {
         words.push(word.as_slice())?;
@@ -81,7 +106,9 @@ fn words_of(alloc: Global, family: &[Vec<char>]) -> Result<Vec<&[char]>, AllocEr
 }
 
 /// Returns the words of each family. Returns `AllocError` if an allocation fails.
-fn lists_of(alloc: Global, families: &[Vec<Vec<char>>]) -> Result<Vec<Vec<&[char]>>, AllocError> {
+fn lists_of(alloc: Global, families: &[Vec<Vec<char>>]) -> Result<Vec<Vec<&[char]>>, AllocError>
+    ensures { IfOk result (λ lists. view_words lists.items ≡ families_read families.now) }
+{
     let mut lists = Vec::with_capacity(alloc, families.len())?;
     for family in families {
         let words = words_of(alloc, family)?;
@@ -169,11 +196,9 @@ fn lists_text(alloc: Global, bench: &Bench, lists: &[Vec<&[char]>]) -> Result<Ve
 }
 
 /// Returns the report of the families of a text. Returns `AllocError` if an allocation fails.
-pub(crate) fn families_text(
-    alloc: Global,
-    bench: &Bench,
-    text: &str,
-) -> Result<Vec<u8>, AllocError> {
+pub(crate) fn families_text(alloc: Global, bench: &Bench, text: &str) -> Result<Vec<u8>, AllocError>
+    ensures { IfOk result (λ report. report.items ≡ spec.families_text (contents_of bench.now) (spec.families_in (chars text.now))) }
+{
     let families = families_in(alloc, text)?;
     let lists = lists_of(alloc, &families)?;
     lists_text(alloc, bench, &lists)
@@ -181,7 +206,9 @@ pub(crate) fn families_text(
 
 /// Returns the lines of a file, each without the carriage return at its end, and each followed by a line feed. Returns `AllocError`
 /// if an allocation fails.
-pub(crate) fn lines_text(alloc: Global, bytes: &[u8]) -> Result<Vec<u8>, AllocError> {
+pub(crate) fn lines_text(alloc: Global, bytes: &[u8]) -> Result<Vec<u8>, AllocError>
+    ensures { IfOk result (λ text. text.items ≡ made_text (lines_of bytes.now)) }
+{
     let mut text = Vec::new(alloc);
     let mut rest = bytes;
     while let Some((line, after)) = first_line(rest) {

@@ -1,24 +1,30 @@
-//! Edits of the script by a block.
-ghost use Rattle.std.specs.Prelude.{◌≡◌, ◌≤◌, OnOk, Some};
-ghost use Rattle.sbl_lines.specs.Held.{KeepsTime, fuel_of, line_of};
-ghost use Rattle.sbl_sessions.specs.CommandViews.{view_word};
-ghost use Rattle.sbl_sessions.specs.Requests.{block_word};
+//! The replies to lines with a block.
+ghost use Rattle.std.specs.Prelude.{◌≡◌, ℕ, List, Some, codes};
+ghost use Rattle.std.specs.Str.{bytes_eq};
+ghost use Rattle.sbl_bench.specs.Edits.{Whole};
+ghost use Rattle.sbl_bench.specs.Kept.{contents_of};
+ghost use Rattle.sbl_sessions.specs.Block.{HoldsText, made_text};
+ghost use Rattle.sbl_sessions.specs.CommandViews.{FindsTarget, view_target};
+ghost use Rattle.sbl_sessions.specs.Commands.{target_of, text_of_block};
+ghost use Rattle.sbl_work.specs.Commands as spec;
+ghost use Rattle.sbl_work.specs.Desks.{State, state_of};
+ghost use Rattle.sbl_work.specs.Editing.{Replaces};
+ghost use Rattle.sbl_work.specs.ReplyViews.{FindsBlock, IsFamiliesAnswer, IsPartResult, IsWorkAnswer, NamesText};
 
 use crate::definitions::without_head;
 use crate::desk::Desk;
 use crate::families::families_text;
 use crate::replies::{NOT_TEXT, edit_reply};
-use crate::requests::REPLACE;
+use crate::requests::BlockRequest;
 use sbl_bench::{Bench, EditFault};
-use sbl_lines::{Lines, ServeFault, Source};
 use sbl_script::ScriptFault;
-use sbl_sessions::{
-    BAD_COMMAND, BlockFault, BlockText, BlockWord, Reply, Target, read_block, report, target_of,
-};
+use sbl_sessions::{BAD_COMMAND, BlockFault, BlockText, Reply, Target, report};
 use std::alloc::{AllocError, Global};
 
 /// Returns the text of a block, or the fault of an edit by it.
-fn text_of(block: BlockText) -> Result<Vec<u8>, EditFault> {
+fn text_of(block: BlockText) -> Result<Vec<u8>, EditFault>
+    ensures { (lines : List (List ℕ)) → HoldsText block lines → NamesText result (made_text lines) }
+{
     match block.whole() {
         Ok(text) => Ok(text),
         Err(BlockFault::TooLong) => Err(EditFault::Script(ScriptFault::ScriptTooLong)),
@@ -27,25 +33,48 @@ fn text_of(block: BlockText) -> Result<Vec<u8>, EditFault> {
 }
 
 /// Replaces the whole script by the text of a block.
-fn replace_by(desk: &mut Desk, bench: &mut Bench, block: BlockText) -> Result<(), EditFault> {
-    let text = text_of(block)?;
-    desk.replace(bench, &text)
+fn replace_by(desk: &mut Desk, bench: &mut Bench, block: BlockText) -> Result<(), EditFault>
+    ensures { (lines : List (List ℕ)) → HoldsText block lines → Replaces result (Whole (made_text lines)) (Some (made_text lines)) (contents_of bench.old) (state_of desk.old) (contents_of bench.new) (state_of desk.new) }
+{
+    match text_of(block) {
+        Ok(text) => desk.replace(bench, &text),
+        Err(fault) => Err(fault),
+    }
 }
 
-/// Replaces a part of the script by the text of a block.
+/// Replaces a part of the script by a text that may begin as its definition does.
 fn replace_part_by(
     alloc: Global,
     desk: &mut Desk,
     bench: &mut Bench,
     target: &Target,
-    block: BlockText,
-) -> Result<(), EditFault> {
-    let text = text_of(block)?;
-    let Ok(text) = str::from_utf8(&text) else {
+    text: &[u8],
+) -> Result<(), EditFault>
+    ensures { IsPartResult result (view_target target.now) text.now (contents_of bench.old) (state_of desk.old) (contents_of bench.new) (state_of desk.new) }
+{
+    let Ok(text) = str::from_utf8(text) else {
         return Err(EditFault::Script(ScriptFault::NotUtf8));
     };
-    let text = without_head(alloc, target, text)?;
-    desk.replace_part(bench, target, text)
+    match without_head(alloc, target, text) {
+        Ok(rest) => desk.replace_part(bench, target, rest),
+        Err(_) => Err(EditFault::OutOfMemory),
+    }
+}
+
+/// Makes the edit that a target and a block ask for, and returns the reply.
+fn edit_target(
+    alloc: Global,
+    desk: &mut Desk,
+    bench: &mut Bench,
+    target: &Target,
+    block: BlockText,
+) -> Reply
+    ensures { (lines : List (List ℕ)) → HoldsText block lines → IsWorkAnswer (contents_of bench.old) (state_of desk.old) (spec.part_command (Some (view_target target.now)) (text_of_block lines)) result (contents_of bench.new) (state_of desk.new) }
+{
+    match text_of(block) {
+        Ok(text) => edit_reply(replace_part_by(alloc, desk, bench, target, &text)),
+        Err(fault) => edit_reply(Err(fault)),
+    }
 }
 
 /// Makes the edit that a line and its block ask for, and returns the reply. A bad line is refused, whatever its block is.
@@ -55,66 +84,68 @@ fn edit_part(
     bench: &mut Bench,
     target: Result<Option<Target>, AllocError>,
     block: BlockText,
-) -> Reply {
+) -> Reply
+    ensures { (line : List ℕ) (lines : List (List ℕ)) → FindsTarget target line → HoldsText block lines → IsWorkAnswer (contents_of bench.old) (state_of desk.old) (spec.part_command (target_of line) (text_of_block lines)) result (contents_of bench.new) (state_of desk.new) }
+{
     match target {
-        Ok(Some(target)) => edit_reply(replace_part_by(alloc, desk, bench, &target, block)),
+        Ok(Some(target)) => edit_target(alloc, desk, bench, &target, block),
         Ok(None) => Reply::Fixed(BAD_COMMAND),
         Err(_) => edit_reply(Err(EditFault::OutOfMemory)),
     }
 }
 
-/// Reads the block of the current line, which has this block word, makes the edit, and returns the reply.
-pub(crate) fn answer_part<R: Source + Drop>(
-    desk: &mut Desk,
-    bench: &mut Bench,
-    lines: &mut Lines<R>,
-    word: BlockWord,
-) -> Result<Reply, ServeFault>
-    requires { block_word (line_of lines.old) ≡ Some (view_word word) }
-    ensures fuel { OnOk result (fuel_of lines.new ≤ fuel_of lines.old) }
-    ensures in_time { KeepsTime R.ended R.late R.interruptions R.reads lines.old lines.new }
+/// Makes the edit of `replace`, and returns the reply. A line with an argument is refused, whatever its block is.
+fn replace_reply(desk: &mut Desk, bench: &mut Bench, is_good: bool, block: BlockText) -> Reply
+    ensures { (line : List ℕ) (lines : List (List ℕ)) → is_good ≡ bytes_eq line (codes "replace") → HoldsText block lines → IsWorkAnswer (contents_of bench.old) (state_of desk.old) (spec.replace_command line lines) result (contents_of bench.new) (state_of desk.new) }
 {
-    let target = target_of(lines.alloc(), word, lines.line());
-    let block = read_block(lines)?;
-    Ok(edit_part(lines.alloc(), desk, bench, target, block))
+    if is_good {
+        edit_reply(replace_by(desk, bench, block))
+    } else {
+        Reply::Fixed(BAD_COMMAND)
+    }
 }
 
-/// Reads the block of `replace`, makes the edit, and returns the reply. A line with an argument is refused, whatever its block is.
-pub(crate) fn answer_replace<R: Source + Drop>(
-    desk: &mut Desk,
-    bench: &mut Bench,
-    lines: &mut Lines<R>,
-) -> Result<Reply, ServeFault>
-    ensures fuel { OnOk result (fuel_of lines.new ≤ fuel_of lines.old) }
-    ensures in_time { KeepsTime R.ended R.late R.interruptions R.reads lines.old lines.new }
+/// Returns the reply to `families`, for the text of the families.
+fn families_text_reply(alloc: Global, bench: &Bench, text: &str) -> Reply
+    ensures { (d : State) → IsFamiliesAnswer (contents_of bench.now) d text.now result }
 {
-    let is_good = lines.line() == REPLACE;
-    let block = read_block(lines)?;
-    if !is_good {
-        return Ok(Reply::Fixed(BAD_COMMAND));
-    }
-    Ok(edit_reply(replace_by(desk, bench, block)))
+    report(families_text(alloc, bench, text))
 }
 
 /// Returns the reply to `families`, for the bytes of the families.
-pub(crate) fn families_reply(alloc: Global, bench: &Bench, bytes: &[u8]) -> Reply {
+pub(crate) fn families_reply(alloc: Global, bench: &Bench, bytes: &[u8]) -> Reply
+    ensures { (d : State) → IsWorkAnswer (contents_of bench.now) d (spec.Families bytes.now) result (contents_of bench.now) d }
+{
     match str::from_utf8(bytes) {
-        Ok(text) => report(families_text(alloc, bench, text)),
+        Ok(text) => families_text_reply(alloc, bench, text),
         Err(_) => Reply::Fixed(NOT_TEXT),
     }
 }
 
-/// Reads the block of `families`, and returns the reply.
-pub(crate) fn answer_families<R: Source + Drop>(
-    bench: &Bench,
-    lines: &mut Lines<R>,
-) -> Result<Reply, ServeFault>
-    ensures fuel { OnOk result (fuel_of lines.new ≤ fuel_of lines.old) }
-    ensures in_time { KeepsTime R.ended R.late R.interruptions R.reads lines.old lines.new }
+/// Returns the reply to `families`, for a block of families.
+fn families_of(alloc: Global, bench: &Bench, block: BlockText) -> Reply
+    ensures { (d : State) (lines : List (List ℕ)) → HoldsText block lines → IsWorkAnswer (contents_of bench.now) d (spec.families_command lines) result (contents_of bench.now) d }
 {
-    let block = read_block(lines)?;
-    Ok(match text_of(block) {
-        Ok(bytes) => families_reply(lines.alloc(), bench, &bytes),
+    match text_of(block) {
+        Ok(bytes) => families_reply(alloc, bench, &bytes),
         Err(fault) => edit_reply(Err(fault)),
-    })
+    }
+}
+
+/// Makes the edit or the report that a line asks for with its block, and returns the reply. `request` is what `block_request`
+/// returns for the line.
+pub fn answer_block(
+    alloc: Global,
+    desk: &mut Desk,
+    bench: &mut Bench,
+    request: BlockRequest,
+    block: BlockText,
+) -> Reply
+    ensures { (line : List ℕ) (lines : List (List ℕ)) → FindsBlock request line → HoldsText block lines → IsWorkAnswer (contents_of bench.old) (state_of desk.old) (spec.block_command line lines) result (contents_of bench.new) (state_of desk.new) }
+{
+    match request {
+        BlockRequest::Part(target) => edit_part(alloc, desk, bench, target, block),
+        BlockRequest::Whole(is_good) => replace_reply(desk, bench, is_good, block),
+        BlockRequest::Families => families_of(alloc, bench, block),
+    }
 }

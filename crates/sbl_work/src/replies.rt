@@ -1,4 +1,9 @@
 //! The replies of work that a session does not have.
+ghost use Rattle.std.specs.Prelude.{None, OnErr, OnOk, Some};
+ghost use Rattle.sbl_sessions.specs.Answers.{edit_text};
+ghost use Rattle.sbl_sessions.specs.CommandViews.{IsReply};
+ghost use Rattle.sbl_sessions.specs.Edits.{fault_in};
+ghost use Rattle.sbl_work.specs.Replies as spec;
 
 use crate::history::HistoryFault;
 use sbl_bench::EditFault;
@@ -21,12 +26,17 @@ pub(crate) const NO_FILE: &str = "no 57 NoFile\n";
 pub(crate) const NOT_TEXT: &str = "no 75 NotText\n";
 
 /// Returns the reply to an edit.
-pub(crate) fn edit_reply(answer: Result<(), EditFault>) -> Reply {
+pub(crate) fn edit_reply(answer: Result<(), EditFault>) -> Reply
+    ensures { IsReply result (edit_text (fault_in answer)) }
+{
     Reply::Fixed(edit_text(answer))
 }
 
 /// Returns the reply to a command that fails only if an allocation does.
-pub(crate) fn memory_reply(answer: Result<(), AllocError>) -> Reply {
+pub(crate) fn memory_reply(answer: Result<(), AllocError>) -> Reply
+    ensures done { OnOk answer (IsReply result (edit_text None)) }
+    ensures refused { OnErr answer (IsReply result (edit_text (Some EditFault.OutOfMemory))) }
+{
     match answer {
         Ok(()) => edit_reply(Ok(())),
         Err(_) => edit_reply(Err(EditFault::OutOfMemory)),
@@ -34,7 +44,9 @@ pub(crate) fn memory_reply(answer: Result<(), AllocError>) -> Reply {
 }
 
 /// Returns the reply to `undo`.
-pub(crate) fn undo_reply(answer: Result<(), HistoryFault>) -> Reply {
+pub(crate) fn undo_reply(answer: Result<(), HistoryFault>) -> Reply
+    ensures { IsReply result (spec.undo_text answer) }
+{
     match answer {
         Ok(()) => edit_reply(Ok(())),
         Err(HistoryFault::Nothing) => Reply::Fixed(NOTHING_TO_UNDO),
@@ -43,7 +55,9 @@ pub(crate) fn undo_reply(answer: Result<(), HistoryFault>) -> Reply {
 }
 
 /// Returns the reply to `redo`.
-pub(crate) fn redo_reply(answer: Result<(), HistoryFault>) -> Reply {
+pub(crate) fn redo_reply(answer: Result<(), HistoryFault>) -> Reply
+    ensures { IsReply result (spec.redo_text answer) }
+{
     match answer {
         Ok(()) => edit_reply(Ok(())),
         Err(HistoryFault::Nothing) => Reply::Fixed(NOTHING_TO_REDO),

@@ -1,4 +1,12 @@
 //! The commands of work.
+ghost use Rattle.std.specs.Prelude.{◌≡◌, ℕ, List, MatchOption, Option, codes, false};
+ghost use Rattle.std.specs.Str.{bytes_eq};
+ghost use Rattle.sbl_sessions.specs.Words as words;
+ghost use Rattle.sbl_work.specs.Commands as spec;
+ghost use Rattle.sbl_work.specs.ReplyViews.{FindsBlock, view_request};
+
+use sbl_sessions::{Target, block_word, target_of};
+use std::alloc::{AllocError, Global};
 
 /// What a line without a block asks for.
 #[derive(Debug, Drop)]
@@ -39,13 +47,29 @@ pub(crate) enum Request<'a> {
     Session,
 }
 
+/// What a line with a block asks for.
+#[derive(Debug, Drop)]
+pub enum BlockRequest {
+    /// Replaces a part of the script; none if the line is bad, or an allocation for its name failed.
+    Part(Result<Option<Target>, AllocError>),
+    /// Replaces the whole script, if the line is `replace` alone.
+    Whole(bool),
+    /// Reports on families.
+    Families,
+}
+
 /// Whether a line ends the work.
-pub(crate) fn is_quit(line: &[u8]) -> bool {
+pub(crate) fn is_quit(line: &[u8]) -> bool
+    ensures { result ≡ bytes_eq line.now spec.quit_line }
+{
     line == b"quit".as_slice()
 }
 
 /// Returns the command word of a line and the bytes after the first space.
-fn split(line: &[u8]) -> (&[u8], &[u8]) {
+fn split(line: &[u8]) -> (&[u8], &[u8])
+    ensures word { result.0.now ≡ words.command_word line.now }
+    ensures argument { result.1.now ≡ words.argument line.now }
+{
     for i in 0..line.len() {
         if line[i] == b' ' {
             return (&line[..i], &line[i + 1..]);
@@ -54,23 +78,45 @@ fn split(line: &[u8]) -> (&[u8], &[u8]) {
     (line, &[])
 }
 
-/// The line that replaces the whole script by the block after it.
-pub(crate) const REPLACE: &[u8] = b"replace";
-
-/// Whether a line is `families` alone: then a block of families follows it.
-pub(crate) fn asks_families(line: &[u8]) -> bool {
-    line == b"families".as_slice()
+/// Whether the command word of a line is `replace`: then a block follows the line, whatever else the line contains.
+fn asks_replace(line: &[u8]) -> bool
+    ensures { result ≡ spec.is_replace line.now }
+{
+    let (word, _) = split(line);
+    word == b"replace".as_slice()
 }
 
-/// Whether the command word of a line is `replace`: then a block follows the line, whatever else the line contains.
-pub(crate) fn asks_replace(line: &[u8]) -> bool {
-    let (word, _) = split(line);
-    word == REPLACE
+/// Returns what a line asks for with the block after it; `None` if no block follows the line.
+pub fn block_request(alloc: Global, line: &[u8]) -> Option<BlockRequest>
+    ensures { MatchOption result (spec.asks_work_block line.now ≡ false) (λ request. FindsBlock request line.now) }
+{
+    if let Some(word) = block_word(line) {
+        return Some(BlockRequest::Part(target_of(alloc, word, line)));
+    }
+    if asks_replace(line) {
+        return Some(BlockRequest::Whole(line == b"replace".as_slice()));
+    }
+    if line == b"families".as_slice() {
+        return Some(BlockRequest::Families);
+    }
+    None
+}
+
+/// Whether a line begins with `#`.
+fn is_comment(line: &[u8]) -> bool
+    ensures { result ≡ spec.is_comment line.now }
+{
+    if line.is_empty() {
+        return false;
+    }
+    line[0] == b'#'
 }
 
 /// Returns what a line without a block asks for.
-pub(crate) fn request_of(line: &[u8]) -> Request<'_> {
-    if line.first() == Some(&b'#') {
+pub(crate) fn request_of(line: &[u8]) -> Request<'_>
+    ensures { (file : Option (List ℕ)) → view_request file line.now result ≡ spec.alone_command file line.now }
+{
+    if is_comment(line) {
         return Request::Comment;
     }
     let (word, argument) = split(line);
@@ -84,36 +130,73 @@ pub(crate) fn request_of(line: &[u8]) -> Request<'_> {
 }
 
 /// Returns what a line that is UTF-8 asks for.
-fn text_request(line: &str) -> Request<'_> {
-    match line {
-        "reload" => return Request::Reload,
-        "undo" => return Request::Undo,
-        "redo" => return Request::Redo,
-        "mark" => return Request::Mark,
-        "changes" => return Request::Changes,
-        "stats" => return Request::Stats,
-        "unused" => return Request::Unused,
-        "help" => return Request::Help,
-        _ => {}
+fn text_request(line: &str) -> Request<'_>
+    ensures { (file : Option (List ℕ)) → view_request file line.now result ≡ spec.text_command file line.now }
+{
+    if line == "reload" {
+        return Request::Reload;
     }
+    if line == "undo" {
+        return Request::Undo;
+    }
+    if line == "redo" {
+        return Request::Redo;
+    }
+    if line == "mark" {
+        return Request::Mark;
+    }
+    if line == "changes" {
+        return Request::Changes;
+    }
+    if line == "stats" {
+        return Request::Stats;
+    }
+    if line == "unused" {
+        return Request::Unused;
+    }
+    if line == "help" {
+        return Request::Help;
+    }
+    word_request(line)
+}
+
+/// Returns what a line that is UTF-8 asks for by its command word.
+fn word_request(line: &str) -> Request<'_>
+    ensures { (file : Option (List ℕ)) → view_request file line.now result ≡ spec.word_command file line.now }
+{
     let (word, argument) = match line.split_once(' ') {
         Some((word, argument)) => (word, argument),
         None => (line, ""),
     };
-    match word {
-        "largest" => Request::Largest(argument),
-        "families" => Request::Families(argument),
-        "why" | "events" => Request::Why(argument),
-        "integers" => Request::Integers(argument),
-        "show" => Request::Show(argument),
-        "save" => Request::Save(argument),
-        _ => Request::Session,
+    if word == "largest" {
+        return Request::Largest(argument);
     }
+    if word == "families" {
+        return Request::Families(argument);
+    }
+    if word == "why" {
+        return Request::Why(argument);
+    }
+    if word == "events" {
+        return Request::Why(argument);
+    }
+    if word == "integers" {
+        return Request::Integers(argument);
+    }
+    if word == "show" {
+        return Request::Show(argument);
+    }
+    if word == "save" {
+        return Request::Save(argument);
+    }
+    Request::Session
 }
 
 /// Returns the number above 0 that decimal digits write, and `usize::MAX` for each larger number; `None` if the bytes are not
 /// decimal digits or the number is 0.
-pub(crate) fn count_in(digits: &[u8]) -> Option<usize> {
+pub(crate) fn count_in(digits: &[u8]) -> Option<usize>
+    ensures { result ≡ spec.count_in digits.now }
+{
     let mut number: usize = 0;
     for i in 0..digits.len() {
         if !digits[i].is_ascii_digit() {

@@ -1,23 +1,23 @@
 //! Work: each request gets its reply before the next line is read.
 
-ghost use Rattle.std.specs.Prelude.{◌≤◌, OnOk};
+ghost use Rattle.std.specs.Prelude.{◌≡◌, ◌≤◌, [], OnOk, Some};
+ghost use Rattle.sbl_bench.specs.Kept.{contents_of};
 ghost use Rattle.sbl_lines.specs.Devices.{WritesInTime};
 ghost use Rattle.sbl_lines.specs.Held.{KeepsTime, fuel_of};
+ghost use Rattle.sbl_work.specs.Commands as spec;
+ghost use Rattle.sbl_work.specs.Desks.{state_of};
+ghost use Rattle.sbl_work.specs.ReplyViews.{IsFileAnswer};
 
-use crate::definitions::definition_text;
+use crate::answers::answer_line;
 use crate::desk::Desk;
-use crate::families::lines_text;
 use crate::files::{OpenFault, Paths, open, save};
-use crate::parts::{answer_families, answer_part, answer_replace, families_reply};
-use crate::replies::{BAD_NUMBER, NO_FILE, edit_reply, memory_reply, redo_reply, undo_reply};
-use crate::reports::{changes_text, largest_text, stats_text};
-use crate::requests::{Request, asks_families, asks_replace, count_in, is_quit, request_of};
-use crate::whys::{integers_reply, why_reply};
+use crate::parts::answer_block;
+use crate::replies::edit_reply;
+use crate::requests::{Request, block_request, is_quit, request_of};
 use sbl_bench::{Bench, EditFault};
 use sbl_lines::{Lines, ServeFault, Sink, Source, write_all};
-use sbl_sessions::{LoadFault, Reply, block_word, report, write_reply};
-use sbl_unused::unused_text;
-use std::alloc::{AllocError, Global};
+use sbl_sessions::{LoadFault, Reply, read_block, write_reply};
+use std::alloc::Global;
 use std::fs;
 use std::hash::RandomState;
 use std::rt::Files;
@@ -41,75 +41,53 @@ fn reload<F: Files + AllocGlobal>(
     folder: &mut Folder<'_, F>,
     desk: &mut Desk,
     bench: &mut Bench,
-) -> Reply {
+    alloc: Global,
+    line: &[u8],
+) -> Reply
+    ensures { IsFileAnswer (contents_of bench.old) (state_of desk.old) line.now result (contents_of bench.new) (state_of desk.new) }
+{
     let Ok(bytes) = fs::read(folder.files, folder.paths.script.as_str()) else {
-        return Reply::Fixed(NO_FILE);
+        return answer_line(alloc, desk, bench, line, None);
     };
-    let replaced = desk.replace(bench, &bytes);
+    let reply = answer_line(alloc, desk, bench, line, Some(bytes.as_slice()));
     folder.seen = bytes;
-    edit_reply(replaced)
+    reply
 }
 
-/// Writes the text of the script in force to a file, and returns the reply.
+/// Reports on the families of a file.
+fn families<F: Files + AllocGlobal>(
+    folder: &Folder<'_, F>,
+    desk: &mut Desk,
+    bench: &mut Bench,
+    alloc: Global,
+    line: &[u8],
+    path: &str,
+) -> Reply
+    ensures { IsFileAnswer (contents_of bench.old) (state_of desk.old) line.now result (contents_of bench.new) (state_of desk.new) }
+{
+    match fs::read(folder.files, path) {
+        Ok(bytes) => answer_line(alloc, desk, bench, line, Some(bytes.as_slice())),
+        Err(_) => answer_line(alloc, desk, bench, line, None),
+    }
+}
+
+/// Writes the text of the script in force to a file, and returns the reply to the line, which is `save` with the path of this file.
 fn save_as<F: Files + AllocGlobal>(
     folder: &mut Folder<'_, F>,
-    desk: &Desk,
-    bench: &Bench,
+    desk: &mut Desk,
+    bench: &mut Bench,
+    alloc: Global,
+    line: &[u8],
     path: &str,
-) -> Reply {
+) -> Reply
+    ensures { spec.alone_command (Some []) line.now ≡ spec.Saved → IsFileAnswer (contents_of bench.old) (state_of desk.old) line.now result (contents_of bench.new) (state_of desk.new) }
+{
     let Ok(text) = desk.text(bench) else {
         return edit_reply(Err(EditFault::OutOfMemory));
     };
-    if save(folder.files, folder.paths, &mut folder.seen, path, text) {
-        edit_reply(Ok(()))
-    } else {
-        Reply::Fixed(NO_FILE)
-    }
-}
-
-/// Returns the reply to `largest`.
-fn largest(alloc: Global, bench: &Bench, argument: &str) -> Reply {
-    match count_in(argument.as_bytes()) {
-        Some(number) => report(largest_text(alloc, bench, number)),
-        None => Reply::Fixed(BAD_NUMBER),
-    }
-}
-
-/// Returns the reply to `families` for a file.
-fn families<F: Files + AllocGlobal>(folder: &Folder<'_, F>, bench: &Bench, path: &str) -> Reply {
-    let Ok(bytes) = fs::read(folder.files, path) else {
-        return Reply::Fixed(NO_FILE);
-    };
-    match lines_text(folder.files.alloc(), &bytes) {
-        Ok(text) => families_reply(folder.files.alloc(), bench, &text),
-        Err(refused) => report(Err(refused)),
-    }
-}
-
-/// Returns the reply to `why` or `integers`.
-fn why(alloc: Global, bench: &Bench, word: &str, asks_integers: bool) -> Reply {
-    let characters: Result<Vec<char>, AllocError> = word.chars().collect(alloc);
-    match characters {
-        Ok(characters) if asks_integers => integers_reply(alloc, bench, &characters),
-        Ok(characters) => why_reply(alloc, bench, &characters),
-        Err(refused) => report(Err(refused)),
-    }
-}
-
-/// Returns the reply to `show`.
-fn show(alloc: Global, bench: &Bench, name: &str) -> Reply {
-    match definition_text(alloc, bench.script(), name) {
-        Ok(Some(text)) => Reply::Report(text),
-        Ok(None) => edit_reply(Err(EditFault::NoRoutine)),
-        Err(refused) => report(Err(refused)),
-    }
-}
-
-/// Returns a text and a line feed.
-fn echo_text(alloc: Global, text: &[u8]) -> Result<Vec<u8>, AllocError> {
-    let mut line = Vec::from_slice(alloc, text)?;
-    line.extend_from_slice(b"\n")?;
-    Ok(line)
+    let is_saved = save(folder.files, folder.paths, &mut folder.seen, path, text);
+    let file = if is_saved { Some(b"".as_slice()) } else { None };
+    answer_line(alloc, desk, bench, line, file)
 }
 
 /// Makes the edit or the report that a line without a block asks for, and returns the reply.
@@ -119,25 +97,14 @@ fn answer_alone<F: Files + AllocGlobal>(
     bench: &mut Bench,
     alloc: Global,
     line: &[u8],
-) -> Reply {
+) -> Reply
+    ensures { IsFileAnswer (contents_of bench.old) (state_of desk.old) line.now result (contents_of bench.new) (state_of desk.new) }
+{
     match request_of(line) {
-        Request::Comment => Reply::Fixed(""),
-        Request::Reload => reload(folder, desk, bench),
-        Request::Undo => undo_reply(desk.undo(bench)),
-        Request::Redo => redo_reply(desk.redo(bench)),
-        Request::Mark => memory_reply(desk.mark(bench)),
-        Request::Changes => report(changes_text(alloc, desk, bench)),
-        Request::Stats => report(stats_text(alloc, bench)),
-        Request::Unused => report(unused_text(alloc, bench)),
-        Request::Largest(argument) => largest(alloc, bench, argument),
-        Request::Families(path) => families(folder, bench, path),
-        Request::Why(word) => why(alloc, bench, word, false),
-        Request::Integers(word) => why(alloc, bench, word, true),
-        Request::Show(name) => show(alloc, bench, name),
-        Request::Save(path) => save_as(folder, desk, bench, path),
-        Request::Echo(text) => report(echo_text(alloc, text)),
-        Request::Help => Reply::Fixed(""),
-        Request::Session => desk.answer(bench, line),
+        Request::Reload => reload(folder, desk, bench, alloc, line),
+        Request::Families(path) => families(folder, desk, bench, alloc, line, path),
+        Request::Save(path) => save_as(folder, desk, bench, alloc, line, path),
+        _ => answer_line(alloc, desk, bench, line, None),
     }
 }
 
@@ -152,19 +119,14 @@ fn answer<F: Files + AllocGlobal, R: Source + Drop>(
     ensures fuel { OnOk result (fuel_of lines.new ≤ fuel_of lines.old) }
     ensures in_time { KeepsTime R.ended R.late R.interruptions R.reads lines.old lines.new }
 {
-    if let Some(word) = block_word(lines.line()) {
-        return answer_part(desk, bench, lines, word);
-    }
-    if asks_replace(lines.line()) {
-        return answer_replace(desk, bench, lines);
-    }
-    if asks_families(lines.line()) {
-        return answer_families(bench, lines);
-    }
-    Ok(answer_alone(folder, desk, bench, lines.alloc(), lines.line()))
+    let Some(request) = block_request(lines.alloc(), lines.line()) else {
+        return Ok(answer_alone(folder, desk, bench, lines.alloc(), lines.line()));
+    };
+    let block = read_block(lines)?;
+    Ok(answer_block(lines.alloc(), desk, bench, request, block))
 }
 
-/// Replies to each request of the input in turn, up to `quit` or the end of input.
+/// Replies to each request of the input in turn, up to `quit` or the end of input. Before each line the prompt is written.
 fn serve<F: Files + AllocGlobal, R: Source + Drop, W: Sink>(
     folder: &mut Folder<'_, F>,
     desk: &mut Desk,

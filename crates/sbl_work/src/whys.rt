@@ -1,23 +1,62 @@
 //! The reports of a run of a word.
+ghost use Rattle.std.specs.Prelude.{◌≡◌, ◌⊎◌, IfOk, Some};
+ghost use Rattle.std.specs.Str.{chars};
+ghost use Rattle.sbl_bench.specs.Kept.{contents_of};
+ghost use Rattle.sbl_sessions.specs.Answers.{edit_text};
+ghost use Rattle.sbl_sessions.specs.CommandViews.{IsReply};
+ghost use Rattle.sbl_work.specs.Replies.{integers_reply_text, why_reply_text};
 
 use crate::replies::edit_reply;
-use sbl_bench::Bench;
+use sbl_bench::{Bench, EditFault};
 use sbl_sessions::Reply;
 use sbl_why::{integers_text, why_text};
-use std::alloc::Global;
+use std::alloc::{AllocError, Global};
+
+/// Returns the characters of a text. Returns `AllocError` if an allocation fails.
+fn characters_of(alloc: Global, text: &str) -> Result<Vec<char>, AllocError>
+    ensures { IfOk result (λ characters. characters.items ≡ chars text.now) }
+{
+    let mut characters = Vec::with_capacity(alloc, text.chars().count())?;
+    characters.extend(text.chars())?;
+    Ok(characters)
+}
 
 /// Returns the reply with the rows that tell why a word has its stem, or with the fault of the word.
-pub(crate) fn why_reply(alloc: Global, bench: &Bench, word: &[char]) -> Reply {
+fn rows_reply(alloc: Global, bench: &Bench, word: &[char]) -> Reply
+    ensures { IsReply result (why_reply_text (contents_of bench.now) word.now) ⊎ IsReply result (edit_text (Some EditFault.OutOfMemory)) }
+{
     match why_text(alloc, bench, word) {
         Ok(text) => Reply::Report(text),
         Err(fault) => edit_reply(Err(fault)),
     }
 }
 
+/// Returns the reply to `why`.
+pub(crate) fn why_reply(alloc: Global, bench: &Bench, word: &str) -> Reply
+    ensures { IsReply result (why_reply_text (contents_of bench.now) (chars word.now)) ⊎ IsReply result (edit_text (Some EditFault.OutOfMemory)) }
+{
+    match characters_of(alloc, word) {
+        Ok(characters) => rows_reply(alloc, bench, &characters),
+        Err(_) => edit_reply(Err(EditFault::OutOfMemory)),
+    }
+}
+
 /// Returns the reply with the rows of the steps of a run and of the integer variables at its end, or with the fault of the word.
-pub(crate) fn integers_reply(alloc: Global, bench: &Bench, word: &[char]) -> Reply {
+fn integer_rows_reply(alloc: Global, bench: &Bench, word: &[char]) -> Reply
+    ensures { IsReply result (integers_reply_text (contents_of bench.now) word.now) ⊎ IsReply result (edit_text (Some EditFault.OutOfMemory)) }
+{
     match integers_text(alloc, bench, word) {
         Ok(text) => Reply::Report(text),
         Err(fault) => edit_reply(Err(fault)),
+    }
+}
+
+/// Returns the reply to `integers`.
+pub(crate) fn integers_reply(alloc: Global, bench: &Bench, word: &str) -> Reply
+    ensures { IsReply result (integers_reply_text (contents_of bench.now) (chars word.now)) ⊎ IsReply result (edit_text (Some EditFault.OutOfMemory)) }
+{
+    match characters_of(alloc, word) {
+        Ok(characters) => integer_rows_reply(alloc, bench, &characters),
+        Err(_) => edit_reply(Err(EditFault::OutOfMemory)),
     }
 }

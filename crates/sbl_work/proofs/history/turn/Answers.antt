@@ -1,4 +1,4 @@
-use Rattle.std.proofs.Common.{◌≡◌, ◌∙◌, ◌++◌, ◌∷◌, [], ap, map, refl, sym}
+use Rattle.std.proofs.Common.{◌∙◌, ◌++◌, ◌∷◌, [], ap, map, refl, sym}
 use Rattle.std.proofs.lemmas.List.{map-append}
 use Rattle.sbl_work.specs.Desks.{view_step, view_text}
 use Rattle.sbl_work.specs.declared.steps.Step.{Step}

@@ -1,5 +1,4 @@
 use Rattle.std.proofs.Common.{rules, ◌≡◌, ◌∙◌, ap, IfSome, inl, subst, string_bytes}
-use Rattle.sbl_bench.specs.Kept.{contents_of}
 use Rattle.sbl_work.specs.Desks.{view_text}
 use Rattle.sbl_work.specs.Splicing.{Reads}
 use Rattle.sbl_work.proofs.desk.Desk.replace_part.Goals as goal

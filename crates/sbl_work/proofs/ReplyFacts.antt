@@ -1,0 +1,184 @@
+-- The replies to lines with a block.
+use Rattle.std.proofs.Common.{◌≡◌, ◌⊎◌, inl, inr, ◌<◌, ◌≤◌, ℕ, Bool, true, false, List, [], Option, Some, None, Result, Ok, Err, if◌then◌else◌, length, nat_lt, codes, refl, sym, ap, subst, arith}
+use Rattle.std.proofs.lemmas.Bool.Decides.{nat_tests}
+use Rattle.std.specs.Option.{is_some}
+use Rattle.std.proofs.lemmas.Str.{IsUtf8-from_is_utf8, is_utf8-from_IsUtf8}
+use Rattle.std.specs.Str.{IsUtf8, bytes_eq, is_utf8}
+use Rattle.sbl_bench.specs.Contents.{Contents}
+use Rattle.sbl_bench.specs.Edits.{Edits, Whole}
+use Rattle.sbl_bench.specs.declared.fault.EditFault.{EditFault}
+use Rattle.sbl_bench.specs.declared.fault.EditFault.TheVariants as fault
+use Rattle.sbl_script.specs.Edits.{ScriptEdit}
+use Rattle.sbl_sessions.specs.Answers.{BlockRefused, Enough, edit_text, ended}
+use Rattle.sbl_sessions.specs.Block.{made_text, max_script}
+use Rattle.sbl_sessions.specs.CommandViews.{FindsTarget, IsReply}
+use Rattle.sbl_sessions.specs.Commands.{target_of, text_of_block}
+use Rattle.sbl_sessions.specs.Edits.{fault_in}
+use Rattle.sbl_sessions.specs.declared.replies.Reply.{Reply}
+use Rattle.sbl_text.specs.declared.fault.ScriptFault.{ScriptFault}
+use Rattle.sbl_text.specs.declared.fault.ScriptFault.TheVariants as script
+use Rattle.sbl_work.specs.Commands as command
+use Rattle.sbl_work.specs.Commands.{WorkCommand, alone_command, block_command, families_command, is_replace, part_command, replace_command}
+use Rattle.sbl_work.specs.Desks.{State}
+use Rattle.sbl_work.specs.Editing.{Replaces}
+use Rattle.sbl_work.specs.Replies.{IsWorkReply, TellsReport, not_text_text}
+use Rattle.sbl_work.specs.ReplyViews.{IsFamiliesAnswer, IsFileAnswer, IsPartResult, IsTextResult, IsWorkAnswer, NamesText}
+use Rattle.sbl_work.proofs.Refusing.{nothing_tried}
+
+-- ---- any command
+
+-- the reply to one command is that to another name of it
+pub same_command : (s t : Contents) (d e : State) (a b : WorkCommand) (r : Reply) → a ≡ b → IsWorkAnswer s d a r t e → IsWorkAnswer s d b r t e
+same_command s t d e a b r is answer = subst (λ (x : WorkCommand). IsWorkAnswer s d x r t e) is answer
+
+-- a report, or memory for it is refused
+pub told : (s : Contents) (d : State) (report : List ℕ) (r : Reply) → IsReply r report ⊎ IsReply r (edit_text (Some fault.OutOfMemory)) → (text : List ℕ) × IsReply r text × TellsReport report s d text s d
+told s d report r (inl shown) = (report, shown, inl (refl, refl, refl))
+told s d report r (inr shown) = (edit_text (Some fault.OutOfMemory), shown, inr (refl, refl, refl))
+
+pub no_utf8 : (bytes : List ℕ) → ¬ (IsUtf8 bytes) → is_utf8 bytes ≡ false
+no_utf8 bytes not = by (is_utf8 bytes) refl
+  where
+    by : (t : Bool) → is_utf8 bytes ≡ t → is_utf8 bytes ≡ false
+    by true e = absurd (not (IsUtf8-from_is_utf8 bytes e))
+    by false e = e
+
+-- an allocation for the text to be saved fails
+pub save_memory : (s : Contents) (d : State) (line : List ℕ) (r : Reply) → alone_command (Some []) line ≡ command.Saved → IsReply r (edit_text (Some fault.OutOfMemory)) → IsFileAnswer s d line r s d
+save_memory s d line r is shown = (Some [], same_command s s d d command.Saved (alone_command (Some []) line) r (sym is) (edit_text (Some fault.OutOfMemory), shown, inr (refl, refl, refl)))
+
+-- ---- a whole script
+
+-- a text that is too long is refused for that
+too_long : (s : Contents) (bytes : List ℕ) → max_script < length bytes → Edits (Err (fault.Script script.ScriptTooLong)) s (Whole bytes) s
+too_long s bytes long = (inl (script.ScriptTooLong, inl (inl (long, refl)), refl), refl)
+
+-- the block has no text
+pub whole_refused : (s : Contents) (d : State) (bytes : List ℕ) (f : EditFault) → ((f ≡ fault.Script script.ScriptTooLong) × (max_script < length bytes)) ⊎ (f ≡ fault.OutOfMemory)
+    → Replaces (Err f) (Whole bytes) (Some bytes) s d s d
+whole_refused s d bytes f (inl long) = subst (λ (g : EditFault). Replaces (Err g) (Whole bytes) (Some bytes) s d s d) (sym long.0) (too_long s bytes long.1, refl)
+whole_refused s d bytes f (inr memory) = subst (λ (g : EditFault). Replaces (Err g) (Whole bytes) (Some bytes) s d s d) (sym memory) (nothing_tried s bytes, refl)
+
+-- `replace` alone
+pub replace_good : (s t : Contents) (d e : State) (line : List ℕ) (lines : List (List ℕ)) (result : Result (Unit {0}) EditFault) (r : Reply) → bytes_eq line (codes "replace") ≡ true
+    → Replaces result (Whole (made_text lines)) (Some (made_text lines)) s d t e → IsReply r (edit_text (fault_in result)) → IsWorkAnswer s d (replace_command line lines) r t e
+replace_good s t d e line lines result r good so shown = rw good (edit_text (fault_in result), shown, (result, so, refl))
+
+-- `replace` with an argument
+pub replace_bad : (s : Contents) (d : State) (line : List ℕ) (lines : List (List ℕ)) (r : Reply) → bytes_eq line (codes "replace") ≡ false
+    → IsReply r (ended (codes "no 52 BadCommand")) → IsWorkAnswer s d (replace_command line lines) r s d
+replace_bad s d line lines r bad shown = rw bad (ended (codes "no 52 BadCommand"), shown, ((Enough, (refl, refl)), inl (refl, refl)))
+
+-- ---- the text of a block
+
+text_is : (lines : List (List ℕ)) (b : Bool) → length (made_text lines) ≤ max_script → is_utf8 (made_text lines) ≡ b
+    → text_of_block lines ≡ (if b then Ok (made_text lines) else Err script.NotUtf8)
+text_is lines b few is = let test : nat_lt max_script (length (made_text lines)) ≡ false = grind (arith, nat_tests) in rw (test, is) refl
+
+text_long : (lines : List (List ℕ)) → max_script < length (made_text lines) → text_of_block lines ≡ Err script.ScriptTooLong
+text_long lines long = let test : nat_lt max_script (length (made_text lines)) ≡ true = grind (arith, nat_tests) in rw test refl
+
+-- ---- a part of a script
+
+-- an allocation fails
+part_memory : (s : Contents) (d : State) (what : ScriptEdit) (text : Result (List ℕ) ScriptFault) → IsWorkReply s d (part_command (Some what) text) (edit_text (Some fault.OutOfMemory)) s d
+part_memory s d what (Ok text) = inr (refl, refl, refl)
+part_memory s d what (Err f) = ((BlockRefused, (refl, refl)), inl (refl, refl))
+
+-- the line is bad
+pub part_bad : (s : Contents) (d : State) (line : List ℕ) (lines : List (List ℕ)) (r : Reply) → FindsTarget (Ok None) line → IsReply r (ended (codes "no 52 BadCommand"))
+    → IsWorkAnswer s d (part_command (target_of line) (text_of_block lines)) r s d
+part_bad s d line lines r finds shown =
+    same_command s s d d (part_command None (text_of_block lines)) (part_command (target_of line) (text_of_block lines)) r (ap (λ (o : Option ScriptEdit). part_command o (text_of_block lines)) finds)
+    (ended (codes "no 52 BadCommand"), shown, ((Enough, (refl, refl)), inl (refl, refl)))
+
+-- an allocation for the name of the line failed
+pub part_name : (s : Contents) (d : State) (line : List ℕ) (lines : List (List ℕ)) (r : Reply) → is_some (target_of line) ≡ true → IsReply r (edit_text (Some fault.OutOfMemory))
+    → IsWorkAnswer s d (part_command (target_of line) (text_of_block lines)) r s d
+part_name s d line lines r some shown = by (target_of line) some
+  where
+    by : (o : Option ScriptEdit) → is_some o ≡ true → IsWorkAnswer s d (part_command o (text_of_block lines)) r s d
+    by None e = let no : false ≡ true = e in absurd (cc no)
+    by (Some what) e = (edit_text (Some fault.OutOfMemory), shown, part_memory s d what (text_of_block lines))
+
+-- the block has no text
+pub part_refused : (s : Contents) (d : State) (what : ScriptEdit) (lines : List (List ℕ)) (f : EditFault) (r : Reply) → NamesText (Err f) (made_text lines) → IsReply r (edit_text (Some f))
+    → IsWorkAnswer s d (part_command (Some what) (text_of_block lines)) r s d
+part_refused s d what lines f r (inl long) shown =
+    let text : IsReply r (edit_text (Some (fault.Script script.ScriptTooLong))) = subst (λ (g : EditFault). IsReply r (edit_text (Some g))) long.0 shown in
+    same_command s s d d (part_command (Some what) (Err script.ScriptTooLong)) (part_command (Some what) (text_of_block lines)) r (ap (part_command (Some what)) (sym (text_long lines long.1)))
+    (edit_text (Some (fault.Script script.ScriptTooLong)), text, ((Enough, (refl, refl)), inl (refl, refl)))
+part_refused s d what lines f r (inr memory) shown =
+    let text : IsReply r (edit_text (Some fault.OutOfMemory)) = subst (λ (g : EditFault). IsReply r (edit_text (Some g))) memory shown in
+    (edit_text (Some fault.OutOfMemory), text, part_memory s d what (text_of_block lines))
+
+part_text : (s t : Contents) (d e : State) (what : ScriptEdit) (bytes : List ℕ) (result : Result (Unit {0}) EditFault) → IsTextResult result what bytes s d t e
+    → IsWorkReply s d (part_command (Some what) (Ok bytes)) (edit_text (fault_in result)) t e
+part_text s t d e what bytes result (inl so) = inl (so.0, result, so.1, so.2, refl)
+part_text s t d e what bytes result (inr memory) = inr (ap (λ (x : Result (Unit {0}) EditFault). edit_text (fault_in x)) memory.0, memory.1, memory.2)
+
+-- the block has a text, or bytes that are none
+pub part_held : (s t : Contents) (d e : State) (what : ScriptEdit) (bytes : List ℕ) (lines : List (List ℕ)) (result : Result (Unit {0}) EditFault) (r : Reply)
+    → bytes ≡ made_text lines → length (made_text lines) ≤ max_script → IsPartResult result what bytes s d t e → IsReply r (edit_text (fault_in result))
+    → IsWorkAnswer s d (part_command (Some what) (text_of_block lines)) r t e
+part_held s t d e what bytes lines result r same few so shown = by (is_utf8 (made_text lines)) refl (subst (λ (x : List ℕ). IsPartResult result what x s d t e) same so)
+  where
+    by : (b : Bool) → is_utf8 (made_text lines) ≡ b → IsPartResult result what (made_text lines) s d t e → IsWorkAnswer s d (part_command (Some what) (text_of_block lines)) r t e
+    by true is part =
+        let text : IsTextResult result what (made_text lines) s d t e = rw is at part in
+        same_command s t d e (part_command (Some what) (Ok (made_text lines))) (part_command (Some what) (text_of_block lines)) r (ap (part_command (Some what)) (sym (text_is lines true few is)))
+        (edit_text (fault_in result), shown, part_text s t d e what (made_text lines) result text)
+    by false is part =
+        let bad : (result ≡ Err (fault.Script script.NotUtf8)) × (t ≡ s) × (e ≡ d) = rw is at part in
+        same_command s t d e (part_command (Some what) (Err script.NotUtf8)) (part_command (Some what) (text_of_block lines)) r (ap (part_command (Some what)) (sym (text_is lines false few is)))
+        (edit_text (fault_in result), shown, ((Enough, (ap (λ (x : Result (Unit {0}) EditFault). edit_text (fault_in x)) bad.0, bad.1)), inl (ap (λ (x : Contents). x.setting.limit) bad.1, bad.2)))
+
+-- ---- the bytes of a part
+
+pub part_bytes : (s : Contents) (d : State) (what : ScriptEdit) (bytes : List ℕ) → ¬ (IsUtf8 bytes) → IsPartResult (Err (fault.Script script.NotUtf8)) what bytes s d s d
+part_bytes s d what bytes not = rw (no_utf8 bytes not) (refl, refl, refl)
+
+pub part_utf8 : (s t : Contents) (d e : State) (what : ScriptEdit) (text bytes : List ℕ) (result : Result (Unit {0}) EditFault) → text ≡ bytes → IsUtf8 bytes
+    → IsTextResult result what text s d t e → IsPartResult result what bytes s d t e
+part_utf8 s t d e what text bytes result same utf8 so = rw (is_utf8-from_IsUtf8 bytes utf8) (subst (λ (b : List ℕ). IsTextResult result what b s d t e) same so)
+
+-- ---- families
+
+pub families_utf8 : (s : Contents) (d : State) (text bytes : List ℕ) (r : Reply) → text ≡ bytes → IsUtf8 bytes → IsFamiliesAnswer s d text r → IsWorkAnswer s d (command.Families bytes) r s d
+families_utf8 s d text bytes r same utf8 answer = rw (is_utf8-from_IsUtf8 bytes utf8) (subst (λ (b : List ℕ). IsFamiliesAnswer s d b r) same answer)
+
+pub families_bytes : (s : Contents) (d : State) (bytes : List ℕ) → ¬ (IsUtf8 bytes) → (text : List ℕ) × (not_text_text ≡ text) × IsWorkReply s d (command.Families bytes) text s d
+families_bytes s d bytes not = rw (no_utf8 bytes not) (not_text_text, refl, inl (refl, refl, refl))
+
+pub families_held : (s : Contents) (d : State) (bytes : List ℕ) (lines : List (List ℕ)) (r : Reply) → bytes ≡ made_text lines → length (made_text lines) ≤ max_script
+    → IsWorkAnswer s d (command.Families bytes) r s d → IsWorkAnswer s d (families_command lines) r s d
+families_held s d bytes lines r same few answer =
+    let test : nat_lt max_script (length (made_text lines)) ≡ false = grind (arith, nat_tests) in
+    rw test (same_command s s d d (command.Families bytes) (command.Families (made_text lines)) r (ap command.Families same) answer)
+
+pub families_refused : (s : Contents) (d : State) (lines : List (List ℕ)) (f : EditFault) (r : Reply) → NamesText (Err f) (made_text lines) → IsReply r (edit_text (Some f))
+    → IsWorkAnswer s d (families_command lines) r s d
+families_refused s d lines f r (inl long) shown =
+    let test : nat_lt max_script (length (made_text lines)) ≡ true = grind (arith, nat_tests) in
+    let text : IsReply r (edit_text (Some (fault.Script script.ScriptTooLong))) = subst (λ (g : EditFault). IsReply r (edit_text (Some g))) long.0 shown in
+    rw test (edit_text (Some (fault.Script script.ScriptTooLong)), text, ((Enough, (refl, refl)), inl (refl, refl)))
+families_refused s d lines f r (inr memory) shown = by (nat_lt max_script (length (made_text lines))) refl
+  where
+    text : IsReply r (edit_text (Some fault.OutOfMemory))
+    text = subst (λ (g : EditFault). IsReply r (edit_text (Some g))) memory shown
+
+    by : (b : Bool) → nat_lt max_script (length (made_text lines)) ≡ b → IsWorkAnswer s d (families_command lines) r s d
+    by true is = rw is (edit_text (Some fault.OutOfMemory), text, ((BlockRefused, (refl, refl)), inl (refl, refl)))
+    by false is = rw is (edit_text (Some fault.OutOfMemory), text, inr (refl, refl, refl))
+
+-- ---- a line with its block
+
+pub part_block : (s t : Contents) (d e : State) (line : List ℕ) (lines : List (List ℕ)) (r : Reply) (asked : Bool) → asked ≡ true
+    → IsWorkAnswer s d (part_command (target_of line) (text_of_block lines)) r t e
+    → IsWorkAnswer s d (if asked then part_command (target_of line) (text_of_block lines) else (if is_replace line then replace_command line lines else families_command lines)) r t e
+part_block s t d e line lines r asked is answer = rw is answer
+
+pub families_block : (s t : Contents) (d e : State) (line : List ℕ) (lines : List (List ℕ)) (r : Reply) (asked replaces : Bool) → asked ≡ false → replaces ≡ false
+    → IsWorkAnswer s d (families_command lines) r t e
+    → IsWorkAnswer s d (if asked then part_command (target_of line) (text_of_block lines) else (if replaces then replace_command line lines else families_command lines)) r t e
+families_block s t d e line lines r asked replaces is other answer = rw (is, other) answer

@@ -1,0 +1,137 @@
+-- The commands of work.
+use Rattle.std.specs.Prelude.{ℕ, Bool, false, ◌==◌, ◌||◌, List, [], ◌∷◌, codes, if◌then◌else◌, length, nat_lt, zero, suc, Option, Some, None, Result, Ok, Err}
+use Rattle.std.specs.Option.{option_and_then}
+use Rattle.std.specs.Str.{bytes_eq, chars, is_utf8}
+use Rattle.sbl_lines.specs.LinesOf.{lines_of}
+use Rattle.sbl_script.specs.Edits.{ScriptEdit}
+use Rattle.sbl_sessions.specs.Block.{made_text, max_script}
+use Rattle.sbl_sessions.specs.Commands as session
+use Rattle.sbl_sessions.specs.Numbers.{number_in}
+use Rattle.sbl_sessions.specs.Requests.{asks_block}
+use Rattle.sbl_sessions.specs.Words.{argument, command_word}
+use Rattle.sbl_text.specs.declared.fault.ScriptFault.{ScriptFault}
+use Rattle.sbl_text.specs.declared.fault.ScriptFault.TheVariants as fault
+
+-- Nothing, for a comment or `help`; a command of a session; a text for a part of the script; the bytes of a whole script; the
+-- edit before or after; the mark; what differs from it; figures; so many of the largest classes, none if the number is bad; the
+-- bytes of families; why a word has its stem; the integer variables after its run; what no word uses; a definition; a file that was written; a file that was not read or written; a
+-- text.
+pub data WorkCommand : Type 0 where
+  Nothing : WorkCommand
+  Session : session.Command → WorkCommand
+  EditPart : ScriptEdit → List ℕ → WorkCommand
+  EditWhole : List ℕ → WorkCommand
+  Undo : WorkCommand
+  Redo : WorkCommand
+  Mark : WorkCommand
+  Changes : WorkCommand
+  Stats : WorkCommand
+  Unused : WorkCommand
+  Largest : Option ℕ → WorkCommand
+  Families : List ℕ → WorkCommand
+  Why : List ℕ → WorkCommand
+  Integers : List ℕ → WorkCommand
+  Show : List ℕ → WorkCommand
+  Saved : WorkCommand
+  NoFile : WorkCommand
+  Echo : List ℕ → WorkCommand
+
+-- the line that ends the work
+abbrev pub quit_line : List ℕ
+quit_line = codes "quit"
+
+-- ---- a line alone
+
+-- a number above 0
+abbrev pub positive : ℕ → Option ℕ
+positive zero = None
+positive (suc n) = Some (suc n)
+
+-- the number above 0 that decimal digits write
+abbrev pub count_in : List ℕ → Option ℕ
+count_in text = option_and_then positive (number_in text)
+
+-- the command with the bytes of its file, if the file could be read or written
+abbrev pub with_file : (List ℕ → WorkCommand) → Option (List ℕ) → WorkCommand
+with_file command None = NoFile
+with_file command (Some bytes) = command bytes
+
+-- families in the lines of a file
+abbrev pub families_in_file : List ℕ → WorkCommand
+families_in_file bytes = Families (made_text (lines_of bytes))
+
+-- the command of a line by its command word
+abbrev pub word_command : Option (List ℕ) → List ℕ → WorkCommand
+word_command file line =
+    if bytes_eq (command_word line) (codes "largest") then Largest (count_in (argument line))
+    else (if bytes_eq (command_word line) (codes "families") then with_file families_in_file file
+    else (if bytes_eq (command_word line) (codes "why") then Why (chars (argument line))
+    else (if bytes_eq (command_word line) (codes "events") then Why (chars (argument line))
+    else (if bytes_eq (command_word line) (codes "integers") then Integers (chars (argument line))
+    else (if bytes_eq (command_word line) (codes "show") then Show (argument line)
+    else (if bytes_eq (command_word line) (codes "save") then with_file (λ bytes. Saved) file
+    else Session (session.line_command line)))))))
+
+-- the command of a line that is UTF-8
+abbrev pub text_command : Option (List ℕ) → List ℕ → WorkCommand
+text_command file line =
+    if bytes_eq line (codes "reload") then with_file EditWhole file
+    else (if bytes_eq line (codes "undo") then Undo
+    else (if bytes_eq line (codes "redo") then Redo
+    else (if bytes_eq line (codes "mark") then Mark
+    else (if bytes_eq line (codes "changes") then Changes
+    else (if bytes_eq line (codes "stats") then Stats
+    else (if bytes_eq line (codes "unused") then Unused
+    else (if bytes_eq line (codes "help") then Nothing
+    else word_command file line)))))))
+
+-- whether a line begins with `#`
+abbrev pub is_comment : List ℕ → Bool
+is_comment [] = false
+is_comment (b ∷ line) = b == 35
+
+-- The command of a line without a block. The file has these bytes: the script's for `reload`, the one that the line names for
+-- `families` and `save`; none if it could not be read or written. The text of `echo` may be any bytes. Any other line that is
+-- not UTF-8 is a command of a session, where it is bad.
+unfoldable pub alone_command : Option (List ℕ) → List ℕ → WorkCommand
+alone_command file line =
+    if is_comment line then Nothing
+    else (if bytes_eq (command_word line) (codes "echo") then Echo (argument line)
+    else (if is_utf8 line then text_command file line
+    else Session (session.line_command line)))
+
+-- ---- a line and its block
+
+abbrev pub is_replace : List ℕ → Bool
+is_replace line = bytes_eq (command_word line) (codes "replace")
+
+-- whether a block follows the line: after the command words of the blocks of a session, after `replace` with an argument too,
+-- and after `families` alone
+abbrev pub asks_work_block : List ℕ → Bool
+asks_work_block line = asks_block line || (is_replace line || bytes_eq line (codes "families"))
+
+-- A line that is bad comes before a fault of its block.
+abbrev pub part_command : Option ScriptEdit → Result (List ℕ) ScriptFault → WorkCommand
+part_command None text = Session session.Bad
+part_command (Some what) (Ok text) = EditPart what text
+part_command (Some what) (Err f) = Session (session.HasNoText f)
+
+-- `replace` with an argument is bad
+abbrev pub replace_command : List ℕ → List (List ℕ) → WorkCommand
+replace_command line lines = if bytes_eq line (codes "replace") then EditWhole (made_text lines) else Session session.Bad
+
+abbrev pub families_command : List (List ℕ) → WorkCommand
+families_command lines =
+    if nat_lt max_script (length (made_text lines)) then Session (session.HasNoText fault.ScriptTooLong) else Families (made_text lines)
+
+abbrev pub block_command : List ℕ → List (List ℕ) → WorkCommand
+block_command line lines =
+    if asks_block line then part_command (session.target_of line) (session.text_of_block lines)
+    else (if is_replace line then replace_command line lines
+    else families_command lines)
+
+-- ---- both
+
+abbrev pub by_work_block : Option (List ℕ) → List ℕ → Option (List (List ℕ)) → WorkCommand
+by_work_block file line None = alone_command file line
+by_work_block file line (Some lines) = block_command line lines

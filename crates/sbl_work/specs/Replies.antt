@@ -1,0 +1,116 @@
+-- The replies of work: the text of the reply to a command, and the bench and the desk after it.
+use Rattle.std.specs.Prelude.{◌≡◌, ◌⊎◌, ℕ, List, [], codes, if◌then◌else◌, Option, Some, None, Result, Ok, Err}
+use Rattle.std.specs.Str.{chars, is_utf8}
+use Rattle.sbl_bench.specs.Contents.{Contents}
+use Rattle.sbl_bench.specs.Edits.{Whole}
+use Rattle.sbl_bench.specs.Whys.{refusal_of_why}
+use Rattle.sbl_bench.specs.declared.fault.EditFault.{EditFault}
+use Rattle.sbl_bench.specs.declared.fault.EditFault.TheVariants as edit
+use Rattle.sbl_script.specs.Edits.{ScriptEdit}
+use Rattle.sbl_sessions.specs.Answers.{edit_text, ended}
+use Rattle.sbl_sessions.specs.CommandViews.{IsTextAnswer}
+use Rattle.sbl_sessions.specs.Edits.{fault_in}
+use Rattle.sbl_unused.specs.Unused as unused
+use Rattle.sbl_why.specs.Integers as integers
+use Rattle.sbl_why.specs.Rows as rows
+use Rattle.sbl_work.specs.Commands.{WorkCommand, Nothing, Session, EditPart, EditWhole, Undo, Redo, Mark, Changes, Stats, Unused, Largest, Families, Why, Integers, Show, Saved, NoFile, Echo}
+use Rattle.sbl_work.specs.Definitions.{definition_text}
+use Rattle.sbl_work.specs.Desks.{Redoes, State, Undoes, rows_now}
+use Rattle.sbl_work.specs.Editing.{IsLimitNoted, Replaces, ReplacesPart}
+use Rattle.sbl_work.specs.Families.{families_in, families_text}
+use Rattle.sbl_work.specs.Heads.{IsWithoutHead}
+use Rattle.sbl_work.specs.Reports.{changes_text, largest_text, stats_text}
+use Rattle.sbl_work.specs.declared.history.HistoryFault.{HistoryFault}
+use Rattle.sbl_work.specs.declared.history.HistoryFault.TheVariants as fault
+
+-- ---- texts
+
+-- the reply to what undoes or redoes an edit; the first text if there is no such edit
+abbrev pub turn_text : List ℕ → Result (Unit {0}) HistoryFault → List ℕ
+turn_text nothing (Ok u) = edit_text None
+turn_text nothing (Err fault.Nothing) = nothing
+turn_text nothing (Err (fault.Edit f)) = edit_text (Some f)
+
+abbrev pub undo_text : Result (Unit {0}) HistoryFault → List ℕ
+undo_text result = turn_text (ended (codes "no 54 NothingToUndo")) result
+
+abbrev pub redo_text : Result (Unit {0}) HistoryFault → List ℕ
+redo_text result = turn_text (ended (codes "no 55 NothingToRedo")) result
+
+abbrev pub bad_number_text : List ℕ
+bad_number_text = ended (codes "no 56 BadNumber")
+
+abbrev pub no_file_text : List ℕ
+no_file_text = ended (codes "no 57 NoFile")
+
+abbrev pub not_text_text : List ℕ
+not_text_text = ended (codes "no 75 NotText")
+
+-- the reply to families in these bytes
+abbrev pub families_reply_text : Contents → List ℕ → List ℕ
+families_reply_text s bytes = if is_utf8 bytes then families_text s (families_in (chars bytes)) else not_text_text
+
+-- the rows, or the fault of the word
+abbrev pub rows_or_fault : Option EditFault → List ℕ → List ℕ
+rows_or_fault None text = text
+rows_or_fault (Some f) text = edit_text (Some f)
+
+abbrev pub why_reply_text : Contents → List ℕ → List ℕ
+why_reply_text s word = rows_or_fault (refusal_of_why word) (rows.why_text s.setting word)
+
+abbrev pub integers_reply_text : Contents → List ℕ → List ℕ
+integers_reply_text s word = rows_or_fault (refusal_of_why word) (integers.integers_text s.setting word)
+
+-- ---- replies
+
+-- this is written, and nothing is changed
+abbrev pub TellsAlone : List ℕ → Contents → State → List ℕ → Contents → State → Type 0
+TellsAlone expected s d text t e = (text ≡ expected) × (t ≡ s) × (e ≡ d)
+
+-- an allocation fails, and nothing is changed
+abbrev pub TellsMemory : Contents → State → List ℕ → Contents → State → Type 0
+TellsMemory s d text t e = TellsAlone (edit_text (Some edit.OutOfMemory)) s d text t e
+
+-- a report is written whole, or an allocation for it fails
+abbrev pub TellsReport : List ℕ → Contents → State → List ℕ → Contents → State → Type 0
+TellsReport report s d text t e = TellsAlone report s d text t e ⊎ TellsMemory s d text t e
+
+-- the whole script is replaced by these bytes, which become its text
+abbrev pub IsWholeReply : List ℕ → Contents → State → List ℕ → Contents → State → Type 0
+IsWholeReply bytes s d text t e =
+    (result : Result (Unit {0}) EditFault) × Replaces result (Whole bytes) (Some bytes) s d t e × (text ≡ edit_text (fault_in result))
+
+-- a part of the script is replaced by this text, without the beginning of a definition
+abbrev pub IsPartReply : ScriptEdit → List ℕ → Contents → State → List ℕ → Contents → State → Type 0
+IsPartReply what block s d text t e =
+    (rest : List ℕ) × (result : Result (Unit {0}) EditFault) × IsWithoutHead what block rest × ReplacesPart result what rest s d t e
+    × (text ≡ edit_text (fault_in result))
+
+abbrev pub IsDefinitionReply : Option (List ℕ) → Contents → State → List ℕ → Contents → State → Type 0
+IsDefinitionReply None s d text t e = TellsAlone (edit_text (Some edit.NoRoutine)) s d text t e
+IsDefinitionReply (Some line) s d text t e = TellsReport line s d text t e
+
+abbrev pub IsLargestReply : Option ℕ → Contents → State → List ℕ → Contents → State → Type 0
+IsLargestReply None s d text t e = TellsAlone bad_number_text s d text t e
+IsLargestReply (Some n) s d text t e = TellsReport (largest_text n s) s d text t e
+
+-- The reply to a command. A file that is to be written may need memory for its text.
+abbrev pub IsWorkReply : Contents → State → WorkCommand → List ℕ → Contents → State → Type 0
+IsWorkReply s d Nothing text t e = TellsAlone [] s d text t e
+IsWorkReply s d (Session command) text t e = IsTextAnswer s command text t × IsLimitNoted s t d e
+IsWorkReply s d (EditPart what block) text t e = IsPartReply what block s d text t e ⊎ TellsMemory s d text t e
+IsWorkReply s d (EditWhole bytes) text t e = IsWholeReply bytes s d text t e
+IsWorkReply s d Undo text t e = (result : Result (Unit {0}) HistoryFault) × Undoes result s d t e × (text ≡ undo_text result)
+IsWorkReply s d Redo text t e = (result : Result (Unit {0}) HistoryFault) × Redoes result s d t e × (text ≡ redo_text result)
+IsWorkReply s d Mark text t e = ((text ≡ edit_text None) × (t ≡ s) × (e ≡ record d { marked = rows_now s })) ⊎ TellsMemory s d text t e
+IsWorkReply s d Changes text t e = TellsReport (changes_text d s) s d text t e
+IsWorkReply s d Stats text t e = TellsReport (stats_text s) s d text t e
+IsWorkReply s d Unused text t e = TellsReport (unused.unused_text s.setting s.words) s d text t e
+IsWorkReply s d (Largest number) text t e = IsLargestReply number s d text t e
+IsWorkReply s d (Families bytes) text t e = TellsReport (families_reply_text s bytes) s d text t e
+IsWorkReply s d (Why word) text t e = TellsReport (why_reply_text s word) s d text t e
+IsWorkReply s d (Integers word) text t e = TellsReport (integers_reply_text s word) s d text t e
+IsWorkReply s d (Show name) text t e = IsDefinitionReply (definition_text s.setting.script name) s d text t e
+IsWorkReply s d Saved text t e = TellsReport (edit_text None) s d text t e
+IsWorkReply s d NoFile text t e = TellsAlone no_file_text s d text t e
+IsWorkReply s d (Echo echoed) text t e = TellsReport (ended echoed) s d text t e

@@ -1,0 +1,90 @@
+-- A command and a reply, without memory addresses.
+use Rattle.std.specs.Prelude.{◌≡◌, ◌⊎◌, ◌<◌, ◌≤◌, ℕ, Bool, true, false, List, Option, Result, Ok, Err, codes, length}
+use Rattle.std.specs.Option.{option_map}
+use Rattle.std.specs.Str.{bytes_eq, chars, is_utf8}
+use Rattle.std.specs.Borrow.{Bor}
+use Rattle.std.specs.declared.alloc.Global.{Global}
+use Rattle.std.specs.declared.vec.Vec.{Vec}
+use Rattle.sbl_bench.specs.Contents.{Contents}
+use Rattle.sbl_bench.specs.declared.fault.EditFault.{EditFault}
+use Rattle.sbl_bench.specs.declared.fault.EditFault.TheVariants as edit
+use Rattle.sbl_script.specs.Edits.{ScriptEdit}
+use Rattle.sbl_sessions.specs.Block.{max_script}
+use Rattle.sbl_sessions.specs.CommandViews.{FindsTarget, IsReply}
+use Rattle.sbl_sessions.specs.Commands.{line_command}
+use Rattle.sbl_sessions.specs.Requests.{asks_block}
+use Rattle.sbl_sessions.specs.declared.replies.Reply.{Reply}
+use Rattle.sbl_text.specs.declared.fault.ScriptFault.TheVariants as script
+use Rattle.sbl_work.specs.Commands as command
+use Rattle.sbl_work.specs.Commands.{WorkCommand, alone_command, count_in, families_in_file, is_replace, with_file}
+use Rattle.sbl_work.specs.Desks.{State}
+use Rattle.sbl_work.specs.Editing.{ReplacesPart}
+use Rattle.sbl_work.specs.Heads.{IsWithoutHead}
+use Rattle.sbl_work.specs.Families.{families_in, families_text}
+use Rattle.sbl_work.specs.Replies.{IsWorkReply, TellsReport}
+use Rattle.sbl_work.specs.declared.requests.BlockRequest.{BlockRequest}
+use Rattle.sbl_work.specs.declared.requests.BlockRequest.TheVariants as blocks
+use Rattle.sbl_work.specs.declared.requests.Request.{Request}
+use Rattle.sbl_work.specs.declared.requests.Request.TheVariants as variants
+
+abbrev pub view_file : Option (Bor (List ℕ)) → Option (List ℕ)
+view_file file = option_map (λ bytes. bytes.now) file
+
+-- the command of a line, by what the line asks for and the bytes of its file
+abbrev pub view_request : Option (List ℕ) → List ℕ → Request → WorkCommand
+view_request file line variants.Comment = command.Nothing
+view_request file line variants.Reload = with_file command.EditWhole file
+view_request file line variants.Undo = command.Undo
+view_request file line variants.Redo = command.Redo
+view_request file line variants.Mark = command.Mark
+view_request file line variants.Changes = command.Changes
+view_request file line variants.Stats = command.Stats
+view_request file line variants.Unused = command.Unused
+view_request file line (variants.Largest number) = command.Largest (count_in number.now)
+view_request file line (variants.Families path) = with_file families_in_file file
+view_request file line (variants.Why word) = command.Why (chars word.now)
+view_request file line (variants.Integers word) = command.Integers (chars word.now)
+view_request file line (variants.Show name) = command.Show name.now
+view_request file line (variants.Save path) = with_file (λ bytes. command.Saved) file
+view_request file line (variants.Echo text) = command.Echo text.now
+view_request file line variants.Help = command.Nothing
+view_request file line variants.Session = command.Session (line_command line)
+
+-- the reply to a command, and the bench and the desk after it
+abbrev pub IsWorkAnswer : Contents → State → WorkCommand → Reply → Contents → State → Type 0
+IsWorkAnswer s d c r t e = (text : List ℕ) × IsReply r text × IsWorkReply s d c text t e
+
+-- the reply to a line without a block, for some bytes of its file, if it needs one
+abbrev pub IsFileAnswer : Contents → State → List ℕ → Reply → Contents → State → Type 0
+IsFileAnswer s d line r t e = (file : Option (List ℕ)) × IsWorkAnswer s d (alone_command file line) r t e
+
+-- ---- a line and its block
+
+-- what a line asks for with its block
+abbrev pub FindsBlock : BlockRequest → List ℕ → Type 0
+FindsBlock (blocks.Part target) line = (asks_block line ≡ true) × FindsTarget target line
+FindsBlock (blocks.Whole is_good) line = (asks_block line ≡ false) × (is_replace line ≡ true) × (is_good ≡ bytes_eq line (codes "replace"))
+FindsBlock blocks.Families line = (asks_block line ≡ false) × (is_replace line ≡ false) × (bytes_eq line (codes "families") ≡ true)
+
+-- the report of the families of a text, or an allocation for it fails; nothing is changed
+abbrev pub IsFamiliesAnswer : Contents → State → List ℕ → Reply → Type 0
+IsFamiliesAnswer s d text r = (report : List ℕ) × IsReply r report × TellsReport (families_text s (families_in (chars text))) s d report s d
+
+-- the bytes of a text; or it is too long for a script, or an allocation failed
+abbrev pub NamesText : Result (Vec ℕ Global) EditFault → List ℕ → Type 0
+NamesText (Ok v) text = (v.items ≡ text) × (length text ≤ max_script)
+NamesText (Err f) text = ((f ≡ edit.Script script.ScriptTooLong) × (max_script < length text)) ⊎ (f ≡ edit.OutOfMemory)
+
+-- a part of the script is replaced by a text, which is without the beginning of a definition; or an allocation failed
+abbrev pub IsTextResult : Result (Unit {0}) EditFault → ScriptEdit → List ℕ → Contents → State → Contents → State → Type 0
+IsTextResult result what text s d t e =
+    ((rest : List ℕ) × IsWithoutHead what text rest × ReplacesPart result what rest s d t e)
+    ⊎ ((result ≡ Err edit.OutOfMemory) × (t ≡ s) × (e ≡ d))
+
+-- the same for bytes, which may be no text
+abbrev pub IsBytesResult : Bool → Result (Unit {0}) EditFault → ScriptEdit → List ℕ → Contents → State → Contents → State → Type 0
+IsBytesResult true result what bytes s d t e = IsTextResult result what bytes s d t e
+IsBytesResult false result what bytes s d t e = (result ≡ Err (edit.Script script.NotUtf8)) × (t ≡ s) × (e ≡ d)
+
+abbrev pub IsPartResult : Result (Unit {0}) EditFault → ScriptEdit → List ℕ → Contents → State → Contents → State → Type 0
+IsPartResult result what bytes s d t e = IsBytesResult (is_utf8 bytes) result what bytes s d t e

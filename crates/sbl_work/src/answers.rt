@@ -1,0 +1,184 @@
+//! The replies to lines without a block.
+ghost use Rattle.std.specs.Prelude.{◌≡◌, IfOk};
+ghost use Rattle.std.specs.Str.{chars};
+ghost use Rattle.sbl_bench.specs.Kept.{contents_of};
+ghost use Rattle.sbl_sessions.specs.Answers.{ended};
+ghost use Rattle.sbl_work.specs.Commands as spec;
+ghost use Rattle.sbl_work.specs.Desks.{State, state_of};
+ghost use Rattle.sbl_work.specs.ReplyViews.{IsWorkAnswer, view_file};
+
+use crate::definitions::definition_text;
+use crate::desk::Desk;
+use crate::families::lines_text;
+use crate::parts::families_reply;
+use crate::replies::{BAD_NUMBER, NO_FILE, edit_reply, memory_reply, redo_reply, undo_reply};
+use crate::reports::{changes_text, largest_text, stats_text};
+use crate::requests::{Request, count_in, request_of};
+use crate::whys::{integers_reply, why_reply};
+use sbl_bench::{Bench, EditFault};
+use sbl_sessions::{Reply, report};
+use sbl_unused::unused_text;
+use std::alloc::{AllocError, Global};
+
+/// Returns the reply to `reload`.
+fn reload(desk: &mut Desk, bench: &mut Bench, file: Option<&[u8]>) -> Reply
+    ensures { IsWorkAnswer (contents_of bench.old) (state_of desk.old) (spec.with_file spec.EditWhole (view_file file.entry)) result (contents_of bench.new) (state_of desk.new) }
+{
+    match file {
+        Some(bytes) => edit_reply(desk.replace(bench, bytes)),
+        None => Reply::Fixed(NO_FILE),
+    }
+}
+
+/// Returns the reply to `undo`.
+fn undo(desk: &mut Desk, bench: &mut Bench) -> Reply
+    ensures { IsWorkAnswer (contents_of bench.old) (state_of desk.old) spec.Undo result (contents_of bench.new) (state_of desk.new) }
+{
+    undo_reply(desk.undo(bench))
+}
+
+/// Returns the reply to `redo`.
+fn redo(desk: &mut Desk, bench: &mut Bench) -> Reply
+    ensures { IsWorkAnswer (contents_of bench.old) (state_of desk.old) spec.Redo result (contents_of bench.new) (state_of desk.new) }
+{
+    redo_reply(desk.redo(bench))
+}
+
+/// Returns the reply to `mark`.
+fn mark(desk: &mut Desk, bench: &Bench) -> Reply
+    ensures { IsWorkAnswer (contents_of bench.now) (state_of desk.old) spec.Mark result (contents_of bench.now) (state_of desk.new) }
+{
+    memory_reply(desk.mark(bench))
+}
+
+/// Returns the reply to `changes`.
+fn changes(alloc: Global, desk: &Desk, bench: &Bench) -> Reply
+    ensures { IsWorkAnswer (contents_of bench.now) (state_of desk.now) spec.Changes result (contents_of bench.now) (state_of desk.now) }
+{
+    report(changes_text(alloc, desk, bench))
+}
+
+/// Returns the reply to `stats`.
+fn stats(alloc: Global, bench: &Bench) -> Reply
+    ensures { (d : State) → IsWorkAnswer (contents_of bench.now) d spec.Stats result (contents_of bench.now) d }
+{
+    report(stats_text(alloc, bench))
+}
+
+/// Returns the reply to `unused`.
+fn unused(alloc: Global, bench: &Bench) -> Reply
+    ensures { (d : State) → IsWorkAnswer (contents_of bench.now) d spec.Unused result (contents_of bench.now) d }
+{
+    report(unused_text(alloc, bench))
+}
+
+/// Returns the reply to `largest`.
+fn largest(alloc: Global, bench: &Bench, argument: &str) -> Reply
+    ensures { (d : State) → IsWorkAnswer (contents_of bench.now) d (spec.Largest (spec.count_in argument.now)) result (contents_of bench.now) d }
+{
+    match count_in(argument.as_bytes()) {
+        Some(number) => report(largest_text(alloc, bench, number)),
+        None => Reply::Fixed(BAD_NUMBER),
+    }
+}
+
+/// Returns the reply to `families` for a file.
+fn families(alloc: Global, bench: &Bench, file: Option<&[u8]>) -> Reply
+    ensures { (d : State) → IsWorkAnswer (contents_of bench.now) d (spec.with_file spec.families_in_file (view_file file.entry)) result (contents_of bench.now) d }
+{
+    let Some(bytes) = file else {
+        return Reply::Fixed(NO_FILE);
+    };
+    match lines_text(alloc, bytes) {
+        Ok(text) => families_reply(alloc, bench, &text),
+        Err(refused) => report(Err(refused)),
+    }
+}
+
+/// Returns the reply to `why`.
+fn why(alloc: Global, bench: &Bench, word: &str) -> Reply
+    ensures { (d : State) → IsWorkAnswer (contents_of bench.now) d (spec.Why (chars word.now)) result (contents_of bench.now) d }
+{
+    why_reply(alloc, bench, word)
+}
+
+/// Returns the reply to `integers`.
+fn integers(alloc: Global, bench: &Bench, word: &str) -> Reply
+    ensures { (d : State) → IsWorkAnswer (contents_of bench.now) d (spec.Integers (chars word.now)) result (contents_of bench.now) d }
+{
+    integers_reply(alloc, bench, word)
+}
+
+/// Returns the reply to `show`.
+fn show(alloc: Global, bench: &Bench, name: &str) -> Reply
+    ensures { (d : State) → IsWorkAnswer (contents_of bench.now) d (spec.Show name.now) result (contents_of bench.now) d }
+{
+    match definition_text(alloc, bench.script(), name) {
+        Ok(Some(text)) => Reply::Report(text),
+        Ok(None) => edit_reply(Err(EditFault::NoRoutine)),
+        Err(refused) => report(Err(refused)),
+    }
+}
+
+/// Returns the reply to `save`.
+fn saved(bench: &Bench, file: Option<&[u8]>) -> Reply
+    ensures { (d : State) → IsWorkAnswer (contents_of bench.now) d (spec.with_file (λ bytes. spec.Saved) (view_file file.entry)) result (contents_of bench.now) d }
+{
+    match file {
+        Some(_) => edit_reply(Ok(())),
+        None => Reply::Fixed(NO_FILE),
+    }
+}
+
+/// Returns a text and a line feed.
+fn echo_text(alloc: Global, text: &[u8]) -> Result<Vec<u8>, AllocError>
+    ensures { IfOk result (λ line. line.items ≡ ended text.now) }
+{
+    let mut line = Vec::from_slice(alloc, text)?;
+    line.extend_from_slice(b"\n")?;
+    Ok(line)
+}
+
+/// Returns the reply to `echo`.
+fn echo(alloc: Global, bench: &Bench, text: &[u8]) -> Reply
+    ensures { (d : State) → IsWorkAnswer (contents_of bench.now) d (spec.Echo text.now) result (contents_of bench.now) d }
+{
+    report(echo_text(alloc, text))
+}
+
+/// Makes the edit or the report that a line without a block asks for, and returns the reply.
+///
+/// `file` has the bytes of the file that the line needs: of the script's for `reload`, of the one that `families` names. It is
+/// `None` if the file could not be read. For `save` it has any bytes if the file was written, and is `None` if it was not. Other
+/// commands do not look at it.
+///
+/// If an allocation fails, the reply is `no 49 OutOfMemory`.
+pub fn answer_line(
+    alloc: Global,
+    desk: &mut Desk,
+    bench: &mut Bench,
+    line: &[u8],
+    file: Option<&[u8]>,
+) -> Reply
+    ensures { IsWorkAnswer (contents_of bench.old) (state_of desk.old) (spec.alone_command (view_file file.entry) line.now) result (contents_of bench.new) (state_of desk.new) }
+{
+    match request_of(line) {
+        Request::Comment => Reply::Fixed(""),
+        Request::Reload => reload(desk, bench, file),
+        Request::Undo => undo(desk, bench),
+        Request::Redo => redo(desk, bench),
+        Request::Mark => mark(desk, bench),
+        Request::Changes => changes(alloc, desk, bench),
+        Request::Stats => stats(alloc, bench),
+        Request::Unused => unused(alloc, bench),
+        Request::Largest(argument) => largest(alloc, bench, argument),
+        Request::Families(_) => families(alloc, bench, file),
+        Request::Why(word) => why(alloc, bench, word),
+        Request::Integers(word) => integers(alloc, bench, word),
+        Request::Show(name) => show(alloc, bench, name),
+        Request::Save(_) => saved(bench, file),
+        Request::Echo(text) => echo(alloc, bench, text),
+        Request::Help => Reply::Fixed(""),
+        Request::Session => desk.answer(bench, line),
+    }
+}
