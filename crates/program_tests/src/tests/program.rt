@@ -32,6 +32,10 @@ fn run_of(
         external,
         script: None,
         words: None,
+        commands: None,
+        stems: None,
+        is_strict: false,
+        shows_places: false,
         face: None,
     };
     let mut text = writer(alloc, 0);
@@ -101,6 +105,27 @@ fn stems_are_written_for_a_vocabulary_alone(rt: HostRuntime) -> Result<(), Fail>
         ),
     ];
     assert!(rt; runs_so(rt.alloc(), Verb::Stem, &rows)?);
+    Ok(())
+}
+
+/// A word that is there again has a row again, and an empty line has none.
+#[test]
+fn filter_writes_a_row_for_each_line(rt: HostRuntime) -> Result<(), Fail> {
+    let rows: [Run; 2] = [
+        (
+            b"externals ( stem )\ndefine stem as ( [ 'un' ] delete )\n.\nundo\n\nundo\n.\n\xff\n",
+            0,
+            b"undo,stem,do\nundo,stem,do\n",
+            b"",
+        ),
+        (
+            b"externals ( stem )\ndefine stem as true\n.\na\n\xff\nb\n",
+            1,
+            b"a,stem,a\n",
+            b"snowbench: 75 NotText\n",
+        ),
+    ];
+    assert!(rt; runs_so(rt.alloc(), Verb::Filter, &rows)?);
     Ok(())
 }
 
