@@ -299,23 +299,20 @@ pub(crate) fn run_filter(rt: &HostRuntime, wanted: &Wanted, script: &str) -> u8 
         Ok(text) => text,
         Err(status) => return status,
     };
-    match filter_words(rt, wanted, &text) {
-        Ok((input, ended)) => print_fault(rt, wanted, script, &input, &ended),
+    let Ok(input) = script_block(rt.alloc(), &text) else {
+        return fail_memory(rt);
+    };
+    match filter_words(rt, wanted, &input) {
+        Ok(ended) => print_fault(rt, wanted, script, &input, &ended),
         Err(_) => fail_memory(rt),
     }
 }
 
-/// Writes the row of each word of standard input by this script. Returns the input before the words, too.
-fn filter_words(
-    rt: &HostRuntime,
-    wanted: &Wanted,
-    script: &[u8],
-) -> Result<(Vec<u8>, Ended), AllocError> {
-    let input = script_block(rt.alloc(), script)?;
-    let reader = input.as_slice().chain(rt.stdin());
+/// Runs what is wanted over these bytes and then standard input.
+fn filter_words(rt: &HostRuntime, wanted: &Wanted, input: &[u8]) -> Result<Ended, AllocError> {
+    let reader = input.chain(rt.stdin());
     let mut lines = Lines::new(rt.alloc(), Device::new(reader))?;
-    let ended = run_lines(rt, wanted, &mut lines)?;
-    Ok((input, ended))
+    run_lines(rt, wanted, &mut lines)
 }
 
 /// Compares the stems of the words of a file with those of another, and returns the exit status. Prints how many differ.
