@@ -1,11 +1,11 @@
 //! Whether two amongs hold the same number of amongs.
 
 ghost use Rattle.std.specs.Prelude.{◌≡◌, ◌<◌, ◌-◌, List, nat_eq};
-ghost use Rattle.sbl_tree.specs.Counts as spec;
-ghost use Rattle.sbl_tree.specs.Tree as trees;
-ghost use Rattle.sbl_tree.specs.View.{view_among, view_command, view_groups, view_others, view_row, view_rows};
+ghost use Rattle.sbl_ast.specs.Counts as spec;
+ghost use Rattle.sbl_ast.specs.Tree as trees;
+ghost use Rattle.sbl_ast.specs.View.{view_among, view_command, view_groups, view_others, view_row, view_rows};
 
-use sbl_tree::{Among, Command, Group, Joined, Row};
+use sbl_ast::{Among, Command, Group, Joined, Row};
 
 /// Returns `number` minus the number of amongs in a command, or 0 if there are more.
 #[cycle(less)]

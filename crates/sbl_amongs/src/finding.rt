@@ -2,15 +2,15 @@
 
 ghost use Rattle.std.specs.Prelude.{◌≡◌, ◌≤◌, ◌<◌, ◌-◌, List, [], MatchOption, None, Some, nat_eq};
 ghost use Rattle.sbl_amongs.specs.Amongs as spec;
-ghost use Rattle.sbl_tree.specs.Counts.{count_amongs, count_in_among, count_in_groups, count_in_others, count_in_rows};
+ghost use Rattle.sbl_ast.specs.Counts.{count_amongs, count_in_among, count_in_groups, count_in_others, count_in_rows};
 ghost use Rattle.sbl_amongs.specs.Amongs.{Held, amongs_of_body, nth_held};
 ghost use Rattle.sbl_amongs.specs.WalkEnds.{Finds};
-ghost use Rattle.sbl_tree.specs.Places.{placed, placed_groups, placed_others, placed_rows, placed_starter, max_depth, AreShallow};
-ghost use Rattle.sbl_tree.specs.Texts.{body, places_in};
-ghost use Rattle.sbl_tree.specs.Tree as trees;
-ghost use Rattle.sbl_tree.specs.View.{view_among, view_command, view_groups, view_others, view_row, view_rows};
+ghost use Rattle.sbl_ast.specs.Places.{placed, placed_groups, placed_others, placed_rows, placed_starter, max_depth, AreShallow};
+ghost use Rattle.sbl_ast.specs.Texts.{body, places_in};
+ghost use Rattle.sbl_ast.specs.Tree as trees;
+ghost use Rattle.sbl_ast.specs.View.{view_among, view_command, view_groups, view_others, view_row, view_rows};
 
-use sbl_tree::{Among, Command, Group, Joined, Row};
+use sbl_ast::{Among, Command, Group, Joined, Row};
 
 /// The result of a walk through a part of a tree.
 pub(crate) enum WalkEnd<'a> {

@@ -1,15 +1,15 @@
 //! Copies of trees in which another among replaces one, by its number in the order of the words `among`.
 
 ghost use Rattle.std.specs.Prelude.{◌≡◌, ◌-◌, List, IfOk};
-ghost use Rattle.sbl_tree.specs.Counts.{count_amongs, count_in_among, count_in_groups, count_in_others, count_in_rows};
+ghost use Rattle.sbl_ast.specs.Counts.{count_amongs, count_in_among, count_in_groups, count_in_others, count_in_rows};
 ghost use Rattle.sbl_amongs.specs.Amongs.{FitsAt, amongs_of_body, put_in_among, put_in_body};
 ghost use Rattle.sbl_amongs.specs.Amongs as spec;
-ghost use Rattle.sbl_tree.specs.Places.{AreShallow};
-ghost use Rattle.sbl_tree.specs.Texts.{body, places_in};
-ghost use Rattle.sbl_tree.specs.View.{view_among, view_command, view_groups, view_others, view_row, view_rows};
-ghost use Rattle.sbl_tree.specs.Tree as trees;
+ghost use Rattle.sbl_ast.specs.Places.{AreShallow};
+ghost use Rattle.sbl_ast.specs.Texts.{body, places_in};
+ghost use Rattle.sbl_ast.specs.View.{view_among, view_command, view_groups, view_others, view_row, view_rows};
+ghost use Rattle.sbl_ast.specs.Tree as trees;
 
-use sbl_tree::{
+use sbl_ast::{
     Among, Command, Group, Joined, Row, copy_among, copy_command, copy_entries, copy_entry,
     copy_expression,
 };

@@ -8,7 +8,7 @@ use Rattle.sbl_script.specs.Edits.{ScriptEdit, body, among, terms, IsEdited, IsE
 use Rattle.sbl_script.specs.Parsed.{Source}
 use Rattle.sbl_script.specs.Reading.{IsScriptOf, IsFaultOf}
 use Rattle.sbl_text.specs.declared.fault.ScriptFault.{ScriptFault}
-use Rattle.sbl_run.specs.Start.{max_word_length}
+use Rattle.sbl_interpreter.specs.Start.{max_word_length}
 use Rattle.sbl_bench.specs.Contents.{Contents, is_full, max_runs}
 use Rattle.sbl_bench.specs.Setting.{Setting}
 use Rattle.sbl_bench.specs.Vocabulary.{is_word, without}

@@ -6,8 +6,8 @@ use crate::change::Change;
 use crate::fault::EditFault;
 use crate::row::Row;
 use crate::traces::Traces;
+use sbl_interpreter::MAX_WORD_LENGTH;
 use sbl_machine::{Item, Machine, Meter, Table, Why};
-use sbl_run::MAX_WORD_LENGTH;
 use sbl_script::Script;
 use std::alloc::{AllocError, Global};
 use std::collections::BTreeSet;
@@ -37,7 +37,7 @@ pub struct Bench {
 
 impl Model for Bench {
     ghost use Rattle.std.specs.Coded.{codes};
-    ghost use Rattle.sbl_tree.specs.contracts.tree.Item as e;
+    ghost use Rattle.sbl_ast.specs.contracts.tree.Item as e;
     ghost use Rattle.sbl_script.specs.Parsed.{source_of};
     ghost use Rattle.sbl_machine.specs.MachineOf.{IsLinkedMachineOf};
     ghost use Rattle.sbl_bench.specs.Kept.{Kept, words_in, IsKept};

@@ -8,11 +8,11 @@ use crate::bench::{Bench, MAX_LIMIT, MAX_WORDS};
 use crate::change::{make_changes, rerun};
 use crate::fault::EditFault;
 use crate::traces::{has_word, put_last};
+use sbl_interpreter::MAX_WORD_LENGTH;
 use sbl_machine::laws::{
     differing_stay, edits_agree, one_item_alone, untouched_stay, used_steps_suffice,
 };
 use sbl_machine::{Item, Machine};
-use sbl_run::MAX_WORD_LENGTH;
 use sbl_script::Script;
 use sbl_script::laws::is_well_declared;
 use std::mem::swap;

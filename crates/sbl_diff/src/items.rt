@@ -1,7 +1,7 @@
 //! The items in which two scripts differ.
 
 ghost use Rattle.std.specs.Prelude.{◌≡◌, ◌∷◌, ◌++◌, [], if◌then◌else◌, IfOk, map, string_bytes};
-ghost use Rattle.sbl_tree.specs.View.{view_item, view_plain};
+ghost use Rattle.sbl_ast.specs.View.{view_item, view_plain};
 ghost use Rattle.sbl_machine.specs.Differs as spec;
 ghost use Rattle.sbl_machine.specs.Touched.{Among, Grouping, item_of};
 ghost use Rattle.sbl_diff.specs.ItemsIn.{items_in};
@@ -9,8 +9,8 @@ ghost use Rattle.sbl_diff.specs.Numbers.{numbers_of};
 
 use crate::commands::differ_bodies;
 use crate::same::{same_argument, same_base, same_literal, same_names, same_terms};
+use sbl_ast::{Item as ItemTree, Plain, copy_name};
 use sbl_machine::Item;
-use sbl_tree::{Item as ItemTree, Plain, copy_name};
 use std::alloc::{AllocError, Global};
 
 /// Returns no item if two items without a body and without terms are the same, and `None` if they differ.

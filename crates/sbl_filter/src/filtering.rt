@@ -2,10 +2,10 @@
 ghost use Rattle.std.specs.Prelude.{◌≡◌, ◌≤◌, None, Some, Err, IfErr, OnOk};
 ghost use Rattle.std.specs.Io.KnownBytes.{Keeps};
 ghost use Rattle.sbl_filter.specs.Filter.{Filters, IsFiltered, WritesLine};
-ghost use Rattle.sbl_lines.specs.Devices.{HasStopped, WritesInTime};
-ghost use Rattle.sbl_lines.specs.Faults.{serve_fault_of};
-ghost use Rattle.sbl_lines.specs.Held.{KeepsTime, fault_of, input_of, reads_bound};
-ghost use Rattle.sbl_lines.specs.declared.faults.LineFault.{LineFault};
+ghost use Rattle.sbl_io.specs.Devices.{HasStopped, WritesInTime};
+ghost use Rattle.sbl_io.specs.Faults.{serve_fault_of};
+ghost use Rattle.sbl_io.specs.Held.{KeepsTime, fault_of, input_of, reads_bound};
+ghost use Rattle.sbl_io.specs.declared.faults.LineFault.{LineFault};
 ghost use Rattle.sbl_machine.specs.MachineOf.{IsLinkedMachineOf};
 ghost use Rattle.sbl_script.specs.Parsed.{Source, source_of};
 ghost use Rattle.sbl_sessions.specs.Faults.{left_by_load};
@@ -13,7 +13,7 @@ ghost use Rattle.sbl_sessions.specs.Loaded.{HasReason};
 
 use crate::rows::row_text;
 use sbl_bench::{EditFault, MAX_WORD_LENGTH};
-use sbl_lines::{Lines, ServeFault, Sink, Source, write_all};
+use sbl_io::{Lines, ServeFault, Sink, Source, write_all};
 use sbl_machine::{Machine, Meter, Table};
 use sbl_script::Script;
 use sbl_sessions::{LoadFault, read_script};

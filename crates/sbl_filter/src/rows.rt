@@ -7,14 +7,14 @@ ghost use Rattle.sbl_bench.specs.Setting.{under};
 ghost use Rattle.sbl_machine.specs.Limit.{default_limit};
 ghost use Rattle.sbl_machine.specs.MachineOf.{IsLinkedMachineOf};
 ghost use Rattle.sbl_machine.specs.Outcome.{outcome_of};
-ghost use Rattle.sbl_records.specs.Records as texts;
-ghost use Rattle.sbl_run.specs.Start.{max_word_length};
+ghost use Rattle.sbl_io.specs.Records as texts;
+ghost use Rattle.sbl_interpreter.specs.Start.{max_word_length};
 ghost use Rattle.sbl_script.specs.Parsed.{Source};
 ghost use Rattle.sbl_sessions.specs.Rows.{outcome_fields, row_fields};
 
 use csv::ByteRecord;
+use sbl_io::{record_line, text_of};
 use sbl_machine::{DEFAULT_LIMIT, Machine, Meter, Outcome, Table, Traced};
-use sbl_records::{record_line, text_of};
 use std::alloc::{AllocError, Global};
 
 /// Appends the fields of the row of a word with this outcome to an empty record. Returns `AllocError` if an allocation fails.

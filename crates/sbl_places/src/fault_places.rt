@@ -4,10 +4,10 @@ ghost use Rattle.std.specs.Prelude.{◌≡◌, ◌≤◌, List, None, Some, IfOk
 ghost use Rattle.std.specs.Str.{IsUtf8, chars};
 ghost use Rattle.sbl_text.specs.Directives.{start};
 ghost use Rattle.sbl_text.specs.Tokens.{ArePlaced, Placed, placed_of};
-ghost use Rattle.sbl_tree.specs.Tree as trees;
-ghost use Rattle.sbl_tree.specs.Texts.{script};
-ghost use Rattle.sbl_tree.specs.View.{view_items};
-ghost use Rattle.sbl_grammar.specs.Reading.{IsReadAs};
+ghost use Rattle.sbl_ast.specs.Tree as trees;
+ghost use Rattle.sbl_ast.specs.Texts.{script};
+ghost use Rattle.sbl_ast.specs.View.{view_items};
+ghost use Rattle.sbl_parser.specs.Reading.{IsReadAs};
 ghost use Rattle.sbl_script.specs.Reading as spec;
 ghost use Rattle.sbl_script.specs.Reading.{HasTokens, max_script, terminals};
 ghost use Rattle.sbl_places.specs.FaultPlaces as places;
@@ -16,12 +16,12 @@ ghost use Rattle.sbl_places.specs.FaultPlaces.{HasNoFaultAt, IsOffset, IsPlaceIn
 use crate::fault_kinds::is_same;
 use crate::laws::{faults_are_at_tokens, token_is_one};
 use crate::subject_tokens::subject_at;
-use sbl_checks::first_fault;
-use sbl_grammar::{is_left_out, one_fault, one_tree, parse};
+use sbl_ast::Item;
+use sbl_parser::{is_left_out, one_fault, one_tree, parse};
+use sbl_resolver::first_fault;
 use sbl_script::MAX_SCRIPT;
 use sbl_text::laws::{first_fault_is_one, tokens_are_one};
 use sbl_text::{ScriptFault, Token, tokens};
-use sbl_tree::Item;
 use std::alloc::{AllocError, Global};
 
 /// A fault of the checks, and the byte range of the token at which it is.

@@ -2,10 +2,10 @@
 
 ghost use Rattle.std.specs.Prelude.{◌≡◌, ◌++◌, ◌∷◌, [], IfOk, OnOk, map, string_bytes};
 ghost use Rattle.std.specs.List.{flat_map};
-ghost use Rattle.sbl_tree.specs.Terminal as t;
-ghost use Rattle.sbl_tree.specs.Tree.{spelled_base, spelled_names, spelled_plain, spelled_terms};
-ghost use Rattle.sbl_tree.specs.Tree as trees;
-ghost use Rattle.sbl_tree.specs.View.{view_argument, view_item, view_items, view_literal, view_plain, view_row, view_term};
+ghost use Rattle.sbl_ast.specs.Terminal as t;
+ghost use Rattle.sbl_ast.specs.Tree.{spelled_base, spelled_names, spelled_plain, spelled_terms};
+ghost use Rattle.sbl_ast.specs.Tree as trees;
+ghost use Rattle.sbl_ast.specs.View.{view_argument, view_item, view_items, view_literal, view_plain, view_row, view_term};
 ghost use Rattle.sbl_print.specs.Canonical.{canonical, item_text, plain_text};
 ghost use Rattle.sbl_print.specs.Adding.{Adds, Begins};
 
@@ -14,8 +14,8 @@ use crate::tokens::{
     put, put_argument, put_inserts, put_literal, put_macro_name, put_name, put_sign, put_word,
 };
 use crate::words::{additive_text, base_text, declaration_text};
-use sbl_lexemes::{Sign, Word};
-use sbl_tree::{Argument, Base, DeclarationKind, Item, Literal, Plain, Row, Term};
+use sbl_ast::{Argument, Base, DeclarationKind, Item, Literal, Plain, Row, Term};
+use sbl_token::{Sign, Word};
 use std::alloc::{AllocError, Global};
 
 /// Appends names. Returns `AllocError` if an allocation fails.

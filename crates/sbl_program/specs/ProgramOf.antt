@@ -17,7 +17,7 @@ use Rattle.sbl_program.specs.declared.node.Node.TheFolds.{fold-Node, fold-Joined
 use Rattle.sbl_program.specs.declared.node.Joined.{Joined}
 use Rattle.sbl_program.specs.declared.node.Program.{Program}
 use Rattle.sbl_program.specs.declared.node.Routine.{Routine}
-use Rattle.sbl_program.specs.CharacterClasses.{members}
+use Rattle.sbl_char_class.specs.CharacterClasses.{members}
 use Rattle.sbl_program.specs.Grouped.{AddedView, JoinedView, ScaledView, added_all, grouped, scaled_all}
 use Rattle.sbl_program.specs.Listed.{Listed}
 use Rattle.sbl_program.specs.Program as programs

@@ -1,6 +1,6 @@
 //! Commands that contain no command, and their parts. Names are numbers.
 
-use sbl_tree::{Additive, Multiplicative};
+use sbl_ast::{Additive, Multiplicative};
 
 /// A string: a literal, or the value of a string variable.
 #[derive(Drop)]

@@ -7,15 +7,15 @@ use Rattle.sbl_text.specs.Escapes.{InForce}
 use Rattle.sbl_text.specs.Directives.{Directives, start_under}
 use Rattle.sbl_text.specs.Tokens.{Placed, ArePlacedFrom, IsFirstFaultFrom}
 use Rattle.sbl_amongs.specs.Amongs.{Held, amongs_of_body, nth_held}
-use Rattle.sbl_tree.specs.Tree.{Argument, Term, Plain, routine, grouping, Item}
-use Rattle.sbl_tree.specs.Texts.{TreeOf}
-use Rattle.sbl_tree.specs.View.{RowView}
-use Rattle.sbl_grammar.specs.Reading.{IsReadAs}
+use Rattle.sbl_ast.specs.Tree.{Argument, Term, Plain, routine, grouping, Item}
+use Rattle.sbl_ast.specs.Texts.{TreeOf}
+use Rattle.sbl_ast.specs.View.{RowView}
+use Rattle.sbl_parser.specs.Reading.{IsReadAs}
 use Rattle.sbl_script.specs.declared.edit_fault.EditFault.{EditFault}
 use Rattle.sbl_script.specs.declared.edit_fault.EditFault.TheVariants as edits
 use Rattle.sbl_script.specs.declared.edits.DefinitionKind.TheVariants as kinds
 use Rattle.sbl_script.specs.Parsed.{Source}
-use Rattle.sbl_checks.specs.Checks.{WellDeclared, fault_of}
+use Rattle.sbl_resolver.specs.Checks.{WellDeclared, fault_of}
 use Rattle.sbl_script.specs.Reading.{HasTokens, IsTextFault, IsUnread, first_left_out, max_script, terminals}
 use Rattle.sbl_script.specs.Refusals.{Refuses}
 use Rattle.sbl_script.specs.Edits.{ScriptEdit, body, among, terms, Home, IsEditFault, IsFaultAt, IsSubstituted, defines, first_of, home, home_in, home_of_among, home_of_body, home_of_held, home_of_terms}

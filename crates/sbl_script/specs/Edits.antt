@@ -10,21 +10,21 @@ use Rattle.sbl_text.specs.declared.directives.Coding.TheVariants as coding
 use Rattle.sbl_text.specs.Escapes.{InForce, nothing_set, with_inserts}
 use Rattle.sbl_text.specs.Directives.{Directives, start_under, coded, defined_as}
 use Rattle.sbl_text.specs.Tokens.{Placed}
-use Rattle.sbl_tree.specs.declared.tree.Base.{Base}
-use Rattle.sbl_tree.specs.declared.tree.Base.TheVariants as bases
-use Rattle.sbl_tree.specs.Counts.{count_in_among}
+use Rattle.sbl_ast.specs.declared.tree.Base.{Base}
+use Rattle.sbl_ast.specs.declared.tree.Base.TheVariants as bases
+use Rattle.sbl_ast.specs.Counts.{count_in_among}
 use Rattle.sbl_amongs.specs.Amongs.{Held, amongs_of_body, nth_held, put_in_body}
-use Rattle.sbl_tree.specs.Tree.{Plain, escapes, macro, routine, grouping, Item, plain, backward}
-use Rattle.sbl_tree.specs.View.{RowView}
-use Rattle.sbl_tree.specs.Texts.{Text, TreeOf}
-use Rattle.sbl_tree.specs.Texts as texts
-use Rattle.sbl_grammar.specs.Reading.{IsReadAs}
+use Rattle.sbl_ast.specs.Tree.{Plain, escapes, macro, routine, grouping, Item, plain, backward}
+use Rattle.sbl_ast.specs.View.{RowView}
+use Rattle.sbl_ast.specs.Texts.{Text, TreeOf}
+use Rattle.sbl_ast.specs.Texts as texts
+use Rattle.sbl_parser.specs.Reading.{IsReadAs}
 use Rattle.sbl_script.specs.declared.edit_fault.EditFault.{EditFault}
 use Rattle.sbl_script.specs.declared.edit_fault.EditFault.TheVariants as edits
 use Rattle.sbl_script.specs.declared.edits.DefinitionKind.{DefinitionKind}
 use Rattle.sbl_script.specs.declared.edits.DefinitionKind.TheVariants as kinds
 use Rattle.sbl_script.specs.Parsed.{Source}
-use Rattle.sbl_checks.specs.Checks.{WellDeclared, fault_of}
+use Rattle.sbl_resolver.specs.Checks.{WellDeclared, fault_of}
 use Rattle.sbl_script.specs.Reading.{HasTokens, IsTextFault, IsUnread, first_left_out, terminals}
 
 -- ---- what an edit may replace

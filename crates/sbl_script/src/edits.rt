@@ -3,13 +3,13 @@
 
 ghost use Rattle.std.specs.Prelude.{◌≡◌, MatchOption, None, Some, IfOk, IfErr, map};
 ghost use Rattle.std.specs.List.{list_any};
-ghost use Rattle.sbl_tree.specs.Tree as trees;
-ghost use Rattle.sbl_tree.specs.View.{view_argument, view_item, view_items, view_plain, view_row, view_term};
+ghost use Rattle.sbl_ast.specs.Tree as trees;
+ghost use Rattle.sbl_ast.specs.View.{view_argument, view_item, view_items, view_plain, view_row, view_term};
 ghost use Rattle.sbl_script.specs.declared.edits.DefinitionKind.TheVariants as kinds;
 ghost use Rattle.sbl_script.specs.Edits as spec;
 
+use sbl_ast::{Argument, Base, Item, Plain, Row, Term, copy_plain};
 use sbl_text::{Escapes, ScriptFault, read_codes};
-use sbl_tree::{Argument, Base, Item, Plain, Row, Term, copy_plain};
 use std::alloc::{AllocError, Global};
 
 /// The kind of a definition.

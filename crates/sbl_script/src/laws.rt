@@ -8,11 +8,11 @@ ghost use Rattle.sbl_script.specs.Printed.{CanonicalIsOne, CanonicalIsRead};
 
 use crate::script::Script;
 pub use crate::script::{is_shallow, is_spelled, is_well_declared};
-pub use sbl_checks::laws::{
+use sbl_parser::{one_fault, one_part, one_tree};
+use sbl_print::laws::canonical_is_spaced;
+pub use sbl_resolver::laws::{
     amongs_are_sound, fault_is_first, names_resolve, substrings_are_paired, well_declared_passes,
 };
-use sbl_grammar::{one_fault, one_part, one_tree};
-use sbl_print::laws::canonical_is_spaced;
 use sbl_text::laws::{first_fault_is_one, spaced_are_read, tokens_are_one};
 
 /// For given bytes and a given external there is at most one script and at most one fault, and never both. So

@@ -8,7 +8,7 @@ mod same;
 mod script;
 
 pub use edit_fault::EditFault;
+pub use sbl_ast as tree;
+pub use sbl_ast::{Among, Command, Item, Mode, Plain, Row, Term};
 pub use sbl_text::ScriptFault;
-pub use sbl_tree as tree;
-pub use sbl_tree::{Among, Command, Item, Mode, Plain, Row, Term};
 pub use script::{MAX_SCRIPT, Script};

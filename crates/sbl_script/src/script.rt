@@ -2,17 +2,17 @@
 
 ghost use Rattle.std.specs.Prelude.{◌≡◌, ◌⊎◌, ◌≤◌, None, Some, true, [], length, map, IfOk, IfErr};
 ghost use Rattle.std.specs.Str.{IsUtf8};
-ghost use Rattle.sbl_tree.specs.Places.{AreShallow, placed_plain, places, max_depth};
-ghost use Rattle.sbl_grammar.specs.Reading.{IsReadAs};
-ghost use Rattle.sbl_tree.specs.Texts as texts;
-ghost use Rattle.sbl_tree.specs.View.{view_among, view_argument, view_items, view_plain, view_row, view_term};
-ghost use Rattle.sbl_tree.specs.Counts.{count_in_among};
-ghost use Rattle.sbl_checks.specs.Checks.{WellDeclared, fault_of};
+ghost use Rattle.sbl_ast.specs.Places.{AreShallow, placed_plain, places, max_depth};
+ghost use Rattle.sbl_parser.specs.Reading.{IsReadAs};
+ghost use Rattle.sbl_ast.specs.Texts as texts;
+ghost use Rattle.sbl_ast.specs.View.{view_among, view_argument, view_items, view_plain, view_row, view_term};
+ghost use Rattle.sbl_ast.specs.Counts.{count_in_among};
+ghost use Rattle.sbl_resolver.specs.Checks.{WellDeclared, fault_of};
 ghost use Rattle.sbl_script.specs.Spelled.{AreSpelled, IsSpelled};
 ghost use Rattle.sbl_text.specs.Directives.{start, Directives};
 ghost use Rattle.sbl_text.specs.Spaced.{after_all};
 ghost use Rattle.sbl_text.specs.Tokens.{MayEnd, placed_of};
-ghost use Rattle.sbl_tree.specs.Tree.{lexemes_of};
+ghost use Rattle.sbl_ast.specs.Tree.{lexemes_of};
 ghost use Rattle.sbl_script.specs.Parsed.{source_of};
 ghost use Rattle.sbl_script.specs.Reading as spec;
 
@@ -20,11 +20,11 @@ use crate::edit_fault::EditFault;
 use crate::edits;
 use crate::edits::{DefinitionKind, escapes_before, items_with};
 use sbl_amongs::{has_as_many_amongs, nth_among, put_in_place};
-use sbl_checks::{body_in, check};
-use sbl_grammar::{is_left_out, parse, parse_among, parse_body, parse_terms};
+use sbl_ast::{Among, Argument, Item, Plain, Row, Term};
+use sbl_parser::{is_left_out, parse, parse_among, parse_body, parse_terms};
 use sbl_print::canonical_text;
+use sbl_resolver::{body_in, check};
 use sbl_text::{ScriptFault, Token, tokens, tokens_under};
-use sbl_tree::{Among, Argument, Item, Plain, Row, Term};
 use std::alloc::{AllocError, Global};
 use std::marker::Model;
 
@@ -126,11 +126,11 @@ pub struct Script {
 impl Model for Script {
     ghost use Rattle.std.specs.Prelude.{string_bytes};
     ghost use Rattle.std.specs.Coded.{codes};
-    ghost use Rattle.sbl_tree.specs.contracts.tree.Item as e;
-    ghost use Rattle.sbl_tree.specs.View.{view_items};
+    ghost use Rattle.sbl_ast.specs.contracts.tree.Item as e;
+    ghost use Rattle.sbl_ast.specs.View.{view_items};
     ghost use Rattle.sbl_script.specs.Parsed.{Parsed};
-    ghost use Rattle.sbl_checks.specs.Checks.{WellDeclared};
-    ghost use Rattle.sbl_tree.specs.Places.{places, AreShallow};
+    ghost use Rattle.sbl_resolver.specs.Checks.{WellDeclared};
+    ghost use Rattle.sbl_ast.specs.Places.{places, AreShallow};
     ghost use Rattle.sbl_script.specs.Spelled.{AreSpelled};
 
     ghost Value = { Parsed };
@@ -145,8 +145,8 @@ impl Model for Script {
 impl Script {
     ghost use Rattle.sbl_script.specs.Parsed.{body_of};
     ghost use Rattle.std.specs.Prelude.{Err};
-    ghost use Rattle.sbl_tree.specs.Places.{places, AreShallow};
-    ghost use Rattle.sbl_tree.specs.Texts.{places_in};
+    ghost use Rattle.sbl_ast.specs.Places.{places, AreShallow};
+    ghost use Rattle.sbl_ast.specs.Texts.{places_in};
     ghost use Rattle.std.specs.Prelude.{string_bytes};
     ghost use Rattle.sbl_print.specs.Canonical.{canonical};
     ghost use Rattle.sbl_script.specs.Reading.{HasTokens};

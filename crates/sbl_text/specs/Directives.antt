@@ -5,11 +5,11 @@ use Rattle.sbl_text.specs.declared.pieces.Wanted.{Wanted}
 use Rattle.sbl_text.specs.declared.pieces.Wanted.TheVariants as wanted
 use Rattle.sbl_text.specs.declared.directives.Coding.{Coding}
 use Rattle.sbl_text.specs.declared.directives.Coding.TheVariants as coding
-use Rattle.sbl_lexemes.specs.declared.words.Word.{Word}
-use Rattle.sbl_lexemes.specs.declared.words.Word.TheVariants as reserved
+use Rattle.sbl_token.specs.declared.words.Word.{Word}
+use Rattle.sbl_token.specs.declared.words.Word.TheVariants as reserved
 use Rattle.sbl_text.specs.Codes.{codes_of}
 use Rattle.sbl_text.specs.Escapes.{InForce, nothing_set, with_inserts, with_macro}
-use Rattle.sbl_lexemes.specs.Lexemes.{Lexeme, word, literal, inserts, macro_name}
+use Rattle.sbl_token.specs.Lexemes.{Lexeme, word, literal, inserts, macro_name}
 use Rattle.sbl_text.specs.Pieces.{Setting, setting}
 
 -- a macro whose value has not been read yet

@@ -2,12 +2,12 @@
 use Rattle.std.specs.Prelude.{true, ◌≡◌, ◌⊎◌, ℕ, List, [], ◌∷◌, Result, Ok, Err, Option, Some, None}
 use Rattle.sbl_text.specs.declared.fault.ScriptFault.{ScriptFault}
 use Rattle.sbl_text.specs.declared.fault.ScriptFault.TheVariants as fault
-use Rattle.sbl_lexemes.specs.declared.signs.Sign.{Sign}
-use Rattle.sbl_lexemes.specs.declared.token.Token.{Token}
-use Rattle.sbl_lexemes.specs.declared.words.Word.{Word}
-use Rattle.sbl_lexemes.specs.Signs.{sign_text}
-use Rattle.sbl_lexemes.specs.Words.{word_of, word_text}
-use Rattle.sbl_lexemes.specs.Lexemes.{Lexeme, lexeme_of}
+use Rattle.sbl_token.specs.declared.signs.Sign.{Sign}
+use Rattle.sbl_token.specs.declared.token.Token.{Token}
+use Rattle.sbl_token.specs.declared.words.Word.{Word}
+use Rattle.sbl_token.specs.Signs.{sign_text}
+use Rattle.sbl_token.specs.Words.{word_of, word_text}
+use Rattle.sbl_token.specs.Lexemes.{Lexeme, lexeme_of}
 use Rattle.sbl_text.specs.Directives.{Directives}
 use Rattle.sbl_text.specs.Tokens.{Placed, AreTokensFrom, ArePlacedFrom, IsFirstFaultFrom, Reading, IsNext, MayEnd}
 use Rattle.sbl_text.specs.Escapes.{InForce}

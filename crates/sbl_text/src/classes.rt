@@ -5,7 +5,7 @@ ghost use Rattle.std.specs.Str.{chars};
 ghost use Rattle.sbl_text.specs.Classes.{is_white};
 ghost use Rattle.sbl_text.specs.Skip as spec;
 
-use sbl_lexemes::split_first;
+use sbl_token::split_first;
 
 /// A class of characters that the lexer skips over.
 #[derive(Clone, Copy, Debug)]

@@ -2,7 +2,7 @@
 
 ghost use Rattle.std.specs.Prelude.{◌≡◌, ◌⊎◌, List, ℕ, MatchResult, option_map, Some, None};
 ghost use Rattle.std.specs.Str.{chars};
-ghost use Rattle.sbl_lexemes.specs.Lexemes.{characters_in, inserts_in};
+ghost use Rattle.sbl_token.specs.Lexemes.{characters_in, inserts_in};
 ghost use Rattle.sbl_text.specs.Escapes.{with_inserts};
 ghost use Rattle.sbl_text.specs.Directives as spec;
 
@@ -10,7 +10,7 @@ use crate::codes::{MAX_DECIMAL_DIGITS, MAX_HEX_DIGITS, codes};
 use crate::escapes::Escapes;
 use crate::fault::ScriptFault;
 use crate::pieces::Wanted;
-use sbl_lexemes::{Kind, Token, Value, Word};
+use sbl_token::{Kind, Token, Value, Word};
 use std::alloc::Global;
 use std::marker::Model;
 
@@ -97,7 +97,7 @@ fn inserts_of(value: &Value<'_>) -> (char, char)
 }
 
 impl<'a> Directives<'a> {
-    ghost use Rattle.sbl_lexemes.specs.Lexemes.{lexeme_of};
+    ghost use Rattle.sbl_token.specs.Lexemes.{lexeme_of};
     ghost use Rattle.sbl_text.specs.Tokens.{HasValue, LacksValue};
 
     /// Returns the state at the start of a text.

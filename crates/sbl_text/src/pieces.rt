@@ -7,7 +7,7 @@ ghost use Rattle.sbl_text.specs.Scan as spec;
 
 use crate::classes::{Class, is_in, past};
 use crate::escapes::{Inserts, closes, opens};
-use sbl_lexemes::{sign_front, split_first};
+use sbl_token::{sign_front, split_first};
 
 /// The shape of a piece.
 #[derive(Clone, Copy, Debug, PartialEq, Eq)]

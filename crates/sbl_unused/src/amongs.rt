@@ -2,13 +2,13 @@
 
 ghost use Rattle.std.specs.Prelude.{◌≡◌, ◌++◌, ◌∷◌, [], List, map, OnOk, IfOk};
 ghost use Rattle.sbl_amongs.specs.Amongs.{amongs_of_body};
-ghost use Rattle.sbl_tree.specs.Tree as trees;
-ghost use Rattle.sbl_tree.specs.View.{view_among, view_command, view_entry, view_groups, view_others, view_row, view_rows};
+ghost use Rattle.sbl_ast.specs.Tree as trees;
+ghost use Rattle.sbl_ast.specs.View.{view_among, view_command, view_entry, view_groups, view_others, view_row, view_rows};
 ghost use Rattle.sbl_unused.specs.Parts.{groups_held, string_of, strings_of};
 ghost use Rattle.sbl_unused.specs.Gathered.{gathered, gathered_groups, gathered_others, gathered_rows};
 ghost use Rattle.sbl_unused.specs.Views.{texts_of, view_amongs};
 
-use sbl_tree::{Among, Command, Entry, Group, Joined, Row};
+use sbl_ast::{Among, Command, Entry, Group, Joined, Row};
 use std::alloc::{AllocError, Global};
 
 /// Appends the amongs of a command. Returns `AllocError` if an allocation fails.

@@ -5,16 +5,16 @@ ghost use Rattle.sbl_print.specs.Canonical.{plain_text};
 ghost use Rattle.sbl_script.specs.Edits as edits;
 ghost use Rattle.sbl_script.specs.Parsed.{source_of};
 ghost use Rattle.sbl_sessions.specs.CommandViews.{view_target};
-ghost use Rattle.sbl_tree.specs.View.{view_items, view_plain};
+ghost use Rattle.sbl_ast.specs.View.{view_items, view_plain};
 ghost use Rattle.sbl_work.specs.Definitions as spec;
 ghost use Rattle.sbl_work.specs.HeadReader.{IsAfterWord, IsEndOf, head_words};
 ghost use Rattle.sbl_work.specs.Heads as heads;
 
+use sbl_ast::copy_plain;
 use sbl_print::canonical_text;
 use sbl_script::{Item, Plain, Script};
 use sbl_sessions::Target;
 use sbl_text::{Lexer, ScriptFault, Token};
-use sbl_tree::copy_plain;
 use std::alloc::{AllocError, Global};
 use std::slice::from_ref;
 

@@ -2,8 +2,8 @@
 
 ghost use Rattle.std.specs.Prelude.{◌≡◌, ◌≤◌, [], OnOk, Some};
 ghost use Rattle.sbl_bench.specs.Kept.{contents_of};
-ghost use Rattle.sbl_lines.specs.Devices.{WritesInTime};
-ghost use Rattle.sbl_lines.specs.Held.{KeepsTime, fuel_of};
+ghost use Rattle.sbl_io.specs.Devices.{WritesInTime};
+ghost use Rattle.sbl_io.specs.Held.{KeepsTime, fuel_of};
 ghost use Rattle.sbl_work.specs.Commands as spec;
 ghost use Rattle.sbl_work.specs.Desks.{state_of};
 ghost use Rattle.sbl_work.specs.ReplyViews.{IsFileAnswer};
@@ -15,7 +15,7 @@ use crate::parts::answer_block;
 use crate::replies::edit_reply;
 use crate::requests::{Request, block_request, is_quit, request_of};
 use sbl_bench::{Bench, EditFault};
-use sbl_lines::{Lines, ServeFault, Sink, Source, write_all};
+use sbl_io::{Lines, ServeFault, Sink, Source, write_all};
 use sbl_sessions::{LoadFault, Reply, read_block, write_reply};
 use std::alloc::Global;
 use std::fs;

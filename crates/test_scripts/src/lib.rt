@@ -1,7 +1,7 @@
 //! Scripts for tests, a prefix for the body that a test gives, and a function that drops a tree.
 #![tactic(auto)]
 
-use sbl_tree::Item;
+use sbl_ast::Item;
 
 /// Drops a tree and frees its memory. A test crate that calls this function does not have to prove the destructors of
 /// trees again: they are proved here.

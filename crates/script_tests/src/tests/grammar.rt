@@ -1,6 +1,6 @@
 //! Tests of the trees of texts, and of faults of the grammar. tests/cases has more of them.
 
-use sbl_grammar::{one_fault, one_part, one_tree, parse};
+use sbl_parser::{one_fault, one_part, one_tree, parse};
 use sbl_script::{Command, Item, Plain};
 use sbl_text::{ScriptFault, tokens};
 use std::alloc::{AllocError, Global};

@@ -6,7 +6,7 @@ use Rattle.std.specs.Str.{IsUtf8, chars, is_utf8}
 use Rattle.sbl_bench.specs.Rows.{row_of}
 use Rattle.sbl_bench.specs.Setting.{under}
 use Rattle.sbl_machine.specs.Limit.{default_limit}
-use Rattle.sbl_records.specs.Records.{record_line}
+use Rattle.sbl_io.specs.Records.{record_line}
 use Rattle.sbl_sessions.specs.Rows.{row_fields}
 use Rattle.sbl_filter.proofs.FilterFacts.{is_none, is_some, line-cut, line-empty, line-long, line-row}
 use Rattle.sbl_filter.proofs.filtering.filter_line.Goals as goal

@@ -2,7 +2,7 @@ use Rattle.std.proofs.Common.{rules, ◌≡◌, ◌≢◌, ◌∙◌, ◌++◌, 
 use Rattle.std.proofs.lemmas.Result.{err_from_is_err_and}
 use Rattle.sbl_filter.proofs.FilterFacts.{filters-broken, filters-end, filters-fault, filters-none, filters-point, rows-none, rows-push}
 use Rattle.sbl_filter.specs.Filter.{WritesLine}
-use Rattle.sbl_lines.specs.Held.{GivesLine, fault_of, input_of, line_of}
+use Rattle.sbl_io.specs.Held.{GivesLine, fault_of, input_of, line_of}
 use Rattle.sbl_script.specs.Parsed.{source_of}
 use Rattle.sbl_sessions.specs.Block.{point}
 use Rattle.sbl_filter.proofs.filtering.filter_words.Goals as goal

@@ -1,7 +1,7 @@
 use Rattle.std.proofs.Common.{◌≡◌, List, ℕ}
 use Rattle.sbl_filter.specs.Filter.{Rows}
-use Rattle.sbl_lines.specs.Devices.{WritesInTime}
-use Rattle.sbl_lines.specs.Held.{KeepsTime, fault_of, fuel_of, input_of, reads_bound}
+use Rattle.sbl_io.specs.Devices.{WritesInTime}
+use Rattle.sbl_io.specs.Held.{KeepsTime, fault_of, fuel_of, input_of, reads_bound}
 use Rattle.sbl_machine.specs.MachineOf.{IsLinkedMachineOf}
 use Rattle.sbl_script.specs.Parsed.{source_of}
 use Rattle.sbl_filter.proofs.filtering.filter_words.Given as goal

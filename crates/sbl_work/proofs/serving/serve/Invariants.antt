@@ -1,6 +1,6 @@
 use Rattle.std.proofs.Common.{◌≡◌}
-use Rattle.sbl_lines.specs.Devices.{WritesInTime}
-use Rattle.sbl_lines.specs.Held.{KeepsTime, fuel_of}
+use Rattle.sbl_io.specs.Devices.{WritesInTime}
+use Rattle.sbl_io.specs.Held.{KeepsTime, fuel_of}
 use Rattle.sbl_work.proofs.serving.serve.Given as goal
 
 -- what was read and written so far was in time
