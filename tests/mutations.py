@@ -53,12 +53,11 @@ def read_seeds():
     """Returns the cases of each subcommand: its words, and the texts of its input, its script and its vocabulary."""
     seeds = {"session": [], "stem": [], "check": [], "work": []}
     with tempfile.TemporaryDirectory() as room:
-        pages = subprocess.run(["awk", "-f", "tests/pages.awk", "README.md", *sorted(glob.glob("docs/*.md") + glob.glob("tests/cases/*.md"))],
-                               stdout=subprocess.PIPE, check=True, env={**os.environ, "LC_ALL": "C"}).stdout
+        pages = subprocess.run([sys.executable, "tests/pages.py", "README.md", *sorted(glob.glob("docs/*.md") + glob.glob("tests/cases/*.md"))],
+                               stdout=subprocess.PIPE, check=True).stdout
         with open(os.path.join(room, "pages"), "wb") as file:
             file.write(pages)
-        subprocess.run(["awk", "-v", "room=" + room, "-v", "first=0", "-f", "tests/cases.awk", *sorted(glob.glob("tests/cases/*.cases")), file.name],
-                       check=True, env={**os.environ, "LC_ALL": "C"})
+        subprocess.run([sys.executable, "tests/cases.py", room, *sorted(glob.glob("tests/cases/*.cases")), file.name], check=True)
         for path in sorted(glob.glob(os.path.join(room, "*.in"))):
             base = path[:-3]
             words = read(base + ".words").decode().split()

@@ -111,21 +111,19 @@ class Cases:
         os.mkdir(self.room)
         self.files = {}
         pages = os.path.join(room, "pages")
-        first = 0
         for path in sorted(glob.glob(os.path.join(TOP, "tests", "cases", "*"))):
             name = os.path.basename(path)
             source = path
             if name.endswith(".md"):
                 with open(pages, "wb") as file:
-                    subprocess.run(["awk", "-f", "tests/pages.awk", path], cwd=TOP, stdout=file, check=True)
+                    subprocess.run([sys.executable, "tests/pages.py", path], cwd=TOP, stdout=file, check=True)
                 source = pages
             part = os.path.join(self.room, name)
             os.mkdir(part)
-            subprocess.run(["awk", "-v", "room=" + part, "-v", "first=0", "-f", "tests/cases.awk", source], cwd=TOP, check=True, env={**os.environ, "LC_ALL": "C"})
+            subprocess.run([sys.executable, "tests/cases.py", part, source], cwd=TOP, check=True)
             cases = sorted(name[:-3] for name in os.listdir(part) if name.endswith(".in"))
             skipped = {name[:-9] for name in os.listdir(part) if name.endswith(".launcher")} | {name[:-7] for name in os.listdir(part) if name.endswith(".proved")}
             self.files[name] = [os.path.join(part, case) for case in cases if case not in skipped]
-            first += len(cases)
 
     def in_order(self, rows):
         for name in [*rows, *(name for name in self.files if name not in rows)]:
