@@ -1,7 +1,7 @@
 -- Values by number that are missing unless they were set in the current round.
-use Rattle.std.proofs.Common.{◌≡◌, ℕ, zero, suc, ◌<◌, ◌≤◌, Bool, true, false, List, [], ◌∷◌, ◌++◌, length, map, replicate, take, Result, Ok, Err, Option, Some, None, nat_eq, refl, sym, ap, ◌∙◌, arith, slice_set, slice_index_or}
+use Rattle.std.proofs.Common.{◌≡◌, ℕ, zero, suc, ℤ, pos, ◌+◌, ◌<◌, ◌≤◌, Bool, true, false, List, [], ◌∷◌, ◌++◌, length, map, replicate, take, Result, Ok, Err, Option, Some, None, nat_eq, refl, sym, ap, ◌∙◌, arith, slice_set, slice_index_or}
 use Rattle.std.specs.Prelude.{if◌then◌else◌, IfOk, MatchResult}
-use Rattle.std.proofs.lemmas.List.{map-set}
+use Rattle.std.proofs.lemmas.List.{map-set, take_more}
 use Rattle.std.proofs.lemmas.Bool.{eqb-true, eq-eqb}
 use Rattle.sbl_interpreter.specs.declared.slots.Slot.{Slot}
 use Rattle.sbl_interpreter.specs.Slots.{slot_value, slot_values, AreUpTo}
@@ -126,13 +126,15 @@ pub set_there : {A B U E : Type 0} (r : Result U E) (f : A → B) (old new : Lis
 set_there (Ok u) f old new i x h = ap (map f) h ∙ map-set f old i x
 set_there (Err e) f old new i x h = tt
 
-pub one_more : {A : Type 0} (xs : List A) (n : ℕ) (d : A) → n < length xs → take n xs ++ (slice_index_or xs n d ∷ []) ≡ take (suc n) xs
-one_more [] n d l = absurd (omega arith)
-one_more (x ∷ xs) zero d l = refl
-one_more (x ∷ xs) (suc n) d l = ap (λ ys. x ∷ ys) (one_more xs n d (omega arith))
+-- the same of a number, whose form in memory is read again
+pub set_there_as : {T B U E : Type 0} (r : Result U E) (f : Option T → B) (old new : List (Option T)) (i : ℕ) (x y : T) → MatchResult r (λ _. new ≡ slice_set old i (Some y)) (λ _. new ≡ old) → y ≡ x → IfOk r (λ _. map f new ≡ slice_set (map f old) i (f (Some x)))
+set_there_as (Ok u) f old new i x y h e = ap (map f) h ∙ map-set f old i (Some y) ∙ ap (λ z. slice_set (map f old) i (f (Some z))) e
+set_there_as (Err err) f old new i x y h e = tt
 
-pub all_taken : {A : Type 0} (xs : List A) (n : ℕ) → length xs ≡ n → take n xs ≡ xs
-all_taken [] zero e = refl
-all_taken [] (suc n) e = refl
-all_taken (x ∷ xs) zero e = absurd (omega (arith, e))
-all_taken (x ∷ xs) (suc n) e = ap (λ ys. x ∷ ys) (all_taken xs n (omega (arith, e)))
+-- one more of the values of a list
+pub one_more : (xs values more : List ℤ) (n : ℕ) (y x : ℤ) → values ≡ take n xs → n < length xs → more ≡ values ++ (y ∷ []) → x ≡ slice_index_or xs n (pos 0) → y ≡ x → more ≡ take (n + 1) xs
+one_more xs values more n y x so_far l e there same =
+    e ∙ ap (λ z. values ++ (z ∷ [])) (same ∙ there) ∙ ap (λ vs. vs ++ (slice_index_or xs n (pos 0) ∷ [])) so_far ∙ sym (take_more xs n (pos 0) l)
+
+pub step : {A : Type 0} (x y z : A) → x ≡ y → y ≡ z → x ≡ z
+step x y z p q = p ∙ q

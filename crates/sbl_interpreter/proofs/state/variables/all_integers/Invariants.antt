@@ -4,4 +4,4 @@ use Rattle.sbl_interpreter.proofs.state.variables.all_integers.Given as goal
 
 -- the values so far
 abbrev pub invariant-loop-number : goal.invariant-loop-number
-invariant-loop-number l = l.values.items ≡ take l.number (map (value_or (pos 0)) l.integers.now)
+invariant-loop-number l = l.values.items ≡ take l.number (map (value_or (pos 0)) l.integers)
