@@ -77,16 +77,11 @@ impl<T: Blank + Drop> Slots<T> {
     }
 
     /// Returns the number of values, with those that are missing.
+    #[inline(always)]
     pub fn count(&self) -> usize
         ensures { result ≡ length self.now }
     {
         self.count
-    }
-
-    /// Returns whether memory is kept.
-    #[inline(always)]
-    pub fn has_memory(&self) -> bool {
-        0 < self.slots.len()
     }
 
     /// Makes this many values, which are all missing, in time that does not depend on their number.

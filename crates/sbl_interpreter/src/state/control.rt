@@ -233,7 +233,7 @@ impl State {
     {
         self.routine = caller;
         let used = mem::replace(&mut self.choices, kept);
-        if used.has_memory() {
+        if 0 < used.count() {
             // If there is no room for it, it is freed.
             let _ = self.spares.push(used);
         }

@@ -1,4 +1,4 @@
-use Rattle.std.proofs.Common.{arith, ◌<◌, ◌+◌, ap, ◌∙◌}
+use Rattle.std.proofs.Common.{arith, ◌+◌, ap, ◌∙◌}
 use Rattle.sbl_interpreter.specs.Slots.{slot_values}
 use Rattle.sbl_interpreter.proofs.SlotValues.{all_missing, later_round, nothing}
 use Rattle.sbl_interpreter.proofs.slots.next_round.Goals as goal

@@ -1,5 +1,4 @@
-use Rattle.std.proofs.Common.{rules, arith, ◌≡◌, ◌≤◌, ◌<◌, Some, None, Option, sym, ap, ◌∙◌, slice_index_or}
-use Rattle.sbl_interpreter.specs.Slots.{slot_value}
+use Rattle.std.proofs.Common.{rules, arith, None, sym, ap, ◌∙◌, slice_index_or}
 use Rattle.sbl_interpreter.proofs.SlotValues.{past_count, past_slots, value_of_slot, set_slot, other_slot}
 use Rattle.sbl_interpreter.proofs.slots.Slots.get.Goals as goal
 

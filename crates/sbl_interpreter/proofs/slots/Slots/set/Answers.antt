@@ -1,4 +1,4 @@
-use Rattle.std.proofs.Common.{rules, arith, ◌≡◌, ◌≤◌, Some, refl, sym, ap, ◌∙◌, length}
+use Rattle.std.proofs.Common.{rules, arith, ◌≡◌, Some, refl, sym, ap, ◌∙◌, length}
 use Rattle.std.specs.Prelude.{slice_set}
 use Rattle.sbl_interpreter.proofs.SlotValues.{length_values, set_beyond, set_now, set_up_to}
 use Rattle.sbl_interpreter.proofs.slots.Slots.set.Goals as goal

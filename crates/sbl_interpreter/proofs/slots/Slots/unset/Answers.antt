@@ -1,4 +1,4 @@
-use Rattle.std.proofs.Common.{rules, arith, ◌≡◌, ◌≤◌, ◌<◌, Some, None, refl, Option, sym, ap, ◌∙◌}
+use Rattle.std.proofs.Common.{arith, None, refl, sym, ap, ◌∙◌}
 use Rattle.std.specs.Prelude.{slice_set}
 use Rattle.sbl_interpreter.proofs.SlotValues.{set_up_to, unset_now, unset_past}
 use Rattle.sbl_interpreter.proofs.slots.Slots.unset.Goals as goal

@@ -1,4 +1,4 @@
-use Rattle.std.proofs.Common.{◌≡◌, ◌<◌, length, map, pos, ◌∙◌, arith, rules}
+use Rattle.std.proofs.Common.{map, pos, ◌∙◌, arith, rules}
 use Rattle.std.proofs.lemmas.List.{length-map, take_all}
 use Rattle.sbl_interpreter.specs.Slots.{value_or}
 use Rattle.sbl_interpreter.proofs.SlotValues.{one_more}

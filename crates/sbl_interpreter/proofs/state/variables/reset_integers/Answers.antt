@@ -1,4 +1,4 @@
-use Rattle.std.proofs.Common.{◌≡◌, pos, None, map, ap, ◌∙◌}
+use Rattle.std.proofs.Common.{pos, None, map, ap, ◌∙◌}
 use Rattle.sbl_interpreter.specs.Slots.{value_or}
 use Rattle.sbl_interpreter.proofs.SlotValues.{first_values}
 use Rattle.sbl_interpreter.proofs.state.variables.reset_integers.Goals as goal

@@ -1,4 +1,4 @@
-use Rattle.std.proofs.Common.{◌≡◌, [], None, map, ap, ◌∙◌}
+use Rattle.std.proofs.Common.{None, map, ap, ◌∙◌}
 use Rattle.sbl_interpreter.specs.Slots.{text_or_empty}
 use Rattle.sbl_interpreter.proofs.SlotValues.{first_values}
 use Rattle.sbl_interpreter.proofs.state.variables.reset_strings.Goals as goal

@@ -1,4 +1,4 @@
-use Rattle.std.proofs.Common.{[], Some}
+use Rattle.std.proofs.Common.{Some}
 use Rattle.sbl_interpreter.specs.Slots.{text_or_empty}
 use Rattle.sbl_interpreter.proofs.SlotValues.{set_there}
 use Rattle.sbl_interpreter.proofs.state.variables.set_string.Goals as goal

@@ -1,4 +1,4 @@
-use Rattle.std.proofs.Common.{◌≡◌, [], Some, None, sym, ap, ◌∙◌, rules, slice_index_or}
+use Rattle.std.proofs.Common.{◌≡◌, Some, None, sym, ap, ◌∙◌, rules, slice_index_or}
 use Rattle.sbl_interpreter.specs.Slots.{text_or_empty}
 use Rattle.sbl_interpreter.proofs.SlotValues.{value_there}
 use Rattle.sbl_interpreter.proofs.state.variables.string_of.Goals as goal
