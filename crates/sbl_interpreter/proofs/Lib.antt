@@ -3,3 +3,4 @@ pub mod Rows
 pub mod Nothing
 pub mod NumberingTables
 pub mod Marked
+pub mod SlotValues

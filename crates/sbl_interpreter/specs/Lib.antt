@@ -15,4 +15,5 @@ pub mod Halts
 pub mod Kept
 -- what the functions inside the crate promise each other; no public contract depends on these
 pub mod Rows
+pub mod Slots
 pub mod Marks

@@ -5,6 +5,7 @@ mod event;
 mod fault;
 mod halt;
 mod run;
+mod slots;
 mod state;
 mod table;
 mod touch;

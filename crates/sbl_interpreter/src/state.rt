@@ -1,6 +1,6 @@
 //! The state of a run: its text, the offsets in it, and its variables.
 
-ghost use Rattle.std.specs.Prelude.{◌≡◌, ℕ, ◌+◌, ◌-◌, ◌<◌, ◌≤◌, [], length, map, replicate, IfOk, Some, None, false};
+ghost use Rattle.std.specs.Prelude.{◌≡◌, ℕ, ◌+◌, ◌-◌, ◌<◌, ◌≤◌, [], length, IfOk, Some, None, false};
 ghost use Rattle.sbl_among_search.specs.Fitting.{read_as};
 ghost use Rattle.sbl_interpreter.specs.State.{State as RunState, pay, at_place, at_difference, to_limit, saved_cursor, put_back, step_over, place_after, ahead, room, note_event};
 ghost use Rattle.sbl_program.specs.Listed.{Listed};
@@ -16,9 +16,14 @@ mod control;
 mod moves;
 pub mod numbers;
 mod slices;
+mod variables;
 
 use crate::event::Event;
 use crate::halt::Halt;
+use crate::slots::Slots;
+use crate::state::variables::{
+    all_integers, reset_booleans, reset_integers, reset_strings, string_of,
+};
 use crate::touched::Touched;
 use sbl_ast::Mode;
 use sbl_program::{Program, StringTerm};
@@ -41,28 +46,29 @@ pub struct State {
     beyond: usize,
     bra: usize,
     ket: usize,
-    integers: Vec<i32>,
-    booleans: Vec<bool>,
-    strings: Vec<Vec<char>>,
-    choices: Vec<Option<usize>>,
+    integers: Slots<i32>,
+    booleans: Slots<bool>,
+    strings: Slots<Vec<char>>,
+    choices: Slots<usize>,
     routine: usize,
     touched: Touched,
     events: Option<Vec<Event>>,
     steps: u32,
     // The buffer for the next splice, and buffers for the choices of the next calls.
     spare: Vec<char>,
-    spares: Vec<Vec<Option<usize>>>,
+    spares: Vec<Slots<usize>>,
 }
 
 impl Model for State {
-    ghost use Rattle.std.specs.Prelude.{map};
+    ghost use Rattle.std.specs.Prelude.{map, pos, false};
     ghost use Rattle.sbl_interpreter.specs.State.{State as RunState};
     ghost use Rattle.sbl_interpreter.specs.Kept.{IsWithin};
     ghost use Rattle.sbl_interpreter.specs.Events.{view_events};
+    ghost use Rattle.sbl_interpreter.specs.Slots.{text_or_empty, value_or};
 
     ghost Value = { RunState };
 
-    ghost view = { λ s. record { text = s.text.items; cursor = s.cursor; left = s.left; beyond = s.beyond; bra = s.bra; ket = s.ket; integers = s.integers.items; booleans = s.booleans.items; strings = map (λ v. v.items) s.strings.items; choices = s.choices.items; routine = s.routine; touched = s.touched; events = view_events s.events; steps = s.steps } };
+    ghost view = { λ s. record { text = s.text.items; cursor = s.cursor; left = s.left; beyond = s.beyond; bra = s.bra; ket = s.ket; integers = map (value_or (pos 0)) s.integers; booleans = map (value_or false) s.booleans; strings = map text_or_empty s.strings; choices = s.choices; routine = s.routine; touched = s.touched; events = view_events s.events; steps = s.steps } };
 
     ghost invariant = { λ s. IsWithin s.text.items s.cursor s.left s.beyond s.bra s.ket };
 }
@@ -99,10 +105,10 @@ impl State {
             beyond: 0,
             bra: 0,
             ket: 0,
-            integers: Vec::new(alloc),
-            booleans: Vec::new(alloc),
-            strings: Vec::new(alloc),
-            choices: Vec::new(alloc),
+            integers: Slots::new(alloc),
+            booleans: Slots::new(alloc),
+            strings: Slots::new(alloc),
+            choices: Slots::new(alloc),
             routine: 0,
             touched: Touched::new(alloc),
             events: None,
@@ -112,8 +118,8 @@ impl State {
         }
     }
 
-    /// Starts a run of a word with this many steps, whatever ran before in these buffers. Returns `AllocError` if an
-    /// allocation fails.
+    /// Starts a run of a word with this many steps, whatever ran before in these buffers. The time does not depend on how
+    /// many variables the program has. Returns `AllocError` if an allocation fails.
     pub fn restart(
         &mut self,
         program: &Program,
@@ -130,12 +136,10 @@ impl State {
         self.ket = 0;
         self.text.clear();
         self.text.extend_from_slice(word)?;
-        self.integers.clear();
-        self.integers.resize(program.integers, 0)?;
-        self.booleans.clear();
-        self.booleans.resize(program.booleans, false)?;
-        make_empty(&mut self.strings, program.strings)?;
-        self.choices.clear();
+        reset_integers(&mut self.integers, program.integers);
+        reset_booleans(&mut self.booleans, program.booleans);
+        reset_strings(&mut self.strings, program.strings);
+        self.choices.reset(0);
         self.routine = 0;
         self.touched.clear();
         self.events = None;
@@ -200,11 +204,11 @@ impl State {
         self.characters(term).to_vec(alloc)
     }
 
-    /// Returns the values of the integer variables, by number. Does not allocate.
-    pub fn integers(&self) -> &[i32]
-        ensures { result.now ≡ self.now.integers }
+    /// Returns the values of the integer variables, by number. Returns `AllocError` if an allocation fails.
+    pub fn integers(&self, alloc: Global) -> Result<Vec<i32>, AllocError>
+        ensures { IfOk result (λ v. v.items ≡ self.now.integers) }
     {
-        &self.integers
+        all_integers(alloc, &self.integers)
     }
 
     /// Returns the number of steps that are left.
@@ -350,10 +354,7 @@ impl State {
     {
         match term {
             StringTerm::Literal(string) => string,
-            StringTerm::Variable(number) => match self.strings.get(*number) {
-                None => &[],
-                Some(string) => string,
-            },
+            StringTerm::Variable(number) => string_of(&self.strings, *number),
         }
     }
 
@@ -390,16 +391,4 @@ impl State {
             }
         }
     }
-}
-
-// Makes `strings` a list of `count` empty strings. Returns `AllocError` if an allocation fails.
-fn make_empty(strings: &mut Vec<Vec<char>>, count: usize) -> Result<(), AllocError>
-    ensures { IfOk result (λ _. map (λ x. x.items) strings.new.items ≡ replicate count []) }
-{
-    let alloc = *strings.allocator();
-    strings.clear();
-    for _i in 0..count {
-        strings.push(Vec::new(alloc))?;
-    }
-    Ok(())
 }

@@ -139,7 +139,7 @@ impl<S: AmongSearch> Machine<S> {
         };
         let end = runner.run_call(self.program.external, &mut state);
         let traced = ended(alloc, end, limit, &state)?;
-        let integers = state.integers().to_vec(alloc)?;
+        let integers = state.integers(alloc)?;
         Ok(Why {
             outcome: traced.outcome,
             events: events_or_none(alloc, state.take_events()),

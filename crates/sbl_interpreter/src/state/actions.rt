@@ -49,17 +49,17 @@ impl State {
             }
             Action::AtLimit => Ok(self.is_at_limit(mode)),
             Action::SetMark(number) => {
-                self.set_mark(*number);
+                self.set_mark(*number)?;
                 Ok(true)
             }
             Action::AtMark(expression) => self.is_at_value(mode, expression),
             Action::ToMark(expression) => self.to_value(mode, expression),
             Action::Set(number) => {
-                self.set_boolean(*number, true);
+                self.set_boolean(*number, true)?;
                 Ok(true)
             }
             Action::Unset(number) => {
-                self.set_boolean(*number, false);
+                self.set_boolean(*number, false)?;
                 Ok(true)
             }
             Action::Boolean(number) => Ok(self.test_boolean(*number)),

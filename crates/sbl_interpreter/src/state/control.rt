@@ -10,6 +10,7 @@ ghost use Rattle.sbl_interpreter.specs.Search.{choose, choice, bound_in, take_no
 
 use crate::event::Event;
 use crate::halt::Halt;
+use crate::slots::Slots;
 use crate::state::{Limits, State};
 use crate::touch::Touch;
 use sbl_ast::Mode;
@@ -113,7 +114,7 @@ impl State {
     ) -> Result<(), AllocError>
         ensures { IfOk result (λ _. self.new ≡ take_string among length group self.old) }
     {
-        self.choose(among, Some(group));
+        self.choose(among, Some(group))?;
         self.note_event(Event::Finds(among, Some(length)))
     }
 
@@ -122,17 +123,22 @@ impl State {
     pub fn take_none(&mut self, among: usize) -> Result<(), AllocError>
         ensures { IfOk result (λ _. self.new ≡ take_none among self.old) }
     {
-        self.choose(among, None);
+        self.choose(among, None)?;
         self.note_event(Event::Finds(among, None))
     }
 
-    // Stores the group of the string that the search of an among took, or that it took none.
+    // Stores the group of the string that the search of an among took, or that it took none. Returns `AllocError` if an
+    // allocation fails.
     #[inline(always)]
-    fn choose(&mut self, among: usize, group: Option<usize>)
-        ensures { self.new ≡ choose among group self.old }
+    fn choose(&mut self, among: usize, group: Option<usize>) -> Result<(), AllocError>
+        ensures { IfOk result (λ _. self.new ≡ choose among group self.old) }
     {
-        if among < self.choices.len() {
-            self.choices[among] = group;
+        match group {
+            None => {
+                self.choices.unset(among);
+                Ok(())
+            }
+            Some(group) => self.choices.set(among, group),
         }
     }
 
@@ -141,10 +147,7 @@ impl State {
     pub fn choice(&self, among: usize) -> Option<usize>
         ensures { result ≡ choice among self.now }
     {
-        match self.choices.get(among) {
-            None => None,
-            Some(group) => *group,
-        }
+        self.choices.get(among).copied()
     }
 
     /// Begins a search of an among of the current routine, after it is paid. It touches the among. Returns `AllocError`
@@ -186,17 +189,17 @@ impl State {
     }
 
     /// Starts a call of the routine with this number, which has this many amongs. Touches the routine and returns the
-    /// choices of the caller. Returns `AllocError` if an allocation fails or the number is above `u32::MAX`.
+    /// choices of the caller. The time does not depend on how many amongs there are. Returns `AllocError` if an allocation fails or the number is above `u32::MAX`.
     #[inline(always)]
-    pub fn enter(&mut self, routine: usize, amongs: usize) -> Result<Vec<Option<usize>>, AllocError>
-        ensures kept { IfOk result (λ v. v.items ≡ self.old.choices) }
+    pub fn enter(&mut self, routine: usize, amongs: usize) -> Result<Slots<usize>, AllocError>
+        ensures kept { IfOk result (λ kept. kept ≡ self.old.choices) }
         ensures entered { IfOk result (λ _. self.new ≡ enter routine amongs self.old) }
     {
         self.touched.enter(routine)?;
         let fresh = if amongs == 0 {
-            Vec::new(*self.text.allocator())
+            Slots::new(*self.text.allocator())
         } else {
-            self.fresh_choices(amongs)?
+            self.fresh_choices(amongs)
         };
         self.routine = routine;
         let kept = mem::replace(&mut self.choices, fresh);
@@ -204,19 +207,17 @@ impl State {
         Ok(kept)
     }
 
-    // Returns this many empty choices, in the buffer of an ended call if there is one. Returns `AllocError` if an
-    // allocation fails.
-    fn fresh_choices(&mut self, amongs: usize) -> Result<Vec<Option<usize>>, AllocError>
-        ensures fresh { IfOk result (λ v. v.items ≡ replicate amongs None) }
+    // Returns this many choices, none of which is made, in the memory of an ended call if there is one.
+    fn fresh_choices(&mut self, amongs: usize) -> Slots<usize>
+        ensures fresh { result ≡ replicate amongs None }
         ensures same { self.new ≡ self.old }
     {
         let mut fresh = match self.spares.pop() {
-            None => Vec::new(*self.text.allocator()),
+            None => Slots::new(*self.text.allocator()),
             Some(spare) => spare,
         };
-        fresh.clear();
-        fresh.resize(amongs, None)?;
-        Ok(fresh)
+        fresh.reset(amongs);
+        fresh
     }
 
     /// Ends a call with this signal and restores the number and the choices of the caller. Returns `AllocError` if an
@@ -225,14 +226,14 @@ impl State {
     pub fn leave(
         &mut self,
         caller: usize,
-        kept: Vec<Option<usize>>,
+        kept: Slots<usize>,
         signal: bool,
     ) -> Result<(), AllocError>
-        ensures { IfOk result (λ _. self.new ≡ back_in caller kept.items signal self.old) }
+        ensures { IfOk result (λ _. self.new ≡ back_in caller kept signal self.old) }
     {
         self.routine = caller;
         let used = mem::replace(&mut self.choices, kept);
-        if 0 < used.capacity() {
+        if 0 < used.count() {
             // If there is no room for it, it is freed.
             let _ = self.spares.push(used);
         }

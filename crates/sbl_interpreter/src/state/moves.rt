@@ -1,6 +1,6 @@
 //! Moving and testing.
 
-ghost use Rattle.std.specs.Prelude.{◌≡◌, ◌≤◌, ◌<◌, length, map, nat_eq, IsTrue, slice_get};
+ghost use Rattle.std.specs.Prelude.{◌≡◌, ◌≤◌, ◌<◌, length, map, nat_eq, IfOk, IsTrue, slice_get};
 ghost use Rattle.std.specs.List.{starts_with};
 ghost use Rattle.sbl_char_class.specs.CharacterClasses.{members};
 ghost use Rattle.sbl_char_class.specs.Terms.{class_at};
@@ -10,9 +10,11 @@ ghost use Rattle.sbl_program.specs.ProgramOf.{view_text};
 ghost use Rattle.sbl_interpreter.specs.Moves.{characters, match, next_is, one_of, next, hop, at_limit, set_mark, at_mark, to_mark, set_boolean, test_boolean};
 
 use crate::state::State;
+use crate::state::variables::{boolean_of, set_boolean, set_integer};
 use sbl_ast::Mode;
 use sbl_char_class::{CharacterClass, is_in_class};
 use sbl_program::StringTerm;
+use std::alloc::AllocError;
 
 impl State {
     // Returns the number of characters ahead.
@@ -119,13 +121,11 @@ impl State {
         self.room(mode) == 0
     }
 
-    /// `setmark`: stores the cursor in an integer.
-    pub fn set_mark(&mut self, number: usize)
-        ensures { self.new ≡ set_mark number self.old }
+    /// `setmark`: stores the cursor in an integer. Returns `AllocError` if an allocation fails.
+    pub fn set_mark(&mut self, number: usize) -> Result<(), AllocError>
+        ensures { IfOk result (λ _. self.new ≡ set_mark number self.old) }
     {
-        if number < self.integers.len() {
-            self.integers[number] = self.cursor as i32;
-        }
+        set_integer(&mut self.integers, number, self.cursor as i32)
     }
 
     /// `atmark`: returns whether the cursor is at this offset.
@@ -159,23 +159,18 @@ impl State {
         found
     }
 
-    /// Sets a boolean.
-    pub fn set_boolean(&mut self, number: usize, value: bool)
-        ensures { self.new ≡ set_boolean number value self.old }
+    /// Sets a boolean. Returns `AllocError` if an allocation fails.
+    pub fn set_boolean(&mut self, number: usize, value: bool) -> Result<(), AllocError>
+        ensures { IfOk result (λ _. self.new ≡ set_boolean number value self.old) }
     {
-        if number < self.booleans.len() {
-            self.booleans[number] = value;
-        }
+        set_boolean(&mut self.booleans, number, value)
     }
 
     /// Returns the value of a boolean.
     pub fn test_boolean(&self, number: usize) -> bool
         ensures { test_boolean number self.now ≡ Signals result self.now }
     {
-        match self.booleans.get(number) {
-            None => false,
-            Some(value) => *value,
-        }
+        boolean_of(&self.booleans, number)
     }
 }
 

@@ -11,6 +11,7 @@ ghost use Rattle.sbl_interpreter.specs.Kept.{Leads, Follows};
 use crate::fault::RunFault;
 use crate::halt::Halt;
 use crate::state::State;
+use crate::state::variables::{integer_of, set_integer};
 use sbl_ast::{Additive, Mode, Multiplicative};
 use sbl_program::{Added, Arithmetic, Change, Relation, Scaled};
 
@@ -91,10 +92,7 @@ impl State {
     fn integer(&self, number: usize) -> i32
         ensures { result ≡ integer_at number self.now }
     {
-        match self.integers.get(number) {
-            None => 0,
-            Some(value) => *value,
-        }
+        integer_of(&self.integers, number)
     }
 
     // Returns the limit of the direction as a number.
@@ -111,7 +109,8 @@ impl State {
         }
     }
 
-    /// `$x = AE` and similar commands. Returns a fault if the expression has one or the new number is out of range.
+    /// `$x = AE` and similar commands. Returns a fault if the expression has one or the new number is out of range, and
+    /// `OutOfMemory` if an allocation fails.
     #[inline(never)]
     pub fn assign(
         &mut self,
@@ -125,9 +124,7 @@ impl State {
     {
         let y = self.value(mode, expression)?;
         let new = changed(change, self.integer(number), y)?;
-        if number < self.integers.len() {
-            self.integers[number] = new;
-        }
+        set_integer(&mut self.integers, number, new)?;
         Ok(())
     }
 

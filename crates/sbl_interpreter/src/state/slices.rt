@@ -1,6 +1,6 @@
 //! The slice, replacement and insertion.
 
-ghost use Rattle.std.specs.Prelude.{◌≡◌, ◌+◌, ◌≤◌, ◌<◌, ◌^◌, [], length, map, slice_set, IfOk};
+ghost use Rattle.std.specs.Prelude.{◌≡◌, ◌+◌, ◌≤◌, ◌<◌, ◌^◌, [], length, IfOk};
 ghost use Rattle.std.specs.List.{splice};
 ghost use Rattle.sbl_interpreter.specs.Slices.{left_bracket, right_bracket, is_slice, shifted, replace, keep, pushed, put_in, insert, attach};
 ghost use Rattle.sbl_program.specs.ProgramOf.{view_text};
@@ -9,6 +9,7 @@ ghost use Rattle.sbl_interpreter.specs.Kept.{Leads};
 
 use crate::event::Event;
 use crate::halt::Halt;
+use crate::state::variables::set_string;
 use crate::state::{MAX_TEXT_LENGTH, State};
 use sbl_ast::Mode;
 use sbl_program::StringTerm;
@@ -116,7 +117,7 @@ impl State {
         }
         let alloc = *self.text.allocator();
         let kept = self.text[self.bra..self.ket].to_vec(alloc)?;
-        set_string(&mut self.strings, number, kept);
+        set_string(&mut self.strings, number, kept)?;
         Ok(())
     }
 
@@ -209,13 +210,4 @@ fn spliced(
     buffer.extend_from_slice(string)?;
     buffer.extend_from_slice(&text[to..])?;
     Ok(buffer)
-}
-
-// Sets the characters of a string variable.
-fn set_string(strings: &mut Vec<Vec<char>>, number: usize, string: Vec<char>)
-    ensures { map (λ v. v.items) strings.new.items ≡ slice_set (map (λ v. v.items) strings.old.items) number string.items }
-{
-    if number < strings.len() {
-        strings[number] = string;
-    }
 }

@@ -57,4 +57,4 @@ returns-clause-integers g c script h =
     let same : does begun ≡ ending_with_events script c.args.word.now c.args.limit =
     ap does (c.record_events.ensures ∙ ap (λ (s : State). record s { events = Some [] }) (c.in_ok-restart.ensures T))
     ∙ ap (λ (p : Program). telling_of p c.args.word.now c.args.limit) h.0 ∙ telling_same script c.args.word.now c.args.limit in
-    c.in_ok-integers.ensures.items_if_clones_equal (λ x y same. same) ∙ c.integers.ensures ∙ c.in_ok-traced.ensures.integers (does begun) c.run_call-end.ensures.follows ∙ ap integers_at same ∙ (events_change_nothing script c.args.word.now c.args.limit).integers
+    c.in_ok-integers.ensures ∙ c.in_ok-traced.ensures.integers (does begun) c.run_call-end.ensures.follows ∙ ap integers_at same ∙ (events_change_nothing script c.args.word.now c.args.limit).integers

@@ -149,7 +149,7 @@ run_call-returns-in_ok-leave-in-Some-clause-follows g t c =
     let body = runs p (c.args.self.now.levels - 1) (view_node T routine.body) m (enter c.args.number routine.amongs s) in
     let b = c.in_ok-signal-in-Some.signal in
     let h : body ≡ Signals b new = search rules in
-    let kept : c.in_ok-kept-in-Some.kept.items ≡ s.choices = c.in_ok-kept-in-Some.ensures.kept in
+    let kept : c.in_ok-kept-in-Some.kept ≡ s.choices = c.in_ok-kept-in-Some.ensures.kept in
     q ∙ leave_signals s.routine s.choices body b new h ∙ ap (λ i. Signals b (back_in i s.choices b new)) (sym c.routine-caller.ensures) ∙ ap (λ cs. Signals b (back_in c.routine-caller.result cs b new)) (sym kept) ∙ ap (Signals b) (sym c.in_ok-leave-in-Some.ensures)
 
 pub run_among-returns-in-None-clause-follows : goal.run_among-returns-in-None-clause-follows
