@@ -10,3 +10,4 @@ pub mod Spellings
 pub mod Parted
 pub mod Unique
 pub mod Spaced
+pub mod Bounded
