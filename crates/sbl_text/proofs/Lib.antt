@@ -11,3 +11,4 @@ pub mod Parted
 pub mod Unique
 pub mod Spaced
 pub mod Bounded
+pub mod Short

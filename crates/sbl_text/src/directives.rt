@@ -87,6 +87,7 @@ fn decoded(
 ///
 /// Returns `BadCode` at `place` if there is anything but codes, or if the value has more than 64 characters, and
 /// `OutOfMemory` if an allocation fails.
+#[tactic(auto, using(crate::proofs::Short::short_is_kept, crate::proofs::Short::long_is_refused, crate::proofs::Short::none_is_refused))]
 pub fn macro_value(
     alloc: Global,
     coding: Coding,
