@@ -151,8 +151,8 @@ inserted_few : (e : InForce) (q v : List ℕ) → AreShort e.macros → inserted
 inserted_few e [] v h k = let l : length v ≡ 0 = empty_short v k in omega (arith, l)
 inserted_few e (c ∷ cs) v h k =
     let l : length v ≤ 64 =
-        either_short (list_all is_white (c ∷ cs)) (Ok []) (value_or_character (find e.macros (c ∷ cs)) (character_named e.inserts (c ∷ cs))) v (empty_few v)
-        (named_short (find e.macros (c ∷ cs)) (character_named e.inserts (c ∷ cs)) v (find_short e.macros (c ∷ cs) v h)) k in omega (arith, l)
+    either_short (list_all is_white (c ∷ cs)) (Ok []) (value_or_character (find e.macros (c ∷ cs)) (character_named e.inserts (c ∷ cs))) v (empty_few v)
+    (named_short (find e.macros (c ∷ cs)) (character_named e.inserts (c ∷ cs)) v (find_short e.macros (c ∷ cs) v h)) k in omega (arith, l)
 
 part_few : (e : InForce) (p : Part) → AreShort e.macros → IsPart e p → length p.value * 3 ≤ length p.text * 64
 part_few e p h (inl a) =

@@ -288,7 +288,12 @@ fn codes_are_read_in_their_base(rt: HostRuntime) -> Result<(), Fail> {
 }
 
 /// Returns how many characters a macro of this many codes has, or its fault.
-fn length_of(alloc: Global, coding: Coding, code: &[char], count: usize) -> Result<usize, ScriptFault> {
+fn length_of(
+    alloc: Global,
+    coding: Coding,
+    code: &[char],
+    count: usize,
+) -> Result<usize, ScriptFault> {
     let mut characters: Vec<char> = Vec::new(alloc);
     for _ in 0..count {
         characters.extend_from_slice(code)?;
@@ -325,7 +330,9 @@ fn doubled(alloc: Global, count: usize) -> Result<String, AllocError> {
 }
 
 #[test]
-fn macros_that_double_are_refused_at_the_first_that_is_too_long(rt: HostRuntime) -> Result<(), Fail> {
+fn macros_that_double_are_refused_at_the_first_that_is_too_long(
+    rt: HostRuntime,
+) -> Result<(), Fail> {
     let alloc = rt.alloc();
     let short = doubled(alloc, 6)?;
     assert_eq!(rt; tokens(alloc, short.as_str())?.len(), 20);
