@@ -125,7 +125,7 @@ SENTENCES = {
     2: "the literal that begins here has no closing quote. Look for a missing quote before it, too",
     3: "the comment that begins here has no */",
     4: "no stringdef before this defines the name that is inserted here",
-    5: "this is no code of a character: hex needs 1 to 6 digits of 0-9 and A-F, decimal needs digits",
+    5: "this is no code of a character: hex needs 1 to 6 digits of 0-9 and A-F, decimal needs digits. Or the macro has more than 64 characters",
     6: "a number may be 2147483647 at most",
     8: "this is inside more than 64 others: put a part into a routine of its own",
     9: "T is declared twice: take one of the two away",

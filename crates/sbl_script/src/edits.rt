@@ -9,7 +9,7 @@ ghost use Rattle.sbl_script.specs.declared.edits.DefinitionKind.TheVariants as k
 ghost use Rattle.sbl_script.specs.Edits as spec;
 
 use sbl_ast::{Argument, Base, Item, Plain, Row, Term, copy_plain};
-use sbl_text::{Escapes, ScriptFault, read_codes};
+use sbl_text::{Coding, Escapes, ScriptFault, macro_value};
 use std::alloc::{AllocError, Global};
 
 /// The kind of a definition.
@@ -105,6 +105,17 @@ pub fn grouping_of<'a>(items: &'a [Item], name: &str) -> Option<(&'a Argument, &
     }
 }
 
+/// Returns how the literal of a macro is read.
+fn coding_of(base: Option<Base>) -> Coding
+    ensures { result ≡ spec.coding_of base }
+{
+    match base {
+        None => Coding::Plain,
+        Some(Base::Hex) => Coding::Hex,
+        Some(Base::Decimal) => Coding::Decimal,
+    }
+}
+
 /// Adds what an item sets to what is in force.
 fn set(alloc: Global, escapes: &mut Escapes, plain: &Plain) -> Result<(), ScriptFault>
     ensures set { IfOk result (λ _. escapes.new ≡ spec.escapes_behind escapes.old (view_plain plain.now)) }
@@ -116,17 +127,9 @@ fn set(alloc: Global, escapes: &mut Escapes, plain: &Plain) -> Result<(), Script
             Ok(())
         }
         Plain::StringDef { name, base, value } => {
-            let is_hex = match base {
-                None => {
-                    escapes.define(name.as_str(), value.value.as_slice())?;
-                    return Ok(());
-                }
-                Some(Base::Hex) => true,
-                Some(Base::Decimal) => false,
-            };
-            match read_codes(alloc, is_hex, value.value.as_slice()) {
-                Ok(codes) => {
-                    escapes.define(name.as_str(), codes.as_slice())?;
+            match macro_value(alloc, coding_of(*base), value.value.as_slice(), 0) {
+                Ok(value) => {
+                    escapes.define(name.as_str(), value.as_slice())?;
                     Ok(())
                 }
                 Err(ScriptFault::OutOfMemory) => Err(ScriptFault::OutOfMemory),

@@ -15,6 +15,7 @@ mod meanings;
 mod pieces;
 
 pub use codes::read_codes;
+pub use directives::{Coding, macro_value};
 pub use escapes::{Escapes, Inserts};
 pub use fault::ScriptFault;
 pub use lexer::{Lexer, tokens, tokens_under};
