@@ -26,7 +26,7 @@ use std::alloc::{AllocError, Global};
 fn copied_entries(alloc: Global, entries: &[Candidate]) -> Result<Vec<Candidate>, AllocError>
     ensures { IfOk result (λ v. v.items ≡ entries.now) }
 {
-    let mut copy = Vec::new(alloc);
+    let mut copy = Vec::with_capacity(alloc, entries.len())?;
     copy.extend_from_slice(entries)?;
     Ok(copy)
 }
