@@ -223,14 +223,11 @@ fn groups(
                 rest = after;
             }
             _ => {
-                groups.shrink_to_fit();
-                others.reserve_exact(1)?;
                 others.insert(0, first)?;
                 return Ok(((groups, others), after));
             }
         }
     }
-    groups.shrink_to_fit();
     Ok(((groups, Vec::new(alloc)), rest))
 }
 
@@ -269,7 +266,6 @@ fn rows(
         rows.push(Row { first, others })?;
         rest = after;
     }
-    rows.shrink_to_fit();
     Ok((rows, rest))
 }
 
@@ -291,6 +287,5 @@ pub fn others(
         others.push(Joined { joiner, command })?;
         rest = after;
     }
-    others.shrink_to_fit();
     Ok((others, rest))
 }

@@ -71,6 +71,5 @@ pub fn entries(
         entries.push(entry)?;
         rest = after;
     }
-    entries.shrink_to_fit();
     Ok((entries, rest))
 }
