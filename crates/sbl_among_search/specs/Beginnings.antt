@@ -1,16 +1,12 @@
 -- The first characters of the strings of a table.
 use Rattle.std.specs.Prelude.{◌≡◌, ℕ, Bool, true, List, [], ◌∷◌, ◌||◌, Some, slice_get}
 
--- the first character of the string is in the class; for an empty string the result is `empty`
-abbrev pub begins : (ℕ → Bool) → Bool → List ℕ → Bool
-begins class empty [] = empty
-begins class empty (c ∷ cs) = class c
-
--- the same holds for each of these strings
-abbrev pub AreBeginnings : (ℕ → Bool) → Bool → List (List ℕ) → Type 0
-AreBeginnings class empty texts = (k : ℕ) (v : List ℕ) → slice_get texts k ≡ Some v → begins class empty v ≡ true
-
--- one of the strings may be a prefix of the text read
+-- a text may begin with a string of the table: the first character of the text is in the class, or a string may match
+-- everywhere
 abbrev pub may_begin : (ℕ → Bool) → Bool → List ℕ → Bool
-may_begin class empty [] = empty
-may_begin class empty (c ∷ cs) = empty || class c
+may_begin class everywhere [] = everywhere
+may_begin class everywhere (c ∷ cs) = everywhere || class c
+
+-- each of these strings may begin so
+abbrev pub AreBeginnings : (ℕ → Bool) → Bool → List (List ℕ) → Type 0
+AreBeginnings class everywhere texts = (k : ℕ) (v : List ℕ) → slice_get texts k ≡ Some v → may_begin class everywhere v ≡ true

@@ -31,7 +31,7 @@ pub struct LinkedTable {
     links: Vec<Option<usize>>,
     beginnings: Beginnings,
     ghost linked: { ∥ IsLinked (read_all direction (map (λ v. v.items) strings.items)) rows.items links.items ∥₁ },
-    ghost begun: { ∥ AreBeginnings (members beginnings.characters) beginnings.empty (texts_of rows.items) ∥₁ },
+    ghost begun: { ∥ AreBeginnings (members beginnings.characters) beginnings.everywhere (texts_of rows.items) ∥₁ },
 }
 
 impl LinkedTable {

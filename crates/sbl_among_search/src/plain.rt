@@ -86,7 +86,7 @@ impl AmongSearch for PlainTable {
 pub fn copied_all(alloc: Global, strings: &[Vec<char>]) -> Result<Vec<Vec<char>>, AllocError>
     ensures { IfOk result (λ copies. map (λ v. v.items) copies.items ≡ map (λ v. v.items) strings.now) }
 {
-    let mut copies = Vec::new(alloc);
+    let mut copies = Vec::with_capacity(alloc, strings.len())?;
     for string in strings {
         add(alloc, &mut copies, string)?;
     }

@@ -21,6 +21,15 @@ fn copied(alloc: Global, string: &[char]) -> Result<Vec<char>, AllocError>
     string.to_vec(alloc)
 }
 
+// Returns the number of strings of an among. Only room for them depends on it.
+fn count_of(groups: &Vec<Group>, bare: &Vec<Entry>) -> usize {
+    let mut count = bare.len();
+    for group in groups {
+        count = count.saturating_add(1).saturating_add(group.others.len());
+    }
+    count
+}
+
 fn add_string(alloc: Global, entry: &Entry, strings: &mut Vec<Vec<char>>) -> Result<(), AllocError>
     ensures { OnOk result (texts strings.new.items ≡ spec.strings_in (view_entry entry.now ∷ []) (texts strings.old.items)) }
 {
@@ -62,7 +71,7 @@ fn strings_of(
 ) -> Result<Vec<Vec<char>>, AllocError>
     ensures { IfOk result (λ v. texts v.items ≡ spec.strings_behind (view_groups groups.now.items (map view_entry bare.now.items)) []) }
 {
-    let mut strings = Vec::new(alloc);
+    let mut strings = Vec::with_capacity(alloc, count_of(groups, bare))?;
     add_group_strings(alloc, groups, &mut strings)?;
     add_strings(alloc, bare, &mut strings)?;
     Ok(strings)
@@ -129,7 +138,7 @@ fn entries_of(
 ) -> Result<Vec<Candidate>, AllocError>
     ensures { IfOk result (λ v. v.items ≡ spec.entries_behind (view_names names.now) 0 (view_groups groups.now.items (map view_entry bare.now.items)) []) }
 {
-    let mut entries = Vec::new(alloc);
+    let mut entries = Vec::with_capacity(alloc, count_of(groups, bare))?;
     add_group_entries(names, groups, &mut entries)?;
     add_entries(names, groups.len(), bare, &mut entries)?;
     Ok(entries)

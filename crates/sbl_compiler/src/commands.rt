@@ -26,7 +26,7 @@ use std::alloc::{AllocError, Global};
 fn copied_entries(alloc: Global, entries: &[Candidate]) -> Result<Vec<Candidate>, AllocError>
     ensures { IfOk result (λ v. v.items ≡ entries.now) }
 {
-    let mut copy = Vec::new(alloc);
+    let mut copy = Vec::with_capacity(alloc, entries.len())?;
     copy.extend_from_slice(entries)?;
     Ok(copy)
 }
@@ -366,7 +366,7 @@ fn rows_of(
     ensures made { IfOk result (λ ns. map (view_node (strings_at amongs.now.items)) ns.items ≡ spec.numbered_rows (view_names names.now) (view_rows rows.now.items) (view_place amongs.now.items place.old)) }
     ensures behind { OnOk result (view_place amongs.now.items place.new ≡ spec.past_rows (view_rows rows.now.items) (view_place amongs.now.items place.old)) }
 {
-    let mut nodes = Vec::new(alloc);
+    let mut nodes = Vec::with_capacity(alloc, rows.len())?;
     for row in rows {
         let node = row_of(alloc, names, amongs, row, place)?;
         nodes.push(node)?;
@@ -402,12 +402,22 @@ fn others_of(
     ensures made { IfOk result (λ v. map (view_joined (strings_at amongs.now.items)) v.items ≡ spec.joins_in (view_names names.now) (view_others others.now.items) (view_place amongs.now.items place.old)) }
     ensures behind { OnOk result (view_place amongs.now.items place.new ≡ spec.past_others (view_others others.now.items) (view_place amongs.now.items place.old)) }
 {
-    let mut joins = Vec::new(alloc);
+    let mut joins = Vec::with_capacity(alloc, others.len())?;
     for other in others {
         let command = node_of(alloc, names, amongs, &other.command, place)?;
         joins.push(joined_command(amongs, other.joiner, command))?;
     }
     Ok(joins)
+}
+
+// Returns the number of commands before the command of the chosen group: the search and the starter. If a `substring`
+// makes the search, there are none.
+fn count_before(waits: bool, among: &Among) -> usize {
+    match (waits, &among.starter) {
+        (true, _) => 0,
+        (false, None) => 1,
+        (false, Some(_)) => 2,
+    }
 }
 
 #[cycle(commands)]
@@ -423,7 +433,7 @@ fn among_of(
 {
     let number = next_number(amongs, *place);
     let waits = place.waits;
-    let mut before = Vec::new(alloc);
+    let mut before = Vec::with_capacity(alloc, count_before(waits, among))?;
     if !waits {
         before.push(search_next(alloc, amongs, *place)?)?;
     }
@@ -473,7 +483,7 @@ fn bodies_of(
     ensures made { IfOk result (λ ns. (bare : List trees.Entry) → map (view_node (strings_at amongs.now.items)) ns.items ≡ spec.numbered_groups (view_names names.now) (view_groups groups.now.items bare) (view_place amongs.now.items place.old)) }
     ensures behind { OnOk result ((bare : List trees.Entry) → view_place amongs.now.items place.new ≡ spec.past_groups (view_groups groups.now.items bare) (view_place amongs.now.items place.old)) }
 {
-    let mut bodies = Vec::new(alloc);
+    let mut bodies = Vec::with_capacity(alloc, groups.len())?;
     for group in groups {
         let nodes = region_of(alloc, names, amongs, &group.rows, place)?;
         bodies.push(Node::Sequence(nodes))?;

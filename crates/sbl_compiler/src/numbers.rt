@@ -107,7 +107,7 @@ fn sums_of(
 ) -> Result<Vec<sbl_program::Added>, AllocError>
     ensures { IfOk result (λ v. map view_added v.items ≡ spec.sums_in (view_names names.now) (view_sums others.now.items)) }
 {
-    let mut sums = Vec::new(alloc);
+    let mut sums = Vec::with_capacity(alloc, others.len())?;
     for other in others {
         let number = number_of_product(alloc, names, &other.product)?;
         sums.push(added_number(other.operator, number))?;
@@ -136,7 +136,7 @@ fn scales_of(
 ) -> Result<Vec<sbl_program::Scaled>, AllocError>
     ensures { IfOk result (λ v. map view_scaled v.items ≡ spec.scales_in (view_names names.now) (view_scales others.now.items)) }
 {
-    let mut scales = Vec::new(alloc);
+    let mut scales = Vec::with_capacity(alloc, others.len())?;
     for other in others {
         let number = number_of_factor(alloc, names, &other.factor)?;
         scales.push(scaled_number(other.operator, number))?;

@@ -63,7 +63,7 @@ pub fn links_of(
     ensures down { IfOk result (λ links. GoDown links.items) }
     ensures long { IfOk result (λ links. length links.items ≡ length rows.now) }
 {
-    let mut links = Vec::new(alloc);
+    let mut links = Vec::with_capacity(alloc, rows.len())?;
     for (i, row) in rows.iter().enumerate() {
         let link = follow(rows, &links, Mode::Forward, &row.0, row.0.len(), i);
         links.push(link)?;

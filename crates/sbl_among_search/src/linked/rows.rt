@@ -31,7 +31,7 @@ fn numbered(
     ensures texts { IfOk result (λ rows. texts_of rows.items ≡ read_all direction (map (λ v. v.items) strings.now)) }
     ensures numbers { IfOk result (λ rows. AreOwn (numbers_of rows.items)) }
 {
-    let mut rows = Vec::new(alloc);
+    let mut rows = Vec::with_capacity(alloc, strings.len())?;
     for (i, string) in strings.iter().enumerate() {
         let text = as_read(alloc, direction, string)?;
         rows.push((text, Reverse(i)))?;

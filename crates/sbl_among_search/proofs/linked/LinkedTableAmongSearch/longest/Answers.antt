@@ -22,8 +22,8 @@ returns-then-not-may_begin c =
     let part = c.ahead-part.result.now in
     let x = read_as t.direction part in
     let class = members t.beginnings.characters in
-    let empty = t.beginnings.empty in
-    let no : may_begin class empty x ≡ false = search rules in
+    let everywhere = t.beginnings.everywhere in
+    let no : may_begin class everywhere x ≡ false = search rules in
     ∥∥₁_elim t.linked (Prim.hlevel props)
     (λ linked. ∥∥₁_elim t.begun (Prim.hlevel props)
-    (λ begun. best_fits (strings_of t) x (length part + 1) None (length part) (read_length t.direction part) refl (none_fits class empty x (length part + 1) (strings_of t) (texts_of t.rows.items) (numbers_of t.rows.items) linked.rows_are begun no) ∙ ap (λ y. first (fitting (strings_of t) y)) c.ahead-part.ensures))
+    (λ begun. best_fits (strings_of t) x (length part + 1) None (length part) (read_length t.direction part) refl (none_fits class everywhere x (length part + 1) (strings_of t) (texts_of t.rows.items) (numbers_of t.rows.items) linked.rows_are begun no) ∙ ap (λ y. first (fitting (strings_of t) y)) c.ahead-part.ensures))
