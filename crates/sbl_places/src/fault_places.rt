@@ -131,7 +131,7 @@ pub(crate) fn token_offset(alloc: Global, text: &[u8], fault: ScriptFault) -> Re
 }
 
 /// Returns the place that a fault has. Does not allocate.
-fn place_in(fault: ScriptFault) -> Option<usize>
+pub(crate) fn place_in(fault: ScriptFault) -> Option<usize>
     ensures { result ≡ places.place_in fault }
 {
     match fault {
