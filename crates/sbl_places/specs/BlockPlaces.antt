@@ -1,5 +1,5 @@
 -- The place of a fault in a block, which is put into one place of a script's text.
-use Rattle.std.specs.Prelude.{◌≡◌, ◌<◌, ⊥, ℕ, ◌+◌, List, ◌++◌, length, Option, Some, MatchOption}
+use Rattle.std.specs.Prelude.{◌≡◌, ◌<◌, ℕ, ◌+◌, List, ◌++◌, length, Option, Some, MatchOption}
 use Rattle.sbl_text.specs.declared.fault.ScriptFault.{ScriptFault}
 use Rattle.sbl_places.specs.SubjectTokens.{SubjectToken}
 use Rattle.sbl_places.specs.FaultPlaces.{IsFaultAt, place_in}

@@ -1,6 +1,6 @@
 //! The place of a fault in a block that is put into a script.
 
-ghost use Rattle.std.specs.Prelude.{◌≡◌, ◌<◌, ◌+◌, ◌++◌, ⊥, ℕ, IfOk, MatchOption, length};
+ghost use Rattle.std.specs.Prelude.{◌≡◌, ◌<◌, ◌+◌, ◌++◌, ℕ, IfOk, MatchOption, length};
 ghost use Rattle.sbl_places.specs.BlockPlaces.{IsBlockOffset, IsTokenIn};
 
 use crate::fault_places::{place_in, token_offset};

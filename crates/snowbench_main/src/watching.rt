@@ -125,7 +125,7 @@ fn show(rt: &HostRuntime, context: Context<'_>, talk: &Talk) {
     }
 }
 
-impl<'a, R> Watched<'a, R> {
+impl<'a, R: Drop> Watched<'a, R> {
     /// Returns the reader before its first read. Returns `AllocError` if an allocation fails.
     pub(crate) fn new(
         rt: &'a HostRuntime,
@@ -190,7 +190,7 @@ impl<'a, R> Watched<'a, R> {
     }
 }
 
-impl<R: Read> Read for Watched<'_, R> {
+impl<R: Read + Drop> Read for Watched<'_, R> {
     fn read(&mut self, buf: &mut [u8]) -> io::Result<usize> {
         if buf.is_empty() {
             return Ok(0);
