@@ -4,16 +4,12 @@ ghost use Rattle.std.specs.Prelude.{◌≡◌, ◌<◌, ◌+◌, ◌++◌, ℕ, 
 ghost use Rattle.sbl_places.specs.BlockPlaces.{IsBlockOffset, IsTokenIn};
 
 use crate::fault_places::{place_in, token_offset};
+use crate::laws::token_is_one;
 use sbl_text::ScriptFault;
 use std::alloc::{AllocError, Global};
 
 /// Returns three texts as one. Returns `AllocError` if an allocation fails.
-fn joined(
-    alloc: Global,
-    before: &[u8],
-    block: &[u8],
-    after: &[u8],
-) -> Result<Vec<u8>, AllocError>
+fn joined(alloc: Global, before: &[u8], block: &[u8], after: &[u8]) -> Result<Vec<u8>, AllocError>
     ensures { IfOk result (λ text. text.items ≡ before.now ++ block.now ++ after.now) }
 {
     let mut text = Vec::from_slice(alloc, before)?;
@@ -43,6 +39,7 @@ fn token_offset_in(
 ) -> Result<Option<usize>, AllocError>
     ensures { IfOk result (λ o. IsTokenIn before.now block.now after.now fault o) }
 {
+    token_is_one();
     let text = joined(alloc, before, block, after)?;
     match token_offset(alloc, &text, fault)? {
         Some(offset) => Ok(offset_in(before.len(), block.len(), offset)),

@@ -119,7 +119,11 @@ pub fn place_of_fault(alloc: Global, text: &[u8]) -> Result<Option<FaultPlace>, 
 
 /// Returns the byte offset of the token at which the checks find this fault, or `None` if they do not find it in this text. Returns
 /// `AllocError` if an allocation fails.
-pub(crate) fn token_offset(alloc: Global, text: &[u8], fault: ScriptFault) -> Result<Option<usize>, AllocError>
+pub(crate) fn token_offset(
+    alloc: Global,
+    text: &[u8],
+    fault: ScriptFault,
+) -> Result<Option<usize>, AllocError>
     ensures { IfOk result (λ o. IsTokenOffset text.now fault o) }
 {
     token_is_one();

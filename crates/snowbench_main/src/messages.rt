@@ -85,7 +85,16 @@ pub(crate) fn width(character: char) -> usize {
 }
 
 /// The powers of 16 below 2 ^ 32.
-const POWERS: [u32; 8] = [268_435_456, 16_777_216, 1_048_576, 65_536, 4_096, 256, 16, 1];
+const POWERS: [u32; 8] = [
+    268_435_456,
+    16_777_216,
+    1_048_576,
+    65_536,
+    4_096,
+    256,
+    16,
+    1,
+];
 
 /// Appends a number with hexadecimal digits. Zeros before it are written from the digit of the power `first` on.
 pub(crate) fn push_hexadecimal(
@@ -98,7 +107,11 @@ pub(crate) fn push_hexadecimal(
         let digit = number.checked_div(power).unwrap_or(0) % 16;
         has_begun = has_begun || digit > 0 || power <= first;
         if has_begun {
-            shown.push(char::from_digit(digit, 16).unwrap_or('?').to_ascii_uppercase())?;
+            shown.push(
+                char::from_digit(digit, 16)
+                    .unwrap_or('?')
+                    .to_ascii_uppercase(),
+            )?;
         }
     }
     Ok(())
@@ -113,10 +126,7 @@ pub(crate) fn push_named(shown: &mut String, text: &str) -> Result<(), AllocErro
 }
 
 /// Appends a character, or its number if a terminal obeys it.
-pub(crate) fn push_named_character(
-    shown: &mut String,
-    character: char,
-) -> Result<(), AllocError> {
+pub(crate) fn push_named_character(shown: &mut String, character: char) -> Result<(), AllocError> {
     if !is_hidden(character) {
         return shown.push(character);
     }

@@ -176,8 +176,7 @@ fn defined_first(alloc: Global, text: &[u8]) -> Result<Option<&str>, AllocError>
     };
     match (tokens.first(), tokens.get(1)) {
         (Some(first), Some(second))
-            if first.kind == Kind::Word(Word::Define) && second.kind == Kind::Name =>
-        {
+            if first.kind == Kind::Word(Word::Define) && second.kind == Kind::Name => {
             Ok(Some(second.text))
         }
         _ => Ok(None),
@@ -203,7 +202,11 @@ fn push_syntax(
         return push_closing(shown, faulty.part);
     }
     push_thing(shown, spot)?;
-    shown.push_str(if before.is_empty { " cannot begin the text" } else { " cannot follow what is before it" })?;
+    shown.push_str(if before.is_empty {
+        " cannot begin the text"
+    } else {
+        " cannot follow what is before it"
+    })?;
     if begins_item(spot.kind) {
         push_open(alloc, shown, faulty.text, before.open)?;
     }

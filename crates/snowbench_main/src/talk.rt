@@ -66,7 +66,11 @@ fn chomped(line: &[u8]) -> &[u8] {
 impl Talk {
     /// Returns the talk before its first line.
     pub(crate) fn new(alloc: Global, lead: Lead) -> Talk {
-        let next = if lead == Lead::Work { Next::Command } else { Next::Script };
+        let next = if lead == Lead::Work {
+            Next::Command
+        } else {
+            Next::Script
+        };
         Talk {
             alloc,
             lead,
@@ -169,7 +173,8 @@ impl Talk {
                 self.reply.clear();
             }
             Next::Block => {
-                let is_kept = push(&mut self.block, chomped(&self.line)) && push(&mut self.block, b"\n");
+                let is_kept = push(&mut self.block, chomped(&self.line))
+                    && push(&mut self.block, b"\n");
                 self.is_lost = self.is_lost || !is_kept;
             }
         }

@@ -152,7 +152,10 @@ fn fault_in_part(
     let Ok(rest) = str::from_utf8(typed.block.get(skipped..).unwrap_or(&[])) else {
         return Ok(None);
     };
-    let (Some(fault), Ok(text)) = (edit_fault(alloc, script, part, rest), str::from_utf8(typed.script)) else {
+    let (Some(fault), Ok(text)) = (
+        edit_fault(alloc, script, part, rest),
+        str::from_utf8(typed.script),
+    ) else {
         return Ok(None);
     };
     let Some(cut) = cut_at_part(alloc, text, part)? else {
@@ -196,7 +199,11 @@ pub(crate) fn part_text(
         let begin = offset_of_byte(typed.block);
         return Ok(Some(fault_text(alloc, title, faulty, begin)?));
     };
-    let skipped = if typed.takes_heads { head_end(&first_tokens(alloc, text)?, part) } else { 0 };
+    let skipped = if typed.takes_heads {
+        head_end(&first_tokens(alloc, text)?, part)
+    } else {
+        0
+    };
     let Ok(script) = Script::parse(alloc, typed.script, typed.external) else {
         return Ok(None);
     };
