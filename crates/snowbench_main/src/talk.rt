@@ -111,11 +111,6 @@ impl Talk {
         }
     }
 
-    /// Returns whether the script is being asked for.
-    pub(crate) fn is_asking(&self) -> bool {
-        self.is_asking
-    }
-
     /// Returns whether the line that is read has begun.
     pub(crate) fn has_begun(&self) -> bool {
         !self.line.is_empty()
@@ -129,6 +124,11 @@ impl Talk {
             && (reply.starts_with(b"no 48 ") || reply.starts_with(b"no 47 "))
             && reply.contains(&b'\n')
             && !self.command.is_empty()
+    }
+
+    /// Returns whether the script in force has to be asked for before the place can be shown.
+    pub(crate) fn needs_script(&self) -> bool {
+        !self.is_asking && self.command.as_slice() != b"reload".as_slice()
     }
 
     /// Begins to ask for the script.

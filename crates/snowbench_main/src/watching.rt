@@ -1,6 +1,8 @@
 //! A reader and a writer that show the place of a refused block before the next line is read. To know the script in force they
 //! ask for it, by a line `script` whose reply is not written.
 
+ghost use Rattle.std.specs.Io.{ReadsAtMost};
+
 use crate::messages::print_line;
 use crate::places::{fault_of, script_fault_text};
 use crate::talk::{PROMPT, Talk};
@@ -41,11 +43,12 @@ pub(crate) struct Watched<'a, R> {
 /// How many bytes are read at once (our own choice).
 const CHUNK: usize = 4_096;
 
-/// Copies as many bytes as fit, and returns their number.
-fn copy_front(from: &[u8], to: &mut [u8]) -> usize {
-    let count = from.len().min(to.len());
-    to[..count].copy_from_slice(&from[..count]);
-    count
+/// Reads from these bytes, and returns how many fit.
+fn give(from: &[u8], buf: &mut [u8]) -> io::Result<usize>
+    ensures { ReadsAtMost result buf.new }
+{
+    let mut rest = from;
+    rest.read(buf)
 }
 
 /// Returns how many bytes the first line has with its end, or all bytes if it has none.
@@ -145,69 +148,73 @@ impl<'a, R: Drop> Watched<'a, R> {
         })
     }
 
-    /// Between two lines: after a refusal asks for the script, and with the script shows the place. Returns how many bytes of a
-    /// question were put into the buffer.
-    fn ask(&self, buf: &mut [u8]) -> usize {
+    /// Shows the place of a refused block once the script is known. Returns whether the script is to be asked for: after a refusal,
+    /// if there is room for the question.
+    fn asks(&self, room: usize) -> bool {
         let Ok(mut talk) = self.talk.try_borrow_mut() else {
-            return 0;
+            return false;
         };
-        if talk.is_refused() && !talk.is_asking() && talk.command() != b"reload".as_slice() {
-            if buf.len() < QUESTION.len() {
-                return 0;
-            }
+        if !talk.is_refused() {
+            return false;
+        }
+        if talk.needs_script() && room >= QUESTION.len() {
             talk.ask();
-            return copy_front(QUESTION, buf);
+            return true;
         }
-        if talk.is_refused() {
-            show(self.rt, self.context, &talk);
-            talk.finish();
-        }
-        0
+        show(self.rt, self.context, &talk);
+        talk.finish();
+        false
     }
 
-    /// Copies bytes up to the end of a line, and returns their number.
-    fn take_line(&mut self, buf: &mut [u8]) -> usize {
+    /// Returns the bytes that were read and not given, up to the end of a line.
+    fn line(&self) -> &[u8] {
         let rest = self.chunk.get(self.at..self.end).unwrap_or(&[]);
-        let line = rest.get(..line_length(rest)).unwrap_or(rest);
-        let count = copy_front(line, buf);
-        if let Ok(mut talk) = self.talk.try_borrow_mut() {
-            talk.note_input(&buf[..count]);
-        }
-        self.at = self.at.saturating_add(count);
-        count
+        rest.get(..line_length(rest)).unwrap_or(rest)
     }
 
-    /// Ends the last line of the input if it has no end. Returns the number of bytes.
-    fn end_line(&self, buf: &mut [u8]) -> usize {
-        let Ok(mut talk) = self.talk.try_borrow_mut() else {
-            return 0;
-        };
-        if !talk.has_begun() {
-            return 0;
+    /// Notes bytes that were given.
+    fn note(&mut self, bytes: &[u8]) {
+        if let Ok(mut talk) = self.talk.try_borrow_mut() {
+            talk.note_input(bytes);
         }
-        talk.note_input(b"\n");
-        copy_front(b"\n", buf)
+        self.at = self.at.saturating_add(bytes.len());
+    }
+
+    /// Returns whether the input has ended inside a line.
+    fn is_inside_line(&self) -> bool {
+        match self.talk.try_borrow_mut() {
+            Ok(talk) => talk.has_begun(),
+            Err(_) => false,
+        }
     }
 }
 
 impl<R: Read + Drop> Read for Watched<'_, R> {
     fn read(&mut self, buf: &mut [u8]) -> io::Result<usize> {
-        if buf.is_empty() {
-            return Ok(0);
-        }
-        let asked = self.ask(buf);
-        if asked > 0 {
-            return Ok(asked);
+        if self.asks(buf.len()) {
+            return give(QUESTION, buf);
         }
         if self.at >= self.end {
-            let count = self.inner.read(&mut self.chunk)?;
-            self.at = 0;
-            self.end = count;
-            if count == 0 {
-                return Ok(self.end_line(buf));
+            match self.inner.read(&mut self.chunk) {
+                Ok(count) => {
+                    self.at = 0;
+                    self.end = count;
+                }
+                Err(error) => return Err(error),
+            }
+            if self.end == 0 {
+                if !self.is_inside_line() {
+                    return Ok(0);
+                }
+                self.note(b"\n");
+                return give(b"\n", buf);
             }
         }
-        Ok(self.take_line(buf))
+        let given = give(self.line(), buf);
+        if let Ok(count) = &given {
+            self.note(buf.get(..*count).unwrap_or(&[]));
+        }
+        given
     }
 }
 
@@ -237,11 +244,15 @@ impl<W: Write> Write for Quiet<'_, W> {
                 return Ok(buf.len());
             }
         }
-        let count = self.inner.write(buf)?;
-        if let Ok(mut talk) = self.talk.try_borrow_mut() {
-            talk.note_output(&buf[..count]);
+        match self.inner.write(buf) {
+            Ok(count) => {
+                if let Ok(mut talk) = self.talk.try_borrow_mut() {
+                    talk.note_output(&buf[..count]);
+                }
+                Ok(count)
+            }
+            Err(error) => Err(error),
         }
-        Ok(count)
     }
 
     fn flush(&mut self) -> io::Result<()> {
