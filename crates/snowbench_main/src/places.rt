@@ -81,26 +81,39 @@ fn spot_at(alloc: Global, text: &[u8], begin: usize) -> Spot<'_> {
     }
 }
 
-/// Returns the characters of a line, up to a byte that is not UTF-8, for which there is a `?`.
+/// Returns the characters of a line, with `?` for each byte that is not UTF-8.
 fn characters_of(alloc: Global, line: &[u8]) -> Result<Vec<char>, AllocError> {
-    let error = match str::from_utf8(line) {
-        Ok(text) => return text.chars().collect(alloc),
-        Err(error) => error,
-    };
-    let mut characters = match line.get(..error.valid_up_to()) {
-        Some(front) => characters_of_front(alloc, front)?,
-        None => Vec::new(alloc),
-    };
-    characters.push('?')?;
+    let mut characters = Vec::new(alloc);
+    let mut rest = line;
+    for _ in 0..line.len() {
+        let valid = match str::from_utf8(rest) {
+            Ok(text) => return push_characters(characters, text),
+            Err(error) => error.valid_up_to(),
+        };
+        let (front, after) = split_at(rest, valid);
+        if let Ok(text) = str::from_utf8(front) {
+            characters = push_characters(characters, text)?;
+        }
+        characters.push('?')?;
+        rest = after.get(1..).unwrap_or(&[]);
+    }
     Ok(characters)
 }
 
-/// Returns the characters of a text; none if it is not UTF-8.
-fn characters_of_front(alloc: Global, front: &[u8]) -> Result<Vec<char>, AllocError> {
-    match str::from_utf8(front) {
-        Ok(text) => text.chars().collect(alloc),
-        Err(_) => Ok(Vec::new(alloc)),
+/// Returns the bytes before an offset, and those from it on; none after it if there are fewer.
+fn split_at(bytes: &[u8], offset: usize) -> (&[u8], &[u8]) {
+    (
+        bytes.get(..offset).unwrap_or(bytes),
+        bytes.get(offset..).unwrap_or(&[]),
+    )
+}
+
+/// Returns the characters with those of a text after them.
+fn push_characters(mut characters: Vec<char>, text: &str) -> Result<Vec<char>, AllocError> {
+    for character in text.chars() {
+        characters.push(character)?;
     }
+    Ok(characters)
 }
 
 /// Appends characters, with `?` for those that a terminal obeys.

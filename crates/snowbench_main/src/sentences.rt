@@ -202,7 +202,7 @@ fn push_syntax(
         return push_closing(shown, faulty.part);
     }
     push_thing(shown, spot)?;
-    shown.push_str(if before.is_empty {
+    shown.push_str(if before.is_empty && faulty.part.is_some() {
         " cannot begin the text"
     } else {
         " cannot follow what is before it"
