@@ -83,7 +83,7 @@ struct Before {
 }
 
 /// Returns what is before an offset in a text.
-fn before(alloc: Global, text: &[u8], offset: usize) -> Result<Before, AllocError> {
+fn state_before(alloc: Global, text: &[u8], offset: usize) -> Result<Before, AllocError> {
     let front = text.get(..offset).unwrap_or(text);
     let Ok(front) = str::from_utf8(front) else {
         return Ok(Before {
@@ -190,7 +190,7 @@ fn push_syntax(
     faulty: Faulty<'_>,
     spot: Spot<'_>,
 ) -> Result<(), AllocError> {
-    let before = before(alloc, faulty.text, spot.begin)?;
+    let before = state_before(alloc, faulty.text, spot.begin)?;
     if before.is_empty && push_beginning(alloc, shown, faulty)? {
         return Ok(());
     }
