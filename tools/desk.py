@@ -14,7 +14,6 @@ import sys
 
 from advice import Advice
 from child import Child
-from faults import explain_file
 from files import Files
 from history import EDITS, History, digest, put_aside
 from plain import for_terminal, named
@@ -34,8 +33,7 @@ INTERRUPTED = 130
 class Desk:
     def __init__(self, program, script, words, options):
         self.program, self.script, self.words, self.options = program, script, words, options
-        self.external = [word for at, word in enumerate(options) if word.startswith("--external") or options[at - 1 : at] == ["--external"]]
-        # What was said already; the status at the end if it is not the program's.
+        # The warnings that were given; the status at the end if it is not the program's.
         self.warned, self.status = [], None
         self.files = Files(script, words)
         self.child = Child(program, options, script, words)
@@ -66,7 +64,7 @@ class Desk:
         refusal = REFUSAL.match(answer[0]) if len(answer) == 1 else None
         if refusal:
             write(answer)
-            say(self.advice.lines(int(refusal[1]), refusal[2], lines))
+            say(self.child.said() + self.advice.lines(int(refusal[1]), lines))
             return "refused"
         write(self.lay_out(lines[0], answer))
         say(self.advice.note(lines))
@@ -187,15 +185,12 @@ class Desk:
 
     def end(self):
         """Says why the program has ended."""
-        said = self.child.process.stderr.read().decode("utf-8", "surrogateescape")
         self.child.process.wait()
-        for line in said.splitlines():
-            say([line])
-        fault = re.match(r"snowbench: (\d+) \w+", said)
-        if fault and int(fault[1]) < 25:
-            say(explain_file(self.script, self.program, self.external))
-            if looks_swapped(self.script, self.words):
-                say(["%s looks like a script. The script comes first: ./snowbench work SCRIPT WORDS" % named(self.words)])
+        said = self.child.said()
+        say(said)
+        fault = re.match(r"snowbench: (\d+) \w+", said[0]) if said else None
+        if fault and int(fault[1]) < 25 and looks_swapped(self.script, self.words):
+            say(["%s looks like a script. The script comes first: ./snowbench work SCRIPT WORDS" % named(self.words)])
         return "ended"
 
 

@@ -119,7 +119,11 @@ pub fn place_of_fault(alloc: Global, text: &[u8]) -> Result<Option<FaultPlace>, 
 
 /// Returns the byte offset of the token at which the checks find this fault, or `None` if they do not find it in this text. Returns
 /// `AllocError` if an allocation fails.
-fn token_offset(alloc: Global, text: &[u8], fault: ScriptFault) -> Result<Option<usize>, AllocError>
+pub(crate) fn token_offset(
+    alloc: Global,
+    text: &[u8],
+    fault: ScriptFault,
+) -> Result<Option<usize>, AllocError>
     ensures { IfOk result (λ o. IsTokenOffset text.now fault o) }
 {
     token_is_one();
@@ -131,7 +135,7 @@ fn token_offset(alloc: Global, text: &[u8], fault: ScriptFault) -> Result<Option
 }
 
 /// Returns the place that a fault has. Does not allocate.
-fn place_in(fault: ScriptFault) -> Option<usize>
+pub(crate) fn place_in(fault: ScriptFault) -> Option<usize>
     ensures { result ≡ places.place_in fault }
 {
     match fault {

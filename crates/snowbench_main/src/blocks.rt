@@ -54,7 +54,7 @@ pub(crate) fn line_at(text: &[u8], number: usize) -> &[u8] {
     rest
 }
 
-/// Appends a block: its lines, the last of which gets an end if it has none, and the point after them.
+/// Appends a block, and then the point. If the last line has no end, it gets one.
 fn push_block(input: &mut Vec<u8>, block: &[u8]) -> Result<(), AllocError> {
     input.extend_from_slice(block)?;
     if !block.is_empty() && block.last() != Some(&b'\n') {

@@ -1,22 +1,26 @@
 //! The program `snowbench`: parses its command line, and runs on files and on standard input, output and error.
 #![tactic(auto)]
 
+mod at_work;
 mod blocks;
+mod declared;
 mod messages;
 mod near;
 mod places;
 mod reasons;
+mod sentences;
 mod sessions;
 mod streams;
+mod talk;
+mod typed;
+mod watching;
 
-use crate::messages::{FAILED, NO_KEYS, NO_MEMORY, REFUSED, fail_memory, plain_text};
+use crate::at_work::start_work;
+use crate::messages::{NO_MEMORY, REFUSED, fail_memory, plain_text};
 use crate::sessions::{Named, reads_twice, run_check, run_filter, run_input, run_session};
 use clap::error::ErrorKind;
-use sbl_work::{Paths, work};
-use snowbench::{CommandLine, Device, Face, Lines, Verb, read_command_line};
-use std::hash::RandomState;
+use snowbench::{CommandLine, Verb, read_command_line};
 use std::io;
-use std::io::IsTerminal;
 use std::process::ExitCode;
 
 /// The text that is printed if a word of the command line is not UTF-8.
@@ -138,48 +142,4 @@ fn text_in(text: &Option<String>) -> Option<&str> {
         Some(text) => Some(text.as_str()),
         None => None,
     }
-}
-
-/// Works on the files of the command line, and returns the exit status. The prompt is written if the face is text, and both
-/// input and output are a terminal.
-fn start_work(rt: &HostRuntime, command_line: CommandLine) -> u8 {
-    let CommandLine {
-        verb: _,
-        external,
-        script,
-        words,
-        commands: _,
-        stems: _,
-        is_strict: _,
-        shows_places: _,
-        face,
-    } = command_line;
-    let Some(script) = script else {
-        return REFUSED;
-    };
-    let paths = Paths {
-        script,
-        words,
-        external,
-    };
-    let Ok(mut lines) = Lines::new(rt.alloc(), Device::new(rt.stdin())) else {
-        return fail_memory(rt);
-    };
-    let Ok(keys) = RandomState::new(rt) else {
-        let _ = eprint!(rt; "{NO_KEYS}");
-        return FAILED;
-    };
-    let mut writer = Device::new(rt.stdout());
-    let mut errors = Device::new(rt.stderr());
-    let is_terminal = rt.stdin().is_terminal() && rt.stdout().is_terminal();
-    let prompts = is_terminal && face != Some(Face::Rows);
-    work(
-        rt,
-        keys,
-        &paths,
-        prompts,
-        &mut lines,
-        &mut writer,
-        &mut errors,
-    )
 }

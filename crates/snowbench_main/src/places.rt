@@ -1,12 +1,11 @@
-//! The place of a script's fault: its line, and carets below its token.
+//! The place of a fault: the line of a text, and carets below its token.
 
 use crate::blocks::line_at;
-use crate::messages::plain;
-use crate::near::near_name;
-use crate::reasons::{begins_sentence, reason};
-use sbl_places::{Position, ScriptFault, offset_of_fault, place_of_fault, position_of};
+use crate::messages::{plain, push_named, width};
+use crate::sentences::{Faulty, Spot, is_blank, push_reason, push_sentence};
+use sbl_places::{Position, ScriptFault, offset_of_fault, position_of};
 use sbl_script::Script;
-use sbl_text::{Token, tokens};
+use sbl_text::Lexer;
 use std::alloc::{AllocError, Global};
 
 /// Up to this column a line is shown from its beginning (our own choice).
@@ -17,13 +16,6 @@ const BEFORE: usize = 60;
 
 /// How many characters of a line are shown (our own choice).
 const SHOWN: usize = 120;
-
-/// A part of a text, in bytes.
-#[derive(Clone, Copy)]
-struct Range {
-    begin: usize,
-    end: usize,
-}
 
 /// Returns the fault of a script, if it has one.
 pub(crate) fn fault_of(alloc: Global, text: &[u8], external: &str) -> Option<ScriptFault> {
@@ -36,72 +28,92 @@ pub(crate) fn fault_of(alloc: Global, text: &[u8], external: &str) -> Option<Scr
     }
 }
 
-/// Returns the end of the token that begins at an offset; the offset itself if there is no such token.
-fn token_end(alloc: Global, text: &[u8], offset: usize) -> usize {
-    let Ok(text) = str::from_utf8(text) else {
-        return offset;
-    };
-    let Ok(tokens) = tokens(alloc, text) else {
-        return offset;
-    };
-    for token in &tokens {
-        if token.start == offset {
-            return token.end;
-        }
-    }
-    offset
-}
-
-/// Returns the part of the text at which the fault is, if it is at one.
-fn range_of(alloc: Global, text: &[u8], fault: ScriptFault) -> Result<Option<Range>, AllocError> {
-    if let Some(place) = place_of_fault(alloc, text)? {
-        let (begin, end) = (place.begin, place.end);
-        return Ok(Some(Range { begin, end }));
-    }
-    if let Some(begin) = offset_of_fault(alloc, text, fault)? {
-        let end = token_end(alloc, text, begin);
-        return Ok(Some(Range { begin, end }));
-    }
+/// Returns the offset of a byte that is not UTF-8, if there is one.
+pub(crate) fn offset_of_byte(text: &[u8]) -> Option<usize> {
     match str::from_utf8(text) {
-        Ok(_) => Ok(None),
-        Err(error) => {
-            let begin = error.valid_up_to();
-            Ok(Some(Range { begin, end: begin }))
-        }
+        Ok(_) => None,
+        Err(error) => Some(error.valid_up_to()),
     }
 }
 
-/// Returns the characters of a line, up to a byte that is not UTF-8, for which there is a `?`.
+/// Returns the offset of the fault of a script, if it is at one.
+fn offset_in_script(
+    alloc: Global,
+    text: &[u8],
+    fault: ScriptFault,
+) -> Result<Option<usize>, AllocError> {
+    match offset_of_fault(alloc, text, fault)? {
+        Some(offset) => Ok(Some(offset)),
+        None if fault == ScriptFault::NotUtf8 => Ok(offset_of_byte(text)),
+        None => Ok(None),
+    }
+}
+
+/// Returns the first character of a text.
+fn first_character(text: &str) -> &str {
+    match text.chars().next() {
+        Some(character) => text.get(..character.len_utf8()).unwrap_or(""),
+        None => "",
+    }
+}
+
+/// Returns what is at an offset of a text: a token, or else a character.
+fn spot_at(alloc: Global, text: &[u8], begin: usize) -> Spot<'_> {
+    let rest = text.get(begin..).unwrap_or(&[]);
+    let Ok(rest) = str::from_utf8(rest) else {
+        return Spot {
+            begin,
+            token: "",
+            kind: None,
+        };
+    };
+    match Lexer::new(alloc, rest).next() {
+        Ok(Some(token)) if token.start == 0 => Spot {
+            begin,
+            token: token.text,
+            kind: Some(token.kind),
+        },
+        _ => Spot {
+            begin,
+            token: first_character(rest),
+            kind: None,
+        },
+    }
+}
+
+/// Returns the characters of a line, with `?` for each byte that is not UTF-8.
 fn characters_of(alloc: Global, line: &[u8]) -> Result<Vec<char>, AllocError> {
-    let error = match str::from_utf8(line) {
-        Ok(text) => return text.chars().collect(alloc),
-        Err(error) => error,
-    };
-    let mut characters = match line.get(..error.valid_up_to()) {
-        Some(front) => characters_of_front(alloc, front)?,
-        None => Vec::new(alloc),
-    };
-    characters.push('?')?;
+    let mut characters = Vec::new(alloc);
+    let mut rest = line;
+    for _ in 0..line.len() {
+        let valid = match str::from_utf8(rest) {
+            Ok(text) => return push_characters(characters, text),
+            Err(error) => error.valid_up_to(),
+        };
+        let (front, after) = split_at(rest, valid);
+        if let Ok(text) = str::from_utf8(front) {
+            characters = push_characters(characters, text)?;
+        }
+        characters.push('?')?;
+        rest = after.get(1..).unwrap_or(&[]);
+    }
     Ok(characters)
 }
 
-/// Returns the characters of a text; none if it is not UTF-8.
-fn characters_of_front(alloc: Global, front: &[u8]) -> Result<Vec<char>, AllocError> {
-    match str::from_utf8(front) {
-        Ok(text) => text.chars().collect(alloc),
-        Err(_) => Ok(Vec::new(alloc)),
-    }
+/// Returns the bytes before an offset, and those from it on; none after it if there are fewer.
+fn split_at(bytes: &[u8], offset: usize) -> (&[u8], &[u8]) {
+    (
+        bytes.get(..offset).unwrap_or(bytes),
+        bytes.get(offset..).unwrap_or(&[]),
+    )
 }
 
-/// Returns how many characters a part of a text has.
-fn length_of(text: &[u8], range: Range) -> usize {
-    let Some(part) = text.get(range.begin..range.end) else {
-        return 0;
-    };
-    match str::from_utf8(part) {
-        Ok(part) => part.chars().count(),
-        Err(_) => 0,
+/// Returns the characters with those of a text after them.
+fn push_characters(mut characters: Vec<char>, text: &str) -> Result<Vec<char>, AllocError> {
+    for character in text.chars() {
+        characters.push(character)?;
     }
+    Ok(characters)
 }
 
 /// Appends characters, with `?` for those that a terminal obeys.
@@ -115,17 +127,30 @@ fn push_shown(shown: &mut String, characters: &[char]) -> Result<(), AllocError>
 /// Appends blanks that are as wide as these characters; tabs stay tabs.
 fn push_blanks(shown: &mut String, characters: &[char]) -> Result<(), AllocError> {
     for character in characters {
-        shown.push(if *character == '\t' { '\t' } else { ' ' })?;
+        if *character == '\t' {
+            shown.push('\t')?;
+        } else {
+            push_times(shown, ' ', width(*character))?;
+        }
     }
     Ok(())
 }
 
-/// Appends so many carets.
-fn push_carets(shown: &mut String, count: usize) -> Result<(), AllocError> {
+/// Appends a character so many times.
+fn push_times(shown: &mut String, character: char, count: usize) -> Result<(), AllocError> {
     for _ in 0..count {
-        shown.push('^')?;
+        shown.push(character)?;
     }
     Ok(())
+}
+
+/// Appends carets that are as wide as these characters, and one if they have no width.
+fn push_carets(shown: &mut String, characters: &[char]) -> Result<(), AllocError> {
+    let mut columns: usize = 0;
+    for character in characters {
+        columns = columns.saturating_add(width(*character));
+    }
+    push_times(shown, '^', columns.max(1))
 }
 
 /// Appends the line of a place, of a long line the part around it, and carets below the token. `before` is how many characters are
@@ -144,99 +169,93 @@ fn push_line(
     push_shown(shown, part)?;
     shown.push_str("\n    ")?;
     push_blanks(shown, part.get(..place).unwrap_or(&[]))?;
-    let room = part.len().saturating_sub(place);
-    push_carets(shown, length.min(room).max(1))
+    let token = part.get(place..).unwrap_or(&[]);
+    push_carets(shown, token.get(..length).unwrap_or(token))
 }
 
-/// Returns the lines on a fault of a script: its place, what is wrong, and the line with carets. `title` is the name of the
-/// script. Returns `None` if the fault is at no place.
-pub(crate) fn place_text(
+/// What is named before the place in a text: where the text itself is, if it is a part of a longer one, and its title.
+#[derive(Clone, Copy)]
+pub(crate) struct Title<'a> {
+    pub(crate) title: &'a str,
+    /// The name of the longer text, and the line in it in which the text begins, from 1.
+    pub(crate) source: Option<(&'a str, usize)>,
+}
+
+/// Appends the title and, if there is one, the position. It ends with a colon and a blank.
+pub(crate) fn push_title(
+    alloc: Global,
+    shown: &mut String,
+    title: Title<'_>,
+    position: Option<Position>,
+) -> Result<(), AllocError> {
+    if let Some((name, first)) = title.source {
+        let (line, column) = match position {
+            Some(position) => (position.line, position.column),
+            None => (1, 1),
+        };
+        let row = first.saturating_add(line.saturating_sub(1));
+        push_named(shown, name)?;
+        let place = format!(in alloc; ":{row}:{column}: ")?;
+        shown.push_str(place.as_str())?;
+    }
+    push_named(shown, title.title)?;
+    match position {
+        Some(Position { line, column }) => {
+            let place = format!(in alloc; ":{line}:{column}: ")?;
+            shown.push_str(place.as_str())
+        }
+        None => shown.push_str(": "),
+    }
+}
+
+/// Returns the lines on a fault of a text: its place, what is wrong, and the line with carets; only what is wrong if it is at no
+/// place.
+pub(crate) fn fault_text(
+    alloc: Global,
+    title: Title<'_>,
+    faulty: Faulty<'_>,
+    begin: Option<usize>,
+) -> Result<String, AllocError> {
+    let mut shown = String::new(alloc);
+    if faulty.part.is_some() && is_blank(faulty.text) {
+        push_title(alloc, &mut shown, title, None)?;
+        shown.push_str("the text is empty")?;
+        return Ok(shown);
+    }
+    let Some(begin) = begin else {
+        push_title(alloc, &mut shown, title, None)?;
+        push_reason(alloc, &mut shown, faulty)?;
+        return Ok(shown);
+    };
+    let position = position_of(faulty.text, begin);
+    let spot = spot_at(alloc, faulty.text, begin);
+    push_title(alloc, &mut shown, title, Some(position))?;
+    push_sentence(alloc, &mut shown, faulty, spot)?;
+    let characters = characters_of(alloc, line_at(faulty.text, position.line))?;
+    let before = position.column.saturating_sub(1);
+    push_line(&mut shown, &characters, before, spot.token.chars().count())?;
+    Ok(shown)
+}
+
+/// Returns the lines on a fault of a whole script. `title` is the name of the script.
+pub(crate) fn script_fault_text(
     alloc: Global,
     title: &str,
     text: &[u8],
+    external: &str,
     fault: ScriptFault,
-) -> Result<Option<String>, AllocError> {
-    let Some(range) = range_of(alloc, text, fault)? else {
-        return Ok(None);
+) -> Result<String, AllocError> {
+    let begin = offset_in_script(alloc, text, fault)?;
+    let title = Title {
+        title,
+        source: None,
     };
-    let Position { line, column } = position_of(text, range.begin);
-    let characters = characters_of(alloc, line_at(text, line))?;
-    let before = column.saturating_sub(1);
-    let length = length_of(text, range);
-    let mut shown = format!(in alloc; "{title}:{line}:{column}: ")?;
-    if is_at_end(text, range.begin) && matches!(fault, ScriptFault::Syntax { .. }) {
-        shown.push_str("the text ends here, and more is needed")?;
-    } else {
-        if !begins_sentence(fault) {
-            push_thing(&mut shown, &characters, before, length)?;
-        }
-        shown.push_str(reason(fault))?;
-        push_near(alloc, &mut shown, text, range, fault)?;
-    }
-    push_line(&mut shown, &characters, before, length)?;
-    Ok(Some(shown))
-}
-
-/// Returns whether only white space follows an offset.
-fn is_at_end(text: &[u8], offset: usize) -> bool {
-    let rest = text.get(offset..).unwrap_or(&[]);
-    for byte in rest {
-        if !byte.is_ascii_whitespace() {
-            return false;
-        }
-    }
-    true
-}
-
-/// Appends a question if a declared name is near one that is not declared, and otherwise what to do.
-fn push_near(
-    alloc: Global,
-    shown: &mut String,
-    text: &[u8],
-    range: Range,
-    fault: ScriptFault,
-) -> Result<(), AllocError> {
-    if !matches!(fault, ScriptFault::Undeclared { .. }) {
-        return Ok(());
-    }
-    let Ok(text) = str::from_utf8(text) else {
-        return Ok(());
+    let faulty = Faulty {
+        text,
+        fault,
+        part: None,
+        script: text,
+        external,
     };
-    let Ok(tokens) = tokens(alloc, text) else {
-        return Ok(());
-    };
-    match near_name(&tokens, name_at(&tokens, range.begin)) {
-        Some(name) => {
-            shown.push_str(" Did you mean ")?;
-            shown.push_str(name)?;
-            shown.push_str("?")
-        }
-        None => shown.push_str(" Declare it, or use another name."),
-    }
-}
-
-/// Returns the text of the token that begins at an offset.
-fn name_at<'a>(tokens: &[Token<'a>], offset: usize) -> &'a str {
-    for token in tokens {
-        if token.start == offset {
-            return token.text;
-        }
-    }
-    ""
-}
-
-/// Appends what is at the place, as it is spelled, and a blank.
-fn push_thing(
-    shown: &mut String,
-    characters: &[char],
-    before: usize,
-    length: usize,
-) -> Result<(), AllocError> {
-    let rest = characters.get(before..).unwrap_or(&[]);
-    if rest.is_empty() {
-        shown.push_str("the end")?;
-    } else {
-        push_shown(shown, rest.get(..length.max(1)).unwrap_or(rest))?;
-    }
-    shown.push_str(" ")
+    fault_text(alloc, title, faulty, begin)
 }

@@ -2,8 +2,10 @@
 
 use crate::blocks::{after_point, compose, line_count, point_line, script_block};
 use crate::messages::{FAILED, NO_KEYS, REFUSED, fail_memory, print_line};
-use crate::places::{fault_of, place_text};
+use crate::places::{fault_of, script_fault_text};
 use crate::streams::{Front, Kept, Output};
+use crate::talk::{Lead, Talk};
+use crate::watching::{Context, Quiet, Watched};
 use sbl_sessions::read_script;
 use snowbench::{CommandLine, Device, Lines, Source, Verb, run};
 use std::alloc::{AllocError, Global};
@@ -28,7 +30,7 @@ struct Ended {
     is_closed: bool,
 }
 
-/// Runs what is command_line over the lines of a reader.
+/// Runs what the command line asks for over the lines of a reader.
 fn run_lines<R: Source + Drop>(
     rt: &HostRuntime,
     command_line: &CommandLine,
@@ -42,6 +44,40 @@ fn run_lines<R: Source + Drop>(
     let mut errors = Device::new(said);
     let status = run(command_line, keys, lines, &mut writer, &mut errors);
     let output = writer.into_inner();
+    Ok(Ended {
+        status,
+        said: errors.into_inner(),
+        rows: output.lines(),
+        has_refusal: output.has_refusal(),
+        is_closed: output.is_closed(),
+    })
+}
+
+/// Runs a session over a reader, and shows the place of each block that is refused. `input` is the name of the text in which the
+/// commands are.
+fn run_watched<R: Read + Drop>(
+    rt: &HostRuntime,
+    command_line: &CommandLine,
+    input: &str,
+    reader: R,
+    talk: &RefCell<Talk>,
+) -> Result<Ended, AllocError> {
+    let Ok(keys) = RandomState::new(rt) else {
+        return without_keys(rt.alloc());
+    };
+    let context = Context {
+        external: command_line.external.as_str(),
+        input: Some(input),
+        script: None,
+        prompts: false,
+    };
+    let reader = Watched::new(rt, context, reader, talk)?;
+    let mut lines = Lines::new(rt.alloc(), Device::new(reader))?;
+    let said = Vec::with_capacity(rt.alloc(), MAX_FAULT_LINE)?;
+    let mut writer = Device::new(Quiet::new(Output::new(rt.stdout()), talk));
+    let mut errors = Device::new(said);
+    let status = run(command_line, keys, &mut lines, &mut writer, &mut errors);
+    let output = writer.into_inner().into_inner();
     Ok(Ended {
         status,
         said: errors.into_inner(),
@@ -130,7 +166,7 @@ fn script_text(
     if line.as_bytes() != ended.said.as_slice() {
         return Ok(None);
     }
-    place_text(alloc, title, &text, fault)
+    Ok(Some(script_fault_text(alloc, title, &text, external, fault)?))
 }
 
 /// Returns what an input lacks that is cut inside a block.
@@ -144,7 +180,7 @@ fn cut_text(verb: Verb, input: &[u8]) -> &'static str {
     "the input ends inside a block: a line that is a single point ends it"
 }
 
-/// Returns what to say about an input of which not all is read, if a point is missing or is one too many.
+/// Returns what to say about an input that is not read to its end, because a point is missing or is one too many.
 fn hint(verb: Verb, input: &[u8]) -> Option<&'static str> {
     let words = after_point(input)?;
     let rest = after_point(words);
@@ -169,10 +205,11 @@ fn has_text(text: &[u8]) -> bool {
     false
 }
 
-/// Runs what is command_line over standard input, and returns the exit status.
+/// Runs what the command line asks for over standard input, and returns the exit status.
 pub(crate) fn run_input(rt: &HostRuntime, command_line: &CommandLine) -> u8 {
     let kept = RefCell::new(Kept::new(rt.alloc(), command_line.shows_places));
-    let Ok(ended) = run_front(rt, command_line, &kept) else {
+    let talk = RefCell::new(Talk::new(rt.alloc(), Lead::Session));
+    let Ok(ended) = run_front(rt, command_line, &kept, &talk) else {
         return fail_memory(rt);
     };
     if !command_line.shows_places {
@@ -186,18 +223,22 @@ pub(crate) fn run_input(rt: &HostRuntime, command_line: &CommandLine) -> u8 {
     print_fault(rt, command_line, "standard input", kept.bytes(), &ended)
 }
 
-/// Runs what is command_line over standard input, of which the first bytes are kept.
+/// Runs what the command line asks for over standard input, and keeps its first bytes.
 fn run_front(
     rt: &HostRuntime,
     command_line: &CommandLine,
     kept: &RefCell<Kept>,
+    talk: &RefCell<Talk>,
 ) -> Result<Ended, AllocError> {
     let front = Front::new(rt.stdin(), kept);
+    if command_line.shows_places && command_line.verb == Verb::Session {
+        return run_watched(rt, command_line, "standard input", front, talk);
+    }
     let mut lines = Lines::new(rt.alloc(), Device::new(front))?;
     run_lines(rt, command_line, &mut lines)
 }
 
-/// Prints what of an input is not read.
+/// Prints a hint if the input is not read to its end.
 fn print_hint(rt: &HostRuntime, verb: Verb, input: &[u8]) {
     if let Some(text) = hint(verb, input) {
         let _ = eprintln!(rt; "{text}");
@@ -274,7 +315,7 @@ pub(crate) fn reads_twice(named: Named<'_>) -> bool {
 /// Runs the commands of a file over a script and words in files, and returns the exit status.
 pub(crate) fn run_session(rt: &HostRuntime, command_line: &CommandLine, named: Named<'_>) -> u8 {
     match session_input(rt, named) {
-        Ok(input) => match run_bytes(rt, command_line, &input) {
+        Ok(input) => match run_commands(rt, command_line, named, &input) {
             Ok(ended) => print_fault(rt, command_line, named.script, &input, &ended),
             Err(_) => fail_memory(rt),
         },
@@ -282,7 +323,22 @@ pub(crate) fn run_session(rt: &HostRuntime, command_line: &CommandLine, named: N
     }
 }
 
-/// Runs what is command_line over these bytes.
+/// Runs a session over these bytes, and shows the place of each block that is refused.
+fn run_commands(
+    rt: &HostRuntime,
+    command_line: &CommandLine,
+    named: Named<'_>,
+    input: &[u8],
+) -> Result<Ended, AllocError> {
+    let name = match named.rest {
+        None | Some("-") => "standard input",
+        Some(name) => name,
+    };
+    let talk = RefCell::new(Talk::new(rt.alloc(), Lead::Commands));
+    run_watched(rt, command_line, name, input, &talk)
+}
+
+/// Runs what the command line asks for over these bytes.
 fn run_bytes(
     rt: &HostRuntime,
     command_line: &CommandLine,
@@ -328,7 +384,7 @@ pub(crate) fn run_filter(rt: &HostRuntime, command_line: &CommandLine, script: &
     }
 }
 
-/// Runs what is command_line over these bytes and then standard input.
+/// Runs what the command line asks for over these bytes and then standard input.
 fn filter_words(
     rt: &HostRuntime,
     command_line: &CommandLine,

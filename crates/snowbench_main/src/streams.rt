@@ -16,7 +16,7 @@ pub(crate) struct Kept {
 }
 
 impl Kept {
-    /// Returns no bytes. More are kept only if they are command_line.
+    /// Returns no bytes. More are kept only if they are wanted.
     pub(crate) fn new(alloc: Global, is_wanted: bool) -> Kept {
         Kept {
             bytes: Vec::new(alloc),
@@ -34,7 +34,7 @@ impl Kept {
         self.is_whole
     }
 
-    /// Keeps more bytes, if there is room for them and for all before them.
+    /// Keeps more bytes, if there is room for them and none before them was left out.
     fn keep(&mut self, bytes: &[u8]) {
         if !self.is_whole {
             return;
@@ -46,7 +46,7 @@ impl Kept {
     }
 }
 
-/// A reader, of which the first bytes are kept.
+/// A reader that keeps the first bytes that it reads.
 #[derive(Drop)]
 pub(crate) struct Front<'a, R> {
     inner: R,
