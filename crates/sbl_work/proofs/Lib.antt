@@ -4,3 +4,4 @@ pub mod LineFacts
 pub mod FamilyFacts
 pub mod HeadFacts
 pub mod ReplyFacts
+pub mod ServingFacts
