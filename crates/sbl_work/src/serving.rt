@@ -253,7 +253,7 @@ fn serve_bench<F: Files + AllocGlobal, R: Source + Drop, W: Sink>(
 fn prompt_of(prompts: bool) -> &'static [u8]
     ensures { result.now ≡ serving.prompt_of prompts }
 {
-    if prompts { PROMPT } else { b"" }
+    if prompts { PROMPT } else { b"".as_slice() }
 }
 
 /// Opens the bench of the files, and replies to each request of the input in turn, up to `quit` or the end of input.
