@@ -1,5 +1,5 @@
 -- The replies of work, and the bench after them, are one.
-use Rattle.std.proofs.Common.{codes, decimal, ◌≡◌, ◌≢◌, ◌⊎◌, inl, inr, ◌∙◌, ◌++◌, ℕ, List, [], ◌∷◌, Option, Some, None, Result, Ok, Err, refl, sym, ap, subst}
+use Rattle.std.proofs.Common.{codes, decimal, ◌≡◌, ◌⊎◌, inl, inr, ◌∙◌, ◌++◌, ℕ, List, [], ◌∷◌, Option, Some, None, Result, Ok, Err, refl, sym, ap, subst}
 use Rattle.sbl_bench.specs.Contents.{Contents}
 use Rattle.sbl_bench.specs.Edits.{Edit, Edits, IsVerdict, Replace, Whole}
 use Rattle.sbl_bench.specs.OneVerdict.{VerdictIsOne}
@@ -20,12 +20,11 @@ use Rattle.sbl_work.specs.Commands.{WorkCommand, Nothing, Session, EditPart, Edi
 use Rattle.sbl_work.specs.Definitions.{definition_text}
 use Rattle.sbl_work.specs.Desks.{State, Turns}
 use Rattle.sbl_work.specs.Editing.{Replaces, ReplacesPart}
-use Rattle.sbl_work.specs.Heads.{IsWithoutHead}
 use Rattle.sbl_work.specs.History.{Turn, edit_of}
 use Rattle.sbl_work.specs.OneWorkReply.{AllMade, HeadsAreOne, IsMade, WorkRepliesAreOne}
-use Rattle.sbl_work.specs.Replies.{IsDefinitionReply, IsLargestReply, IsPartReply, IsWholeReply, IsWorkReply, TellsAlone, TellsMemory, TellsReport, bad_number_text, families_reply_text, integers_reply_text, no_file_text, turn_text, why_reply_text}
+use Rattle.sbl_work.specs.Replies.{IsDefinitionReply, IsLargestReply, IsPartReply, IsWholeReply, IsWorkReply, TellsAlone, TellsReport, bad_number_text, families_reply_text, integers_reply_text, no_file_text, turn_text, why_reply_text}
 use Rattle.sbl_work.specs.Reports.{changes_text, largest_text, stats_text}
-use Rattle.sbl_work.specs.Serving.{AreReplies, Choice, IsReplyBy}
+use Rattle.sbl_work.specs.Serving.{AreReplies}
 use Rattle.sbl_work.specs.declared.history.HistoryFault.{HistoryFault}
 use Rattle.sbl_work.specs.declared.history.HistoryFault.TheVariants as fault
 
@@ -101,7 +100,7 @@ part-one one heads s d what block a b t u x y p q made make =
 
 -- ---- undoing and redoing
 
-last : List Turn → Turn → Turn
+abbrev last : List Turn → Turn → Turn
 last [] z = z
 last (x ∷ xs) z = last xs x
 
@@ -117,7 +116,7 @@ none_last from [] a p q = let e : [] ≡ a ∷ [] = sym p ∙ q in cc e
 none_last from (x ∷ xs) a p q = let e : [] ≡ x ∷ (xs ++ a ∷ []) = sym p ∙ q in cc e
 
 -- there is no turn, or the last one has the reply to its edit
-Turned : List ℕ → List Turn → Contents → List ℕ → Contents → Type 0
+abbrev Turned : List ℕ → List Turn → Contents → List ℕ → Contents → Type 0
 Turned nothing from s a t =
     ((from ≡ []) × (a ≡ nothing) × (t ≡ s))
     ⊎ ((rest : List Turn) × (turn : Turn) × (from ≡ rest ++ turn ∷ []) × IsTextAnswer s (session.Makes (edit_of turn)) a t)

@@ -9,7 +9,7 @@ use Rattle.sbl_work.proofs.serving.serve.Given as goal
 -- each request so far has its reply; what was read and written so far was in time
 abbrev pub invariant-loop-lines : goal.invariant-loop-lines
 invariant-loop-lines g l = record {
-  work : Worked l.prompt.now (input_of g.R.Source.left l.fn.lines) (input_of g.R.Source.left l.lines) (g.W.Sink.held l.fn.writer) (g.W.Sink.held l.writer) (contents_of l.fn.bench) (state_of l.fn.desk) (contents_of l.bench) (state_of l.desk);
+  work : Worked l.prompt (input_of g.R.Source.left l.fn.lines) (input_of g.R.Source.left l.lines) (g.W.Sink.held l.fn.writer) (g.W.Sink.held l.writer) (contents_of l.fn.bench) (state_of l.fn.desk) (contents_of l.bench) (state_of l.desk);
   fault : fault_of l.lines ≡ fault_of l.fn.lines;
   feeds : TakesFeeds g.R.Source.left l.fn.lines l.lines;
   read : g.R.Source.failures l.lines.reader ≡ g.R.Source.failures l.fn.lines.reader;
