@@ -6,3 +6,4 @@ pub mod HeadFacts
 pub mod ReplyFacts
 pub mod ServingFacts
 pub mod OneWorkReply
+pub mod WholeFacts
