@@ -5,5 +5,4 @@ pub mod FamilyFacts
 pub mod HeadFacts
 pub mod ReplyFacts
 pub mod ServingFacts
-pub mod OneWorkReply
 pub mod WholeFacts

@@ -12,7 +12,6 @@ pub mod Replies
 pub mod ReplyViews
 pub mod Serving
 pub mod WholeWork
-pub mod OneWorkReply
 -- definitions that functions inside the crate promise each other
 pub mod FamilyReader
 pub mod HeadReader

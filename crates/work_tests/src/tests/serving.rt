@@ -86,7 +86,10 @@ fn rows_have_no_prompt(rt: HostRuntime) -> Result<(), Fail> {
 #[test]
 fn the_input_may_end(rt: HostRuntime) -> Result<(), Fail> {
     let ended = worked(&rt, "work_tests_end.sbl", true, b"add undo\nstems", 0, 0)?;
-    assert_eq!(rt; ended.text.as_slice(), b"> ok\n> undo,stem,do\n> ".as_slice());
+    assert_eq!(rt;
+        ended.text.as_slice(),
+        b"> ok\n> undo,stem,do\n> ".as_slice()
+    );
     assert_eq!(rt; ended.status, 0);
     Ok(())
 }

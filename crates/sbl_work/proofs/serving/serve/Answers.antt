@@ -95,7 +95,7 @@ returns-in_err-reply-clause-work g c = λ _.
     let whole : f ≡ fault.Read → TookWhole (input_of left c.args.lines.now) (input_of left c.loop-lines.lines) =
     λ is. c.loop-lines.invariant.feeds (c.next_line.ensures.stays (c.answer.ensures.stays (c.in_err-reply.ensures.drained (ap (λ (x : ServeFault). Err x) is)).1)) in
     let opened = work_open _ _ (input_of left c.loop-lines.lines) (input_of left c.next_line.new.self) (input_of left c.answer.new.lines) _ _ _ _ _ _ (line_of c.next_line.new.self) f c.loop-lines.invariant.work
-        (c.in_ok-next_line.ensures.more c.if-branch.true) (c.in_ok-next_line.ensures.fits c.if-branch.true) broken.0.0 whole broken.0.1 in
+    (c.in_ok-next_line.ensures.more c.if-branch.true) (c.in_ok-next_line.ensures.fits c.if-branch.true) broken.0.0 whole broken.0.1 in
     rw (p.1, p.2)
     (subst (λ (y : State). IsWork c.args.prompt.now (input_of left c.args.lines.now) (input_of left c.answer.new.lines) (held c.args.writer.now) (held c.loop-lines.writer) (contents_of c.args.bench.now) (state_of c.args.desk.now) (contents_of c.answer.new.bench) y (Err f)) (sym broken.2)
     (subst (λ (x : Contents). IsWork c.args.prompt.now (input_of left c.args.lines.now) (input_of left c.answer.new.lines) (held c.args.writer.now) (held c.loop-lines.writer) (contents_of c.args.bench.now) (state_of c.args.desk.now) x (state_of c.loop-lines.desk) (Err f)) (sym broken.1) opened))
