@@ -3,9 +3,9 @@ use Rattle.std.proofs.Common.{◌≡◌, ℕ, ◌+◌, ◌-◌, ◌^◌, ◌≤�
 use denote.Ref.{Bor}
 use Rattle.sbl_ast.specs.declared.tree.Count.{Count}
 use Rattle.sbl_ast.specs.declared.tree.Among.{Among}
-use Rattle.sbl_ast.specs.declared.tree.Command.TheViews.{out-Among, out-Row}
-use Rattle.sbl_ast.specs.declared.tree.Command.TheFolds.{fold_out-Among, fold_out-Row}
-use Rattle.sbl_ast.specs.declared.tree.Row.{Row}
+use Rattle.sbl_ast.specs.declared.tree.Command.TheViews.{out-Among, out-RowOfCommands}
+use Rattle.sbl_ast.specs.declared.tree.Command.TheFolds.{fold_out-Among, fold_out-RowOfCommands}
+use Rattle.sbl_ast.specs.declared.tree.RowOfCommands.{RowOfCommands as Row}
 use Rattle.sbl_amongs.specs.declared.finding.WalkEnd.{WalkEnd}
 use Rattle.sbl_amongs.specs.declared.finding.WalkEnd.TheVariants as ends
 use Rattle.sbl_ast.specs.Terminal as t
@@ -63,8 +63,8 @@ bare_in (g ∷ gs) es d h =
 pub seen_groups : (a : Among) → (view_among a).1 ≡ view_groups (out-Among a).groups.items (map view_entry (out-Among a).bare.items)
 seen_groups a = ap (λ (x : AmongView). x.1) (fold_out-Among Command AmongView GroupView JoinedView RowView command_step among_step group_step joined_step row_step a)
 
-pub seen_row : (r : Row) → view_row r ≡ (view_command (out-Row r).first, view_others (out-Row r).others.items)
-seen_row r = fold_out-Row Command AmongView GroupView JoinedView RowView command_step among_step group_step joined_step row_step r
+pub seen_row : (r : Row) → view_row r ≡ (view_command (out-RowOfCommands r).first, view_others (out-RowOfCommands r).others.items)
+seen_row r = fold_out-RowOfCommands Command AmongView GroupView JoinedView RowView command_step among_step group_step joined_step row_step r
 
 pub groups_in : (s : Starter) (all : Groups) (gs : List GroupView) (es : List Entry) (d : ℕ) → all ≡ groups_of gs es → AreShallow (placed (among_ s all) d []) → AreShallow (placed_groups (groups_of gs []) d [])
 groups_in s all gs es d is h =

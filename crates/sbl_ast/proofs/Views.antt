@@ -24,13 +24,13 @@ use Rattle.sbl_ast.specs.declared.tree.Factor.TheViews.{roll-Added, roll-Express
 use Rattle.sbl_ast.specs.declared.tree.Factor.TheFolds.{fold-roll-Factor, fold-roll-Added, fold-roll-Expression, fold-roll-Product, fold-roll-Scaled}
 use Rattle.sbl_ast.specs.declared.tree.Command.{Command}
 use Rattle.sbl_ast.specs.declared.tree.Command.TheVariants as commands
-use Rattle.sbl_ast.specs.declared.tree.Command.TheOpen.{Command-F, Group-F, Joined-F, Row-F}
-use Rattle.sbl_ast.specs.declared.tree.Command.TheViews.{roll-Among, roll-Group, roll-Joined, roll-Row, out-Among, out-Group}
-use Rattle.sbl_ast.specs.declared.tree.Command.TheFolds.{fold-roll-Command, fold-roll-Among, fold-roll-Group, fold-roll-Joined, fold-roll-Row, fold_out-Among, fold_out-Group, fold_out-Joined}
+use Rattle.sbl_ast.specs.declared.tree.Command.TheOpen.{Command-F, Group-F, Joined-F, RowOfCommands-F}
+use Rattle.sbl_ast.specs.declared.tree.Command.TheViews.{roll-Among, roll-Group, roll-Joined, roll-RowOfCommands, out-Among, out-Group}
+use Rattle.sbl_ast.specs.declared.tree.Command.TheFolds.{fold-roll-Command, fold-roll-Among, fold-roll-Group, fold-roll-Joined, fold-roll-RowOfCommands, fold_out-Among, fold_out-Group, fold_out-Joined}
 use Rattle.sbl_ast.specs.declared.tree.Among.{Among}
 use Rattle.sbl_ast.specs.declared.tree.Group.{Group}
 use Rattle.sbl_ast.specs.declared.tree.Joined.{Joined}
-use Rattle.sbl_ast.specs.declared.tree.Row.{Row}
+use Rattle.sbl_ast.specs.declared.tree.RowOfCommands.{RowOfCommands as Row}
 use Rattle.sbl_ast.specs.declared.tree.Entry.{Entry}
 use Rattle.sbl_ast.specs.Tree as trees
 use Rattle.sbl_ast.specs.View.{view_literal, view_argument, AddedView, ScaledView, added_step, expression_step, factor_step, product_step, scaled_step, view_added, view_expression, view_factor, view_product, view_scaled, view_sums, view_scales, view_entry, AmongView, RowView, JoinedView, GroupView, among_step, command_step, group_step, joined_step, row_step, view_among, view_command, view_group, view_joined, view_row, view_rows, view_others, view_groups, view_starter}
@@ -121,8 +121,8 @@ view_of_group r = fold-roll-Group trees.Command AmongView GroupView JoinedView R
 pub view_of_joined : (r : Joined-F Command Among Group Joined Row) → view_joined (roll-Joined r) ≡ (r.joiner, view_command r.command)
 view_of_joined r = fold-roll-Joined trees.Command AmongView GroupView JoinedView RowView command_step among_step group_step joined_step row_step r
 
-pub view_of_row : (r : Row-F Command Among Group Joined Row) → view_row (roll-Row r) ≡ (view_command r.first, view_others r.others.items)
-view_of_row r = fold-roll-Row trees.Command AmongView GroupView JoinedView RowView command_step among_step group_step joined_step row_step r
+pub view_of_row : (r : RowOfCommands-F Command Among Group Joined Row) → view_row (roll-RowOfCommands r) ≡ (view_command r.first, view_others r.others.items)
+view_of_row r = fold-roll-RowOfCommands trees.Command AmongView GroupView JoinedView RowView command_step among_step group_step joined_step row_step r
 
 -- the view of what was not built here
 pub seen_joined : (j : Joined) → view_joined j ≡ (j.joiner, view_command j.command)

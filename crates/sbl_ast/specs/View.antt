@@ -15,15 +15,15 @@ use Rattle.sbl_ast.specs.declared.tree.Command.{Command}
 use Rattle.sbl_ast.specs.declared.tree.Among.{Among}
 use Rattle.sbl_ast.specs.declared.tree.Group.{Group}
 use Rattle.sbl_ast.specs.declared.tree.Joined.{Joined}
-use Rattle.sbl_ast.specs.declared.tree.Row.{Row}
-use Rattle.sbl_ast.specs.declared.tree.Command.TheOpen.{Among-F, Command-F, Group-F, Joined-F, Row-F}
-use Rattle.sbl_ast.specs.declared.tree.Command.TheFolds.{fold-Among, fold-Command, fold-Group, fold-Joined, fold-Row}
+use Rattle.sbl_ast.specs.declared.tree.RowOfCommands.{RowOfCommands as Row}
+use Rattle.sbl_ast.specs.declared.tree.Command.TheOpen.{Among-F, Command-F, Group-F, Joined-F, RowOfCommands-F}
+use Rattle.sbl_ast.specs.declared.tree.Command.TheFolds.{fold-Among, fold-Command, fold-Group, fold-Joined, fold-RowOfCommands}
 use Rattle.sbl_ast.specs.declared.tree.Entry.{Entry}
 use Rattle.sbl_ast.specs.declared.tree.Term.{Term}
 use Rattle.sbl_ast.specs.declared.tree.Plain.{Plain}
 use Rattle.sbl_ast.specs.declared.tree.Plain.TheVariants as plains
-use Rattle.sbl_ast.specs.declared.tree.Item.{Item}
-use Rattle.sbl_ast.specs.declared.tree.Item.TheVariants as items
+use Rattle.sbl_ast.specs.declared.tree.ScriptItem.{ScriptItem as Item}
+use Rattle.sbl_ast.specs.declared.tree.ScriptItem.TheVariants as items
 use Rattle.sbl_ast.specs.declared.tree.Joiner.{Joiner}
 use Rattle.sbl_ast.specs.declared.tree.Additive.{Additive}
 use Rattle.sbl_ast.specs.declared.tree.Multiplicative.{Multiplicative}
@@ -161,7 +161,7 @@ group_step g = record { first = view_entry g.first; others = map view_entry g.ot
 abbrev pub joined_step : Joined-F trees.Command AmongView GroupView JoinedView RowView → JoinedView
 joined_step o = (o.joiner, o.command)
 
-abbrev pub row_step : Row-F trees.Command AmongView GroupView JoinedView RowView → RowView
+abbrev pub row_step : RowOfCommands-F trees.Command AmongView GroupView JoinedView RowView → RowView
 row_step r = (r.first, others_of r.others.items)
 
 abbrev pub view_among : Among → AmongView
@@ -177,7 +177,7 @@ abbrev pub view_joined : Joined → JoinedView
 view_joined = fold-Joined trees.Command AmongView GroupView JoinedView RowView command_step among_step group_step joined_step row_step
 
 abbrev pub view_row : Row → RowView
-view_row = fold-Row trees.Command AmongView GroupView JoinedView RowView command_step among_step group_step joined_step row_step
+view_row = fold-RowOfCommands trees.Command AmongView GroupView JoinedView RowView command_step among_step group_step joined_step row_step
 
 -- the rows that were read so far
 abbrev pub view_rows : List Row → trees.Rows

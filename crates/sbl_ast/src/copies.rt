@@ -5,7 +5,7 @@ ghost use Rattle.sbl_ast.specs.View.{view_literal, view_argument, view_added, vi
 
 use crate::tree::{
     Added, Among, Argument, Command, Entry, Expression, Factor, Group, Joined, Literal, Plain,
-    Product, Row, Scaled, Term,
+    Product, RowOfCommands, Scaled, Term,
 };
 use std::alloc::{AllocError, Global};
 
@@ -218,7 +218,7 @@ fn copy_groups(alloc: Global, groups: &Vec<Group>) -> Result<Vec<Group>, AllocEr
 }
 
 #[cycle(copies)]
-fn copy_rows(alloc: Global, rows: &Vec<Row>) -> Result<Vec<Row>, AllocError>
+fn copy_rows(alloc: Global, rows: &Vec<RowOfCommands>) -> Result<Vec<RowOfCommands>, AllocError>
     ensures { IfOk result (λ copy. map view_row copy.items ≡ map view_row rows.now.items) }
 {
     let mut copies = Vec::new(alloc);
@@ -231,12 +231,12 @@ fn copy_rows(alloc: Global, rows: &Vec<Row>) -> Result<Vec<Row>, AllocError>
 
 /// Returns a copy of a row. Returns `AllocError` if an allocation fails.
 #[cycle(copies)]
-pub fn copy_row(alloc: Global, row: &Row) -> Result<Row, AllocError>
+pub fn copy_row(alloc: Global, row: &RowOfCommands) -> Result<RowOfCommands, AllocError>
     ensures { IfOk result (λ copy. view_row copy ≡ view_row row.now) }
 {
     let first = copy_command(alloc, &row.first)?;
     let others = copy_others(alloc, &row.others)?;
-    Ok(Row { first, others })
+    Ok(RowOfCommands { first, others })
 }
 
 #[cycle(copies)]

@@ -15,6 +15,7 @@ pub use mode::Mode;
 pub use order::{ItemInMode, items_in_order};
 pub use tree::{
     Added, Additive, Among, Argument, Assignment, Base, Command, Comparison, Constant, Count,
-    DeclarationKind, Entry, Expression, Factor, Group, Item, Joined, Joiner, Literal, Move,
-    Multiplicative, Naming, Plain, Prefix, Product, Row, Scaled, Simple, Splice, Term,
+    DeclarationKind, Entry, Expression, Factor, Group, Joined, Joiner, Literal, Move,
+    Multiplicative, Naming, Plain, Prefix, Product, RowOfCommands, Scaled, ScriptItem, Simple,
+    Splice, Term,
 };

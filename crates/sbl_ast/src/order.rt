@@ -5,7 +5,7 @@ ghost use Rattle.sbl_ast.specs.Order.{in_mode, in_order, view_in_mode};
 ghost use Rattle.sbl_ast.specs.View.{view_items, view_plain};
 
 use crate::mode::Mode;
-use crate::tree::{Item, Plain};
+use crate::tree::{Plain, ScriptItem};
 use std::alloc::{AllocError, Global};
 
 /// An item with its mode.
@@ -45,15 +45,15 @@ fn put_forward<'a>(plain: &'a Plain, placed: &mut Vec<ItemInMode<'a>>) -> Result
 /// fails.
 pub fn items_in_order<'a>(
     alloc: Global,
-    items: &'a [Item],
+    items: &'a [ScriptItem],
 ) -> Result<Vec<ItemInMode<'a>>, AllocError>
     ensures { IfOk result (λ all. map view_in_mode all.items ≡ in_order (view_items items.now)) }
 {
     let mut all = Vec::new(alloc);
     for item in items {
         match item {
-            Item::Plain(plain) => put_forward(plain, &mut all)?,
-            Item::BackwardMode(plains) => put_in_mode(Mode::Backward, plains, &mut all)?,
+            ScriptItem::Plain(plain) => put_forward(plain, &mut all)?,
+            ScriptItem::BackwardMode(plains) => put_in_mode(Mode::Backward, plains, &mut all)?,
         }
     }
     Ok(all)

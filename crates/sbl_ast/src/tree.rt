@@ -273,7 +273,7 @@ pub enum Factor {
 #[derive(Drop)]
 pub enum Command {
     /// `( C1 C2 or C3 .. )`
-    Bracket(Vec<Row>),
+    Bracket(Vec<RowOfCommands>),
     /// A command of one word or sign.
     Simple(Simple),
     /// `'abc'`
@@ -312,7 +312,7 @@ pub enum Command {
 /// A row: commands with `or` or `and` between them.
 #[cycle(tree)]
 #[derive(Drop)]
-pub struct Row {
+pub struct RowOfCommands {
     /// The first command.
     pub first: Command,
     /// The commands after it.
@@ -334,7 +334,7 @@ pub struct Joined {
 #[derive(Drop)]
 pub struct Among {
     /// The starter: the commands in parentheses before the first string.
-    pub starter: Option<Vec<Row>>,
+    pub starter: Option<Vec<RowOfCommands>>,
     /// The groups: strings with commands in parentheses after them.
     pub groups: Vec<Group>,
     /// The strings after the last group, which have no commands.
@@ -350,7 +350,7 @@ pub struct Group {
     /// The strings after it.
     pub others: Vec<Entry>,
     /// The commands in the parentheses of the group.
-    pub rows: Vec<Row>,
+    pub rows: Vec<RowOfCommands>,
 }
 
 /// A string of an `among`.
@@ -392,7 +392,7 @@ pub enum Plain {
         /// The name of the routine.
         name: String,
         /// The body of the routine.
-        body: Row,
+        body: RowOfCommands,
     },
     /// `define NAME T1 + T2 - T3 ..`
     Grouping {
@@ -407,7 +407,7 @@ pub enum Plain {
 
 /// An item of a script.
 #[derive(Drop)]
-pub enum Item {
+pub enum ScriptItem {
     /// An item outside a `backwardmode`.
     Plain(Plain),
     /// `backwardmode ( .. )`

@@ -37,7 +37,7 @@ pub struct Bench {
 
 impl Model for Bench {
     ghost use Rattle.std.specs.Coded.{codes};
-    ghost use Rattle.sbl_ast.specs.contracts.tree.Item as e;
+    ghost use Rattle.sbl_ast.specs.contracts.tree.ScriptItem as e;
     ghost use Rattle.sbl_script.specs.Parsed.{source_of};
     ghost use Rattle.sbl_machine.specs.MachineOf.{IsLinkedMachineOf};
     ghost use Rattle.sbl_bench.specs.Kept.{Kept, words_in, IsKept};

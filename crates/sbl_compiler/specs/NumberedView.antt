@@ -1,14 +1,14 @@
 -- The parts of the compiler's data without memory addresses.
 use Rattle.std.specs.Prelude.{List, map, drop}
 use Rattle.sbl_program.specs.declared.found.Found.{Found}
-use Rattle.sbl_compiler.specs.declared.names.Names.{Names}
+use Rattle.sbl_compiler.specs.declared.names.SymbolTable.{SymbolTable}
 use Rattle.sbl_program.specs.FoundView.{listing_found}
 use Rattle.sbl_compiler.specs.NumberedAmongs as amongs
 use Rattle.sbl_compiler.specs.NumberedNames as names
 use Rattle.sbl_compiler.specs.Numbered as numbered
-use Rattle.sbl_compiler.specs.declared.place.Position.{Position}
+use Rattle.sbl_compiler.specs.declared.place.CommandPosition.{CommandPosition as Position}
 
-abbrev pub view_names : Names → names.Names
+abbrev pub view_names : SymbolTable → names.Names
 view_names n = record {
   strings = n.strings;
   integers = n.integers;

@@ -9,8 +9,10 @@ ghost use Rattle.sbl_program.specs.FoundView.{texts};
 ghost use Rattle.sbl_compiler.specs.NumberedView.{view_names, view_found};
 ghost use Rattle.sbl_compiler.specs.Regions.{mode_behind as spec_mode_behind};
 
-use crate::names::Names;
-use sbl_ast::{Among, Command, Entry, Group, ItemInMode, Joined, Mode, Plain, Prefix, Row};
+use crate::names::SymbolTable;
+use sbl_ast::{
+    Among, Command, Entry, Group, ItemInMode, Joined, Mode, Plain, Prefix, RowOfCommands,
+};
 use sbl_program::{Candidate, Found};
 use std::alloc::{AllocError, Global};
 
@@ -77,7 +79,7 @@ fn strings_of(
     Ok(strings)
 }
 
-fn condition_of(names: &Names, condition: &Option<String>) -> Option<usize>
+fn condition_of(names: &SymbolTable, condition: &Option<String>) -> Option<usize>
     ensures { result ≡ spec.condition_of (view_names names.now) (view_name condition.now) }
 {
     match condition {
@@ -87,7 +89,7 @@ fn condition_of(names: &Names, condition: &Option<String>) -> Option<usize>
 }
 
 fn add_entry(
-    names: &Names,
+    names: &SymbolTable,
     group: usize,
     entry: &Entry,
     entries: &mut Vec<Candidate>,
@@ -103,7 +105,7 @@ fn add_entry(
 }
 
 fn add_entries(
-    names: &Names,
+    names: &SymbolTable,
     group: usize,
     more: &Vec<Entry>,
     entries: &mut Vec<Candidate>,
@@ -117,7 +119,7 @@ fn add_entries(
 }
 
 fn add_group_entries(
-    names: &Names,
+    names: &SymbolTable,
     groups: &Vec<Group>,
     entries: &mut Vec<Candidate>,
 ) -> Result<(), AllocError>
@@ -132,7 +134,7 @@ fn add_group_entries(
 
 fn entries_of(
     alloc: Global,
-    names: &Names,
+    names: &SymbolTable,
     groups: &Vec<Group>,
     bare: &Vec<Entry>,
 ) -> Result<Vec<Candidate>, AllocError>
@@ -164,7 +166,7 @@ fn mode_behind(prefix: Prefix, mode: Mode) -> Mode
 // Adds an among after the others, before those inside it. Returns `AllocError` if an allocation fails.
 fn add_among(
     alloc: Global,
-    names: &Names,
+    names: &SymbolTable,
     first: usize,
     mode: Mode,
     among: &Among,
@@ -188,7 +190,7 @@ fn add_among(
 #[cycle(finding)]
 fn find(
     alloc: Global,
-    names: &Names,
+    names: &SymbolTable,
     first: usize,
     mode: Mode,
     command: &Command,
@@ -226,10 +228,10 @@ fn find(
 #[cycle(finding)]
 fn find_rows(
     alloc: Global,
-    names: &Names,
+    names: &SymbolTable,
     first: usize,
     mode: Mode,
-    rows: &Vec<Row>,
+    rows: &Vec<RowOfCommands>,
     all: &mut Vec<Found>,
 ) -> Result<(), AllocError>
     ensures { OnOk result (map view_found all.new.items ≡ spec.found_rows (view_names names.now) first mode (view_rows rows.now.items) (map view_found all.old.items)) }
@@ -243,10 +245,10 @@ fn find_rows(
 #[cycle(finding)]
 fn find_row(
     alloc: Global,
-    names: &Names,
+    names: &SymbolTable,
     first: usize,
     mode: Mode,
-    row: &Row,
+    row: &RowOfCommands,
     all: &mut Vec<Found>,
 ) -> Result<(), AllocError>
     ensures { OnOk result (map view_found all.new.items ≡ spec.found_others (view_names names.now) first mode (view_row row.now).1 (spec.found (view_names names.now) first mode (view_row row.now).0 (map view_found all.old.items))) }
@@ -258,7 +260,7 @@ fn find_row(
 #[cycle(finding)]
 fn find_others(
     alloc: Global,
-    names: &Names,
+    names: &SymbolTable,
     first: usize,
     mode: Mode,
     others: &Vec<Joined>,
@@ -275,7 +277,7 @@ fn find_others(
 #[cycle(finding)]
 fn find_among(
     alloc: Global,
-    names: &Names,
+    names: &SymbolTable,
     first: usize,
     mode: Mode,
     among: &Among,
@@ -293,7 +295,7 @@ fn find_among(
 #[cycle(finding)]
 fn find_groups(
     alloc: Global,
-    names: &Names,
+    names: &SymbolTable,
     first: usize,
     mode: Mode,
     groups: &Vec<Group>,
@@ -309,7 +311,7 @@ fn find_groups(
 
 fn find_plain(
     alloc: Global,
-    names: &Names,
+    names: &SymbolTable,
     mode: Mode,
     plain: &Plain,
     all: &mut Vec<Found>,
@@ -326,7 +328,7 @@ fn find_plain(
 /// Returns the amongs of a script. Returns `AllocError` if an allocation fails.
 pub fn amongs_of(
     alloc: Global,
-    names: &Names,
+    names: &SymbolTable,
     items: &[ItemInMode],
 ) -> Result<Vec<Found>, AllocError>
     ensures { IfOk result (λ v. map view_found v.items ≡ spec.found_behind (view_names names.now) (map view_in_mode items.now) []) }

@@ -11,7 +11,7 @@ ghost use Rattle.sbl_compiler.specs.NamedAgain.{is_name_of, is_named_again};
 ghost use Rattle.sbl_compiler.specs.NumberedClasses as spec;
 ghost use Rattle.sbl_compiler.specs.NumberedView.{view_names};
 
-use crate::names::Names;
+use crate::names::SymbolTable;
 use sbl_ast::{Additive, Argument, ItemInMode, Plain, Term};
 use sbl_char_class::CharacterClass;
 use std::alloc::{AllocError, Global};
@@ -20,7 +20,7 @@ use std::collections::BTreeMap;
 // Returns the class with the characters of a term added or removed. Returns `AllocError` if an allocation fails.
 fn with_term(
     alloc: Global,
-    names: &Names,
+    names: &SymbolTable,
     classes: &[CharacterClass],
     class: CharacterClass,
     operator: Additive,
@@ -41,7 +41,7 @@ fn with_term(
 // fails.
 fn last_places(
     alloc: Global,
-    names: &Names,
+    names: &SymbolTable,
     terms: &Vec<Term>,
 ) -> Result<BTreeMap<usize, usize>, AllocError> {
     let mut last = BTreeMap::new(alloc);
@@ -54,7 +54,7 @@ fn last_places(
 }
 
 // Returns the last index of the grouping that a term names; 0 if there is none.
-fn last_place(names: &Names, last: &BTreeMap<usize, usize>, argument: &Argument) -> usize {
+fn last_place(names: &SymbolTable, last: &BTreeMap<usize, usize>, argument: &Argument) -> usize {
     match argument {
         Argument::Literal(_) => 0,
         Argument::Name(name) => last
@@ -65,7 +65,7 @@ fn last_place(names: &Names, last: &BTreeMap<usize, usize>, argument: &Argument)
 }
 
 // Returns whether a term names the grouping with this number.
-fn is_name_of(names: &Names, argument: &Argument, number: usize) -> bool
+fn is_name_of(names: &SymbolTable, argument: &Argument, number: usize) -> bool
     ensures { result ≡ is_name_of (view_names names.now) (view_argument argument.now) number }
 {
     match argument {
@@ -76,7 +76,12 @@ fn is_name_of(names: &Names, argument: &Argument, number: usize) -> bool
 
 // Returns whether the term `behind[distance]` names the grouping that `argument` names. `behind` has the terms after
 // `argument`.
-fn is_named_again(names: &Names, argument: &Argument, behind: &[Term], distance: usize) -> bool
+fn is_named_again(
+    names: &SymbolTable,
+    argument: &Argument,
+    behind: &[Term],
+    distance: usize,
+) -> bool
     ensures { result ≡ true → is_named_again (view_names names.now) (view_argument argument.now) (map view_term behind.now) ≡ true }
 {
     match (argument, behind.get(distance)) {
@@ -95,7 +100,7 @@ fn is_named_again(names: &Names, argument: &Argument, behind: &[Term], distance:
 // all of them add or remove the same characters. So the others are skipped.
 fn class_of(
     alloc: Global,
-    names: &Names,
+    names: &SymbolTable,
     classes: &[CharacterClass],
     first: &Argument,
     others: &Vec<Term>,
@@ -117,7 +122,7 @@ fn class_of(
 
 fn add_class(
     alloc: Global,
-    names: &Names,
+    names: &SymbolTable,
     plain: &Plain,
     classes: &mut Vec<CharacterClass>,
 ) -> Result<(), AllocError>
@@ -138,7 +143,7 @@ fn add_class(
 /// Returns the class of each grouping, in the order of their definitions. Returns `AllocError` if an allocation fails.
 pub fn numbered_classes(
     alloc: Global,
-    names: &Names,
+    names: &SymbolTable,
     items: &[ItemInMode],
 ) -> Result<Vec<CharacterClass>, AllocError>
     ensures { IfOk result (λ classes. map members classes.items ≡ spec.numbered_classes (view_names names.now) (map view_in_mode items.now) []) }

@@ -12,13 +12,13 @@ ghost use Rattle.sbl_program.specs.Program as programs;
 ghost use Rattle.sbl_program.specs.Grouped.{joined_all};
 ghost use Rattle.sbl_program.specs.ProgramOf.{view_action, view_joined, view_node, view_number, view_text};
 
-use crate::names::Names;
+use crate::names::SymbolTable;
 use crate::numbers::{number_of_expression, text};
 use crate::operators::{change_of, relation_of};
-use crate::place::{Position, begun, closed, inside, left_of, past_rows};
+use crate::place::{CommandPosition, begun, closed, inside, left_of, past_rows};
 use sbl_ast::{
     Among, Argument, Assignment, Command, Comparison, Count, Expression, Group, Joined, Joiner,
-    Literal, Move, Naming, Prefix, Row, Simple, Splice,
+    Literal, Move, Naming, Prefix, RowOfCommands, Simple, Splice,
 };
 use sbl_program::{Action, Arithmetic, Candidate, Found, Node, StringTerm};
 use std::alloc::{AllocError, Global};
@@ -32,7 +32,7 @@ fn copied_entries(alloc: Global, entries: &[Candidate]) -> Result<Vec<Candidate>
 }
 
 // Returns the number of the next among in its routine.
-fn next_number(amongs: &Vec<Found>, place: Position) -> usize
+fn next_number(amongs: &Vec<Found>, place: CommandPosition) -> usize
     ensures { result ≡ (spec.next_of (view_place amongs.now.items place).coming).number }
 {
     match amongs.get(place.next) {
@@ -45,7 +45,7 @@ fn next_number(amongs: &Vec<Found>, place: Position) -> usize
 fn next_entries(
     alloc: Global,
     amongs: &Vec<Found>,
-    place: Position,
+    place: CommandPosition,
 ) -> Result<Vec<Candidate>, AllocError>
     ensures { IfOk result (λ v. v.items ≡ (spec.next_of (view_place amongs.now.items place).coming).entries) }
 {
@@ -56,7 +56,11 @@ fn next_entries(
 }
 
 // Returns the search of the next among. Returns `AllocError` if an allocation fails.
-fn search_next(alloc: Global, amongs: &Vec<Found>, place: Position) -> Result<Node, AllocError>
+fn search_next(
+    alloc: Global,
+    amongs: &Vec<Found>,
+    place: CommandPosition,
+) -> Result<Node, AllocError>
     ensures { IfOk result (λ n. view_node (strings_at amongs.now.items) n ≡ spec.search_next (view_place amongs.now.items place)) }
 {
     let entries = next_entries(alloc, amongs, place)?;
@@ -69,7 +73,11 @@ fn search_next(alloc: Global, amongs: &Vec<Found>, place: Position) -> Result<No
 
 // Returns the search for a `substring`: f if its region has no among ahead. Returns `AllocError` if an allocation
 // fails.
-fn search_ahead(alloc: Global, amongs: &Vec<Found>, place: Position) -> Result<Node, AllocError>
+fn search_ahead(
+    alloc: Global,
+    amongs: &Vec<Found>,
+    place: CommandPosition,
+) -> Result<Node, AllocError>
     ensures { IfOk result (λ n. view_node (strings_at amongs.now.items) n ≡ spec.search_ahead (view_place amongs.now.items place)) }
 {
     if place.behind < left_of(amongs, place) {
@@ -83,7 +91,7 @@ fn simple(
     alloc: Global,
     amongs: &Vec<Found>,
     word: Simple,
-    place: &mut Position,
+    place: &mut CommandPosition,
 ) -> Result<Node, AllocError>
     ensures made { IfOk result (λ n. view_node (strings_at amongs.now.items) n ≡ spec.simple word (view_place amongs.now.items place.old)) }
     ensures behind { OnOk result (view_place amongs.now.items place.new ≡ spec.past_simple word (view_place amongs.now.items place.old)) }
@@ -106,7 +114,7 @@ fn simple(
 }
 
 // Compiles a name that is a command.
-fn name_alone(names: &Names, _amongs: &Vec<Found>, name: &str) -> Node
+fn name_alone(names: &SymbolTable, _amongs: &Vec<Found>, name: &str) -> Node
     ensures { view_node (strings_at _amongs.now.items) result ≡ spec.name_alone (view_names names.now) name.now }
 {
     if names.strings.is_one_of(name) {
@@ -168,7 +176,7 @@ fn moved(movement: Move, number: Arithmetic) -> Action
     }
 }
 
-fn change_named(names: &Names, naming: Naming, name: &str) -> Action
+fn change_named(names: &SymbolTable, naming: Naming, name: &str) -> Action
     ensures { view_action result ≡ spec.change_named (view_names names.now) naming name.now }
 {
     match naming {
@@ -190,10 +198,10 @@ fn edited(edit: Splice, string: StringTerm) -> Action
 }
 
 // Returns a command of a row that comes after the first.
-fn joined_command(_amongs: &Vec<Found>, joiner: Joiner, command: Node) -> sbl_program::Joined
+fn joined_command(_amongs: &Vec<Found>, joiner: Joiner, command: Node) -> sbl_program::JoinedNode
     ensures { view_joined (strings_at _amongs.now.items) result ≡ (joiner, view_node (strings_at _amongs.now.items) command) }
 {
-    sbl_program::Joined { joiner, command }
+    sbl_program::JoinedNode { joiner, command }
 }
 
 // Makes a row of the first command and those after it; the first command alone if there are no others. Returns
@@ -202,7 +210,7 @@ fn whole_row(
     alloc: Global,
     _amongs: &Vec<Found>,
     first: Node,
-    others: Vec<sbl_program::Joined>,
+    others: Vec<sbl_program::JoinedNode>,
 ) -> Result<Node, AllocError>
     ensures { IfOk result (λ n. view_node (strings_at _amongs.now.items) n ≡ joined_all (map (view_joined (strings_at _amongs.now.items)) others.items) (view_node (strings_at _amongs.now.items) first)) }
 {
@@ -236,7 +244,7 @@ fn literal(alloc: Global, literal: &Literal) -> Result<Action, AllocError>
 
 fn move_to(
     alloc: Global,
-    names: &Names,
+    names: &SymbolTable,
     movement: Move,
     number: &Expression,
 ) -> Result<Action, AllocError>
@@ -247,7 +255,7 @@ fn move_to(
 
 fn edit_text(
     alloc: Global,
-    names: &Names,
+    names: &SymbolTable,
     edit: Splice,
     string: &Argument,
 ) -> Result<Action, AllocError>
@@ -258,7 +266,7 @@ fn edit_text(
 
 fn assign(
     alloc: Global,
-    names: &Names,
+    names: &SymbolTable,
     name: &str,
     assignment: Assignment,
     number: &Expression,
@@ -274,7 +282,7 @@ fn assign(
 
 fn compare(
     alloc: Global,
-    names: &Names,
+    names: &SymbolTable,
     name: &str,
     comparison: Comparison,
     number: &Expression,
@@ -290,7 +298,7 @@ fn compare(
 
 fn compare_values(
     alloc: Global,
-    names: &Names,
+    names: &SymbolTable,
     first: &Expression,
     comparison: Comparison,
     second: &Expression,
@@ -308,10 +316,10 @@ fn compare_values(
 #[cycle(commands)]
 fn node_of(
     alloc: Global,
-    names: &Names,
+    names: &SymbolTable,
     amongs: &Vec<Found>,
     command: &Command,
-    place: &mut Position,
+    place: &mut CommandPosition,
 ) -> Result<Node, AllocError>
     ensures made { IfOk result (λ n. view_node (strings_at amongs.now.items) n ≡ spec.numbered (view_names names.now) (view_command command.now) (view_place amongs.now.items place.old)) }
     ensures behind { OnOk result (view_place amongs.now.items place.new ≡ spec.past (view_command command.now) (view_place amongs.now.items place.old)) }
@@ -358,10 +366,10 @@ fn node_of(
 #[cycle(commands)]
 fn rows_of(
     alloc: Global,
-    names: &Names,
+    names: &SymbolTable,
     amongs: &Vec<Found>,
-    rows: &Vec<Row>,
-    place: &mut Position,
+    rows: &Vec<RowOfCommands>,
+    place: &mut CommandPosition,
 ) -> Result<Vec<Node>, AllocError>
     ensures made { IfOk result (λ ns. map (view_node (strings_at amongs.now.items)) ns.items ≡ spec.numbered_rows (view_names names.now) (view_rows rows.now.items) (view_place amongs.now.items place.old)) }
     ensures behind { OnOk result (view_place amongs.now.items place.new ≡ spec.past_rows (view_rows rows.now.items) (view_place amongs.now.items place.old)) }
@@ -378,10 +386,10 @@ fn rows_of(
 #[cycle(commands)]
 pub fn row_of(
     alloc: Global,
-    names: &Names,
+    names: &SymbolTable,
     amongs: &Vec<Found>,
-    row: &Row,
-    place: &mut Position,
+    row: &RowOfCommands,
+    place: &mut CommandPosition,
 ) -> Result<Node, AllocError>
     ensures made { IfOk result (λ n. view_node (strings_at amongs.now.items) n ≡ spec.numbered_others (view_names names.now) (view_row row.now).1 (spec.past (view_row row.now).0 (view_place amongs.now.items place.old)) (spec.numbered (view_names names.now) (view_row row.now).0 (view_place amongs.now.items place.old))) }
     ensures behind { OnOk result (view_place amongs.now.items place.new ≡ spec.past_others (view_row row.now).1 (spec.past (view_row row.now).0 (view_place amongs.now.items place.old))) }
@@ -394,11 +402,11 @@ pub fn row_of(
 #[cycle(commands)]
 fn others_of(
     alloc: Global,
-    names: &Names,
+    names: &SymbolTable,
     amongs: &Vec<Found>,
     others: &Vec<Joined>,
-    place: &mut Position,
-) -> Result<Vec<sbl_program::Joined>, AllocError>
+    place: &mut CommandPosition,
+) -> Result<Vec<sbl_program::JoinedNode>, AllocError>
     ensures made { IfOk result (λ v. map (view_joined (strings_at amongs.now.items)) v.items ≡ spec.joins_in (view_names names.now) (view_others others.now.items) (view_place amongs.now.items place.old)) }
     ensures behind { OnOk result (view_place amongs.now.items place.new ≡ spec.past_others (view_others others.now.items) (view_place amongs.now.items place.old)) }
 {
@@ -423,10 +431,10 @@ fn count_before(waits: bool, among: &Among) -> usize {
 #[cycle(commands)]
 fn among_of(
     alloc: Global,
-    names: &Names,
+    names: &SymbolTable,
     amongs: &Vec<Found>,
     among: &Among,
-    place: &mut Position,
+    place: &mut CommandPosition,
 ) -> Result<Node, AllocError>
     ensures made { IfOk result (λ n. view_node (strings_at amongs.now.items) n ≡ spec.numbered (view_names names.now) (trees.among_ (view_among among.now).0 (view_among among.now).1) (view_place amongs.now.items place.old)) }
     ensures behind { OnOk result (view_place amongs.now.items place.new ≡ spec.past (trees.among_ (view_among among.now).0 (view_among among.now).1) (view_place amongs.now.items place.old)) }
@@ -458,10 +466,10 @@ fn among_of(
 #[cycle(commands)]
 fn region_of(
     alloc: Global,
-    names: &Names,
+    names: &SymbolTable,
     amongs: &Vec<Found>,
-    rows: &Vec<Row>,
-    place: &mut Position,
+    rows: &Vec<RowOfCommands>,
+    place: &mut CommandPosition,
 ) -> Result<Vec<Node>, AllocError>
     ensures made { IfOk result (λ ns. map (view_node (strings_at amongs.now.items)) ns.items ≡ spec.numbered_rows (view_names names.now) (view_rows rows.now.items) (spec.region (view_rows rows.now.items) (view_place amongs.now.items place.old))) }
     ensures behind { OnOk result (view_place amongs.now.items place.new ≡ spec.past_rows (view_rows rows.now.items) (spec.closed (view_place amongs.now.items place.old))) }
@@ -475,10 +483,10 @@ fn region_of(
 #[cycle(commands)]
 fn bodies_of(
     alloc: Global,
-    names: &Names,
+    names: &SymbolTable,
     amongs: &Vec<Found>,
     groups: &Vec<Group>,
-    place: &mut Position,
+    place: &mut CommandPosition,
 ) -> Result<Vec<Node>, AllocError>
     ensures made { IfOk result (λ ns. (bare : List trees.Entry) → map (view_node (strings_at amongs.now.items)) ns.items ≡ spec.numbered_groups (view_names names.now) (view_groups groups.now.items bare) (view_place amongs.now.items place.old)) }
     ensures behind { OnOk result ((bare : List trees.Entry) → view_place amongs.now.items place.new ≡ spec.past_groups (view_groups groups.now.items bare) (view_place amongs.now.items place.old)) }

@@ -13,7 +13,7 @@ use std::alloc::{AllocError, Global};
 /// The names of a script: variables in the order of their declarations, groupings and routines in the order of their
 /// definitions.
 #[derive(Drop)]
-pub struct Names {
+pub struct SymbolTable {
     /// The string variables.
     pub strings: NameList,
     /// The integers.
@@ -40,7 +40,7 @@ fn declare(
     alloc: Global,
     kind: DeclarationKind,
     more: &Vec<String>,
-    names: &mut Names,
+    names: &mut SymbolTable,
 ) -> Result<(), AllocError>
     ensures { OnOk result (view_names names.new ≡ spec.declaring kind (map string_bytes more.now.items) (view_names names.old)) }
 {
@@ -54,7 +54,7 @@ fn declare(
     }
 }
 
-fn name_item(alloc: Global, plain: &Plain, names: &mut Names) -> Result<(), AllocError>
+fn name_item(alloc: Global, plain: &Plain, names: &mut SymbolTable) -> Result<(), AllocError>
     ensures { OnOk result (view_names names.new ≡ spec.naming (view_plain plain.now) (view_names names.old)) }
 {
     match plain {
@@ -75,10 +75,10 @@ fn name_item(alloc: Global, plain: &Plain, names: &mut Names) -> Result<(), Allo
 }
 
 /// Returns the names of a script. Returns `AllocError` if an allocation fails.
-pub fn names_of(alloc: Global, items: &[ItemInMode]) -> Result<Names, AllocError>
+pub fn names_of(alloc: Global, items: &[ItemInMode]) -> Result<SymbolTable, AllocError>
     ensures { IfOk result (λ names. view_names names ≡ spec.names_behind (map view_in_mode items.now) spec.no_names) }
 {
-    let mut names = Names {
+    let mut names = SymbolTable {
         strings: NameList::new(alloc),
         integers: NameList::new(alloc),
         booleans: NameList::new(alloc),

@@ -7,7 +7,7 @@ ghost use Rattle.sbl_compiler.specs.NumberedView.{view_names};
 ghost use Rattle.sbl_program.specs.Grouped.{added_all, scaled_all};
 ghost use Rattle.sbl_program.specs.ProgramOf.{view_added, view_number, view_scaled, view_text};
 
-use crate::names::Names;
+use crate::names::SymbolTable;
 use sbl_ast::{
     Added, Additive, Argument, Constant, Expression, Factor, Multiplicative, Product, Scaled,
 };
@@ -15,7 +15,11 @@ use sbl_program::{Arithmetic, StringTerm};
 use std::alloc::{AllocError, Global};
 
 /// Compiles a string. Returns `AllocError` if an allocation fails.
-pub fn text(alloc: Global, names: &Names, argument: &Argument) -> Result<StringTerm, AllocError>
+pub fn text(
+    alloc: Global,
+    names: &SymbolTable,
+    argument: &Argument,
+) -> Result<StringTerm, AllocError>
     ensures { IfOk result (λ t. view_text t ≡ spec.text (view_names names.now) (view_argument argument.now)) }
 {
     match argument {
@@ -37,17 +41,17 @@ fn constant(constant: Constant) -> Arithmetic
 }
 
 // Returns a term of a sum that comes after the first.
-fn added_number(operator: Additive, number: Arithmetic) -> sbl_program::Added
+fn added_number(operator: Additive, number: Arithmetic) -> sbl_program::Addend
     ensures { view_added result ≡ (operator, view_number number) }
 {
-    sbl_program::Added { operator, number }
+    sbl_program::Addend { operator, number }
 }
 
 // Returns a factor of a product that comes after the first.
-fn scaled_number(operator: Multiplicative, number: Arithmetic) -> sbl_program::Scaled
+fn scaled_number(operator: Multiplicative, number: Arithmetic) -> sbl_program::Multiplicand
     ensures { view_scaled result ≡ (operator, view_number number) }
 {
-    sbl_program::Scaled { operator, number }
+    sbl_program::Multiplicand { operator, number }
 }
 
 // Makes a sum of the first term and those after it; the first term alone if there are no others. Returns `AllocError`
@@ -55,7 +59,7 @@ fn scaled_number(operator: Multiplicative, number: Arithmetic) -> sbl_program::S
 fn whole_sum(
     alloc: Global,
     first: Arithmetic,
-    others: Vec<sbl_program::Added>,
+    others: Vec<sbl_program::Addend>,
 ) -> Result<Arithmetic, AllocError>
     ensures { IfOk result (λ x. view_number x ≡ added_all (map view_added others.items) (view_number first)) }
 {
@@ -72,7 +76,7 @@ fn whole_sum(
 fn whole_product(
     alloc: Global,
     first: Arithmetic,
-    others: Vec<sbl_program::Scaled>,
+    others: Vec<sbl_program::Multiplicand>,
 ) -> Result<Arithmetic, AllocError>
     ensures { IfOk result (λ x. view_number x ≡ scaled_all (map view_scaled others.items) (view_number first)) }
 {
@@ -89,7 +93,7 @@ fn whole_product(
 #[cycle(arithmetic)]
 pub fn number_of_expression(
     alloc: Global,
-    names: &Names,
+    names: &SymbolTable,
     expression: &Expression,
 ) -> Result<Arithmetic, AllocError>
     ensures { IfOk result (λ x. view_number x ≡ spec.expression (view_names names.now) (view_expression expression.now)) }
@@ -102,9 +106,9 @@ pub fn number_of_expression(
 #[cycle(arithmetic)]
 fn sums_of(
     alloc: Global,
-    names: &Names,
+    names: &SymbolTable,
     others: &Vec<Added>,
-) -> Result<Vec<sbl_program::Added>, AllocError>
+) -> Result<Vec<sbl_program::Addend>, AllocError>
     ensures { IfOk result (λ v. map view_added v.items ≡ spec.sums_in (view_names names.now) (view_sums others.now.items)) }
 {
     let mut sums = Vec::with_capacity(alloc, others.len())?;
@@ -118,7 +122,7 @@ fn sums_of(
 #[cycle(arithmetic)]
 fn number_of_product(
     alloc: Global,
-    names: &Names,
+    names: &SymbolTable,
     product: &Product,
 ) -> Result<Arithmetic, AllocError>
     ensures { IfOk result (λ x. view_number x ≡ spec.product (view_names names.now) (view_product product.now)) }
@@ -131,9 +135,9 @@ fn number_of_product(
 #[cycle(arithmetic)]
 fn scales_of(
     alloc: Global,
-    names: &Names,
+    names: &SymbolTable,
     others: &Vec<Scaled>,
-) -> Result<Vec<sbl_program::Scaled>, AllocError>
+) -> Result<Vec<sbl_program::Multiplicand>, AllocError>
     ensures { IfOk result (λ v. map view_scaled v.items ≡ spec.scales_in (view_names names.now) (view_scales others.now.items)) }
 {
     let mut scales = Vec::with_capacity(alloc, others.len())?;
@@ -145,7 +149,11 @@ fn scales_of(
 }
 
 #[cycle(arithmetic)]
-fn number_of_factor(alloc: Global, names: &Names, factor: &Factor) -> Result<Arithmetic, AllocError>
+fn number_of_factor(
+    alloc: Global,
+    names: &SymbolTable,
+    factor: &Factor,
+) -> Result<Arithmetic, AllocError>
     ensures { IfOk result (λ x. view_number x ≡ spec.factor (view_names names.now) (view_factor factor.now)) }
 {
     match factor {

@@ -6,12 +6,12 @@ ghost use Rattle.sbl_ast.specs.Tree as trees;
 ghost use Rattle.sbl_compiler.specs.Numbered as spec;
 ghost use Rattle.sbl_compiler.specs.NumberedView.{view_place};
 
-use sbl_ast::{Among, Command, Group, Joined, Row, Simple};
+use sbl_ast::{Among, Command, Group, Joined, RowOfCommands, Simple};
 use sbl_program::Found;
 
 /// The position of a command.
 #[derive(Clone, Copy)]
-pub struct Position {
+pub struct CommandPosition {
     /// The number of the next among in the script.
     pub next: usize,
     /// The number of the amongs still to come that are after its region.
@@ -21,17 +21,17 @@ pub struct Position {
 }
 
 /// Returns the number of amongs still to come.
-pub fn left_of(amongs: &Vec<Found>, place: Position) -> usize
+pub fn left_of(amongs: &Vec<Found>, place: CommandPosition) -> usize
     ensures { result ≡ length (view_place amongs.now.items place).coming }
 {
     amongs.len().saturating_sub(place.next)
 }
 
 /// Returns the position inside the next among, after its word.
-pub fn inside(amongs: &Vec<Found>, place: Position) -> Position
+pub fn inside(amongs: &Vec<Found>, place: CommandPosition) -> CommandPosition
     ensures { view_place amongs.now.items result ≡ spec.inside (view_place amongs.now.items place) }
 {
-    Position {
+    CommandPosition {
         next: if place.next < amongs.len() {
             place.next + 1
         } else {
@@ -43,31 +43,35 @@ pub fn inside(amongs: &Vec<Found>, place: Position) -> Position
 }
 
 /// Returns the same position, at which no `substring` waits.
-pub fn closed(_amongs: &Vec<Found>, place: Position) -> Position
+pub fn closed(_amongs: &Vec<Found>, place: CommandPosition) -> CommandPosition
     ensures { view_place _amongs.now.items result ≡ spec.closed (view_place _amongs.now.items place) }
 {
-    Position {
+    CommandPosition {
         waits: false,
         ..place
     }
 }
 
 /// Returns the position at the beginning of a region; `behind` is the position after the region.
-pub fn begun(amongs: &Vec<Found>, place: Position, behind: Position) -> Position
+pub fn begun(
+    amongs: &Vec<Found>,
+    place: CommandPosition,
+    behind: CommandPosition,
+) -> CommandPosition
     ensures { view_place amongs.now.items result ≡ spec.begun (view_place amongs.now.items place) (view_place amongs.now.items behind) }
 {
-    Position {
+    CommandPosition {
         next: place.next,
         behind: left_of(amongs, behind),
         waits: false,
     }
 }
 
-fn past_simple(_amongs: &Vec<Found>, word: Simple, place: Position) -> Position
+fn past_simple(_amongs: &Vec<Found>, word: Simple, place: CommandPosition) -> CommandPosition
     ensures { view_place _amongs.now.items result ≡ spec.past_simple word (view_place _amongs.now.items place) }
 {
     match word {
-        Simple::Substring => Position {
+        Simple::Substring => CommandPosition {
             waits: true,
             ..place
         },
@@ -84,7 +88,7 @@ fn past_simple(_amongs: &Vec<Found>, word: Simple, place: Position) -> Position
 
 /// Returns the position after a command.
 #[cycle(passing)]
-fn past(amongs: &Vec<Found>, command: &Command, place: Position) -> Position
+fn past(amongs: &Vec<Found>, command: &Command, place: CommandPosition) -> CommandPosition
     ensures { view_place amongs.now.items result ≡ spec.past (view_command command.now) (view_place amongs.now.items place) }
 {
     match command {
@@ -114,7 +118,11 @@ fn past(amongs: &Vec<Found>, command: &Command, place: Position) -> Position
 
 /// Returns the position after the rows in parentheses.
 #[cycle(passing)]
-pub fn past_rows(amongs: &Vec<Found>, rows: &Vec<Row>, place: Position) -> Position
+pub fn past_rows(
+    amongs: &Vec<Found>,
+    rows: &Vec<RowOfCommands>,
+    place: CommandPosition,
+) -> CommandPosition
     ensures { view_place amongs.now.items result ≡ spec.past_rows (view_rows rows.now.items) (view_place amongs.now.items place) }
 {
     let mut behind = place;
@@ -126,7 +134,7 @@ pub fn past_rows(amongs: &Vec<Found>, rows: &Vec<Row>, place: Position) -> Posit
 
 /// Returns the position after a row.
 #[cycle(passing)]
-pub fn past_row(amongs: &Vec<Found>, row: &Row, place: Position) -> Position
+pub fn past_row(amongs: &Vec<Found>, row: &RowOfCommands, place: CommandPosition) -> CommandPosition
     ensures { view_place amongs.now.items result ≡ spec.past_others (view_row row.now).1 (spec.past (view_row row.now).0 (view_place amongs.now.items place)) }
 {
     let first = past(amongs, &row.first, place);
@@ -134,7 +142,7 @@ pub fn past_row(amongs: &Vec<Found>, row: &Row, place: Position) -> Position
 }
 
 #[cycle(passing)]
-fn past_others(amongs: &Vec<Found>, others: &Vec<Joined>, place: Position) -> Position
+fn past_others(amongs: &Vec<Found>, others: &Vec<Joined>, place: CommandPosition) -> CommandPosition
     ensures { view_place amongs.now.items result ≡ spec.past_others (view_others others.now.items) (view_place amongs.now.items place) }
 {
     let mut behind = place;
@@ -145,7 +153,7 @@ fn past_others(amongs: &Vec<Found>, others: &Vec<Joined>, place: Position) -> Po
 }
 
 #[cycle(passing)]
-fn past_among(amongs: &Vec<Found>, among: &Among, place: Position) -> Position
+fn past_among(amongs: &Vec<Found>, among: &Among, place: CommandPosition) -> CommandPosition
     ensures { view_place amongs.now.items result ≡ spec.past (trees.among_ (view_among among.now).0 (view_among among.now).1) (view_place amongs.now.items place) }
 {
     let mut behind = inside(amongs, place);
@@ -156,7 +164,7 @@ fn past_among(amongs: &Vec<Found>, among: &Among, place: Position) -> Position
 }
 
 #[cycle(passing)]
-fn past_groups(amongs: &Vec<Found>, groups: &Vec<Group>, place: Position) -> Position
+fn past_groups(amongs: &Vec<Found>, groups: &Vec<Group>, place: CommandPosition) -> CommandPosition
     ensures { (bare : List trees.Entry) → view_place amongs.now.items result ≡ spec.past_groups (view_groups groups.now.items bare) (view_place amongs.now.items place) }
 {
     let mut behind = place;

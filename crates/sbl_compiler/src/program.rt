@@ -13,18 +13,18 @@ ghost use Rattle.sbl_program.specs.ProgramOf.{program_of, view_routine};
 use crate::amongs::amongs_of;
 use crate::classes::numbered_classes;
 use crate::commands::row_of;
-use crate::names::{Names, names_of};
-use crate::place::{Position, begun, closed, left_of, past_row};
-use sbl_ast::{Item, ItemInMode, Plain, Row, items_in_order};
+use crate::names::{SymbolTable, names_of};
+use crate::place::{CommandPosition, begun, closed, left_of, past_row};
+use sbl_ast::{ItemInMode, Plain, RowOfCommands, ScriptItem, items_in_order};
 use sbl_program::{Found, Program, Routine};
 use std::alloc::{AllocError, Global};
 
 fn routine_of(
     alloc: Global,
-    names: &Names,
+    names: &SymbolTable,
     amongs: &Vec<Found>,
-    body: &Row,
-    place: &mut Position,
+    body: &RowOfCommands,
+    place: &mut CommandPosition,
 ) -> Result<Routine, AllocError>
     ensures made { IfOk result (λ r. view_routine (strings_at amongs.now.items) r ≡ spec.routine_of (view_names names.now) (view_row body.now).0 (view_row body.now).1 (view_place amongs.now.items place.old)) }
     ensures behind { OnOk result (view_place amongs.now.items place.new ≡ spec.past_body (view_row body.now).0 (view_row body.now).1 (view_place amongs.now.items place.old)) }
@@ -41,10 +41,10 @@ fn routine_of(
 
 fn add_routine(
     alloc: Global,
-    names: &Names,
+    names: &SymbolTable,
     amongs: &Vec<Found>,
     plain: &Plain,
-    place: &mut Position,
+    place: &mut CommandPosition,
     routines: &mut Vec<Routine>,
 ) -> Result<(), AllocError>
     ensures made { OnOk result (map (view_routine (strings_at amongs.now.items)) routines.new.items ≡ spec.with_routine (view_names names.now) (view_plain plain.now) (view_place amongs.now.items place.old) (map (view_routine (strings_at amongs.now.items)) routines.old.items)) }
@@ -59,13 +59,13 @@ fn add_routine(
 
 fn routines_of(
     alloc: Global,
-    names: &Names,
+    names: &SymbolTable,
     items: &[ItemInMode],
     amongs: &Vec<Found>,
 ) -> Result<Vec<Routine>, AllocError>
     ensures { IfOk result (λ v. map (view_routine (strings_at amongs.now.items)) v.items ≡ spec.routines_behind (view_names names.now) (map view_in_mode items.now) (view_place amongs.now.items (record { next = 0; behind = 0; waits = false })) []) }
 {
-    let mut place = Position {
+    let mut place = CommandPosition {
         next: 0,
         behind: 0,
         waits: false,
@@ -79,7 +79,7 @@ fn routines_of(
 
 fn program_by(
     alloc: Global,
-    names: &Names,
+    names: &SymbolTable,
     items: &[ItemInMode],
     amongs: &Vec<Found>,
     external: &str,
@@ -112,7 +112,7 @@ pub struct Made {
 }
 
 /// Compiles a script's items to a program that runs this external. Returns `AllocError` if an allocation fails.
-pub fn numbered(alloc: Global, items: &[Item], external: &str) -> Result<Made, AllocError>
+pub fn numbered(alloc: Global, items: &[ScriptItem], external: &str) -> Result<Made, AllocError>
     ensures program { IfOk result (λ n. program_of (strings_at n.amongs.items) n.program ≡ spec.numbered_items (view_items items.now) external.now) }
     ensures routines { IfOk result (λ n. map string_bytes n.routines.items ≡ known_in (in_order (view_items items.now)) kinds.Routines) }
     ensures groupings { IfOk result (λ n. map string_bytes n.groupings.items ≡ known_in (in_order (view_items items.now)) kinds.Groupings) }
@@ -121,7 +121,7 @@ pub fn numbered(alloc: Global, items: &[Item], external: &str) -> Result<Made, A
     let names = names_of(alloc, &in_order)?;
     let amongs = amongs_of(alloc, &names, &in_order)?;
     let program = program_by(alloc, &names, &in_order, &amongs, external)?;
-    let Names {
+    let SymbolTable {
         routines,
         groupings,
         ..

@@ -12,10 +12,10 @@ use Rattle.sbl_program.specs.declared.action.Arithmetic.{Arithmetic}
 use Rattle.sbl_program.specs.declared.action.Arithmetic.TheVariants.{Sum, Product}
 use Rattle.sbl_program.specs.declared.action.Arithmetic.TheFolds.{fold_out-Arithmetic}
 use Rattle.sbl_program.specs.declared.action.Arithmetic.TheViews.{the_lemmas as number_lemmas}
-use Rattle.sbl_program.specs.declared.action.Added.{Added}
-use Rattle.sbl_program.specs.declared.action.Scaled.{Scaled}
+use Rattle.sbl_program.specs.declared.action.Addend.{Addend}
+use Rattle.sbl_program.specs.declared.action.Multiplicand.{Multiplicand}
 use Rattle.sbl_program.specs.declared.node.Node.{Node}
-use Rattle.sbl_program.specs.declared.node.Joined.{Joined}
+use Rattle.sbl_program.specs.declared.node.JoinedNode.{JoinedNode}
 use Rattle.sbl_program.specs.declared.node.Node.TheVariants.{Row}
 use Rattle.sbl_program.specs.declared.node.Node.TheFolds.{fold_out-Node}
 use Rattle.sbl_program.specs.declared.node.Node.TheViews.{the_lemmas}
@@ -58,16 +58,16 @@ pub scales_stop : (os : List ScaledView) (fault : RunFault) (m : Mode) (s : Stat
 scales_stop [] fault m s = refl
 scales_stop (o ∷ os) fault m s = scales_stop os fault m s
 
-view_sum : (first : Box Arithmetic Global) (others : Vec Added Global) → view_number (Sum first others) ≡ added_all (map view_added others.items) (view_number first.value)
+view_sum : (first : Box Arithmetic Global) (others : Vec Addend Global) → view_number (Sum first others) ≡ added_all (map view_added others.items) (view_number first.value)
 view_sum first others = first_of (search (rules, number_lemmas), search (rules, number_lemmas, fold_out-Arithmetic))
 
-pub sum_value : (first : Box Arithmetic Global) (others : Vec Added Global) (m : Mode) (s : State) → value (view_number (Sum first others)) m s ≡ sums_to (map view_added others.items) (value (view_number first.value) m s) m s
+pub sum_value : (first : Box Arithmetic Global) (others : Vec Addend Global) (m : Mode) (s : State) → value (view_number (Sum first others)) m s ≡ sums_to (map view_added others.items) (value (view_number first.value) m s) m s
 sum_value first others m s = ap (λ n. value n m s) (view_sum first others) ∙ sums_done (map view_added others.items) (view_number first.value) m s
 
-view_product : (first : Box Arithmetic Global) (others : Vec Scaled Global) → view_number (Product first others) ≡ scaled_all (map view_scaled others.items) (view_number first.value)
+view_product : (first : Box Arithmetic Global) (others : Vec Multiplicand Global) → view_number (Product first others) ≡ scaled_all (map view_scaled others.items) (view_number first.value)
 view_product first others = first_of (search (rules, number_lemmas), search (rules, number_lemmas, fold_out-Arithmetic))
 
-pub product_value : (first : Box Arithmetic Global) (others : Vec Scaled Global) (m : Mode) (s : State) → value (view_number (Product first others)) m s ≡ scales_to (map view_scaled others.items) (value (view_number first.value) m s) m s
+pub product_value : (first : Box Arithmetic Global) (others : Vec Multiplicand Global) (m : Mode) (s : State) → value (view_number (Product first others)) m s ≡ scales_to (map view_scaled others.items) (value (view_number first.value) m s) m s
 product_value first others m s = ap (λ n. value n m s) (view_product first others) ∙ scales_done (map view_scaled others.items) (view_number first.value) m s
 
 -- the i-th of some parts, and then those that follow it
@@ -139,10 +139,10 @@ module _ (p : programs.Program) (levels : ℕ) (m : Mode) where
       let k : length os ≡ length (o ∷ os) - 1 = omega arith in
       row_acts os o c s ∙ ap (λ n. then_on (pays n s) (λ u. others_run p levels m (saved_cursor u) (o ∷ os) (runs p levels c m u))) k
 
-view_row : (T : ℕ → Listed) (first : Box Node Global) (others : Vec Joined Global) → view_node T (Row first others) ≡ grouped (view_node T first.value) (map (view_joined T) others.items)
+view_row : (T : ℕ → Listed) (first : Box Node Global) (others : Vec JoinedNode Global) → view_node T (Row first others) ≡ grouped (view_node T first.value) (map (view_joined T) others.items)
 view_row T first others = first_of (search (rules, the_lemmas), search (rules, the_lemmas, fold_out-Node))
 
-pub row_does : (T : ℕ → Listed) (p : programs.Program) (levels : ℕ) (first : Box Node Global) (others : Vec Joined Global) (m : Mode) (s : State) → runs_paid p levels (view_node T (Row first others)) m s ≡ row_runs p levels (view_node T first.value) (map (view_joined T) others.items) m s
+pub row_does : (T : ℕ → Listed) (p : programs.Program) (levels : ℕ) (first : Box Node Global) (others : Vec JoinedNode Global) (m : Mode) (s : State) → runs_paid p levels (view_node T (Row first others)) m s ≡ row_runs p levels (view_node T first.value) (map (view_joined T) others.items) m s
 row_does T p levels first others m s =
     ap (λ c. runs_paid p levels c m s) (view_row T first others)
     ∙ grouped_acts p levels m (view_node T first.value) (map (view_joined T) others.items) s

@@ -15,7 +15,7 @@ use crate::state::numbers::count_of;
 use crate::state::{SavedCursor, State};
 use crate::table::Tables;
 use sbl_ast::{Joiner, Mode};
-use sbl_program::{Arithmetic, Candidate, Joined, Node, Program};
+use sbl_program::{Arithmetic, Candidate, JoinedNode, Node, Program};
 
 /// The fixed part of the interpreter. A call and `backwards` run their commands with a runner of their own.
 #[derive_where(Clone, Copy)]
@@ -185,7 +185,7 @@ impl<'a, T: Tables> Runner<'a, T> {
 
     /// Runs a row, grouped from left to right. Its first step is already paid.
     #[cycle(run)]
-    fn run_row(&self, first: &Node, others: &[Joined], state: &mut State) -> Result<bool, Halt>
+    fn run_row(&self, first: &Node, others: &[JoinedNode], state: &mut State) -> Result<bool, Halt>
         ensures follows { Follows result state.new (row_runs (program_of (T.listed self.now.tables.now) self.now.program.now) self.now.levels (view_node (T.listed self.now.tables.now) first.now) (map (view_joined (T.listed self.now.tables.now)) others.now) self.now.mode state.old) }
         ensures no_more { IfOk result (λ _. state.new.steps ≤ state.old.steps) }
     {
@@ -205,7 +205,7 @@ impl<'a, T: Tables> Runner<'a, T> {
         &self,
         from: SavedCursor,
         signal: bool,
-        joined: &Joined,
+        joined: &JoinedNode,
         state: &mut State,
     ) -> Result<bool, Halt>
         requires { IsSaved from }

@@ -150,7 +150,7 @@ fn amongs_in(alloc: Global, items: &[Item]) -> Result<AmongList, AllocError>
 pub fn marks_of(
     alloc: Global,
     names: &Names,
-    script: &[sbl_ast::Item],
+    script: &[sbl_ast::ScriptItem],
     items: &[Item],
 ) -> Result<Touched, AllocError>
     ensures { IfOk result (λ marks. marks ≡ marks_of names.now (in_order (view_items script.now)) (map item_of items.now)) }

@@ -20,7 +20,7 @@ use crate::leaves::{dollar, edited, moved, named, non};
 use crate::role::Role;
 use crate::starts::begins_command;
 use crate::tokens::{close, for_word, open};
-use sbl_ast::{Among, Command, Count, Entry, Group, Joined, Prefix, Row};
+use sbl_ast::{Among, Command, Count, Entry, Group, Joined, Prefix, RowOfCommands};
 use sbl_text::Token;
 use std::alloc::Global;
 
@@ -176,7 +176,7 @@ fn starter(
     tokens: &[Token<'_>],
     at: usize,
     depth: u8,
-) -> Result<(Option<Vec<Row>>, usize), ReadError>
+) -> Result<(Option<Vec<RowOfCommands>>, usize), ReadError>
     requires { depth ≤ max_depth }
     ensures { Gives tokens.now at (wanted.starter depth ∷ []) (λ x. spelled_starter (view_starter x.0) (left tokens.now x.1)) (λ x. x.1) result }
 {
@@ -238,7 +238,7 @@ fn block(
     tokens: &[Token<'_>],
     at: usize,
     depth: u8,
-) -> Result<(Vec<Row>, usize), ReadError>
+) -> Result<(Vec<RowOfCommands>, usize), ReadError>
     requires { depth ≤ max_depth }
     ensures { Gives tokens.now at (wanted.rows (depth + 1) ∷ wanted.closing depth ∷ []) (λ x. spelled_rows (view_rows x.0.items) (t.close_ ∷ left tokens.now x.1)) (λ x. x.1) result }
 {
@@ -254,7 +254,7 @@ fn rows(
     tokens: &[Token<'_>],
     at: usize,
     depth: u8,
-) -> Result<(Vec<Row>, usize), ReadError>
+) -> Result<(Vec<RowOfCommands>, usize), ReadError>
     requires { depth ≤ max_depth + 1 }
     ensures { Gives tokens.now at (wanted.rows depth ∷ []) (λ x. spelled_rows (view_rows x.0.items) (left tokens.now x.1)) (λ x. x.1) result }
 {
@@ -263,7 +263,7 @@ fn rows(
     while begins_command(role(tokens, rest)) {
         let (first, after) = command(alloc, tokens, rest, depth)?;
         let (others, after) = others(alloc, tokens, after, depth)?;
-        rows.push(Row { first, others })?;
+        rows.push(RowOfCommands { first, others })?;
         rest = after;
     }
     Ok((rows, rest))

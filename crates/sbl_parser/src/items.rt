@@ -16,7 +16,7 @@ use crate::front::{behind, inserts, literal, role, text};
 use crate::role::Role;
 use crate::starts::{begins_argument, begins_item, begins_plain};
 use crate::tokens::{argument, close, name, open};
-use sbl_ast::{Argument, Base, DeclarationKind, Item, Literal, Plain, Row, Term};
+use sbl_ast::{Argument, Base, DeclarationKind, Literal, Plain, RowOfCommands, ScriptItem, Term};
 use sbl_text::Token;
 use std::alloc::Global;
 
@@ -146,12 +146,16 @@ pub fn grouping_terms(
 }
 
 /// Parses the body of a routine.
-pub fn row(alloc: Global, tokens: &[Token<'_>], at: usize) -> Result<(Row, usize), ReadError>
+pub fn row(
+    alloc: Global,
+    tokens: &[Token<'_>],
+    at: usize,
+) -> Result<(RowOfCommands, usize), ReadError>
     ensures { Gives tokens.now at (wanted.command 1 ∷ wanted.others 1 ∷ []) (λ x. spelled (view_row x.0).0 (spelled_others (view_row x.0).1 (left tokens.now x.1))) (λ x. x.1) result }
 {
     let (first, rest) = command(alloc, tokens, at, 1)?;
     let (others, rest) = others(alloc, tokens, rest, 1)?;
-    Ok((Row { first, others }, rest))
+    Ok((RowOfCommands { first, others }, rest))
 }
 
 /// Parses `define NAME as R` and `define NAME T1 + T2 ..`.
@@ -167,7 +171,7 @@ fn define(alloc: Global, tokens: &[Token<'_>], at: usize) -> Result<(Plain, usiz
             Ok((
                 Plain::Routine {
                     name,
-                    body: Row { first, others },
+                    body: RowOfCommands { first, others },
                 },
                 rest,
             ))
@@ -214,25 +218,29 @@ fn plains(alloc: Global, tokens: &[Token<'_>], at: usize) -> Result<(Vec<Plain>,
 }
 
 /// Parses `backwardmode ( .. )`.
-fn backward_mode(alloc: Global, tokens: &[Token<'_>], at: usize) -> Result<(Item, usize), ReadError>
+fn backward_mode(
+    alloc: Global,
+    tokens: &[Token<'_>],
+    at: usize,
+) -> Result<(ScriptItem, usize), ReadError>
     requires { role_of (left tokens.now at) ≡ Role.BackwardMode }
     ensures { Gives tokens.now at (wanted.item ∷ []) (λ x. spelled_item (view_item x.0) (left tokens.now x.1)) (λ x. x.1) result }
 {
     let inside = open(tokens, behind(tokens, at), 0)?;
     let (plains, rest) = plains(alloc, tokens, inside)?;
     let rest = close(tokens, rest, 0)?;
-    Ok((Item::BackwardMode(plains), rest))
+    Ok((ScriptItem::BackwardMode(plains), rest))
 }
 
 /// Parses an item.
-fn item(alloc: Global, tokens: &[Token<'_>], at: usize) -> Result<(Item, usize), ReadError>
+fn item(alloc: Global, tokens: &[Token<'_>], at: usize) -> Result<(ScriptItem, usize), ReadError>
     ensures { Gives tokens.now at (wanted.item ∷ []) (λ x. spelled_item (view_item x.0) (left tokens.now x.1)) (λ x. x.1) result }
 {
     match role(tokens, at) {
         Role::BackwardMode => backward_mode(alloc, tokens, at),
         _ => {
             let (plain, rest) = plain(alloc, tokens, at)?;
-            Ok((Item::Plain(plain), rest))
+            Ok((ScriptItem::Plain(plain), rest))
         }
     }
 }
@@ -242,7 +250,7 @@ pub fn items(
     alloc: Global,
     tokens: &[Token<'_>],
     at: usize,
-) -> Result<(Vec<Item>, usize), ReadError>
+) -> Result<(Vec<ScriptItem>, usize), ReadError>
     ensures { Gives tokens.now at (wanted.items ∷ []) (λ x. spelled_items (view_items x.0.items) (left tokens.now x.1)) (λ x. x.1) result }
 {
     let mut items = Vec::new(alloc);

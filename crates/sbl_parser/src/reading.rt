@@ -24,7 +24,7 @@ use crate::front::role;
 use crate::items::{items, row, terms};
 use crate::role::Role;
 use crate::tokens::argument;
-use sbl_ast::{Among, Argument, Item, Row, Term};
+use sbl_ast::{Among, Argument, RowOfCommands, ScriptItem, Term};
 use sbl_text::{ScriptFault, Token};
 use std::alloc::Global;
 
@@ -66,7 +66,11 @@ fn told(tokens: &[Token<'_>], end: usize, error: ReadError) -> ScriptFault
 /// * `OutOfProfile` at a `$` with a name but no operator after it (our own choice).
 ///
 /// Returns `OutOfMemory` if an allocation fails.
-pub fn parse(alloc: Global, tokens: &[Token<'_>], end: usize) -> Result<Vec<Item>, ScriptFault>
+pub fn parse(
+    alloc: Global,
+    tokens: &[Token<'_>],
+    end: usize,
+) -> Result<Vec<ScriptItem>, ScriptFault>
     ensures read { IfOk result (λ items. IsReadAs script (terminals_of tokens.now) (view_items items.items)) }
     ensures fault { IfErr result (λ f. (f ≡ ScriptFault.OutOfMemory) ⊎ IsFaultOf script tokens.now end f) }
 {
@@ -77,7 +81,7 @@ pub fn parse(alloc: Global, tokens: &[Token<'_>], end: usize) -> Result<Vec<Item
 }
 
 /// Parses all tokens as items.
-fn all_items(alloc: Global, tokens: &[Token<'_>]) -> Result<Vec<Item>, ReadError>
+fn all_items(alloc: Global, tokens: &[Token<'_>]) -> Result<Vec<ScriptItem>, ReadError>
     ensures read { IfOk result (λ items. IsReadAs script (terminals_of tokens.now) (view_items items.items)) }
     ensures fault { IfErr result (λ e. Fails tokens.now e (fault (terminals_of tokens.now) (wanted.items ∷ []))) }
 {
@@ -91,7 +95,11 @@ fn all_items(alloc: Global, tokens: &[Token<'_>]) -> Result<Vec<Item>, ReadError
 /// Parses all tokens as the body of a routine. `end` is the length of the text in bytes.
 ///
 /// Returns the same errors as `parse`.
-pub fn parse_body(alloc: Global, tokens: &[Token<'_>], end: usize) -> Result<Row, ScriptFault>
+pub fn parse_body(
+    alloc: Global,
+    tokens: &[Token<'_>],
+    end: usize,
+) -> Result<RowOfCommands, ScriptFault>
     ensures read { IfOk result (λ r. IsReadAs body (terminals_of tokens.now) (view_row r)) }
     ensures fault { IfErr result (λ f. (f ≡ ScriptFault.OutOfMemory) ⊎ IsFaultOf body tokens.now end f) }
 {
@@ -102,7 +110,7 @@ pub fn parse_body(alloc: Global, tokens: &[Token<'_>], end: usize) -> Result<Row
 }
 
 /// Parses all tokens as the body of a routine.
-fn whole_body(alloc: Global, tokens: &[Token<'_>]) -> Result<Row, ReadError>
+fn whole_body(alloc: Global, tokens: &[Token<'_>]) -> Result<RowOfCommands, ReadError>
     ensures read { IfOk result (λ r. IsReadAs body (terminals_of tokens.now) (view_row r)) }
     ensures fault { IfErr result (λ e. Fails tokens.now e (fault (terminals_of tokens.now) (first_stack body))) }
 {

@@ -16,7 +16,7 @@ ghost use Rattle.sbl_places.specs.FaultPlaces.{HasNoFaultAt, IsOffset, IsPlaceIn
 use crate::fault_kinds::is_same;
 use crate::laws::{faults_are_at_tokens, token_is_one};
 use crate::subject_tokens::subject_at;
-use sbl_ast::Item;
+use sbl_ast::ScriptItem;
 use sbl_parser::{is_left_out, one_fault, one_tree, parse};
 use sbl_resolver::first_fault;
 use sbl_script::MAX_SCRIPT;
@@ -73,7 +73,11 @@ fn first_left_out(tokens: &[Token<'_>]) -> Option<usize>
 
 /// Returns the tree of these tokens, or `None` if one is not supported or they have no tree. `end` is the length of
 /// their text in bytes. Returns `AllocError` if an allocation fails.
-fn tree_of(alloc: Global, tokens: &[Token<'_>], end: usize) -> Result<Option<Vec<Item>>, AllocError>
+fn tree_of(
+    alloc: Global,
+    tokens: &[Token<'_>],
+    end: usize,
+) -> Result<Option<Vec<ScriptItem>>, AllocError>
     ensures { IfOk result (λ o. MatchOption o ((items : List trees.Item) → spec.first_left_out (map placed_of tokens.now) ≡ None → IsReadAs script (terminals (map placed_of tokens.now)) items → ⊥) (λ items. (spec.first_left_out (map placed_of tokens.now) ≡ None) × IsReadAs script (terminals (map placed_of tokens.now)) (view_items items.items))) }
 {
     one_fault();

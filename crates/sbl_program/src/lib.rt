@@ -6,6 +6,6 @@ mod action;
 mod found;
 mod node;
 
-pub use action::{Action, Added, Arithmetic, Change, Relation, Scaled, StringTerm};
+pub use action::{Action, Addend, Arithmetic, Change, Multiplicand, Relation, StringTerm};
 pub use found::Found;
-pub use node::{Candidate, Joined, Node, Program, Routine};
+pub use node::{Candidate, JoinedNode, Node, Program, Routine};

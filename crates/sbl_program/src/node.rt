@@ -24,7 +24,7 @@ pub enum Node {
         /// The first command.
         first: Box<Node>,
         /// The commands after it.
-        others: Vec<Joined>,
+        others: Vec<JoinedNode>,
     },
     /// `not C`
     Not(Box<Node>),
@@ -76,7 +76,7 @@ pub enum Node {
 /// A command after the first one of a row.
 #[cycle(node)]
 #[derive(Drop)]
-pub struct Joined {
+pub struct JoinedNode {
     /// The word before it.
     pub joiner: Joiner,
     /// The command.

@@ -4,14 +4,14 @@ ghost use Rattle.std.specs.Prelude.{◌≡◌, MatchOption, None, Some};
 ghost use Rattle.sbl_ast.specs.View.{view_row, view_items};
 ghost use Rattle.sbl_resolver.specs.Bodies as spec;
 
-use sbl_ast::{Item, Plain, Row};
+use sbl_ast::{Plain, RowOfCommands, ScriptItem};
 
 /// Returns the body of the first routine of this name that is defined in forward mode, or `None` if there is none.
-pub fn body_in<'a>(items: &'a [Item], name: &str) -> Option<&'a Row>
+pub fn body_in<'a>(items: &'a [ScriptItem], name: &str) -> Option<&'a RowOfCommands>
     ensures { MatchOption result (spec.body_in name.now (view_items items.now) ≡ None) (λ body. spec.body_in name.now (view_items items.now) ≡ Some (view_row body.now)) }
 {
     for item in items {
-        if let Item::Plain(
+        if let ScriptItem::Plain(
             Plain::Routine {
                 name: defined,
                 body,

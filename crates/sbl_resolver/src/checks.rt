@@ -15,7 +15,7 @@ ghost use Rattle.std.specs.Str.{bytes_eq};
 use crate::bodies::body_in;
 use crate::noting::occurrences_of;
 use crate::occurrences::{Notice, Occurrence, Site, Use};
-use sbl_ast::{DeclarationKind, Item, Mode, Row};
+use sbl_ast::{DeclarationKind, Mode, RowOfCommands, ScriptItem};
 use sbl_text::ScriptFault;
 use std::alloc::{AllocError, Global};
 use std::collections::{BTreeMap, BTreeSet};
@@ -413,7 +413,7 @@ fn check_occurrences<'a>(
 /// allocation fails.
 pub fn first_fault(
     alloc: Global,
-    items: &[Item],
+    items: &[ScriptItem],
 ) -> Result<Option<(usize, ScriptFault)>, AllocError>
     ensures { IfOk result (λ o. MatchOption o (EachPasses (spec_occurrences (view_items items.now))) (λ x. IsFirstAfter (spec_occurrences (view_items items.now)) x.0 x.1)) }
 {
@@ -427,7 +427,7 @@ pub fn first_fault(
 ///
 /// Returns the first fault in text order; the fault of the external comes last. Returns `OutOfMemory` if an allocation
 /// fails.
-pub fn check(alloc: Global, items: &[Item], external: &str) -> Result<(), ScriptFault>
+pub fn check(alloc: Global, items: &[ScriptItem], external: &str) -> Result<(), ScriptFault>
     ensures well_declared { IfOk result (λ _. spec.WellDeclared (view_items items.now) external.now) }
     ensures fault { IfErr result (λ f. (f ≡ ScriptFault.OutOfMemory) ⊎ (spec.fault_of (view_items items.now) external.now ≡ Some f)) }
 {
@@ -439,7 +439,10 @@ pub fn check(alloc: Global, items: &[Item], external: &str) -> Result<(), Script
 }
 
 /// Checks that the external is declared as an external and has a body.
-fn check_external(kind: Option<DeclarationKind>, body: Option<&Row>) -> Result<(), ScriptFault>
+fn check_external(
+    kind: Option<DeclarationKind>,
+    body: Option<&RowOfCommands>,
+) -> Result<(), ScriptFault>
     ensures { Finds result (if spec.is_external kind && is_some body.entry then None else Some ScriptFault.NoExternal) }
 {
     match kind {

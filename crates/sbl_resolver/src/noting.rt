@@ -10,8 +10,8 @@ ghost use Rattle.sbl_resolver.specs.OccurrenceView.{view_notice, view_occurrence
 use crate::occurrences::{Notice, Occurrence, Site, Use};
 use crate::sofar::SoFar;
 use sbl_ast::{
-    Added, Among, Argument, Command, DeclarationKind, Entry, Expression, Factor, Group, Item,
-    ItemInMode, Joined, Mode, Naming, Plain, Prefix, Product, Row, Scaled, Simple, Term,
+    Added, Among, Argument, Command, DeclarationKind, Entry, Expression, Factor, Group, ItemInMode,
+    Joined, Mode, Naming, Plain, Prefix, Product, RowOfCommands, Scaled, ScriptItem, Simple, Term,
     items_in_order,
 };
 use std::alloc::{AllocError, Global};
@@ -238,7 +238,7 @@ fn note_command<'a>(
 
 #[cycle(commands)]
 fn note_rows<'a>(
-    rows: &'a Vec<Row>,
+    rows: &'a Vec<RowOfCommands>,
     site: Site,
     occurrences: &mut SoFar<'a>,
 ) -> Result<(), AllocError>
@@ -251,7 +251,11 @@ fn note_rows<'a>(
 }
 
 #[cycle(commands)]
-fn note_row<'a>(row: &'a Row, site: Site, occurrences: &mut SoFar<'a>) -> Result<(), AllocError>
+fn note_row<'a>(
+    row: &'a RowOfCommands,
+    site: Site,
+    occurrences: &mut SoFar<'a>,
+) -> Result<(), AllocError>
     ensures { OnOk result (view_occurrences occurrences.new ≡ spec.noted_others (view_row row.now).1 site (spec.noted (view_row row.now).0 site (view_occurrences occurrences.old))) }
 {
     note_command(&row.first, site, occurrences)?;
@@ -410,7 +414,7 @@ fn note_in_order<'a>(
 /// Returns the occurrences of a script, with items counted from 1. Returns `AllocError` if an allocation fails.
 pub fn occurrences_of<'a>(
     alloc: Global,
-    items: &'a [Item],
+    items: &'a [ScriptItem],
 ) -> Result<Vec<Occurrence<'a>>, AllocError>
     ensures { IfOk result (λ occurrences. view_occurrences occurrences.items ≡ spec.occurrences_of (view_items items.now)) }
 {

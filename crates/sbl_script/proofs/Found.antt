@@ -7,7 +7,7 @@ use Rattle.std.specs.Prelude.{String}
 use Rattle.std.specs.Global.{Global, Vec}
 use Rattle.sbl_ast.specs.declared.tree.Argument.{Argument}
 use Rattle.sbl_ast.specs.declared.tree.Term.{Term}
-use Rattle.sbl_ast.specs.declared.tree.Row.{Row}
+use Rattle.sbl_ast.specs.declared.tree.RowOfCommands.{RowOfCommands as Row}
 use Rattle.sbl_ast.specs.declared.tree.Plain as declared
 use Rattle.sbl_ast.specs.declared.tree.Plain.TheVariants as plains
 use Rattle.sbl_ast.specs.Tree.{Command, Others, Plain, declaration, escapes, macro, routine, grouping, Item, plain, backward}

@@ -13,7 +13,7 @@ use crate::halt::Halt;
 use crate::state::State;
 use crate::state::variables::{integer_of, set_integer};
 use sbl_ast::{Additive, Mode, Multiplicative};
-use sbl_program::{Added, Arithmetic, Change, Relation, Scaled};
+use sbl_program::{Addend, Arithmetic, Change, Multiplicand, Relation};
 
 impl State {
     /// Returns the value of an expression. Returns `Integer` if a number is out of range, and `Divide` if a divisor is
@@ -48,7 +48,7 @@ impl State {
 
     // Adds and subtracts the other terms of a sum.
     #[cycle(value)]
-    fn sum(&self, mode: Mode, start: i32, others: &[Added]) -> Result<i32, RunFault>
+    fn sum(&self, mode: Mode, start: i32, others: &[Addend]) -> Result<i32, RunFault>
         ensures { result ≡ sums_to (map view_added others.now) (Ok start) mode self.now }
     {
         let mut total = start;
@@ -60,7 +60,7 @@ impl State {
 
     // Adds or subtracts one term.
     #[cycle(value)]
-    fn sum_with(&self, mode: Mode, total: i32, other: &Added) -> Result<i32, RunFault>
+    fn sum_with(&self, mode: Mode, total: i32, other: &Addend) -> Result<i32, RunFault>
         ensures { result ≡ with_both (Ok total) (value (view_added other.now).1 mode self.now) (sum_of (view_added other.now).0) }
     {
         let number = self.value(mode, &other.number)?;
@@ -69,7 +69,7 @@ impl State {
 
     // Multiplies and divides by the other factors of a product.
     #[cycle(value)]
-    fn product(&self, mode: Mode, start: i32, others: &[Scaled]) -> Result<i32, RunFault>
+    fn product(&self, mode: Mode, start: i32, others: &[Multiplicand]) -> Result<i32, RunFault>
         ensures { result ≡ scales_to (map view_scaled others.now) (Ok start) mode self.now }
     {
         let mut total = start;
@@ -81,7 +81,7 @@ impl State {
 
     // Multiplies or divides by one factor.
     #[cycle(value)]
-    fn product_with(&self, mode: Mode, total: i32, other: &Scaled) -> Result<i32, RunFault>
+    fn product_with(&self, mode: Mode, total: i32, other: &Multiplicand) -> Result<i32, RunFault>
         ensures { result ≡ with_both (Ok total) (value (view_scaled other.now).1 mode self.now) (product_of (view_scaled other.now).0) }
     {
         let number = self.value(mode, &other.number)?;

@@ -2,7 +2,7 @@ use Rattle.std.proofs.Common.{◌≡◌, ◌≤◌, ◌<◌, ◌∷◌, ◌++◌
 use Rattle.std.proofs.lemmas.List.{map_push}
 use Rattle.std.proofs.lemmas.Result.{err_from_is_err_and}
 use Rattle.sbl_ast.specs.declared.tree.Command.{Command}
-use Rattle.sbl_ast.specs.declared.tree.Row.{Row}
+use Rattle.sbl_ast.specs.declared.tree.RowOfCommands.{RowOfCommands as Row}
 use Rattle.sbl_ast.specs.declared.tree.Joined.{Joined}
 use Rattle.sbl_ast.specs.declared.tree.Group.{Group}
 use Rattle.sbl_ast.specs.declared.tree.Entry.{Entry}

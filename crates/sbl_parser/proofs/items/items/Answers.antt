@@ -1,7 +1,7 @@
 use Rattle.std.proofs.Common.{◌≡◌, ◌<◌, ◌∷◌, ◌++◌, List, [], length, map, true, ap, sym, subst, ◌∙◌}
 use Rattle.std.proofs.lemmas.List.{map_push}
 use Rattle.std.proofs.lemmas.Result.{err_from_is_err_and}
-use Rattle.sbl_ast.specs.declared.tree.Item.{Item}
+use Rattle.sbl_ast.specs.declared.tree.ScriptItem.{ScriptItem as Item}
 use Rattle.sbl_ast.specs.Terminal.{Terminal, left}
 use Rattle.sbl_parser.specs.Roles.{role_of}
 use Rattle.sbl_parser.specs.declared.role.Role.{Role}

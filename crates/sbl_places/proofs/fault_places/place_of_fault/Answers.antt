@@ -1,7 +1,7 @@
 use Rattle.std.proofs.Common.{List, map, sym, subst, ap, ◌∙◌}
 use Rattle.sbl_token.specs.declared.token.Token.{Token}
 use Rattle.sbl_text.specs.Tokens.{placed_of}
-use Rattle.sbl_ast.specs.declared.tree.Item.{Item}
+use Rattle.sbl_ast.specs.declared.tree.ScriptItem.{ScriptItem as Item}
 use Rattle.sbl_ast.specs.View.{view_items}
 use Rattle.sbl_resolver.specs.Laws.{EachPasses}
 use Rattle.sbl_resolver.specs.Occurrences.{occurrences_of}
