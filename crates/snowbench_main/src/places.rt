@@ -238,11 +238,11 @@ pub(crate) fn fault_text(
 }
 
 /// Returns the lines on a fault of a whole script. `title` is the name of the script.
-pub(crate) fn script_fault_text(
+pub(crate) fn script_fault_text<'x>(
     alloc: Global,
     title: &str,
-    text: &[u8],
-    external: &str,
+    text: &'x [u8],
+    external: &'x str,
     fault: ScriptFault,
 ) -> Result<String, AllocError> {
     let begin = offset_in_script(alloc, text, fault)?;

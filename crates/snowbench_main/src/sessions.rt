@@ -55,12 +55,12 @@ fn run_lines<R: Source + Drop>(
 
 /// Runs a session over a reader, and shows the place of each block that is refused. `input` is the name of the text in which the
 /// commands are.
-fn run_watched<R: Read + Drop>(
-    rt: &HostRuntime,
-    command_line: &CommandLine,
-    input: &str,
+fn run_watched<'x, R: Read + Drop>(
+    rt: &'x HostRuntime,
+    command_line: &'x CommandLine,
+    input: &'x str,
     reader: R,
-    talk: &RefCell<Talk>,
+    talk: &'x RefCell<Talk>,
 ) -> Result<Ended, AllocError> {
     let Ok(keys) = RandomState::new(rt) else {
         return without_keys(rt.alloc());

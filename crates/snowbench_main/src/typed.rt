@@ -141,12 +141,12 @@ fn count_text(
 
 /// Returns the lines on the fault of an edit of a part of this script, if the edit has a fault. `rest` is the text of the part, and
 /// begins at the offset `skipped` of the block.
-fn fault_in_part(
+fn fault_in_part<'x>(
     alloc: Global,
-    typed: Typed<'_>,
+    typed: Typed<'x>,
     title: Title<'_>,
     script: &Script,
-    part: Part<'_>,
+    part: Part<'x>,
     skipped: usize,
 ) -> Result<Option<String>, AllocError> {
     let Ok(rest) = str::from_utf8(typed.block.get(skipped..).unwrap_or(&[])) else {
@@ -183,10 +183,10 @@ fn faulty_of<'a>(typed: Typed<'a>, part: Part<'a>, fault: ScriptFault) -> Faulty
 }
 
 /// Returns the lines on the fault of a block that was to replace a part, if it has one.
-pub(crate) fn part_text(
+pub(crate) fn part_text<'x>(
     alloc: Global,
-    typed: Typed<'_>,
-    target: &Target,
+    typed: Typed<'x>,
+    target: &'x Target,
 ) -> Result<Option<String>, AllocError> {
     let part = part_of(target);
     let title = title_of(alloc, part)?;

@@ -86,10 +86,10 @@ pub(crate) fn file_text(
 }
 
 /// Returns the lines on the fault of the block that was refused.
-fn block_text(
+fn block_text<'x>(
     alloc: Global,
-    context: Context<'_>,
-    talk: &Talk,
+    context: Context<'x>,
+    talk: &'x Talk,
 ) -> Result<Option<String>, AllocError> {
     let source = context.input.map(|name| (name, talk.block_row()));
     let typed = Typed {
