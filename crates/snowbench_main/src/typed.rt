@@ -3,7 +3,7 @@
 use crate::places::{Title, fault_of, fault_text, offset_of_byte, push_title, script_fault_text};
 use crate::sentences::Faulty;
 use sbl_places::{Part, cut_at_part, offset_in_block};
-use sbl_script::{EditFault, Script, ScriptFault};
+use sbl_script::{Script, ScriptEditFault, ScriptFault};
 use sbl_sessions::Target;
 use sbl_text::{Kind, Lexer, Token, Word, tokens};
 use std::alloc::{AllocError, Global};
@@ -81,7 +81,12 @@ fn first_tokens(alloc: Global, text: &str) -> Result<Vec<Token<'_>>, AllocError>
 }
 
 /// Returns the fault with which an edit is refused, if it is refused.
-fn edit_fault(alloc: Global, script: &Script, part: Part<'_>, text: &str) -> Option<EditFault> {
+fn edit_fault(
+    alloc: Global,
+    script: &Script,
+    part: Part<'_>,
+    text: &str,
+) -> Option<ScriptEditFault> {
     let edited = match part {
         Part::Body(name) => script.with_routine(alloc, name, text),
         Part::Among(name, k) => script.with_among(alloc, name, k, text),
@@ -162,8 +167,13 @@ fn fault_in_part<'x>(
         return Ok(None);
     };
     let fault = match fault {
-        EditFault::Script(fault) => fault,
-        EditFault::AmongCount => return Ok(Some(count_text(alloc, title, typed.block, cut.part)?)),
+        ScriptEditFault::Script(fault) => fault,
+        ScriptEditFault::AmongCount => return Ok(Some(count_text(
+            alloc,
+            title,
+            typed.block,
+            cut.part,
+        )?)),
         _ => return Ok(None),
     };
     let begin = offset_in_block(alloc, cut.before, rest.as_bytes(), cut.after, fault)?;
