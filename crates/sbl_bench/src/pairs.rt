@@ -149,7 +149,9 @@ pub(crate) fn follow(
 ) -> Option<Pairs>
     ensures { (old : List KeptWord) → Follows old last.now traces.now.entries → IsIndexed old pairs → IsIndexed traces.now.entries result }
 {
-    let mut pairs = pairs?;
+    let Some(mut pairs) = pairs else {
+        return None;
+    };
     let most = traces.len() / 8;
     match follow_each(alloc, &mut pairs, traces, last, most) {
         Ok(()) => Some(pairs),
@@ -166,8 +168,12 @@ pub(crate) fn follow_new(
 ) -> Option<Pairs>
     ensures { (old : List KeptWord) → IsOneMore word.now traces.now.entries old → IsIndexed old pairs → IsIndexed traces.now.entries result }
 {
-    let mut pairs = pairs?;
-    let last = traces.get(word)?;
+    let Some(mut pairs) = pairs else {
+        return None;
+    };
+    let Some(last) = traces.get(word) else {
+        return None;
+    };
     match insert_pair(alloc, &mut pairs, word, last.outcome()) {
         Ok(()) => Some(pairs),
         Err(_) => None,
@@ -178,9 +184,14 @@ pub(crate) fn follow_new(
 pub(crate) fn follow_old(pairs: Option<Pairs>, word: Vec<char>, last: LastRun) -> Option<Pairs>
     ensures { (old new : List KeptWord) → IsOneMore word.items old new → find word.items old ≡ Some last → IsIndexed old pairs → IsIndexed new result }
 {
-    let mut pairs = pairs?;
-    if let Outcome::Stem(stem) = last.into_outcome() {
-        remove_key(&mut pairs, stem, word);
+    let Some(mut pairs) = pairs else {
+        return None;
+    };
+    match last.into_outcome() {
+        Outcome::Stem(stem) => {
+            remove_key(&mut pairs, stem, word);
+            Some(pairs)
+        }
+        Outcome::Refused(_) => Some(pairs),
     }
-    Some(pairs)
 }
