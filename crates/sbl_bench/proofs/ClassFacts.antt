@@ -8,7 +8,7 @@ use Rattle.std.specs.declared.cmp.Ordering.TheVariants.{Less}
 use Rattle.std.specs.Ordering.{is_eq, nat_cmp}
 use Rattle.std.specs.List.{find as find_row}
 use Rattle.std.specs.Option.{option_and_then, option_map}
-use Rattle.std.specs.Map.{keys_of}
+use Rattle.std.specs.Map.{keys_of, lookup_key}
 use Rattle.std.specs.BTreeSet.{BTreeSet}
 use Rattle.std.proofs.lemmas.List.Elements.{All-head, All-tail, All-cons, All-map}
 use Rattle.std.proofs.lemmas.Map.Views.{All-insert_key}
@@ -153,6 +153,25 @@ row_found script word (e ∷ es) fresh = by (bytes_eq word e.0.items) refl (row_
         → find_row (λ (r : Row). bytes_eq word r.word) (rows_of script (words_in (e ∷ es))) ≡ option_map (λ t. record { word = word; outcome = outcome_of t.outcome }) (find word (e ∷ es))
     by true same rest = rw same (λ i. Some (record { word = sym ((bytes_eq-Decides word e.0.items).0 same) i; outcome = sym fresh.0.outcome i }))
     by false other rest = rw other rest
+
+-- the row of a word, by the key that is found for it
+pub row_there : (script : Setting) (word : List ℕ) (es : List KeptWord) (k : Text) (t : Traced) → AreFresh script es → Some k ≡ lookup_key (λ (x : Text). bytes_eq word x.items) es → Some t ≡ find word es
+    → Some (record { word = k.items; outcome = outcome_of t.outcome }) ≡ find_row (λ (r : Row). bytes_eq word r.word) (rows_of script (words_in es))
+row_there script word es k t fresh key there =
+    ap (λ (w : List ℕ). Some (record { word = w; outcome = outcome_of t.outcome })) (sym ((bytes_eq-Decides word k.items).0 (own es (sym key))))
+    ∙ ap (option_map (λ (t : Traced). record { word = word; outcome = outcome_of t.outcome })) there ∙ sym (row_found script word es fresh)
+  where
+    own : (fs : List KeptWord) → lookup_key (λ (x : Text). bytes_eq word x.items) fs ≡ Some k → bytes_eq word k.items ≡ true
+    own [] h = cc h
+    own (f ∷ fs) h = by (bytes_eq word f.0.items) refl h
+      where
+        by : (b : Bool) → bytes_eq word f.0.items ≡ b → cond b (Some f.0) (lookup_key (λ (x : Text). bytes_eq word x.items) fs) ≡ Some k → bytes_eq word k.items ≡ true
+        by true e g = let same : f.0 ≡ k = cc g in ap (λ (x : Text). bytes_eq word x.items) (sym same) ∙ e
+        by false e g = own fs g
+
+-- a word that is not found has no row
+pub no_row : (script : Setting) (word : List ℕ) (es : List KeptWord) → AreFresh script es → None ≡ find word es → None ≡ find_row (λ (r : Row). bytes_eq word r.word) (rows_of script (words_in es))
+no_row script word es fresh none = ap (option_map (λ (t : Traced). record { word = word; outcome = outcome_of t.outcome })) none ∙ sym (row_found script word es fresh)
 
 -- the class of a word by what its entry holds
 pub class_found : (script : Setting) (es : List KeptWord) (word : List ℕ) → AreFresh script es → (o : Option Traced) → o ≡ find word es

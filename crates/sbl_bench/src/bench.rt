@@ -98,11 +98,13 @@ impl Bench {
     pub fn row_of(&self, word: &[char]) -> Option<Row<'_>>
         ensures { option_map view_row result ≡ find (λ row. bytes_eq word.now row.word) (rows_of (setting_of self.now) self.now.words) }
     {
-        let (word, last) = self.traces.get_key_value(word)?;
-        Some(Row {
-            word: word.as_slice(),
-            outcome: last.outcome(),
-        })
+        match self.traces.get_key_value(word) {
+            Some((word, last)) => Some(Row {
+                word: word.as_slice(),
+                outcome: last.outcome(),
+            }),
+            None => None,
+        }
     }
 
     /// Returns the rows, in vocabulary order. Returns `AllocError` if an allocation fails.

@@ -116,13 +116,15 @@ fn words_among(alloc: Global, stem: &[char], pairs: &Pairs) -> Result<Vec<Vec<ch
     ensures words { IfOk result (λ words. words_of words.items ≡ spec.words_paired stem.now (map plain pairs.now.keys)) }
     ensures ordered { IsOrdered key_cmp pairs.now }
 {
-    let first = (Vec::from_slice(alloc, stem)?, Vec::new(alloc));
+    let copy = Vec::from_slice(alloc, stem)?;
+    let none = Vec::new(alloc);
     let mut words = Vec::new(alloc);
-    for pair in pairs.range(first..) {
-        if stem != pair.0.as_slice() {
+    for pair in pairs.range((copy, none)..) {
+        if stem == pair.0.as_slice() {
+            push_word(&mut words, Vec::from_slice(alloc, pair.1.as_slice())?)?;
+        } else {
             return Ok(words);
         }
-        push_word(&mut words, Vec::from_slice(alloc, pair.1.as_slice())?)?;
     }
     Ok(words)
 }

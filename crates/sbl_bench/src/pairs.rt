@@ -125,10 +125,10 @@ fn follow_each(
 {
     let mut left = most;
     for change in last {
-        let Some(now) = traces.get(change.word.as_slice()) else {
+        let word = change.word.as_slice();
+        let Some(now) = traces.get(word) else {
             return Err(AllocError);
         };
-        let word = change.word.as_slice();
         let before = change.traced.outcome();
         let differs = follow_one(alloc, pairs, word, before, now.outcome())?;
         let Some(fewer) = left.checked_sub(usize::from(differs)) else {

@@ -1,0 +1,22 @@
+use Rattle.std.proofs.Common.{◌∙◌, subst}
+use Rattle.std.proofs.lemmas.Result.{if_ok_weaker}
+use Rattle.sbl_bench.specs.Pairs.{IsIndexed}
+use Rattle.sbl_bench.proofs.ClassFacts.{words_kept}
+use Rattle.sbl_bench.proofs.Ranging.{own_keys}
+use Rattle.sbl_bench.proofs.class.words_of_stem.Goals as goal
+
+pub returns-in-Some : goal.returns-in-Some
+returns-in-Some c =
+    let es = c.args.traces.now.entries in
+    let set = c.in-Some.pairs.now in
+    if_ok_weaker c.words_among.result
+    (λ words is s fresh. is ∙ words_kept s es set c.args.stem.now fresh c.words_are_unique.ensures (subst (IsIndexed es) c.in-Some.is c.requires) c.words_among.ensures.ordered (own_keys set))
+    c.words_among.ensures.words
+
+pub returns-in-None : goal.returns-in-None
+returns-in-None c =
+    let es = c.args.traces.now.entries in
+    let set = c.in_ok-pairs.pairs in
+    if_ok_weaker c.words_among-in-None.result
+    (λ words is s fresh. is ∙ words_kept s es set c.args.stem.now fresh c.words_are_unique.ensures c.in_ok-pairs.ensures c.words_among-in-None.ensures.ordered (own_keys set))
+    c.words_among-in-None.ensures.words
