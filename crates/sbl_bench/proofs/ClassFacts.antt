@@ -27,7 +27,7 @@ use Rattle.sbl_bench.specs.Rows.{Row, rows_of}
 use Rattle.sbl_bench.proofs.PairFacts.{then_eq}
 use Rattle.sbl_bench.proofs.OrderFacts.{exact, sorted-sorted, total, words-rows}
 use Rattle.sbl_bench.proofs.Sorting.{mem, mem-inserted, mem-stays, from_mem, one_list}
-use Rattle.sbl_bench.proofs.Words.{shown, rows_shown}
+use Rattle.sbl_bench.proofs.Words.{key_found, shown, rows_shown}
 
 abbrev is_in : Pair → List Pair → Bool
 is_in p ps = mem pair_cmp p ps
@@ -158,16 +158,8 @@ row_found script word (e ∷ es) fresh = by (bytes_eq word e.0.items) refl (row_
 pub row_there : (script : Setting) (word : List ℕ) (es : List KeptWord) (k : Text) (t : Traced) → AreFresh script es → Some k ≡ lookup_key (λ (x : Text). bytes_eq word x.items) es → Some t ≡ find word es
     → Some (record { word = k.items; outcome = outcome_of t.outcome }) ≡ find_row (λ (r : Row). bytes_eq word r.word) (rows_of script (words_in es))
 row_there script word es k t fresh key there =
-    ap (λ (w : List ℕ). Some (record { word = w; outcome = outcome_of t.outcome })) (sym ((bytes_eq-Decides word k.items).0 (own es (sym key))))
+    ap (λ (w : List ℕ). Some (record { word = w; outcome = outcome_of t.outcome })) (sym ((bytes_eq-Decides word k.items).0 (key_found word es k (sym key))))
     ∙ ap (option_map (λ (t : Traced). record { word = word; outcome = outcome_of t.outcome })) there ∙ sym (row_found script word es fresh)
-  where
-    own : (fs : List KeptWord) → lookup_key (λ (x : Text). bytes_eq word x.items) fs ≡ Some k → bytes_eq word k.items ≡ true
-    own [] h = cc h
-    own (f ∷ fs) h = by (bytes_eq word f.0.items) refl h
-      where
-        by : (b : Bool) → bytes_eq word f.0.items ≡ b → cond b (Some f.0) (lookup_key (λ (x : Text). bytes_eq word x.items) fs) ≡ Some k → bytes_eq word k.items ≡ true
-        by true e g = let same : f.0 ≡ k = cc g in ap (λ (x : Text). bytes_eq word x.items) (sym same) ∙ e
-        by false e g = own fs g
 
 -- a word that is not found has no row
 pub no_row : (script : Setting) (word : List ℕ) (es : List KeptWord) → AreFresh script es → None ≡ find word es → None ≡ find_row (λ (r : Row). bytes_eq word r.word) (rows_of script (words_in es))

@@ -1,5 +1,5 @@
 -- The pairs of one stem stand together.
-use Rattle.std.proofs.Common.{map, ◌≡◌, ◌∙◌, ◌&&◌, ◌++◌, ◌∷◌, not, ℕ, Bool, true, false, cond, List, [], is_le, is_eq, slice_index_or, refl, sym, ap, subst}
+use Rattle.std.proofs.Common.{map, ◌≡◌, ◌∙◌, ◌&&◌, ◌++◌, ◌∷◌, not, ℕ, Bool, true, false, cond, List, [], Result, Ok, Err, IfOk, is_le, is_eq, slice_index_or, refl, sym, ap, subst}
 use Rattle.std.specs.List.{All, AllByRecursion, filter, list_any}
 use Rattle.std.specs.List.Sorted.{IsStrictlySortedBy}
 use Rattle.std.specs.Str.{bytes_eq}
@@ -20,6 +20,11 @@ use Rattle.sbl_bench.specs.Grouping.{Pair, pair_cmp, words_paired}
 use Rattle.sbl_bench.specs.Pairs.{Key, has, key_cmp, plain}
 use Rattle.sbl_bench.proofs.OrderFacts.{exact, text_cmp, total}
 use Rattle.sbl_bench.proofs.Sorting.{self_equal}
+
+-- a clause of a result, by a stronger one
+pub if_ok_weaker : {T E : Type 0} {P Q : T → Type 0} (r : Result T E) → ((v : T) → P v → Q v) → IfOk r P → IfOk r Q
+if_ok_weaker (Ok v) f h = f v h
+if_ok_weaker (Err e) f h = tt
 
 -- a set has its own keys
 pub own_keys : (set : BTreeSet Key) → All (λ k. has set k ≡ true) set.keys

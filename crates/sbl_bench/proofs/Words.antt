@@ -6,7 +6,7 @@ use Rattle.std.specs.Str.{bytes_eq}
 use Rattle.std.specs.declared.vec.Vec.{Vec}
 use Rattle.std.specs.declared.alloc.Global.{Global}
 use Rattle.std.specs.List.{AllByRecursion, IsDistinct}
-use Rattle.std.specs.Map.{keys_of, lookup, remove_entry}
+use Rattle.std.specs.Map.{keys_of, lookup, lookup_key, remove_entry}
 use Rattle.std.proofs.lemmas.Slice.Eq.{bytes_eq-Decides}
 use Rattle.sbl_bench.specs.Setting.{Setting}
 use Rattle.sbl_machine.specs.declared.outcome.Traced.{Traced}
@@ -88,6 +88,15 @@ put_more es e new = record { absent = not_found e.0.items es new; others = other
 
 -- ---- a word that is taken out
 
+-- the key that is found for a word has its characters
+pub key_found : (word : List ℕ) (fs : List KeptWord) (k : Text) → lookup_key (is_key word) fs ≡ Some k → bytes_eq word k.items ≡ true
+key_found word [] k h = cc h
+key_found word (f ∷ fs) k h = by (is_key word f.0) refl h
+  where
+    by : (b : Bool) → is_key word f.0 ≡ b → cond b (Some f.0) (lookup_key (is_key word) fs) ≡ Some k → bytes_eq word k.items ≡ true
+    by true e g = let same : f.0 ≡ k = cc g in ap (is_key word) (sym same) ∙ e
+    by false e g = key_found word fs k g
+
 -- a word that is taken out was one more
 pub taken_more : (word : List ℕ) (es : List KeptWord) → IsDistinct (λ (x y : Text). bytes_eq x.items y.items) (keys_of es) → IsOneMore word es (remove_entry (is_key word) es)
 taken_more word es unique = record { absent = absent es unique; others = others es }
@@ -112,6 +121,15 @@ taken_more word es unique = record { absent = absent es unique; others = others 
         by : (b : Bool) → is_key word f.0 ≡ b → find w.items fs ≡ find w.items (remove_entry (is_key word) fs) → find w.items (f ∷ fs) ≡ find w.items (remove_entry (is_key word) (f ∷ fs))
         by true k rest = rw (k, ap (λ (x : List ℕ). bytes_eq w.items x) (sym ((bytes_eq-Decides word f.0.items).0 k)) ∙ bytes_eq-back w.items word ∙ h) refl
         by false k rest = rw k (ap (cond (bytes_eq w.items f.0.items) (Some f.1)) rest)
+
+-- its key, and its run
+pub key_taken : (word : List ℕ) (es new : List KeptWord) (k : Text) (t : Traced) → IsDistinct (λ (x y : Text). bytes_eq x.items y.items) (keys_of es) → new ≡ remove_entry (is_key word) es
+    → Some k ≡ lookup_key (is_key word) es → Some t ≡ lookup (is_key word) es → IsOneMore k.items es new × (find k.items es ≡ Some t)
+key_taken word es new k t unique is key there =
+    let same : word ≡ k.items = (bytes_eq-Decides word k.items).0 (key_found word es k (sym key)) in (
+      subst (λ (w : List ℕ). IsOneMore w es new) same (subst (IsOneMore word es) (sym is) (taken_more word es unique)),
+      ap (λ (w : List ℕ). find w es) (sym same) ∙ sym there,
+    )
 
 pub words-remove : (word : List ℕ) (es : List KeptWord) → words_in (remove_entry (is_key word) es) ≡ without word (words_in es)
 words-remove word [] = refl

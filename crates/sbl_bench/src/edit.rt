@@ -77,11 +77,11 @@ impl Bench {
         ensures changes { LeavesChanges result self.old self.new }
     {
         words_are_unique(&self.traces);
-        let Some((word, last)) = self.traces.shift_remove_entry(word) else {
+        let Some((key, last)) = self.traces.shift_remove_entry(word) else {
             return Err(EditFault::Absent);
         };
         self.last = Vec::new(self.alloc);
-        self.pairs = follow_old(self.pairs.take(), word, last);
+        self.pairs = follow_old(self.pairs.take(), key, last);
         Ok(())
     }
 
@@ -170,7 +170,7 @@ impl Bench {
             &self.traces,
         )?;
         let last = make_changes(&mut self.traces, changes);
-        self.pairs = follow(self.alloc, self.pairs.take(), &self.traces, &last);
+        self.pairs = follow(self.alloc, self.pairs.take(), &self.traces, last.as_slice());
         self.last = last;
         self.limit = limit;
         Ok(())
@@ -268,7 +268,7 @@ impl Bench {
             &self.traces,
         )?;
         let last = make_changes(&mut self.traces, changes);
-        self.pairs = follow(self.alloc, self.pairs.take(), &self.traces, &last);
+        self.pairs = follow(self.alloc, self.pairs.take(), &self.traces, last.as_slice());
         self.machine = after;
         self.last = last;
         swap(&mut self.script, script);

@@ -1,5 +1,4 @@
 use Rattle.std.proofs.Common.{◌∙◌, List, [], ap, map, subst}
-use Rattle.std.proofs.lemmas.Result.{if_ok_weaker}
 use Rattle.sbl_script.specs.Parsed.{source_of}
 use Rattle.sbl_bench.specs.Setting.{under}
 use Rattle.sbl_bench.specs.Classes.{classes_of}
@@ -9,7 +8,7 @@ use Rattle.sbl_bench.specs.Pairs.{IsIndexed}
 use Rattle.sbl_bench.specs.Rows.{rows_of}
 use Rattle.sbl_bench.proofs.ClassFacts.{kept_sorted}
 use Rattle.sbl_bench.proofs.GroupFacts.{grouped_rows}
-use Rattle.sbl_bench.proofs.Ranging.{own_keys}
+use Rattle.sbl_bench.proofs.Ranging.{if_ok_weaker, own_keys}
 use Rattle.sbl_bench.proofs.bench.Bench.classes.Goals as goal
 
 pub returns-in-Some : goal.returns-in-Some
