@@ -4,6 +4,7 @@ mod bench;
 mod bench_edits;
 mod changes;
 mod characters;
+mod classes;
 mod groupings;
 mod limits;
 mod whole_scripts;
