@@ -4,7 +4,6 @@ mod bench;
 mod bench_edits;
 mod changes;
 mod characters;
-mod classes;
 mod groupings;
 mod limits;
 mod whole_scripts;
