@@ -169,9 +169,14 @@ impl Bench {
             &mut self.meter,
             &self.traces,
         )?;
-        let last = make_changes(&mut self.traces, changes);
-        self.pairs = follow(self.alloc, self.pairs.take(), &self.traces, last.as_slice());
-        self.last = last;
+        let before = make_changes(&mut self.traces, changes);
+        self.pairs = follow(
+            self.alloc,
+            self.pairs.take(),
+            &self.traces,
+            before.as_slice(),
+        );
+        self.last = before;
         self.limit = limit;
         Ok(())
     }
@@ -268,7 +273,12 @@ impl Bench {
             &self.traces,
         )?;
         let last = make_changes(&mut self.traces, changes);
-        self.pairs = follow(self.alloc, self.pairs.take(), &self.traces, last.as_slice());
+        self.pairs = follow(
+            self.alloc,
+            self.pairs.take(),
+            &self.traces,
+            last.as_slice(),
+        );
         self.machine = after;
         self.last = last;
         swap(&mut self.script, script);
