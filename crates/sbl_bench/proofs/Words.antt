@@ -99,6 +99,7 @@ key_found word (f ∷ fs) k h = by (is_key word f.0) refl h
 
 -- a word that is taken out was one more
 pub taken_more : (word : List ℕ) (es : List KeptWord) → IsDistinct (λ (x y : Text). bytes_eq x.items y.items) (keys_of es) → IsOneMore word es (remove_entry (is_key word) es)
+unfolding IsDistinct
 taken_more word es unique = record { absent = absent es unique; others = others es }
   where
     gone : (e : KeptWord) (fs : List KeptWord) → bytes_eq word e.0.items ≡ true → AllByRecursion (λ (y : Text). bytes_eq e.0.items y.items ≡ false) (keys_of fs) → find word fs ≡ None
@@ -106,7 +107,6 @@ taken_more word es unique = record { absent = absent es unique; others = others 
     gone e (f ∷ fs) h a = rw (ap (λ (x : List ℕ). bytes_eq x f.0.items) ((bytes_eq-Decides word e.0.items).0 h) ∙ a.0) (gone e fs h a.1)
 
     absent : (fs : List KeptWord) → IsDistinct (λ (x y : Text). bytes_eq x.items y.items) (keys_of fs) → find word (remove_entry (is_key word) fs) ≡ None
-    unfolding IsDistinct
     absent [] u = refl
     absent (f ∷ fs) u = by (is_key word f.0) refl (absent fs u.1)
       where

@@ -116,6 +116,7 @@ fn words_among(alloc: Global, stem: &[char], pairs: &Pairs) -> Result<Vec<Vec<ch
     ensures words { IfOk result (λ words. words_of words.items ≡ spec.words_paired stem.now (map plain pairs.now.keys)) }
     ensures ordered { IsOrdered key_cmp pairs.now }
 {
+    let _count = pairs.len();
     let copy = Vec::from_slice(alloc, stem)?;
     let none = Vec::new(alloc);
     let mut words = Vec::new(alloc);

@@ -6,5 +6,5 @@ use Rattle.sbl_bench.proofs.pairs.follow_new.Goals as goal
 
 pub returns-in-Ok : goal.returns-in-Ok
 returns-in-Ok c = λ old more indexed.
-    one_more c.args.word.now c.args.traces.now.entries old c.in-Some-2.last.now (has c.in-Some.pairs) (has c.insert_pair.new.pairs) more c.in-Some-2.ensures.value (subst (IsIndexed old) c.in-Some.is indexed)
+    one_more c.args.word.now c.args.traces.now.entries old c.in-Some-get.last.now (has c.in-Some.pairs) (has c.insert_pair.new.pairs) more c.in-Some-get.ensures.value (subst (IsIndexed old) c.in-Some.is indexed)
     (λ q. c.in-Ok.ensures.ok q ∙ ap (λ o. is_pair_of c.args.word.now (outcome_of o) q || has c.in-Some.pairs q) c.outcome.ensures)
