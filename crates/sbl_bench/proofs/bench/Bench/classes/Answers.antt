@@ -15,7 +15,7 @@ pub returns-in-Some : goal.returns-in-Some
 returns-in-Some c =
     let b = c.self.inside in
     let s = under (source_of b.script) b.limit in
-    let set = c.in-Some.pairs.now in
+    let set = c.in-Some.pairs in
     if_ok_weaker c.classes_among.result
     (λ classes is.
       is
@@ -24,15 +24,15 @@ returns-in-Some c =
       ∙ ap (λ (k : Kept). classes_of (rows_of (setting_of k) k.words)) c.self.view_is)
     c.classes_among.ensures.classes
 
-pub returns-in-None : goal.returns-in-None
-returns-in-None c =
+pub returns-in_ok-pairs-in-None : goal.returns-in_ok-pairs-in-None
+returns-in_ok-pairs-in-None c =
     let b = c.self.inside in
     let s = under (source_of b.script) b.limit in
-    let set = c.in_ok-pairs.pairs in
+    let set = c.in_ok-pairs-in-None.pairs in
     if_ok_weaker c.classes_among-in-None.result
     (λ classes is.
       is
-      ∙ ap (grouped []) (kept_sorted s b.traces.entries set c.self.invariant.1.fresh c.words_are_unique.ensures c.in_ok-pairs.ensures c.classes_among-in-None.ensures.ordered (own_keys set))
+      ∙ ap (grouped []) (kept_sorted s b.traces.entries set c.self.invariant.1.fresh c.words_are_unique.ensures c.in_ok-pairs-in-None.ensures c.classes_among-in-None.ensures.ordered (own_keys set))
       ∙ grouped_rows (rows_of s (words_in b.traces.entries))
       ∙ ap (λ (k : Kept). classes_of (rows_of (setting_of k) k.words)) c.self.view_is)
     c.classes_among-in-None.ensures.classes
