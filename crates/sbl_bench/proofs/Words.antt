@@ -112,7 +112,7 @@ taken_more word es unique = record { absent = absent es unique; others = others 
       where
         by : (b : Bool) → is_key word f.0 ≡ b → find word (remove_entry (is_key word) fs) ≡ None → find word (remove_entry (is_key word) (f ∷ fs)) ≡ None
         by true h rest = rw h (gone f fs h u.0)
-        by false h rest = rw h (rw h rest)
+        by false h rest = ap (λ (b : Bool). find word (cond b fs (f ∷ remove_entry (is_key word) fs))) h ∙ ap (λ (b : Bool). cond b (Some f.1) (find word (remove_entry (is_key word) fs))) h ∙ rest
 
     others : (fs : List KeptWord) (w : Text) → bytes_eq word w.items ≡ false → find w.items fs ≡ find w.items (remove_entry (is_key word) fs)
     others [] w h = refl
