@@ -27,7 +27,7 @@ use Rattle.sbl_bench.specs.Rows.{Row, rows_of}
 use Rattle.sbl_bench.proofs.PairFacts.{then_eq}
 use Rattle.sbl_bench.proofs.OrderFacts.{exact, sorted-sorted, total, words-rows}
 use Rattle.sbl_bench.proofs.Sorting.{mem, mem-inserted, mem-stays, from_mem, one_list}
-use Rattle.sbl_bench.proofs.Words.{key_found, shown, rows_shown}
+use Rattle.sbl_bench.proofs.Words.{is_key, key_found, shown, rows_shown}
 
 abbrev is_in : Pair → List Pair → Bool
 is_in p ps = mem pair_cmp p ps
@@ -154,16 +154,20 @@ row_found script word (e ∷ es) fresh = by (bytes_eq word e.0.items) refl (row_
     by true same rest = rw same (λ i. Some (record { word = sym ((bytes_eq-Decides word e.0.items).0 same) i; outcome = sym fresh.0.outcome i }))
     by false other rest = rw other rest
 
+-- the row of a word with this run
+abbrev row_at : List ℕ → Traced → Row
+row_at word t = record { word = word; outcome = outcome_of t.outcome }
+
 -- the row of a word, by the key that is found for it
-pub row_there : (script : Setting) (word : List ℕ) (es : List KeptWord) (k : Text) (t : Traced) → AreFresh script es → Some k ≡ lookup_key (λ (x : Text). bytes_eq word x.items) es → Some t ≡ find word es
-    → Some (record { word = k.items; outcome = outcome_of t.outcome }) ≡ find_row (λ (r : Row). bytes_eq word r.word) (rows_of script (words_in es))
+pub row_there : (script : Setting) (word : List ℕ) (es : List KeptWord) (k : Text) (t : Traced) → AreFresh script es → Some k ≡ lookup_key (is_key word) es → Some t ≡ find word es
+    → Some (row_at k.items t) ≡ find_row (λ (r : Row). bytes_eq word r.word) (rows_of script (words_in es))
 row_there script word es k t fresh key there =
-    ap (λ (w : List ℕ). Some (record { word = w; outcome = outcome_of t.outcome })) (sym ((bytes_eq-Decides word k.items).0 (key_found word es k (sym key))))
-    ∙ ap (option_map (λ (t : Traced). record { word = word; outcome = outcome_of t.outcome })) there ∙ sym (row_found script word es fresh)
+    let same : word ≡ k.items = (bytes_eq-Decides word k.items).0 (key_found word es k (sym key)) in
+    ap (λ (w : List ℕ). Some (row_at w t)) (sym same) ∙ ap (option_map (row_at word)) there ∙ sym (row_found script word es fresh)
 
 -- a word that is not found has no row
 pub no_row : (script : Setting) (word : List ℕ) (es : List KeptWord) → AreFresh script es → None ≡ find word es → None ≡ find_row (λ (r : Row). bytes_eq word r.word) (rows_of script (words_in es))
-no_row script word es fresh none = ap (option_map (λ (t : Traced). record { word = word; outcome = outcome_of t.outcome })) none ∙ sym (row_found script word es fresh)
+no_row script word es fresh none = ap (option_map (row_at word)) none ∙ sym (row_found script word es fresh)
 
 -- the class of a word by what its entry holds
 pub class_found : (script : Setting) (es : List KeptWord) (word : List ℕ) → AreFresh script es → (o : Option Traced) → o ≡ find word es

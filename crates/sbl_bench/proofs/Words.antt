@@ -88,13 +88,16 @@ put_more es e new = record { absent = not_found e.0.items es new; others = other
 
 -- ---- a word that is taken out
 
+same_some : (x y : Text) → Some x ≡ Some y → x ≡ y
+same_some x y e = cc e
+
 -- the key that is found for a word has its characters
 pub key_found : (word : List ℕ) (fs : List KeptWord) (k : Text) → lookup_key (is_key word) fs ≡ Some k → bytes_eq word k.items ≡ true
 key_found word [] k h = cc h
 key_found word (f ∷ fs) k h = by (is_key word f.0) refl h
   where
     by : (b : Bool) → is_key word f.0 ≡ b → cond b (Some f.0) (lookup_key (is_key word) fs) ≡ Some k → bytes_eq word k.items ≡ true
-    by true e g = let same : f.0 ≡ k = cc g in ap (is_key word) (sym same) ∙ e
+    by true e g = ap (is_key word) (sym (same_some f.0 k g)) ∙ e
     by false e g = key_found word fs k g
 
 -- a word that is taken out was one more

@@ -9,7 +9,7 @@ returns-in-Some c =
     let es = c.args.traces.now.entries in
     let set = c.in-Some.pairs in
     if_ok_weaker c.words_among.result
-    (λ words is s fresh. is ∙ words_kept s es set c.args.stem.now fresh c.words_are_unique.ensures (subst (IsIndexed es) c.in-Some.is c.requires) c.words_among.ensures.ordered (own_keys set))
+    (λ words is s fresh. is ∙ words_kept s es set c.args.stem.now fresh c.words_are_unique.ensures (subst (IsIndexed es) c.in-Some.is c.requires.indexed) c.words_among.ensures.ordered (own_keys set))
     c.words_among.ensures.words
 
 pub returns-in_ok-pairs-in-None : goal.returns-in_ok-pairs-in-None
