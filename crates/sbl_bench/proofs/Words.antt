@@ -94,11 +94,11 @@ same_some x y e = cc e
 -- the key that is found for a word has its characters
 pub key_found : (word : List ℕ) (fs : List KeptWord) (k : Text) → lookup_key (is_key word) fs ≡ Some k → bytes_eq word k.items ≡ true
 key_found word [] k h = cc h
-key_found word (f ∷ fs) k h = by (is_key word f.0) refl h
+key_found word (f ∷ fs) k h = by (is_key word f.0) refl (key_found word fs k) h
   where
-    by : (b : Bool) → is_key word f.0 ≡ b → cond b (Some f.0) (lookup_key (is_key word) fs) ≡ Some k → bytes_eq word k.items ≡ true
-    by true e g = ap (is_key word) (sym (same_some f.0 k g)) ∙ e
-    by false e g = key_found word fs k g
+    by : (b : Bool) → is_key word f.0 ≡ b → (lookup_key (is_key word) fs ≡ Some k → bytes_eq word k.items ≡ true) → cond b (Some f.0) (lookup_key (is_key word) fs) ≡ Some k → bytes_eq word k.items ≡ true
+    by true e rest g = ap (is_key word) (sym (same_some f.0 k g)) ∙ e
+    by false e rest g = rest g
 
 -- a word that is taken out was one more
 pub taken_more : (word : List ℕ) (es : List KeptWord) → IsDistinct (λ (x y : Text). bytes_eq x.items y.items) (keys_of es) → IsOneMore word es (remove_entry (is_key word) es)
