@@ -273,12 +273,7 @@ impl Bench {
             &self.traces,
         )?;
         let last = make_changes(&mut self.traces, changes);
-        self.pairs = follow(
-            self.alloc,
-            self.pairs.take(),
-            &self.traces,
-            last.as_slice(),
-        );
+        self.pairs = follow(self.alloc, self.pairs.take(), &self.traces, last.as_slice());
         self.machine = after;
         self.last = last;
         swap(&mut self.script, script);

@@ -18,10 +18,10 @@ returns-in-Some c =
     let set = c.in-Some.pairs in
     if_ok_weaker c.classes_among.result
     (λ classes is.
-      is
-      ∙ ap (grouped []) (kept_sorted s b.traces.entries set c.self.invariant.1.fresh c.words_are_unique.ensures (subst (IsIndexed b.traces.entries) c.in-Some.is c.self.invariant.2) c.classes_among.ensures.ordered (own_keys set))
-      ∙ grouped_rows (rows_of s (words_in b.traces.entries))
-      ∙ ap (λ (k : Kept). classes_of (rows_of (setting_of k) k.words)) c.self.view_is)
+    is
+    ∙ ap (grouped []) (kept_sorted s b.traces.entries set c.self.invariant.1.fresh c.words_are_unique.ensures (subst (IsIndexed b.traces.entries) c.in-Some.is c.self.invariant.2) c.classes_among.ensures.ordered (own_keys set))
+    ∙ grouped_rows (rows_of s (words_in b.traces.entries))
+    ∙ ap (λ (k : Kept). classes_of (rows_of (setting_of k) k.words)) c.self.view_is)
     c.classes_among.ensures.classes
 
 pub returns-in_ok-pairs-in-None : goal.returns-in_ok-pairs-in-None
@@ -31,8 +31,8 @@ returns-in_ok-pairs-in-None c =
     let set = c.in_ok-pairs-in-None.pairs in
     if_ok_weaker c.classes_among-in-None.result
     (λ classes is.
-      is
-      ∙ ap (grouped []) (kept_sorted s b.traces.entries set c.self.invariant.1.fresh c.words_are_unique.ensures c.in_ok-pairs-in-None.ensures c.classes_among-in-None.ensures.ordered (own_keys set))
-      ∙ grouped_rows (rows_of s (words_in b.traces.entries))
-      ∙ ap (λ (k : Kept). classes_of (rows_of (setting_of k) k.words)) c.self.view_is)
+    is
+    ∙ ap (grouped []) (kept_sorted s b.traces.entries set c.self.invariant.1.fresh c.words_are_unique.ensures c.in_ok-pairs-in-None.ensures c.classes_among-in-None.ensures.ordered (own_keys set))
+    ∙ grouped_rows (rows_of s (words_in b.traces.entries))
+    ∙ ap (λ (k : Kept). classes_of (rows_of (setting_of k) k.words)) c.self.view_is)
     c.classes_among-in-None.ensures.classes

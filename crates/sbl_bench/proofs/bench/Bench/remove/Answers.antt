@@ -32,7 +32,7 @@ invariant_of-self-2 c =
       c.self.invariant.0,
       subst (IsKept (under (source_of c.self.inside.script) c.self.inside.limit)) (sym c.in-Some.ensures.entries) (kept-remove (under (source_of c.self.inside.script) c.self.inside.limit) word es c.self.invariant.1),
       (let taken = key_taken word es c.shift_remove_entry.new.self.entries c.in-Some.key c.in-Some.last c.words_are_unique.ensures c.in-Some.ensures.entries c.in-Some.ensures.key c.in-Some.ensures.value in
-      c.follow_old.ensures es c.shift_remove_entry.new.self.entries taken.0 taken.1 (subst (IsIndexed es) (sym c.take.ensures.value) c.self.invariant.2)),
+          c.follow_old.ensures es c.shift_remove_entry.new.self.entries taken.0 taken.1 (subst (IsIndexed es) (sym c.take.ensures.value) c.self.invariant.2)),
     )
 
 pub returns-clause-edits : goal.returns-clause-edits
