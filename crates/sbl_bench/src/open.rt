@@ -60,6 +60,7 @@ impl Bench {
             traces,
             meter,
             last: Vec::new(alloc),
+            pairs: None,
         })
     }
 }

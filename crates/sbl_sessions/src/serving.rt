@@ -15,7 +15,9 @@ use crate::block_text::read_block;
 use crate::commands::{BlockWord, Command, block_word, command_of, target_of};
 use crate::edits::{add_word, edit_script, remove_word};
 use crate::replies::{BAD_COMMAND, Reply, edit_text, report, write_reply};
-use crate::reports::{class_reply, classes_text, runs_text, script_text, stems_text, trace_reply};
+use crate::reports::{
+    class_reply, classes_text, keep_classes, runs_text, script_text, stems_text, trace_reply,
+};
 use sbl_bench::{Bench, EditFault};
 use sbl_io::{Lines, ServeFault, Sink, Source};
 use std::alloc::Global;
@@ -31,9 +33,15 @@ pub fn answer_line(alloc: Global, bench: &mut Bench, line: &[u8]) -> Reply
         Command::Limit(number) => Reply::Fixed(edit_text(bench.set_limit(number))),
         Command::HasNoNumber => Reply::Fixed(edit_text(Err(EditFault::BadLimit))),
         Command::Stems => report(stems_text(alloc, bench)),
-        Command::Classes => report(classes_text(alloc, bench)),
+        Command::Classes => {
+            keep_classes(bench);
+            report(classes_text(alloc, bench))
+        }
         Command::Script => report(script_text(alloc, bench)),
-        Command::Class(word) => class_reply(alloc, bench, word),
+        Command::Class(word) => {
+            keep_classes(bench);
+            class_reply(alloc, bench, word)
+        }
         Command::Trace(word) => trace_reply(alloc, bench, word),
         Command::Runs => report(runs_text(alloc, bench)),
         Command::Bad => Reply::Fixed(BAD_COMMAND),
