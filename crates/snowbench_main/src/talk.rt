@@ -42,6 +42,7 @@ pub(crate) struct Talk {
     rows: usize,
     line: Vec<u8>,
     command: Vec<u8>,
+    has_block: bool,
     block: Vec<u8>,
     block_row: usize,
     reply: Vec<u8>,
@@ -58,7 +59,7 @@ fn push(kept: &mut Vec<u8>, bytes: &[u8]) -> bool {
 /// Returns the line without its end.
 fn chomped(line: &[u8]) -> &[u8] {
     match line.split_last() {
-        Some((b'\r', front)) => front,
+        Some((b'\r', rest)) => rest,
         _ => line,
     }
 }
@@ -78,6 +79,7 @@ impl Talk {
             rows: 0,
             line: Vec::new(alloc),
             command: Vec::new(alloc),
+            has_block: false,
             block: Vec::new(alloc),
             block_row: 1,
             reply: Vec::new(alloc),
@@ -106,7 +108,7 @@ impl Talk {
     pub(crate) fn script(&self) -> &[u8] {
         let script = self.script.as_slice();
         match script.strip_suffix(PROMPT) {
-            Some(front) => front,
+            Some(text) => text,
             None => script,
         }
     }
@@ -120,10 +122,10 @@ impl Talk {
     pub(crate) fn is_refused(&self) -> bool {
         let reply = self.reply.as_slice();
         self.next == Next::Command
+            && (self.has_block || self.command.as_slice() == b"reload".as_slice())
             && !self.is_lost
             && (reply.starts_with(b"no 48 ") || reply.starts_with(b"no 47 "))
             && reply.contains(&b'\n')
-            && !self.command.is_empty()
     }
 
     /// Returns whether the script in force has to be asked for before the place can be shown.
@@ -140,6 +142,7 @@ impl Talk {
     /// Ends what concerns the last command.
     pub(crate) fn finish(&mut self) {
         self.is_asking = false;
+        self.has_block = false;
         self.reply.clear();
         self.command.clear();
     }
@@ -147,7 +150,7 @@ impl Talk {
     /// Notes bytes of the input, which are in one line.
     pub(crate) fn note_input(&mut self, bytes: &[u8]) {
         let (part, ends) = match bytes.split_last() {
-            Some((b'\n', front)) => (front, true),
+            Some((b'\n', rest)) => (rest, true),
             _ => (bytes, false),
         };
         if !push(&mut self.line, part) {
@@ -194,7 +197,8 @@ impl Talk {
         self.command.clear();
         self.block.clear();
         self.is_lost = !push(&mut self.command, chomped(&self.line));
-        if asks_block(self.alloc, self.lead, &self.command) {
+        self.has_block = asks_block(self.alloc, self.lead, &self.command);
+        if self.has_block {
             self.next = Next::Block;
             self.block_row = self.rows.saturating_add(1);
         }
@@ -214,8 +218,8 @@ impl Talk {
     /// Notes bytes that were written.
     pub(crate) fn note_output(&mut self, bytes: &[u8]) {
         let room = MOST_OF_REPLY.saturating_sub(self.reply.len());
-        let front = bytes.get(..room).unwrap_or(bytes);
-        if !push(&mut self.reply, front) {
+        let first = bytes.get(..room).unwrap_or(bytes);
+        if !push(&mut self.reply, first) {
             self.is_lost = true;
         }
     }

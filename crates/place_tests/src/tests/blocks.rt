@@ -67,6 +67,18 @@ fn a_fault_outside_the_block_is_at_no_offset(rt: HostRuntime) -> Result<(), Fail
             "{before}"
         );
     }
+    // the token right after the block is outside
+    let before = "externals ( stem )\ndefine stem as ( do ";
+    assert_eq!(rt;
+        offset_in_block(
+            rt.alloc(),
+            before.as_bytes(),
+            "true ".as_bytes(),
+            "x )\n".as_bytes(),
+            fault
+        )?,
+        None
+    );
     Ok(())
 }
 
@@ -97,6 +109,37 @@ fn a_text_is_cut_at_a_part(rt: HostRuntime) -> Result<(), Fail> {
             None => None,
         };
         assert_eq!(rt; found, want.map(|part| part.as_bytes()));
+    }
+    Ok(())
+}
+
+#[test]
+fn a_part_ends_before_the_next_item(rt: HostRuntime) -> Result<(), Fail> {
+    for item in [
+        "strings ( t )",
+        "integers ( n )",
+        "booleans ( b )",
+        "routines ( s )",
+        "externals ( e )",
+        "groupings ( w )",
+        "define s as true",
+        "backwardmode ( )",
+        "stringescapes {}",
+        "stringdef m 'x'",
+    ] {
+        let text = format!(in rt.alloc();
+            "define r as ( next or true ) {item} define v 'a' + 'e' {item}"
+        )?;
+        for (part, want) in [
+            (Part::Body("r"), "( next or true )"),
+            (Part::Terms("v"), "'a' + 'e'"),
+        ] {
+            let found = match cut_at_part(rt.alloc(), &text, part)? {
+                Some(cut) => Some(cut.part),
+                None => None,
+            };
+            assert_eq!(rt; found, Some(want.as_bytes()), "{item}");
+        }
     }
     Ok(())
 }

@@ -19,12 +19,13 @@ const AT_TERMINAL: &[u8] = b"> ok\n> undo,stem,do\n> pairs,0,0,0,0\n> 1\n> ";
 /// What is written for them without a terminal.
 const IN_ROWS: &[u8] = b"ok\nundo,stem,do\npairs,0,0,0,0\n1\n";
 
-/// What work wrote, and its status.
+/// What work wrote, its status, and the next line that it left in its input.
 #[derive(Debug, Drop)]
 struct Ended {
     text: Vec<u8>,
     told: Vec<u8>,
     status: u8,
+    rest: Vec<u8>,
 }
 
 /// Works on a file with the script, over this input. The reader fails at read `read` and the writer at write `write`, both
@@ -58,10 +59,15 @@ fn worked(
         &mut errors,
     );
     fs::remove_file(rt, file)?;
+    let mut rest = Vec::new(alloc);
+    if let Ok(true) = lines.next_line() {
+        rest.extend_from_slice(lines.line())?;
+    }
     Ok(Ended {
         text: writer.into_inner().inner,
         told: errors.into_inner().inner,
         status,
+        rest,
     })
 }
 
@@ -71,6 +77,7 @@ fn a_prompt_stands_before_each_line(rt: HostRuntime) -> Result<(), Fail> {
     assert_eq!(rt; ended.text.as_slice(), AT_TERMINAL);
     assert_eq!(rt; ended.told.as_slice(), b"".as_slice());
     assert_eq!(rt; ended.status, 0);
+    assert_eq!(rt; ended.rest.as_slice(), b"stems".as_slice());
     Ok(())
 }
 
@@ -116,6 +123,26 @@ fn the_reader_may_fail(rt: HostRuntime) -> Result<(), Fail> {
     let ended = worked(&rt, "work_tests_reader.sbl", false, INPUT, 20, 0)?;
     assert_eq!(rt; ended.text.as_slice(), b"ok\nundo,stem,do\n".as_slice());
     assert_eq!(rt; ended.status, 1);
+    Ok(())
+}
+
+// A comment has no reply, if it is no longer than a line may be.
+#[test]
+fn a_line_that_is_too_long_has_no_reply(rt: HostRuntime) -> Result<(), Fail> {
+    for (length, text, told, status) in [
+        (65_536, "ok\n1\n", "", 0),
+        (65_537, "ok\n", "snowbench: 72 LineTooLong\n", 1),
+    ] {
+        let mut input = Vec::from_slice(rt.alloc(), b"add undo\n#")?;
+        for _ in 1..length {
+            input.push(b'a')?;
+        }
+        input.extend_from_slice(b"\nruns\n")?;
+        let ended = worked(&rt, "work_tests_long.sbl", false, &input, 0, 0)?;
+        assert_eq!(rt; ended.text.as_slice(), text.as_bytes());
+        assert_eq!(rt; ended.told.as_slice(), told.as_bytes());
+        assert_eq!(rt; ended.status, status);
+    }
     Ok(())
 }
 
