@@ -1,52 +1,50 @@
 //! A list of names, with the number of the first of each name.
 
-ghost use Rattle.std.specs.Prelude.{◌≡◌, ◌++◌, ◌∷◌, [], ℕ, List, Some, None, length, map, if◌then◌else◌, MatchResult, OnOk, OnErr, string_bytes};
-ghost use Rattle.std.specs.BTreeMap.{get_by_text};
-ghost use Rattle.std.specs.Option.{option_or};
-ghost use Rattle.std.specs.Str.{bytes_eq};
+ghost use Rattle.std.specs.Prelude.{◌≡◌, ◌++◌, ◌∷◌, [], length, map, IfOk, MatchResult, string_bytes};
+ghost use Rattle.sbl_compiler.specs.NameList.{texts_of};
 ghost use Rattle.sbl_compiler.specs.NumberedNames as spec;
 
+use sbl_name_map::NameMap;
 use std::alloc::{AllocError, Global};
-use std::collections::BTreeMap;
 use std::marker::Model;
 
 /// Names in their order. The number of a name is found without a search through them.
 #[derive(Drop)]
-pub struct NameList {
-    names: Vec<String>,
+pub struct NameList<'a> {
+    names: Vec<&'a str>,
     // The number of the first of each name.
-    numbers: BTreeMap<String, usize>,
+    numbers: NameMap<'a, usize>,
 }
 
-impl Model for NameList {
-    ghost use Rattle.std.specs.Prelude.{ℕ, List, map, string_bytes};
-    ghost use Rattle.sbl_compiler.specs.NameList.{AreNumbered};
+impl<'a> Model for NameList<'a> {
+    ghost use Rattle.std.specs.Prelude.{ℕ, List};
+    ghost use Rattle.sbl_compiler.specs.NameList.{AreNumbered, texts_of};
 
     ghost Value = { List (List ℕ) };
 
-    ghost view = { λ s. map string_bytes s.names.items };
+    ghost view = { λ s. texts_of s.names.items };
 
-    ghost invariant = { λ s. AreNumbered (map string_bytes s.names.items) s.numbers };
+    ghost invariant = { λ s. AreNumbered (texts_of s.names.items) s.numbers };
 }
 
-impl NameList {
+impl<'a> NameList<'a> {
     /// Returns an empty list. Does not allocate.
-    pub fn new(alloc: Global) -> NameList
+    pub fn new(alloc: Global) -> NameList<'a>
         ensures { result ≡ [] }
     {
         NameList {
             names: Vec::new(alloc),
-            numbers: BTreeMap::new(alloc),
+            numbers: NameMap::new(alloc),
         }
     }
 
     /// Adds a name at the end. Returns `AllocError` if an allocation fails; then the names are unchanged.
-    pub fn add(&mut self, alloc: Global, name: &str) -> Result<(), AllocError>
+    pub fn add(&mut self, name: &'a str) -> Result<(), AllocError>
         ensures { MatchResult result (λ _. self.new ≡ self.old ++ name.now ∷ []) (λ _. self.new ≡ self.old) }
     {
         let number = self.names.len();
-        self.names.push(String::from_str(alloc, name)?)?;
-        match keep_first(alloc, &mut self.numbers, name, number) {
+        self.names.push(name)?;
+        match self.numbers.keep_first(name, number) {
             Ok(()) => Ok(()),
             Err(refused) => {
                 let _ = self.names.pop();
@@ -67,7 +65,7 @@ impl NameList {
         ensures { result ≡ spec.number_of self.now name.now }
     {
         match self.numbers.get(name) {
-            Some(number) => *number,
+            Some(number) => number,
             None => self.names.len(),
         }
     }
@@ -79,27 +77,22 @@ impl NameList {
         self.number_of(name) < self.len()
     }
 
-    /// Returns the names as a vector.
-    pub fn into_names(self) -> Vec<String>
-        ensures { map string_bytes result.items ≡ self }
+    /// Returns copies of the names. Returns `AllocError` if an allocation fails.
+    pub fn copies(&self, alloc: Global) -> Result<Vec<String>, AllocError>
+        ensures { IfOk result (λ copies. map string_bytes copies.items ≡ self.now) }
     {
-        let NameList { names, .. } = self;
-        names
+        copied_all(alloc, &self.names)
     }
 }
 
-// Stores a number for a name that has none. Returns `AllocError` if an allocation fails; then nothing is changed.
-fn keep_first(
-    alloc: Global,
-    numbers: &mut BTreeMap<String, usize>,
-    name: &str,
-    number: usize,
-) -> Result<(), AllocError>
-    ensures kept { (n : List ℕ) → OnOk result (get_by_text numbers.new n ≡ option_or (get_by_text numbers.old n) (if bytes_eq name.now n then Some number else None)) }
-    ensures same { (n : List ℕ) → OnErr result (get_by_text numbers.new n ≡ get_by_text numbers.old n) }
+// Returns copies of names. Returns `AllocError` if an allocation fails.
+fn copied_all(alloc: Global, names: &[&str]) -> Result<Vec<String>, AllocError>
+    ensures { IfOk result (λ copies. map string_bytes copies.items ≡ texts_of names.now) }
 {
-    if !numbers.contains_key(name) {
-        numbers.insert(String::from_str(alloc, name)?, number)?;
+    let mut copies = Vec::with_capacity(alloc, names.len())?;
+    for name in names {
+        let copy = String::from_str(alloc, name)?;
+        copies.push(copy)?;
     }
-    Ok(())
+    Ok(copies)
 }

@@ -13,58 +13,57 @@ use std::alloc::{AllocError, Global};
 /// The names of a script: variables in the order of their declarations, groupings and routines in the order of their
 /// definitions.
 #[derive(Drop)]
-pub struct Names {
+pub struct Names<'a> {
     /// The string variables.
-    pub strings: NameList,
+    pub strings: NameList<'a>,
     /// The integers.
-    pub integers: NameList,
+    pub integers: NameList<'a>,
     /// The booleans.
-    pub booleans: NameList,
+    pub booleans: NameList<'a>,
     /// The groupings.
-    pub groupings: NameList,
+    pub groupings: NameList<'a>,
     /// The routines.
-    pub routines: NameList,
+    pub routines: NameList<'a>,
 }
 
 // Adds names after the others. Returns `AllocError` if an allocation fails.
-fn add_names(alloc: Global, more: &Vec<String>, names: &mut NameList) -> Result<(), AllocError>
+fn add_names<'a>(more: &'a Vec<String>, names: &mut NameList<'a>) -> Result<(), AllocError>
     ensures { OnOk result (names.new ≡ names.old ++ map string_bytes more.now.items) }
 {
     for name in more {
-        names.add(alloc, name.as_str())?;
+        names.add(name.as_str())?;
     }
     Ok(())
 }
 
-fn declare(
-    alloc: Global,
+fn declare<'a>(
     kind: DeclarationKind,
-    more: &Vec<String>,
-    names: &mut Names,
+    more: &'a Vec<String>,
+    names: &mut Names<'a>,
 ) -> Result<(), AllocError>
     ensures { OnOk result (view_names names.new ≡ spec.declaring kind (map string_bytes more.now.items) (view_names names.old)) }
 {
     match kind {
-        DeclarationKind::Strings => add_names(alloc, more, &mut names.strings),
-        DeclarationKind::Integers => add_names(alloc, more, &mut names.integers),
-        DeclarationKind::Booleans => add_names(alloc, more, &mut names.booleans),
+        DeclarationKind::Strings => add_names(more, &mut names.strings),
+        DeclarationKind::Integers => add_names(more, &mut names.integers),
+        DeclarationKind::Booleans => add_names(more, &mut names.booleans),
         DeclarationKind::Routines | DeclarationKind::Externals | DeclarationKind::Groupings => Ok(
             (),
         ),
     }
 }
 
-fn name_item(alloc: Global, plain: &Plain, names: &mut Names) -> Result<(), AllocError>
+fn name_item<'a>(plain: &'a Plain, names: &mut Names<'a>) -> Result<(), AllocError>
     ensures { OnOk result (view_names names.new ≡ spec.naming (view_plain plain.now) (view_names names.old)) }
 {
     match plain {
-        Plain::Declaration(kind, more) => declare(alloc, *kind, more, names),
-        Plain::Routine { name, body: _ } => names.routines.add(alloc, name.as_str()),
+        Plain::Declaration(kind, more) => declare(*kind, more, names),
+        Plain::Routine { name, body: _ } => names.routines.add(name.as_str()),
         Plain::Grouping {
             name,
             first: _,
             others: _,
-        } => names.groupings.add(alloc, name.as_str()),
+        } => names.groupings.add(name.as_str()),
         Plain::StringEscapes(_, _) => Ok(()),
         Plain::StringDef {
             name: _,
@@ -75,7 +74,7 @@ fn name_item(alloc: Global, plain: &Plain, names: &mut Names) -> Result<(), Allo
 }
 
 /// Returns the names of a script. Returns `AllocError` if an allocation fails.
-pub fn names_of(alloc: Global, items: &[ItemInMode]) -> Result<Names, AllocError>
+pub fn names_of<'a>(alloc: Global, items: &[ItemInMode<'a>]) -> Result<Names<'a>, AllocError>
     ensures { IfOk result (λ names. view_names names ≡ spec.names_behind (map view_in_mode items.now) spec.no_names) }
 {
     let mut names = Names {
@@ -86,7 +85,7 @@ pub fn names_of(alloc: Global, items: &[ItemInMode]) -> Result<Names, AllocError
         routines: NameList::new(alloc),
     };
     for item in items {
-        name_item(alloc, item.plain, &mut names)?;
+        name_item(item.plain, &mut names)?;
     }
     Ok(names)
 }

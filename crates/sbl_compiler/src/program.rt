@@ -121,15 +121,12 @@ pub fn numbered(alloc: Global, items: &[Item], external: &str) -> Result<Made, A
     let names = names_of(alloc, &in_order)?;
     let amongs = amongs_of(alloc, &names, &in_order)?;
     let program = program_by(alloc, &names, &in_order, &amongs, external)?;
-    let Names {
-        routines,
-        groupings,
-        ..
-    } = names;
+    let routines = names.routines.copies(alloc)?;
+    let groupings = names.groupings.copies(alloc)?;
     Ok(Made {
         program,
         amongs,
-        routines: routines.into_names(),
-        groupings: groupings.into_names(),
+        routines,
+        groupings,
     })
 }

@@ -7,7 +7,8 @@ ghost use Rattle.sbl_resolver.specs.OccurrenceView.{view_notice, view_occurrence
 ghost use Rattle.sbl_resolver.specs.Laws.{EachPasses};
 ghost use Rattle.sbl_resolver.specs.Subjects.{subject_of, IsFirstAfter};
 ghost use Rattle.sbl_resolver.specs.Numbered.{first_from, one_more};
-ghost use Rattle.sbl_resolver.specs.Met.{at_name, has_string, HasPlaces, HasMet, Notes, Finds};
+ghost use Rattle.sbl_name_map.specs.NameMap.{at_name};
+ghost use Rattle.sbl_resolver.specs.Met.{has_string, HasPlaces, HasMet, Notes, Finds};
 ghost use Rattle.std.specs.Option.{option_or};
 ghost use Rattle.sbl_ast.specs.View.{view_items};
 ghost use Rattle.std.specs.Str.{bytes_eq};
@@ -16,9 +17,10 @@ use crate::bodies::body_in;
 use crate::noting::occurrences_of;
 use crate::occurrences::{Notice, Occurrence, Site, Use};
 use sbl_ast::{DeclarationKind, Item, Mode, Row};
+use sbl_name_map::NameMap;
 use sbl_text::ScriptFault;
 use std::alloc::{AllocError, Global};
-use std::collections::{BTreeMap, BTreeSet};
+use std::collections::BTreeSet;
 
 fn is_routine(kind: DeclarationKind) -> bool
     ensures { result ≡ spec.is_routine kind }
@@ -180,7 +182,7 @@ fn is_followed(mode: Mode, occurrences: &[Occurrence]) -> bool
 #[derive(Drop)]
 pub struct Met<'a> {
     /// The kind that each name is declared as.
-    pub kinds: BTreeMap<&'a str, DeclarationKind>,
+    pub kinds: NameMap<'a, DeclarationKind>,
     /// The strings of each among, with the number of its item and the number of the among in the item.
     pub strings: BTreeSet<(usize, usize, &'a [char])>,
     /// Whether a `substring` is still without its `among`.
@@ -190,13 +192,13 @@ pub struct Met<'a> {
 fn kind_of(met: &Met, name: &str) -> Option<DeclarationKind>
     ensures { result ≡ at_name met.now.kinds name.now }
 {
-    met.kinds.get(name).copied()
+    met.kinds.get(name)
 }
 
-fn definition_of(sites: &BTreeMap<&str, Site>, name: &str) -> Option<Site>
+fn definition_of(sites: &NameMap<Site>, name: &str) -> Option<Site>
     ensures { result ≡ at_name sites.now name.now }
 {
-    sites.get(name).copied()
+    sites.get(name)
 }
 
 /// Returns the fault of an occurrence, given the occurrences after it, the first definition of each name, and what the
@@ -204,7 +206,7 @@ fn definition_of(sites: &BTreeMap<&str, Site>, name: &str) -> Option<Site>
 fn fault_at<'a>(
     occurrence: &Occurrence<'a>,
     after: &[Occurrence<'a>],
-    sites: &BTreeMap<&'a str, Site>,
+    sites: &NameMap<'a, Site>,
     met: &Met<'a>,
 ) -> Option<ScriptFault>
     ensures { (all before : List PlainOccurrence) → HasPlaces sites.now all → HasMet met.now before → result ≡ spec.fault_at all before (view_occurrence occurrence.now) (view_occurrences after.now) }
@@ -213,7 +215,7 @@ fn fault_at<'a>(
     let item = site.item;
     match occurrence.notice {
         Notice::Declares(_, name) => fault_if(
-            met.kinds.contains_key(name),
+            kind_of(met, name).is_some(),
             ScriptFault::DeclaredTwice { item },
         ),
         Notice::DefinesRoutine(name) => fault_of_definition(
@@ -254,20 +256,6 @@ fn fault_at<'a>(
     }
 }
 
-/// Inserts a value for a name, unless the name has one already. Returns `AllocError` if an allocation fails.
-fn keep_first<'a, T: Copy>(
-    map: &mut BTreeMap<&'a str, T>,
-    name: &'a str,
-    value: T,
-) -> Result<(), AllocError>
-    ensures { OnOk result ((n : List ℕ) → at_name map.new n ≡ option_or (at_name map.old n) (if bytes_eq n name.now then Some value else None)) }
-{
-    if !map.contains_key(name) {
-        map.insert(name, value)?;
-    }
-    Ok(())
-}
-
 /// Inserts a string of an among of an item. Returns `AllocError` if an allocation fails.
 fn keep_string<'a>(
     strings: &mut BTreeSet<(usize, usize, &'a [char])>,
@@ -286,7 +274,7 @@ fn note<'a>(occurrence: &Occurrence<'a>, met: &mut Met<'a>) -> Result<(), AllocE
     ensures { OnOk result (Notes met.old met.new (view_occurrence occurrence.now)) }
 {
     match occurrence.notice {
-        Notice::Declares(kind, name) => keep_first(&mut met.kinds, name, kind)?,
+        Notice::Declares(kind, name) => met.kinds.keep_first(name, kind)?,
         Notice::String(among, text) => keep_string(
             &mut met.strings,
             occurrence.site.item,
@@ -308,16 +296,14 @@ fn note<'a>(occurrence: &Occurrence<'a>, met: &mut Met<'a>) -> Result<(), AllocE
 /// allocation fails.
 fn note_definition<'a>(
     occurrence: &Occurrence<'a>,
-    sites: &mut BTreeMap<&'a str, Site>,
+    sites: &mut NameMap<'a, Site>,
 ) -> Result<(), AllocError>
     ensures { OnOk result ((n : List ℕ) → at_name sites.new n ≡ option_or (at_name sites.old n) (spec.defined_at n (view_occurrence occurrence.now))) }
 {
     match occurrence.notice {
-        Notice::DefinesRoutine(name) | Notice::DefinesGrouping(name) => keep_first(
-            sites,
-            name,
-            occurrence.site,
-        ),
+        Notice::DefinesRoutine(name) | Notice::DefinesGrouping(name) => {
+            sites.keep_first(name, occurrence.site)
+        }
         _ => Ok(()),
     }
 }
@@ -326,10 +312,10 @@ fn note_definition<'a>(
 fn sites_of<'a>(
     alloc: Global,
     occurrences: &[Occurrence<'a>],
-) -> Result<BTreeMap<&'a str, Site>, AllocError>
+) -> Result<NameMap<'a, Site>, AllocError>
     ensures { IfOk result (λ sites. HasPlaces sites (view_occurrences occurrences.now)) }
 {
-    let mut sites = BTreeMap::new(alloc);
+    let mut sites = NameMap::new(alloc);
     for occurrence in occurrences {
         note_definition(occurrence, &mut sites)?;
     }
@@ -341,7 +327,7 @@ fn met_nothing<'a>(alloc: Global) -> Met<'a>
     ensures { HasMet result [] }
 {
     Met {
-        kinds: BTreeMap::new(alloc),
+        kinds: NameMap::new(alloc),
         strings: BTreeSet::new(alloc),
         waits: false,
     }
@@ -371,7 +357,7 @@ fn number_after(notice: Notice<'_>, number: usize) -> usize
 /// `AllocError` if an allocation fails.
 fn fault_among<'a>(
     occurrences: &[Occurrence<'a>],
-    sites: &BTreeMap<&'a str, Site>,
+    sites: &NameMap<'a, Site>,
     met: &mut Met<'a>,
 ) -> Result<Option<(usize, ScriptFault)>, AllocError>
     requires sites { HasPlaces sites.now (view_occurrences occurrences.now) }
@@ -394,7 +380,7 @@ fn fault_among<'a>(
 /// Checks all occurrences in order.
 fn check_occurrences<'a>(
     occurrences: &[Occurrence<'a>],
-    sites: &BTreeMap<&'a str, Site>,
+    sites: &NameMap<'a, Site>,
     met: &mut Met<'a>,
 ) -> Result<(), ScriptFault>
     requires sites { HasPlaces sites.now (view_occurrences occurrences.now) }

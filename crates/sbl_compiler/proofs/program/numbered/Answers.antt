@@ -14,7 +14,7 @@ pub returns-clause-routines : goal.returns-clause-routines
 returns-clause-routines c =
     let items = view_items c.args.items.now in
     let ordered : map view_in_mode c.deref.result.now ≡ in_order items = search rules in
-    c.into_names.ensures
+    c.in_ok-routines.ensures
     ∙ ap (λ (ns : Names). ns.routines) c.in_ok-names.ensures
     ∙ ap (λ xs. (names_behind xs no_names).routines) ordered
     ∙ routines_are (in_order items) no_names
@@ -23,7 +23,7 @@ pub returns-clause-groupings : goal.returns-clause-groupings
 returns-clause-groupings c =
     let items = view_items c.args.items.now in
     let ordered : map view_in_mode c.deref.result.now ≡ in_order items = search rules in
-    c.into_names-2.ensures
+    c.in_ok-groupings.ensures
     ∙ ap (λ (ns : Names). ns.groupings) c.in_ok-names.ensures
     ∙ ap (λ xs. (names_behind xs no_names).groupings) ordered
     ∙ groupings_are (in_order items) no_names
