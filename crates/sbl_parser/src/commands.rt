@@ -223,11 +223,14 @@ fn groups(
                 rest = after;
             }
             _ => {
+                groups.shrink_to_fit();
+                others.reserve_exact(1)?;
                 others.insert(0, first)?;
                 return Ok(((groups, others), after));
             }
         }
     }
+    groups.shrink_to_fit();
     Ok(((groups, Vec::new(alloc)), rest))
 }
 
@@ -266,6 +269,7 @@ fn rows(
         rows.push(Row { first, others })?;
         rest = after;
     }
+    rows.shrink_to_fit();
     Ok((rows, rest))
 }
 
@@ -287,5 +291,6 @@ pub fn others(
         others.push(Joined { joiner, command })?;
         rest = after;
     }
+    others.shrink_to_fit();
     Ok((others, rest))
 }

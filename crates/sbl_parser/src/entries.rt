@@ -71,5 +71,6 @@ pub fn entries(
         entries.push(entry)?;
         rest = after;
     }
+    entries.shrink_to_fit();
     Ok((entries, rest))
 }
