@@ -66,8 +66,8 @@ IsVerb name Check = name ≡ codes "check"
 IsVerb name Work = name ≡ codes "work"
 
 -- the subcommand in these words, and the value of its option
-abbrev pub subcommand_of : List Text → Option (Text × Text)
-subcommand_of words = option_and_then (λ p. option_map (λ name. (p.0, name)) (first_of (codes "external") p.1)) (subcommand_of program words)
+abbrev pub verb_and_external : List Text → Option (Text × Text)
+verb_and_external words = option_and_then (λ p. option_map (λ name. (p.0, name)) (first_of (codes "external") p.1)) (subcommand_of program words)
 
 -- the value of an argument of the subcommand, if it has one
 abbrev pub value_in : Text → List Text → Option Text

@@ -3,7 +3,7 @@ ghost use Rattle.std.specs.Prelude.{◌≡◌, IfOk, None, Some, codes, false, m
 ghost use Rattle.std.specs.String.{string_bytes};
 ghost use Rattle.clap.specs.Walk.{rule_of};
 ghost use Rattle.clap.specs.Words.{Text, app_of, first_value, found_of, new_rule, one_text};
-ghost use Rattle.snowbench.specs.CommandLine.{IsFlag, IsVerb, check_app, flag, flag_in, program, required, run_app, session_app, stem_app, filter_app, value_in, verb_app, subcommand_of, work_app};
+ghost use Rattle.snowbench.specs.CommandLine.{IsFlag, IsVerb, check_app, flag, flag_in, program, required, run_app, session_app, stem_app, filter_app, value_in, verb_app, verb_and_external, work_app};
 
 use clap::error::ErrorKind;
 use clap::{Arg, ArgAction, ArgMatches, Command, Error};
@@ -365,7 +365,7 @@ fn make_program<'a>(alloc: Global) -> Result<Command<'a>, AllocError>
 /// or is given twice. A request for help is also an error, with the help as its text. A failed allocation is an error
 /// of its own kind.
 pub fn read_command_line<'a>(alloc: Global, words: &'a [String]) -> Result<CommandLine, Error>
-    ensures subcommand { IfOk result (λ line. (name : Text) × (subcommand_of (map string_bytes words.now) ≡ Some (name, string_bytes line.external)) × IsVerb name line.verb) }
+    ensures subcommand { IfOk result (λ line. (name : Text) × (verb_and_external (map string_bytes words.now) ≡ Some (name, string_bytes line.external)) × IsVerb name line.verb) }
     ensures script { IfOk result (λ line. option_map string_bytes line.script ≡ value_in (codes "SCRIPT") (map string_bytes words.now)) }
     ensures words { IfOk result (λ line. option_map string_bytes line.words ≡ value_in (codes "WORDS") (map string_bytes words.now)) }
     ensures commands { IfOk result (λ line. option_map string_bytes line.commands ≡ value_in (codes "COMMANDS") (map string_bytes words.now)) }
