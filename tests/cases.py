@@ -56,9 +56,10 @@ def cases_of(path):
         if line.startswith(b"== "):
             cases.append(Case(prefix + line[3:]))
             part = None
-        elif not cases or not line or line.startswith(b"#"):
-            if line and not line.startswith(b"#"):
-                sys.exit(f"{path}:{number}: a line before the first case")
+        elif not line or line.startswith(b"#"):
+            continue
+        elif not cases:
+            sys.exit(f"{path}:{number}: a line before the first case")
         elif line.startswith(b"words:"):
             cases[-1].words = line[6:]
         elif line.startswith(b"launcher:"):
