@@ -277,8 +277,8 @@ fn filter_command<'a>(alloc: Global) -> Result<Command<'a>, AllocError>
         .arg(flag_arg(alloc, "places", PLACES_HELP))
 }
 
-/// Returns the definition of `check`: a subcommand with the files SCRIPT, WORDS and STEMS, all of which may be missing,
-/// and the flag `--places`.
+/// Returns the definition of `check`: a subcommand with the flag `--places` and the files SCRIPT, WORDS and STEMS. Each file
+/// may be missing.
 fn check_command<'a>(alloc: Global) -> Result<Command<'a>, AllocError>
     ensures { IfOk result (λ c. app_of c ≡ check_app) }
 {
@@ -355,7 +355,7 @@ fn make_program<'a>(alloc: Global) -> Result<Command<'a>, AllocError>
         .subcommand(work_command(alloc)?)
 }
 
-/// Parses the words of a command line, the first of which is the name of the program: one of the subcommands `run`,
+/// Parses the words of a command line: the name of the program, one of the subcommands `run`,
 /// `session`, `stem`, `filter`, `check` and `work`, the value of its option `--external`, by default `stem`, its files, and its flags.
 /// `clap` does the parsing.
 ///

@@ -22,7 +22,7 @@ enum Next {
     Block,
 }
 
-/// What the lines are of which the input is made.
+/// What the lines of the input are.
 #[derive(Clone, Copy, PartialEq, Eq)]
 pub(crate) enum Lead {
     /// A script, words, and commands. All lines are counted.

@@ -18,7 +18,7 @@ pub(crate) struct Typed<'a> {
     pub(crate) external: &'a str,
     /// Whether the block may begin as the definition does that it is put into.
     pub(crate) takes_heads: bool,
-    /// The name of the input of which the block is a part, and the line in it in which the block begins.
+    /// The name of the input that has the block, and the line of the input in which the block begins.
     pub(crate) source: Option<(&'a str, usize)>,
 }
 

@@ -4,7 +4,7 @@ use snowbench::{Verb, read_command_line};
 use std::alloc::Global;
 use std::test::Fail;
 
-/// Returns the words of a command line, the first of which is the name of the program.
+/// Returns the words of a command line. The first is the name of the program.
 fn line_of(alloc: Global, words: &[&str]) -> Result<Vec<String>, Fail> {
     let mut line = Vec::new(alloc);
     line.push(String::from_str(alloc, "snowbench")?)?;
