@@ -94,7 +94,8 @@ class Blocks:
     def show_case(self, tried, suffix, errors):
         text = lambda block: self.texts.get(block, "")
         show(f"== the {self.kind} of {self.place}{suffix}\n{tried}: {self.kind}\n")
-        if errors or (self.kind == "check" and text("output")):
+        # the place of a refused block is shown, and the session goes on
+        if text("errors") or (self.kind == "check" and text("output")):
             show("status: 1\n")
         show(f"input\n{text(self.kind)}output\n{text('output')}errors\n{errors}")
 

@@ -1,5 +1,5 @@
 #!/usr/bin/env python3
-"""Tries the pairs of tests/turned.d (see tests/turned), which have the form of tests/pairs.d. All are pairs of sbl_checks. The tool copies
+"""Tries the pairs of tests/turned.d (see tests/turned), which have the form of tests/pairs.d. All are pairs of sbl_resolver. The tool copies
 that crate once for each pair, changes the copy, and makes programs without proofs, each with some of the copies. Such a program judges the scripts
 of all cases by the checks as they are and by each of the copies; a pair is seen by a script that is judged otherwise, since a case shows
 the fault of a script, or that it has none.
@@ -16,21 +16,21 @@ from concurrent.futures import ThreadPoolExecutor
 sys.dont_write_bytecode = True
 from pairs import TOP, Cases, read, read_pairs
 
-EQUATIONS = ["crates/sbl_checks/specs/Checks.antt", "crates/sbl_checks/specs/Occurrences.antt", "crates/sbl_script/specs/Edits.antt"]
-BELOW = ["sbl_lexemes", "sbl_text", "sbl_tree", "sbl_grammar", "sbl_lines", "sbl_checks"]
+EQUATIONS = ["crates/sbl_resolver/specs/Checks.antt", "crates/sbl_resolver/specs/Occurrences.antt", "crates/sbl_script/specs/Edits.antt"]
+BELOW = ["sbl_token", "sbl_text", "sbl_ast", "sbl_parser", "sbl_io", "sbl_resolver"]
 PROGRAMS = 6
 HEAD = """//! Judges scripts by the checks, and by changed ones.
 #![tactic(auto)]
 
-use sbl_grammar::{is_left_out, parse};
+use sbl_parser::{is_left_out, parse};
 use sbl_text::{ScriptFault, tokens};
-use sbl_tree::Item;
+use sbl_ast::Item;
 use std::alloc::{AllocError, Global};
 use std::fs;
 use std::io;
 
 fn judge(alloc: Global, items: &[Item], external: &str) -> Result<String, AllocError> {
-    let whole = sbl_checks::check(alloc, items, external);
+    let whole = sbl_resolver::check(alloc, items, external);
     let mut said = String::new(alloc);
 """
 EACH = """    if %s::check(alloc, items, external) == whole {
@@ -137,10 +137,10 @@ def make_program(room, number, pairs):
         copy = "turned_%d" % at
         copies.append(copy)
         for path, old, new in pair.edits:
-            assert path.startswith("crates/sbl_checks/"), path
+            assert path.startswith("crates/sbl_resolver/"), path
         folder = os.path.join(top, "crates", copy)
-        shutil.copytree(os.path.join(TOP, "crates", "sbl_checks"), folder, ignore=shutil.ignore_patterns("out", "wrong-bodies", "must-fail"))
-        mine = os.path.join(top, "crates", "sbl_checks")
+        shutil.copytree(os.path.join(TOP, "crates", "sbl_resolver"), folder, ignore=shutil.ignore_patterns("out", "wrong-bodies", "must-fail"))
+        mine = os.path.join(top, "crates", "sbl_resolver")
         os.rename(mine, mine + ".kept")
         os.rename(folder, mine)
         pair.apply(top)
@@ -152,13 +152,13 @@ def make_program(room, number, pairs):
                     with open(os.path.join(path, name), encoding="utf-8") as file:
                         text = file.read()
                     with open(os.path.join(path, name), "w", encoding="utf-8") as file:
-                        file.write(text.replace("sbl_checks", copy))
-        lines.append("%s: sbl_tree sbl_text\n" % copy)
+                        file.write(text.replace("sbl_resolver", copy))
+        lines.append("%s: sbl_ast sbl_text\n" % copy)
     folder = os.path.join(top, "crates", "turned_main")
     os.makedirs(os.path.join(folder, "src"))
     with open(os.path.join(folder, "src", "main.rt"), "w", encoding="utf-8") as file:
         file.write(HEAD + "".join(EACH % copy for copy in copies) + TAIL)
-    lines.append("turned_main: %s sbl_grammar sbl_checks sbl_text sbl_tree\n" % " ".join(copies))
+    lines.append("turned_main: %s sbl_parser sbl_resolver sbl_text sbl_ast\n" % " ".join(copies))
     with open(os.path.join(top, "crates.txt"), "w", encoding="utf-8") as file:
         file.writelines(lines)
     with open(os.path.join(top, "HANDLES"), "w", encoding="utf-8") as file:

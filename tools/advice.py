@@ -4,8 +4,6 @@ import os
 import re
 import unicodedata
 
-from faults import explain_block, explain_file
-from lexer import Names, is_word, read_tokens
 from near import listed, meant, near
 from plain import named
 
@@ -14,8 +12,7 @@ ONE_LINE = "add remove class trace why events integers limit largest show save e
 BLOCKS = "routine among grouping replace families".split()
 # What `show` does not show, and what does.
 VARIABLES = {"integer": " integers WORD shows its value at the end of a run.", "string": "", "boolean": ""}
-# How a block may begin, as `show` writes a definition.
-HEADS = {"routine": r"^\s*define\s+\w+\s+as\b", "grouping": r"^\s*define\s+\w+"}
+DECLARATIONS = "strings integers booleans routines externals groupings".split()
 
 
 def split(command):
@@ -29,20 +26,20 @@ class Advice:
     def __init__(self, desk):
         self.desk = desk
 
-    def script(self):
-        return "\n".join(self.desk.query(["script"]) or []) + "\n"
+    def names(self):
+        return Names(self.desk.query(["script"]) or [])
 
     def words(self):
         return [row[0] for row in csv.reader(self.desk.query(["stems"]) or []) if row]
 
-    def lines(self, code, name, command):
-        """Returns the lines on a refused command: its code and name, and its lines."""
+    def lines(self, code, command):
+        """Returns the lines on a refused command, beside those of the program: `code` is the number of the refusal."""
         of_code = getattr(self, "lines_%d" % code, None)
         word, argument = split(command[0])
         if of_code:
             return of_code(word, argument, command)
-        if code == 48:
-            return self.lines_on_fault(name, word, argument, command) + ["Nothing changed."]
+        if code in (47, 48):
+            return ["Nothing changed."]
         return [SENTENCES[code].replace("COMMAND", named(word)).replace("THE_WORD", named(argument))] if code in SENTENCES else []
 
     def lines_41(self, word, argument, command):
@@ -50,11 +47,11 @@ class Advice:
         if not argument:
             return ["%s needs a word: %s WORD." % (word, word)]
         others = [other for other in words if folded(other) == folded(argument)][:4] or near(argument, words)
-        question = " Did you mean %s?" % named(listed(others)) if others else ""
+        question = " Did you mean %s?" % listed([in_quotes(other) for other in others]) if others else ""
         if others and unicodedata.normalize("NFC", others[0]) == unicodedata.normalize("NFC", argument):
             question = " It is there in another form of Unicode (NFC and NFD are different words)."
-        add = "" if word == "remove" else ' "add %s" adds it.' % named(argument)
-        return ["%s is not in the vocabulary.%s%s" % (named(argument), question, add)]
+        add = "" if word == "remove" or argument != argument.strip() else ' "add %s" adds it.' % named(argument)
+        return ["%s is not in the vocabulary.%s%s" % (in_quotes(argument), question, add)]
 
     def lines_45(self, word, argument, command):
         return [self.no_name(word, argument, "routine", ("routine", "external"))]
@@ -64,7 +61,7 @@ class Advice:
 
     def no_name(self, word, argument, what, kinds):
         """The sentence for a name that the script does not define."""
-        names = Names(self.script())
+        names = self.names()
         there = names.of(*kinds, "grouping") if word == "show" else names.of(*kinds)
         name, _, rest = argument.partition(" ")
         begin = "%s %s: " % (word, named(name))
@@ -95,14 +92,7 @@ class Advice:
         return "%s has %s, so K is %s (those inside others count, too)." % (name, amount(count), numbers)
 
     def count(self, name):
-        return count_amongs("\n".join(self.desk.query(["show " + name]) or []))
-
-    def lines_47(self, word, argument, command):
-        name, _, k = argument.partition(" ")
-        old = among_in(read_tokens("\n".join(self.desk.query(["show " + name]) or [])), int(k))
-        had = sum(is_word(token, "among") for token in old)
-        has = count_amongs("\n".join(command[1:-1]))
-        return ["The text has %s, and the among that it replaces has %d, those inside it counted. Nothing changed." % (amount(has), had)]
+        return words_of(self.desk.query(["show " + name]) or []).count("among")
 
     def lines_52(self, word, argument, command):
         return [self.bad_command(word, argument, command[0])]
@@ -112,7 +102,7 @@ class Advice:
             return "The line is not UTF-8."
         if word == "among":
             name = argument.partition(" ")[0]
-            known = name in Names(self.script()).of("routine", "external")
+            known = name in self.names().of("routine", "external")
             return "among needs a name and a number: among NAME K, then an among, then a line with a single point." + (
                 " " + self.amongs_of(name) if known else ""
             )
@@ -129,7 +119,7 @@ class Advice:
             return 'Type "%s %s" first, and then this as its text.' % ("routine" if " as " in line else "grouping", named(name))
         if line.lstrip().split(" ")[0] in PLAIN + ONE_LINE + BLOCKS:
             return "A command begins at the beginning of the line."
-        return "%s is no command.%s help lists the commands." % (named(word[:60]), command_meant(word))
+        return "%s is not a command.%s help lists the commands." % (named((word or line.strip())[:60]), command_meant(word) if word else "")
 
     def lines_57(self, word, argument, command):
         if word == "save":
@@ -150,44 +140,12 @@ class Advice:
     def lines_75(self, word, argument, command):
         return ["%s is not UTF-8. If it is Latin-1: iconv -f latin1 -t utf-8 OLD > NEW" % named(argument or "The text")]
 
-    def lines_on_fault(self, name, word, argument, command):
-        """The lines on a fault of a script that an edit would make."""
-        desk, block = self.desk, "".join(line + "\n" for line in command[1:-1])
-        if word == "reload":
-            return explain_file(desk.script, desk.program, desk.external)
-        if word == "replace":
-            return explain_block("replace", name, "", block, "", desk.program, desk.external)
-        before, after = self.around(word, argument)
-        if before is None:
-            return ["docs/LANGUAGE.md says what %s means." % name]
-        wrong = wrong_beginning(word, argument.partition(" ")[0], read_tokens(block))
-        if wrong:
-            return [wrong]
-        if word in HEADS:
-            block = re.sub(HEADS[word], blanked, block)
-        said = explain_block("%s %s" % (word, named(argument)), name, before, block, after, desk.program, desk.external)
-        return said or [WHOLE[word]]
-
-    def around(self, word, argument):
-        """Returns the canonical script before and after what the block of a command replaces."""
-        script, (name, _, k) = self.script(), argument.partition(" ")
-        tokens = read_tokens(script)
-        heads = [at for at, token in enumerate(tokens[:-1]) if is_word(token, "define") and tokens[at + 1].text == name]
-        if not heads:
-            return None, None
-        end = script.find("\n", tokens[heads[0]].start)
-        if word == "among":
-            among = among_in([token for token in tokens[heads[0] :] if token.start < end], int(k))
-            return script[: among[0].start], script[among[-1].end :]
-        first = tokens[heads[0] + (2 if word == "routine" else 1)]
-        return script[: first.end] + "\n", script[end:]
-
     def early(self, line):
         """Returns the lines on the line before a block, if it has a mistake."""
         word, argument = split(line)
         if word == "replace" and argument:
             return ["replace takes nothing after it: the script goes on the lines after it."]
-        names = Names(self.script())
+        names = self.names()
         if word == "routine" and argument not in names.of("routine", "external"):
             return [self.no_name(word, argument, "routine", ("routine", "external"))]
         if word == "grouping" and argument not in names.of("grouping"):
@@ -206,7 +164,8 @@ class Advice:
         """Returns the lines about an accepted command that the author may not have meant."""
         word, argument = split(command[0])
         if word == "add" and argument != argument.strip():
-            return ['The word that was added is "%s", with a blank at its beginning. "remove %s" takes it out.' % (named(argument), named(argument))]
+            at = "beginning" if argument != argument.lstrip() else "end"
+            return ['The word that was added is "%s", with a blank at its %s. "remove %s" takes it out.' % (named(argument), at, named(argument))]
         return []
 
 
@@ -217,19 +176,30 @@ def command_meant(word):
     return meant(word, commands) or (" Did you mean %s?" % listed(longer) if 0 < len(longer) < 4 else "")
 
 
-def blanked(match):
-    """Returns as many blanks as the match has characters, so that places stay the same."""
-    return re.sub(r"[^\n]", " ", match.group())
+def words_of(lines):
+    """Returns the tokens of canonical lines, which have a blank between any two. Of a literal only the quotes remain."""
+    return re.sub(r"'[^']*'", "''", "\n".join(lines)).split()
 
 
-def wrong_beginning(word, name, tokens):
-    """Returns the sentence on a text that begins as something else than the text of a routine, an among or a grouping."""
-    if word == "among":
-        return WHOLE[word] if tokens and not is_word(tokens[0], "among") else None
-    if len(tokens) < 2 or not is_word(tokens[0], "define") or tokens[1].text == name:
-        return None
-    other = named(tokens[1].text)
-    return "The text begins with the definition of %s, and %s %s replaces that of %s." % (other, word, name, name)
+class Names:
+    """What a script declares and defines, by its canonical lines."""
+
+    def __init__(self, lines):
+        self.kinds, self.defined = {}, []
+        for words in map(str.split, lines):
+            if words[0] in DECLARATIONS:
+                self.kinds.update((name, words[0][:-1]) for name in words[2:-1] if name not in self.kinds)
+            elif words[0] == "define" and words[1] not in self.defined:
+                self.defined.append(words[1])
+
+    def of(self, *kinds):
+        """Returns the defined names of these kinds, in the order of their definitions."""
+        return [name for name in self.defined if self.kinds.get(name) in kinds]
+
+
+def in_quotes(word):
+    """Returns the word as a terminal shows it, in quotes if a blank is at its beginning or end."""
+    return '"%s"' % named(word) if word != word.strip() else named(word)
 
 
 def folded(word):
@@ -238,21 +208,6 @@ def folded(word):
 
 def amount(count):
     return "1 among" if count == 1 else "%d amongs" % count if count else "no among"
-
-
-def count_amongs(text):
-    return sum(is_word(token, "among") for token in read_tokens(text))
-
-
-def among_in(tokens, k):
-    """Returns the tokens of the K-th among: the word, and all up to the parenthesis that closes it."""
-    begin = [at for at, token in enumerate(tokens) if is_word(token, "among")][k - 1]
-    depth = 0
-    for end in range(begin + 1, len(tokens)):
-        depth += (tokens[end].text == "(") - (tokens[end].text == ")")
-        if depth == 0:
-            return tokens[begin : end + 1]
-    return tokens[begin:]
 
 
 def why_unreadable(path):
@@ -264,12 +219,6 @@ def why_unreadable(path):
         return why.strerror
 
 
-# What the text of a block is.
-WHOLE = {
-    "among": "The text of among is a whole among ( .. ), and nothing else.",
-    "routine": "The text of routine is one command: put several into parentheses.",
-    "grouping": "The text of grouping is what follows the name in its definition, such as v + 'y'.",
-}
 SENTENCES = {
     40: "THE_WORD is in the vocabulary already.",
     42: "COMMAND needs a word: COMMAND WORD.",
@@ -279,6 +228,6 @@ SENTENCES = {
     50: "The count of runs is at its end. Start again.",
     51: "A limit is a number from 1 to 10000000, such as limit 1000.",
     54: "There is no edit to undo.",
-    55: "There is no edit to make again.",
+    55: "There is no edit to redo.",
     56: "COMMAND needs a number above 0, such as COMMAND 10.",
 }

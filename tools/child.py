@@ -3,6 +3,7 @@ accepts again what it had accepted before.
 """
 import contextlib
 import os
+import re
 import select
 import signal
 import subprocess
@@ -22,7 +23,8 @@ LONG_START = "This takes long. %sIt may be that the script loops."
 
 class Child:
     def __init__(self, program, options, script, words):
-        self.command = [program, "work", "--rows", *options]
+        self.script = script
+        self.command = [program, "work", "--text", *options]
         self.mark = "end of answer %d-%s" % (os.getpid(), os.urandom(8).hex())
         # The bytes of the files at the start, and the accepted commands, each with the bytes that `reload` read.
         self.first = [read(path) for path in (script, words) if path]
@@ -39,6 +41,15 @@ class Child:
         pipe = subprocess.PIPE
         words = [*self.command, *(["--", *names] if names else [])]
         self.process = subprocess.Popen(words, stdin=pipe, stdout=pipe, stderr=pipe, pass_fds=files)
+        os.set_blocking(self.process.stderr.fileno(), False)
+
+    def said(self):
+        """Returns the lines that the program has written to standard error since the last call. It writes them before the mark."""
+        said = (self.process.stderr.read() or b"").decode("utf-8", "surrogateescape")
+        if self.copy is not None:
+            # (a program that was started anew reads the script by another name)
+            said = re.sub(r"^/dev/fd/\d+(?=:\d+:\d+: |: )", lambda name: self.script, said, flags=re.M)
+        return said.splitlines()
 
     def query(self, lines):
         """Sends lines to the program, and returns the lines of its answer, or nothing if it has ended."""

@@ -14,7 +14,6 @@ import sys
 
 from advice import Advice
 from child import Child
-from faults import explain_file
 from files import Files
 from history import EDITS, History, digest, put_aside
 from plain import for_terminal, named
@@ -34,8 +33,7 @@ INTERRUPTED = 130
 class Desk:
     def __init__(self, program, script, words, options):
         self.program, self.script, self.words, self.options = program, script, words, options
-        self.external = [word for at, word in enumerate(options) if word.startswith("--external") or options[at - 1 : at] == ["--external"]]
-        # What was said already; the status at the end if it is not the program's.
+        # The warnings that were given; the status at the end if it is not the program's.
         self.warned, self.status = [], None
         self.files = Files(script, words)
         self.child = Child(program, options, script, words)
@@ -66,7 +64,7 @@ class Desk:
         refusal = REFUSAL.match(answer[0]) if len(answer) == 1 else None
         if refusal:
             write(answer)
-            say(self.advice.lines(int(refusal[1]), refusal[2], lines))
+            say(self.child.said() + self.advice.lines(int(refusal[1]), lines))
             return "refused"
         write(self.lay_out(lines[0], answer))
         say(self.advice.note(lines))
@@ -146,6 +144,8 @@ class Desk:
         edit = self.history.note(command, script)
         if edit:
             write(["%s: %s" % ("undid" if command == "undo" else "redid", edit.command)])
+            if command == "undo" and edit.word == "reload":
+                say(["%s still has what undo took back: Enter reads it again." % named(self.script)])
         if is_reload:
             self.history.note_read(before == self.history.script, self.files.note_read())
             gone = [name for name, lines in typed.items() if self.query(["show " + name if name else "script"]) != lines]
@@ -187,15 +187,12 @@ class Desk:
 
     def end(self):
         """Says why the program has ended."""
-        said = self.child.process.stderr.read().decode("utf-8", "surrogateescape")
         self.child.process.wait()
-        for line in said.splitlines():
-            say([line])
-        fault = re.match(r"snowbench: (\d+) \w+", said)
-        if fault and int(fault[1]) < 25:
-            say(explain_file(self.script, self.program, self.external))
-            if looks_swapped(self.script, self.words):
-                say(["%s looks like a script. The script comes first: ./snowbench work SCRIPT WORDS" % named(self.words)])
+        said = self.child.said()
+        say(said)
+        fault = re.match(r"snowbench: (\d+) \w+", said[0]) if said else None
+        if fault and int(fault[1]) < 25 and looks_swapped(self.script, self.words):
+            say(["%s looks like a script. The script comes first: ./snowbench work SCRIPT WORDS" % named(self.words)])
         return "ended"
 
 
@@ -234,7 +231,7 @@ def stems(names):
 
 
 def counted(count, one, many):
-    return "%d %s" % (count, one if count == 1 else many)
+    return "{:,} {}".format(count, one if count == 1 else many)
 
 
 def shown(rows, is_edit, lay_out):
@@ -256,7 +253,8 @@ def lay_out_changes(answer, is_edit=False):
         if kinds[kind]:
             lines += [counted(len(kinds[kind]), "word", "words") + " " + kind] + shown(kinds[kind], is_edit, lambda row: "  " + named(row[0]))
     column = min(24, max([len(row[0]) for row in changed], default=0))
-    lines += [counted(len(changed), "word has", "words have") + " another stem"]
+    kept = all(row[1] == row[3] == "stem" for row in changed)
+    lines += [counted(len(changed), "word has", "words have") + (" another stem" if kept else " another stem or refusal")]
     lines += shown(changed, is_edit, lambda row: "  %-*s  %s -> %s" % (column, named(row[0]), outcome(*row[1:3]), outcome(*row[3:5])))
     counts = tuple(len(kinds[kind]) for kind in ("split", "merged", "renamed"))
     lines += ["classes: %d split, %d merged, %d renamed" % counts] if any(counts) else []

@@ -27,20 +27,3 @@ def for_terminal(text):
 def name_of(character):
     code = ord(character)
     return "<%02X>" % (code - 0xDC00) if 0xDC80 <= code <= 0xDCFF else "<U+%04X>" % code
-
-
-def masked(text):
-    """Returns the text with `?` for each hidden character but the tab, so that carets below it fit."""
-    return "".join("?" if is_hidden(character) and character != "\t" else character for character in text)
-
-
-def width(character):
-    """Returns how many columns of a terminal a character takes."""
-    if unicodedata.combining(character):
-        return 0
-    return 2 if unicodedata.east_asian_width(character) in "WF" else 1
-
-
-def below(text, mark=" "):
-    """Returns as many blanks, or marks, as put a caret below what comes after the text; tabs stay tabs."""
-    return "".join("\t" if character == "\t" and mark == " " else mark * width(character) for character in text)

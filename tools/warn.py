@@ -12,7 +12,7 @@ from plain import named
 
 # The script reads only regular files that are not larger.
 LARGEST = 1 << 26
-BOM, GZIP = b"\xef\xbb\xbf", b"\x1f\x8b"
+BOM, GZIP, UTF16 = b"\xef\xbb\xbf", b"\x1f\x8b", (b"\xff\xfe", b"\xfe\xff")
 
 
 def read(path):
@@ -92,6 +92,12 @@ def warnings_on(script, words=""):
             continue
         if data.startswith(GZIP):
             said.append(named(path) + ": compressed by gzip. To unpack it: gzip -d < " + named(path) + " > NEW")
+            continue
+        if data.startswith(UTF16):
+            said.append(named(path) + ": UTF-16. To make it UTF-8: iconv -f utf-16 -t utf-8 " + named(path) + " > NEW")
+            continue
+        if b"\r" in data[:-1] and b"\n" not in data:
+            said.append(named(path) + ": no line feed, so all of it is one line. To make each carriage return one: tr '\\r' '\\n' < " + named(path) + " > NEW")
             continue
         lines = [line[:-1] if line.endswith("\r") else line for line in data.decode("utf-8", "surrogateescape").split("\n")]
         if data.endswith(b"\n") or not data:

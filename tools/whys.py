@@ -4,26 +4,33 @@ import csv
 from plain import named
 
 
+class Call:
+    """A call of a routine: whether it has searched no among and changed no text so far, and whether it took a string or changed the text."""
+
+    def __init__(self, name):
+        self.name, self.asks_only, self.acts = name, True, False
+
+
 def lay_out_why(answer, word, figures):
-    """Returns a line for each row of `why WORD` that took a string, asked a routine or changed the text, and one for the outcome, with
-    the steps and the values of the integer variables, which are the rows `figures` of `integers WORD`."""
+    """Returns a line for each row of `why WORD` that took a string, asked a routine or changed the text, or with which a routine that did
+    so signalled f, and one for the outcome, with the steps and the values of the integer variables, which are the rows `figures` of `integers WORD`."""
     rows = list(csv.reader(answer))
     text, lines, calls = word, [], []
     for row in rows:
         kind = row[0]
         if kind == "call":
-            calls.append([row[2], True])
+            calls.append(Call(row[2]))
         elif kind == "return":
-            name, asks_only = calls.pop()
-            if asks_only and len(calls) > 1:
-                lines.append((calls[-1][0], "%s is %s" % (name, "true" if row[3] == "t" else "false")))
+            call = calls.pop()
+            if len(calls) > 1 and (call.asks_only or call.acts and row[3] == "f"):
+                lines.append((calls[-1].name, "%s is %s" % (call.name, "true" if row[3] == "t" else "false")))
         elif kind == "taken":
-            calls[-1][1] = False
+            calls[-1].asks_only, calls[-1].acts = False, True
             lines.append((row[2], "among %s takes %s" % (row[3], quoted(row[4]))))
         elif kind in ("search", "none"):
-            calls[-1][1] = False
+            calls[-1].asks_only = False
         elif kind == "put":
-            calls[-1][1] = False
+            calls[-1].asks_only, calls[-1].acts = False, True
             start, end = int(row[3]), int(row[4])
             lines.append((row[2], "%s -> %s   %s -> %s" % (quoted(text[start:end]), quoted(row[5]), named(text), named(row[6]))))
             text = row[6]

@@ -1,8 +1,8 @@
 //! Laws of sbl_amongs (specs/Replaced.antt), written out.
 
 ghost use Rattle.std.specs.Prelude.{◌≡◌, ℕ, Some, None};
-ghost use Rattle.sbl_tree.specs.Tree.{Command, Others, Starter, Groups};
-ghost use Rattle.sbl_tree.specs.Texts.{body, places_in};
+ghost use Rattle.sbl_ast.specs.Tree.{Command, Others, Starter, Groups};
+ghost use Rattle.sbl_ast.specs.Texts.{body, places_in};
 ghost use Rattle.sbl_amongs.specs.Amongs.{Held, amongs_of_body, nth_held, put_in_body};
 ghost use Rattle.sbl_amongs.specs.Replaced.{IsBetween};
 

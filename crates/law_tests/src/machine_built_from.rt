@@ -1,6 +1,6 @@
 //! Laws of sbl_machine (specs/BuiltFrom.antt), written out.
 
-ghost use Rattle.sbl_checks.specs.Checks.{WellDeclared};
+ghost use Rattle.sbl_resolver.specs.Checks.{WellDeclared};
 ghost use Rattle.sbl_machine.specs.Touched.{Item'};
 ghost use Rattle.sbl_script.specs.Parsed.{Source};
 ghost use Rattle.sbl_machine.specs.BuiltFrom.{IsClosed, affected};

@@ -1,10 +1,10 @@
 //! Laws of sbl_machine (specs/Groupings.antt), written out.
 
 ghost use Rattle.std.specs.Prelude.{◌≡◌, ◌↔◌, ℕ, true, List, ◌∷◌};
-ghost use Rattle.sbl_tree.specs.declared.tree.Additive.TheVariants.{Plus};
-ghost use Rattle.sbl_tree.specs.Tree.{Argument, Term, term};
-ghost use Rattle.sbl_numbering.specs.Items.{class_of, term_has, terms_have};
-ghost use Rattle.sbl_checks.specs.Checks.{WellDeclared};
+ghost use Rattle.sbl_ast.specs.declared.tree.Additive.TheVariants.{Plus};
+ghost use Rattle.sbl_ast.specs.Tree.{Argument, Term, term};
+ghost use Rattle.sbl_compiler.specs.Items.{class_of, term_has, terms_have};
+ghost use Rattle.sbl_resolver.specs.Checks.{WellDeclared};
 ghost use Rattle.sbl_script.specs.Parsed.{Source};
 ghost use Rattle.sbl_machine.specs.Groupings.{groupings_of, Defines, IsOfTerms};
 

@@ -2,9 +2,9 @@
 
 ghost use Rattle.std.specs.Prelude.{◌↔◌, ℕ, List};
 ghost use Rattle.std.specs.List.{AllByRecursion};
-ghost use Rattle.sbl_tables.specs.Fitting.{fitting};
-ghost use Rattle.sbl_tables.specs.Laws.{AllDiffer, Matches, StandsIn};
-ghost use Rattle.sbl_checks.specs.Checks.{WellDeclared};
+ghost use Rattle.sbl_among_search.specs.Fitting.{fitting};
+ghost use Rattle.sbl_among_search.specs.Laws.{AllDiffer, Matches, StandsIn};
+ghost use Rattle.sbl_resolver.specs.Checks.{WellDeclared};
 ghost use Rattle.sbl_script.specs.Parsed.{Source};
 ghost use Rattle.sbl_machine.specs.Searches.{amongs_of, strings_read};
 

@@ -2,7 +2,7 @@
 
 ghost use Rattle.std.specs.Prelude.{◌≡◌, ℕ, List};
 ghost use Rattle.sbl_machine.specs.Meaning.{ending};
-ghost use Rattle.sbl_run.specs.Start.{ending_of};
+ghost use Rattle.sbl_interpreter.specs.Start.{ending_of};
 ghost use Rattle.sbl_machine.specs.Numbered.{numbered_script};
 ghost use Rattle.sbl_script.specs.Parsed.{Source};
 

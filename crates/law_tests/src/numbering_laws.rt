@@ -1,17 +1,17 @@
-//! Laws of sbl_numbering (specs/Laws.antt), written out.
+//! Laws of sbl_compiler (specs/Laws.antt), written out.
 
 ghost use Rattle.std.specs.Prelude.{◌≡◌, ℕ, false, List, []};
-ghost use Rattle.sbl_numbering.specs.Ahead.{routines_in};
-ghost use Rattle.sbl_numbering.specs.Items.{body_named, class_of, classes_behind};
-ghost use Rattle.sbl_numbering.specs.Numbered.{numbered_items, routines_behind};
-ghost use Rattle.sbl_numbering.specs.NumberedAmongs.{found_behind};
-ghost use Rattle.sbl_numbering.specs.NumberedNames.{Names, number_of};
-ghost use Rattle.sbl_program.specs.Terms.{class_at};
-ghost use Rattle.sbl_tree.specs.Order.{ItemInMode, in_order};
-ghost use Rattle.sbl_tree.specs.Tree.{Item};
-ghost use Rattle.sbl_numbering.specs.Laws.{names_in, routine_at};
+ghost use Rattle.sbl_compiler.specs.Ahead.{routines_in};
+ghost use Rattle.sbl_compiler.specs.Items.{body_named, class_of, classes_behind};
+ghost use Rattle.sbl_compiler.specs.Numbered.{numbered_items, routines_behind};
+ghost use Rattle.sbl_compiler.specs.NumberedAmongs.{found_behind};
+ghost use Rattle.sbl_compiler.specs.NumberedNames.{Names, number_of};
+ghost use Rattle.sbl_char_class.specs.Terms.{class_at};
+ghost use Rattle.sbl_ast.specs.Order.{ItemInMode, in_order};
+ghost use Rattle.sbl_ast.specs.Tree.{Item};
+ghost use Rattle.sbl_compiler.specs.Laws.{names_in, routine_at};
 
-use sbl_numbering::laws::{classes_are_their_terms, own_is_made, routine_is_its_own};
+use sbl_compiler::laws::{classes_are_their_terms, own_is_made, routine_is_its_own};
 
 /// Needs the whole of the law `own_is_made`.
 pub fn needs_own_is_made()

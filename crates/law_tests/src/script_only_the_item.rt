@@ -3,11 +3,11 @@
 ghost use Rattle.std.specs.Prelude.{◌≡◌, ℕ, List, Some};
 ghost use Rattle.sbl_text.specs.declared.fault.ScriptFault.{ScriptFault};
 ghost use Rattle.sbl_script.specs.Parsed.{Source};
-ghost use Rattle.sbl_checks.specs.Checks.{WellDeclared};
+ghost use Rattle.sbl_resolver.specs.Checks.{WellDeclared};
 ghost use Rattle.sbl_script.specs.Edits.{ScriptEdit, changes, IsEditFault};
 ghost use Rattle.sbl_script.specs.OnlyTheItem.{item_of, number_of};
 ghost use Rattle.sbl_text.specs.declared.fault.ScriptFault.TheVariants as fault;
-ghost use Rattle.sbl_script.specs.declared.edit_fault.EditFault.TheVariants as edits;
+ghost use Rattle.sbl_script.specs.declared.edit_fault.ScriptEditFault.TheVariants as edits;
 
 use sbl_script::laws::only_the_item;
 

@@ -1,10 +1,10 @@
-//! Laws of sbl_tables (specs/Laws.antt), written out.
+//! Laws of sbl_among_search (specs/Laws.antt), written out.
 
 ghost use Rattle.std.specs.Prelude.{◌≡◌, ℕ, suc, ◌<◌, ◌≤◌, List, ◌∷◌, ◌++◌, length, Option, Some, slice_get};
-ghost use Rattle.sbl_tables.specs.Fitting.{below, fitting, first, length_at};
-ghost use Rattle.sbl_tables.specs.Best.{IsBest};
+ghost use Rattle.sbl_among_search.specs.Fitting.{below, fitting, first, length_at};
+ghost use Rattle.sbl_among_search.specs.Best.{IsBest};
 
-use sbl_tables::laws::{best_comes_first, fitting_fall, rest_is_its_own};
+use sbl_among_search::laws::{best_comes_first, fitting_fall, rest_is_its_own};
 
 /// Needs the whole of the law `best_comes_first`.
 pub fn needs_best_comes_first()

@@ -2,12 +2,12 @@
 
 ghost use Rattle.std.specs.Prelude.{◌≡◌, ◌⊎◌, ℕ, List, [], ◌∷◌, Result, Ok, Err, Option, Some, None};
 ghost use Rattle.sbl_text.specs.declared.fault.ScriptFault.{ScriptFault};
-ghost use Rattle.sbl_lexemes.specs.declared.signs.Sign.{Sign};
-ghost use Rattle.sbl_lexemes.specs.declared.token.Token.{Token};
-ghost use Rattle.sbl_lexemes.specs.declared.words.Word.{Word};
-ghost use Rattle.sbl_lexemes.specs.Signs.{sign_text};
-ghost use Rattle.sbl_lexemes.specs.Words.{word_of, word_text};
-ghost use Rattle.sbl_lexemes.specs.Lexemes.{Lexeme, lexeme_of};
+ghost use Rattle.sbl_token.specs.declared.signs.Sign.{Sign};
+ghost use Rattle.sbl_token.specs.declared.token.Token.{Token};
+ghost use Rattle.sbl_token.specs.declared.words.Word.{Word};
+ghost use Rattle.sbl_token.specs.Signs.{sign_text};
+ghost use Rattle.sbl_token.specs.Words.{word_of, word_text};
+ghost use Rattle.sbl_token.specs.Lexemes.{Lexeme, lexeme_of};
 ghost use Rattle.sbl_text.specs.Tokens.{AreTokensFrom, Reading, IsNext};
 ghost use Rattle.sbl_text.specs.Escapes.{InForce};
 ghost use Rattle.sbl_text.specs.Literals.{IsLiteral};

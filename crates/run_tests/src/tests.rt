@@ -2,6 +2,7 @@
 
 mod amongs;
 mod control;
+mod integers;
 mod runs;
 mod slices;
 mod stems;

@@ -1,13 +1,13 @@
 -- The among with a number, part by part: those of a part come before those behind it.
 use Rattle.std.proofs.Common.{◌≡◌, ℕ, zero, suc, ◌+◌, ◌-◌, Bool, true, false, nat_eq, List, [], ◌∷◌, Some, None, if◌then◌else◌, refl, sym, ap, ◌∙◌, arith}
 use Rattle.std.proofs.lemmas.Bool.{ne_eqb}
-use Rattle.sbl_tree.specs.Tree.{Command, bracket, simple_, literal_, name_, non_, prefixed, counted, move_, named, splice_, setlimit_, assign_, compare_, compare_values_, among_, Rows, no_rows, row, Others, no_others, joined, Starter, no_starter, starter, Groups, bare, group}
-use Rattle.sbl_tree.specs.Terminal as t
-use Rattle.sbl_tree.specs.Counts.{count_amongs, count_in_rows, count_in_others, count_in_starter, count_in_groups}
+use Rattle.sbl_ast.specs.Tree.{Command, bracket, simple_, literal_, name_, non_, prefixed, counted, move_, named, splice_, setlimit_, assign_, compare_, compare_values_, among_, Rows, no_rows, row, Others, no_others, joined, Starter, no_starter, starter, Groups, bare, group}
+use Rattle.sbl_ast.specs.Terminal as t
+use Rattle.sbl_ast.specs.Counts.{count_amongs, count_in_rows, count_in_others, count_in_starter, count_in_groups}
 use Rattle.sbl_amongs.specs.Amongs.{FitsAt, Held, amongs, amongs_of_rows, amongs_of_others, amongs_of_starter, amongs_of_groups, amongs_of_body, nth_held, put_among, put_in_rows, put_in_others, put_in_starter, put_in_groups, put_in_body}
-use Rattle.sbl_tree.specs.Places.{placed, placed_rows, placed_others, placed_starter, placed_groups, placed_entry, placed_entries, placed_expression, AreShallow}
-use Rattle.sbl_tree.specs.Texts.{body, places_in}
-use Rattle.sbl_tree.proofs.Behind.{by_itself, behind_it, with_behind, entry_before, entries_before, expression_before, tree_before, rows_before, others_before, starter_before, groups_before}
+use Rattle.sbl_ast.specs.Places.{placed, placed_rows, placed_others, placed_starter, placed_groups, placed_entry, placed_entries, placed_expression, AreShallow}
+use Rattle.sbl_ast.specs.Texts.{body, places_in}
+use Rattle.sbl_ast.proofs.Behind.{by_itself, behind_it, with_behind, entry_before, entries_before, expression_before, tree_before, rows_before, others_before, starter_before, groups_before}
 
 abbrev Hs : Type 0
 Hs = List Held

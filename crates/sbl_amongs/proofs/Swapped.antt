@@ -1,11 +1,11 @@
 -- Part by part: with another among in the place of one, its tokens are others, and the tokens before it and behind it stay.
 use Rattle.std.proofs.Common.{◌≡◌, ℕ, ◌+◌, ◌-◌, Bool, true, false, nat_eq, List, [], ◌∷◌, Option, Some, None, if◌then◌else◌, refl, sym, ap, subst, ◌∙◌, arith}
-use Rattle.sbl_tree.specs.Tree.{Command, bracket, simple_, literal_, name_, non_, prefixed, counted, move_, named, splice_, setlimit_, assign_, compare_, compare_values_, among_, Rows, no_rows, row, Others, no_others, joined, Starter, no_starter, starter, Groups, bare, group}
-use Rattle.sbl_tree.specs.Terminal as t
-use Rattle.sbl_tree.specs.Counts.{count_amongs, count_in_rows, count_in_others, count_in_starter, count_in_groups}
-use Rattle.sbl_tree.specs.Places.{AtDepth, placed, placed_rows, placed_others, placed_starter, placed_groups, placed_entry, placed_entries, placed_expression}
-use Rattle.sbl_tree.specs.Texts.{body, places_in}
-use Rattle.sbl_tree.proofs.Behind.{IsBefore, entry_before, entries_before, expression_before, tree_before}
+use Rattle.sbl_ast.specs.Tree.{Command, bracket, simple_, literal_, name_, non_, prefixed, counted, move_, named, splice_, setlimit_, assign_, compare_, compare_values_, among_, Rows, no_rows, row, Others, no_others, joined, Starter, no_starter, starter, Groups, bare, group}
+use Rattle.sbl_ast.specs.Terminal as t
+use Rattle.sbl_ast.specs.Counts.{count_amongs, count_in_rows, count_in_others, count_in_starter, count_in_groups}
+use Rattle.sbl_ast.specs.Places.{AtDepth, placed, placed_rows, placed_others, placed_starter, placed_groups, placed_entry, placed_entries, placed_expression}
+use Rattle.sbl_ast.specs.Texts.{body, places_in}
+use Rattle.sbl_ast.proofs.Behind.{IsBefore, entry_before, entries_before, expression_before, tree_before}
 use Rattle.sbl_amongs.specs.Amongs.{Held, amongs, amongs_of_body, amongs_of_rows, amongs_of_others, amongs_of_starter, amongs_of_groups, nth_held, put_among, put_in_body, put_in_rows, put_in_others, put_in_starter, put_in_groups}
 use Rattle.sbl_amongs.specs.Replaced.{IsBetween, is_among, count_words}
 use Rattle.sbl_amongs.proofs.Held.{none_is_first}

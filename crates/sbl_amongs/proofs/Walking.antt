@@ -1,20 +1,20 @@
 -- One step of the walk to an among, and what is shallow there.
 use Rattle.std.proofs.Common.{◌≡◌, ℕ, ◌+◌, ◌-◌, ◌^◌, ◌≤◌, min, Bool, false, nat_eq, List, [], ◌∷◌, map, Option, Some, if◌then◌else◌, sym, ap, subst, ◌∙◌, arith}
 use denote.Ref.{Bor}
-use Rattle.sbl_tree.specs.declared.tree.Count.{Count}
-use Rattle.sbl_tree.specs.declared.tree.Among.{Among}
-use Rattle.sbl_tree.specs.declared.tree.Command.TheViews.{out-Among, out-Row}
-use Rattle.sbl_tree.specs.declared.tree.Command.TheFolds.{fold_out-Among, fold_out-Row}
-use Rattle.sbl_tree.specs.declared.tree.Row.{Row}
+use Rattle.sbl_ast.specs.declared.tree.Count.{Count}
+use Rattle.sbl_ast.specs.declared.tree.Among.{Among}
+use Rattle.sbl_ast.specs.declared.tree.Command.TheViews.{out-Among, out-RowOfCommands}
+use Rattle.sbl_ast.specs.declared.tree.Command.TheFolds.{fold_out-Among, fold_out-RowOfCommands}
+use Rattle.sbl_ast.specs.declared.tree.RowOfCommands.{RowOfCommands as Row}
 use Rattle.sbl_amongs.specs.declared.finding.WalkEnd.{WalkEnd}
 use Rattle.sbl_amongs.specs.declared.finding.WalkEnd.TheVariants as ends
-use Rattle.sbl_tree.specs.Terminal as t
-use Rattle.sbl_tree.specs.Tree.{Command, bracket, counted, setlimit_, among_, Rows, Others, Starter, starter, Groups, Entry, Expression}
+use Rattle.sbl_ast.specs.Terminal as t
+use Rattle.sbl_ast.specs.Tree.{Command, bracket, counted, setlimit_, among_, Rows, Others, Starter, starter, Groups, Entry, Expression}
 use Rattle.sbl_amongs.specs.Amongs.{Held, amongs, amongs_of_rows, amongs_of_others, amongs_of_starter, amongs_of_groups, nth_held}
 use Rattle.sbl_amongs.specs.WalkEnds.{Finds}
-use Rattle.sbl_tree.specs.Places.{AtDepth, placed_expression, placed_entry, placed_entries, placed, placed_rows, placed_others, placed_starter, placed_groups, AreShallow}
-use Rattle.sbl_tree.specs.View.{AmongView, RowView, JoinedView, GroupView, among_step, command_step, group_step, joined_step, row_step, rows_of, others_of, groups_of, view_among, view_command, view_entry, view_groups, view_others, view_row}
-use Rattle.sbl_tree.proofs.Behind.{IsBefore, by_itself, behind_it, with_behind, entry_before, entries_before, expression_before, tree_before, rows_before, others_before, starter_before, groups_before}
+use Rattle.sbl_ast.specs.Places.{AtDepth, placed_expression, placed_entry, placed_entries, placed, placed_rows, placed_others, placed_starter, placed_groups, AreShallow}
+use Rattle.sbl_ast.specs.View.{AmongView, RowView, JoinedView, GroupView, among_step, command_step, group_step, joined_step, row_step, rows_of, others_of, groups_of, view_among, view_command, view_entry, view_groups, view_others, view_row}
+use Rattle.sbl_ast.proofs.Behind.{IsBefore, by_itself, behind_it, with_behind, entry_before, entries_before, expression_before, tree_before, rows_before, others_before, starter_before, groups_before}
 
 abbrev Hs : Type 0
 Hs = List Held
@@ -63,8 +63,8 @@ bare_in (g ∷ gs) es d h =
 pub seen_groups : (a : Among) → (view_among a).1 ≡ view_groups (out-Among a).groups.items (map view_entry (out-Among a).bare.items)
 seen_groups a = ap (λ (x : AmongView). x.1) (fold_out-Among Command AmongView GroupView JoinedView RowView command_step among_step group_step joined_step row_step a)
 
-pub seen_row : (r : Row) → view_row r ≡ (view_command (out-Row r).first, view_others (out-Row r).others.items)
-seen_row r = fold_out-Row Command AmongView GroupView JoinedView RowView command_step among_step group_step joined_step row_step r
+pub seen_row : (r : Row) → view_row r ≡ (view_command (out-RowOfCommands r).first, view_others (out-RowOfCommands r).others.items)
+seen_row r = fold_out-RowOfCommands Command AmongView GroupView JoinedView RowView command_step among_step group_step joined_step row_step r
 
 pub groups_in : (s : Starter) (all : Groups) (gs : List GroupView) (es : List Entry) (d : ℕ) → all ≡ groups_of gs es → AreShallow (placed (among_ s all) d []) → AreShallow (placed_groups (groups_of gs []) d [])
 groups_in s all gs es d is h =

@@ -1,9 +1,9 @@
 -- What replacing an among does to the tokens of a routine's body.
 use Rattle.std.specs.Prelude.{◌≡◌, ℕ, ◌+◌, Bool, true, false, List, [], ◌∷◌, ◌++◌, Some, None, if◌then◌else◌}
-use Rattle.sbl_tree.specs.Terminal.{Terminal, among}
-use Rattle.sbl_tree.specs.Tree.{Command, Others, Starter, Groups, among_}
-use Rattle.sbl_tree.specs.Places.{AtDepth, placed}
-use Rattle.sbl_tree.specs.Texts.{body, places_in}
+use Rattle.sbl_ast.specs.Terminal.{Terminal, among}
+use Rattle.sbl_ast.specs.Tree.{Command, Others, Starter, Groups, among_}
+use Rattle.sbl_ast.specs.Places.{AtDepth, placed}
+use Rattle.sbl_ast.specs.Texts.{body, places_in}
 use Rattle.sbl_amongs.specs.Amongs.{Held, amongs_of_body, nth_held, put_in_body}
 
 abbrev pub is_among : Terminal → Bool

@@ -3,8 +3,8 @@ use Rattle.std.specs.Prelude.{◌≡◌, ℕ, ◌≤◌, List, Some}
 use Rattle.sbl_amongs.specs.declared.finding.WalkEnd.{WalkEnd}
 use Rattle.sbl_amongs.specs.declared.finding.WalkEnd.TheVariants as ends
 use Rattle.sbl_amongs.specs.Amongs.{Held, nth_held}
-use Rattle.sbl_tree.specs.Places.{max_depth}
-use Rattle.sbl_tree.specs.View.{view_among}
+use Rattle.sbl_ast.specs.Places.{max_depth}
+use Rattle.sbl_ast.specs.View.{view_among}
 
 -- the among is in the part, or it has number m among those after the part
 abbrev pub Finds : WalkEnd → ℕ → (List Held → List Held) → Type 0

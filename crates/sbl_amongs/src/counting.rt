@@ -1,11 +1,11 @@
 //! Whether two amongs hold the same number of amongs.
 
 ghost use Rattle.std.specs.Prelude.{◌≡◌, ◌<◌, ◌-◌, List, nat_eq};
-ghost use Rattle.sbl_tree.specs.Counts as spec;
-ghost use Rattle.sbl_tree.specs.Tree as trees;
-ghost use Rattle.sbl_tree.specs.View.{view_among, view_command, view_groups, view_others, view_row, view_rows};
+ghost use Rattle.sbl_ast.specs.Counts as spec;
+ghost use Rattle.sbl_ast.specs.Tree as trees;
+ghost use Rattle.sbl_ast.specs.View.{view_among, view_command, view_groups, view_others, view_row, view_rows};
 
-use sbl_tree::{Among, Command, Group, Joined, Row};
+use sbl_ast::{Among, Command, Group, Joined, RowOfCommands};
 
 /// Returns `number` minus the number of amongs in a command, or 0 if there are more.
 #[cycle(less)]
@@ -59,7 +59,7 @@ fn less_groups(groups: &Vec<Group>, number: u64) -> u64
 }
 
 #[cycle(less)]
-fn less_rows(rows: &Vec<Row>, number: u64) -> u64
+fn less_rows(rows: &Vec<RowOfCommands>, number: u64) -> u64
     ensures { result ≡ number - spec.count_in_rows (view_rows rows.now.items) }
 {
     let mut left = number;
@@ -70,7 +70,7 @@ fn less_rows(rows: &Vec<Row>, number: u64) -> u64
 }
 
 #[cycle(less)]
-fn less_row(row: &Row, number: u64) -> u64
+fn less_row(row: &RowOfCommands, number: u64) -> u64
     ensures { result ≡ number - spec.count_amongs (view_row row.now).0 - spec.count_in_others (view_row row.now).1 }
 {
     less_others(&row.others, less_command(&row.first, number))

@@ -2,15 +2,15 @@
 
 ghost use Rattle.std.specs.Prelude.{◌≡◌, ◌≤◌, ◌<◌, ◌-◌, List, [], MatchOption, None, Some, nat_eq};
 ghost use Rattle.sbl_amongs.specs.Amongs as spec;
-ghost use Rattle.sbl_tree.specs.Counts.{count_amongs, count_in_among, count_in_groups, count_in_others, count_in_rows};
+ghost use Rattle.sbl_ast.specs.Counts.{count_amongs, count_in_among, count_in_groups, count_in_others, count_in_rows};
 ghost use Rattle.sbl_amongs.specs.Amongs.{Held, amongs_of_body, nth_held};
 ghost use Rattle.sbl_amongs.specs.WalkEnds.{Finds};
-ghost use Rattle.sbl_tree.specs.Places.{placed, placed_groups, placed_others, placed_rows, placed_starter, max_depth, AreShallow};
-ghost use Rattle.sbl_tree.specs.Texts.{body, places_in};
-ghost use Rattle.sbl_tree.specs.Tree as trees;
-ghost use Rattle.sbl_tree.specs.View.{view_among, view_command, view_groups, view_others, view_row, view_rows};
+ghost use Rattle.sbl_ast.specs.Places.{placed, placed_groups, placed_others, placed_rows, placed_starter, max_depth, AreShallow};
+ghost use Rattle.sbl_ast.specs.Texts.{body, places_in};
+ghost use Rattle.sbl_ast.specs.Tree as trees;
+ghost use Rattle.sbl_ast.specs.View.{view_among, view_command, view_groups, view_others, view_row, view_rows};
 
-use sbl_tree::{Among, Command, Group, Joined, Row};
+use sbl_ast::{Among, Command, Group, Joined, RowOfCommands};
 
 /// The result of a walk through a part of a tree.
 pub(crate) enum WalkEnd<'a> {
@@ -92,7 +92,7 @@ fn in_groups(groups: &Vec<Group>, depth: u8, number: u64) -> WalkEnd<'_>
 }
 
 #[cycle(find)]
-fn in_rows(rows: &Vec<Row>, depth: u8, number: u64) -> WalkEnd<'_>
+fn in_rows(rows: &Vec<RowOfCommands>, depth: u8, number: u64) -> WalkEnd<'_>
     ensures { AreShallow (placed_rows (view_rows rows.now.items) depth []) → Finds result number (λ rest. spec.amongs_of_rows (view_rows rows.now.items) depth rest) }
 {
     let mut behind = number;
@@ -106,7 +106,7 @@ fn in_rows(rows: &Vec<Row>, depth: u8, number: u64) -> WalkEnd<'_>
 }
 
 #[cycle(find)]
-fn in_row(row: &Row, depth: u8, number: u64) -> WalkEnd<'_>
+fn in_row(row: &RowOfCommands, depth: u8, number: u64) -> WalkEnd<'_>
     ensures { AreShallow (placed (view_row row.now).0 depth (placed_others (view_row row.now).1 depth [])) → Finds result number (λ rest. spec.amongs (view_row row.now).0 depth (spec.amongs_of_others (view_row row.now).1 depth rest)) }
 {
     match in_command(&row.first, depth, number) {
@@ -131,7 +131,7 @@ fn in_others(others: &Vec<Joined>, depth: u8, number: u64) -> WalkEnd<'_>
 
 /// Returns the among with this number, and its depth. Amongs are numbered from 1 in the order of the words `among`.
 /// Returns `None` exactly if no among has this number; so for 0. In the body no token is deeper than 64.
-pub fn nth_among(row: &Row, number: u64) -> Option<(u8, &Among)>
+pub fn nth_among(row: &RowOfCommands, number: u64) -> Option<(u8, &Among)>
     requires { AreShallow (places_in body (view_row row.now)) }
     ensures held { MatchOption result (nth_held number (amongs_of_body (view_row row.now)) ≡ None) (λ x. nth_held number (amongs_of_body (view_row row.now)) ≡ Some (x.0, (view_among x.1.now).0, (view_among x.1.now).1)) }
     ensures depth { MatchOption result (Unit {0}) (λ x. x.0 ≤ max_depth) }

@@ -1,17 +1,17 @@
 //! Copies of trees in which another among replaces one, by its number in the order of the words `among`.
 
 ghost use Rattle.std.specs.Prelude.{◌≡◌, ◌-◌, List, IfOk};
-ghost use Rattle.sbl_tree.specs.Counts.{count_amongs, count_in_among, count_in_groups, count_in_others, count_in_rows};
+ghost use Rattle.sbl_ast.specs.Counts.{count_amongs, count_in_among, count_in_groups, count_in_others, count_in_rows};
 ghost use Rattle.sbl_amongs.specs.Amongs.{FitsAt, amongs_of_body, put_in_among, put_in_body};
 ghost use Rattle.sbl_amongs.specs.Amongs as spec;
-ghost use Rattle.sbl_tree.specs.Places.{AreShallow};
-ghost use Rattle.sbl_tree.specs.Texts.{body, places_in};
-ghost use Rattle.sbl_tree.specs.View.{view_among, view_command, view_groups, view_others, view_row, view_rows};
-ghost use Rattle.sbl_tree.specs.Tree as trees;
+ghost use Rattle.sbl_ast.specs.Places.{AreShallow};
+ghost use Rattle.sbl_ast.specs.Texts.{body, places_in};
+ghost use Rattle.sbl_ast.specs.View.{view_among, view_command, view_groups, view_others, view_row, view_rows};
+ghost use Rattle.sbl_ast.specs.Tree as trees;
 
-use sbl_tree::{
-    Among, Command, Group, Joined, Row, copy_among, copy_command, copy_entries, copy_entry,
-    copy_expression,
+use sbl_ast::{
+    Among, Command, Group, Joined, RowOfCommands, copy_among, copy_command, copy_entries,
+    copy_entry, copy_expression,
 };
 use std::alloc::{AllocError, Global};
 
@@ -134,10 +134,10 @@ fn put_in_groups(
 #[cycle(put_among)]
 fn put_in_rows(
     alloc: Global,
-    rows: &Vec<Row>,
+    rows: &Vec<RowOfCommands>,
     at: u64,
     among: &Among,
-) -> Result<(Vec<Row>, u64), AllocError>
+) -> Result<(Vec<RowOfCommands>, u64), AllocError>
     ensures put { IfOk result (λ x. view_rows x.0.items ≡ spec.put_in_rows (view_rows rows.now.items) at (view_among among.now)) }
     ensures rest { IfOk result (λ x. x.1 ≡ at - count_in_rows (view_rows rows.now.items)) }
 {
@@ -152,13 +152,18 @@ fn put_in_rows(
 }
 
 #[cycle(put_among)]
-fn put_in_row(alloc: Global, row: &Row, at: u64, among: &Among) -> Result<(Row, u64), AllocError>
+fn put_in_row(
+    alloc: Global,
+    row: &RowOfCommands,
+    at: u64,
+    among: &Among,
+) -> Result<(RowOfCommands, u64), AllocError>
     ensures put { IfOk result (λ x. view_row x.0 ≡ put_in_body (view_row row.now) at (view_among among.now)) }
     ensures rest { IfOk result (λ x. x.1 ≡ at - count_amongs (view_row row.now).0 - count_in_others (view_row row.now).1) }
 {
     let (first, rest) = put_in_command(alloc, &row.first, at, among)?;
     let (others, rest) = put_in_others(alloc, &row.others, rest, among)?;
-    Ok((Row { first, others }, rest))
+    Ok((RowOfCommands { first, others }, rest))
 }
 
 #[cycle(put_among)]
@@ -189,7 +194,12 @@ fn put_in_others(
 /// than 64, and none of `among` is in its new place, then none of the copy is.
 ///
 /// Returns `AllocError` if an allocation fails.
-pub fn put_in_place(alloc: Global, row: &Row, at: u64, among: &Among) -> Result<Row, AllocError>
+pub fn put_in_place(
+    alloc: Global,
+    row: &RowOfCommands,
+    at: u64,
+    among: &Among,
+) -> Result<RowOfCommands, AllocError>
     ensures put { IfOk result (λ r. view_row r ≡ put_in_body (view_row row.now) at (view_among among.now)) }
     ensures shallow { IfOk result (λ r. AreShallow (places_in body (view_row row.now)) → FitsAt at (amongs_of_body (view_row row.now)) (view_among among.now) → AreShallow (places_in body (view_row r))) }
 {

@@ -8,7 +8,7 @@ use Rattle.std.specs.declared.cmp.Ordering.TheVariants.{Less}
 use Rattle.std.specs.Ordering.{is_eq, nat_cmp}
 use Rattle.std.specs.List.{find as find_row}
 use Rattle.std.specs.Option.{option_and_then, option_map}
-use Rattle.std.specs.Map.{keys_of}
+use Rattle.std.specs.Map.{keys_of, lookup_key}
 use Rattle.std.specs.BTreeSet.{BTreeSet}
 use Rattle.std.proofs.lemmas.List.Elements.{All-head, All-tail, All-cons, All-map}
 use Rattle.std.proofs.lemmas.Map.Views.{All-insert_key}
@@ -27,7 +27,7 @@ use Rattle.sbl_bench.specs.Rows.{Row, rows_of}
 use Rattle.sbl_bench.proofs.PairFacts.{then_eq}
 use Rattle.sbl_bench.proofs.OrderFacts.{exact, sorted-sorted, total, words-rows}
 use Rattle.sbl_bench.proofs.Sorting.{mem, mem-inserted, mem-stays, from_mem, one_list}
-use Rattle.sbl_bench.proofs.Words.{shown, rows_shown}
+use Rattle.sbl_bench.proofs.Words.{is_key, key_found, shown, rows_shown}
 
 abbrev is_in : Pair → List Pair → Bool
 is_in p ps = mem pair_cmp p ps
@@ -153,6 +153,21 @@ row_found script word (e ∷ es) fresh = by (bytes_eq word e.0.items) refl (row_
         → find_row (λ (r : Row). bytes_eq word r.word) (rows_of script (words_in (e ∷ es))) ≡ option_map (λ t. record { word = word; outcome = outcome_of t.outcome }) (find word (e ∷ es))
     by true same rest = rw same (λ i. Some (record { word = sym ((bytes_eq-Decides word e.0.items).0 same) i; outcome = sym fresh.0.outcome i }))
     by false other rest = rw other rest
+
+-- the row of a word with this run
+abbrev row_at : List ℕ → Traced → Row
+row_at word t = record { word = word; outcome = outcome_of t.outcome }
+
+-- the row of a word, by the key that is found for it
+pub row_there : (script : Setting) (word : List ℕ) (es : List KeptWord) (k : Text) (t : Traced) → AreFresh script es → Some k ≡ lookup_key (is_key word) es → Some t ≡ find word es
+    → Some (row_at k.items t) ≡ find_row (λ (r : Row). bytes_eq word r.word) (rows_of script (words_in es))
+row_there script word es k t fresh key there =
+    let same : word ≡ k.items = (bytes_eq-Decides word k.items).0 (key_found word es k (sym key)) in
+    ap (λ (w : List ℕ). Some (row_at w t)) (sym same) ∙ ap (option_map (row_at word)) there ∙ sym (row_found script word es fresh)
+
+-- a word that is not found has no row
+pub no_row : (script : Setting) (word : List ℕ) (es : List KeptWord) → AreFresh script es → None ≡ find word es → None ≡ find_row (λ (r : Row). bytes_eq word r.word) (rows_of script (words_in es))
+no_row script word es fresh none = ap (option_map (row_at word)) none ∙ sym (row_found script word es fresh)
 
 -- the class of a word by what its entry holds
 pub class_found : (script : Setting) (es : List KeptWord) (word : List ℕ) → AreFresh script es → (o : Option Traced) → o ≡ find word es

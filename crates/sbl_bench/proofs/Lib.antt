@@ -6,6 +6,8 @@ pub mod TouchFacts
 pub mod PairFacts
 pub mod Sorting
 pub mod OrderFacts
+pub mod Following
+pub mod Ranging
 pub mod GroupFacts
 pub mod ClassFacts
 pub mod ClassLaws

@@ -1,18 +1,29 @@
 -- Where a word stands in a map's entries, and what the entries are once one more is put last.
-use Rattle.std.proofs.Common.{◌≡◌, ◌∙◌, ◌<◌, ◌≤◌, ◌++◌, ℕ, Bool, true, false, List, [], ◌∷◌, length, Option, Some, None, Result, Ok, Err, OnOk, OnErr, is_some, All, refl, sym, ap, subst, arith, map}
+use Rattle.std.proofs.Common.{◌≡◌, ◌∙◌, ◌<◌, ◌≤◌, ◌++◌, ℕ, Bool, true, false, List, [], ◌∷◌, length, Option, Some, None, Result, Ok, Err, OnOk, OnErr, is_some, cond, All, refl, sym, ap, subst, arith, map}
 use Rattle.std.proofs.lemmas.List.{length-append}
 use Rattle.std.proofs.lemmas.List.Elements.{All-push, All-head, All-tail, All-cons}
 use Rattle.std.specs.Str.{bytes_eq}
 use Rattle.std.specs.declared.vec.Vec.{Vec}
 use Rattle.std.specs.declared.alloc.Global.{Global}
-use Rattle.std.specs.Map.{lookup, remove_entry}
+use Rattle.std.specs.List.{AllByRecursion, IsDistinct}
+use Rattle.std.specs.Map.{keys_of, lookup, lookup_key, remove_entry}
+use Rattle.std.proofs.lemmas.Slice.Eq.{bytes_eq-Decides}
 use Rattle.sbl_bench.specs.Setting.{Setting}
 use Rattle.sbl_machine.specs.declared.outcome.Traced.{Traced}
 use Rattle.sbl_machine.specs.Outcome.{outcome_of}
 use Rattle.sbl_bench.specs.declared.fault.EditFault.{EditFault}
 use Rattle.sbl_bench.specs.Kept.{KeptWord, words_in, AreFresh, IsFresh, IsWord, IsKept}
+use Rattle.sbl_bench.specs.Pairs.{IsOneMore, Text, find}
 use Rattle.sbl_bench.specs.Rows.{Row, rows_of}
 use Rattle.sbl_bench.specs.Vocabulary.{is_word, without}
+
+bytes_eq-back : (x y : List ℕ) → bytes_eq x y ≡ bytes_eq y x
+bytes_eq-back x y = both (bytes_eq x y) (bytes_eq y x) (λ e. (bytes_eq-Decides y x).1 (sym ((bytes_eq-Decides x y).0 e))) (λ e. (bytes_eq-Decides x y).1 (sym ((bytes_eq-Decides y x).0 e)))
+  where
+    both : (a b : Bool) → (a ≡ true → b ≡ true) → (b ≡ true → a ≡ true) → a ≡ b
+    both true b f g = sym (f refl)
+    both false true f g = g refl
+    both false false f g = refl
 
 abbrev pub is_key : List ℕ → Vec ℕ Global → Bool
 is_key word k = bytes_eq word k.items
@@ -67,7 +78,61 @@ pub kept_either : (script : Setting) (es new : List KeptWord) (r : Result (Unit 
 kept_either script es new (Ok u) kept more same = more
 kept_either script es new (Err f) kept more same = subst (IsKept script) (sym same) kept
 
+-- a word that is put last is one more
+pub put_more : (es : List KeptWord) (e : KeptWord) → is_word e.0.items (words_in es) ≡ false → IsOneMore e.0.items (es ++ e ∷ []) es
+put_more es e new = record { absent = not_found e.0.items es new; others = others es }
+  where
+    others : (fs : List KeptWord) (w : Vec ℕ Global) → bytes_eq e.0.items w.items ≡ false → find w.items (fs ++ e ∷ []) ≡ find w.items fs
+    others [] w h = rw (bytes_eq-back w.items e.0.items ∙ h) refl
+    others (f ∷ fs) w h = ap (cond (bytes_eq w.items f.0.items) (Some f.1)) (others fs w h)
+
 -- ---- a word that is taken out
+
+same_some : (x y : Text) → Some x ≡ Some y → x ≡ y
+same_some x y e = cc e
+
+-- the key that is found for a word has its characters
+pub key_found : (word : List ℕ) (fs : List KeptWord) (k : Text) → lookup_key (is_key word) fs ≡ Some k → bytes_eq word k.items ≡ true
+key_found word [] k h = cc h
+key_found word (f ∷ fs) k h = by (is_key word f.0) refl (key_found word fs k) h
+  where
+    by : (b : Bool) → is_key word f.0 ≡ b → (lookup_key (is_key word) fs ≡ Some k → bytes_eq word k.items ≡ true) → cond b (Some f.0) (lookup_key (is_key word) fs) ≡ Some k → bytes_eq word k.items ≡ true
+    by true e rest g = ap (is_key word) (sym (same_some f.0 k g)) ∙ e
+    by false e rest g = rest g
+
+-- a word that is taken out was one more
+pub taken_more : (word : List ℕ) (es : List KeptWord) → IsDistinct (λ (x y : Text). bytes_eq x.items y.items) (keys_of es) → IsOneMore word es (remove_entry (is_key word) es)
+unfolding IsDistinct
+taken_more word es unique = record { absent = absent es unique; others = others es }
+  where
+    gone : (e : KeptWord) (fs : List KeptWord) → bytes_eq word e.0.items ≡ true → AllByRecursion (λ (y : Text). bytes_eq e.0.items y.items ≡ false) (keys_of fs) → find word fs ≡ None
+    gone e [] h a = refl
+    gone e (f ∷ fs) h a = rw (ap (λ (x : List ℕ). bytes_eq x f.0.items) ((bytes_eq-Decides word e.0.items).0 h) ∙ a.0) (gone e fs h a.1)
+
+    absent : (fs : List KeptWord) → IsDistinct (λ (x y : Text). bytes_eq x.items y.items) (keys_of fs) → find word (remove_entry (is_key word) fs) ≡ None
+    absent [] u = refl
+    absent (f ∷ fs) u = by (is_key word f.0) refl (absent fs u.1)
+      where
+        by : (b : Bool) → is_key word f.0 ≡ b → find word (remove_entry (is_key word) fs) ≡ None → find word (remove_entry (is_key word) (f ∷ fs)) ≡ None
+        by true h rest = rw h (gone f fs h u.0)
+        by false h rest = ap (λ (b : Bool). find word (cond b fs (f ∷ remove_entry (is_key word) fs))) h ∙ ap (λ (b : Bool). cond b (Some f.1) (find word (remove_entry (is_key word) fs))) h ∙ rest
+
+    others : (fs : List KeptWord) (w : Text) → bytes_eq word w.items ≡ false → find w.items fs ≡ find w.items (remove_entry (is_key word) fs)
+    others [] w h = refl
+    others (f ∷ fs) w h = by (is_key word f.0) refl (others fs w h)
+      where
+        by : (b : Bool) → is_key word f.0 ≡ b → find w.items fs ≡ find w.items (remove_entry (is_key word) fs) → find w.items (f ∷ fs) ≡ find w.items (remove_entry (is_key word) (f ∷ fs))
+        by true k rest = rw (k, ap (λ (x : List ℕ). bytes_eq w.items x) (sym ((bytes_eq-Decides word f.0.items).0 k)) ∙ bytes_eq-back w.items word ∙ h) refl
+        by false k rest = rw k (ap (cond (bytes_eq w.items f.0.items) (Some f.1)) rest)
+
+-- its key, and its run
+pub key_taken : (word : List ℕ) (es new : List KeptWord) (k : Text) (t : Traced) → IsDistinct (λ (x y : Text). bytes_eq x.items y.items) (keys_of es) → new ≡ remove_entry (is_key word) es
+    → Some k ≡ lookup_key (is_key word) es → Some t ≡ lookup (is_key word) es → IsOneMore k.items es new × (find k.items es ≡ Some t)
+key_taken word es new k t unique is key there =
+    let same : word ≡ k.items = (bytes_eq-Decides word k.items).0 (key_found word es k (sym key)) in (
+      subst (λ (w : List ℕ). IsOneMore w es new) same (subst (IsOneMore word es) (sym is) (taken_more word es unique)),
+      ap (λ (w : List ℕ). find w es) (sym same) ∙ sym there,
+    )
 
 pub words-remove : (word : List ℕ) (es : List KeptWord) → words_in (remove_entry (is_key word) es) ≡ without word (words_in es)
 words-remove word [] = refl

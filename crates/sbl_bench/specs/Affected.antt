@@ -2,8 +2,8 @@
 use Rattle.std.specs.Prelude.{◌≡◌, ℕ, Bool, true, List, Option, nat_lt}
 use Rattle.std.specs.List.{list_any}
 use Rattle.sbl_machine.specs.Outcome.{touches_of, used_of}
-use Rattle.sbl_run.specs.Touches.{same_touch}
-use Rattle.sbl_run.specs.declared.touch.Touch.{Touch}
+use Rattle.sbl_interpreter.specs.Touches.{same_touch}
+use Rattle.sbl_interpreter.specs.declared.touch.Touch.{Touch}
 use Rattle.sbl_machine.specs.Touched.{Item'}
 use Rattle.sbl_script.specs.Parsed.{Source}
 use Rattle.sbl_bench.specs.Edits.{meets_listed}

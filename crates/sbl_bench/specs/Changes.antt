@@ -7,7 +7,7 @@ use Rattle.sbl_script.specs.Parsed.{Source}
 use Rattle.sbl_machine.specs.Differs.{differs}
 use Rattle.sbl_machine.specs.Touched.{Item', replaced}
 use Rattle.sbl_machine.specs.declared.outcome.Traced.{Traced}
-use Rattle.sbl_run.specs.declared.touch.Touch.{Touch}
+use Rattle.sbl_interpreter.specs.declared.touch.Touch.{Touch}
 use Rattle.sbl_machine.specs.Outcome.{Outcome', outcome_of, run_of, touches_of, used_of}
 use Rattle.sbl_bench.specs.Kept.{KeptWord, IsFresh, words_in}
 use Rattle.sbl_bench.specs.Pairs.{Text, find}

@@ -2,13 +2,13 @@
 use Rattle.std.specs.Prelude.{◌≡◌, ◌≤◌, ◌⊎◌, ◌&&◌, ℕ, ◌+◌, ◌-◌, Bool, true, false, List, [], ◌∷◌, ◌++◌, length, Option, Some, None, Result, Ok, Err, nat_le, nat_lt, if◌then◌else◌}
 use Rattle.std.specs.List.{filter}
 use Rattle.std.specs.Str.{bytes_eq}
-use Rattle.sbl_script.specs.declared.edit_fault.EditFault as declared
-use Rattle.sbl_script.specs.declared.edit_fault.EditFault.TheVariants as script
+use Rattle.sbl_script.specs.declared.edit_fault.ScriptEditFault as declared
+use Rattle.sbl_script.specs.declared.edit_fault.ScriptEditFault.TheVariants as script
 use Rattle.sbl_script.specs.Edits.{ScriptEdit, body, among, terms, IsEdited, IsEditFault}
 use Rattle.sbl_script.specs.Parsed.{Source}
 use Rattle.sbl_script.specs.Reading.{IsScriptOf, IsFaultOf}
 use Rattle.sbl_text.specs.declared.fault.ScriptFault.{ScriptFault}
-use Rattle.sbl_run.specs.Start.{max_word_length}
+use Rattle.sbl_interpreter.specs.Start.{max_word_length}
 use Rattle.sbl_bench.specs.Contents.{Contents, is_full, max_runs}
 use Rattle.sbl_bench.specs.Setting.{Setting}
 use Rattle.sbl_bench.specs.Vocabulary.{is_word, without}
@@ -51,7 +51,7 @@ refusal_of_add s word =
     else (if is_full s.words then Some fault.Full else None))
 
 -- the fault of an edit of a script, as a fault of the bench
-abbrev pub fault_of_script : declared.EditFault → EditFault
+abbrev pub fault_of_script : declared.ScriptEditFault → EditFault
 fault_of_script script.NoRoutine = fault.NoRoutine
 fault_of_script script.NoGrouping = fault.NoGrouping
 fault_of_script script.NoAmong = fault.NoAmong
@@ -71,7 +71,7 @@ is_limit n = nat_le 1 n && nat_le n max_limit
 abbrev pub IsRefused : Contents → Edit → EditFault → Type 0
 IsRefused s (Add word) f = refusal_of_add s word ≡ Some f
 IsRefused s (Remove word) f = (is_word word s.words ≡ false) × (f ≡ fault.Absent)
-IsRefused s (Replace what text) f = (g : declared.EditFault) × IsEditFault s.setting.script what text g × (f ≡ fault_of_script g)
+IsRefused s (Replace what text) f = (g : declared.ScriptEditFault) × IsEditFault s.setting.script what text g × (f ≡ fault_of_script g)
 IsRefused s (Whole bytes) f = (g : ScriptFault) × IsFaultOf bytes s.setting.script.external g × (f ≡ fault.Script g)
 IsRefused s (Install script) f = ⊥
 IsRefused s (Limit n) f = (is_limit n ≡ false) × (f ≡ fault.BadLimit)

@@ -1,12 +1,13 @@
 -- The words that the last edit ran again, each with its run before, next to the words with their runs now.
-use Rattle.std.specs.Prelude.{◌≢◌, ℕ, List, Option, Some, IsSome}
+use Rattle.std.specs.Prelude.{◌≡◌, ◌≢◌, ℕ, false, List, Option, Some, IsSome}
 use Rattle.std.specs.List.{All, AllPairs, filter_map}
 use Rattle.std.specs.Option.{option_and_then}
 use Rattle.sbl_machine.specs.Outcome.{outcome_of, run_of}
 use Rattle.sbl_machine.specs.declared.outcome.Traced.{Traced}
 use Rattle.sbl_bench.specs.ChangedRows.{ChangedRow, if_changed}
 use Rattle.sbl_bench.specs.Kept.{KeptWord}
-use Rattle.sbl_bench.specs.Pairs.{find}
+use Rattle.sbl_bench.specs.Changes.{is_changed}
+use Rattle.sbl_bench.specs.Pairs.{Text, find}
 use Rattle.sbl_bench.specs.Setting.{Setting}
 use Rattle.sbl_bench.specs.declared.change.Change.{Change}
 
@@ -40,3 +41,8 @@ AreApart changes = AllPairs (λ c d. c.word.items ≢ d.word.items) changes
 -- the word of each change is in the vocabulary
 abbrev pub AreThere : List KeptWord → List Change → Type 0
 AreThere entries changes = All (λ c. IsSome (find c.word.items entries)) changes
+
+-- these words, each with its run before, were run again between two lists of words
+pub record Follows (old : List KeptWord) (last : List Change) (new : List KeptWord) : Type 0 where
+  pub before : All (λ c. find c.word.items old ≡ Some c.traced) last
+  pub others : (w : Text) → is_changed last w.items ≡ false → find w.items new ≡ find w.items old

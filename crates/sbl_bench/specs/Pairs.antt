@@ -1,5 +1,5 @@
 -- The set of pairs of a stem and a word that has it, next to the words and their runs.
-use Rattle.std.specs.Prelude.{◌≡◌, ◌&&◌, ℕ, Bool, false, List, Option, Some, None}
+use Rattle.std.specs.Prelude.{◌≡◌, ◌&&◌, ◌⊎◌, ℕ, Bool, true, false, List, Option, Some, None, ⊤}
 use Rattle.std.specs.declared.vec.Vec.{Vec}
 use Rattle.std.specs.declared.alloc.Global.{Global}
 use Rattle.std.specs.declared.cmp.Ordering.{Ordering}
@@ -46,3 +46,19 @@ ArePaired entries set = (q : Key) → has set q ≡ has_stem q.0.items (find q.1
 -- a pair without memory addresses
 abbrev pub plain : Key → List ℕ × List ℕ
 plain k = (k.0.items, k.1.items)
+
+-- the pairs that are kept, if any, are those of the words
+abbrev pub IsIndexed : List KeptWord → Option (BTreeSet Key) → Type 0
+IsIndexed entries None = ⊤
+IsIndexed entries (Some set) = ArePaired entries set
+
+-- the word is not in the vocabulary, and each other word has the same run in both
+pub record IsOneMore (word : List ℕ) (more entries : List KeptWord) : Type 0 where
+  pub absent : find word entries ≡ None
+  pub others : (w : Text) → bytes_eq word w.items ≡ false → find w.items more ≡ find w.items entries
+
+-- A pair of this word is in the second set exactly if it is that of its outcome now, if the first set has the pair of either
+-- outcome. A pair of another word is in both or in none.
+pub record IsFollowed (word : List ℕ) (before now : Outcome') (old new : Key → Bool) (q : Key) : Type 0 where
+  pub others : bytes_eq word q.1.items ≡ false → new q ≡ old q
+  pub own : bytes_eq word q.1.items ≡ true → (old q ≡ is_stem q.0.items before) ⊎ (old q ≡ is_stem q.0.items now) → new q ≡ is_stem q.0.items now

@@ -4,10 +4,11 @@ ghost use Rattle.std.specs.Prelude.{◌≡◌, ◌≤◌, ◌+◌, ◌^◌, ◌�
 
 use crate::change::Change;
 use crate::fault::EditFault;
+use crate::pairs::Pairs;
 use crate::row::Row;
 use crate::traces::Traces;
+use sbl_interpreter::MAX_WORD_LENGTH;
 use sbl_machine::{Item, Machine, Meter, Table, Why};
-use sbl_run::MAX_WORD_LENGTH;
 use sbl_script::Script;
 use std::alloc::{AllocError, Global};
 use std::collections::BTreeSet;
@@ -33,15 +34,18 @@ pub struct Bench {
     pub(crate) meter: Meter,
     // the words that the last edit ran again, each with its run before
     pub(crate) last: Vec<Change>,
+    // the pairs of stems and words, once the classes were asked for
+    pub(crate) pairs: Option<Pairs>,
 }
 
 impl Model for Bench {
     ghost use Rattle.std.specs.Coded.{codes};
-    ghost use Rattle.sbl_tree.specs.contracts.tree.Item as e;
+    ghost use Rattle.sbl_ast.specs.contracts.tree.ScriptItem as e;
     ghost use Rattle.sbl_script.specs.Parsed.{source_of};
     ghost use Rattle.sbl_machine.specs.MachineOf.{IsLinkedMachineOf};
     ghost use Rattle.sbl_bench.specs.Kept.{Kept, words_in, IsKept};
     ghost use Rattle.sbl_bench.specs.Last.{last_changes};
+    ghost use Rattle.sbl_bench.specs.Pairs.{IsIndexed};
     ghost use Rattle.sbl_bench.specs.Setting.{under};
 
     ghost Value = { Kept };
@@ -50,11 +54,13 @@ impl Model for Bench {
 
     ghost view = { λ b. record { script = b.script; limit = b.limit; words = words_in b.traces.entries; count = b.meter; changes = last_changes b.traces.entries b.last.items } };
 
-    ghost invariant = { λ b. IsLinkedMachineOf b.machine (source_of b.script) × IsKept (under (source_of b.script) b.limit) b.traces.entries };
+    ghost invariant = { λ b. IsLinkedMachineOf b.machine (source_of b.script) × IsKept (under (source_of b.script) b.limit) b.traces.entries × IsIndexed b.traces.entries b.pairs };
 }
 
 impl Bench {
+    ghost use Rattle.std.specs.List.{find};
     ghost use Rattle.std.specs.Option.{option_map};
+    ghost use Rattle.std.specs.Str.{bytes_eq};
     ghost use Rattle.sbl_bench.specs.Kept.{setting_of};
     ghost use Rattle.sbl_machine.specs.Touched.{items_in};
     ghost use Rattle.sbl_bench.specs.Rows.{rows_of, view_row};
@@ -86,6 +92,19 @@ impl Bench {
             word: word.as_slice(),
             outcome: last.outcome(),
         })
+    }
+
+    /// Returns the row of a word, found by its hash; `None` exactly if the word is not in the vocabulary. Does not allocate.
+    pub fn row_of(&self, word: &[char]) -> Option<Row<'_>>
+        ensures { option_map view_row result ≡ find (λ row. bytes_eq word.now row.word) (rows_of (setting_of self.now) self.now.words) }
+    {
+        match self.traces.get_key_value(word) {
+            Some((word, last)) => Some(Row {
+                word: word.as_slice(),
+                outcome: last.outcome(),
+            }),
+            None => None,
+        }
     }
 
     /// Returns the rows, in vocabulary order. Returns `AllocError` if an allocation fails.

@@ -10,7 +10,7 @@ ghost use Rattle.sbl_machine.specs.MachineOf.{IsLinkedMachineOf};
 ghost use Rattle.sbl_bench.specs.Changes as spec;
 ghost use Rattle.sbl_bench.specs.Changes.{affected_of, is_changed, reruns, view_change, view_run, AreAnew};
 ghost use Rattle.sbl_bench.specs.Kept.{words_in, AreFresh, IsWord};
-ghost use Rattle.sbl_bench.specs.Last.{change_of, last_changes, word_found, word_run, AreApart, AreThere};
+ghost use Rattle.sbl_bench.specs.Last.{change_of, last_changes, word_found, word_run, AreApart, AreThere, Follows};
 ghost use Rattle.sbl_bench.specs.Pairs.{Text, find};
 ghost use Rattle.sbl_bench.specs.Contents.{max_runs};
 ghost use Rattle.sbl_bench.specs.Setting.{Setting, under};
@@ -156,6 +156,7 @@ pub(crate) fn make_changes(traces: &mut Traces, changes: Vec<Change>) -> Vec<Cha
     requires unique { IsUnique (λ (x y : Text). bytes_eq x.items y.items) traces.old }
     ensures fresh { (t : Setting) → AreAnew t traces.old.entries changes.items → AreFresh t traces.new.entries }
     ensures words { words_in traces.new.entries ≡ words_in traces.old.entries }
+    ensures follows { Follows traces.old.entries result.items traces.new.entries }
     ensures last { (s t : Setting) → AreFresh s traces.old.entries → AreAnew t traces.old.entries changes.items → last_changes traces.new.entries result.items ≡ filter_map (change_of s t) (map (λ c. c.word.items) changes.items) }
 {
     let mut changes = changes;

@@ -77,8 +77,8 @@ fn push_changed<'a>(
     changes.push(row).map_err(|_| AllocError)
 }
 
-// Whether two outcomes are the same stem, or refusals for the same reason.
-fn is_same(one: &Outcome, other: &Outcome) -> bool
+/// Returns whether two outcomes are the same stem, or refusals for the same reason. Does not allocate.
+pub(crate) fn is_same(one: &Outcome, other: &Outcome) -> bool
     ensures { result ≡ spec.same_outcome (outcome_of one.now) (outcome_of other.now) }
 {
     match (one, other) {

@@ -1,18 +1,20 @@
 //! The conflation classes.
 
-ghost use Rattle.std.specs.Prelude.{◌≡◌, ◌++◌, ◌∷◌, [], true, map, OnOk, IfOk, All};
+ghost use Rattle.std.specs.Prelude.{◌≡◌, ◌++◌, ◌∷◌, [], map, OnOk, IfOk};
 ghost use Rattle.std.specs.BTreeSet.{IsOrdered};
 ghost use Rattle.std.specs.Option.{option_map};
-ghost use Rattle.sbl_bench.specs.Classes.{view_class, words_of};
+ghost use Rattle.sbl_bench.specs.Classes.{in_order, view_class, words_of, words_with};
 ghost use Rattle.sbl_bench.specs.Grouping as spec;
-ghost use Rattle.sbl_bench.specs.Pairs.{has, key_cmp, plain};
+ghost use Rattle.sbl_bench.specs.Kept.{AreFresh, words_in};
+ghost use Rattle.sbl_bench.specs.Pairs.{IsIndexed, key_cmp, plain};
+ghost use Rattle.sbl_bench.specs.Rows.{rows_of};
+ghost use Rattle.sbl_bench.specs.Setting.{Setting};
 
 use crate::bench::Bench;
-use crate::pairs::pairs_of;
-use crate::traces::words_are_unique;
+use crate::pairs::{Pairs, pairs_of};
+use crate::traces::{Traces, words_are_unique};
 use sbl_machine::Outcome;
 use std::alloc::{AllocError, Global};
-use std::collections::BTreeSet;
 
 /// A stem and the words that have it, in code point order. A prefix comes first.
 #[derive(Debug, Drop)]
@@ -34,17 +36,25 @@ impl Bench {
         ensures { IfOk result (λ classes. map view_class classes.items ≡ classes_of (rows_of (setting_of self.now) self.now.words)) }
     {
         words_are_unique(&self.traces);
-        let pairs = pairs_of(self.alloc, &self.traces)?;
-        let mut classes = Vec::new(self.alloc);
-        for pair in pairs.iter() {
-            put_last(
-                self.alloc,
-                &mut classes,
-                pair.0.as_slice(),
-                pair.1.as_slice(),
-            )?;
+        match &self.pairs {
+            Some(pairs) => classes_among(self.alloc, pairs),
+            None => {
+                let pairs = pairs_of(self.alloc, &self.traces)?;
+                classes_among(self.alloc, &pairs)
+            }
         }
-        Ok(classes)
+    }
+
+    /// Keeps the classes in order from now on: `classes` then costs its result, `class_of` a look-up and its result, and each edit
+    /// keeps them up to date. The value of the bench stays the same. Returns `AllocError` if an allocation fails; nothing is
+    /// kept then, and the classes can be asked for as before.
+    pub fn keep_classes(&mut self) -> Result<(), AllocError>
+        ensures { self.new ≡ self.old }
+    {
+        if self.pairs.is_none() {
+            self.pairs = Some(pairs_of(self.alloc, &self.traces)?);
+        }
+        Ok(())
     }
 
     /// Returns the class of a word; `None` if the word is not in the vocabulary or its run is refused. Returns `AllocError` if
@@ -58,8 +68,7 @@ impl Bench {
         };
         match last.outcome() {
             Outcome::Stem(stem) => {
-                let pairs = pairs_of(self.alloc, &self.traces)?;
-                let words = words_with(self.alloc, stem.as_slice(), &pairs)?;
+                let words = words_of_stem(self.alloc, stem.as_slice(), &self.pairs, &self.traces)?;
                 let stem = Vec::from_slice(self.alloc, stem.as_slice())?;
                 Ok(Some(Class { stem, words }))
             }
@@ -68,20 +77,54 @@ impl Bench {
     }
 }
 
-/// Returns the words of the pairs that have this stem, in order. Returns `AllocError` if an allocation fails.
-fn words_with(
+/// Returns the classes of pairs, in order. Returns `AllocError` if an allocation fails.
+fn classes_among(alloc: Global, pairs: &Pairs) -> Result<Vec<Class>, AllocError>
+    ensures classes { IfOk result (λ classes. map view_class classes.items ≡ spec.grouped [] (map plain pairs.now.keys)) }
+    ensures ordered { IsOrdered key_cmp pairs.now }
+{
+    let mut classes = Vec::new(alloc);
+    for pair in pairs.iter() {
+        put_last(alloc, &mut classes, pair.0.as_slice(), pair.1.as_slice())?;
+    }
+    Ok(classes)
+}
+
+/// Returns the words with a stem, in order, by the pairs that are kept, or by new ones. Returns `AllocError` if an allocation
+/// fails.
+fn words_of_stem(
     alloc: Global,
     stem: &[char],
-    pairs: &BTreeSet<(Vec<char>, Vec<char>)>,
+    pairs: &Option<Pairs>,
+    traces: &Traces,
 ) -> Result<Vec<Vec<char>>, AllocError>
+    requires indexed { IsIndexed traces.now.entries pairs.now }
+    ensures { IfOk result (λ words. (s : Setting) → AreFresh s traces.now.entries → words_of words.items ≡ in_order (words_with stem.now (rows_of s (words_in traces.now.entries)))) }
+{
+    words_are_unique(traces);
+    match pairs {
+        Some(pairs) => words_among(alloc, stem, pairs),
+        None => {
+            let pairs = pairs_of(alloc, traces)?;
+            words_among(alloc, stem, &pairs)
+        }
+    }
+}
+
+/// Returns the words of the pairs that have this stem, in order. Looks at these pairs alone, and at the one after them. Returns
+/// `AllocError` if an allocation fails.
+fn words_among(alloc: Global, stem: &[char], pairs: &Pairs) -> Result<Vec<Vec<char>>, AllocError>
     ensures words { IfOk result (λ words. words_of words.items ≡ spec.words_paired stem.now (map plain pairs.now.keys)) }
     ensures ordered { IsOrdered key_cmp pairs.now }
-    ensures found { All (λ k. has pairs.now k ≡ true) pairs.now.keys }
 {
+    let _count = pairs.len();
+    let copy = Vec::from_slice(alloc, stem)?;
+    let none = Vec::new(alloc);
     let mut words = Vec::new(alloc);
-    for pair in pairs.iter() {
+    for pair in pairs.range((copy, none)..) {
         if stem == pair.0.as_slice() {
             push_word(&mut words, Vec::from_slice(alloc, pair.1.as_slice())?)?;
+        } else {
+            return Ok(words);
         }
     }
     Ok(words)

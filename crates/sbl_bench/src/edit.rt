@@ -7,12 +7,13 @@ use crate::affected::{Affected, above_smaller, affected_by_exchange, affected_by
 use crate::bench::{Bench, MAX_LIMIT, MAX_WORDS};
 use crate::change::{make_changes, rerun};
 use crate::fault::EditFault;
-use crate::traces::{has_word, put_last};
+use crate::pairs::{follow, follow_new, follow_old};
+use crate::traces::{has_word, put_last, words_are_unique};
+use sbl_interpreter::MAX_WORD_LENGTH;
 use sbl_machine::laws::{
     differing_stay, edits_agree, one_item_alone, untouched_stay, used_steps_suffice,
 };
 use sbl_machine::{Item, Machine};
-use sbl_run::MAX_WORD_LENGTH;
 use sbl_script::Script;
 use sbl_script::laws::is_well_declared;
 use std::mem::swap;
@@ -55,16 +56,17 @@ impl Bench {
             return Err(EditFault::MeterFull);
         }
         let alloc = self.alloc;
-        let word = Vec::from_slice(alloc, word)?;
+        let copy = Vec::from_slice(alloc, word)?;
         put_last(
             alloc,
             &self.machine,
             self.limit,
             &mut self.meter,
             &mut self.traces,
-            word,
+            copy,
         )?;
         self.last = Vec::new(alloc);
+        self.pairs = follow_new(alloc, self.pairs.take(), &self.traces, word);
         Ok(())
     }
 
@@ -74,10 +76,12 @@ impl Bench {
         ensures edits { Edits result (contents_of self.old) (Remove word.now) (contents_of self.new) }
         ensures changes { LeavesChanges result self.old self.new }
     {
-        let Some(_) = self.traces.shift_remove_entry(word) else {
+        words_are_unique(&self.traces);
+        let Some((key, last)) = self.traces.shift_remove_entry(word) else {
             return Err(EditFault::Absent);
         };
         self.last = Vec::new(self.alloc);
+        self.pairs = follow_old(self.pairs.take(), key, last);
         Ok(())
     }
 
@@ -165,7 +169,14 @@ impl Bench {
             &mut self.meter,
             &self.traces,
         )?;
-        self.last = make_changes(&mut self.traces, changes);
+        let before = make_changes(&mut self.traces, changes);
+        self.pairs = follow(
+            self.alloc,
+            self.pairs.take(),
+            &self.traces,
+            before.as_slice(),
+        );
+        self.last = before;
         self.limit = limit;
         Ok(())
     }
@@ -262,6 +273,7 @@ impl Bench {
             &self.traces,
         )?;
         let last = make_changes(&mut self.traces, changes);
+        self.pairs = follow(self.alloc, self.pairs.take(), &self.traces, last.as_slice());
         self.machine = after;
         self.last = last;
         swap(&mut self.script, script);

@@ -60,6 +60,18 @@ impl LastRun {
         &self.outcome
     }
 
+    /// Returns the outcome, and gives the run up. Does not allocate.
+    pub(crate) fn into_outcome(self) -> Outcome
+        ensures { result ≡ self.outcome }
+    {
+        let LastRun {
+            outcome,
+            touches: _touches,
+            used: _,
+        } = self;
+        outcome
+    }
+
     /// Returns the touches, each once, in the order of first touch. Does not allocate.
     pub(crate) fn touches(&self) -> &[Touch]
         ensures { result.now ≡ self.now.touches.items }

@@ -23,5 +23,5 @@ pub use changed_row::ChangedRow;
 pub use class::Class;
 pub use fault::EditFault;
 pub use row::Row;
-pub use sbl_run::MAX_WORD_LENGTH;
+pub use sbl_interpreter::MAX_WORD_LENGTH;
 pub use sbl_script::ScriptFault;

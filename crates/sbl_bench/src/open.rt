@@ -17,8 +17,8 @@ use crate::last_run::{LastRun, SharedLists};
 use crate::traces::{Traces, has_word};
 use indexmap::IndexMap;
 use indexmap::map::{Entry, OccupiedEntry};
+use sbl_interpreter::MAX_WORD_LENGTH;
 use sbl_machine::{DEFAULT_LIMIT, Machine, Meter, Table};
-use sbl_run::MAX_WORD_LENGTH;
 use sbl_script::Script;
 use std::alloc::Global;
 use std::hash::RandomState;
@@ -60,6 +60,7 @@ impl Bench {
             traces,
             meter,
             last: Vec::new(alloc),
+            pairs: None,
         })
     }
 }

@@ -7,7 +7,7 @@ ghost use Rattle.sbl_script.specs.Parsed.{Source};
 ghost use Rattle.sbl_machine.specs.MachineOf.{IsLinkedMachineOf};
 ghost use Rattle.sbl_bench.specs.Vocabulary.{is_word};
 ghost use Rattle.sbl_bench.specs.Kept.{words_in, IsWord, IsKept};
-ghost use Rattle.sbl_bench.specs.Pairs.{Text};
+ghost use Rattle.sbl_bench.specs.Pairs.{IsOneMore, Text};
 ghost use Rattle.sbl_bench.specs.Setting.{under};
 ghost use Rattle.sbl_bench.specs.Stops.{IsStop};
 
@@ -58,6 +58,7 @@ pub(crate) fn put_last(
     requires room { length traces.old.entries < 100000 }
     ensures words { OnOk result (words_in traces.new.entries ≡ words_in traces.old.entries ++ word.items ∷ []) }
     ensures kept { OnOk result ((s : Source) → IsLinkedMachineOf machine.now s → IsKept (under s limit) traces.old.entries → IsKept (under s limit) traces.new.entries) }
+    ensures more { OnOk result (IsOneMore word.items traces.new.entries traces.old.entries) }
     ensures counted { OnOk result (meter.new ≡ meter.old + 1) }
     ensures err { OnErr result (traces.new.entries ≡ traces.old.entries) }
     ensures stop { IfErr result (λ f. IsStop 1 f meter.old meter.new) }

@@ -1,11 +1,11 @@
 //! Counts the amongs of a part of a routine.
 
 ghost use Rattle.std.specs.Prelude.{◌≡◌, ℕ, List, [], IfOk, map};
-ghost use Rattle.sbl_numbering.specs.Regions as regions;
-ghost use Rattle.sbl_tree.specs.Tree as trees;
-ghost use Rattle.sbl_tree.specs.View.{view_among, view_command, view_groups, view_others, view_row, view_rows};
+ghost use Rattle.sbl_compiler.specs.Regions as regions;
+ghost use Rattle.sbl_ast.specs.Tree as trees;
+ghost use Rattle.sbl_ast.specs.View.{view_among, view_command, view_groups, view_others, view_row, view_rows};
 
-use sbl_tree::{Among, Command, Group, Joined, Row};
+use sbl_ast::{Among, Command, Group, Joined, RowOfCommands};
 use std::alloc::AllocError;
 
 /// Returns how many amongs of the routine come before what follows a command, if `k` come before the command. Returns
@@ -62,7 +62,7 @@ fn past_groups(groups: &Vec<Group>, k: u64) -> Result<u64, AllocError>
 }
 
 #[cycle(past)]
-fn past_rows(rows: &Vec<Row>, k: u64) -> Result<u64, AllocError>
+fn past_rows(rows: &Vec<RowOfCommands>, k: u64) -> Result<u64, AllocError>
     ensures { IfOk result (λ n. n ≡ regions.behind_rows (view_rows rows.now.items) k) }
 {
     let mut next = k;

@@ -1,7 +1,7 @@
 //! The items in which two scripts differ.
 
 ghost use Rattle.std.specs.Prelude.{◌≡◌, ◌∷◌, ◌++◌, [], if◌then◌else◌, IfOk, map, string_bytes};
-ghost use Rattle.sbl_tree.specs.View.{view_item, view_plain};
+ghost use Rattle.sbl_ast.specs.View.{view_item, view_plain};
 ghost use Rattle.sbl_machine.specs.Differs as spec;
 ghost use Rattle.sbl_machine.specs.Touched.{Among, Grouping, item_of};
 ghost use Rattle.sbl_diff.specs.ItemsIn.{items_in};
@@ -9,8 +9,8 @@ ghost use Rattle.sbl_diff.specs.Numbers.{numbers_of};
 
 use crate::commands::differ_bodies;
 use crate::same::{same_argument, same_base, same_literal, same_names, same_terms};
+use sbl_ast::{Plain, ScriptItem, copy_name};
 use sbl_machine::Item;
-use sbl_tree::{Item as ItemTree, Plain, copy_name};
 use std::alloc::{AllocError, Global};
 
 /// Returns no item if two items without a body and without terms are the same, and `None` if they differ.
@@ -170,20 +170,20 @@ fn differ_plains(
 
 fn differ_item(
     alloc: Global,
-    one: &ItemTree,
-    other: &ItemTree,
+    one: &ScriptItem,
+    other: &ScriptItem,
 ) -> Result<Option<Vec<Item>>, AllocError>
     ensures { IfOk result (λ r. items_in r ≡ spec.differ_item (view_item one.now) (view_item other.now)) }
 {
     match one {
-        ItemTree::Plain(plain) => {
-            let ItemTree::Plain(other_plain) = other else {
+        ScriptItem::Plain(plain) => {
+            let ScriptItem::Plain(other_plain) = other else {
                 return Ok(None);
             };
             differ_plain(alloc, plain, other_plain)
         }
-        ItemTree::BackwardMode(plains) => {
-            let ItemTree::BackwardMode(other_plains) = other else {
+        ScriptItem::BackwardMode(plains) => {
+            let ScriptItem::BackwardMode(other_plains) = other else {
                 return Ok(None);
             };
             differ_plains(alloc, plains, other_plains)
@@ -196,8 +196,8 @@ fn differ_item(
 #[tactic(auto, using(crate::proofs::Joins::join_nothing, crate::proofs::Joins::join_left))]
 pub(crate) fn differ_items(
     alloc: Global,
-    one: &[ItemTree],
-    other: &[ItemTree],
+    one: &[ScriptItem],
+    other: &[ScriptItem],
 ) -> Result<Option<Vec<Item>>, AllocError>
     ensures { IfOk result (λ r. items_in r ≡ spec.differ_items (map view_item one.now) (map view_item other.now)) }
 {

@@ -3,13 +3,13 @@
 ghost use Rattle.std.specs.Prelude.{◌≡◌, ◌++◌, [], ◌∷◌, suc, nat_eq, if◌then◌else◌, IfOk, IfSome, Some, None};
 ghost use Rattle.sbl_diff.specs.Numbers.{numbers_in};
 ghost use Rattle.sbl_machine.specs.Differs as spec;
-ghost use Rattle.sbl_numbering.specs.Regions.{behind};
-ghost use Rattle.sbl_tree.specs.Counts.{count_in_among};
-ghost use Rattle.sbl_tree.specs.Tree.{among_};
-ghost use Rattle.sbl_tree.specs.View.{view_among};
+ghost use Rattle.sbl_compiler.specs.Regions.{behind};
+ghost use Rattle.sbl_ast.specs.Counts.{count_in_among};
+ghost use Rattle.sbl_ast.specs.Tree.{among_};
+ghost use Rattle.sbl_ast.specs.View.{view_among};
 
 use crate::counting::past_among;
-use sbl_tree::Among;
+use sbl_ast::Among;
 use std::alloc::{AllocError, Global};
 
 /// The amongs in which two parts of a routine differ.

@@ -1,10 +1,10 @@
 //! Whether two parts of trees are the same.
 
 ghost use Rattle.std.specs.Prelude.{◌≡◌, ◌&&◌, map, string_bytes};
-ghost use Rattle.sbl_tree.specs.View.{view_argument, view_entry, view_expression, view_factor, view_group, view_literal, view_name, view_product, view_scales, view_sums, view_term};
+ghost use Rattle.sbl_ast.specs.View.{view_argument, view_entry, view_expression, view_factor, view_group, view_literal, view_name, view_product, view_scales, view_sums, view_term};
 ghost use Rattle.sbl_machine.specs.Same as spec;
 
-use sbl_tree::{
+use sbl_ast::{
     Added, Argument, Base, Entry, Expression, Factor, Group, Literal, Product, Scaled, Term,
 };
 

@@ -7,14 +7,14 @@ use Rattle.std.specs.Io.KnownBytes.{Appends, IsAtEnd, Keeps}
 use Rattle.std.specs.Str.{chars, is_utf8}
 use Rattle.sbl_filter.specs.Filter.{AllShort, Filters, IsFiltered, Rows, Stops, TookLine, WritesLine, filtered}
 use Rattle.sbl_filter.proofs.RowFacts.{filtered-append, filtered-empty, filtered-none, filtered-one}
-use Rattle.sbl_lines.proofs.Bytes.{took-kept, took-none, took-trans}
-use Rattle.sbl_lines.specs.Faults.{serve_fault_of}
-use Rattle.sbl_lines.specs.Held.{BeginsLong, BreaksOff, GivesLine}
-use Rattle.sbl_lines.specs.declared.faults.LineFault.{LineFault}
-use Rattle.sbl_lines.specs.declared.faults.LineFault.TheVariants as line
-use Rattle.sbl_lines.specs.declared.faults.ServeFault.TheVariants as fault
+use Rattle.sbl_io.proofs.Bytes.{took-kept, took-none, took-trans}
+use Rattle.sbl_io.specs.Faults.{serve_fault_of}
+use Rattle.sbl_io.specs.Held.{BeginsLong, BreaksOff, GivesLine}
+use Rattle.sbl_io.specs.declared.faults.LineFault.{LineFault}
+use Rattle.sbl_io.specs.declared.faults.LineFault.TheVariants as line
+use Rattle.sbl_io.specs.declared.faults.ServeFault.TheVariants as fault
 use Rattle.sbl_machine.specs.Limit.{default_limit}
-use Rattle.sbl_records.specs.Records.{record_line}
+use Rattle.sbl_io.specs.Records.{record_line}
 use Rattle.sbl_script.specs.Parsed.{Source}
 use Rattle.sbl_sessions.proofs.BlockFacts.{all_fit-push, no_point-push}
 use Rattle.sbl_sessions.proofs.LoadFacts.{all_text-push, script_unread}

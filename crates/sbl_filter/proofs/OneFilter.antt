@@ -9,10 +9,10 @@ use Rattle.sbl_bench.specs.declared.fault.EditFault.TheVariants as edit
 use Rattle.sbl_filter.specs.Filter.{AllShort, Filters, IsFiltered, Rows, Stops, TookLine, filtered}
 use Rattle.sbl_filter.specs.Laws.{FilteringIsOne, IsToldByBytes}
 use Rattle.sbl_filter.proofs.RowFacts.{filtered-append, filtered-none}
-use Rattle.sbl_lines.proofs.Bytes.{none_of, stand_lines}
-use Rattle.sbl_lines.specs.Held.{BeginsLong, StandFirst, Took}
-use Rattle.sbl_lines.specs.LinesOf.{lines_of, max_line}
-use Rattle.sbl_lines.specs.declared.faults.ServeFault.TheVariants as fault
+use Rattle.sbl_io.proofs.Bytes.{none_of, stand_lines}
+use Rattle.sbl_io.specs.Held.{BeginsLong, StandFirst, Took}
+use Rattle.sbl_io.specs.LinesOf.{lines_of, max_line}
+use Rattle.sbl_io.specs.declared.faults.ServeFault.TheVariants as fault
 use Rattle.sbl_script.specs.OneReading.{FaultIsOne, ScriptIsOne, ScriptOrFault}
 use Rattle.sbl_script.specs.Parsed.{Source}
 use Rattle.sbl_script.specs.Reading.{IsFaultOf, IsScriptOf}

@@ -11,7 +11,7 @@ use Rattle.sbl_bench.specs.Setting.{under}
 use Rattle.sbl_filter.specs.Filter.{filtered, is_filled}
 use Rattle.sbl_machine.specs.Limit.{default_limit}
 use Rattle.sbl_machine.specs.Outcome.{Outcome', run_of}
-use Rattle.sbl_records.specs.Records.{record_line, records_text}
+use Rattle.sbl_io.specs.Records.{record_line, records_text}
 use Rattle.sbl_script.specs.Parsed.{Source}
 use Rattle.sbl_sessions.specs.Rows.{outcome_fields, row_fields}
 

@@ -6,12 +6,12 @@ use Rattle.std.specs.Io.KnownBytes.{Appends}
 use Rattle.sbl_bench.specs.Rows.{rows_of}
 use Rattle.sbl_bench.specs.Setting.{under}
 use Rattle.sbl_bench.specs.declared.fault.EditFault.TheVariants as edit
-use Rattle.sbl_lines.specs.Held.{BeginsLong, BreaksOff, Took}
-use Rattle.sbl_lines.specs.LinesOf.{max_line}
-use Rattle.sbl_lines.specs.declared.faults.ServeFault.TheVariants as fault
+use Rattle.sbl_io.specs.Held.{BeginsLong, BreaksOff, Took}
+use Rattle.sbl_io.specs.LinesOf.{max_line}
+use Rattle.sbl_io.specs.declared.faults.ServeFault.TheVariants as fault
 use Rattle.sbl_machine.specs.Limit.{default_limit}
-use Rattle.sbl_records.specs.Records.{records_text}
-use Rattle.sbl_run.specs.Start.{max_word_length}
+use Rattle.sbl_io.specs.Records.{records_text}
+use Rattle.sbl_interpreter.specs.Start.{max_word_length}
 use Rattle.sbl_script.specs.Parsed.{Source}
 use Rattle.sbl_sessions.specs.Block.{point}
 use Rattle.sbl_sessions.specs.Loaded.{IsInput, ReadsScript, TookFault, TookSource, TookWords, WordLines}

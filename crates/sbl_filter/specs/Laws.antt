@@ -3,7 +3,7 @@ use Rattle.std.specs.Prelude.{◌≡◌, ◌++◌, ◌&&◌, ℕ, false, List, [
 use Rattle.sbl_bench.specs.Contents.{Contents, opened}
 use Rattle.sbl_bench.specs.Vocabulary.{is_word, vocabulary}
 use Rattle.sbl_filter.specs.Filter.{IsFiltered, filtered, is_filled}
-use Rattle.sbl_lines.specs.declared.faults.ServeFault.TheVariants as fault
+use Rattle.sbl_io.specs.declared.faults.ServeFault.TheVariants as fault
 use Rattle.sbl_script.specs.Parsed.{Source}
 use Rattle.sbl_sessions.specs.Loaded.{IsLoaded}
 use Rattle.sbl_sessions.specs.Rows.{stems_text}

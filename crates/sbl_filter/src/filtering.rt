@@ -2,18 +2,21 @@
 ghost use Rattle.std.specs.Prelude.{◌≡◌, ◌≤◌, None, Some, Err, IfErr, OnOk};
 ghost use Rattle.std.specs.Io.KnownBytes.{Keeps};
 ghost use Rattle.sbl_filter.specs.Filter.{Filters, IsFiltered, WritesLine};
-ghost use Rattle.sbl_lines.specs.Devices.{HasStopped, WritesInTime};
-ghost use Rattle.sbl_lines.specs.Faults.{serve_fault_of};
-ghost use Rattle.sbl_lines.specs.Held.{KeepsTime, fault_of, input_of, reads_bound};
-ghost use Rattle.sbl_lines.specs.declared.faults.LineFault.{LineFault};
+ghost use Rattle.sbl_filter.specs.LineWriter.{IsBetweenLines};
+ghost use Rattle.sbl_io.specs.Devices.{HasStopped, WritesInTime};
+ghost use Rattle.sbl_io.specs.Faults.{serve_fault_of};
+ghost use Rattle.sbl_io.specs.Held.{KeepsTime, fault_of, input_of, reads_bound};
+ghost use Rattle.sbl_io.specs.declared.faults.LineFault.{LineFault};
 ghost use Rattle.sbl_machine.specs.MachineOf.{IsLinkedMachineOf};
 ghost use Rattle.sbl_script.specs.Parsed.{Source, source_of};
 ghost use Rattle.sbl_sessions.specs.Faults.{left_by_load};
 ghost use Rattle.sbl_sessions.specs.Loaded.{HasReason};
 
+use crate::lines::line_writer;
 use crate::rows::row_text;
+use csv::Writer;
 use sbl_bench::{EditFault, MAX_WORD_LENGTH};
-use sbl_lines::{Lines, ServeFault, Sink, Source, write_all};
+use sbl_io::{Lines, ServeFault, Sink, Source, write_all};
 use sbl_machine::{Machine, Meter, Table};
 use sbl_script::Script;
 use sbl_sessions::{LoadFault, read_script};
@@ -26,9 +29,12 @@ fn filter_line<W: Sink>(
     alloc: Global,
     machine: &Machine<Table>,
     meter: &mut Meter,
+    rows: &mut Writer<Vec<u8>>,
     line: &[u8],
     writer: &mut W,
 ) -> Result<(), LoadFault>
+    requires between { IsBetweenLines rows.old }
+    ensures between { OnOk result (IsBetweenLines rows.new) }
     ensures writes { (s : Source) → IsLinkedMachineOf machine.now s → WritesLine s line.now (W.held writer.old) (W.held writer.new) result }
     ensures steady { OnOk result (W.failures writer.new ≡ W.failures writer.old) }
     ensures why { IfErr result (λ fault. fault ≡ LoadFault.Input ServeFault.Write → HasStopped W.failures W.interruptions writer.old writer.new) }
@@ -45,12 +51,13 @@ fn filter_line<W: Sink>(
     if characters.is_empty() {
         return Ok(());
     }
-    let row = row_text(alloc, machine, meter, word, &characters)?;
+    let row = row_text(alloc, machine, meter, rows, word, &characters)?;
     write_all(writer, &row)?;
     Ok(())
 }
 
 /// Writes the rows of the words, up to a line `.` or the end of input.
+#[inline(never)]
 fn filter_words<R: Source + Drop, W: Sink>(
     lines: &mut Lines<R>,
     script: &Script,
@@ -69,11 +76,12 @@ fn filter_words<R: Source + Drop, W: Sink>(
     let alloc = lines.alloc();
     let machine = Machine::new(alloc, script)?;
     let mut meter = Meter::new();
+    let mut rows = line_writer(alloc);
     while lines.next_line()? {
         if lines.line() == b".".as_slice() {
             return Ok(());
         }
-        filter_line(alloc, &machine, &mut meter, lines.line(), writer)?;
+        filter_line(alloc, &machine, &mut meter, &mut rows, lines.line(), writer)?;
     }
     Ok(())
 }

@@ -3,6 +3,7 @@
 
 mod filtering;
 pub mod laws;
+mod lines;
 mod rows;
 
 pub use filtering::filter;

@@ -7,14 +7,16 @@ ghost use Rattle.sbl_bench.specs.Setting.{under};
 ghost use Rattle.sbl_machine.specs.Limit.{default_limit};
 ghost use Rattle.sbl_machine.specs.MachineOf.{IsLinkedMachineOf};
 ghost use Rattle.sbl_machine.specs.Outcome.{outcome_of};
-ghost use Rattle.sbl_records.specs.Records as texts;
-ghost use Rattle.sbl_run.specs.Start.{max_word_length};
+ghost use Rattle.sbl_io.specs.Records as texts;
+ghost use Rattle.sbl_interpreter.specs.Start.{max_word_length};
 ghost use Rattle.sbl_script.specs.Parsed.{Source};
+ghost use Rattle.sbl_filter.specs.LineWriter.{IsBetweenLines};
 ghost use Rattle.sbl_sessions.specs.Rows.{outcome_fields, row_fields};
 
-use csv::ByteRecord;
+use crate::lines::next_line;
+use csv::{ByteRecord, Writer};
+use sbl_io::text_of;
 use sbl_machine::{DEFAULT_LIMIT, Machine, Meter, Outcome, Table, Traced};
-use sbl_records::{record_line, text_of};
 use std::alloc::{AllocError, Global};
 
 /// Appends the fields of the row of a word with this outcome to an empty record. Returns `AllocError` if an allocation fails.
@@ -42,18 +44,21 @@ fn fill_record(
     }
 }
 
-/// Runs the script on a word of these characters and returns the text of the word's row. Returns `AllocError` if an
-/// allocation fails.
+/// Runs the script on a word of these characters and returns the text of the word's row, made by a writer of lines. Returns
+/// `AllocError` if an allocation fails.
 pub(crate) fn row_text(
     alloc: Global,
     machine: &Machine<Table>,
     meter: &mut Meter,
+    rows: &mut Writer<Vec<u8>>,
     word: &str,
     characters: &[char],
 ) -> Result<Vec<u8>, AllocError>
     requires is { characters.now ≡ chars word.now }
     requires fits { length characters.now ≤ max_word_length }
-    ensures { (s : Source) → IsLinkedMachineOf machine.now s → IfOk result (λ text. text.items ≡ texts.record_line (row_fields (row_of (under s default_limit) (chars word.now)))) }
+    requires between { IsBetweenLines rows.old }
+    ensures row { (s : Source) → IsLinkedMachineOf machine.now s → IfOk result (λ text. text.items ≡ texts.record_line (row_fields (row_of (under s default_limit) (chars word.now)))) }
+    ensures between { OnOk result (IsBetweenLines rows.new) }
 {
     // The lines of a reader are fewer than a meter counts, so the only error is a failed allocation.
     let Ok(traced) = machine.trace(alloc, meter, characters, DEFAULT_LIMIT) else {
@@ -66,5 +71,5 @@ pub(crate) fn row_text(
     } = traced;
     let mut csv_record = ByteRecord::new(alloc);
     fill_record(alloc, word, outcome, &mut csv_record)?;
-    record_line(alloc, &csv_record)
+    next_line(alloc, rows, &csv_record)
 }

@@ -5,9 +5,9 @@ use Rattle.std.specs.Str.{bytes_eq}
 use Rattle.std.proofs.lemmas.Bool.{le-ltb, lt-ltb, true≢false}
 use Rattle.std.proofs.lemmas.List.{length-append, length-set}
 use Rattle.std.proofs.lemmas.Slice.Eq.{bytes_eq-Decides}
-use Rattle.sbl_numbering.specs.Items.{is_among, place_of}
-use Rattle.sbl_numbering.specs.NumberedNames.{number_of}
-use Rattle.sbl_numbering.proofs.SoundItems.{among_is, number_is}
+use Rattle.sbl_compiler.specs.Items.{is_among, place_of}
+use Rattle.sbl_compiler.specs.NumberedNames.{number_of}
+use Rattle.sbl_compiler.proofs.SoundItems.{among_is, number_is}
 use Rattle.sbl_machine.specs.AmongList.{AmongList', numbers_of, with_number}
 
 -- the numbers of a name, by a walk over both lists

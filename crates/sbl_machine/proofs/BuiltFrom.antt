@@ -6,13 +6,13 @@ use Rattle.std.specs.Str.{bytes_eq}
 use Rattle.std.proofs.lemmas.Bool.{true≢false, or_cases, or_left, or_right}
 use Rattle.std.proofs.Common.{⊎_elim}
 use Rattle.std.proofs.lemmas.Slice.Eq.{bytes_eq-Decides}
-use Rattle.sbl_tree.specs.Order.{ItemInMode, in_order}
-use Rattle.sbl_tree.specs.declared.mode.Mode.{Mode}
-use Rattle.sbl_tree.specs.declared.tree.DeclarationKind.TheVariants as kinds
-use Rattle.sbl_tree.specs.Tree.{Argument, written_out, by_name, Term, term, Plain, declaration, escapes, macro, routine, grouping, Item}
-use Rattle.sbl_checks.specs.Laws.{WellDeclaredPasses}
-use Rattle.sbl_checks.specs.Occurrences.{occurrences_of}
-use Rattle.sbl_numbering.specs.Items.{known_in, names_by, is_among}
+use Rattle.sbl_ast.specs.Order.{ItemInMode, in_order}
+use Rattle.sbl_ast.specs.declared.mode.Mode.{Mode}
+use Rattle.sbl_ast.specs.declared.tree.DeclarationKind.TheVariants as kinds
+use Rattle.sbl_ast.specs.Tree.{Argument, written_out, by_name, Term, term, Plain, declaration, escapes, macro, routine, grouping, Item}
+use Rattle.sbl_resolver.specs.Laws.{WellDeclaredPasses}
+use Rattle.sbl_resolver.specs.Occurrences.{occurrences_of}
+use Rattle.sbl_compiler.specs.Items.{known_in, names_by, is_among}
 use Rattle.sbl_machine.specs.BuiltFrom.{names, any_names, built_on, IsClosed, IsClosedAt, and_built, built_behind, affected, AffectedIsClosed}
 use Rattle.sbl_machine.specs.Touched.{Item', Routine, Among, Grouping}
 use Rattle.sbl_machine.proofs.GroupingNames.{IsKnown, AreKnown, names_are}

@@ -5,12 +5,12 @@ use Rattle.std.specs.List.{AllByRecursion, list_all}
 use Rattle.std.specs.Str.{bytes_eq}
 use Rattle.std.proofs.lemmas.List.Folds.{list_all-append}
 use Rattle.std.proofs.lemmas.Option.{none-some, same_Some}
-use Rattle.sbl_tree.specs.Order.{ItemInMode, in_mode, in_order}
-use Rattle.sbl_tree.specs.declared.mode.Mode.TheVariants.{Backward}
-use Rattle.sbl_tree.specs.declared.tree.DeclarationKind.TheVariants as kinds
-use Rattle.sbl_tree.specs.Tree.{Plain, declaration, escapes, macro, routine, grouping, Item, plain, backward}
-use Rattle.sbl_numbering.specs.Items.{is_among, known_in, names_by}
-use Rattle.sbl_numbering.specs.Regions.{behind}
+use Rattle.sbl_ast.specs.Order.{ItemInMode, in_mode, in_order}
+use Rattle.sbl_ast.specs.declared.mode.Mode.TheVariants.{Backward}
+use Rattle.sbl_ast.specs.declared.tree.DeclarationKind.TheVariants as kinds
+use Rattle.sbl_ast.specs.Tree.{Plain, declaration, escapes, macro, routine, grouping, Item, plain, backward}
+use Rattle.sbl_compiler.specs.Items.{is_among, known_in, names_by}
+use Rattle.sbl_compiler.specs.Regions.{behind}
 use Rattle.sbl_machine.specs.DifferLaws.{DifferingAreThere}
 use Rattle.sbl_machine.specs.Differs.{when, join, differ, differ_others, items_by, differ_plain, differ_plains, differ_item, differ_items}
 use Rattle.sbl_machine.specs.Marks.{has_item}

@@ -5,10 +5,10 @@ use Rattle.std.specs.Option.{option_or}
 use Rattle.std.proofs.lemmas.Bool.{eqb-true}
 use Rattle.std.proofs.lemmas.List.Folds.{list_all-append}
 use Rattle.std.proofs.lemmas.Option.{none-some, same_Some}
-use Rattle.sbl_tree.specs.Counts.{count_in_among}
-use Rattle.sbl_tree.specs.Tree.{Argument, Term, Command, Rows, Others, Starter, Groups, bracket, simple_, literal_, name_, non_, prefixed, counted, move_, named, splice_, setlimit_, assign_, compare_, compare_values_, among_, no_rows, row, no_others, joined, no_starter, starter, bare, group, Plain, declaration, escapes, macro, routine, grouping, Item, plain, backward}
-use Rattle.sbl_numbering.specs.Regions.{behind, behind_rows, behind_others, behind_starter, behind_groups}
-use Rattle.sbl_checks.specs.Laws.{WellDeclaredPasses}
+use Rattle.sbl_ast.specs.Counts.{count_in_among}
+use Rattle.sbl_ast.specs.Tree.{Argument, Term, Command, Rows, Others, Starter, Groups, bracket, simple_, literal_, name_, non_, prefixed, counted, move_, named, splice_, setlimit_, assign_, compare_, compare_values_, among_, no_rows, row, no_others, joined, no_starter, starter, bare, group, Plain, declaration, escapes, macro, routine, grouping, Item, plain, backward}
+use Rattle.sbl_compiler.specs.Regions.{behind, behind_rows, behind_others, behind_starter, behind_groups}
+use Rattle.sbl_resolver.specs.Laws.{WellDeclaredPasses}
 use Rattle.sbl_script.specs.Parsed.{Source}
 use Rattle.sbl_machine.specs.Differs.{when, join, differ, differ_rows, differ_others, differ_starter, differ_groups, items_by, differ_plain, differ_plains, differ_item, differ_items, differs}
 use Rattle.sbl_machine.specs.BuiltFrom.{affected_by}

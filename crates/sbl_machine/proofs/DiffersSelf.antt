@@ -3,19 +3,19 @@ use Rattle.std.proofs.Common.{◌≡◌, ℕ, suc, Bool, true, false, nat_eq, if
 use Rattle.std.specs.Option.{option_or}
 use Rattle.std.proofs.lemmas.Bool.{eq-eqb, true≢false}
 use denote.Enum.Bare.{true_same}
-use Rattle.sbl_tree.specs.Counts.{count_in_among}
-use Rattle.sbl_tree.specs.contracts.tree.Simple as simple
-use Rattle.sbl_tree.specs.contracts.tree.Prefix as prefix
-use Rattle.sbl_tree.specs.contracts.tree.Count as times
-use Rattle.sbl_tree.specs.contracts.tree.Move as move
-use Rattle.sbl_tree.specs.contracts.tree.Naming as naming
-use Rattle.sbl_tree.specs.contracts.tree.Splice as splicing
-use Rattle.sbl_tree.specs.contracts.tree.Assignment as assignment
-use Rattle.sbl_tree.specs.contracts.tree.Comparison as comparison
-use Rattle.sbl_tree.specs.contracts.tree.Joiner as joiner
-use Rattle.sbl_tree.specs.contracts.tree.DeclarationKind as kind
-use Rattle.sbl_tree.specs.Tree.{Command, Rows, Others, Starter, Groups, bracket, simple_, literal_, name_, non_, prefixed, counted, move_, named, splice_, setlimit_, assign_, compare_, compare_values_, among_, no_rows, row, no_others, joined, no_starter, starter, bare, group, Plain, declaration, escapes, macro, routine, grouping, Item, plain, backward}
-use Rattle.sbl_numbering.specs.Regions.{behind, behind_rows, behind_others, behind_starter}
+use Rattle.sbl_ast.specs.Counts.{count_in_among}
+use Rattle.sbl_ast.specs.contracts.tree.Simple as simple
+use Rattle.sbl_ast.specs.contracts.tree.Prefix as prefix
+use Rattle.sbl_ast.specs.contracts.tree.Count as times
+use Rattle.sbl_ast.specs.contracts.tree.Move as move
+use Rattle.sbl_ast.specs.contracts.tree.Naming as naming
+use Rattle.sbl_ast.specs.contracts.tree.Splice as splicing
+use Rattle.sbl_ast.specs.contracts.tree.Assignment as assignment
+use Rattle.sbl_ast.specs.contracts.tree.Comparison as comparison
+use Rattle.sbl_ast.specs.contracts.tree.Joiner as joiner
+use Rattle.sbl_ast.specs.contracts.tree.DeclarationKind as kind
+use Rattle.sbl_ast.specs.Tree.{Command, Rows, Others, Starter, Groups, bracket, simple_, literal_, name_, non_, prefixed, counted, move_, named, splice_, setlimit_, assign_, compare_, compare_values_, among_, no_rows, row, no_others, joined, no_starter, starter, bare, group, Plain, declaration, escapes, macro, routine, grouping, Item, plain, backward}
+use Rattle.sbl_compiler.specs.Regions.{behind, behind_rows, behind_others, behind_starter}
 use Rattle.sbl_machine.specs.DifferLaws.{AlikeDifferNowhere}
 use Rattle.sbl_machine.specs.Differs.{when, join, differ, differ_rows, differ_others, differ_starter, differ_groups, items_by, differ_plain, differ_plains, differ_item, differ_items}
 use Rattle.sbl_machine.specs.Touched.{Grouping}

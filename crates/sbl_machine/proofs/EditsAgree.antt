@@ -5,17 +5,17 @@ use Rattle.std.specs.Option.{option_or, is_some}
 use Rattle.std.specs.Str.{bytes_eq}
 use Rattle.std.proofs.lemmas.Bool.{eqb-true, true≢false}
 use Rattle.std.proofs.lemmas.Slice.Eq.{bytes_eq-Decides}
-use Rattle.sbl_tree.specs.Tree.{Argument, written_out, Term, Starter, Groups, Plain, Item, bracket, no_rows, no_others, declaration, escapes, macro, routine, grouping, plain, backward}
-use Rattle.sbl_tree.specs.View.{RowView}
-use Rattle.sbl_tree.specs.Counts.{count_in_among}
-use Rattle.sbl_checks.specs.Laws.{WellDeclaredPasses}
+use Rattle.sbl_ast.specs.Tree.{Argument, written_out, Term, Starter, Groups, Plain, Item, bracket, no_rows, no_others, declaration, escapes, macro, routine, grouping, plain, backward}
+use Rattle.sbl_ast.specs.View.{RowView}
+use Rattle.sbl_ast.specs.Counts.{count_in_among}
+use Rattle.sbl_resolver.specs.Laws.{WellDeclaredPasses}
 use Rattle.sbl_amongs.specs.Amongs.{Held, amongs_of_body, nth_held, put_in_body}
-use Rattle.sbl_numbering.specs.Items.{is_among, known_in, names_by}
-use Rattle.sbl_numbering.specs.Regions.{behind}
-use Rattle.sbl_tree.specs.Order.{ItemInMode, in_mode, in_order}
-use Rattle.sbl_tree.specs.declared.mode.Mode.TheVariants.{Backward}
-use Rattle.sbl_tree.specs.declared.tree.DeclarationKind.{DeclarationKind}
-use Rattle.sbl_tree.specs.declared.tree.DeclarationKind.TheVariants as kinds
+use Rattle.sbl_compiler.specs.Items.{is_among, known_in, names_by}
+use Rattle.sbl_compiler.specs.Regions.{behind}
+use Rattle.sbl_ast.specs.Order.{ItemInMode, in_mode, in_order}
+use Rattle.sbl_ast.specs.declared.mode.Mode.TheVariants.{Backward}
+use Rattle.sbl_ast.specs.declared.tree.DeclarationKind.{DeclarationKind}
+use Rattle.sbl_ast.specs.declared.tree.DeclarationKind.TheVariants as kinds
 use Rattle.sbl_script.specs.declared.edits.DefinitionKind.TheVariants as defined
 use Rattle.sbl_script.specs.Edits.{ScriptEdit, body, among, terms, changes, defines, first_in, first_of, plain_if, plains_with, items_with, Home, home_in, home_of_body, home_of_among, home_of_held, home_of_terms, IsSubstituted}
 use Rattle.sbl_script.proofs.Found.{grouping_found, routine_found, some_plain}

@@ -4,23 +4,23 @@ use Rattle.std.specs.Prelude.{slice_index_or}
 use Rattle.std.specs.List.{AllByRecursion, list_any}
 use Rattle.std.proofs.lemmas.Bool.{true≢false}
 use Rattle.std.proofs.Math.Path.{fun_ext}
-use Rattle.sbl_tree.specs.Order.{ItemInMode, in_order}
-use Rattle.sbl_tree.specs.declared.tree.DeclarationKind.TheVariants as kinds
-use Rattle.sbl_tree.specs.Tree.{bracket, no_rows, no_others}
-use Rattle.sbl_tree.specs.declared.mode.Mode.{Mode}
-use Rattle.sbl_tree.specs.declared.mode.Mode.TheVariants.{Forward}
-use Rattle.sbl_numbering.specs.Items.{Known, known_in, class_of, classes_behind, is_among, place_of, Body, body_named}
-use Rattle.sbl_numbering.specs.Regions.{behind, behind_others}
-use Rattle.sbl_run.specs.declared.fault.RunFault.TheVariants.{Depth}
-use Rattle.sbl_run.specs.declared.touch.Touch.{Touch}
-use Rattle.sbl_run.specs.declared.touch.Touch.TheVariants.{Entered, Tested}
+use Rattle.sbl_ast.specs.Order.{ItemInMode, in_order}
+use Rattle.sbl_ast.specs.declared.tree.DeclarationKind.TheVariants as kinds
+use Rattle.sbl_ast.specs.Tree.{bracket, no_rows, no_others}
+use Rattle.sbl_ast.specs.declared.mode.Mode.{Mode}
+use Rattle.sbl_ast.specs.declared.mode.Mode.TheVariants.{Forward}
+use Rattle.sbl_compiler.specs.Items.{Known, known_in, class_of, classes_behind, is_among, place_of, Body, body_named}
+use Rattle.sbl_compiler.specs.Regions.{behind, behind_others}
+use Rattle.sbl_interpreter.specs.declared.fault.RunFault.TheVariants.{Depth}
+use Rattle.sbl_interpreter.specs.declared.touch.Touch.{Touch}
+use Rattle.sbl_interpreter.specs.declared.touch.Touch.TheVariants.{Entered, Tested}
 use Rattle.sbl_machine.specs.BuiltFrom.{IsClosed, IsClosedAt}
 use Rattle.sbl_machine.specs.Frame.{AgreeOutside, RunsAlike, Frame}
 use Rattle.sbl_machine.specs.Holes.{with_holes, others_with_holes, holed_script}
 use Rattle.sbl_machine.specs.Meaning.{row_does, body_does, calls, start, ending}
 use Rattle.sbl_machine.specs.Outcome.{outcome_at, used_at, touched_at, run_of, used_of, touches_of}
-use Rattle.sbl_run.specs.Run.{paid, enter, leave}
-use Rattle.sbl_run.specs.State.{State, Ending, Signals, Stops, Doing, pay}
+use Rattle.sbl_interpreter.specs.Run.{paid, enter, leave}
+use Rattle.sbl_interpreter.specs.State.{State, Ending, Signals, Stops, Doing, pay}
 use Rattle.sbl_machine.specs.Touched.{Item', Routine, Among, Grouping, Names', named, names_of, items_of, touched_of}
 use Rattle.sbl_machine.proofs.TouchedOrder.{any_ordered, any-mapped}
 use Rattle.sbl_machine.proofs.Touching.{with_chosen, with_grows, not_then, filled}

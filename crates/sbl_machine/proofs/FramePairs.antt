@@ -3,25 +3,25 @@ use Rattle.std.proofs.Common.{◌≡◌, ℕ, ℤ, zero, suc, Bool, true, false,
 use Rattle.std.specs.Prelude.{if◌then◌else◌, slice_index_or}
 use Rattle.std.specs.List.{list_any}
 use Rattle.std.proofs.lemmas.Bool.{true≢false}
-use Rattle.sbl_tree.specs.declared.tree.Count.{Count}
-use Rattle.sbl_tree.specs.declared.tree.Count.TheVariants as counts
-use Rattle.sbl_tree.specs.declared.tree.Joiner.{Joiner}
-use Rattle.sbl_tree.specs.declared.tree.Joiner.TheVariants.{Or, And}
-use Rattle.sbl_tree.specs.declared.tree.Prefix.{Prefix}
-use Rattle.sbl_tree.specs.declared.tree.Prefix.TheVariants as prefixes
-use Rattle.sbl_tree.specs.declared.tree.Simple.{Simple}
-use Rattle.sbl_tree.specs.declared.tree.Simple.TheVariants as simples
-use Rattle.sbl_tree.specs.declared.mode.Mode.{Mode}
-use Rattle.sbl_tree.specs.declared.mode.Mode.TheVariants.{Forward, Backward}
-use Rattle.sbl_run.specs.declared.touch.Touch.{Touch}
-use Rattle.sbl_run.specs.declared.touch.Touch.TheVariants.{Searched}
+use Rattle.sbl_ast.specs.declared.tree.Count.{Count}
+use Rattle.sbl_ast.specs.declared.tree.Count.TheVariants as counts
+use Rattle.sbl_ast.specs.declared.tree.Joiner.{Joiner}
+use Rattle.sbl_ast.specs.declared.tree.Joiner.TheVariants.{Or, And}
+use Rattle.sbl_ast.specs.declared.tree.Prefix.{Prefix}
+use Rattle.sbl_ast.specs.declared.tree.Prefix.TheVariants as prefixes
+use Rattle.sbl_ast.specs.declared.tree.Simple.{Simple}
+use Rattle.sbl_ast.specs.declared.tree.Simple.TheVariants as simples
+use Rattle.sbl_ast.specs.declared.mode.Mode.{Mode}
+use Rattle.sbl_ast.specs.declared.mode.Mode.TheVariants.{Forward, Backward}
+use Rattle.sbl_interpreter.specs.declared.touch.Touch.{Touch}
+use Rattle.sbl_interpreter.specs.declared.touch.Touch.TheVariants.{Searched}
 use Rattle.sbl_machine.specs.Meaning.{prefixed_does, counted_does, joined_does, limited_does, simple_does}
-use Rattle.sbl_run.specs.Moves.{next}
-use Rattle.sbl_run.specs.Numbers.{Value, given}
-use Rattle.sbl_run.specs.Run.{turns, times, count_of, seeks, limits, limit_here, limit_back, backwards_from, backwards_end, chosen, paid}
-use Rattle.sbl_run.specs.Search.{choice}
-use Rattle.sbl_run.specs.State.{State, Ending, Signals, Stops, Doing, after, then_on, pay, saved_cursor, put_back}
-use Rattle.sbl_run.specs.Touches.{with_touch}
+use Rattle.sbl_interpreter.specs.Moves.{next}
+use Rattle.sbl_interpreter.specs.Numbers.{Value, given}
+use Rattle.sbl_interpreter.specs.Run.{turns, times, count_of, seeks, limits, limit_here, limit_back, backwards_from, backwards_end, chosen, paid}
+use Rattle.sbl_interpreter.specs.Search.{choice}
+use Rattle.sbl_interpreter.specs.State.{State, Ending, Signals, Stops, Doing, after, then_on, pay, saved_cursor, put_back}
+use Rattle.sbl_interpreter.specs.Touches.{with_touch}
 use Rattle.sbl_machine.proofs.Touching.{with_grows, with_chosen, not_then}
 use Rattle.sbl_machine.proofs.Stays.{Rest, ended, Same, pay_same, place_same, to_limit_same, back_same, next_same, found_same, here_same, limit_back_same, left_same, right_same, replace_same}
 

@@ -6,13 +6,13 @@ use Rattle.std.specs.Str.{bytes_eq}
 use Rattle.std.proofs.lemmas.Bool.{eq-eqb, eqb-true}
 use Rattle.std.proofs.lemmas.List.{map-append}
 use Rattle.std.proofs.lemmas.Slice.Eq.{bytes_eq-Decides}
-use Rattle.sbl_tree.specs.Order.{ItemInMode, in_order}
-use Rattle.sbl_tree.specs.declared.mode.Mode.{Mode}
-use Rattle.sbl_tree.specs.declared.tree.Additive.TheVariants.{Plus, Minus}
-use Rattle.sbl_tree.specs.declared.tree.DeclarationKind.TheVariants as kinds
-use Rattle.sbl_tree.specs.Tree.{Argument, written_out, by_name, Term, term, Plain, declaration, escapes, macro, routine, grouping}
-use Rattle.sbl_checks.specs.Laws.{WellDeclaredPasses}
-use Rattle.sbl_numbering.specs.Items.{Grouping, and_grouping, class_of, classes_behind, known_in, names_by, is_among, term_has, terms_have}
+use Rattle.sbl_ast.specs.Order.{ItemInMode, in_order}
+use Rattle.sbl_ast.specs.declared.mode.Mode.{Mode}
+use Rattle.sbl_ast.specs.declared.tree.Additive.TheVariants.{Plus, Minus}
+use Rattle.sbl_ast.specs.declared.tree.DeclarationKind.TheVariants as kinds
+use Rattle.sbl_ast.specs.Tree.{Argument, written_out, by_name, Term, term, Plain, declaration, escapes, macro, routine, grouping}
+use Rattle.sbl_resolver.specs.Laws.{WellDeclaredPasses}
+use Rattle.sbl_compiler.specs.Items.{Grouping, and_grouping, class_of, classes_behind, known_in, names_by, is_among, term_has, terms_have}
 use Rattle.sbl_machine.specs.Groupings.{groupings_of, Has, Leaves, IsOfTerms, GroupingsAreTheirTerms, GroupingsHaveTheirTerms}
 use Rattle.sbl_machine.proofs.GroupingNames.{IsKnown, AreKnown, AreNames, names_are}
 

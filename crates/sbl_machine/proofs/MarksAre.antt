@@ -7,13 +7,13 @@ use Rattle.std.proofs.lemmas.Bool.{true≢false, eqb-true}
 use Rattle.std.proofs.lemmas.Bool.Decides.{nat_tests}
 use Rattle.std.proofs.lemmas.List.Folds.{list_any-append}
 use Rattle.std.proofs.Math.Path.{fun_ext}
-use Rattle.sbl_tree.specs.Order.{ItemInMode, in_order}
-use Rattle.sbl_tree.specs.declared.tree.DeclarationKind.TheVariants as kinds
-use Rattle.sbl_numbering.specs.Items.{is_among, known_in}
-use Rattle.sbl_numbering.proofs.SoundItems.{among_is}
-use Rattle.sbl_run.specs.declared.touch.Touch.{Touch}
-use Rattle.sbl_run.specs.declared.touch.Touch.TheVariants.{Entered, Searched, Tested}
-use Rattle.sbl_run.specs.Touches.{same_touch, with_touch}
+use Rattle.sbl_ast.specs.Order.{ItemInMode, in_order}
+use Rattle.sbl_ast.specs.declared.tree.DeclarationKind.TheVariants as kinds
+use Rattle.sbl_compiler.specs.Items.{is_among, known_in}
+use Rattle.sbl_compiler.proofs.SoundItems.{among_is}
+use Rattle.sbl_interpreter.specs.declared.touch.Touch.{Touch}
+use Rattle.sbl_interpreter.specs.declared.touch.Touch.TheVariants.{Entered, Searched, Tested}
+use Rattle.sbl_interpreter.specs.Touches.{same_touch, with_touch}
 use Rattle.sbl_script.specs.Parsed.{Source}
 use Rattle.sbl_script.specs.Spelled.{AreSpelled}
 use Rattle.sbl_machine.specs.BuiltFrom.{affected, affected_by, built_behind}

@@ -4,25 +4,25 @@ use Rattle.std.specs.List.{AllByRecursion}
 use Rattle.std.specs.Prelude.{encode_utf8_all}
 use Rattle.std.specs.Str.{bytes_eq, chars}
 use Rattle.std.proofs.lemmas.Str.{chars-nil, encodes-chars}
-use Rattle.sbl_lexemes.specs.Lexemes.{Lexeme, word, sign, name, number, literal, inserts, macro_name}
-use Rattle.sbl_lexemes.specs.Words.{word_of}
-use Rattle.sbl_lexemes.specs.declared.words.Word.{Word}
+use Rattle.sbl_token.specs.Lexemes.{Lexeme, word, sign, name, number, literal, inserts, macro_name}
+use Rattle.sbl_token.specs.Words.{word_of}
+use Rattle.sbl_token.specs.declared.words.Word.{Word}
 use Rattle.sbl_text.specs.declared.pieces.Shape.{Shape}
 use Rattle.sbl_text.specs.declared.pieces.Shape.TheVariants as shape
 use Rattle.sbl_text.specs.Directives.{Directives, after, start}
 use Rattle.sbl_text.specs.Spaced.{IsSaid, IsSaidBy, AreSaid}
 use Rattle.sbl_text.specs.Tokens.{word_or_name}
-use Rattle.sbl_grammar.proofs.Faults.{places_tokens}
-use Rattle.sbl_tree.proofs.Behind.{IsBefore, plain_before}
-use Rattle.sbl_tree.specs.Order.{ItemInMode, in_mode, in_order}
-use Rattle.sbl_tree.specs.Places.{AtDepth, placed_items, placed_plain, placed_plains, places, tokens}
-use Rattle.sbl_tree.specs.Terminal.{Terminal, lexeme_as}
-use Rattle.sbl_tree.specs.Terminal as t
-use Rattle.sbl_tree.specs.Tree.{Plain, declaration, escapes, macro, routine, grouping, Item, plain, backward}
-use Rattle.sbl_tree.specs.declared.mode.Mode.TheVariants.{Backward}
-use Rattle.sbl_tree.specs.declared.tree.DeclarationKind.{DeclarationKind}
-use Rattle.sbl_tree.specs.declared.tree.DeclarationKind.TheVariants as kinds
-use Rattle.sbl_numbering.specs.Items.{is_among, known_in, names_by}
+use Rattle.sbl_parser.proofs.Faults.{places_tokens}
+use Rattle.sbl_ast.proofs.Behind.{IsBefore, plain_before}
+use Rattle.sbl_ast.specs.Order.{ItemInMode, in_mode, in_order}
+use Rattle.sbl_ast.specs.Places.{AtDepth, placed_items, placed_plain, placed_plains, places, tokens}
+use Rattle.sbl_ast.specs.Terminal.{Terminal, lexeme_as}
+use Rattle.sbl_ast.specs.Terminal as t
+use Rattle.sbl_ast.specs.Tree.{Plain, declaration, escapes, macro, routine, grouping, Item, plain, backward}
+use Rattle.sbl_ast.specs.declared.mode.Mode.TheVariants.{Backward}
+use Rattle.sbl_ast.specs.declared.tree.DeclarationKind.{DeclarationKind}
+use Rattle.sbl_ast.specs.declared.tree.DeclarationKind.TheVariants as kinds
+use Rattle.sbl_compiler.specs.Items.{is_among, known_in, names_by}
 use Rattle.sbl_script.specs.Spelled.{AreSpelled}
 
 -- ---- an empty name is not said

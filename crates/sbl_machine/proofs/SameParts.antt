@@ -4,36 +4,36 @@ use Rattle.std.specs.Str.{bytes_eq}
 use Rattle.std.proofs.lemmas.Bool.{eqb-true, true≢false}
 use Rattle.std.proofs.lemmas.Slice.Eq.{bytes_eq-Decides}
 use denote.Enum.Bare.{same_true}
-use Rattle.sbl_tree.specs.contracts.tree.Simple as simple
-use Rattle.sbl_tree.specs.contracts.tree.Prefix as prefix
-use Rattle.sbl_tree.specs.contracts.tree.Count as times
-use Rattle.sbl_tree.specs.contracts.tree.Move as move
-use Rattle.sbl_tree.specs.contracts.tree.Naming as naming
-use Rattle.sbl_tree.specs.contracts.tree.Splice as splicing
-use Rattle.sbl_tree.specs.contracts.tree.Additive as additive
-use Rattle.sbl_tree.specs.contracts.tree.Multiplicative as multiplicative
-use Rattle.sbl_tree.specs.contracts.tree.Assignment as assignment
-use Rattle.sbl_tree.specs.contracts.tree.Comparison as comparison
-use Rattle.sbl_tree.specs.contracts.tree.Constant as constant
-use Rattle.sbl_tree.specs.contracts.tree.Joiner as joiner
-use Rattle.sbl_tree.specs.contracts.tree.DeclarationKind as kind
-use Rattle.sbl_tree.specs.contracts.tree.Base as base
-use Rattle.sbl_tree.specs.declared.tree.Simple.{Simple}
-use Rattle.sbl_tree.specs.declared.tree.Prefix.{Prefix}
-use Rattle.sbl_tree.specs.declared.tree.Count.{Count}
-use Rattle.sbl_tree.specs.declared.tree.Move.{Move}
-use Rattle.sbl_tree.specs.declared.tree.Naming.{Naming}
-use Rattle.sbl_tree.specs.declared.tree.Splice.{Splice}
-use Rattle.sbl_tree.specs.declared.tree.Additive.{Additive}
-use Rattle.sbl_tree.specs.declared.tree.Multiplicative.{Multiplicative}
-use Rattle.sbl_tree.specs.declared.tree.Assignment.{Assignment}
-use Rattle.sbl_tree.specs.declared.tree.Comparison.{Comparison}
-use Rattle.sbl_tree.specs.declared.tree.Constant.{Constant}
-use Rattle.sbl_tree.specs.declared.tree.Joiner.{Joiner}
-use Rattle.sbl_tree.specs.declared.tree.DeclarationKind.{DeclarationKind}
-use Rattle.sbl_tree.specs.declared.tree.Base.{Base}
-use Rattle.sbl_tree.specs.Terminal.{Quoted}
-use Rattle.sbl_tree.specs.Tree.{Argument, written_out, by_name, Expression, expression, Sums, no_sums, sum, Product, product, Scales, no_scales, scale, Factor, negated, bracketed, numeral, variable, fixed, length_of, Entry, entry, Term, term}
+use Rattle.sbl_ast.specs.contracts.tree.Simple as simple
+use Rattle.sbl_ast.specs.contracts.tree.Prefix as prefix
+use Rattle.sbl_ast.specs.contracts.tree.Count as times
+use Rattle.sbl_ast.specs.contracts.tree.Move as move
+use Rattle.sbl_ast.specs.contracts.tree.Naming as naming
+use Rattle.sbl_ast.specs.contracts.tree.Splice as splicing
+use Rattle.sbl_ast.specs.contracts.tree.Additive as additive
+use Rattle.sbl_ast.specs.contracts.tree.Multiplicative as multiplicative
+use Rattle.sbl_ast.specs.contracts.tree.Assignment as assignment
+use Rattle.sbl_ast.specs.contracts.tree.Comparison as comparison
+use Rattle.sbl_ast.specs.contracts.tree.Constant as constant
+use Rattle.sbl_ast.specs.contracts.tree.Joiner as joiner
+use Rattle.sbl_ast.specs.contracts.tree.DeclarationKind as kind
+use Rattle.sbl_ast.specs.contracts.tree.Base as base
+use Rattle.sbl_ast.specs.declared.tree.Simple.{Simple}
+use Rattle.sbl_ast.specs.declared.tree.Prefix.{Prefix}
+use Rattle.sbl_ast.specs.declared.tree.Count.{Count}
+use Rattle.sbl_ast.specs.declared.tree.Move.{Move}
+use Rattle.sbl_ast.specs.declared.tree.Naming.{Naming}
+use Rattle.sbl_ast.specs.declared.tree.Splice.{Splice}
+use Rattle.sbl_ast.specs.declared.tree.Additive.{Additive}
+use Rattle.sbl_ast.specs.declared.tree.Multiplicative.{Multiplicative}
+use Rattle.sbl_ast.specs.declared.tree.Assignment.{Assignment}
+use Rattle.sbl_ast.specs.declared.tree.Comparison.{Comparison}
+use Rattle.sbl_ast.specs.declared.tree.Constant.{Constant}
+use Rattle.sbl_ast.specs.declared.tree.Joiner.{Joiner}
+use Rattle.sbl_ast.specs.declared.tree.DeclarationKind.{DeclarationKind}
+use Rattle.sbl_ast.specs.declared.tree.Base.{Base}
+use Rattle.sbl_ast.specs.Terminal.{Quoted}
+use Rattle.sbl_ast.specs.Tree.{Argument, written_out, by_name, Expression, expression, Sums, no_sums, sum, Product, product, Scales, no_scales, scale, Factor, negated, bracketed, numeral, variable, fixed, length_of, Entry, entry, Term, term}
 use Rattle.sbl_machine.specs.Same.{same_additive, same_argument, same_assignment, same_base, same_comparison, same_condition, same_constant, same_entries, same_entry, same_expression, same_factor, same_flag, same_joiner, same_kind, same_move, same_multiplicative, same_names, same_naming, same_prefix, same_product, same_quoted, same_scales, same_simple, same_splicing, same_sums, same_terms, same_times}
 
 pub both : (a b : Bool) → (a && b) ≡ true → (a ≡ true) × (b ≡ true)

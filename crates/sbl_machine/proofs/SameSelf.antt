@@ -4,13 +4,13 @@ use Rattle.std.specs.Str.{bytes_eq}
 use Rattle.std.proofs.lemmas.Bool.{eq-eqb, true≢false}
 use Rattle.std.proofs.lemmas.Slice.Eq.{bytes_eq-Decides}
 use denote.Enum.Bare.{true_same}
-use Rattle.sbl_tree.specs.contracts.tree.Additive as additive
-use Rattle.sbl_tree.specs.contracts.tree.Multiplicative as multiplicative
-use Rattle.sbl_tree.specs.contracts.tree.Constant as constant
-use Rattle.sbl_tree.specs.contracts.tree.Base as base
-use Rattle.sbl_tree.specs.declared.tree.Base.{Base}
-use Rattle.sbl_tree.specs.Terminal.{Quoted}
-use Rattle.sbl_tree.specs.Tree.{Argument, written_out, by_name, Expression, expression, Sums, no_sums, sum, Product, product, Scales, no_scales, scale, Factor, negated, bracketed, numeral, variable, fixed, length_of, Entry, entry, Term, term}
+use Rattle.sbl_ast.specs.contracts.tree.Additive as additive
+use Rattle.sbl_ast.specs.contracts.tree.Multiplicative as multiplicative
+use Rattle.sbl_ast.specs.contracts.tree.Constant as constant
+use Rattle.sbl_ast.specs.contracts.tree.Base as base
+use Rattle.sbl_ast.specs.declared.tree.Base.{Base}
+use Rattle.sbl_ast.specs.Terminal.{Quoted}
+use Rattle.sbl_ast.specs.Tree.{Argument, written_out, by_name, Expression, expression, Sums, no_sums, sum, Product, product, Scales, no_scales, scale, Factor, negated, bracketed, numeral, variable, fixed, length_of, Entry, entry, Term, term}
 use Rattle.sbl_machine.specs.Same.{same_argument, same_base, same_condition, same_entries, same_entry, same_expression, same_factor, same_flag, same_names, same_product, same_quoted, same_scales, same_sums, same_terms}
 
 pub also : (a b : Bool) → a ≡ true → b ≡ true → (a && b) ≡ true

@@ -5,11 +5,11 @@ use Rattle.std.specs.List.{AllByRecursion, list_all, list_any}
 use Rattle.std.specs.Str.{bytes_eq}
 use Rattle.std.proofs.lemmas.Bool.{eq-eqb, true≢false, or_cases, or_left, or_right}
 use Rattle.std.proofs.Math.Path.{fun_ext}
-use Rattle.sbl_tree.specs.Order.{ItemInMode, in_order}
-use Rattle.sbl_tree.specs.Tree.{Argument, written_out, by_name, Term, term, Plain, declaration, escapes, macro, routine, grouping}
-use Rattle.sbl_checks.specs.Checks.{WellDeclared}
-use Rattle.sbl_checks.specs.Laws.{WellDeclaredPasses}
-use Rattle.sbl_numbering.specs.Items.{is_among}
+use Rattle.sbl_ast.specs.Order.{ItemInMode, in_order}
+use Rattle.sbl_ast.specs.Tree.{Argument, written_out, by_name, Term, term, Plain, declaration, escapes, macro, routine, grouping}
+use Rattle.sbl_resolver.specs.Checks.{WellDeclared}
+use Rattle.sbl_resolver.specs.Laws.{WellDeclaredPasses}
+use Rattle.sbl_compiler.specs.Items.{is_among}
 use Rattle.sbl_machine.specs.BuiltFrom.{names, any_names, built_on, IsClosed, IsClosedAt, and_built, built_behind, affected, affected_by, meets, meets_one}
 use Rattle.sbl_machine.specs.DifferLaws.{OneAffects, OneMeets}
 use Rattle.sbl_machine.specs.Outcome.{touches_of}

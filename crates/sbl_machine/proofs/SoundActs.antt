@@ -2,46 +2,46 @@
 use Rattle.std.proofs.Common.{◌≡◌, ℕ, zero, suc, Bool, true, false, List, [], Option, Some, None, refl, ap, ◌∙◌}
 use Rattle.std.specs.Prelude.{ℤ, Ok, if◌then◌else◌, slice_index_or, slice_set}
 use Rattle.std.proofs.Math.Path.{fun_ext}
-use Rattle.sbl_tree.specs.declared.tree.Assignment.{Assignment}
-use Rattle.sbl_tree.specs.declared.tree.Comparison.{Comparison}
-use Rattle.sbl_tree.specs.declared.tree.Joiner.{Joiner}
-use Rattle.sbl_tree.specs.declared.tree.Joiner.TheVariants.{Or, And}
-use Rattle.sbl_tree.specs.declared.tree.Simple.{Simple}
-use Rattle.sbl_tree.specs.declared.tree.Simple.TheVariants as simples
-use Rattle.sbl_tree.specs.declared.tree.Prefix.{Prefix}
-use Rattle.sbl_tree.specs.declared.tree.Prefix.TheVariants as prefixes
-use Rattle.sbl_tree.specs.declared.tree.Count.{Count}
-use Rattle.sbl_tree.specs.declared.tree.Count.TheVariants as counts
-use Rattle.sbl_tree.specs.declared.tree.Move.{Move}
-use Rattle.sbl_tree.specs.declared.tree.Move.TheVariants as moves
-use Rattle.sbl_tree.specs.declared.tree.Naming.{Naming}
-use Rattle.sbl_tree.specs.declared.tree.Naming.TheVariants as namings
-use Rattle.sbl_tree.specs.declared.tree.Splice.{Splice}
-use Rattle.sbl_tree.specs.declared.tree.Splice.TheVariants as edits
-use Rattle.sbl_tree.specs.declared.tree.DeclarationKind.TheVariants as kinds
-use Rattle.sbl_tree.specs.Tree as trees
-use Rattle.sbl_tree.specs.Tree.{bracket, simple_, literal_, name_, non_, prefixed, counted, move_, named, splice_, setlimit_, assign_, compare_, compare_values_, among_, no_rows, row, no_others, joined, no_starter, starter, bare, group}
-use Rattle.sbl_numbering.specs.Ahead.{search_next, search_of, found_as, search_then, simple_by, made, made_rows, made_others, made_starter, made_groups}
-use Rattle.sbl_numbering.specs.Items.{Known, place_of, is_among}
+use Rattle.sbl_ast.specs.declared.tree.Assignment.{Assignment}
+use Rattle.sbl_ast.specs.declared.tree.Comparison.{Comparison}
+use Rattle.sbl_ast.specs.declared.tree.Joiner.{Joiner}
+use Rattle.sbl_ast.specs.declared.tree.Joiner.TheVariants.{Or, And}
+use Rattle.sbl_ast.specs.declared.tree.Simple.{Simple}
+use Rattle.sbl_ast.specs.declared.tree.Simple.TheVariants as simples
+use Rattle.sbl_ast.specs.declared.tree.Prefix.{Prefix}
+use Rattle.sbl_ast.specs.declared.tree.Prefix.TheVariants as prefixes
+use Rattle.sbl_ast.specs.declared.tree.Count.{Count}
+use Rattle.sbl_ast.specs.declared.tree.Count.TheVariants as counts
+use Rattle.sbl_ast.specs.declared.tree.Move.{Move}
+use Rattle.sbl_ast.specs.declared.tree.Move.TheVariants as moves
+use Rattle.sbl_ast.specs.declared.tree.Naming.{Naming}
+use Rattle.sbl_ast.specs.declared.tree.Naming.TheVariants as namings
+use Rattle.sbl_ast.specs.declared.tree.Splice.{Splice}
+use Rattle.sbl_ast.specs.declared.tree.Splice.TheVariants as edits
+use Rattle.sbl_ast.specs.declared.tree.DeclarationKind.TheVariants as kinds
+use Rattle.sbl_ast.specs.Tree as trees
+use Rattle.sbl_ast.specs.Tree.{bracket, simple_, literal_, name_, non_, prefixed, counted, move_, named, splice_, setlimit_, assign_, compare_, compare_values_, among_, no_rows, row, no_others, joined, no_starter, starter, bare, group}
+use Rattle.sbl_compiler.specs.Ahead.{search_next, search_of, found_as, search_then, simple_by, made, made_rows, made_others, made_starter, made_groups}
+use Rattle.sbl_compiler.specs.Items.{Known, place_of, is_among}
 use Rattle.sbl_machine.specs.Meaning.{prefixed_does, counted_does, joined_does, limited_does, simple_does, moved_does, named_does, edited_does, assigned_does, compared_does, begins, worth}
 use Rattle.sbl_machine.specs.Meaning as meaning
-use Rattle.sbl_run.specs.Moves.{characters, one_of, touch_grouping, match, set_mark, set_boolean, test_boolean}
-use Rattle.sbl_numbering.specs.Numbered.{name_alone, behind_prefix, behind_count, move, change_named, edit, change_of, relation_of}
+use Rattle.sbl_interpreter.specs.Moves.{characters, one_of, touch_grouping, match, set_mark, set_boolean, test_boolean}
+use Rattle.sbl_compiler.specs.Numbered.{name_alone, behind_prefix, behind_count, move, change_named, edit, change_of, relation_of}
 use Rattle.sbl_program.specs.Grouped.{join}
-use Rattle.sbl_numbering.specs.NumberedNames.{Names, is_one_of, number_of}
-use Rattle.sbl_numbering.specs.NumberedNumbers.{expression, text}
-use Rattle.sbl_run.specs.Numbers.{Value, value, given, changed, holds, integer_at, with_value}
+use Rattle.sbl_compiler.specs.NumberedNames.{Names, is_one_of, number_of}
+use Rattle.sbl_compiler.specs.NumberedNumbers.{expression, text}
+use Rattle.sbl_interpreter.specs.Numbers.{Value, value, given, changed, holds, integer_at, with_value}
 use Rattle.sbl_program.specs.Program as programs
-use Rattle.sbl_program.specs.Terms.{class_at}
-use Rattle.sbl_numbering.specs.Regions.{Among, among_at, behind, behind_rows, behind_others, behind_starter, first, first_rows, first_others, mode_behind, waits, waits_others}
-use Rattle.sbl_run.specs.Run as run
-use Rattle.sbl_run.specs.Run.{paid, in_turn, nth_does}
-use Rattle.sbl_run.specs.Search.{choice}
-use Rattle.sbl_run.specs.Slices.{keep}
-use Rattle.sbl_run.specs.State.{State, Ending, Signals, Stops, Doing, after}
-use Rattle.sbl_numbering.proofs.SoundItems.{among_is, placed_by}
+use Rattle.sbl_char_class.specs.Terms.{class_at}
+use Rattle.sbl_compiler.specs.Regions.{Among, among_at, behind, behind_rows, behind_others, behind_starter, first, first_rows, first_others, mode_behind, waits, waits_others}
+use Rattle.sbl_interpreter.specs.Run as run
+use Rattle.sbl_interpreter.specs.Run.{paid, in_turn, nth_does}
+use Rattle.sbl_interpreter.specs.Search.{choice}
+use Rattle.sbl_interpreter.specs.Slices.{keep}
+use Rattle.sbl_interpreter.specs.State.{State, Ending, Signals, Stops, Doing, after}
+use Rattle.sbl_compiler.proofs.SoundItems.{among_is, placed_by}
 use Rattle.sbl_machine.proofs.SoundParts.{Agree, text_same, worth_same, search_same, changed_same, holds_same}
-use Rattle.sbl_tree.specs.declared.mode.Mode.{Mode}
+use Rattle.sbl_ast.specs.declared.mode.Mode.{Mode}
 
 after_same : (e : Ending) → after e (Signals true) (Signals false) ≡ e
 after_same (Signals true s) = refl

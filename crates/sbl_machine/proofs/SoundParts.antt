@@ -10,39 +10,39 @@ use Rattle.std.proofs.lemmas.List.{map-append, length-drop, take_all, take_rest}
 use Rattle.std.proofs.Math.ListN.{drop_of_length-le}
 use Rattle.std.proofs.Math.Seq.{drop-length, take-nil}
 use Rattle.std.proofs.lemmas.Option.{slice_get-map}
-use Rattle.sbl_tree.specs.declared.tree.Additive.{Additive}
-use Rattle.sbl_tree.specs.declared.tree.Additive.TheVariants as additives
-use Rattle.sbl_tree.specs.declared.tree.Assignment.{Assignment}
-use Rattle.sbl_tree.specs.declared.tree.Assignment.TheVariants as assignments
-use Rattle.sbl_tree.specs.declared.tree.Comparison.{Comparison}
-use Rattle.sbl_tree.specs.declared.tree.Comparison.TheVariants as comparisons
-use Rattle.sbl_tree.specs.declared.tree.Multiplicative.{Multiplicative}
-use Rattle.sbl_tree.specs.declared.tree.Multiplicative.TheVariants as multiplicatives
-use Rattle.sbl_tree.specs.declared.tree.Constant.{Constant}
-use Rattle.sbl_tree.specs.declared.tree.Constant.TheVariants as constants
-use Rattle.sbl_tree.specs.declared.tree.DeclarationKind.TheVariants as kinds
-use Rattle.sbl_tree.specs.Tree as trees
-use Rattle.sbl_tree.specs.Tree.{bare, group}
+use Rattle.sbl_ast.specs.declared.tree.Additive.{Additive}
+use Rattle.sbl_ast.specs.declared.tree.Additive.TheVariants as additives
+use Rattle.sbl_ast.specs.declared.tree.Assignment.{Assignment}
+use Rattle.sbl_ast.specs.declared.tree.Assignment.TheVariants as assignments
+use Rattle.sbl_ast.specs.declared.tree.Comparison.{Comparison}
+use Rattle.sbl_ast.specs.declared.tree.Comparison.TheVariants as comparisons
+use Rattle.sbl_ast.specs.declared.tree.Multiplicative.{Multiplicative}
+use Rattle.sbl_ast.specs.declared.tree.Multiplicative.TheVariants as multiplicatives
+use Rattle.sbl_ast.specs.declared.tree.Constant.{Constant}
+use Rattle.sbl_ast.specs.declared.tree.Constant.TheVariants as constants
+use Rattle.sbl_ast.specs.declared.tree.DeclarationKind.TheVariants as kinds
+use Rattle.sbl_ast.specs.Tree as trees
+use Rattle.sbl_ast.specs.Tree.{bare, group}
 use Rattle.sbl_program.specs.declared.node.Candidate as code
-use Rattle.sbl_numbering.specs.Ahead.{found_as}
-use Rattle.sbl_tables.specs.Fitting.{below, fitting, onto, read_as, read_all, ahead_at}
-use Rattle.sbl_numbering.specs.Items.{Known}
+use Rattle.sbl_compiler.specs.Ahead.{found_as}
+use Rattle.sbl_among_search.specs.Fitting.{below, fitting, onto, read_as, read_all, ahead_at}
+use Rattle.sbl_compiler.specs.Items.{Known}
 use Rattle.sbl_machine.specs.Meaning as meaning
 use Rattle.sbl_machine.specs.Meaning.{Offer, offer, offers}
-use Rattle.sbl_run.specs.Moves.{characters}
-use Rattle.sbl_numbering.specs.Numbered.{change_of, relation_of}
-use Rattle.sbl_numbering.specs.NumberedAmongs.{strings_in, strings_behind, condition_of, entries_in, entries_behind}
+use Rattle.sbl_interpreter.specs.Moves.{characters}
+use Rattle.sbl_compiler.specs.Numbered.{change_of, relation_of}
+use Rattle.sbl_compiler.specs.NumberedAmongs.{strings_in, strings_behind, condition_of, entries_in, entries_behind}
 use Rattle.sbl_program.specs.Grouped.{added, added_all, scaled, scaled_all}
-use Rattle.sbl_numbering.specs.NumberedNames.{Names, number_of}
-use Rattle.sbl_numbering.specs.NumberedNumbers.{text, constant, expression, sums_in, product, scales_in, factor}
-use Rattle.sbl_run.specs.Numbers.{Value, value, fitted, with_value, changed, holds, integer_at}
+use Rattle.sbl_compiler.specs.NumberedNames.{Names, number_of}
+use Rattle.sbl_compiler.specs.NumberedNumbers.{text, constant, expression, sums_in, product, scales_in, factor}
+use Rattle.sbl_interpreter.specs.Numbers.{Value, value, fitted, with_value, changed, holds, integer_at}
 use Rattle.sbl_program.specs.Program as programs
-use Rattle.sbl_numbering.specs.Regions.{Among}
-use Rattle.sbl_run.specs.Search.{bound_in, condition_does, take_string, try_one, tries, searched, search_all, touch_among}
-use Rattle.sbl_run.specs.State.{State, bound_of, Ending, Signals, Doing, after, saved_cursor, place_after, then_on, pay}
-use Rattle.sbl_numbering.proofs.SoundItems.{less_suc, placed_by}
-use Rattle.sbl_tree.specs.declared.mode.Mode.{Mode}
-use Rattle.sbl_tree.specs.declared.mode.Mode.TheVariants.{Forward, Backward}
+use Rattle.sbl_compiler.specs.Regions.{Among}
+use Rattle.sbl_interpreter.specs.Search.{bound_in, condition_does, take_string, try_one, tries, searched, search_all, touch_among}
+use Rattle.sbl_interpreter.specs.State.{State, bound_of, Ending, Signals, Doing, after, saved_cursor, place_after, then_on, pay}
+use Rattle.sbl_compiler.proofs.SoundItems.{less_suc, placed_by}
+use Rattle.sbl_ast.specs.declared.mode.Mode.{Mode}
+use Rattle.sbl_ast.specs.declared.mode.Mode.TheVariants.{Forward, Backward}
 
 pub changed_same : (o : Assignment) → changed (change_of o) ≡ meaning.altered o
 changed_same assignments.Equals = refl

@@ -1,26 +1,26 @@
 -- A run of the numbered script is a run of the script.
 use Rattle.std.proofs.Common.{◌≡◌, ℕ, zero, suc, Bool, List, [], Option, Some, None, option_map, refl, ap, ◌∙◌}
 use Rattle.std.proofs.Math.Path.{fun_ext}
-use Rattle.sbl_tree.specs.Order.{ItemInMode, in_order}
-use Rattle.sbl_tree.specs.declared.tree.DeclarationKind.TheVariants as kinds
-use Rattle.sbl_numbering.specs.Items.{Known, Body, known_in, class_of, classes_behind, body_named}
+use Rattle.sbl_ast.specs.Order.{ItemInMode, in_order}
+use Rattle.sbl_ast.specs.declared.tree.DeclarationKind.TheVariants as kinds
+use Rattle.sbl_compiler.specs.Items.{Known, Body, known_in, class_of, classes_behind, body_named}
 use Rattle.sbl_machine.specs.Meaning as meaning
 use Rattle.sbl_machine.specs.Numbered.{numbered_script}
-use Rattle.sbl_numbering.specs.Numbered.{numbered_items, plan_with}
-use Rattle.sbl_numbering.specs.NumberedNames.{Names, names_behind, no_names, number_of}
-use Rattle.sbl_run.specs.Start.{ending_of, start}
+use Rattle.sbl_compiler.specs.Numbered.{numbered_items, plan_with}
+use Rattle.sbl_compiler.specs.NumberedNames.{Names, names_behind, no_names, number_of}
+use Rattle.sbl_interpreter.specs.Start.{ending_of, start}
 use Rattle.sbl_program.specs.Program as programs
-use Rattle.sbl_numbering.specs.Regions.{behind, behind_others}
-use Rattle.sbl_run.specs.Run as run
-use Rattle.sbl_run.specs.Run.{enter, leave, paid, does}
-use Rattle.sbl_run.specs.State.{State, Ending, Doing}
+use Rattle.sbl_compiler.specs.Regions.{behind, behind_others}
+use Rattle.sbl_interpreter.specs.Run as run
+use Rattle.sbl_interpreter.specs.Run.{enter, leave, paid, does}
+use Rattle.sbl_interpreter.specs.State.{State, Ending, Doing}
 use Rattle.sbl_machine.proofs.SoundActs.{row_sound}
-use Rattle.sbl_numbering.proofs.SoundItems.{strings_are, integers_are, booleans_are, groupings_are, routines_are, placed_by, as_made}
+use Rattle.sbl_compiler.proofs.SoundItems.{strings_are, integers_are, booleans_are, groupings_are, routines_are, placed_by, as_made}
 use Rattle.sbl_machine.proofs.SoundParts.{Agree}
-use Rattle.sbl_numbering.proofs.Own.{class_same, routine_same}
+use Rattle.sbl_compiler.proofs.Own.{class_same, routine_same}
 use Rattle.sbl_script.specs.Parsed.{Source}
-use Rattle.sbl_tree.specs.declared.mode.Mode.{Mode}
-use Rattle.sbl_tree.specs.declared.mode.Mode.TheVariants.{Forward}
+use Rattle.sbl_ast.specs.declared.mode.Mode.{Mode}
+use Rattle.sbl_ast.specs.declared.mode.Mode.TheVariants.{Forward}
 
 -- a run of a program that tells what it does
 abbrev pub telling_of : programs.Program → List ℕ → ℕ → Ending

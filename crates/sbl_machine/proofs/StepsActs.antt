@@ -2,43 +2,43 @@
 use Rattle.std.proofs.Common.{◌≡◌, ℕ, zero, suc, ◌+◌, ◌-◌, ◌<◌, Bool, true, false, List, [], length, Option, Some, None, refl, sym, ap, subst, ◌∙◌, arith}
 use Rattle.std.specs.Prelude.{ℤ, ◌&&◌, nat_le, nat_eq, neg_ℤ, slice_get, take}
 use Rattle.std.specs.List.{starts_with}
-use Rattle.sbl_tree.specs.declared.tree.Assignment.{Assignment}
-use Rattle.sbl_tree.specs.declared.tree.Comparison.{Comparison}
-use Rattle.sbl_tree.specs.declared.tree.Constant.{Constant}
-use Rattle.sbl_tree.specs.declared.tree.Constant.TheVariants as constants
-use Rattle.sbl_tree.specs.declared.tree.Count.{Count}
-use Rattle.sbl_tree.specs.declared.tree.Count.TheVariants as counts
-use Rattle.sbl_tree.specs.declared.tree.Joiner.{Joiner}
-use Rattle.sbl_tree.specs.declared.tree.Joiner.TheVariants.{Or, And}
-use Rattle.sbl_tree.specs.declared.tree.Move.{Move}
-use Rattle.sbl_tree.specs.declared.tree.Move.TheVariants as moves
-use Rattle.sbl_tree.specs.declared.tree.Naming.{Naming}
-use Rattle.sbl_tree.specs.declared.tree.Naming.TheVariants as namings
-use Rattle.sbl_tree.specs.declared.tree.Prefix.{Prefix}
-use Rattle.sbl_tree.specs.declared.tree.Prefix.TheVariants as prefixes
-use Rattle.sbl_tree.specs.declared.tree.Simple.{Simple}
-use Rattle.sbl_tree.specs.declared.tree.Simple.TheVariants as simples
-use Rattle.sbl_tree.specs.declared.tree.Splice.{Splice}
-use Rattle.sbl_tree.specs.declared.tree.Splice.TheVariants as edits
-use Rattle.sbl_tree.specs.Tree as trees
-use Rattle.sbl_tables.specs.Fitting.{read_as, ahead_at}
-use Rattle.sbl_numbering.specs.Items.{Known, place_of}
-use Rattle.sbl_numbering.specs.Regions.{Among}
-use Rattle.sbl_run.specs.declared.fault.RunFault.TheVariants as faults
-use Rattle.sbl_run.specs.declared.state.Limits.{Limits}
+use Rattle.sbl_ast.specs.declared.tree.Assignment.{Assignment}
+use Rattle.sbl_ast.specs.declared.tree.Comparison.{Comparison}
+use Rattle.sbl_ast.specs.declared.tree.Constant.{Constant}
+use Rattle.sbl_ast.specs.declared.tree.Constant.TheVariants as constants
+use Rattle.sbl_ast.specs.declared.tree.Count.{Count}
+use Rattle.sbl_ast.specs.declared.tree.Count.TheVariants as counts
+use Rattle.sbl_ast.specs.declared.tree.Joiner.{Joiner}
+use Rattle.sbl_ast.specs.declared.tree.Joiner.TheVariants.{Or, And}
+use Rattle.sbl_ast.specs.declared.tree.Move.{Move}
+use Rattle.sbl_ast.specs.declared.tree.Move.TheVariants as moves
+use Rattle.sbl_ast.specs.declared.tree.Naming.{Naming}
+use Rattle.sbl_ast.specs.declared.tree.Naming.TheVariants as namings
+use Rattle.sbl_ast.specs.declared.tree.Prefix.{Prefix}
+use Rattle.sbl_ast.specs.declared.tree.Prefix.TheVariants as prefixes
+use Rattle.sbl_ast.specs.declared.tree.Simple.{Simple}
+use Rattle.sbl_ast.specs.declared.tree.Simple.TheVariants as simples
+use Rattle.sbl_ast.specs.declared.tree.Splice.{Splice}
+use Rattle.sbl_ast.specs.declared.tree.Splice.TheVariants as edits
+use Rattle.sbl_ast.specs.Tree as trees
+use Rattle.sbl_among_search.specs.Fitting.{read_as, ahead_at}
+use Rattle.sbl_compiler.specs.Items.{Known, place_of}
+use Rattle.sbl_compiler.specs.Regions.{Among}
+use Rattle.sbl_interpreter.specs.declared.fault.RunFault.TheVariants as faults
+use Rattle.sbl_interpreter.specs.declared.state.Limits.{Limits}
 use Rattle.sbl_machine.specs.Meaning as meaning
 use Rattle.sbl_machine.specs.Meaning.{Offer, prefixed_does, counted_does, joined_does, limited_does, simple_does, moved_does, assigned_does, compared_does, named_does, edited_does, begins, takes, tried, search}
-use Rattle.sbl_run.specs.Moves.{match, next_is, one_of, hop, at_mark, to_mark}
-use Rattle.sbl_run.specs.Numbers.{Value, fitted, natural, with_value, integer_at}
-use Rattle.sbl_run.specs.Run.{turns, times, count_of, limits, limited, limit_here, limit_back, backwards_from, backwards_end, chosen, paid}
-use Rattle.sbl_run.specs.Search.{take_string, touch_among}
-use Rattle.sbl_run.specs.Slices.{is_slice, replaced, replace, keep, inserted, put_in}
-use Rattle.sbl_run.specs.State.{State, bound_of, Ending, Signals, Stops, Doing, ahead, after, then_on, room, saved_cursor, place_after, put_back}
+use Rattle.sbl_interpreter.specs.Moves.{match, next_is, one_of, hop, at_mark, to_mark}
+use Rattle.sbl_interpreter.specs.Numbers.{Value, fitted, natural, with_value, integer_at}
+use Rattle.sbl_interpreter.specs.Run.{turns, times, count_of, limits, limited, limit_here, limit_back, backwards_from, backwards_end, chosen, paid}
+use Rattle.sbl_interpreter.specs.Search.{take_string, touch_among}
+use Rattle.sbl_interpreter.specs.Slices.{is_slice, replaced, replace, keep, inserted, put_in}
+use Rattle.sbl_interpreter.specs.State.{State, bound_of, Ending, Signals, Stops, Doing, ahead, after, then_on, room, saved_cursor, place_after, put_back}
 use Rattle.sbl_machine.proofs.Steps.{more, Goes, Steady, Pays, signals_go, steady_goes, then_goes, if_goes, given_goes, pays_go, paid_go, at_place_go, to_limit_go, put_back_go, place_after_go, next_go, turns_goes, times_go, seeks_goes}
 use Rattle.std.proofs.Math.Path.{fun_ext}
-use Rattle.sbl_tree.specs.declared.tree.DeclarationKind.TheVariants as kinds
-use Rattle.sbl_tree.specs.declared.mode.Mode.{Mode}
-use Rattle.sbl_tree.specs.declared.mode.Mode.TheVariants.{Forward, Backward}
+use Rattle.sbl_ast.specs.declared.tree.DeclarationKind.TheVariants as kinds
+use Rattle.sbl_ast.specs.declared.mode.Mode.{Mode}
+use Rattle.sbl_ast.specs.declared.mode.Mode.TheVariants.{Forward, Backward}
 
 -- ---- the slice and the text
 

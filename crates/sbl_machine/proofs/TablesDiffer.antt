@@ -8,18 +8,18 @@ use Rattle.std.proofs.lemmas.List.{map-id, reverse-reverse}
 use Rattle.std.proofs.lemmas.Option.{same_Some}
 use Rattle.std.proofs.lemmas.Slice.Eq.{bytes_eq-Decides}
 use Rattle.sbl_machine.specs.Searches.{strings_read, amongs_of, TablesDiffer, SearchesAreExact}
-use Rattle.sbl_numbering.specs.Laws.{names_in}
-use Rattle.sbl_numbering.specs.NumberedAmongs.{Found, strings_in, strings_behind, found_of, found, found_rows, found_others, found_starter, found_groups, found_plain, found_behind}
-use Rattle.sbl_numbering.specs.NumberedNames.{Names}
-use Rattle.sbl_numbering.specs.Regions.{mode_behind}
-use Rattle.sbl_checks.specs.Amongs.{text_of, texts_of, IsSound, EachAmong, EachAmongOfRows, EachAmongOfOthers, EachAmongOfStarter, EachAmongOfGroups, EachAmongOfPlain, EachAmongOfPlains, EachAmongOfItems, AmongsAreSound}
-use Rattle.sbl_tables.specs.Fitting.{fitting, read_all}
-use Rattle.sbl_tables.specs.Laws.{AllDiffer, FittingAreMatches, Matches, StandsIn}
-use Rattle.sbl_tree.specs.Order.{ItemInMode, in_mode, in_order}
-use Rattle.sbl_tree.specs.Tree as trees
-use Rattle.sbl_tree.specs.Tree.{bracket, simple_, literal_, name_, non_, prefixed, counted, move_, named, splice_, setlimit_, assign_, compare_, compare_values_, among_, no_rows, row, no_others, joined, no_starter, starter, bare, group, declaration, escapes, macro, routine, grouping, plain, backward}
-use Rattle.sbl_tree.specs.declared.mode.Mode.{Mode}
-use Rattle.sbl_tree.specs.declared.mode.Mode.TheVariants.{Forward, Backward}
+use Rattle.sbl_compiler.specs.Laws.{names_in}
+use Rattle.sbl_compiler.specs.NumberedAmongs.{Found, strings_in, strings_behind, found_of, found, found_rows, found_others, found_starter, found_groups, found_plain, found_behind}
+use Rattle.sbl_compiler.specs.NumberedNames.{Names}
+use Rattle.sbl_compiler.specs.Regions.{mode_behind}
+use Rattle.sbl_resolver.specs.Amongs.{text_of, texts_of, IsSound, EachAmong, EachAmongOfRows, EachAmongOfOthers, EachAmongOfStarter, EachAmongOfGroups, EachAmongOfPlain, EachAmongOfPlains, EachAmongOfItems, AmongsAreSound}
+use Rattle.sbl_among_search.specs.Fitting.{fitting, read_all}
+use Rattle.sbl_among_search.specs.Laws.{AllDiffer, FittingAreMatches, Matches, StandsIn}
+use Rattle.sbl_ast.specs.Order.{ItemInMode, in_mode, in_order}
+use Rattle.sbl_ast.specs.Tree as trees
+use Rattle.sbl_ast.specs.Tree.{bracket, simple_, literal_, name_, non_, prefixed, counted, move_, named, splice_, setlimit_, assign_, compare_, compare_values_, among_, no_rows, row, no_others, joined, no_starter, starter, bare, group, declaration, escapes, macro, routine, grouping, plain, backward}
+use Rattle.sbl_ast.specs.declared.mode.Mode.{Mode}
+use Rattle.sbl_ast.specs.declared.mode.Mode.TheVariants.{Forward, Backward}
 
 -- ---- the strings of a table are those of its among
 

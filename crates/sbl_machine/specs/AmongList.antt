@@ -1,7 +1,7 @@
 -- Numbers of amongs, by the name of their routine.
 use Rattle.std.specs.Prelude.{ℕ, List, [], ◌∷◌, ◌++◌, slice_index_or, if◌then◌else◌}
 use Rattle.std.specs.Str.{bytes_eq}
-use Rattle.sbl_numbering.specs.NumberedNames.{number_of}
+use Rattle.sbl_compiler.specs.NumberedNames.{number_of}
 
 -- routines, and the numbers of each
 pub record AmongList' : Type 0 where

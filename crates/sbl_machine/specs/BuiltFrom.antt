@@ -1,10 +1,10 @@
 -- What is built from a grouping: the groupings that name it among their terms, or name another that is built from it.
 use Rattle.std.specs.Prelude.{◌≡◌, ℕ, Bool, true, false, ◌||◌, List, [], ◌∷◌, ◌++◌, map, if◌then◌else◌, ⊤}
 use Rattle.std.specs.List.{AllByRecursion, list_any}
-use Rattle.sbl_tree.specs.Order.{ItemInMode, in_order}
-use Rattle.sbl_tree.specs.Tree.{Argument, written_out, by_name, Term, term, Plain, grouping}
-use Rattle.sbl_numbering.specs.Items.{is_among}
-use Rattle.sbl_checks.specs.Checks.{WellDeclared}
+use Rattle.sbl_ast.specs.Order.{ItemInMode, in_order}
+use Rattle.sbl_ast.specs.Tree.{Argument, written_out, by_name, Term, term, Plain, grouping}
+use Rattle.sbl_compiler.specs.Items.{is_among}
+use Rattle.sbl_resolver.specs.Checks.{WellDeclared}
 use Rattle.sbl_machine.specs.Outcome.{touches_of}
 use Rattle.sbl_machine.specs.Touched.{Item', Grouping, named, names_of, same_item}
 use Rattle.sbl_script.specs.Parsed.{Source}

@@ -1,7 +1,7 @@
 -- What holds for the items in which two scripts differ.
 use Rattle.std.specs.Prelude.{◌≡◌, ℕ, true, false, List, [], ◌∷◌, Some, None}
 use Rattle.std.specs.List.{list_all}
-use Rattle.sbl_checks.specs.Checks.{WellDeclared}
+use Rattle.sbl_resolver.specs.Checks.{WellDeclared}
 use Rattle.sbl_machine.specs.BuiltFrom.{IsClosed, affected, affected_by, meets, meets_one}
 use Rattle.sbl_machine.specs.Differs.{differs}
 use Rattle.sbl_machine.specs.Frame.{AgreeOutside, StaysAsItWas}

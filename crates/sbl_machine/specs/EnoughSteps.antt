@@ -1,6 +1,6 @@
 -- A run that does not reach its limit does not depend on it.
 use Rattle.std.specs.Prelude.{◌≡◌, ◌↔◌, ℕ, ◌<◌, ◌≤◌, List}
-use Rattle.sbl_run.specs.declared.fault.RunFault.TheVariants.{Steps}
+use Rattle.sbl_interpreter.specs.declared.fault.RunFault.TheVariants.{Steps}
 use Rattle.sbl_machine.specs.Outcome.{Refused, run_of, touches_of, used_of}
 use Rattle.sbl_script.specs.Parsed.{Source}
 

@@ -2,7 +2,7 @@
 use Rattle.std.specs.Prelude.{◌≡◌, ℕ, Bool, false, List, map}
 use Rattle.std.specs.List.{list_any}
 use Rattle.std.specs.List.Sorted.{IsStrictlySortedBy}
-use Rattle.sbl_checks.specs.Checks.{WellDeclared}
+use Rattle.sbl_resolver.specs.Checks.{WellDeclared}
 use Rattle.sbl_machine.specs.BuiltFrom.{IsClosed, affected, affected_by, meets, meets_one}
 use Rattle.sbl_machine.specs.Holes.{holed_script}
 use Rattle.sbl_machine.specs.Outcome.{run_of, used_of, touches_of}

@@ -1,12 +1,12 @@
 -- The characters of the groupings of a well-declared script.
 use Rattle.std.specs.Prelude.{◌≡◌, ◌↔◌, ℕ, true, List, [], ◌∷◌, ◌++◌, ⊤}
 use Rattle.std.specs.List.{AllByRecursion, Contains}
-use Rattle.sbl_tree.specs.Order.{ItemInMode, in_order}
-use Rattle.sbl_tree.specs.declared.mode.Mode.{Mode}
-use Rattle.sbl_tree.specs.declared.tree.Additive.TheVariants.{Plus, Minus}
-use Rattle.sbl_tree.specs.Tree.{Argument, written_out, by_name, Term, term, grouping}
-use Rattle.sbl_numbering.specs.Items.{Grouping, class_of, classes_behind, term_has, terms_have}
-use Rattle.sbl_checks.specs.Checks.{WellDeclared}
+use Rattle.sbl_ast.specs.Order.{ItemInMode, in_order}
+use Rattle.sbl_ast.specs.declared.mode.Mode.{Mode}
+use Rattle.sbl_ast.specs.declared.tree.Additive.TheVariants.{Plus, Minus}
+use Rattle.sbl_ast.specs.Tree.{Argument, written_out, by_name, Term, term, grouping}
+use Rattle.sbl_compiler.specs.Items.{Grouping, class_of, classes_behind, term_has, terms_have}
+use Rattle.sbl_resolver.specs.Checks.{WellDeclared}
 use Rattle.sbl_script.specs.Parsed.{Source}
 
 -- all groupings of a script

@@ -1,15 +1,15 @@
 -- When a machine is the machine of a script.
 use Rattle.std.specs.Prelude.{◌≡◌, ℕ, List, slice_get}
-use Rattle.sbl_tree.specs.declared.mode.Mode.{Mode}
+use Rattle.sbl_ast.specs.declared.mode.Mode.{Mode}
 use Rattle.sbl_machine.specs.declared.machine.Machine.{Machine}
 use Rattle.sbl_machine.specs.Touched.{names_of}
 use Rattle.sbl_program.specs.Listed.{Listed}
-use Rattle.sbl_run.specs.Listing.{listed_by}
-use Rattle.sbl_tables.specs.declared.linked.LinkedTable.{LinkedTable}
+use Rattle.sbl_interpreter.specs.Listing.{listed_by}
+use Rattle.sbl_among_search.specs.declared.linked.LinkedTable.{LinkedTable}
 use Rattle.sbl_machine.specs.Numbered.{numbered_script}
 use Rattle.sbl_program.specs.Program.{Program}
 use Rattle.sbl_program.specs.ProgramOf.{program_of}
-use Rattle.sbl_tables.specs.LinkedStrings.{entries_of, mode_of}
+use Rattle.sbl_among_search.specs.LinkedStrings.{entries_of, mode_of}
 use Rattle.sbl_script.specs.Parsed.{Source}
 
 -- the strings of an among of the machine, by its number

@@ -1,9 +1,9 @@
 -- What an edit affects, by number.
 use Rattle.std.specs.Prelude.{◌≡◌, ℕ, Bool, true, List}
 use Rattle.std.specs.List.{list_any}
-use Rattle.sbl_numbering.specs.Items.{is_among}
-use Rattle.sbl_run.specs.declared.touch.Touch.{Touch}
-use Rattle.sbl_run.specs.Touches.{same_touch}
+use Rattle.sbl_compiler.specs.Items.{is_among}
+use Rattle.sbl_interpreter.specs.declared.touch.Touch.{Touch}
+use Rattle.sbl_interpreter.specs.Touches.{same_touch}
 use Rattle.sbl_script.specs.Edits.{ScriptEdit, IsEdited}
 use Rattle.sbl_script.specs.Parsed.{Source}
 use Rattle.sbl_machine.specs.BuiltFrom.{affected_by}

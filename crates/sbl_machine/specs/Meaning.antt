@@ -2,49 +2,49 @@
 -- and the state s. It ends with the signal t or f and a new state, or it stops the run.
 use Rattle.std.specs.Prelude.{ℕ, ℤ, pos, negsuc, zero, suc, ◌+◌, ◌+ℤ◌, ◌-ℤ◌, ◌*ℤ◌, neg_ℤ, Bool, true, false, not, List, [], ◌∷◌, ◌++◌, length, map, take, replicate, nat_eq, int_lt, if◌then◌else◌, Option, Some, None, Ok, slice_index_or, slice_set}
 use Rattle.std.specs.Ordering.{int_eq}
-use Rattle.sbl_tree.specs.Order.{in_order}
-use Rattle.sbl_tree.specs.declared.tree.Joiner.{Joiner}
-use Rattle.sbl_tree.specs.declared.tree.Joiner.TheVariants.{Or, And}
-use Rattle.sbl_tree.specs.declared.tree.Simple.{Simple}
-use Rattle.sbl_tree.specs.declared.tree.Simple.TheVariants as simples
-use Rattle.sbl_tree.specs.declared.tree.Prefix.{Prefix}
-use Rattle.sbl_tree.specs.declared.tree.Prefix.TheVariants as prefixes
-use Rattle.sbl_tree.specs.declared.tree.Count.{Count}
-use Rattle.sbl_tree.specs.declared.tree.Count.TheVariants as counts
-use Rattle.sbl_tree.specs.declared.tree.Move.{Move}
-use Rattle.sbl_tree.specs.declared.tree.Move.TheVariants as moves
-use Rattle.sbl_tree.specs.declared.tree.Naming.{Naming}
-use Rattle.sbl_tree.specs.declared.tree.Naming.TheVariants as namings
-use Rattle.sbl_tree.specs.declared.tree.Splice.{Splice}
-use Rattle.sbl_tree.specs.declared.tree.Splice.TheVariants as edits
-use Rattle.sbl_tree.specs.declared.tree.Additive.{Additive}
-use Rattle.sbl_tree.specs.declared.tree.Additive.TheVariants as additives
-use Rattle.sbl_tree.specs.declared.tree.Multiplicative.{Multiplicative}
-use Rattle.sbl_tree.specs.declared.tree.Multiplicative.TheVariants as multiplicatives
-use Rattle.sbl_tree.specs.declared.tree.Constant.{Constant}
-use Rattle.sbl_tree.specs.declared.tree.Constant.TheVariants as constants
-use Rattle.sbl_tree.specs.declared.tree.Assignment.{Assignment}
-use Rattle.sbl_tree.specs.declared.tree.Assignment.TheVariants as assignments
-use Rattle.sbl_tree.specs.declared.tree.Comparison.{Comparison}
-use Rattle.sbl_tree.specs.declared.tree.Comparison.TheVariants as comparisons
-use Rattle.sbl_tree.specs.Tree as trees
-use Rattle.sbl_tree.specs.Tree.{bracket, simple_, literal_, name_, non_, prefixed, counted, move_, named, splice_, setlimit_, assign_, compare_, compare_values_, among_, no_rows, row, no_others, joined, no_starter, starter, bare, group}
+use Rattle.sbl_ast.specs.Order.{in_order}
+use Rattle.sbl_ast.specs.declared.tree.Joiner.{Joiner}
+use Rattle.sbl_ast.specs.declared.tree.Joiner.TheVariants.{Or, And}
+use Rattle.sbl_ast.specs.declared.tree.Simple.{Simple}
+use Rattle.sbl_ast.specs.declared.tree.Simple.TheVariants as simples
+use Rattle.sbl_ast.specs.declared.tree.Prefix.{Prefix}
+use Rattle.sbl_ast.specs.declared.tree.Prefix.TheVariants as prefixes
+use Rattle.sbl_ast.specs.declared.tree.Count.{Count}
+use Rattle.sbl_ast.specs.declared.tree.Count.TheVariants as counts
+use Rattle.sbl_ast.specs.declared.tree.Move.{Move}
+use Rattle.sbl_ast.specs.declared.tree.Move.TheVariants as moves
+use Rattle.sbl_ast.specs.declared.tree.Naming.{Naming}
+use Rattle.sbl_ast.specs.declared.tree.Naming.TheVariants as namings
+use Rattle.sbl_ast.specs.declared.tree.Splice.{Splice}
+use Rattle.sbl_ast.specs.declared.tree.Splice.TheVariants as edits
+use Rattle.sbl_ast.specs.declared.tree.Additive.{Additive}
+use Rattle.sbl_ast.specs.declared.tree.Additive.TheVariants as additives
+use Rattle.sbl_ast.specs.declared.tree.Multiplicative.{Multiplicative}
+use Rattle.sbl_ast.specs.declared.tree.Multiplicative.TheVariants as multiplicatives
+use Rattle.sbl_ast.specs.declared.tree.Constant.{Constant}
+use Rattle.sbl_ast.specs.declared.tree.Constant.TheVariants as constants
+use Rattle.sbl_ast.specs.declared.tree.Assignment.{Assignment}
+use Rattle.sbl_ast.specs.declared.tree.Assignment.TheVariants as assignments
+use Rattle.sbl_ast.specs.declared.tree.Comparison.{Comparison}
+use Rattle.sbl_ast.specs.declared.tree.Comparison.TheVariants as comparisons
+use Rattle.sbl_ast.specs.Tree as trees
+use Rattle.sbl_ast.specs.Tree.{bracket, simple_, literal_, name_, non_, prefixed, counted, move_, named, splice_, setlimit_, assign_, compare_, compare_values_, among_, no_rows, row, no_others, joined, no_starter, starter, bare, group}
 use Rattle.std.specs.Cmp.Lexicographic.{pointwise}
-use Rattle.sbl_tree.specs.declared.tree.DeclarationKind.TheVariants as kinds
-use Rattle.sbl_tables.specs.Fitting.{read_as, ahead_at}
-use Rattle.sbl_numbering.specs.Items.{Known, Body, is_among, place_of, body_named, class_of, classes_behind, known_in}
-use Rattle.sbl_run.specs.Moves.{match, one_of, touch_grouping, next, hop, at_limit, set_mark, at_mark, to_mark, set_boolean, test_boolean}
-use Rattle.sbl_run.specs.Numbers.{Value, natural, given, fitted, divided, with_value, with_both, limit_value, integer_at}
-use Rattle.sbl_numbering.specs.Regions.{Among, among_at, behind, behind_rows, behind_others, behind_starter, first, first_rows, first_others, mode_behind, waits, waits_others}
-use Rattle.sbl_run.specs.Run.{at_end, turns, times, count_of, seeks, limits, limit_here, limit_back, backwards_from, backwards_end, chosen as go_on, enter, leave, paid}
-use Rattle.sbl_run.specs.Search.{choice, take_none, take_string, touch_among}
-use Rattle.sbl_run.specs.Slices.{left_bracket, right_bracket, replace, keep, insert, attach}
-use Rattle.sbl_run.specs.Start.{max_levels}
-use Rattle.sbl_run.specs.State.{State, Ending, Signals, Stops, Doing, bound_of, after, then_on, saved_cursor, place_after, put_back, to_limit}
-use Rattle.sbl_run.specs.declared.fault.RunFault.TheVariants.{Depth}
+use Rattle.sbl_ast.specs.declared.tree.DeclarationKind.TheVariants as kinds
+use Rattle.sbl_among_search.specs.Fitting.{read_as, ahead_at}
+use Rattle.sbl_compiler.specs.Items.{Known, Body, is_among, place_of, body_named, class_of, classes_behind, known_in}
+use Rattle.sbl_interpreter.specs.Moves.{match, one_of, touch_grouping, next, hop, at_limit, set_mark, at_mark, to_mark, set_boolean, test_boolean}
+use Rattle.sbl_interpreter.specs.Numbers.{Value, natural, given, fitted, divided, with_value, with_both, limit_value, integer_at}
+use Rattle.sbl_compiler.specs.Regions.{Among, among_at, behind, behind_rows, behind_others, behind_starter, first, first_rows, first_others, mode_behind, waits, waits_others}
+use Rattle.sbl_interpreter.specs.Run.{at_end, turns, times, count_of, seeks, limits, limit_here, limit_back, backwards_from, backwards_end, chosen as go_on, enter, leave, paid}
+use Rattle.sbl_interpreter.specs.Search.{choice, take_none, take_string, touch_among}
+use Rattle.sbl_interpreter.specs.Slices.{left_bracket, right_bracket, replace, keep, insert, attach}
+use Rattle.sbl_interpreter.specs.Start.{max_levels}
+use Rattle.sbl_interpreter.specs.State.{State, Ending, Signals, Stops, Doing, bound_of, after, then_on, saved_cursor, place_after, put_back, to_limit}
+use Rattle.sbl_interpreter.specs.declared.fault.RunFault.TheVariants.{Depth}
 use Rattle.sbl_script.specs.Parsed.{Source}
-use Rattle.sbl_tree.specs.declared.mode.Mode.{Mode}
-use Rattle.sbl_tree.specs.declared.mode.Mode.TheVariants.{Forward, Backward}
+use Rattle.sbl_ast.specs.declared.mode.Mode.{Mode}
+use Rattle.sbl_ast.specs.declared.mode.Mode.TheVariants.{Forward, Backward}
 
 -- ---- what a command does, given what its parts do
 

@@ -1,15 +1,15 @@
 -- What the names in a well-declared script mean.
 use Rattle.std.specs.Prelude.{◌≡◌, ◌⊎◌, ℕ, true, List, ◌∷◌, ◌++◌, Some}
-use Rattle.sbl_tree.specs.Order.{ItemInMode, in_order}
-use Rattle.sbl_tree.specs.declared.tree.DeclarationKind.TheVariants as kinds
-use Rattle.sbl_tree.specs.declared.mode.Mode.{Mode}
-use Rattle.sbl_numbering.specs.Items.{Body, body_named, known_in, is_among}
-use Rattle.sbl_checks.specs.Checks.{WellDeclared}
-use Rattle.sbl_checks.specs.Occurrences.{Occurrence, uses, occurrences_of}
+use Rattle.sbl_ast.specs.Order.{ItemInMode, in_order}
+use Rattle.sbl_ast.specs.declared.tree.DeclarationKind.TheVariants as kinds
+use Rattle.sbl_ast.specs.declared.mode.Mode.{Mode}
+use Rattle.sbl_compiler.specs.Items.{Body, body_named, known_in, is_among}
+use Rattle.sbl_resolver.specs.Checks.{WellDeclared}
+use Rattle.sbl_resolver.specs.Occurrences.{Occurrence, uses, occurrences_of}
 use Rattle.sbl_script.specs.Parsed.{Source}
-use Rattle.sbl_checks.specs.declared.occurrences.Site.{Site}
-use Rattle.sbl_checks.specs.declared.occurrences.Use.{Use}
-use Rattle.sbl_checks.specs.declared.occurrences.Use.TheVariants as use_as
+use Rattle.sbl_resolver.specs.declared.occurrences.Site.{Site}
+use Rattle.sbl_resolver.specs.declared.occurrences.Use.{Use}
+use Rattle.sbl_resolver.specs.declared.occurrences.Use.TheVariants as use_as
 
 -- the script has a routine with this name, defined in this mode
 abbrev pub HasBody : List ItemInMode → List ℕ → Mode → Type 0

@@ -1,5 +1,5 @@
 -- The program of a script.
-use Rattle.sbl_numbering.specs.Numbered.{numbered_items}
+use Rattle.sbl_compiler.specs.Numbered.{numbered_items}
 use Rattle.sbl_program.specs.Program.{Program}
 use Rattle.sbl_script.specs.Parsed.{Source}
 

@@ -1,12 +1,12 @@
 -- The outcome of a run on a word, and the steps that it uses.
 use Rattle.std.specs.Prelude.{ℕ, ℤ, ◌+◌, ◌-◌, List}
-use Rattle.sbl_run.specs.declared.fault.RunFault.{RunFault}
-use Rattle.sbl_run.specs.declared.fault.RunFault.TheVariants as faults
+use Rattle.sbl_interpreter.specs.declared.fault.RunFault.{RunFault}
+use Rattle.sbl_interpreter.specs.declared.fault.RunFault.TheVariants as faults
 use Rattle.sbl_machine.specs.declared.outcome.Outcome.{Outcome}
 use Rattle.sbl_machine.specs.declared.outcome.Outcome.TheVariants as code
-use Rattle.sbl_run.specs.declared.touch.Touch.{Touch}
+use Rattle.sbl_interpreter.specs.declared.touch.Touch.{Touch}
 use Rattle.sbl_machine.specs.Meaning.{ending}
-use Rattle.sbl_run.specs.State.{Ending, Signals, Stops}
+use Rattle.sbl_interpreter.specs.State.{Ending, Signals, Stops}
 use Rattle.sbl_script.specs.Parsed.{Source}
 
 -- a stem, or why there is none

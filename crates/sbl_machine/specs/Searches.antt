@@ -1,12 +1,12 @@
 -- Searches in a well-declared script.
 use Rattle.std.specs.Prelude.{◌↔◌, ℕ, List, []}
 use Rattle.std.specs.List.{AllByRecursion}
-use Rattle.sbl_tables.specs.Fitting.{fitting, read_all}
-use Rattle.sbl_tables.specs.Laws.{AllDiffer, Matches, StandsIn}
-use Rattle.sbl_tree.specs.Order.{in_order}
-use Rattle.sbl_numbering.specs.Laws.{names_in}
-use Rattle.sbl_numbering.specs.NumberedAmongs.{Found, found_behind}
-use Rattle.sbl_checks.specs.Checks.{WellDeclared}
+use Rattle.sbl_among_search.specs.Fitting.{fitting, read_all}
+use Rattle.sbl_among_search.specs.Laws.{AllDiffer, Matches, StandsIn}
+use Rattle.sbl_ast.specs.Order.{in_order}
+use Rattle.sbl_compiler.specs.Laws.{names_in}
+use Rattle.sbl_compiler.specs.NumberedAmongs.{Found, found_behind}
+use Rattle.sbl_resolver.specs.Checks.{WellDeclared}
 use Rattle.sbl_script.specs.Parsed.{Source}
 
 -- the amongs of a script; each has a table

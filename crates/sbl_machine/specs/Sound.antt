@@ -1,7 +1,7 @@
 -- The program of a script runs as the script does.
 use Rattle.std.specs.Prelude.{◌≡◌, ℕ, List}
 use Rattle.sbl_machine.specs.Meaning.{ending}
-use Rattle.sbl_run.specs.Start.{ending_of}
+use Rattle.sbl_interpreter.specs.Start.{ending_of}
 use Rattle.sbl_machine.specs.Numbered.{numbered_script}
 use Rattle.sbl_script.specs.Parsed.{Source}
 

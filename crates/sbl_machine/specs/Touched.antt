@@ -7,14 +7,14 @@ use Rattle.std.specs.declared.cmp.Ordering.TheVariants.{Less, Greater}
 use Rattle.std.specs.Ordering.{nat_cmp, ordering_then}
 use Rattle.std.specs.Cmp.Lexicographic.{slice_cmp}
 use Rattle.std.specs.BTreeSet.{BTreeSet, insert_key}
-use Rattle.sbl_tree.specs.Order.{in_order}
-use Rattle.sbl_tree.specs.declared.tree.DeclarationKind.TheVariants as kinds
+use Rattle.sbl_ast.specs.Order.{in_order}
+use Rattle.sbl_ast.specs.declared.tree.DeclarationKind.TheVariants as kinds
 use Rattle.sbl_machine.specs.declared.item.Item.{Item}
 use Rattle.sbl_machine.specs.declared.item.Item.TheVariants as code
-use Rattle.sbl_run.specs.declared.touch.Touch.{Touch}
-use Rattle.sbl_run.specs.declared.touch.Touch.TheVariants.{Entered, Searched, Tested}
+use Rattle.sbl_interpreter.specs.declared.touch.Touch.{Touch}
+use Rattle.sbl_interpreter.specs.declared.touch.Touch.TheVariants.{Entered, Searched, Tested}
 use Rattle.sbl_machine.specs.Outcome.{touches_of}
-use Rattle.sbl_numbering.specs.Items.{known_in}
+use Rattle.sbl_compiler.specs.Items.{known_in}
 use Rattle.sbl_script.specs.Edits.{ScriptEdit, body, among, terms}
 use Rattle.sbl_script.specs.Parsed.{Source}
 

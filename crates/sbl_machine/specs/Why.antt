@@ -3,11 +3,11 @@ use Rattle.std.specs.Prelude.{◌≡◌, ℕ, Bool, true, false, List, [], ◌�
 use Rattle.std.specs.List.{filter, splice}
 use Rattle.sbl_machine.specs.Meaning.{ending_with_events}
 use Rattle.sbl_machine.specs.Outcome.{Outcome', Stem, integers_at, integers_of, outcome_at, touched_at, used_at, run_of, touches_of, used_of}
-use Rattle.sbl_run.specs.Events.{Event', Enters, Searches, Puts}
-use Rattle.sbl_run.specs.State.{Ending, Signals, Stops}
-use Rattle.sbl_run.specs.Touches.{with_touch}
-use Rattle.sbl_run.specs.declared.touch.Touch.{Touch}
-use Rattle.sbl_run.specs.declared.touch.Touch.TheVariants.{Entered, Searched, Tested}
+use Rattle.sbl_interpreter.specs.Events.{Event', Enters, Searches, Puts}
+use Rattle.sbl_interpreter.specs.State.{Ending, Signals, Stops}
+use Rattle.sbl_interpreter.specs.Touches.{with_touch}
+use Rattle.sbl_interpreter.specs.declared.touch.Touch.{Touch}
+use Rattle.sbl_interpreter.specs.declared.touch.Touch.TheVariants.{Entered, Searched, Tested}
 use Rattle.sbl_script.specs.Parsed.{Source}
 
 abbrev pub events_in : Option (List Event') → List Event'

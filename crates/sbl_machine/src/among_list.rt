@@ -3,7 +3,7 @@
 ghost use Rattle.std.specs.Prelude.{◌≡◌, ◌<◌, ◌∷◌, ◌++◌, ℕ, List, [], length, map, slice_index_or, slice_set, OnOk};
 ghost use Rattle.sbl_machine.specs.AmongList as spec;
 
-use sbl_numbering::NameList;
+use sbl_compiler::NameList;
 use std::alloc::{AllocError, Global};
 use std::marker::Model;
 

@@ -2,13 +2,13 @@
 //! is built from one of them.
 
 ghost use Rattle.std.specs.Prelude.{◌≡◌, map, OnOk, IfOk};
-ghost use Rattle.sbl_numbering.specs.Items.{is_among};
-ghost use Rattle.sbl_tree.specs.Order.{in_order};
-ghost use Rattle.sbl_tree.specs.View.{view_argument, view_items, view_plain, view_term};
+ghost use Rattle.sbl_compiler.specs.Items.{is_among};
+ghost use Rattle.sbl_ast.specs.Order.{in_order};
+ghost use Rattle.sbl_ast.specs.View.{view_argument, view_items, view_plain, view_term};
 ghost use Rattle.sbl_machine.specs.BuiltFrom as spec;
 
-use sbl_numbering::NameList;
-use sbl_tree::{Argument, Item, Plain, Term, items_in_order};
+use sbl_ast::{Argument, Plain, ScriptItem, Term, items_in_order};
+use sbl_compiler::NameList;
 use std::alloc::{AllocError, Global};
 
 // Whether a term is the name of one of these groupings.
@@ -58,7 +58,7 @@ fn add_built(alloc: Global, plain: &Plain, names: &mut NameList) -> Result<(), A
 /// Returns `AllocError` if an allocation fails.
 pub fn built_from(
     alloc: Global,
-    items: &[Item],
+    items: &[ScriptItem],
     groupings: NameList,
 ) -> Result<NameList, AllocError>
     ensures { IfOk result (λ names. names ≡ spec.built_behind (in_order (view_items items.now)) groupings) }

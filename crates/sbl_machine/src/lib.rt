@@ -19,8 +19,8 @@ pub use limit::DEFAULT_LIMIT;
 pub use machine::Machine;
 pub use meter::Meter;
 pub use outcome::{Outcome, Ran, Traced, Why};
-pub use sbl_run::{Event, RunFault, Touch, Touched};
-pub use sbl_tables::{AmongSearch, LinkedTable, PlainTable};
+pub use sbl_among_search::{AmongSearch, LinkedTable, PlainTable};
+pub use sbl_interpreter::{Event, RunFault, Touch, Touched};
 
 /// The tables that a program searches.
 pub type Table = LinkedTable;

@@ -1,10 +1,10 @@
 //! What edits affect, by number.
 
 ghost use Rattle.std.specs.Prelude.{◌≡◌, ℕ, List, [], map, OnOk, IfOk, string_bytes};
-ghost use Rattle.sbl_numbering.specs.NumberedNames.{is_one_of};
-ghost use Rattle.sbl_run.specs.declared.touch.Touch.TheVariants.{Entered, Searched, Tested};
-ghost use Rattle.sbl_tree.specs.Order.{in_order};
-ghost use Rattle.sbl_tree.specs.View.{view_items};
+ghost use Rattle.sbl_compiler.specs.NumberedNames.{is_one_of};
+ghost use Rattle.sbl_interpreter.specs.declared.touch.Touch.TheVariants.{Entered, Searched, Tested};
+ghost use Rattle.sbl_ast.specs.Order.{in_order};
+ghost use Rattle.sbl_ast.specs.View.{view_items};
 ghost use Rattle.sbl_machine.specs.Marking.{amongs_in, and_among, and_grouping, and_routine, groupings_behind, marked, marks_of, routines_behind, searched, searches};
 ghost use Rattle.sbl_machine.specs.AmongList.{numbers_of};
 ghost use Rattle.sbl_machine.specs.Touched.{item_of};
@@ -13,8 +13,8 @@ use crate::among_list::AmongList;
 use crate::built::built_from;
 use crate::item::Item;
 use crate::naming::Names;
-use sbl_numbering::NameList;
-use sbl_run::Touched;
+use sbl_compiler::NameList;
+use sbl_interpreter::Touched;
 use std::alloc::{AllocError, Global};
 
 // Adds the touch that enters each routine that has one of these names.
@@ -150,7 +150,7 @@ fn amongs_in(alloc: Global, items: &[Item]) -> Result<AmongList, AllocError>
 pub fn marks_of(
     alloc: Global,
     names: &Names,
-    script: &[sbl_tree::Item],
+    script: &[sbl_ast::ScriptItem],
     items: &[Item],
 ) -> Result<Touched, AllocError>
     ensures { IfOk result (λ marks. marks ≡ marks_of names.now (in_order (view_items script.now)) (map item_of items.now)) }

@@ -2,7 +2,7 @@
 
 ghost use Rattle.std.specs.Prelude.{◌≡◌, ◌+◌, ◌<◌, IsTrue, false, ◌↔◌};
 
-use sbl_run::State;
+use sbl_interpreter::State;
 use std::marker::Model;
 
 /// Counts runs, and keeps the buffers of the last run for the next.

@@ -6,7 +6,7 @@ ghost use Rattle.std.specs.List.{list_any};
 ghost use Rattle.sbl_machine.specs.Touched.{item_cmp, item_of, items_in, items_of, named, same_item};
 
 use crate::item::Item;
-use sbl_run::Touch;
+use sbl_interpreter::Touch;
 use std::alloc::{AllocError, Global};
 use std::collections::BTreeSet;
 use std::marker::Model;

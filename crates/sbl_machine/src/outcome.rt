@@ -1,7 +1,7 @@
 //! The result of a run.
 
 use crate::item::Item;
-use sbl_run::{Event, RunFault, Touch};
+use sbl_interpreter::{Event, RunFault, Touch};
 use std::collections::BTreeSet;
 
 /// The outcome of a run of a script on a word.

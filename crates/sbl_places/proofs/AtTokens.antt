@@ -8,14 +8,14 @@ use Rattle.sbl_text.specs.declared.fault.ScriptFault.{ScriptFault}
 use Rattle.sbl_text.specs.Directives.{start}
 use Rattle.sbl_text.specs.Tokens.{Placed}
 use Rattle.sbl_text.specs.Laws.{PlacesAreOne}
-use Rattle.sbl_tree.specs.Tree.{Item}
-use Rattle.sbl_tree.specs.Texts.{script}
-use Rattle.sbl_grammar.specs.Reading.{IsReadAs}
-use Rattle.sbl_grammar.specs.Laws.{TreesAreOne, PlacesAreWritten}
-use Rattle.sbl_checks.specs.Occurrences.{occurrences_of}
-use Rattle.sbl_checks.specs.Checks.{fault_of}
-use Rattle.sbl_checks.specs.Laws.{IsFirst, FaultIsFirst, WellDeclaredPasses, EachPasses}
-use Rattle.sbl_checks.specs.Subjects.{Subject, IsFirstAfter}
+use Rattle.sbl_ast.specs.Tree.{Item}
+use Rattle.sbl_ast.specs.Texts.{script}
+use Rattle.sbl_parser.specs.Reading.{IsReadAs}
+use Rattle.sbl_parser.specs.Laws.{TreesAreOne, PlacesAreWritten}
+use Rattle.sbl_resolver.specs.Occurrences.{occurrences_of}
+use Rattle.sbl_resolver.specs.Checks.{fault_of}
+use Rattle.sbl_resolver.specs.Laws.{IsFirst, FaultIsFirst, WellDeclaredPasses, EachPasses}
+use Rattle.sbl_resolver.specs.Subjects.{Subject, IsFirstAfter}
 use Rattle.sbl_script.specs.Reading.{HasTokens, IsCheckFault, first_left_out, terminals}
 use Rattle.sbl_places.specs.SubjectTokens.{SubjectToken, subject_tokens}
 use Rattle.sbl_places.specs.FaultPlaces.{SubjectsAreTokens, IsFaultAt, TokenIsSubject, FaultIsAtOne, FaultAtIsFault, FaultIsAt, is_of_token}

@@ -14,10 +14,10 @@ use Rattle.sbl_text.specs.Directives.{Directives}
 use Rattle.sbl_text.specs.Escapes.{InForce, opens, find}
 use Rattle.sbl_text.specs.Literals.{Refusal, byte_length, code_or_fault, character_named, value_or_character, inserted, IsWrong}
 use Rattle.sbl_text.specs.Tokens.{Placed, starts_star, pair_fault, token_fault, fault_at, IsRefused, IsFirstFaultFrom}
-use Rattle.sbl_tree.specs.Texts.{Text}
-use Rattle.sbl_grammar.specs.Reading.{IsSyntaxAt, IsTooDeepAt, IsOutOfProfileAt}
-use Rattle.sbl_checks.specs.Occurrences.{Occurrence}
-use Rattle.sbl_checks.specs.Checks as checks
+use Rattle.sbl_ast.specs.Texts.{Text}
+use Rattle.sbl_parser.specs.Reading.{IsSyntaxAt, IsTooDeepAt, IsOutOfProfileAt}
+use Rattle.sbl_resolver.specs.Occurrences.{Occurrence}
+use Rattle.sbl_resolver.specs.Checks as checks
 use Rattle.sbl_script.specs.Reading.{IsTextFault, IsUnread, place_of, terminals}
 use Rattle.sbl_places.specs.FaultPlaces.{is_of_token}
 

@@ -2,10 +2,10 @@
 use Rattle.std.proofs.Common.{◌≡◌, ◌⊎◌, ℕ, List, [], ◌∷◌, ◌++◌, length, Option, Some, None, refl, sym, ap, ◌∙◌, inl, inr}
 use Rattle.std.specs.List.{slice_get}
 use Rattle.sbl_text.specs.declared.fault.ScriptFault.{ScriptFault}
-use Rattle.sbl_checks.specs.Occurrences.{Occurrence, Notice, declares, defines_routine, defines_grouping, uses, substring, among, string, backwards, region_end}
-use Rattle.sbl_checks.specs.Checks.{fault_at}
-use Rattle.sbl_checks.specs.Laws.{IsFirst}
-use Rattle.sbl_checks.specs.Subjects.{Subject, subject_of, subjects_of, and_more, IsFirstAfter}
+use Rattle.sbl_resolver.specs.Occurrences.{Occurrence, Notice, declares, defines_routine, defines_grouping, uses, substring, among, string, backwards, region_end}
+use Rattle.sbl_resolver.specs.Checks.{fault_at}
+use Rattle.sbl_resolver.specs.Laws.{IsFirst}
+use Rattle.sbl_resolver.specs.Subjects.{Subject, subject_of, subjects_of, and_more, IsFirstAfter}
 
 pub some_one : {X : Type 0} (x y : X) → Some x ≡ Some y → x ≡ y
 some_one x y e = cc

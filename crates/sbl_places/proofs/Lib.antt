@@ -5,3 +5,4 @@ pub mod Codes
 pub mod AtTokens
 pub mod NoPlaces
 pub mod FaultKinds
+pub mod InBlocks

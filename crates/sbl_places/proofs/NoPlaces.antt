@@ -2,22 +2,22 @@
 use Rattle.std.proofs.Common.{◌≡◌, ◌≤◌, ℕ, length, List, [], ◌∷◌, Some, None, map, refl, sym, ap, subst, ◌∙◌}
 use Rattle.std.specs.Str.{chars, IsUtf8}
 use Rattle.std.specs.Prelude.{option_map}
-use Rattle.sbl_lexemes.specs.declared.token.Token.{Token}
-use Rattle.sbl_lexemes.specs.Lexemes.{lexeme_of}
+use Rattle.sbl_token.specs.declared.token.Token.{Token}
+use Rattle.sbl_token.specs.Lexemes.{lexeme_of}
 use Rattle.sbl_text.specs.declared.fault.ScriptFault.{ScriptFault}
 use Rattle.sbl_text.specs.declared.fault.ScriptFault.TheVariants as fault
 use Rattle.sbl_text.specs.Directives.{start}
 use Rattle.sbl_text.specs.Tokens.{Placed, placed_of, ArePlaced, IsFirstFault, said}
 use Rattle.sbl_text.specs.Laws.{PlacesAreOne, TokensOrFault}
-use Rattle.sbl_tree.specs.Terminal.{Terminal, terminal_of, terminals_of, left}
-use Rattle.sbl_tree.specs.Tree.{Item}
-use Rattle.sbl_tree.specs.Texts.{script}
-use Rattle.sbl_grammar.specs.Told as grammar
-use Rattle.sbl_grammar.specs.Reading.{IsReadAs}
-use Rattle.sbl_grammar.specs.Laws.{TreesAreOne, TreeOrFault, PlacesAreWritten, syntax, too_deep, out_of_profile}
-use Rattle.sbl_checks.specs.Occurrences.{occurrences_of}
-use Rattle.sbl_checks.specs.Laws.{IsFirst, EachPasses}
-use Rattle.sbl_checks.specs.Subjects.{IsFirstAfter}
+use Rattle.sbl_ast.specs.Terminal.{Terminal, terminal_of, terminals_of, left}
+use Rattle.sbl_ast.specs.Tree.{Item}
+use Rattle.sbl_ast.specs.Texts.{script}
+use Rattle.sbl_parser.specs.Told as grammar
+use Rattle.sbl_parser.specs.Reading.{IsReadAs}
+use Rattle.sbl_parser.specs.Laws.{TreesAreOne, TreeOrFault, PlacesAreWritten, syntax, too_deep, out_of_profile}
+use Rattle.sbl_resolver.specs.Occurrences.{occurrences_of}
+use Rattle.sbl_resolver.specs.Laws.{IsFirst, EachPasses}
+use Rattle.sbl_resolver.specs.Subjects.{IsFirstAfter}
 use Rattle.sbl_script.specs.Reading.{HasTokens, first_left_out, max_script, terminals}
 use Rattle.sbl_places.specs.SubjectTokens.{SubjectToken, subject_tokens}
 use Rattle.sbl_places.specs.FaultPlaces.{IsFaultAt, HasNoFaultAt, IsPlaceIn}

@@ -1,20 +1,20 @@
 -- What the checks look at in a tree are, one for one, the subject tokens of its text.
 use Rattle.std.proofs.Common.{◌≡◌, ℕ, ◌+◌, Bool, true, false, List, [], ◌∷◌, ◌++◌, map, Option, Some, None, refl, sym, ap, ◌∙◌, append-nil}
 use Rattle.sbl_text.specs.Tokens.{Placed}
-use Rattle.sbl_tree.specs.declared.mode.Mode.TheVariants.{Forward, Backward}
-use Rattle.sbl_tree.specs.declared.tree.DeclarationKind.{DeclarationKind}
-use Rattle.sbl_tree.specs.declared.tree.Simple.{Simple}
-use Rattle.sbl_tree.specs.declared.tree.Simple.TheVariants as simples
-use Rattle.sbl_tree.specs.declared.tree.Prefix.{Prefix}
-use Rattle.sbl_tree.specs.declared.tree.Prefix.TheVariants as prefixes
-use Rattle.sbl_tree.specs.Terminal.{Terminal, Quoted, terminal_of}
-use Rattle.sbl_tree.specs.Terminal as t
-use Rattle.sbl_tree.specs.Tree.{Argument, written_out, by_name, Expression, expression, Sums, no_sums, sum, Product, product, Scales, no_scales, scale, Factor, negated, bracketed, numeral, variable, fixed, length_of, Entry, entry, Command, bracket, simple_, literal_, name_, non_, prefixed, counted, move_, named, splice_, setlimit_, assign_, compare_, compare_values_, among_, Rows, no_rows, row, Others, no_others, joined, Starter, no_starter, starter, Groups, bare, group, Term, term, Plain, declaration, escapes, macro, routine, grouping, Item, plain, backward, argument_terminal, spelled_expression, spelled_sums, spelled_product, spelled_scales, spelled_factor, spelled_entry, spelled_entries, spelled, spelled_rows, spelled_others, spelled_starter, spelled_groups, spelled_names, spelled_terms, spelled_plain, spelled_plains, spelled_items, written}
-use Rattle.sbl_tree.specs.Order.{ItemInMode, in_mode, in_order}
-use Rattle.sbl_checks.specs.declared.occurrences.Use.TheVariants as use_as
-use Rattle.sbl_checks.specs.declared.occurrences.Site.{Site}
-use Rattle.sbl_checks.specs.Occurrences.{Occurrence, Notice, put, uses, substring, among, string, backwards, region_end, declares, defines_routine, defines_grouping, amongs_in, noted_string, noted_expression, noted_sums, noted_product, noted_scales, noted_factor, noted_simple, noted_prefix, site_behind, use_of, noted_entry, noted_entries, has_starter, is_empty, noted, noted_rows, noted_others, noted_starter, noted_groups, noted_names, noted_term, noted_terms, noted_plain, noted_items, occurrences_of}
-use Rattle.sbl_checks.specs.Subjects.{Subject, subject_of, subjects_of, and_more}
+use Rattle.sbl_ast.specs.declared.mode.Mode.TheVariants.{Forward, Backward}
+use Rattle.sbl_ast.specs.declared.tree.DeclarationKind.{DeclarationKind}
+use Rattle.sbl_ast.specs.declared.tree.Simple.{Simple}
+use Rattle.sbl_ast.specs.declared.tree.Simple.TheVariants as simples
+use Rattle.sbl_ast.specs.declared.tree.Prefix.{Prefix}
+use Rattle.sbl_ast.specs.declared.tree.Prefix.TheVariants as prefixes
+use Rattle.sbl_ast.specs.Terminal.{Terminal, Quoted, terminal_of}
+use Rattle.sbl_ast.specs.Terminal as t
+use Rattle.sbl_ast.specs.Tree.{Argument, written_out, by_name, Expression, expression, Sums, no_sums, sum, Product, product, Scales, no_scales, scale, Factor, negated, bracketed, numeral, variable, fixed, length_of, Entry, entry, Command, bracket, simple_, literal_, name_, non_, prefixed, counted, move_, named, splice_, setlimit_, assign_, compare_, compare_values_, among_, Rows, no_rows, row, Others, no_others, joined, Starter, no_starter, starter, Groups, bare, group, Term, term, Plain, declaration, escapes, macro, routine, grouping, Item, plain, backward, argument_terminal, spelled_expression, spelled_sums, spelled_product, spelled_scales, spelled_factor, spelled_entry, spelled_entries, spelled, spelled_rows, spelled_others, spelled_starter, spelled_groups, spelled_names, spelled_terms, spelled_plain, spelled_plains, spelled_items, written}
+use Rattle.sbl_ast.specs.Order.{ItemInMode, in_mode, in_order}
+use Rattle.sbl_resolver.specs.declared.occurrences.Use.TheVariants as use_as
+use Rattle.sbl_resolver.specs.declared.occurrences.Site.{Site}
+use Rattle.sbl_resolver.specs.Occurrences.{Occurrence, Notice, put, uses, substring, among, string, backwards, region_end, declares, defines_routine, defines_grouping, amongs_in, noted_string, noted_expression, noted_sums, noted_product, noted_scales, noted_factor, noted_simple, noted_prefix, site_behind, use_of, noted_entry, noted_entries, has_starter, is_empty, noted, noted_rows, noted_others, noted_starter, noted_groups, noted_names, noted_term, noted_terms, noted_plain, noted_items, occurrences_of}
+use Rattle.sbl_resolver.specs.Subjects.{Subject, subject_of, subjects_of, and_more}
 use Rattle.sbl_places.specs.SubjectTokens.{SubjectToken, subject_in, string_if, is_among, is_in_among, open_after, subject_tokens, subject_tokens_after, subjects}
 use Rattle.sbl_places.specs.SubjectTokens as tokens
 

@@ -5,11 +5,11 @@ use Rattle.sbl_text.specs.declared.fault.ScriptFault.{ScriptFault}
 use Rattle.sbl_text.specs.declared.fault.ScriptFault.TheVariants as fault
 use Rattle.sbl_text.specs.Directives.{start}
 use Rattle.sbl_text.specs.Tokens.{Placed}
-use Rattle.sbl_tree.specs.Tree.{Item}
-use Rattle.sbl_tree.specs.Texts.{script}
-use Rattle.sbl_grammar.specs.Reading.{IsReadAs}
-use Rattle.sbl_checks.specs.Occurrences.{occurrences_of}
-use Rattle.sbl_checks.specs.Subjects.{subjects_of, IsFirstAfter}
+use Rattle.sbl_ast.specs.Tree.{Item}
+use Rattle.sbl_ast.specs.Texts.{script}
+use Rattle.sbl_parser.specs.Reading.{IsReadAs}
+use Rattle.sbl_resolver.specs.Occurrences.{occurrences_of}
+use Rattle.sbl_resolver.specs.Subjects.{subjects_of, IsFirstAfter}
 use Rattle.sbl_script.specs.Reading.{HasTokens, IsFaultOf, first_left_out, terminals}
 use Rattle.sbl_places.specs.SubjectTokens.{SubjectToken, subject_tokens, subjects}
 use Rattle.sbl_places.specs.declared.fault_places.FaultPlace.{FaultPlace}

@@ -1,6 +1,7 @@
 -- definitions that public contracts depend on
 pub mod SubjectTokens
 pub mod FaultPlaces
+pub mod BlockPlaces
 pub mod Positions
 -- what the functions inside the crate promise each other; no public contract depends on these
 pub mod Walks

@@ -1,11 +1,11 @@
 -- The tokens of a text that the checks look at.
 use Rattle.std.specs.Prelude.{Bool, true, false, List, [], ◌∷◌, map, Option, Some, None, ℕ}
 use Rattle.sbl_text.specs.Tokens.{Placed}
-use Rattle.sbl_tree.specs.declared.tree.Simple.TheVariants as simples
-use Rattle.sbl_tree.specs.declared.tree.Prefix.TheVariants as prefixes
-use Rattle.sbl_tree.specs.Terminal.{Terminal, terminal_of}
-use Rattle.sbl_tree.specs.Terminal as t
-use Rattle.sbl_checks.specs.Subjects.{Subject, name, string, substring, among, backwards}
+use Rattle.sbl_ast.specs.declared.tree.Simple.TheVariants as simples
+use Rattle.sbl_ast.specs.declared.tree.Prefix.TheVariants as prefixes
+use Rattle.sbl_ast.specs.Terminal.{Terminal, terminal_of}
+use Rattle.sbl_ast.specs.Terminal as t
+use Rattle.sbl_resolver.specs.Subjects.{Subject, name, string, substring, among, backwards}
 
 -- ---- which parentheses are those of an among
 

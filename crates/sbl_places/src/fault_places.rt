@@ -4,10 +4,10 @@ ghost use Rattle.std.specs.Prelude.{◌≡◌, ◌≤◌, List, None, Some, IfOk
 ghost use Rattle.std.specs.Str.{IsUtf8, chars};
 ghost use Rattle.sbl_text.specs.Directives.{start};
 ghost use Rattle.sbl_text.specs.Tokens.{ArePlaced, Placed, placed_of};
-ghost use Rattle.sbl_tree.specs.Tree as trees;
-ghost use Rattle.sbl_tree.specs.Texts.{script};
-ghost use Rattle.sbl_tree.specs.View.{view_items};
-ghost use Rattle.sbl_grammar.specs.Reading.{IsReadAs};
+ghost use Rattle.sbl_ast.specs.Tree as trees;
+ghost use Rattle.sbl_ast.specs.Texts.{script};
+ghost use Rattle.sbl_ast.specs.View.{view_items};
+ghost use Rattle.sbl_parser.specs.Reading.{IsReadAs};
 ghost use Rattle.sbl_script.specs.Reading as spec;
 ghost use Rattle.sbl_script.specs.Reading.{HasTokens, max_script, terminals};
 ghost use Rattle.sbl_places.specs.FaultPlaces as places;
@@ -16,12 +16,12 @@ ghost use Rattle.sbl_places.specs.FaultPlaces.{HasNoFaultAt, IsOffset, IsPlaceIn
 use crate::fault_kinds::is_same;
 use crate::laws::{faults_are_at_tokens, token_is_one};
 use crate::subject_tokens::subject_at;
-use sbl_checks::first_fault;
-use sbl_grammar::{is_left_out, one_fault, one_tree, parse};
+use sbl_ast::ScriptItem;
+use sbl_parser::{is_left_out, one_fault, one_tree, parse};
+use sbl_resolver::first_fault;
 use sbl_script::MAX_SCRIPT;
 use sbl_text::laws::{first_fault_is_one, tokens_are_one};
 use sbl_text::{ScriptFault, Token, tokens};
-use sbl_tree::Item;
 use std::alloc::{AllocError, Global};
 
 /// A fault of the checks, and the byte range of the token at which it is.
@@ -73,7 +73,11 @@ fn first_left_out(tokens: &[Token<'_>]) -> Option<usize>
 
 /// Returns the tree of these tokens, or `None` if one is not supported or they have no tree. `end` is the length of
 /// their text in bytes. Returns `AllocError` if an allocation fails.
-fn tree_of(alloc: Global, tokens: &[Token<'_>], end: usize) -> Result<Option<Vec<Item>>, AllocError>
+fn tree_of(
+    alloc: Global,
+    tokens: &[Token<'_>],
+    end: usize,
+) -> Result<Option<Vec<ScriptItem>>, AllocError>
     ensures { IfOk result (λ o. MatchOption o ((items : List trees.Item) → spec.first_left_out (map placed_of tokens.now) ≡ None → IsReadAs script (terminals (map placed_of tokens.now)) items → ⊥) (λ items. (spec.first_left_out (map placed_of tokens.now) ≡ None) × IsReadAs script (terminals (map placed_of tokens.now)) (view_items items.items))) }
 {
     one_fault();
@@ -119,7 +123,11 @@ pub fn place_of_fault(alloc: Global, text: &[u8]) -> Result<Option<FaultPlace>, 
 
 /// Returns the byte offset of the token at which the checks find this fault, or `None` if they do not find it in this text. Returns
 /// `AllocError` if an allocation fails.
-fn token_offset(alloc: Global, text: &[u8], fault: ScriptFault) -> Result<Option<usize>, AllocError>
+pub(crate) fn token_offset(
+    alloc: Global,
+    text: &[u8],
+    fault: ScriptFault,
+) -> Result<Option<usize>, AllocError>
     ensures { IfOk result (λ o. IsTokenOffset text.now fault o) }
 {
     token_is_one();
@@ -131,7 +139,7 @@ fn token_offset(alloc: Global, text: &[u8], fault: ScriptFault) -> Result<Option
 }
 
 /// Returns the place that a fault has. Does not allocate.
-fn place_in(fault: ScriptFault) -> Option<usize>
+pub(crate) fn place_in(fault: ScriptFault) -> Option<usize>
     ensures { result ≡ places.place_in fault }
 {
     match fault {

@@ -2,7 +2,7 @@
 
 ghost use Rattle.sbl_places.specs.FaultPlaces.{FaultAtIsFault, FaultIsAt, FaultIsAtOne, SubjectsAreTokens, TokenIsSubject};
 
-use sbl_grammar::one_tree;
+use sbl_parser::one_tree;
 use sbl_script::laws::{fault_is_first, well_declared_passes};
 use sbl_text::laws::tokens_are_one;
 

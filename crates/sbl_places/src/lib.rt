@@ -1,12 +1,16 @@
 //! Where in its text a script's fault is.
 #![tactic(auto)]
 
+mod block_places;
 mod fault_kinds;
 mod fault_places;
 pub mod laws;
+mod parts;
 mod positions;
 mod subject_tokens;
 
+pub use block_places::offset_in_block;
 pub use fault_places::{FaultPlace, offset_of_fault, place_of_fault};
+pub use parts::{Cut, Part, cut_at_part};
 pub use positions::{Position, position_of};
 pub use sbl_text::ScriptFault;

@@ -1,9 +1,9 @@
 //! The tokens that the checks look at.
 
 ghost use Rattle.std.specs.Prelude.{◌≡◌, [], Bool, map, is_some, IfOk, OnOk, false};
-ghost use Rattle.sbl_lexemes.specs.Lexemes.{lexeme_of};
+ghost use Rattle.sbl_token.specs.Lexemes.{lexeme_of};
 ghost use Rattle.sbl_text.specs.Tokens.{placed_of};
-ghost use Rattle.sbl_tree.specs.Terminal.{terminal_of, word_terminal};
+ghost use Rattle.sbl_ast.specs.Terminal.{terminal_of, word_terminal};
 ghost use Rattle.sbl_places.specs.SubjectTokens as spec;
 ghost use Rattle.sbl_places.specs.Walks as walk;
 

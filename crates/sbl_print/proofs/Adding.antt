@@ -2,7 +2,7 @@
 use Rattle.std.proofs.Common.{◌≡◌, ℕ, List, [], ◌∷◌, ◌++◌, Result, Ok, Err, OnOk, sym, ap, ◌∙◌, append_assoc}
 use Rattle.std.proofs.lemmas.List.{append-nil}
 use Rattle.std.specs.Prelude.{is_ok, if◌then◌else◌}
-use Rattle.sbl_tree.specs.Terminal.{Terminal}
+use Rattle.sbl_ast.specs.Terminal.{Terminal}
 use Rattle.sbl_print.specs.Canonical.{token_text, space}
 use Rattle.sbl_print.specs.Adding.{more, Adds, Begins}
 

@@ -4,11 +4,11 @@ use Rattle.std.specs.Prelude.{◌&&◌, encode_utf8_all}
 use Rattle.std.specs.List.{flat_map, join_by}
 use Rattle.std.proofs.lemmas.Str.{encode_ascii}
 use Rattle.sbl_text.specs.Classes.{is_white}
-use Rattle.sbl_lexemes.specs.Lexemes.{Lexeme}
+use Rattle.sbl_token.specs.Lexemes.{Lexeme}
 use Rattle.sbl_text.specs.Spaced.{Spaced, are_white, lexeme_text, lexemes_of, spaced_text}
-use Rattle.sbl_tree.specs.Terminal.{Terminal, lexeme_as}
-use Rattle.sbl_tree.specs.Terminal as t
-use Rattle.sbl_tree.specs.Tree.{Plain, declaration, escapes, macro, routine, grouping, Item, plain, backward, spelled_plain, spelled_plains, spelled_item, spelled_items, written}
+use Rattle.sbl_ast.specs.Terminal.{Terminal, lexeme_as}
+use Rattle.sbl_ast.specs.Terminal as t
+use Rattle.sbl_ast.specs.Tree.{Plain, declaration, escapes, macro, routine, grouping, Item, plain, backward, spelled_plain, spelled_plains, spelled_item, spelled_items, written}
 use Rattle.sbl_print.specs.Canonical.{token_text, space, line_feed, line, plain_text, item_text, canonical}
 use Rattle.sbl_print.specs.Spaced.{IsSpaced}
 use Rattle.sbl_print.proofs.Spelled.{plain_before, plains_before, item_before}

@@ -1,7 +1,7 @@
 -- What is appended to a line that has a token.
 use Rattle.std.specs.Prelude.{◌≡◌, ℕ, List, ◌++◌}
 use Rattle.std.specs.List.{flat_map, join_by}
-use Rattle.sbl_tree.specs.Terminal.{Terminal}
+use Rattle.sbl_ast.specs.Terminal.{Terminal}
 use Rattle.sbl_print.specs.Canonical.{token_text, space}
 
 -- tokens, each with a space before it

@@ -2,9 +2,9 @@
 use Rattle.std.specs.Prelude.{ℕ, List, [], ◌∷◌, ◌++◌}
 use Rattle.std.specs.List.{flat_map, join_by}
 use Rattle.sbl_text.specs.Spaced.{lexeme_text}
-use Rattle.sbl_tree.specs.Terminal.{Terminal, lexeme_as}
-use Rattle.sbl_tree.specs.Terminal as t
-use Rattle.sbl_tree.specs.Tree.{Plain, Item, plain, backward, spelled_plain}
+use Rattle.sbl_ast.specs.Terminal.{Terminal, lexeme_as}
+use Rattle.sbl_ast.specs.Terminal as t
+use Rattle.sbl_ast.specs.Tree.{Plain, Item, plain, backward, spelled_plain}
 
 -- The text of a token, as UTF-8 bytes: words and signs as in the language, a number as its value in decimal, a literal
 -- as its spelling in quotes, names, insert characters and names of macros unchanged.

@@ -1,8 +1,8 @@
 -- The canonical text as tokens that are separated by white space.
 use Rattle.std.specs.Prelude.{◌≡◌, ℕ, true, List, map}
 use Rattle.sbl_text.specs.Spaced.{Spaced, are_white, lexemes_of, spaced_text}
-use Rattle.sbl_tree.specs.Terminal.{Terminal, lexeme_as}
-use Rattle.sbl_tree.specs.Tree.{Item, written}
+use Rattle.sbl_ast.specs.Terminal.{Terminal, lexeme_as}
+use Rattle.sbl_ast.specs.Tree.{Item, written}
 use Rattle.sbl_print.specs.Canonical.{canonical}
 
 -- the text consists of these tokens, each followed by one white space character

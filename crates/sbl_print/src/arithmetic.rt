@@ -1,14 +1,14 @@
 //! Prints arithmetic expressions.
 
 ghost use Rattle.std.specs.Prelude.{OnOk, string_bytes};
-ghost use Rattle.sbl_tree.specs.Tree.{spelled_expression, spelled_factor, spelled_product, spelled_scales, spelled_sums};
-ghost use Rattle.sbl_tree.specs.View.{view_expression, view_factor, view_product, view_scales, view_sums};
+ghost use Rattle.sbl_ast.specs.Tree.{spelled_expression, spelled_factor, spelled_product, spelled_scales, spelled_sums};
+ghost use Rattle.sbl_ast.specs.View.{view_expression, view_factor, view_product, view_scales, view_sums};
 ghost use Rattle.sbl_print.specs.Adding.{Adds};
 
 use crate::tokens::{put, put_argument, put_name, put_number, put_sign, put_word};
 use crate::words::{additive_text, constant_text, multiplicative_text};
-use sbl_lexemes::{Sign, Word};
-use sbl_tree::{Added, Expression, Factor, Product, Scaled};
+use sbl_ast::{Added, Expression, Factor, Product, Scaled};
+use sbl_token::{Sign, Word};
 use std::alloc::{AllocError, Global};
 
 /// Appends an expression. Returns `AllocError` if an allocation fails.

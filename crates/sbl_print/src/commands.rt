@@ -1,11 +1,11 @@
 //! Prints commands.
 
 ghost use Rattle.std.specs.Prelude.{◌≡◌, ◌++◌, ◌∷◌, List, OnOk, map, string_bytes};
-ghost use Rattle.sbl_tree.specs.Terminal.{Terminal};
-ghost use Rattle.sbl_tree.specs.Terminal as t;
-ghost use Rattle.sbl_tree.specs.Tree.{spelled, spelled_entries, spelled_entry, spelled_groups, spelled_others, spelled_rows, spelled_starter};
-ghost use Rattle.sbl_tree.specs.Tree as trees;
-ghost use Rattle.sbl_tree.specs.View.{view_among, view_argument, view_command, view_entry, view_expression, view_groups, view_others, view_row, view_rows};
+ghost use Rattle.sbl_ast.specs.Terminal.{Terminal};
+ghost use Rattle.sbl_ast.specs.Terminal as t;
+ghost use Rattle.sbl_ast.specs.Tree.{spelled, spelled_entries, spelled_entry, spelled_groups, spelled_others, spelled_rows, spelled_starter};
+ghost use Rattle.sbl_ast.specs.Tree as trees;
+ghost use Rattle.sbl_ast.specs.View.{view_among, view_argument, view_command, view_entry, view_expression, view_groups, view_others, view_row, view_rows};
 ghost use Rattle.sbl_print.specs.Adding.{Adds, more};
 
 use crate::arithmetic::put_expression;
@@ -14,11 +14,11 @@ use crate::words::{
     assignment_text, comparison_text, count_text, joiner_text, move_text, naming_text, prefix_text,
     simple_text, splice_text,
 };
-use sbl_lexemes::{Sign, Word};
-use sbl_tree::{
+use sbl_ast::{
     Among, Argument, Assignment, Command, Comparison, Entry, Expression, Group, Joined, Move,
-    Naming, Row, Splice,
+    Naming, RowOfCommands, Splice,
 };
+use sbl_token::{Sign, Word};
 use std::alloc::{AllocError, Global};
 
 /// Appends `non G` or `non - G`. Returns `AllocError` if an allocation fails.
@@ -216,7 +216,7 @@ fn put_groups(alloc: Global, out: &mut String, groups: &Vec<Group>) -> Result<()
 
 /// Appends rows in parentheses. Returns `AllocError` if an allocation fails.
 #[cycle(commands)]
-fn put_bracket(alloc: Global, out: &mut String, rows: &Vec<Row>) -> Result<(), AllocError>
+fn put_bracket(alloc: Global, out: &mut String, rows: &Vec<RowOfCommands>) -> Result<(), AllocError>
     ensures { OnOk result (Adds (string_bytes out.old) (string_bytes out.new) (λ rest. t.open_ ∷ spelled_rows (view_rows rows.now.items) (t.close_ ∷ rest))) }
 {
     put_sign(out, Sign::Open)?;
@@ -225,7 +225,7 @@ fn put_bracket(alloc: Global, out: &mut String, rows: &Vec<Row>) -> Result<(), A
 }
 
 #[cycle(commands)]
-fn put_rows(alloc: Global, out: &mut String, rows: &Vec<Row>) -> Result<(), AllocError>
+fn put_rows(alloc: Global, out: &mut String, rows: &Vec<RowOfCommands>) -> Result<(), AllocError>
     ensures { OnOk result (Adds (string_bytes out.old) (string_bytes out.new) (spelled_rows (view_rows rows.now.items))) }
 {
     for row in rows {
@@ -236,7 +236,7 @@ fn put_rows(alloc: Global, out: &mut String, rows: &Vec<Row>) -> Result<(), Allo
 
 /// Appends a row. Returns `AllocError` if an allocation fails.
 #[cycle(commands)]
-pub fn put_row(alloc: Global, out: &mut String, row: &Row) -> Result<(), AllocError>
+pub fn put_row(alloc: Global, out: &mut String, row: &RowOfCommands) -> Result<(), AllocError>
     ensures { OnOk result (Adds (string_bytes out.old) (string_bytes out.new) (λ rest. spelled (view_row row.now).0 (spelled_others (view_row row.now).1 rest))) }
 {
     put_command(alloc, out, &row.first)?;

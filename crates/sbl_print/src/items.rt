@@ -2,10 +2,10 @@
 
 ghost use Rattle.std.specs.Prelude.{◌≡◌, ◌++◌, ◌∷◌, [], IfOk, OnOk, map, string_bytes};
 ghost use Rattle.std.specs.List.{flat_map};
-ghost use Rattle.sbl_tree.specs.Terminal as t;
-ghost use Rattle.sbl_tree.specs.Tree.{spelled_base, spelled_names, spelled_plain, spelled_terms};
-ghost use Rattle.sbl_tree.specs.Tree as trees;
-ghost use Rattle.sbl_tree.specs.View.{view_argument, view_item, view_items, view_literal, view_plain, view_row, view_term};
+ghost use Rattle.sbl_ast.specs.Terminal as t;
+ghost use Rattle.sbl_ast.specs.Tree.{spelled_base, spelled_names, spelled_plain, spelled_terms};
+ghost use Rattle.sbl_ast.specs.Tree as trees;
+ghost use Rattle.sbl_ast.specs.View.{view_argument, view_item, view_items, view_literal, view_plain, view_row, view_term};
 ghost use Rattle.sbl_print.specs.Canonical.{canonical, item_text, plain_text};
 ghost use Rattle.sbl_print.specs.Adding.{Adds, Begins};
 
@@ -14,8 +14,8 @@ use crate::tokens::{
     put, put_argument, put_inserts, put_literal, put_macro_name, put_name, put_sign, put_word,
 };
 use crate::words::{additive_text, base_text, declaration_text};
-use sbl_lexemes::{Sign, Word};
-use sbl_tree::{Argument, Base, DeclarationKind, Item, Literal, Plain, Row, Term};
+use sbl_ast::{Argument, Base, DeclarationKind, Literal, Plain, RowOfCommands, ScriptItem, Term};
+use sbl_token::{Sign, Word};
 use std::alloc::{AllocError, Global};
 
 /// Appends names. Returns `AllocError` if an allocation fails.
@@ -92,7 +92,7 @@ fn begin_routine(
     alloc: Global,
     out: &mut String,
     name: &String,
-    body: &Row,
+    body: &RowOfCommands,
 ) -> Result<(), AllocError>
     ensures { OnOk result (Begins (string_bytes out.old) (string_bytes out.new) (spelled_plain (trees.routine (string_bytes name.now) (view_row body.now).0 (view_row body.now).1) [])) }
 {
@@ -146,12 +146,12 @@ fn put_plains(alloc: Global, out: &mut String, plains: &Vec<Plain>) -> Result<()
 }
 
 /// Appends the lines of an item. Returns `AllocError` if an allocation fails.
-fn put_item(alloc: Global, out: &mut String, item: &Item) -> Result<(), AllocError>
+fn put_item(alloc: Global, out: &mut String, item: &ScriptItem) -> Result<(), AllocError>
     ensures { OnOk result (string_bytes out.new ≡ string_bytes out.old ++ item_text (view_item item.now)) }
 {
     match item {
-        Item::Plain(plain) => put_plain(alloc, out, plain),
-        Item::BackwardMode(plains) => {
+        ScriptItem::Plain(plain) => put_plain(alloc, out, plain),
+        ScriptItem::BackwardMode(plains) => {
             out.push_str("backwardmode (\n")?;
             put_plains(alloc, out, plains)?;
             out.push_str(")\n")
@@ -164,7 +164,7 @@ fn put_item(alloc: Global, out: &mut String, item: &Item) -> Result<(), AllocErr
 /// printed as its spelling in quotes, a number as its value in decimal. Comments and other white space are dropped.
 ///
 /// Returns `AllocError` if an allocation fails.
-pub fn canonical_text(alloc: Global, items: &[Item]) -> Result<String, AllocError>
+pub fn canonical_text(alloc: Global, items: &[ScriptItem]) -> Result<String, AllocError>
     ensures { IfOk result (λ text. string_bytes text ≡ canonical (view_items items.now)) }
 {
     let mut out = String::new(alloc);

@@ -1,16 +1,16 @@
 //! Appends tokens to a line that already has one.
 
 ghost use Rattle.std.specs.Prelude.{◌≡◌, ◌∷◌, OnOk, string_bytes};
-ghost use Rattle.sbl_tree.specs.Terminal as t;
-ghost use Rattle.sbl_tree.specs.Terminal.{Terminal, lexeme_as};
-ghost use Rattle.sbl_lexemes.specs.Lexemes as lexemes;
-ghost use Rattle.sbl_tree.specs.Tree.{argument_terminal};
-ghost use Rattle.sbl_tree.specs.View.{view_argument, view_literal};
+ghost use Rattle.sbl_ast.specs.Terminal as t;
+ghost use Rattle.sbl_ast.specs.Terminal.{Terminal, lexeme_as};
+ghost use Rattle.sbl_token.specs.Lexemes as lexemes;
+ghost use Rattle.sbl_ast.specs.Tree.{argument_terminal};
+ghost use Rattle.sbl_ast.specs.View.{view_argument, view_literal};
 ghost use Rattle.sbl_print.specs.Canonical.{token_text};
 ghost use Rattle.sbl_print.specs.Adding.{Adds};
 
-use sbl_lexemes::{Sign, Word};
-use sbl_tree::{Argument, Literal};
+use sbl_ast::{Argument, Literal};
+use sbl_token::{Sign, Word};
 use std::alloc::{AllocError, Global};
 
 /// Appends a token with this text. Returns `AllocError` if an allocation fails.

@@ -1,14 +1,14 @@
 //! The text of each word and sign of a tree.
 
 ghost use Rattle.std.specs.Prelude.{◌≡◌};
-ghost use Rattle.sbl_tree.specs.Terminal as t;
+ghost use Rattle.sbl_ast.specs.Terminal as t;
 ghost use Rattle.sbl_print.specs.Canonical.{token_text};
 
-use sbl_lexemes::{Sign, Word};
-use sbl_tree::{
+use sbl_ast::{
     Additive, Assignment, Base, Comparison, Constant, Count, DeclarationKind, Joiner, Move,
     Multiplicative, Naming, Prefix, Simple, Splice,
 };
+use sbl_token::{Sign, Word};
 
 /// Returns the text of the word of a declaration.
 pub fn declaration_text(kind: DeclarationKind) -> &'static str

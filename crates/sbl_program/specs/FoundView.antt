@@ -1,7 +1,7 @@
 -- The strings of the amongs that were found.
 use Rattle.std.specs.Prelude.{ℕ, List, [], map, Vec, Option, Some, None, slice_get}
 use Rattle.std.specs.Global.{Global}
-use Rattle.sbl_tree.specs.declared.mode.Mode.TheVariants.{Forward}
+use Rattle.sbl_ast.specs.declared.mode.Mode.TheVariants.{Forward}
 use Rattle.sbl_program.specs.declared.found.Found.{Found}
 use Rattle.sbl_program.specs.Listed.{Listed, listing}
 

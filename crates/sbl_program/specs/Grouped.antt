@@ -1,11 +1,11 @@
 -- Rows, sums and products: a first part and the others, grouped from left to right.
 use Rattle.std.specs.Prelude.{List, [], ◌∷◌}
-use Rattle.sbl_tree.specs.declared.tree.Joiner.{Joiner}
-use Rattle.sbl_tree.specs.declared.tree.Joiner.TheVariants.{Or, And}
-use Rattle.sbl_tree.specs.declared.tree.Additive.{Additive}
-use Rattle.sbl_tree.specs.declared.tree.Additive.TheVariants as additives
-use Rattle.sbl_tree.specs.declared.tree.Multiplicative.{Multiplicative}
-use Rattle.sbl_tree.specs.declared.tree.Multiplicative.TheVariants as multiplicatives
+use Rattle.sbl_ast.specs.declared.tree.Joiner.{Joiner}
+use Rattle.sbl_ast.specs.declared.tree.Joiner.TheVariants.{Or, And}
+use Rattle.sbl_ast.specs.declared.tree.Additive.{Additive}
+use Rattle.sbl_ast.specs.declared.tree.Additive.TheVariants as additives
+use Rattle.sbl_ast.specs.declared.tree.Multiplicative.{Multiplicative}
+use Rattle.sbl_ast.specs.declared.tree.Multiplicative.TheVariants as multiplicatives
 use Rattle.sbl_program.specs.Program as programs
 
 -- the other commands of a row, terms of a sum and factors of a product

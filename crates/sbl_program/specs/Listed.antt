@@ -1,6 +1,6 @@
 -- The strings of an among, and the mode in which they are read.
 use Rattle.std.specs.Prelude.{ℕ, List}
-use Rattle.sbl_tree.specs.declared.mode.Mode.{Mode}
+use Rattle.sbl_ast.specs.declared.mode.Mode.{Mode}
 
 pub record Listed : Type 0 where
   pub mode : Mode

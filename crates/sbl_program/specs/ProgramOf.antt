@@ -3,21 +3,21 @@ use Rattle.std.specs.Prelude.{ℕ, List, [], ◌∷◌, map}
 use Rattle.sbl_program.specs.declared.action.StringTerm.{StringTerm}
 use Rattle.sbl_program.specs.declared.action.StringTerm.TheVariants as terms
 use Rattle.sbl_program.specs.declared.action.Arithmetic.{Arithmetic}
-use Rattle.sbl_program.specs.declared.action.Arithmetic.TheOpen.{Arithmetic-F, Added-F, Scaled-F}
+use Rattle.sbl_program.specs.declared.action.Arithmetic.TheOpen.{Arithmetic-F, Addend-F, Multiplicand-F}
 use Rattle.sbl_program.specs.declared.action.Arithmetic.TheOpen as sums
-use Rattle.sbl_program.specs.declared.action.Arithmetic.TheFolds.{fold-Arithmetic, fold-Added, fold-Scaled}
-use Rattle.sbl_program.specs.declared.action.Added.{Added}
-use Rattle.sbl_program.specs.declared.action.Scaled.{Scaled}
+use Rattle.sbl_program.specs.declared.action.Arithmetic.TheFolds.{fold-Arithmetic, fold-Addend, fold-Multiplicand}
+use Rattle.sbl_program.specs.declared.action.Addend.{Addend}
+use Rattle.sbl_program.specs.declared.action.Multiplicand.{Multiplicand}
 use Rattle.sbl_program.specs.declared.action.Action.{Action}
 use Rattle.sbl_program.specs.declared.action.Action.TheVariants as actions
 use Rattle.sbl_program.specs.declared.node.Node.{Node}
-use Rattle.sbl_program.specs.declared.node.Node.TheOpen.{Node-F, Joined-F}
+use Rattle.sbl_program.specs.declared.node.Node.TheOpen.{Node-F, JoinedNode-F}
 use Rattle.sbl_program.specs.declared.node.Node.TheOpen as nodes
-use Rattle.sbl_program.specs.declared.node.Node.TheFolds.{fold-Node, fold-Joined}
-use Rattle.sbl_program.specs.declared.node.Joined.{Joined}
+use Rattle.sbl_program.specs.declared.node.Node.TheFolds.{fold-Node, fold-JoinedNode}
+use Rattle.sbl_program.specs.declared.node.JoinedNode.{JoinedNode}
 use Rattle.sbl_program.specs.declared.node.Program.{Program}
 use Rattle.sbl_program.specs.declared.node.Routine.{Routine}
-use Rattle.sbl_program.specs.CharacterClasses.{members}
+use Rattle.sbl_char_class.specs.CharacterClasses.{members}
 use Rattle.sbl_program.specs.Grouped.{AddedView, JoinedView, ScaledView, added_all, grouped, scaled_all}
 use Rattle.sbl_program.specs.Listed.{Listed}
 use Rattle.sbl_program.specs.Program as programs
@@ -40,20 +40,20 @@ number_step (sums.Negative a) = programs.negative a.value
 number_step (sums.Sum a others) = added_all others.items a.value
 number_step (sums.Product a others) = scaled_all others.items a.value
 
-abbrev pub added_step : Added-F programs.Arithmetic AddedView ScaledView → AddedView
+abbrev pub added_step : Addend-F programs.Arithmetic AddedView ScaledView → AddedView
 added_step a = (a.operator, a.number)
 
-abbrev pub scaled_step : Scaled-F programs.Arithmetic AddedView ScaledView → ScaledView
+abbrev pub scaled_step : Multiplicand-F programs.Arithmetic AddedView ScaledView → ScaledView
 scaled_step a = (a.operator, a.number)
 
 abbrev pub view_number : Arithmetic → programs.Arithmetic
 view_number = fold-Arithmetic programs.Arithmetic AddedView ScaledView number_step added_step scaled_step
 
-abbrev pub view_added : Added → AddedView
-view_added = fold-Added programs.Arithmetic AddedView ScaledView number_step added_step scaled_step
+abbrev pub view_added : Addend → AddedView
+view_added = fold-Addend programs.Arithmetic AddedView ScaledView number_step added_step scaled_step
 
-abbrev pub view_scaled : Scaled → ScaledView
-view_scaled = fold-Scaled programs.Arithmetic AddedView ScaledView number_step added_step scaled_step
+abbrev pub view_scaled : Multiplicand → ScaledView
+view_scaled = fold-Multiplicand programs.Arithmetic AddedView ScaledView number_step added_step scaled_step
 
 abbrev pub view_action : Action → programs.Action
 view_action (actions.Match t) = programs.match (view_text t)
@@ -106,14 +106,14 @@ node_step tables (nodes.Call i) = programs.call i
 node_step tables (nodes.Search k table entries) = programs.search k (tables table) entries.items
 node_step tables (nodes.Among k before bodies) = programs.among k (commands_of before.items) (commands_of bodies.items)
 
-abbrev pub joined_step : Joined-F programs.Node JoinedView → JoinedView
+abbrev pub joined_step : JoinedNode-F programs.Node JoinedView → JoinedView
 joined_step o = (o.joiner, o.command)
 
 abbrev pub view_node : (ℕ → Listed) → Node → programs.Node
 view_node tables = fold-Node programs.Node JoinedView (node_step tables) joined_step
 
-abbrev pub view_joined : (ℕ → Listed) → Joined → JoinedView
-view_joined tables = fold-Joined programs.Node JoinedView (node_step tables) joined_step
+abbrev pub view_joined : (ℕ → Listed) → JoinedNode → JoinedView
+view_joined tables = fold-JoinedNode programs.Node JoinedView (node_step tables) joined_step
 
 abbrev pub view_nodes : (ℕ → Listed) → List Node → programs.Nodes
 view_nodes tables ns = commands_of (map (view_node tables) ns)

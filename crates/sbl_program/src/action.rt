@@ -1,6 +1,6 @@
 //! Commands that contain no command, and their parts. Names are numbers.
 
-use sbl_tree::{Additive, Multiplicative};
+use sbl_ast::{Additive, Multiplicative};
 
 /// A string: a literal, or the value of a string variable.
 #[derive(Drop)]
@@ -38,21 +38,21 @@ pub enum Arithmetic {
         /// The first term.
         first: Box<Arithmetic>,
         /// The terms after it.
-        others: Vec<Added>,
+        others: Vec<Addend>,
     },
     /// `A * B / C ..`: multiplied and divided from left to right.
     Product {
         /// The first factor.
         first: Box<Arithmetic>,
         /// The factors after it.
-        others: Vec<Scaled>,
+        others: Vec<Multiplicand>,
     },
 }
 
 /// A term after the first one of a sum.
 #[cycle(arithmetic)]
 #[derive(Drop)]
-pub struct Added {
+pub struct Addend {
     /// The sign before it.
     pub operator: Additive,
     /// The term.
@@ -62,7 +62,7 @@ pub struct Added {
 /// A factor after the first one of a product.
 #[cycle(arithmetic)]
 #[derive(Drop)]
-pub struct Scaled {
+pub struct Multiplicand {
     /// The sign before it.
     pub operator: Multiplicative,
     /// The factor.

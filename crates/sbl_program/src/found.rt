@@ -1,7 +1,7 @@
 //! An among as it is found in a script; its table is built from this.
 
 use crate::node::Candidate;
-use sbl_tree::Mode;
+use sbl_ast::Mode;
 
 /// An among.
 #[derive(Drop)]

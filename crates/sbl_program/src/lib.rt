@@ -3,14 +3,9 @@
 #![tactic(auto)]
 
 mod action;
-mod bits;
-mod block;
-mod blocks;
-mod character_class;
 mod found;
 mod node;
 
-pub use action::{Action, Added, Arithmetic, Change, Relation, Scaled, StringTerm};
-pub use character_class::{CharacterClass, is_in_class};
+pub use action::{Action, Addend, Arithmetic, Change, Multiplicand, Relation, StringTerm};
 pub use found::Found;
-pub use node::{Candidate, Joined, Node, Program, Routine};
+pub use node::{Candidate, JoinedNode, Node, Program, Routine};

@@ -7,8 +7,8 @@ ghost use Rattle.sbl_program.specs.Listed.{Listed};
 ghost use Rattle.sbl_program.specs.ProgramOf.{program_of, view_routine};
 
 use crate::action::{Action, Arithmetic};
-use crate::character_class::CharacterClass;
-use sbl_tree::Joiner;
+use sbl_ast::Joiner;
+use sbl_char_class::CharacterClass;
 
 /// A command of a routine's body.
 #[cycle(node)]
@@ -24,7 +24,7 @@ pub enum Node {
         /// The first command.
         first: Box<Node>,
         /// The commands after it.
-        others: Vec<Joined>,
+        others: Vec<JoinedNode>,
     },
     /// `not C`
     Not(Box<Node>),
@@ -76,7 +76,7 @@ pub enum Node {
 /// A command after the first one of a row.
 #[cycle(node)]
 #[derive(Drop)]
-pub struct Joined {
+pub struct JoinedNode {
     /// The word before it.
     pub joiner: Joiner,
     /// The command.

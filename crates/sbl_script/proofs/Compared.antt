@@ -5,8 +5,8 @@ use Rattle.sbl_text.specs.Directives.{start}
 use Rattle.sbl_text.specs.Laws.{TokensAreOne}
 use Rattle.sbl_text.specs.Spaced.{after_all, AreSaid}
 use Rattle.sbl_text.specs.Tokens.{AreTokensFrom, MayEnd}
-use Rattle.sbl_tree.specs.Terminal.{Terminal, lexeme_as, terminal_of}
-use Rattle.sbl_tree.specs.Tree.{Item, lexemes_of, written}
+use Rattle.sbl_ast.specs.Terminal.{Terminal, lexeme_as, terminal_of}
+use Rattle.sbl_ast.specs.Tree.{Item, lexemes_of, written}
 use Rattle.sbl_print.specs.Canonical.{canonical}
 use Rattle.sbl_script.specs.Parsed.{Source}
 use Rattle.sbl_script.proofs.Printed.{Known, tokens_back}

@@ -5,14 +5,14 @@ use Rattle.std.proofs.lemmas.Slice.Eq.{bytes_eq-Decides}
 use Rattle.std.specs.Str.{bytes_eq}
 use Rattle.std.specs.Prelude.{String}
 use Rattle.std.specs.Global.{Global, Vec}
-use Rattle.sbl_tree.specs.declared.tree.Argument.{Argument}
-use Rattle.sbl_tree.specs.declared.tree.Term.{Term}
-use Rattle.sbl_tree.specs.declared.tree.Row.{Row}
-use Rattle.sbl_tree.specs.declared.tree.Plain as declared
-use Rattle.sbl_tree.specs.declared.tree.Plain.TheVariants as plains
-use Rattle.sbl_tree.specs.Tree.{Command, Others, Plain, declaration, escapes, macro, routine, grouping, Item, plain, backward}
-use Rattle.sbl_tree.specs.Tree as trees
-use Rattle.sbl_tree.specs.View.{view_plain}
+use Rattle.sbl_ast.specs.declared.tree.Argument.{Argument}
+use Rattle.sbl_ast.specs.declared.tree.Term.{Term}
+use Rattle.sbl_ast.specs.declared.tree.RowOfCommands.{RowOfCommands as Row}
+use Rattle.sbl_ast.specs.declared.tree.Plain as declared
+use Rattle.sbl_ast.specs.declared.tree.Plain.TheVariants as plains
+use Rattle.sbl_ast.specs.Tree.{Command, Others, Plain, declaration, escapes, macro, routine, grouping, Item, plain, backward}
+use Rattle.sbl_ast.specs.Tree as trees
+use Rattle.sbl_ast.specs.View.{view_plain}
 use Rattle.sbl_script.specs.declared.edits.DefinitionKind.TheVariants as kinds
 use Rattle.sbl_script.specs.Edits.{defines, first_in, first_of, plain_if}
 

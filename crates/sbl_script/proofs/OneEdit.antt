@@ -2,13 +2,13 @@
 use Rattle.std.proofs.Common.{◌≡◌, ℕ, Bool, true, false, List, length, Result, Ok, Err, refl, sym, ap, subst, ◌∙◌, inl, inr}
 use Rattle.sbl_text.specs.declared.fault.ScriptFault.{ScriptFault}
 use Rattle.sbl_text.specs.Tokens.{Placed}
-use Rattle.sbl_tree.specs.Tree.{Item}
-use Rattle.sbl_tree.specs.Texts.{Text, TreeOf}
-use Rattle.sbl_grammar.specs.Reading.{IsReadAs}
-use Rattle.sbl_script.specs.declared.edit_fault.EditFault.{EditFault}
-use Rattle.sbl_script.specs.declared.edit_fault.EditFault.TheVariants as edits
+use Rattle.sbl_ast.specs.Tree.{Item}
+use Rattle.sbl_ast.specs.Texts.{Text, TreeOf}
+use Rattle.sbl_parser.specs.Reading.{IsReadAs}
+use Rattle.sbl_script.specs.declared.edit_fault.ScriptEditFault.{ScriptEditFault}
+use Rattle.sbl_script.specs.declared.edit_fault.ScriptEditFault.TheVariants as edits
 use Rattle.sbl_script.specs.Parsed.{Source}
-use Rattle.sbl_checks.specs.Checks.{fault_of}
+use Rattle.sbl_resolver.specs.Checks.{fault_of}
 use Rattle.sbl_script.specs.Reading.{IsUnread, terminals}
 use Rattle.sbl_script.specs.Edits.{ScriptEdit, Home, IsEdited, IsSubstituted, IsFaultAt, IsCheckFaultWith, IsEditFault, home}
 use Rattle.sbl_script.proofs.OneReading.{Known, placed_one, text_is_one, no_text_fault, unread_is_one, no_unread, some_one, some_none, same_source}
@@ -71,13 +71,13 @@ kept_or_not k s h text t u a b =
 
 -- ---- the home is one
 
-ok_one : (r : Result Home EditFault) (h g : Home) → r ≡ Ok h → r ≡ Ok g → g ≡ h
+ok_one : (r : Result Home ScriptEditFault) (h g : Home) → r ≡ Ok h → r ≡ Ok g → g ≡ h
 ok_one r h g a b = cc
 
-ok_or_err : (r : Result Home EditFault) (h : Home) (f : EditFault) → r ≡ Ok h → r ≡ Err f → ⊥
+ok_or_err : (r : Result Home ScriptEditFault) (h : Home) (f : ScriptEditFault) → r ≡ Ok h → r ≡ Err f → ⊥
 ok_or_err r h f a b = cc
 
-err_one : (r : Result Home EditFault) (f g : EditFault) → r ≡ Err f → r ≡ Err g → f ≡ g
+err_one : (r : Result Home ScriptEditFault) (f g : ScriptEditFault) → r ≡ Err f → r ≡ Err g → f ≡ g
 err_one r f g a b = cc
 
 pub edit_is_one : Known → (s : Source) (e : ScriptEdit) (text : List ℕ) (t u : Source) → IsEdited s e text t → IsEdited s e text u → t ≡ u
@@ -91,7 +91,7 @@ count_or_fault k s e text f a b =
     let same = ok_one (home s.items e) a.0 b.0 a.1 b.1 in
     substituted_or_fault k s a.0 text false a.2 f a.3 (subst (λ (z : Home). IsFaultAt s z text f) same b.2)
 
-pub edit_fault_is_one : Known → (s : Source) (e : ScriptEdit) (text : List ℕ) (f g : EditFault) → IsEditFault s e text f → IsEditFault s e text g → f ≡ g
+pub edit_fault_is_one : Known → (s : Source) (e : ScriptEdit) (text : List ℕ) (f g : ScriptEditFault) → IsEditFault s e text f → IsEditFault s e text g → f ≡ g
 edit_fault_is_one k s e text edits.NoRoutine edits.NoRoutine a b = refl
 edit_fault_is_one k s e text edits.NoRoutine edits.NoGrouping a b = err_one (home s.items e) edits.NoRoutine edits.NoGrouping a b
 edit_fault_is_one k s e text edits.NoRoutine edits.NoAmong a b = err_one (home s.items e) edits.NoRoutine edits.NoAmong a b
@@ -126,7 +126,7 @@ edit_fault_is_one k s e text edits.NoAmong edits.OutOfMemory a b = absurd b
 edit_fault_is_one k s e text edits.AmongCount edits.OutOfMemory a b = absurd b
 edit_fault_is_one k s e text (edits.Script f) edits.OutOfMemory a b = absurd b
 
-pub edit_or_fault : Known → (s : Source) (e : ScriptEdit) (text : List ℕ) (t : Source) (f : EditFault) → IsEdited s e text t → IsEditFault s e text f → ⊥
+pub edit_or_fault : Known → (s : Source) (e : ScriptEdit) (text : List ℕ) (t : Source) (f : ScriptEditFault) → IsEdited s e text t → IsEditFault s e text f → ⊥
 edit_or_fault k s e text t edits.NoRoutine a b = ok_or_err (home s.items e) a.0 edits.NoRoutine a.1 b
 edit_or_fault k s e text t edits.NoGrouping a b = ok_or_err (home s.items e) a.0 edits.NoGrouping a.1 b
 edit_or_fault k s e text t edits.NoAmong a b = ok_or_err (home s.items e) a.0 edits.NoAmong a.1 b

@@ -4,17 +4,17 @@ use Rattle.std.proofs.lemmas.List.{length-map}
 use Rattle.std.specs.Str.{chars}
 use Rattle.sbl_text.specs.declared.fault.ScriptFault.{ScriptFault}
 use Rattle.sbl_text.specs.declared.fault.ScriptFault.TheVariants as fault
-use Rattle.sbl_lexemes.specs.Lexemes.{Lexeme}
+use Rattle.sbl_token.specs.Lexemes.{Lexeme}
 use Rattle.sbl_text.specs.Literals.{byte_length}
 use Rattle.sbl_text.specs.Directives.{Directives, start}
 use Rattle.sbl_text.specs.Tokens.{Piece, Placed, AreTokensFrom, ArePlacedFrom, and_more, said, put_placed, placed_from}
 use Rattle.sbl_text.specs.Laws.{PlacesAreOne, FirstFaultIsOne, TokensOrFault}
-use Rattle.sbl_tree.specs.Tree.{Item}
-use Rattle.sbl_tree.specs.Texts.{Text, TreeOf, script}
-use Rattle.sbl_grammar.specs.Reading.{IsReadAs, IsSyntaxAt, IsTooDeepAt, IsOutOfProfileAt}
-use Rattle.sbl_grammar.specs.Laws as grammar
+use Rattle.sbl_ast.specs.Tree.{Item}
+use Rattle.sbl_ast.specs.Texts.{Text, TreeOf, script}
+use Rattle.sbl_parser.specs.Reading.{IsReadAs, IsSyntaxAt, IsTooDeepAt, IsOutOfProfileAt}
+use Rattle.sbl_parser.specs.Laws as grammar
 use Rattle.sbl_script.specs.Parsed.{Source}
-use Rattle.sbl_checks.specs.Checks.{fault_of}
+use Rattle.sbl_resolver.specs.Checks.{fault_of}
 use Rattle.sbl_script.specs.Reading.{HasTokens, IsScriptOf, IsTextFault, IsGrammarFault, IsCheckFault, IsUnread, IsFaultOf, first_left_out, place_of, terminals}
 
 -- what is known of tokens and of trees

@@ -6,23 +6,23 @@ use Rattle.std.proofs.lemmas.List.Folds.{list_any-append}
 use Rattle.sbl_text.specs.declared.fault.ScriptFault.{ScriptFault}
 use Rattle.sbl_text.specs.declared.fault.ScriptFault.TheVariants as fault
 use Rattle.sbl_text.specs.Tokens.{Placed}
-use Rattle.sbl_tree.specs.Order.{in_order}
-use Rattle.sbl_tree.specs.Tree.{Plain, declaration, escapes, macro, routine, grouping, Item}
-use Rattle.sbl_tree.specs.Texts.{TreeOf}
+use Rattle.sbl_ast.specs.Order.{in_order}
+use Rattle.sbl_ast.specs.Tree.{Plain, declaration, escapes, macro, routine, grouping, Item}
+use Rattle.sbl_ast.specs.Texts.{TreeOf}
 use Rattle.sbl_amongs.specs.Amongs.{Held, amongs_of_body, nth_held, put_in_body}
-use Rattle.sbl_checks.specs.declared.occurrences.Site.{Site}
-use Rattle.sbl_checks.specs.Occurrences.{Occurrence, Notice, declares, defines_routine, defines_grouping, uses, substring, among, string, backwards, region_end, noted_items, occurrences_of}
-use Rattle.sbl_script.specs.declared.edit_fault.EditFault.{EditFault}
+use Rattle.sbl_resolver.specs.declared.occurrences.Site.{Site}
+use Rattle.sbl_resolver.specs.Occurrences.{Occurrence, Notice, declares, defines_routine, defines_grouping, uses, substring, among, string, backwards, region_end, noted_items, occurrences_of}
+use Rattle.sbl_script.specs.declared.edit_fault.ScriptEditFault.{ScriptEditFault}
 use Rattle.sbl_script.specs.Parsed.{Source}
-use Rattle.sbl_checks.specs.Bodies.{body_in}
-use Rattle.sbl_checks.specs.Checks.{declared_as, kind_of, defined_at, definition_of, waits_after, is_awaited, is_text, is_text_of, has_text, is_external, has_external, fault_at, fault_of, WellDeclared}
-use Rattle.sbl_checks.specs.Laws.{EachPasses, IsFirst}
+use Rattle.sbl_resolver.specs.Bodies.{body_in}
+use Rattle.sbl_resolver.specs.Checks.{declared_as, kind_of, defined_at, definition_of, waits_after, is_awaited, is_text, is_text_of, has_text, is_external, has_external, fault_at, fault_of, WellDeclared}
+use Rattle.sbl_resolver.specs.Laws.{EachPasses, IsFirst}
 use Rattle.sbl_script.specs.declared.edits.DefinitionKind.{DefinitionKind}
 use Rattle.sbl_script.specs.declared.edits.DefinitionKind.TheVariants as kinds
 use Rattle.sbl_script.specs.Edits.{ScriptEdit, body, terms, Home, changes, defines, first_of, home, home_in, home_of_among, home_of_body, home_of_held, home_of_terms, items_with, IsFaultAt, IsCheckFaultWith}
 use Rattle.sbl_script.specs.Edits as script
 use Rattle.sbl_script.specs.OnlyTheItem.{item_of, number_of, OnlyTheItem, ExternalStays}
-use Rattle.sbl_checks.proofs.FirstFault as first
+use Rattle.sbl_resolver.proofs.FirstFault as first
 use Rattle.sbl_script.proofs.Found.{grouping_is, routine_is, same_name}
 use Rattle.sbl_script.proofs.Own.{Each, each_as, is_quiet, IsOfCommand, RoutineParts, routine_parts, is_use, IsUse, GroupingParts, grouping_parts}
 use Rattle.sbl_script.proofs.RoundItem.{Closed, followed_same, decided_at, own, InItem, NotBefore, plain_sites, routine_sites, items_closed, items_sites, round_item}
@@ -365,7 +365,7 @@ IsPlaced items e h = (x : TreeOf h.text) → Replaces items e h x
 is_there : (o : Option Plain) (x : Plain) → o ≡ Some x → is_some o ≡ true
 is_there o x e = ap is_some e
 
-home_one : (r : Result Home EditFault) (h g : Home) → r ≡ Ok h → r ≡ Ok g → h ≡ g
+home_one : (r : Result Home ScriptEditFault) (h g : Home) → r ≡ Ok h → r ≡ Ok g → h ≡ g
 home_one r h g a b = cc
 
 place_of : (items : List Item) (e : ScriptEdit) (h : Home) (o : Option Plain) → first_of (changes e) items ≡ o → home_in items o e ≡ Ok h → IsPlaced items e h

@@ -3,13 +3,13 @@ use Rattle.std.proofs.Common.{◌≡◌, ◌⊎◌, ℕ, List, [], ◌∷◌, �
 use Rattle.std.proofs.lemmas.List.{take-append-drop, map-append}
 use Rattle.sbl_text.specs.declared.fault.ScriptFault.{ScriptFault}
 use Rattle.sbl_text.specs.declared.fault.ScriptFault.TheVariants as fault
-use Rattle.sbl_lexemes.specs.declared.token.Token.{Token}
-use Rattle.sbl_lexemes.specs.Lexemes.{lexeme_of}
+use Rattle.sbl_token.specs.declared.token.Token.{Token}
+use Rattle.sbl_token.specs.Lexemes.{lexeme_of}
 use Rattle.sbl_text.specs.Tokens.{Placed, placed_of}
-use Rattle.sbl_tree.specs.Terminal.{Terminal, terminal_of, terminals_of, left}
-use Rattle.sbl_grammar.specs.Reading.{IsSyntaxAt, IsTooDeepAt, IsOutOfProfileAt}
-use Rattle.sbl_tree.specs.Texts.{Text}
-use Rattle.sbl_grammar.specs.Told as grammar
+use Rattle.sbl_ast.specs.Terminal.{Terminal, terminal_of, terminals_of, left}
+use Rattle.sbl_parser.specs.Reading.{IsSyntaxAt, IsTooDeepAt, IsOutOfProfileAt}
+use Rattle.sbl_ast.specs.Texts.{Text}
+use Rattle.sbl_parser.specs.Told as grammar
 use Rattle.sbl_script.specs.Reading.{terminals, place_of, IsGrammarFault, IsUnread, first_left_out}
 
 pub terminals_same : (ts : List Token) → terminals_of ts ≡ terminals (map placed_of ts)

@@ -3,21 +3,21 @@ use Rattle.std.proofs.Common.{◌≡◌, ℕ, Bool, true, false, List, [], ◌�
 use Rattle.std.specs.Prelude.{if◌then◌else◌}
 use Rattle.std.specs.List.{list_any}
 use Rattle.std.specs.Str.{chars, IsUtf8}
-use Rattle.sbl_lexemes.specs.Lexemes.{Lexeme}
+use Rattle.sbl_token.specs.Lexemes.{Lexeme}
 use Rattle.sbl_text.specs.Directives.{start}
 use Rattle.sbl_text.specs.Tokens.{Placed, AreTokensFrom, MayEnd, placed_from}
 use Rattle.sbl_text.specs.Spaced.{after_all, AreSaid, spaced_text}
 use Rattle.sbl_text.specs.Laws.{SpacedAreRead}
-use Rattle.sbl_tree.specs.Terminal.{Terminal, lexeme_as, terminal_of}
-use Rattle.sbl_tree.specs.Tree.{Item, lexemes_of, written}
-use Rattle.sbl_grammar.specs.Laws.{PlacesAreWritten}
-use Rattle.sbl_tree.specs.Places.{places, AreShallow}
+use Rattle.sbl_ast.specs.Terminal.{Terminal, lexeme_as, terminal_of}
+use Rattle.sbl_ast.specs.Tree.{Item, lexemes_of, written}
+use Rattle.sbl_parser.specs.Laws.{PlacesAreWritten}
+use Rattle.sbl_ast.specs.Places.{places, AreShallow}
 use Rattle.sbl_print.specs.Canonical.{canonical}
 use Rattle.sbl_print.specs.Spaced.{CanonicalIsSpaced}
 use Rattle.sbl_script.specs.Parsed.{Source}
-use Rattle.sbl_checks.specs.Checks.{WellDeclared}
+use Rattle.sbl_resolver.specs.Checks.{WellDeclared}
 use Rattle.sbl_script.specs.Printed.{CanonicalIsRead}
-use Rattle.sbl_grammar.specs.Profile.{is_left_out}
+use Rattle.sbl_parser.specs.Profile.{is_left_out}
 use Rattle.sbl_script.specs.Reading.{first_left_out, terminals}
 use Rattle.sbl_script.specs.Spelled.{AreSpelled}
 use Rattle.sbl_script.proofs.Offered.{none_left_out}

@@ -1,13 +1,13 @@
 -- What holds of each token of a routine's body and of an among holds of each token of the body with that among in the place of another.
 use Rattle.std.proofs.Common.{ℕ, ◌+◌, ◌-◌, Bool, true, false, nat_eq, List, [], ◌∷◌, ◌++◌, if◌then◌else◌, sym, subst}
 use Rattle.std.specs.List.{AllByRecursion}
-use Rattle.sbl_tree.specs.Terminal as t
-use Rattle.sbl_tree.specs.Tree.{Command, bracket, simple_, literal_, name_, non_, prefixed, counted, move_, named, splice_, setlimit_, assign_, compare_, compare_values_, among_, Rows, no_rows, row, Others, no_others, joined, Starter, no_starter, starter, Groups, bare, group}
-use Rattle.sbl_tree.specs.Counts.{count_amongs, count_in_rows, count_in_others, count_in_starter}
+use Rattle.sbl_ast.specs.Terminal as t
+use Rattle.sbl_ast.specs.Tree.{Command, bracket, simple_, literal_, name_, non_, prefixed, counted, move_, named, splice_, setlimit_, assign_, compare_, compare_values_, among_, Rows, no_rows, row, Others, no_others, joined, Starter, no_starter, starter, Groups, bare, group}
+use Rattle.sbl_ast.specs.Counts.{count_amongs, count_in_rows, count_in_others, count_in_starter}
 use Rattle.sbl_amongs.specs.Amongs.{put_among, put_in_rows, put_in_others, put_in_starter, put_in_groups, put_in_body}
-use Rattle.sbl_tree.specs.Places.{AtDepth, placed, placed_rows, placed_others, placed_starter, placed_groups, placed_entry, placed_entries, placed_expression}
-use Rattle.sbl_tree.specs.Texts.{body, places_in}
-use Rattle.sbl_tree.proofs.Behind.{IsBefore, entry_before, entries_before, expression_before, tree_before}
+use Rattle.sbl_ast.specs.Places.{AtDepth, placed, placed_rows, placed_others, placed_starter, placed_groups, placed_entry, placed_entries, placed_expression}
+use Rattle.sbl_ast.specs.Texts.{body, places_in}
+use Rattle.sbl_ast.proofs.Behind.{IsBefore, entry_before, entries_before, expression_before, tree_before}
 
 abbrev Ps : Type 0
 Ps = List AtDepth

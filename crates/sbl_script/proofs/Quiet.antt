@@ -2,37 +2,37 @@
 use Rattle.std.proofs.Common.{◌≡◌, ℕ, ◌+◌, true, false, List, [], ◌∷◌, Some, None, refl}
 use Rattle.sbl_text.specs.Escapes.{InForce}
 use Rattle.sbl_text.specs.Directives.{after, settled}
-use Rattle.sbl_tree.specs.declared.tree.DeclarationKind.{DeclarationKind}
-use Rattle.sbl_tree.specs.declared.tree.DeclarationKind.TheVariants as declarations
-use Rattle.sbl_tree.specs.declared.tree.Joiner.{Joiner}
-use Rattle.sbl_tree.specs.declared.tree.Joiner.TheVariants as joiners
-use Rattle.sbl_tree.specs.declared.tree.Simple.{Simple}
-use Rattle.sbl_tree.specs.declared.tree.Simple.TheVariants as simples
-use Rattle.sbl_tree.specs.declared.tree.Prefix.{Prefix}
-use Rattle.sbl_tree.specs.declared.tree.Prefix.TheVariants as prefixes
-use Rattle.sbl_tree.specs.declared.tree.Count.{Count}
-use Rattle.sbl_tree.specs.declared.tree.Count.TheVariants as counts
-use Rattle.sbl_tree.specs.declared.tree.Move.{Move}
-use Rattle.sbl_tree.specs.declared.tree.Move.TheVariants as moves
-use Rattle.sbl_tree.specs.declared.tree.Naming.{Naming}
-use Rattle.sbl_tree.specs.declared.tree.Naming.TheVariants as namings
-use Rattle.sbl_tree.specs.declared.tree.Splice.{Splice}
-use Rattle.sbl_tree.specs.declared.tree.Splice.TheVariants as edits
-use Rattle.sbl_tree.specs.declared.tree.Additive.{Additive}
-use Rattle.sbl_tree.specs.declared.tree.Additive.TheVariants as additives
-use Rattle.sbl_tree.specs.declared.tree.Multiplicative.{Multiplicative}
-use Rattle.sbl_tree.specs.declared.tree.Multiplicative.TheVariants as multiplicatives
-use Rattle.sbl_tree.specs.declared.tree.Assignment.{Assignment}
-use Rattle.sbl_tree.specs.declared.tree.Assignment.TheVariants as assignments
-use Rattle.sbl_tree.specs.declared.tree.Comparison.{Comparison}
-use Rattle.sbl_tree.specs.declared.tree.Comparison.TheVariants as comparisons
-use Rattle.sbl_tree.specs.declared.tree.Constant.{Constant}
-use Rattle.sbl_tree.specs.declared.tree.Constant.TheVariants as constants
-use Rattle.sbl_tree.specs.Terminal.{Terminal, lexeme_as}
-use Rattle.sbl_tree.specs.Terminal as t
-use Rattle.sbl_tree.specs.Tree.{Argument, written_out, by_name, argument_terminal, Expression, expression, Sums, no_sums, sum, Product, product, Scales, no_scales, scale, Factor, negated, bracketed, numeral, variable, fixed, length_of, Entry, entry, Command, bracket, simple_, literal_, name_, non_, prefixed, counted, move_, named, splice_, setlimit_, assign_, compare_, compare_values_, among_, Rows, no_rows, row, Others, no_others, joined, Starter, no_starter, starter, Groups, bare, group, Term, term}
-use Rattle.sbl_tree.specs.Places.{AtDepth, placed, placed_rows, placed_others, placed_starter, placed_groups, placed_entry, placed_entries, placed_expression, placed_sums, placed_product, placed_scales, placed_factor, placed_names, placed_terms}
-use Rattle.sbl_tree.specs.Texts.{body, places_in}
+use Rattle.sbl_ast.specs.declared.tree.DeclarationKind.{DeclarationKind}
+use Rattle.sbl_ast.specs.declared.tree.DeclarationKind.TheVariants as declarations
+use Rattle.sbl_ast.specs.declared.tree.Joiner.{Joiner}
+use Rattle.sbl_ast.specs.declared.tree.Joiner.TheVariants as joiners
+use Rattle.sbl_ast.specs.declared.tree.Simple.{Simple}
+use Rattle.sbl_ast.specs.declared.tree.Simple.TheVariants as simples
+use Rattle.sbl_ast.specs.declared.tree.Prefix.{Prefix}
+use Rattle.sbl_ast.specs.declared.tree.Prefix.TheVariants as prefixes
+use Rattle.sbl_ast.specs.declared.tree.Count.{Count}
+use Rattle.sbl_ast.specs.declared.tree.Count.TheVariants as counts
+use Rattle.sbl_ast.specs.declared.tree.Move.{Move}
+use Rattle.sbl_ast.specs.declared.tree.Move.TheVariants as moves
+use Rattle.sbl_ast.specs.declared.tree.Naming.{Naming}
+use Rattle.sbl_ast.specs.declared.tree.Naming.TheVariants as namings
+use Rattle.sbl_ast.specs.declared.tree.Splice.{Splice}
+use Rattle.sbl_ast.specs.declared.tree.Splice.TheVariants as edits
+use Rattle.sbl_ast.specs.declared.tree.Additive.{Additive}
+use Rattle.sbl_ast.specs.declared.tree.Additive.TheVariants as additives
+use Rattle.sbl_ast.specs.declared.tree.Multiplicative.{Multiplicative}
+use Rattle.sbl_ast.specs.declared.tree.Multiplicative.TheVariants as multiplicatives
+use Rattle.sbl_ast.specs.declared.tree.Assignment.{Assignment}
+use Rattle.sbl_ast.specs.declared.tree.Assignment.TheVariants as assignments
+use Rattle.sbl_ast.specs.declared.tree.Comparison.{Comparison}
+use Rattle.sbl_ast.specs.declared.tree.Comparison.TheVariants as comparisons
+use Rattle.sbl_ast.specs.declared.tree.Constant.{Constant}
+use Rattle.sbl_ast.specs.declared.tree.Constant.TheVariants as constants
+use Rattle.sbl_ast.specs.Terminal.{Terminal, lexeme_as}
+use Rattle.sbl_ast.specs.Terminal as t
+use Rattle.sbl_ast.specs.Tree.{Argument, written_out, by_name, argument_terminal, Expression, expression, Sums, no_sums, sum, Product, product, Scales, no_scales, scale, Factor, negated, bracketed, numeral, variable, fixed, length_of, Entry, entry, Command, bracket, simple_, literal_, name_, non_, prefixed, counted, move_, named, splice_, setlimit_, assign_, compare_, compare_values_, among_, Rows, no_rows, row, Others, no_others, joined, Starter, no_starter, starter, Groups, bare, group, Term, term}
+use Rattle.sbl_ast.specs.Places.{AtDepth, placed, placed_rows, placed_others, placed_starter, placed_groups, placed_entry, placed_entries, placed_expression, placed_sums, placed_product, placed_scales, placed_factor, placed_names, placed_terms}
+use Rattle.sbl_ast.specs.Texts.{body, places_in}
 use Rattle.sbl_script.proofs.Putting.{Each}
 
 abbrev Ps : Type 0

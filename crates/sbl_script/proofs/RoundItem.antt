@@ -1,12 +1,12 @@
 -- The occurrences of a script, cut round one item: each part depends on its own items, and no substring waits past its item.
 use Rattle.std.proofs.Common.{◌≡◌, ℕ, ◌+◌, ◌≤◌, Bool, true, false, ◌||◌, List, [], ◌∷◌, ◌++◌, length, refl, sym, ap, subst, ◌∙◌, append_assoc, append-nil, arith}
 use Rattle.std.specs.Prelude.{⊤}
-use Rattle.sbl_tree.specs.Order.{ItemInMode}
-use Rattle.sbl_tree.specs.declared.mode.Mode.{Mode}
-use Rattle.sbl_tree.specs.Tree.{Plain, declaration, escapes, macro, routine, grouping}
-use Rattle.sbl_checks.specs.declared.occurrences.Site.{Site}
-use Rattle.sbl_checks.specs.Occurrences.{Occurrence, Notice, declares, defines_routine, defines_grouping, uses, substring, among, string, backwards, region_end, noted_plain, noted_items}
-use Rattle.sbl_checks.specs.Checks.{is_followed}
+use Rattle.sbl_ast.specs.Order.{ItemInMode}
+use Rattle.sbl_ast.specs.declared.mode.Mode.{Mode}
+use Rattle.sbl_ast.specs.Tree.{Plain, declaration, escapes, macro, routine, grouping}
+use Rattle.sbl_resolver.specs.declared.occurrences.Site.{Site}
+use Rattle.sbl_resolver.specs.Occurrences.{Occurrence, Notice, declares, defines_routine, defines_grouping, uses, substring, among, string, backwards, region_end, noted_plain, noted_items}
+use Rattle.sbl_resolver.specs.Checks.{is_followed}
 use Rattle.sbl_script.proofs.Own.{Each, each_both, each_as, IsOfCommand, IsOfList, RoutineParts, routine_parts, plain_alone, names_are, grouping_are}
 
 -- ---- a substring's among stands in its own item

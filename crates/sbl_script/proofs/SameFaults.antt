@@ -2,10 +2,10 @@
 use Rattle.std.proofs.Common.{◌≡◌, ℕ, Bool, true, false, not, cond, ◌&&◌, List, Option, Some, None, is_some, refl, ap, subst, ◌∙◌}
 use Rattle.sbl_text.specs.declared.fault.ScriptFault.{ScriptFault}
 use Rattle.sbl_text.specs.declared.fault.ScriptFault.TheVariants as fault
-use Rattle.sbl_tree.specs.declared.tree.DeclarationKind.{DeclarationKind}
-use Rattle.sbl_checks.specs.declared.occurrences.Site.{Site}
-use Rattle.sbl_checks.specs.Occurrences.{Occurrence, Notice, declares, defines_routine, defines_grouping, uses, substring, among, string, backwards, region_end}
-use Rattle.sbl_checks.specs.Checks.{kind_of, definition_of, is_followed, is_awaited, has_text, is_declared_twice, is_undeclared, is_wrong_kind, is_defined_twice, is_undefined, is_wrong_mode, is_unpaired, is_started_twice, is_repeated, is_empty_among, is_nested, fault_at, fault_of_use, fault_of_definition}
+use Rattle.sbl_ast.specs.declared.tree.DeclarationKind.{DeclarationKind}
+use Rattle.sbl_resolver.specs.declared.occurrences.Site.{Site}
+use Rattle.sbl_resolver.specs.Occurrences.{Occurrence, Notice, declares, defines_routine, defines_grouping, uses, substring, among, string, backwards, region_end}
+use Rattle.sbl_resolver.specs.Checks.{kind_of, definition_of, is_followed, is_awaited, has_text, is_declared_twice, is_undeclared, is_wrong_kind, is_defined_twice, is_undefined, is_wrong_mode, is_unpaired, is_started_twice, is_repeated, is_empty_among, is_nested, fault_at, fault_of_use, fault_of_definition}
 use Rattle.sbl_script.specs.OnlyTheItem.{item_of}
 
 -- ---- what decides the fault

@@ -3,12 +3,12 @@ use Rattle.std.proofs.Common.{◌≡◌, ◌≤◌, ℕ, Bool, true, false, List
 use Rattle.std.specs.List.{list_any}
 use Rattle.std.specs.Option.{option_or}
 use Rattle.sbl_amongs.specs.Amongs.{FitsAt, Held, nth_held}
-use Rattle.sbl_tree.specs.Terminal as t
-use Rattle.sbl_tree.specs.Tree.{Argument, Term, Plain, routine, grouping, Item, plain, backward, Starter, Groups, among_}
-use Rattle.sbl_tree.specs.Places.{AtDepth, placed, placed_plain, placed_plains, placed_items, AreShallow}
-use Rattle.sbl_tree.specs.Texts.{among, body, terms, places_in}
-use Rattle.sbl_tree.specs.View.{RowView}
-use Rattle.sbl_tree.proofs.Behind.{IsBefore, by_itself, behind_it, with_behind, plain_before}
+use Rattle.sbl_ast.specs.Terminal as t
+use Rattle.sbl_ast.specs.Tree.{Argument, Term, Plain, routine, grouping, Item, plain, backward, Starter, Groups, among_}
+use Rattle.sbl_ast.specs.Places.{AtDepth, placed, placed_plain, placed_plains, placed_items, AreShallow}
+use Rattle.sbl_ast.specs.Texts.{among, body, terms, places_in}
+use Rattle.sbl_ast.specs.View.{RowView}
+use Rattle.sbl_ast.proofs.Behind.{IsBefore, by_itself, behind_it, with_behind, plain_before}
 use Rattle.sbl_script.specs.declared.edits.DefinitionKind.TheVariants as kinds
 use Rattle.sbl_script.proofs.Found.{some_plain}
 use Rattle.sbl_script.specs.Edits.{defines, first_in, first_of, items_with, plain_if, plains_with}

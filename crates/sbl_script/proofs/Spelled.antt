@@ -4,25 +4,25 @@ use Rattle.std.specs.Prelude.{◌||◌}
 use Rattle.std.specs.List.{list_any}
 use Rattle.std.specs.Option.{option_or}
 use Rattle.sbl_text.specs.Escapes.{InForce, nothing_set}
-use Rattle.sbl_lexemes.specs.Lexemes.{Lexeme}
+use Rattle.sbl_token.specs.Lexemes.{Lexeme}
 use Rattle.sbl_text.specs.Directives.{Directives, after, settled, start}
 use Rattle.sbl_text.specs.Literals.{byte_length}
 use Rattle.sbl_text.specs.Tokens.{Placed, Piece, MayEnd, and_more, placed_from, put_placed, said}
 use Rattle.sbl_text.specs.Spaced.{IsSaid, AreSaid, after_all}
 use Rattle.sbl_text.proofs.Spaced.{tokens_said}
-use Rattle.sbl_tree.specs.declared.tree.Base.TheVariants as bases
-use Rattle.sbl_tree.specs.Terminal.{Terminal, lexeme_as, terminal_of}
-use Rattle.sbl_tree.specs.Terminal as t
-use Rattle.sbl_tree.specs.Tree.{Argument, Term, Starter, Groups, among_, Plain, declaration, escapes, macro, routine, grouping, Item, plain, backward, lexemes_of}
-use Rattle.sbl_tree.specs.View.{RowView}
+use Rattle.sbl_ast.specs.declared.tree.Base.TheVariants as bases
+use Rattle.sbl_ast.specs.Terminal.{Terminal, lexeme_as, terminal_of}
+use Rattle.sbl_ast.specs.Terminal as t
+use Rattle.sbl_ast.specs.Tree.{Argument, Term, Starter, Groups, among_, Plain, declaration, escapes, macro, routine, grouping, Item, plain, backward, lexemes_of}
+use Rattle.sbl_ast.specs.View.{RowView}
 use Rattle.sbl_amongs.specs.Amongs.{put_in_body}
-use Rattle.sbl_tree.specs.Places.{AtDepth, placed, placed_plain, placed_plains, placed_items, places, tokens}
-use Rattle.sbl_tree.specs.Texts.{Text, TreeOf, body, places_in, script, tokens_of}
-use Rattle.sbl_tree.specs.Texts as texts
-use Rattle.sbl_grammar.specs.Reading.{IsReadAs}
-use Rattle.sbl_tree.proofs.Behind.{IsBefore, plain_before}
-use Rattle.sbl_grammar.proofs.Faults.{tree_tokens, places_tokens}
-use Rattle.sbl_grammar.proofs.Parts.{there}
+use Rattle.sbl_ast.specs.Places.{AtDepth, placed, placed_plain, placed_plains, placed_items, places, tokens}
+use Rattle.sbl_ast.specs.Texts.{Text, TreeOf, body, places_in, script, tokens_of}
+use Rattle.sbl_ast.specs.Texts as texts
+use Rattle.sbl_parser.specs.Reading.{IsReadAs}
+use Rattle.sbl_ast.proofs.Behind.{IsBefore, plain_before}
+use Rattle.sbl_parser.proofs.Faults.{tree_tokens, places_tokens}
+use Rattle.sbl_parser.proofs.Parts.{there}
 use Rattle.sbl_script.specs.declared.edits.DefinitionKind.{DefinitionKind}
 use Rattle.sbl_script.specs.declared.edits.DefinitionKind.TheVariants as kinds
 use Rattle.sbl_script.specs.Edits.{Reached, defines, escapes_before, escapes_behind, first_in, first_of, items_with, plain_if, plains_with, reached, reached_in, state_before}

@@ -15,7 +15,7 @@ use Rattle.sbl_text.specs.Literals.{Refusal, byte_length, code_or_fault, charact
 use Rattle.sbl_text.specs.Codes.{code_of}
 use Rattle.sbl_text.specs.Directives.{Directives}
 use Rattle.sbl_text.specs.Tokens.{Placed, starts_star, pair_fault, token_fault, fault_at, IsRefused}
-use Rattle.sbl_tree.specs.Texts.{Text}
+use Rattle.sbl_ast.specs.Texts.{Text}
 use Rattle.sbl_script.specs.OnlyTheItem.{item_of}
 use Rattle.sbl_script.specs.Reading.{IsTextFault, IsUnread}
 

@@ -10,21 +10,21 @@ use Rattle.sbl_text.specs.declared.directives.Coding.TheVariants as coding
 use Rattle.sbl_text.specs.Escapes.{InForce, nothing_set, with_inserts}
 use Rattle.sbl_text.specs.Directives.{Directives, start_under, coded, defined_as}
 use Rattle.sbl_text.specs.Tokens.{Placed}
-use Rattle.sbl_tree.specs.declared.tree.Base.{Base}
-use Rattle.sbl_tree.specs.declared.tree.Base.TheVariants as bases
-use Rattle.sbl_tree.specs.Counts.{count_in_among}
+use Rattle.sbl_ast.specs.declared.tree.Base.{Base}
+use Rattle.sbl_ast.specs.declared.tree.Base.TheVariants as bases
+use Rattle.sbl_ast.specs.Counts.{count_in_among}
 use Rattle.sbl_amongs.specs.Amongs.{Held, amongs_of_body, nth_held, put_in_body}
-use Rattle.sbl_tree.specs.Tree.{Plain, escapes, macro, routine, grouping, Item, plain, backward}
-use Rattle.sbl_tree.specs.View.{RowView}
-use Rattle.sbl_tree.specs.Texts.{Text, TreeOf}
-use Rattle.sbl_tree.specs.Texts as texts
-use Rattle.sbl_grammar.specs.Reading.{IsReadAs}
-use Rattle.sbl_script.specs.declared.edit_fault.EditFault.{EditFault}
-use Rattle.sbl_script.specs.declared.edit_fault.EditFault.TheVariants as edits
+use Rattle.sbl_ast.specs.Tree.{Plain, escapes, macro, routine, grouping, Item, plain, backward}
+use Rattle.sbl_ast.specs.View.{RowView}
+use Rattle.sbl_ast.specs.Texts.{Text, TreeOf}
+use Rattle.sbl_ast.specs.Texts as texts
+use Rattle.sbl_parser.specs.Reading.{IsReadAs}
+use Rattle.sbl_script.specs.declared.edit_fault.ScriptEditFault.{ScriptEditFault}
+use Rattle.sbl_script.specs.declared.edit_fault.ScriptEditFault.TheVariants as edits
 use Rattle.sbl_script.specs.declared.edits.DefinitionKind.{DefinitionKind}
 use Rattle.sbl_script.specs.declared.edits.DefinitionKind.TheVariants as kinds
 use Rattle.sbl_script.specs.Parsed.{Source}
-use Rattle.sbl_checks.specs.Checks.{WellDeclared, fault_of}
+use Rattle.sbl_resolver.specs.Checks.{WellDeclared, fault_of}
 use Rattle.sbl_script.specs.Reading.{HasTokens, IsTextFault, IsUnread, first_left_out, terminals}
 
 -- ---- what an edit may replace
@@ -141,24 +141,24 @@ home_of_among items n b k h =
 abbrev pub home_of_terms : List Item → List ℕ → Home
 home_of_terms items n = home_at items (defines kinds.Grouping n) texts.terms (λ x. grouping n x.0 x.1) (λ x. true)
 
-abbrev pub home_of_held : List Item → List ℕ → RowView → ℕ → Option Held → Result Home EditFault
+abbrev pub home_of_held : List Item → List ℕ → RowView → ℕ → Option Held → Result Home ScriptEditFault
 home_of_held items n b k None = Err edits.NoAmong
 home_of_held items n b k (Some h) = Ok (home_of_among items n b k h)
 
 -- the fault if the script lacks the definition that the edit changes
-abbrev pub missing : ScriptEdit → EditFault
+abbrev pub missing : ScriptEdit → ScriptEditFault
 missing (body n) = edits.NoRoutine
 missing (among n k) = edits.NoRoutine
 missing (terms n) = edits.NoGrouping
 
-abbrev pub home_in : List Item → Option Plain → ScriptEdit → Result Home EditFault
+abbrev pub home_in : List Item → Option Plain → ScriptEdit → Result Home ScriptEditFault
 home_in items (Some (routine m c os)) (body n) = Ok (home_of_body items n)
 home_in items (Some (routine m c os)) (among n k) = home_of_held items n (c, os) k (nth_held k (amongs_of_body (c, os)))
 home_in items (Some (grouping m a ts)) (terms n) = Ok (home_of_terms items n)
 home_in items _ e = Err (missing e)
 
 -- the place that an edit changes; or the fault if the script lacks the definition, or else the among
-abbrev pub home : List Item → ScriptEdit → Result Home EditFault
+abbrev pub home : List Item → ScriptEdit → Result Home ScriptEditFault
 home items e = home_in items (first_of (changes e) items) e
 
 -- ---- the script after an edit
@@ -197,7 +197,7 @@ IsFaultAt s h text f =
     ⊎ ((ts : List Placed) × HasTokens h.state text ts × (first_left_out ts ≡ None) × IsCheckFaultWith s h ts f)
 
 -- what each fault means; running out of memory is not a fault of the edit
-abbrev pub IsEditFault : Source → ScriptEdit → List ℕ → EditFault → Type 0
+abbrev pub IsEditFault : Source → ScriptEdit → List ℕ → ScriptEditFault → Type 0
 IsEditFault s e text edits.NoRoutine = home s.items e ≡ Err edits.NoRoutine
 IsEditFault s e text edits.NoGrouping = home s.items e ≡ Err edits.NoGrouping
 IsEditFault s e text edits.NoAmong = home s.items e ≡ Err edits.NoAmong

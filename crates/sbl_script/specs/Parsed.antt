@@ -1,12 +1,12 @@
 -- A script: its items, and the name of the external that is run.
 use Rattle.std.specs.Prelude.{ℕ, List, Option}
-use Rattle.sbl_tree.specs.declared.tree.Item as declared
-use Rattle.sbl_tree.specs.Tree.{Item}
-use Rattle.sbl_tree.specs.View.{RowView, view_items}
-use Rattle.sbl_checks.specs.Bodies.{body_in}
+use Rattle.sbl_ast.specs.declared.tree.ScriptItem as declared
+use Rattle.sbl_ast.specs.Tree.{Item}
+use Rattle.sbl_ast.specs.View.{RowView, view_items}
+use Rattle.sbl_resolver.specs.Bodies.{body_in}
 
 pub record Parsed : Type 0 where
-  pub items : List declared.Item
+  pub items : List declared.ScriptItem
   pub external : List ℕ
 
 -- the items of a script in text order, and the name of the external that is run

@@ -5,13 +5,13 @@ use Rattle.sbl_text.specs.declared.fault.ScriptFault.{ScriptFault}
 use Rattle.sbl_text.specs.declared.fault.ScriptFault.TheVariants as fault
 use Rattle.sbl_text.specs.Directives.{Directives, start}
 use Rattle.sbl_text.specs.Tokens.{Placed, ArePlacedFrom, IsFirstFaultFrom}
-use Rattle.sbl_tree.specs.Terminal.{Terminal, terminal_of}
-use Rattle.sbl_tree.specs.Tree.{Item}
-use Rattle.sbl_tree.specs.Texts.{Text, script}
-use Rattle.sbl_grammar.specs.Profile.{is_left_out}
-use Rattle.sbl_grammar.specs.Reading.{IsReadAs, IsSyntaxAt, IsTooDeepAt, IsOutOfProfileAt}
+use Rattle.sbl_ast.specs.Terminal.{Terminal, terminal_of}
+use Rattle.sbl_ast.specs.Tree.{Item}
+use Rattle.sbl_ast.specs.Texts.{Text, script}
+use Rattle.sbl_parser.specs.Profile.{is_left_out}
+use Rattle.sbl_parser.specs.Reading.{IsReadAs, IsSyntaxAt, IsTooDeepAt, IsOutOfProfileAt}
 use Rattle.sbl_script.specs.Parsed.{Source}
-use Rattle.sbl_checks.specs.Checks.{WellDeclared, fault_of}
+use Rattle.sbl_resolver.specs.Checks.{WellDeclared, fault_of}
 
 -- the most bytes of a script
 abbrev pub max_script : ℕ

@@ -2,9 +2,9 @@
 use Rattle.std.specs.Prelude.{List, [], map}
 use Rattle.sbl_text.specs.Directives.{Directives, start}
 use Rattle.sbl_text.specs.Spaced.{AreSaid}
-use Rattle.sbl_tree.specs.Terminal.{lexeme_as}
-use Rattle.sbl_tree.specs.Tree.{Item, Plain, lexemes_of}
-use Rattle.sbl_tree.specs.Places.{placed_plain, tokens}
+use Rattle.sbl_ast.specs.Terminal.{lexeme_as}
+use Rattle.sbl_ast.specs.Tree.{Item, Plain, lexemes_of}
+use Rattle.sbl_ast.specs.Places.{placed_plain, tokens}
 
 -- each token of the script can be written in some text, with what the tokens before it set in force
 abbrev pub AreSpelled : List Item → Type 0

@@ -6,7 +6,7 @@ use thiserror::Error;
 
 /// Why an edit is refused, with its number. Numbers and names are our own choice.
 #[derive(Debug, Clone, Copy, PartialEq, Eq, Error)]
-pub enum EditFault {
+pub enum ScriptEditFault {
     /// The script defines no routine or external with this name.
     #[error("45 NoRoutine")]
     NoRoutine,
@@ -27,27 +27,27 @@ pub enum EditFault {
     OutOfMemory,
 }
 
-impl From<AllocError> for EditFault {
+impl From<AllocError> for ScriptEditFault {
     ghost use Rattle.std.specs.Prelude.{◌≡◌};
-    ghost use Rattle.sbl_script.specs.declared.edit_fault.EditFault.TheVariants.{OutOfMemory};
+    ghost use Rattle.sbl_script.specs.declared.edit_fault.ScriptEditFault.TheVariants.{OutOfMemory};
 
     ghost from_gives = { λ _ refused. refused ≡ OutOfMemory };
 
-    fn from(_error: AllocError) -> EditFault {
-        EditFault::OutOfMemory
+    fn from(_error: AllocError) -> ScriptEditFault {
+        ScriptEditFault::OutOfMemory
     }
 }
 
-impl From<ScriptFault> for EditFault {
+impl From<ScriptFault> for ScriptEditFault {
     ghost use Rattle.sbl_script.specs.Refusals.{Refuses};
 
     ghost from_gives = { λ fault refused. Refuses fault refused };
 
-    fn from(fault: ScriptFault) -> EditFault {
+    fn from(fault: ScriptFault) -> ScriptEditFault {
         if fault == ScriptFault::OutOfMemory {
-            EditFault::OutOfMemory
+            ScriptEditFault::OutOfMemory
         } else {
-            EditFault::Script(fault)
+            ScriptEditFault::Script(fault)
         }
     }
 }

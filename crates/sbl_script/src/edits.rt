@@ -3,13 +3,13 @@
 
 ghost use Rattle.std.specs.Prelude.{◌≡◌, MatchOption, None, Some, IfOk, IfErr, map};
 ghost use Rattle.std.specs.List.{list_any};
-ghost use Rattle.sbl_tree.specs.Tree as trees;
-ghost use Rattle.sbl_tree.specs.View.{view_argument, view_item, view_items, view_plain, view_row, view_term};
+ghost use Rattle.sbl_ast.specs.Tree as trees;
+ghost use Rattle.sbl_ast.specs.View.{view_argument, view_item, view_items, view_plain, view_row, view_term};
 ghost use Rattle.sbl_script.specs.declared.edits.DefinitionKind.TheVariants as kinds;
 ghost use Rattle.sbl_script.specs.Edits as spec;
 
-use sbl_text::{Escapes, ScriptFault, read_codes};
-use sbl_tree::{Argument, Base, Item, Plain, Row, Term, copy_plain};
+use sbl_ast::{Argument, Base, Plain, RowOfCommands, ScriptItem, Term, copy_plain};
+use sbl_text::{Coding, Escapes, ScriptFault, macro_value};
 use std::alloc::{AllocError, Global};
 
 /// The kind of a definition.
@@ -66,13 +66,17 @@ fn first_in<'a>(plains: &'a [Plain], kind: DefinitionKind, name: &str) -> Option
 }
 
 /// Returns the first definition of this kind and name, in text order; `None` if there is none.
-pub fn definition_of<'a>(items: &'a [Item], kind: DefinitionKind, name: &str) -> Option<&'a Plain>
+pub fn definition_of<'a>(
+    items: &'a [ScriptItem],
+    kind: DefinitionKind,
+    name: &str,
+) -> Option<&'a Plain>
     ensures { MatchOption result (spec.first_of (spec.defines kind name.now) (view_items items.now) ≡ None) (λ x. spec.first_of (spec.defines kind name.now) (view_items items.now) ≡ Some (view_plain x.now)) }
 {
     for item in items {
         let found = match item {
-            Item::Plain(plain) => plain_if(plain, kind, name),
-            Item::BackwardMode(plains) => first_in(plains.as_slice(), kind, name),
+            ScriptItem::Plain(plain) => plain_if(plain, kind, name),
+            ScriptItem::BackwardMode(plains) => first_in(plains.as_slice(), kind, name),
         };
         if let Some(plain) = found {
             return Some(plain);
@@ -82,7 +86,7 @@ pub fn definition_of<'a>(items: &'a [Item], kind: DefinitionKind, name: &str) ->
 }
 
 /// Returns the body of the first routine or external with this name; `None` if there is none.
-pub fn routine_of<'a>(items: &'a [Item], name: &str) -> Option<&'a Row>
+pub fn routine_of<'a>(items: &'a [ScriptItem], name: &str) -> Option<&'a RowOfCommands>
     ensures { MatchOption result (spec.first_of (spec.defines kinds.Routine name.now) (view_items items.now) ≡ None) (λ body. spec.first_of (spec.defines kinds.Routine name.now) (view_items items.now) ≡ Some (trees.routine name.now (view_row body.now).0 (view_row body.now).1)) }
 {
     match definition_of(items, DefinitionKind::Routine, name)? {
@@ -92,7 +96,7 @@ pub fn routine_of<'a>(items: &'a [Item], name: &str) -> Option<&'a Row>
 }
 
 /// Returns the terms of the first grouping with this name; `None` if there is none.
-pub fn grouping_of<'a>(items: &'a [Item], name: &str) -> Option<(&'a Argument, &'a [Term])>
+pub fn grouping_of<'a>(items: &'a [ScriptItem], name: &str) -> Option<(&'a Argument, &'a [Term])>
     ensures { MatchOption result (spec.first_of (spec.defines kinds.Grouping name.now) (view_items items.now) ≡ None) (λ x. spec.first_of (spec.defines kinds.Grouping name.now) (view_items items.now) ≡ Some (trees.grouping name.now (view_argument x.0.now) (map view_term x.1.now))) }
 {
     match definition_of(items, DefinitionKind::Grouping, name)? {
@@ -102,6 +106,17 @@ pub fn grouping_of<'a>(items: &'a [Item], name: &str) -> Option<(&'a Argument, &
             others,
         } => Some((first, others.as_slice())),
         _ => None,
+    }
+}
+
+/// Returns how the literal of a macro is read.
+fn coding_of(base: Option<Base>) -> Coding
+    ensures { result ≡ spec.coding_of base }
+{
+    match base {
+        None => Coding::Plain,
+        Some(Base::Hex) => Coding::Hex,
+        Some(Base::Decimal) => Coding::Decimal,
     }
 }
 
@@ -116,17 +131,9 @@ fn set(alloc: Global, escapes: &mut Escapes, plain: &Plain) -> Result<(), Script
             Ok(())
         }
         Plain::StringDef { name, base, value } => {
-            let is_hex = match base {
-                None => {
-                    escapes.define(name.as_str(), value.value.as_slice())?;
-                    return Ok(());
-                }
-                Some(Base::Hex) => true,
-                Some(Base::Decimal) => false,
-            };
-            match read_codes(alloc, is_hex, value.value.as_slice()) {
-                Ok(codes) => {
-                    escapes.define(name.as_str(), codes.as_slice())?;
+            match macro_value(alloc, coding_of(*base), value.value.as_slice(), 0) {
+                Ok(value) => {
+                    escapes.define(name.as_str(), value.as_slice())?;
                     Ok(())
                 }
                 Err(ScriptFault::OutOfMemory) => Err(ScriptFault::OutOfMemory),
@@ -159,7 +166,7 @@ fn reach_in(
 
 fn reach(
     alloc: Global,
-    items: &[Item],
+    items: &[ScriptItem],
     kind: DefinitionKind,
     name: &str,
     escapes: &mut Escapes,
@@ -169,13 +176,13 @@ fn reach(
 {
     for item in items {
         match item {
-            Item::Plain(plain) => {
+            ScriptItem::Plain(plain) => {
                 if defines(plain, kind, name) {
                     return Ok(true);
                 }
                 set(alloc, escapes, plain)?;
             }
-            Item::BackwardMode(plains) => {
+            ScriptItem::BackwardMode(plains) => {
                 if reach_in(alloc, plains.as_slice(), kind, name, escapes)? {
                     return Ok(true);
                 }
@@ -188,7 +195,7 @@ fn reach(
 /// Returns what is in force where the first definition of this kind and name begins.
 pub fn escapes_before(
     alloc: Global,
-    items: &[Item],
+    items: &[ScriptItem],
     kind: DefinitionKind,
     name: &str,
 ) -> Result<Escapes, ScriptFault>
@@ -201,7 +208,7 @@ pub fn escapes_before(
 }
 
 /// Returns a routine with this name and this body.
-pub fn routine(alloc: Global, name: &str, body: Row) -> Result<Plain, AllocError>
+pub fn routine(alloc: Global, name: &str, body: RowOfCommands) -> Result<Plain, AllocError>
     ensures { IfOk result (λ x. view_plain x ≡ trees.routine name.now (view_row body).0 (view_row body).1) }
 {
     Ok(Plain::Routine {
@@ -250,12 +257,12 @@ fn plains_with(
 }
 
 /// Whether the definition is this item, or inside it.
-fn holds(item: &Item, kind: DefinitionKind, name: &str) -> bool
+fn holds(item: &ScriptItem, kind: DefinitionKind, name: &str) -> bool
     ensures { result ≡ spec.holds (spec.defines kind name.now) (view_item item.now) }
 {
     match item {
-        Item::Plain(plain) => defines(plain, kind, name),
-        Item::BackwardMode(plains) => any_defines(plains.as_slice(), kind, name),
+        ScriptItem::Plain(plain) => defines(plain, kind, name),
+        ScriptItem::BackwardMode(plains) => any_defines(plains.as_slice(), kind, name),
     }
 }
 
@@ -271,13 +278,13 @@ fn any_defines(plains: &[Plain], kind: DefinitionKind, name: &str) -> bool
 }
 
 /// Returns a copy of an item.
-fn copy_item(alloc: Global, item: &Item) -> Result<Item, AllocError>
+fn copy_item(alloc: Global, item: &ScriptItem) -> Result<ScriptItem, AllocError>
     ensures { IfOk result (λ x. view_item x ≡ view_item item.now) }
 {
     match item {
-        Item::Plain(plain) => Ok(Item::Plain(copy_plain(alloc, plain)?)),
-        Item::BackwardMode(plains) => {
-            Ok(Item::BackwardMode(copy_plains(alloc, plains.as_slice())?))
+        ScriptItem::Plain(plain) => Ok(ScriptItem::Plain(copy_plain(alloc, plain)?)),
+        ScriptItem::BackwardMode(plains) => {
+            Ok(ScriptItem::BackwardMode(copy_plains(alloc, plains.as_slice())?))
         }
     }
 }
@@ -295,16 +302,16 @@ fn copy_plains(alloc: Global, plains: &[Plain]) -> Result<Vec<Plain>, AllocError
 
 fn item_with(
     alloc: Global,
-    item: &Item,
+    item: &ScriptItem,
     kind: DefinitionKind,
     name: &str,
     new: &Plain,
-) -> Result<Item, AllocError>
+) -> Result<ScriptItem, AllocError>
     ensures { IfOk result (λ x. view_item x ≡ spec.item_with (spec.defines kind name.now) (view_plain new.now) (view_item item.now)) }
 {
     match item {
-        Item::Plain(_) => Ok(Item::Plain(copy_plain(alloc, new)?)),
-        Item::BackwardMode(plains) => Ok(Item::BackwardMode(plains_with(
+        ScriptItem::Plain(_) => Ok(ScriptItem::Plain(copy_plain(alloc, new)?)),
+        ScriptItem::BackwardMode(plains) => Ok(ScriptItem::BackwardMode(plains_with(
             alloc,
             plains.as_slice(),
             kind,
@@ -317,11 +324,11 @@ fn item_with(
 /// Returns a copy of the items with `new` in place of the first definition of this kind and name.
 pub fn items_with(
     alloc: Global,
-    items: &[Item],
+    items: &[ScriptItem],
     kind: DefinitionKind,
     name: &str,
     new: &Plain,
-) -> Result<Vec<Item>, AllocError>
+) -> Result<Vec<ScriptItem>, AllocError>
     ensures { IfOk result (λ x. view_items x.items ≡ spec.items_with (spec.defines kind name.now) (view_plain new.now) (view_items items.now)) }
 {
     let mut copies = Vec::new(alloc);

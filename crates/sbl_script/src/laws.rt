@@ -4,16 +4,16 @@ ghost use Rattle.sbl_script.specs.OneEdit.{EditFaultIsOne, EditIsOne, EditOrFaul
 ghost use Rattle.sbl_script.specs.OnlyTheItem.{ExternalStays, OnlyTheItem};
 ghost use Rattle.sbl_script.specs.OneReading.{FaultIsOne, ScriptIsOne, ScriptOrFault};
 ghost use Rattle.sbl_script.specs.Parsed.{source_of};
-ghost use Rattle.sbl_script.specs.Printed.{CanonicalIsOne, CanonicalIsRead};
+ghost use Rattle.sbl_script.specs.Printed.{CanonicalIsOne, CanonicalIsRead, LiteralsFit};
 
 use crate::script::Script;
 pub use crate::script::{is_shallow, is_spelled, is_well_declared};
-pub use sbl_checks::laws::{
+use sbl_parser::{one_fault, one_part, one_tree};
+use sbl_print::laws::canonical_is_spaced;
+pub use sbl_resolver::laws::{
     amongs_are_sound, fault_is_first, names_resolve, substrings_are_paired, well_declared_passes,
 };
-use sbl_grammar::{one_fault, one_part, one_tree};
-use sbl_print::laws::canonical_is_spaced;
-use sbl_text::laws::{first_fault_is_one, spaced_are_read, tokens_are_one};
+use sbl_text::laws::{first_fault_is_one, literals_are_short, spaced_are_read, tokens_are_one};
 
 /// For given bytes and a given external there is at most one script and at most one fault, and never both. So
 /// `Script::parse` is a function of these two, unless an allocation fails.
@@ -77,4 +77,17 @@ pub fn canonical_is_one(script: &Script, other: &Script)
     one_tree();
     is_spelled(script);
     is_spelled(other);
+}
+
+/// The literals of a script have together at most 64 characters for each three of its canonical text. This holds for
+/// scripts after edits too.
+pub fn literals_fit(script: &Script)
+    ensures { LiteralsFit (source_of script.now) }
+{
+    literals_are_short();
+    spaced_are_read();
+    canonical_is_spaced();
+    one_part();
+    one_tree();
+    is_spelled(script);
 }

@@ -2,29 +2,29 @@
 
 ghost use Rattle.std.specs.Prelude.{◌≡◌, ◌⊎◌, ◌≤◌, None, Some, true, [], length, map, IfOk, IfErr};
 ghost use Rattle.std.specs.Str.{IsUtf8};
-ghost use Rattle.sbl_tree.specs.Places.{AreShallow, placed_plain, places, max_depth};
-ghost use Rattle.sbl_grammar.specs.Reading.{IsReadAs};
-ghost use Rattle.sbl_tree.specs.Texts as texts;
-ghost use Rattle.sbl_tree.specs.View.{view_among, view_argument, view_items, view_plain, view_row, view_term};
-ghost use Rattle.sbl_tree.specs.Counts.{count_in_among};
-ghost use Rattle.sbl_checks.specs.Checks.{WellDeclared, fault_of};
+ghost use Rattle.sbl_ast.specs.Places.{AreShallow, placed_plain, places, max_depth};
+ghost use Rattle.sbl_parser.specs.Reading.{IsReadAs};
+ghost use Rattle.sbl_ast.specs.Texts as texts;
+ghost use Rattle.sbl_ast.specs.View.{view_among, view_argument, view_items, view_plain, view_row, view_term};
+ghost use Rattle.sbl_ast.specs.Counts.{count_in_among};
+ghost use Rattle.sbl_resolver.specs.Checks.{WellDeclared, fault_of};
 ghost use Rattle.sbl_script.specs.Spelled.{AreSpelled, IsSpelled};
 ghost use Rattle.sbl_text.specs.Directives.{start, Directives};
 ghost use Rattle.sbl_text.specs.Spaced.{after_all};
 ghost use Rattle.sbl_text.specs.Tokens.{MayEnd, placed_of};
-ghost use Rattle.sbl_tree.specs.Tree.{lexemes_of};
+ghost use Rattle.sbl_ast.specs.Tree.{lexemes_of};
 ghost use Rattle.sbl_script.specs.Parsed.{source_of};
 ghost use Rattle.sbl_script.specs.Reading as spec;
 
-use crate::edit_fault::EditFault;
+use crate::edit_fault::ScriptEditFault;
 use crate::edits;
 use crate::edits::{DefinitionKind, escapes_before, items_with};
 use sbl_amongs::{has_as_many_amongs, nth_among, put_in_place};
-use sbl_checks::{body_in, check};
-use sbl_grammar::{is_left_out, parse, parse_among, parse_body, parse_terms};
+use sbl_ast::{Among, Argument, Plain, RowOfCommands, ScriptItem, Term};
+use sbl_parser::{is_left_out, parse, parse_among, parse_body, parse_terms};
 use sbl_print::canonical_text;
+use sbl_resolver::{body_in, check};
 use sbl_text::{ScriptFault, Token, tokens, tokens_under};
-use sbl_tree::{Among, Argument, Item, Plain, Row, Term};
 use std::alloc::{AllocError, Global};
 use std::marker::Model;
 
@@ -58,7 +58,7 @@ fn text_of(bytes: &[u8]) -> Result<&str, ScriptFault>
 }
 
 /// Returns the tree of these tokens. `end` is the length of their text in bytes.
-fn tree_of(alloc: Global, tokens: &[Token], end: usize) -> Result<Vec<Item>, ScriptFault>
+fn tree_of(alloc: Global, tokens: &[Token], end: usize) -> Result<Vec<ScriptItem>, ScriptFault>
     ensures offered { IfOk result (λ items. spec.first_left_out (map placed_of tokens.now) ≡ None) }
     ensures tree { IfOk result (λ items. IsReadAs texts.script (spec.terminals (map placed_of tokens.now)) (view_items items.items)) }
     ensures fault { IfErr result (λ f. (f ≡ ScriptFault.OutOfMemory) ⊎ spec.IsUnread texts.script (map placed_of tokens.now) end f) }
@@ -70,7 +70,7 @@ fn tree_of(alloc: Global, tokens: &[Token], end: usize) -> Result<Vec<Item>, Scr
 }
 
 /// Returns the body that these tokens form, as a routine's. `end` is the length of their text in bytes.
-fn body_of_tokens(alloc: Global, tokens: &[Token], end: usize) -> Result<Row, ScriptFault>
+fn body_of_tokens(alloc: Global, tokens: &[Token], end: usize) -> Result<RowOfCommands, ScriptFault>
     ensures offered { IfOk result (λ row. spec.first_left_out (map placed_of tokens.now) ≡ None) }
     ensures tree { IfOk result (λ row. IsReadAs texts.body (spec.terminals (map placed_of tokens.now)) (view_row row)) }
     ensures fault { IfErr result (λ f. (f ≡ ScriptFault.OutOfMemory) ⊎ spec.IsUnread texts.body (map placed_of tokens.now) end f) }
@@ -119,18 +119,18 @@ fn terms_of_tokens(
 /// A script that has passed all checks, with the name of the external that is run.
 #[derive(Drop)]
 pub struct Script {
-    items: Vec<Item>,
+    items: Vec<ScriptItem>,
     external: String,
 }
 
 impl Model for Script {
     ghost use Rattle.std.specs.Prelude.{string_bytes};
     ghost use Rattle.std.specs.Coded.{codes};
-    ghost use Rattle.sbl_tree.specs.contracts.tree.Item as e;
-    ghost use Rattle.sbl_tree.specs.View.{view_items};
+    ghost use Rattle.sbl_ast.specs.contracts.tree.ScriptItem as e;
+    ghost use Rattle.sbl_ast.specs.View.{view_items};
     ghost use Rattle.sbl_script.specs.Parsed.{Parsed};
-    ghost use Rattle.sbl_checks.specs.Checks.{WellDeclared};
-    ghost use Rattle.sbl_tree.specs.Places.{places, AreShallow};
+    ghost use Rattle.sbl_resolver.specs.Checks.{WellDeclared};
+    ghost use Rattle.sbl_ast.specs.Places.{places, AreShallow};
     ghost use Rattle.sbl_script.specs.Spelled.{AreSpelled};
 
     ghost Value = { Parsed };
@@ -145,15 +145,15 @@ impl Model for Script {
 impl Script {
     ghost use Rattle.sbl_script.specs.Parsed.{body_of};
     ghost use Rattle.std.specs.Prelude.{Err};
-    ghost use Rattle.sbl_tree.specs.Places.{places, AreShallow};
-    ghost use Rattle.sbl_tree.specs.Texts.{places_in};
+    ghost use Rattle.sbl_ast.specs.Places.{places, AreShallow};
+    ghost use Rattle.sbl_ast.specs.Texts.{places_in};
     ghost use Rattle.std.specs.Prelude.{string_bytes};
     ghost use Rattle.sbl_print.specs.Canonical.{canonical};
     ghost use Rattle.sbl_script.specs.Reading.{HasTokens};
     ghost use Rattle.sbl_script.specs.Edits.{IsEditFault, IsEdited, among, body, defines, home, items_with, state_before, terms};
 
     /// Checks a tree and returns its script, or the fault of the first check that fails.
-    fn checked(alloc: Global, items: Vec<Item>, external: &str) -> Result<Script, ScriptFault>
+    fn checked(alloc: Global, items: Vec<ScriptItem>, external: &str) -> Result<Script, ScriptFault>
         requires shallow { AreShallow (places (view_items items.items)) }
         requires spelled { AreSpelled (view_items items.items) }
         ensures tree { IfOk result (λ s. source_of s ≡ record { items = view_items items.items; external = external.now }) }
@@ -187,13 +187,18 @@ impl Script {
     /// Returns `NoRoutine` exactly if the script defines no routine with this name; this does not allocate. Returns
     /// `Script` with the first fault of the text, with its position in the text, or with the fault of the check that
     /// fails in the script with the text. Returns `OutOfMemory` if an allocation fails.
-    pub fn with_routine(&self, alloc: Global, name: &str, text: &str) -> Result<Script, EditFault>
+    pub fn with_routine(
+        &self,
+        alloc: Global,
+        name: &str,
+        text: &str,
+    ) -> Result<Script, ScriptEditFault>
         ensures script { IfOk result (λ s. IsEdited (source_of self.now) (body name.now) text.now (source_of s)) }
-        ensures fault { IfErr result (λ f. (f ≡ EditFault.OutOfMemory) ⊎ IsEditFault (source_of self.now) (body name.now) text.now f) }
-        ensures missing { (f : EditFault) → home (source_of self.now).items (body name.now) ≡ Err f → result ≡ Err f }
+        ensures fault { IfErr result (λ f. (f ≡ ScriptEditFault.OutOfMemory) ⊎ IsEditFault (source_of self.now) (body name.now) text.now f) }
+        ensures missing { (f : ScriptEditFault) → home (source_of self.now).items (body name.now) ≡ Err f → result ≡ Err f }
     {
         let Some(_replaced) = edits::routine_of(&self.items, name) else {
-            return Err(EditFault::NoRoutine);
+            return Err(ScriptEditFault::NoRoutine);
         };
         let found = self.tokens_in(alloc, DefinitionKind::Routine, name, text)?;
         let body = body_of_tokens(alloc, &found, text.len())?;
@@ -217,16 +222,16 @@ impl Script {
         routine: &str,
         k: u64,
         text: &str,
-    ) -> Result<Script, EditFault>
+    ) -> Result<Script, ScriptEditFault>
         ensures script { IfOk result (λ s. IsEdited (source_of self.now) (among routine.now k) text.now (source_of s)) }
-        ensures fault { IfErr result (λ f. (f ≡ EditFault.OutOfMemory) ⊎ IsEditFault (source_of self.now) (among routine.now k) text.now f) }
-        ensures missing { (f : EditFault) → home (source_of self.now).items (among routine.now k) ≡ Err f → result ≡ Err f }
+        ensures fault { IfErr result (λ f. (f ≡ ScriptEditFault.OutOfMemory) ⊎ IsEditFault (source_of self.now) (among routine.now k) text.now f) }
+        ensures missing { (f : ScriptEditFault) → home (source_of self.now).items (among routine.now k) ≡ Err f → result ≡ Err f }
     {
         let Some(body) = edits::routine_of(&self.items, routine) else {
-            return Err(EditFault::NoRoutine);
+            return Err(ScriptEditFault::NoRoutine);
         };
         let Some((depth, replaced)) = nth_among(body, k) else {
-            return Err(EditFault::NoAmong);
+            return Err(ScriptEditFault::NoAmong);
         };
         let found = self.tokens_in(alloc, DefinitionKind::Routine, routine, text)?;
         let among = among_of_tokens(alloc, &found, text.len(), depth)?;
@@ -236,7 +241,7 @@ impl Script {
         if has_as_many_amongs(&among, replaced) {
             Ok(script)
         } else {
-            Err(EditFault::AmongCount)
+            Err(ScriptEditFault::AmongCount)
         }
     }
 
@@ -247,13 +252,18 @@ impl Script {
     /// Returns `NoGrouping` exactly if the script defines no grouping with this name; this does not allocate. Returns
     /// `Script` with the first fault of the text, with its position in the text, or with the fault of the check that
     /// fails in the script with the text. Returns `OutOfMemory` if an allocation fails.
-    pub fn with_grouping(&self, alloc: Global, name: &str, text: &str) -> Result<Script, EditFault>
+    pub fn with_grouping(
+        &self,
+        alloc: Global,
+        name: &str,
+        text: &str,
+    ) -> Result<Script, ScriptEditFault>
         ensures script { IfOk result (λ s. IsEdited (source_of self.now) (terms name.now) text.now (source_of s)) }
-        ensures fault { IfErr result (λ f. (f ≡ EditFault.OutOfMemory) ⊎ IsEditFault (source_of self.now) (terms name.now) text.now f) }
-        ensures missing { (f : EditFault) → home (source_of self.now).items (terms name.now) ≡ Err f → result ≡ Err f }
+        ensures fault { IfErr result (λ f. (f ≡ ScriptEditFault.OutOfMemory) ⊎ IsEditFault (source_of self.now) (terms name.now) text.now f) }
+        ensures missing { (f : ScriptEditFault) → home (source_of self.now).items (terms name.now) ≡ Err f → result ≡ Err f }
     {
         let Some(_replaced) = edits::grouping_of(&self.items, name) else {
-            return Err(EditFault::NoGrouping);
+            return Err(ScriptEditFault::NoGrouping);
         };
         let found = self.tokens_in(alloc, DefinitionKind::Grouping, name, text)?;
         let terms = terms_of_tokens(alloc, &found, text.len())?;
@@ -311,7 +321,7 @@ impl Script {
     }
 
     /// Returns the items, in text order.
-    pub fn items(&self) -> &[Item]
+    pub fn items(&self) -> &[ScriptItem]
         ensures { result.now ≡ self.now.items }
     {
         self.items.as_slice()
@@ -325,7 +335,7 @@ impl Script {
     }
 
     /// Returns the body of the external that is run.
-    pub fn body(&self) -> &Row
+    pub fn body(&self) -> &RowOfCommands
         ensures { body_of (source_of self.now) ≡ Some (view_row result.now) }
     {
         match body_in(&self.items, self.external.as_str()) {

@@ -1,10 +1,10 @@
 -- Lines of a block are taken, up to its point.
 use Rattle.std.proofs.Common.{◌≡◌, ◌⊎◌, inl, inr, ◌≢◌, ◌∙◌, ◌++◌, ◌≤◌, ℕ, List, [], ◌∷◌, Option, Some, None, refl, sym, length}
 use Rattle.sbl_sessions.specs.Block.{Breaks, NoPoint, point}
-use Rattle.sbl_lines.specs.Faults.{serve_fault_of}
-use Rattle.sbl_lines.specs.Held.{AllFit, BeginsLong, BreaksOff, Took}
-use Rattle.sbl_lines.specs.declared.faults.LineFault.{LineFault}
-use Rattle.sbl_lines.specs.declared.faults.LineFault.TheVariants.{Read, TooLong}
+use Rattle.sbl_io.specs.Faults.{serve_fault_of}
+use Rattle.sbl_io.specs.Held.{AllFit, BeginsLong, BreaksOff, Took}
+use Rattle.sbl_io.specs.declared.faults.LineFault.{LineFault}
+use Rattle.sbl_io.specs.declared.faults.LineFault.TheVariants.{Read, TooLong}
 
 pub no_point-push : (lines : List (List ℕ)) (line : List ℕ) → NoPoint lines → line ≢ point → NoPoint (lines ++ line ∷ [])
 no_point-push [] line h other = (other, tt)

@@ -4,9 +4,9 @@ use Rattle.std.proofs.lemmas.List.{append-nil, length-map}
 use Rattle.std.proofs.lemmas.Slice.Eq.{bytes_eq-Decides}
 use Rattle.std.specs.Str.{bytes_eq, is_utf8}
 use Rattle.sbl_sessions.specs.Block.{AllText, BlockLines, point}
-use Rattle.sbl_lines.specs.Held.{IsTooLong, StandFirst}
-use Rattle.sbl_lines.specs.LinesOf.{AreWhole, chomped, max_line, onto_first, raw_lines}
-use Rattle.sbl_lines.proofs.Bytes.{raw-feed, raw-other, raw-some}
+use Rattle.sbl_io.specs.Held.{IsTooLong, StandFirst}
+use Rattle.sbl_io.specs.LinesOf.{AreWhole, chomped, max_line, onto_first, raw_lines}
+use Rattle.sbl_io.proofs.Bytes.{raw-feed, raw-other, raw-some}
 
 -- ---- the bytes behind some lines
 

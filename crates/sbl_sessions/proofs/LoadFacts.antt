@@ -12,17 +12,17 @@ use Rattle.sbl_bench.specs.Contents.{IsFaultOrMemory, Contents, Opens, opening_f
 use Rattle.sbl_bench.specs.declared.fault.EditFault.{EditFault}
 use Rattle.sbl_bench.specs.declared.fault.EditFault.TheVariants as edit
 use Rattle.sbl_sessions.specs.Block.{AllText, BlockLines, Breaks, NoPoint, point}
-use Rattle.sbl_lines.specs.Held.{AllFit, Took}
-use Rattle.sbl_lines.specs.Faults.{serve_fault_of}
+use Rattle.sbl_io.specs.Held.{AllFit, Took}
+use Rattle.sbl_io.specs.Faults.{serve_fault_of}
 use Rattle.sbl_sessions.specs.Loaded.{IsLoaded, ReadsScript, TookFault, TookSource, TookWords, WordLines}
 use Rattle.sbl_sessions.specs.WordLists.{ReadsWords}
-use Rattle.sbl_lines.specs.declared.faults.LineFault.{LineFault}
+use Rattle.sbl_io.specs.declared.faults.LineFault.{LineFault}
 use Rattle.sbl_sessions.proofs.BlockFacts.{all_fit-push, no_point-push}
-use Rattle.sbl_lines.specs.declared.faults.LineFault.TheVariants as line
+use Rattle.sbl_io.specs.declared.faults.LineFault.TheVariants as line
 use Rattle.sbl_sessions.specs.declared.faults.LoadFault.{LoadFault}
 use Rattle.sbl_sessions.specs.declared.faults.LoadFault.TheVariants.{Input, Open, Script}
-use Rattle.sbl_lines.specs.declared.faults.ServeFault.{ServeFault}
-use Rattle.sbl_lines.specs.declared.faults.ServeFault.TheVariants as serve
+use Rattle.sbl_io.specs.declared.faults.ServeFault.{ServeFault}
+use Rattle.sbl_io.specs.declared.faults.ServeFault.TheVariants as serve
 
 pub all_text-push : (lines : List (List ℕ)) (line : List ℕ) → AllText lines → is_utf8 line ≡ true → AllText (lines ++ line ∷ [])
 all_text-push [] line h text = (text, tt)

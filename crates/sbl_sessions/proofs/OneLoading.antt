@@ -12,14 +12,14 @@ use Rattle.sbl_script.specs.Reading.{IsFaultOf, IsScriptOf}
 use Rattle.sbl_text.specs.declared.fault.ScriptFault.{ScriptFault}
 use Rattle.sbl_text.specs.declared.fault.ScriptFault.TheVariants as script
 use Rattle.sbl_sessions.specs.Block.{BlockLines, Breaks, made_text, point}
-use Rattle.sbl_lines.specs.Held.{BeginsLong, StandFirst, Took}
-use Rattle.sbl_lines.specs.LinesOf.{lines_of}
+use Rattle.sbl_io.specs.Held.{BeginsLong, StandFirst, Took}
+use Rattle.sbl_io.specs.LinesOf.{lines_of}
 use Rattle.sbl_sessions.specs.Loaded.{IsInput, IsLoaded, TookFault, TookNoText, TookSource, TookWords, WordLines}
 use Rattle.sbl_sessions.specs.OneLoading.{IsToldByBytes, LoadingIsOne, RestIsOne}
 use Rattle.sbl_sessions.specs.declared.faults.LoadFault.{LoadFault}
 use Rattle.sbl_sessions.specs.declared.faults.LoadFault.TheVariants.{Input, Open, Script}
-use Rattle.sbl_lines.specs.declared.faults.ServeFault.TheVariants as fault
-use Rattle.sbl_lines.proofs.Bytes.{none_of, stand_lines}
+use Rattle.sbl_io.specs.declared.faults.ServeFault.TheVariants as fault
+use Rattle.sbl_io.proofs.Bytes.{none_of, stand_lines}
 use Rattle.sbl_sessions.proofs.InputFacts.{AtEnd, AtLong, AtNoText, AtPoint, LinesEnd, end-end, end-long, end-no_text, end-point, lines_end, stand-one}
 
 -- ---- the ending by what ends the lines

@@ -15,7 +15,7 @@ use Rattle.sbl_bench.specs.Traces.{trace_of}
 use Rattle.sbl_bench.specs.Vocabulary.{is_word}
 use Rattle.sbl_bench.specs.declared.fault.EditFault.TheVariants as fault
 use Rattle.sbl_machine.specs.Touched.{Item', touched_of}
-use Rattle.sbl_records.specs.Records.{records_text}
+use Rattle.sbl_io.specs.Records.{records_text}
 use Rattle.sbl_sessions.specs.Answers.{Enough, IsReport, IsReportOrAbsent, Memory, RefusedAfter, edit_text}
 use Rattle.sbl_sessions.specs.CommandViews.{IsReply}
 use Rattle.sbl_sessions.specs.Rows.{class_fields, class_or_row, class_or_row_text, class_text, row_fields, rows_now}

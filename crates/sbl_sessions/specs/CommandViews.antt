@@ -9,10 +9,10 @@ use Rattle.sbl_sessions.specs.Commands as command
 use Rattle.sbl_bench.specs.Contents.{Contents}
 use Rattle.sbl_sessions.specs.Answers.{IsReplyTo, Memory}
 use Rattle.sbl_sessions.specs.Block.{BlockLines, Breaks}
-use Rattle.sbl_lines.specs.Held.{AllFit, Took}
+use Rattle.sbl_io.specs.Held.{AllFit, Took}
 use Rattle.sbl_sessions.specs.Requests as request
 use Rattle.sbl_sessions.specs.Requests.{IsRequest, asks_block, block_lines}
-use Rattle.sbl_lines.specs.declared.faults.ServeFault.{ServeFault}
+use Rattle.sbl_io.specs.declared.faults.ServeFault.{ServeFault}
 use Rattle.sbl_sessions.specs.declared.commands.BlockWord.{BlockWord}
 use Rattle.sbl_sessions.specs.declared.commands.BlockWord.TheVariants as word
 use Rattle.sbl_sessions.specs.declared.commands.Command.{Command}

@@ -1,7 +1,7 @@
 -- The fault that the lines keep after a loading.
 use Rattle.std.specs.Prelude.{Option, None, Result, Ok, Err}
-use Rattle.sbl_lines.specs.Faults.{line_fault_of}
-use Rattle.sbl_lines.specs.declared.faults.LineFault.{LineFault}
+use Rattle.sbl_io.specs.Faults.{line_fault_of}
+use Rattle.sbl_io.specs.declared.faults.LineFault.{LineFault}
 use Rattle.sbl_sessions.specs.declared.faults.LoadFault.{LoadFault}
 use Rattle.sbl_sessions.specs.declared.faults.LoadFault.TheVariants.{Input}
 

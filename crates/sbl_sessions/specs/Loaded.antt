@@ -11,13 +11,13 @@ use Rattle.sbl_script.specs.Reading.{IsFaultOf, IsScriptOf}
 use Rattle.sbl_text.specs.declared.fault.ScriptFault.{ScriptFault}
 use Rattle.sbl_text.specs.declared.fault.ScriptFault.TheVariants as script
 use Rattle.sbl_sessions.specs.Block.{AllText, BlockLines, Breaks, TookBlock, made_text, max_script, point}
-use Rattle.sbl_lines.specs.Held.{HasCause, Took, fault_of}
-use Rattle.sbl_lines.specs.LinesOf.{max_line}
-use Rattle.sbl_lines.specs.declared.lines.Lines.{Lines}
-use Rattle.sbl_lines.specs.declared.faults.LineFault.TheVariants as line
+use Rattle.sbl_io.specs.Held.{HasCause, Took, fault_of}
+use Rattle.sbl_io.specs.LinesOf.{max_line}
+use Rattle.sbl_io.specs.declared.lines.Lines.{Lines}
+use Rattle.sbl_io.specs.declared.faults.LineFault.TheVariants as line
 use Rattle.sbl_sessions.specs.declared.faults.LoadFault.{LoadFault}
 use Rattle.sbl_sessions.specs.declared.faults.LoadFault.TheVariants.{Input, Script, Open}
-use Rattle.sbl_lines.specs.declared.faults.ServeFault.TheVariants as fault
+use Rattle.sbl_io.specs.declared.faults.ServeFault.TheVariants as fault
 
 -- ---- the words
 

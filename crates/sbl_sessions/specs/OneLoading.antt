@@ -6,7 +6,7 @@ use Rattle.sbl_text.specs.declared.fault.ScriptFault.TheVariants as script
 use Rattle.sbl_sessions.specs.Loaded.{IsLoaded}
 use Rattle.sbl_sessions.specs.declared.faults.LoadFault.{LoadFault}
 use Rattle.sbl_sessions.specs.declared.faults.LoadFault.TheVariants.{Input, Open, Script}
-use Rattle.sbl_lines.specs.declared.faults.ServeFault.TheVariants as fault
+use Rattle.sbl_io.specs.declared.faults.ServeFault.TheVariants as fault
 
 -- the bytes alone determine the result: the reader did not stop, and no allocation failed
 abbrev pub IsToldByBytes : Result Contents LoadFault → Type 0

@@ -4,7 +4,7 @@ use Rattle.csv.specs.Writing.{writer_setup, fields_written, has_written, text_wr
 use Rattle.csv.specs.declared.writer.Writer.{Writer}
 use Rattle.std.specs.declared.vec.Vec.{Vec}
 use Rattle.std.specs.declared.alloc.Global.{Global}
-use Rattle.sbl_records.specs.Records.{flexible}
+use Rattle.sbl_io.specs.Records.{flexible}
 
 -- the writer writes to a `Vec`, has not begun a row, and has been given this text
 pub record HasWritten (writer : Writer (Vec ℕ Global)) (text : List ℕ) : Type 0 where

@@ -5,13 +5,13 @@ use Rattle.sbl_bench.specs.Contents.{Contents}
 use Rattle.sbl_sessions.specs.Answers.{Answers, IsReplyTo, Memory}
 use Rattle.sbl_sessions.specs.Block.{Breaks}
 use Rattle.sbl_sessions.specs.Commands.{command_of}
-use Rattle.sbl_lines.specs.Devices.{HasStopped}
-use Rattle.sbl_lines.specs.Held.{HasCause, TookWhole, fault_of}
+use Rattle.sbl_io.specs.Devices.{HasStopped}
+use Rattle.sbl_io.specs.Held.{HasCause, TookWhole, fault_of}
 use Rattle.sbl_sessions.specs.Requests.{IsBegun, IsOpen, Request, TookRequests}
-use Rattle.sbl_lines.specs.declared.lines.Lines.{Lines}
-use Rattle.sbl_lines.specs.declared.faults.LineFault.TheVariants as line
-use Rattle.sbl_lines.specs.declared.faults.ServeFault.{ServeFault}
-use Rattle.sbl_lines.specs.declared.faults.ServeFault.TheVariants as fault
+use Rattle.sbl_io.specs.declared.lines.Lines.{Lines}
+use Rattle.sbl_io.specs.declared.faults.LineFault.TheVariants as line
+use Rattle.sbl_io.specs.declared.faults.ServeFault.{ServeFault}
+use Rattle.sbl_io.specs.declared.faults.ServeFault.TheVariants as fault
 
 -- Exactly these requests have their replies: for some list m of the memory of each, the replies were written, and the bench is
 -- the one after them.

@@ -6,7 +6,7 @@ use Rattle.std.specs.declared.vec.Vec.{Vec}
 use Rattle.std.specs.declared.alloc.Global.{Global}
 use Rattle.sbl_bench.specs.Contents.{opening_fault}
 use Rattle.sbl_bench.specs.Vocabulary.{vocabulary}
-use Rattle.sbl_lines.specs.declared.faults.ServeFault.TheVariants as fault
+use Rattle.sbl_io.specs.declared.faults.ServeFault.TheVariants as fault
 use Rattle.sbl_sessions.specs.Block.{Breaks}
 use Rattle.sbl_sessions.specs.Loaded.{TookNoText, TookSome, TookWords, WordLines}
 use Rattle.sbl_sessions.specs.declared.faults.LoadFault.{LoadFault}

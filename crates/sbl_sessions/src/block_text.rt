@@ -2,11 +2,11 @@
 ghost use Rattle.std.specs.Prelude.{◌≡◌, ◌<◌, ◌≤◌, ◌++◌, [], ◌∷◌, List, ℕ, OnOk, IfOk, IfErr, None, Some, length};
 ghost use Rattle.std.specs.Io.KnownBytes.{Keeps};
 ghost use Rattle.sbl_sessions.specs.Block.{HasText, HoldsText, ReadsBlock, made_text, max_script};
-ghost use Rattle.sbl_lines.specs.Faults.{left_by, serve_fault_of};
-ghost use Rattle.sbl_lines.specs.Held.{HasReason, IsDrained, KeepsTime, StaysEnded, TakesFeeds, fault_of, fuel_of, input_of, reads_bound};
-ghost use Rattle.sbl_lines.specs.declared.faults.LineFault.{LineFault};
+ghost use Rattle.sbl_io.specs.Faults.{left_by, serve_fault_of};
+ghost use Rattle.sbl_io.specs.Held.{HasReason, IsDrained, KeepsTime, StaysEnded, TakesFeeds, fault_of, fuel_of, input_of, reads_bound};
+ghost use Rattle.sbl_io.specs.declared.faults.LineFault.{LineFault};
 
-use sbl_lines::{Lines, ServeFault, Source};
+use sbl_io::{Lines, ServeFault, Source};
 use sbl_script::MAX_SCRIPT;
 use std::alloc::{AllocError, Global};
 

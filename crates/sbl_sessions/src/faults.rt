@@ -1,9 +1,9 @@
 //! Why there is no bench.
-ghost use Rattle.sbl_lines.specs.Faults.{serve_fault_of};
+ghost use Rattle.sbl_io.specs.Faults.{serve_fault_of};
 ghost use Rattle.std.specs.Prelude.{◌≡◌};
 
 use sbl_bench::EditFault;
-use sbl_lines::{LineFault, ServeFault};
+use sbl_io::{LineFault, ServeFault};
 use sbl_script::ScriptFault;
 use std::alloc::{AllocError, AllocFailed};
 use thiserror::Error;
@@ -45,7 +45,7 @@ impl From<ServeFault> for LoadFault {
 
 impl From<AllocError> for LoadFault {
     ghost use Rattle.sbl_sessions.specs.declared.faults.LoadFault.TheVariants as load;
-    ghost use Rattle.sbl_lines.specs.declared.faults.ServeFault.TheVariants as serve;
+    ghost use Rattle.sbl_io.specs.declared.faults.ServeFault.TheVariants as serve;
 
     ghost from_gives = { λ _ e. e ≡ load.Input serve.OutOfMemory };
 
@@ -56,7 +56,7 @@ impl From<AllocError> for LoadFault {
 
 impl<T: Drop> From<AllocFailed<T>> for LoadFault {
     ghost use Rattle.sbl_sessions.specs.declared.faults.LoadFault.TheVariants as load;
-    ghost use Rattle.sbl_lines.specs.declared.faults.ServeFault.TheVariants as serve;
+    ghost use Rattle.sbl_io.specs.declared.faults.ServeFault.TheVariants as serve;
 
     ghost from_gives = { λ _ e. e ≡ load.Input serve.OutOfMemory };
 

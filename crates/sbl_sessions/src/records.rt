@@ -5,14 +5,14 @@ ghost use Rattle.csv.specs.Records.{fields_of, partial_of};
 ghost use Rattle.sbl_bench.specs.Classes.{view_class, words_of};
 ghost use Rattle.sbl_bench.specs.Rows.{view_row};
 ghost use Rattle.sbl_machine.specs.Touched.{item_of};
-ghost use Rattle.sbl_records.specs.Records as texts;
+ghost use Rattle.sbl_io.specs.Records as texts;
 ghost use Rattle.sbl_sessions.specs.Rows as spec;
 ghost use Rattle.sbl_sessions.specs.Traces.{item_fields};
 
 use csv::{ByteRecord, WriterBuilder};
 use sbl_bench::{Class, Row};
+use sbl_io::set_text;
 use sbl_machine::{Item, Outcome};
-use sbl_records::set_text;
 use std::alloc::{AllocError, Global};
 
 /// A value that is written as one record.

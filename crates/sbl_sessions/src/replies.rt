@@ -3,11 +3,11 @@ ghost use Rattle.std.specs.Prelude.{◌≡◌, ◌≤◌, ℕ, List, Some, IfErr
 ghost use Rattle.std.specs.Io.KnownBytes.{Appends};
 ghost use Rattle.sbl_sessions.specs.Answers as spec;
 ghost use Rattle.sbl_sessions.specs.CommandViews.{IsReply};
-ghost use Rattle.sbl_lines.specs.Devices.{HasStopped, WritesInTime};
+ghost use Rattle.sbl_io.specs.Devices.{HasStopped, WritesInTime};
 ghost use Rattle.sbl_sessions.specs.Edits.{fault_in};
 
 use sbl_bench::EditFault;
-use sbl_lines::{ServeFault, Sink, write_all};
+use sbl_io::{ServeFault, Sink, write_all};
 use sbl_script::ScriptFault;
 use std::alloc::AllocError;
 

@@ -30,6 +30,14 @@ pub fn stems_text(alloc: Global, bench: &Bench) -> Result<Vec<u8>, AllocError>
     records_text(alloc, &rows)
 }
 
+/// Lets the bench keep its classes in order, for this report and later ones. If memory for that is refused, the report is made
+/// without it.
+pub(crate) fn keep_classes(bench: &mut Bench)
+    ensures { bench.new ≡ bench.old }
+{
+    let _kept = bench.keep_classes();
+}
+
 /// Returns the report of all classes. Returns `AllocError` if an allocation fails.
 pub(crate) fn classes_text(alloc: Global, bench: &Bench) -> Result<Vec<u8>, AllocError>
     ensures { IfOk result (λ text. text.items ≡ spec.classes_text (contents_of bench.now)) }
@@ -60,13 +68,7 @@ pub(crate) fn runs_text(alloc: Global, bench: &Bench) -> Result<Vec<u8>, AllocEr
 fn row_with<'b>(bench: &'b Bench, word: &[char]) -> Option<Row<'b>>
     ensures { option_map view_row result ≡ find (λ row. bytes_eq word.now row.word) (spec.rows_now (contents_of bench.now)) }
 {
-    for i in 0..bench.len() {
-        let row = bench.row(i)?;
-        if word == row.word {
-            return Some(row);
-        }
-    }
-    None
+    bench.row_of(word)
 }
 
 /// Returns the report of a word's class, or of its row if its run is refused. Returns `AllocError` if an allocation fails.

@@ -4,10 +4,10 @@ ghost use Rattle.std.specs.Io.KnownBytes.{IsAtEnd, Keeps};
 ghost use Rattle.sbl_bench.specs.Kept.{contents_of};
 ghost use Rattle.sbl_sessions.specs.CommandViews.{BreaksBlock, IsAnswer, IsAnswered, view_word};
 ghost use Rattle.sbl_sessions.specs.Commands.{line_command};
-ghost use Rattle.sbl_lines.specs.Devices.{WritesInTime};
-ghost use Rattle.sbl_lines.specs.Faults.{left_by, serve_fault_of};
-ghost use Rattle.sbl_lines.specs.declared.faults.LineFault.{LineFault};
-ghost use Rattle.sbl_lines.specs.Held.{HasReason, IsDrained, KeepsTime, StaysEnded, TakesFeeds, fault_of, fuel_of, input_of, line_of, reads_bound};
+ghost use Rattle.sbl_io.specs.Devices.{WritesInTime};
+ghost use Rattle.sbl_io.specs.Faults.{left_by, serve_fault_of};
+ghost use Rattle.sbl_io.specs.declared.faults.LineFault.{LineFault};
+ghost use Rattle.sbl_io.specs.Held.{HasReason, IsDrained, KeepsTime, StaysEnded, TakesFeeds, fault_of, fuel_of, input_of, line_of, reads_bound};
 ghost use Rattle.sbl_sessions.specs.Requests as requests;
 ghost use Rattle.sbl_sessions.specs.Session.{Ends, IsSession};
 
@@ -15,9 +15,11 @@ use crate::block_text::read_block;
 use crate::commands::{BlockWord, Command, block_word, command_of, target_of};
 use crate::edits::{add_word, edit_script, remove_word};
 use crate::replies::{BAD_COMMAND, Reply, edit_text, report, write_reply};
-use crate::reports::{class_reply, classes_text, runs_text, script_text, stems_text, trace_reply};
+use crate::reports::{
+    class_reply, classes_text, keep_classes, runs_text, script_text, stems_text, trace_reply,
+};
 use sbl_bench::{Bench, EditFault};
-use sbl_lines::{Lines, ServeFault, Sink, Source};
+use sbl_io::{Lines, ServeFault, Sink, Source};
 use std::alloc::Global;
 
 /// Makes the edit or the report that a line without a block asks for, and returns the reply.
@@ -31,9 +33,15 @@ pub fn answer_line(alloc: Global, bench: &mut Bench, line: &[u8]) -> Reply
         Command::Limit(number) => Reply::Fixed(edit_text(bench.set_limit(number))),
         Command::HasNoNumber => Reply::Fixed(edit_text(Err(EditFault::BadLimit))),
         Command::Stems => report(stems_text(alloc, bench)),
-        Command::Classes => report(classes_text(alloc, bench)),
+        Command::Classes => {
+            keep_classes(bench);
+            report(classes_text(alloc, bench))
+        }
         Command::Script => report(script_text(alloc, bench)),
-        Command::Class(word) => class_reply(alloc, bench, word),
+        Command::Class(word) => {
+            keep_classes(bench);
+            class_reply(alloc, bench, word)
+        }
         Command::Trace(word) => trace_reply(alloc, bench, word),
         Command::Runs => report(runs_text(alloc, bench)),
         Command::Bad => Reply::Fixed(BAD_COMMAND),

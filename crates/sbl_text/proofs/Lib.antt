@@ -10,3 +10,5 @@ pub mod Spellings
 pub mod Parted
 pub mod Unique
 pub mod Spaced
+pub mod Bounded
+pub mod Short

@@ -7,12 +7,12 @@ use Rattle.sbl_text.specs.declared.pieces.Shape.TheVariants as shape
 use Rattle.sbl_text.specs.declared.escapes.Inserts.{Inserts}
 use Rattle.sbl_text.specs.declared.fault.ScriptFault.{ScriptFault}
 use Rattle.sbl_text.specs.declared.fault.ScriptFault.TheVariants as fault
-use Rattle.sbl_lexemes.specs.declared.token.Token.{Token}
+use Rattle.sbl_token.specs.declared.token.Token.{Token}
 use Rattle.sbl_text.specs.Literals.{byte_length}
 use Rattle.sbl_text.specs.Pieces.{Has, IsPiece, Gap, AreGaps, AfterGaps}
 use Rattle.std.specs.List.{All}
 use Rattle.std.proofs.lemmas.List.Elements.{All-append, All-cons, All-nil}
-use Rattle.sbl_lexemes.specs.Lexemes.{Lexeme, lexeme_of, SaysFitting}
+use Rattle.sbl_token.specs.Lexemes.{Lexeme, lexeme_of, SaysFitting}
 use Rattle.sbl_text.specs.Directives.{Directives, setting_of, after}
 use Rattle.sbl_text.specs.Tokens.{Says, Piece, after_piece, AreCut, and_more, said, AreTokensFrom, Placed, placed_of, put_placed, placed_from, ArePlacedFrom, IsFirstFaultFrom, Stops, IsAt, Advances, Reading, IsAnswer, IsNext}
 use Rattle.sbl_text.proofs.Written.{sign_found_as}

@@ -10,21 +10,21 @@ use Rattle.std.proofs.lemmas.Nat.{div-add-mod'}
 use lib.Utf8.{scalar, low_scalar}
 use Rattle.std.proofs.lemmas.Slice.Eq.{bytes_eq-Decides}
 use Rattle.std.proofs.lemmas.Str.{chars-nil, encodes-chars, encodes-append, encode_ascii, chars-append, chars_from_encodes, chars-IsAscii, IsUtf8-from_ascii, scalars-chars}
-use Rattle.sbl_lexemes.specs.declared.words.Word.{Word}
-use Rattle.sbl_lexemes.specs.declared.signs.Sign.{Sign}
-use Rattle.sbl_lexemes.specs.declared.signs.Sign.TheVariants as signs
+use Rattle.sbl_token.specs.declared.words.Word.{Word}
+use Rattle.sbl_token.specs.declared.signs.Sign.{Sign}
+use Rattle.sbl_token.specs.declared.signs.Sign.TheVariants as signs
 use Rattle.sbl_text.specs.declared.pieces.Shape.{Shape}
 use Rattle.sbl_text.specs.declared.pieces.Shape.TheVariants as shape
 use Rattle.sbl_text.specs.declared.pieces.Wanted.{Wanted}
 use Rattle.sbl_text.specs.declared.pieces.Wanted.TheVariants as wanted
 use Rattle.sbl_text.specs.declared.escapes.Inserts.{Inserts}
 use Rattle.sbl_text.specs.Classes.{is_white, is_digit, is_word}
-use Rattle.sbl_lexemes.specs.Words.{word_text, words, word_of, found_in}
-use Rattle.sbl_lexemes.specs.Signs.{sign_text}
-use Rattle.sbl_lexemes.specs.SignCuts.{two, sign_of}
+use Rattle.sbl_token.specs.Words.{word_text, words, word_of, found_in}
+use Rattle.sbl_token.specs.Signs.{sign_text}
+use Rattle.sbl_token.specs.SignCuts.{two, sign_of}
 use Rattle.sbl_text.specs.Pieces.{Has, may_come, setting, Stands, IsPiece, BeginsComment, is_gap}
 use Rattle.sbl_text.specs.Scan.{IsCutFrom, Cut, cut_in, past_literal}
-use Rattle.sbl_lexemes.specs.Lexemes.{Lexeme, number}
+use Rattle.sbl_token.specs.Lexemes.{Lexeme, number}
 use Rattle.sbl_text.specs.Directives.{Directives, after}
 use Rattle.sbl_text.specs.Tokens.{digits_value, number_of, word_or_name, Told, Says, Piece, MaySay, after_piece, AreCut, and_more, said, MayEnd, AreTokensFrom}
 use Rattle.sbl_text.specs.Spaced.{lexeme_text, IsSaidBy, IsSaid, after_all, AreSaid, Spaced, lexemes_of, are_white, spaced_text}

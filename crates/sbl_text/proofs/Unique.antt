@@ -8,12 +8,12 @@ use Rattle.sbl_text.specs.declared.pieces.Shape.TheVariants as shape
 use Rattle.sbl_text.specs.declared.escapes.Inserts.{Inserts}
 use Rattle.sbl_text.specs.declared.fault.ScriptFault.{ScriptFault}
 use Rattle.sbl_text.specs.declared.fault.ScriptFault.TheVariants as fault
-use Rattle.sbl_lexemes.specs.declared.token.Token.{Token}
+use Rattle.sbl_token.specs.declared.token.Token.{Token}
 use Rattle.sbl_text.specs.Escapes.{InForce, opens, closes}
 use Rattle.sbl_text.specs.Literals.{Refusal, byte_length, inserted, IsInsertion, IsPlain, Part, IsPart, AreParts, values, Means, IsWrong, FirstWrong, IsLiteral}
 use Rattle.sbl_text.specs.Pieces.{Setting, IsPiece, is_gap}
 use Rattle.sbl_text.specs.Scan.{Cut, cut_in}
-use Rattle.sbl_lexemes.specs.Lexemes.{Lexeme, lexeme_of, sign, literal, inserts}
+use Rattle.sbl_token.specs.Lexemes.{Lexeme, lexeme_of, sign, literal, inserts}
 use Rattle.sbl_text.specs.Directives.{Directives, setting_of, value_for, after}
 use Rattle.sbl_text.specs.Tokens.{Told, HasValue, Piece, MaySay, after_piece, AreCut, said, MayEnd, AreTokensFrom, Placed, placed_from, ArePlacedFrom, IsRefused, IsFault, IsFirstFaultFrom, Advances, Reading, IsAnswer, IsNext}
 use Rattle.sbl_text.proofs.Written.{signs_differ}

@@ -3,7 +3,7 @@ use Rattle.std.proofs.Common.{◌≡◌, ℕ, ◌≤◌, Bool, true, false, List
 use Rattle.std.specs.Prelude.{not, ◌||◌, ◌==◌, if◌then◌else◌, option_map, IfSome, MatchOption}
 use Rattle.std.proofs.lemmas.Bool.Decides.{nat_tests}
 use Rattle.std.proofs.lemmas.List.{length-append}
-use Rattle.sbl_lexemes.specs.declared.signs.Sign.{Sign}
+use Rattle.sbl_token.specs.declared.signs.Sign.{Sign}
 use Rattle.sbl_text.specs.declared.pieces.Shape.{Shape}
 use Rattle.sbl_text.specs.declared.pieces.Shape.TheVariants as shape
 use Rattle.sbl_text.specs.declared.pieces.Wanted.{Wanted}
@@ -13,7 +13,7 @@ use Rattle.sbl_text.specs.declared.pieces.Start.TheVariants as start
 use Rattle.sbl_text.specs.declared.escapes.Inserts.{Inserts}
 use Rattle.sbl_text.specs.Classes.{is_white, is_letter, is_digit, is_word}
 use Rattle.sbl_text.specs.Skip.{past}
-use Rattle.sbl_lexemes.specs.SignCuts.{sign_of, sign_front, one, two}
+use Rattle.sbl_token.specs.SignCuts.{sign_of, sign_front, one, two}
 use Rattle.sbl_text.specs.Pieces.{Has, may_come, Setting, setting, Stands, IsPiece, NoPiece, BeginsComment, Gap, AreGaps, AfterGaps, is_gap}
 use Rattle.sbl_text.specs.Scan.{IsCutFrom, Piece_at, past_literal, past_block, start_of, Cut, cut, cut_at, cut_as, sign_cut, slash_cut, pair_from, pair_cut, name_cut, cut_in}
 use Rattle.sbl_text.proofs.Written.{sign_is, sign_found_as}

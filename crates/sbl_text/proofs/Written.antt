@@ -2,13 +2,13 @@
 use Rattle.std.proofs.Common.{◌≡◌, ◌∙◌, ℕ, Bool, true, false, List, [], ◌∷◌, Option, Some, None, refl, sym, ap, arith}
 use Rattle.std.specs.Prelude.{◌==◌, if◌then◌else◌}
 use Rattle.std.proofs.lemmas.Bool.Decides.{nat_tests}
-use Rattle.sbl_lexemes.specs.declared.signs.Sign.{Sign}
-use Rattle.sbl_lexemes.specs.declared.signs.Sign.TheVariants as sign
-use Rattle.sbl_lexemes.specs.declared.words.Word.{Word}
-use Rattle.sbl_lexemes.specs.declared.words.Word.TheVariants as word
-use Rattle.sbl_lexemes.specs.Signs.{sign_text}
-use Rattle.sbl_lexemes.specs.SignCuts.{one, with_equals, sign_of}
-use Rattle.sbl_lexemes.specs.Words.{word_of, word_text}
+use Rattle.sbl_token.specs.declared.signs.Sign.{Sign}
+use Rattle.sbl_token.specs.declared.signs.Sign.TheVariants as sign
+use Rattle.sbl_token.specs.declared.words.Word.{Word}
+use Rattle.sbl_token.specs.declared.words.Word.TheVariants as word
+use Rattle.sbl_token.specs.Signs.{sign_text}
+use Rattle.sbl_token.specs.SignCuts.{one, with_equals, sign_of}
+use Rattle.sbl_token.specs.Words.{word_of, word_text}
 
 pub word_read : (w : Word) → word_of (word_text w) ≡ Some w
 unfolding word_of

@@ -1,15 +1,15 @@
 -- The state of the lexer that earlier tokens have set.
 use Rattle.std.specs.Str.{chars}
-use Rattle.std.specs.Prelude.{ℕ, true, false, List, Option, Some, None}
+use Rattle.std.specs.Prelude.{ℕ, true, false, nat_le, if◌then◌else◌, List, length, Option, Some, None}
 use Rattle.sbl_text.specs.declared.pieces.Wanted.{Wanted}
 use Rattle.sbl_text.specs.declared.pieces.Wanted.TheVariants as wanted
 use Rattle.sbl_text.specs.declared.directives.Coding.{Coding}
 use Rattle.sbl_text.specs.declared.directives.Coding.TheVariants as coding
-use Rattle.sbl_lexemes.specs.declared.words.Word.{Word}
-use Rattle.sbl_lexemes.specs.declared.words.Word.TheVariants as reserved
+use Rattle.sbl_token.specs.declared.words.Word.{Word}
+use Rattle.sbl_token.specs.declared.words.Word.TheVariants as reserved
 use Rattle.sbl_text.specs.Codes.{codes_of}
 use Rattle.sbl_text.specs.Escapes.{InForce, nothing_set, with_inserts, with_macro}
-use Rattle.sbl_lexemes.specs.Lexemes.{Lexeme, word, literal, inserts, macro_name}
+use Rattle.sbl_token.specs.Lexemes.{Lexeme, word, literal, inserts, macro_name}
 use Rattle.sbl_text.specs.Pieces.{Setting, setting}
 
 -- a macro whose value has not been read yet
@@ -32,11 +32,23 @@ start_under e = record { escapes = e; wanted = wanted.Token; defining = None }
 abbrev pub start : Directives
 start = start_under nothing_set
 
--- the value that a literal gives to a macro
+-- the characters that a literal writes, as they are or as codes
+abbrev pub decoded : Coding → List ℕ → Option (List ℕ)
+decoded coding.Plain v = Some v
+decoded coding.Hex v = codes_of true v
+decoded coding.Decimal v = codes_of false v
+
+-- the most characters of a macro
+abbrev pub max_macro : ℕ
+max_macro = 64
+
+abbrev pub if_short : Option (List ℕ) → Option (List ℕ)
+if_short None = None
+if_short (Some v) = if nat_le (length v) max_macro then Some v else None
+
+-- The value that a literal gives to a macro. Longer ones are refused, so that few insertions never give many characters.
 abbrev pub coded : Coding → List ℕ → Option (List ℕ)
-coded coding.Plain v = Some v
-coded coding.Hex v = codes_of true v
-coded coding.Decimal v = codes_of false v
+coded k v = if_short (decoded k v)
 
 abbrev pub value_for : Option Defining → List ℕ → Option (List ℕ)
 value_for None v = Some v

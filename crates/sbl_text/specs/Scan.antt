@@ -10,7 +10,7 @@ use Rattle.sbl_text.specs.declared.pieces.Start.TheVariants as start
 use Rattle.sbl_text.specs.declared.escapes.Inserts.{Inserts}
 use Rattle.sbl_text.specs.Classes.{is_white, is_letter, is_digit, is_word, line_feed, quote, slash, star}
 use Rattle.sbl_text.specs.Skip.{past}
-use Rattle.sbl_lexemes.specs.SignCuts.{sign_front}
+use Rattle.sbl_token.specs.SignCuts.{sign_front}
 use Rattle.sbl_text.specs.Escapes.{opens, closes}
 use Rattle.sbl_text.specs.Pieces.{starts_slash, Setting, IsPiece, NoPiece}
 

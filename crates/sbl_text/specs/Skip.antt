@@ -1,10 +1,10 @@
 -- Skips the characters of a class. Internal: only functions inside the crate use these definitions in their contracts.
 use Rattle.std.specs.Prelude.{ℕ, Bool, not, ◌==◌, if◌then◌else◌, List, [], ◌∷◌}
-use Rattle.sbl_text.specs.declared.classes.Class.{Class}
-use Rattle.sbl_text.specs.declared.classes.Class.TheVariants as class
+use Rattle.sbl_text.specs.declared.classes.CharKind.{CharKind}
+use Rattle.sbl_text.specs.declared.classes.CharKind.TheVariants as class
 use Rattle.sbl_text.specs.Classes.{is_white, is_letter, is_digit, is_word, line_feed}
 
-abbrev pub is_in : Class → ℕ → Bool
+abbrev pub is_in : CharKind → ℕ → Bool
 is_in class.White c = is_white c
 is_in class.Letter c = is_letter c
 is_in class.Word c = is_word c

@@ -5,10 +5,10 @@ use Rattle.std.specs.Str.{chars, IsUtf8}
 use Rattle.std.specs.Fmt.{decimal}
 use Rattle.sbl_text.specs.declared.pieces.Shape.{Shape}
 use Rattle.sbl_text.specs.Classes.{is_white, quote}
-use Rattle.sbl_lexemes.specs.Words.{word_text}
-use Rattle.sbl_lexemes.specs.Signs.{sign_text}
+use Rattle.sbl_token.specs.Words.{word_text}
+use Rattle.sbl_token.specs.Signs.{sign_text}
 use Rattle.sbl_text.specs.Pieces.{Has, may_come}
-use Rattle.sbl_lexemes.specs.Lexemes.{Lexeme, word, sign, name, number, literal, inserts, macro_name}
+use Rattle.sbl_token.specs.Lexemes.{Lexeme, word, sign, name, number, literal, inserts, macro_name}
 use Rattle.sbl_text.specs.Directives.{Directives, after}
 use Rattle.sbl_text.specs.Tokens.{Says}
 

@@ -1,20 +1,20 @@
 -- The tokens of a text, and its first fault.
 use Rattle.std.specs.Prelude.{◌≡◌, ◌⊎◌, ℕ, ◌<◌, ◌≤◌, ◌+◌, ◌-◌, ◌*◌, Bool, true, false, ◌&&◌, ◌==◌, if◌then◌else◌, List, [], ◌∷◌, ◌++◌, encode_utf8_all, Option, Some, None, Result, Ok, Err}
-use Rattle.sbl_lexemes.specs.declared.signs.Sign.{Sign}
-use Rattle.sbl_lexemes.specs.declared.words.Word.{Word}
+use Rattle.sbl_token.specs.declared.signs.Sign.{Sign}
+use Rattle.sbl_token.specs.declared.words.Word.{Word}
 use Rattle.sbl_text.specs.declared.pieces.Shape.{Shape}
 use Rattle.sbl_text.specs.declared.pieces.Shape.TheVariants as shape
 use Rattle.sbl_text.specs.declared.fault.ScriptFault.{ScriptFault}
 use Rattle.sbl_text.specs.declared.fault.ScriptFault.TheVariants as fault
-use Rattle.sbl_lexemes.specs.declared.token.Token.{Token}
-use Rattle.sbl_lexemes.specs.Signs.{sign_text}
-use Rattle.sbl_lexemes.specs.Words.{word_of}
+use Rattle.sbl_token.specs.declared.token.Token.{Token}
+use Rattle.sbl_token.specs.Signs.{sign_text}
+use Rattle.sbl_token.specs.Words.{word_of}
 use Rattle.sbl_text.specs.declared.pieces.Wanted.{Wanted}
 use Rattle.sbl_text.specs.declared.pieces.Wanted.TheVariants as wanted
 use Rattle.sbl_text.specs.Pieces.{IsPiece, NoPiece, AfterGaps, is_gap}
 use Rattle.sbl_text.specs.Directives.{Directives, start, setting_of, value_for, after}
 use Rattle.sbl_text.specs.Literals.{byte_length, Means, FirstWrong}
-use Rattle.sbl_lexemes.specs.Lexemes.{Lexeme, word, sign, name, number, literal, inserts, macro_name, lexeme_of, SaysFitting}
+use Rattle.sbl_token.specs.Lexemes.{Lexeme, word, sign, name, number, literal, inserts, macro_name, lexeme_of, SaysFitting}
 use Rattle.sbl_text.specs.Classes.{quote, slash, star}
 
 -- the number that the digits write, after digits that write n

@@ -5,11 +5,11 @@ ghost use Rattle.std.specs.Str.{chars};
 ghost use Rattle.sbl_text.specs.Classes.{is_white};
 ghost use Rattle.sbl_text.specs.Skip as spec;
 
-use sbl_lexemes::split_first;
+use sbl_token::split_first;
 
 /// A class of characters that the lexer skips over.
 #[derive(Clone, Copy, Debug)]
-pub enum Class {
+pub enum CharKind {
     White,
     Letter,
     Word,
@@ -25,24 +25,24 @@ fn is_white(c: char) -> bool
 }
 
 /// Returns whether the character is in the class.
-pub fn is_in(class: Class, c: char) -> bool
+pub fn is_in(class: CharKind, c: char) -> bool
     ensures { result ≡ spec.is_in class c }
 {
     match class {
-        Class::White => is_white(c),
-        Class::Letter => ('A' <= c && c <= 'Z') || ('a' <= c && c <= 'z'),
-        Class::Word => {
+        CharKind::White => is_white(c),
+        CharKind::Letter => ('A' <= c && c <= 'Z') || ('a' <= c && c <= 'z'),
+        CharKind::Word => {
             (('A' <= c && c <= 'Z') || ('a' <= c && c <= 'z'))
                 || (('0' <= c && c <= '9') || c == '_')
         }
-        Class::Digit => '0' <= c && c <= '9',
-        Class::Line => c != '\n',
-        Class::Black => !is_white(c),
+        CharKind::Digit => '0' <= c && c <= '9',
+        CharKind::Line => c != '\n',
+        CharKind::Black => !is_white(c),
     }
 }
 
 /// Skips the leading characters that are in the class and returns the rest of the text.
-pub fn past(class: Class, mut text: &str) -> &str
+pub fn past(class: CharKind, mut text: &str) -> &str
     ensures value { chars result.now ≡ spec.past (spec.is_in class) (chars text.entry.now) }
     ensures within { length result.now ≤ length text.entry.now }
 {

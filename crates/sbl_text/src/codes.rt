@@ -5,7 +5,7 @@ ghost use Rattle.std.specs.List.{position};
 ghost use Rattle.sbl_text.specs.Classes.{is_white};
 ghost use Rattle.sbl_text.specs.Codes as spec;
 
-use crate::classes::{Class, is_in};
+use crate::classes::{CharKind, is_in};
 use crate::fault::ScriptFault;
 use std::alloc::Global;
 
@@ -46,7 +46,7 @@ pub fn code(base: u32, most: usize, mut digits: &[char]) -> Option<char>
 fn first_white(chars: &[char]) -> Option<usize>
     ensures { result ≡ position is_white chars.now }
 {
-    chars.iter().position(|c| is_in(Class::White, *c))
+    chars.iter().position(|c| is_in(CharKind::White, *c))
 }
 
 /// Splits the characters before the first white space character.

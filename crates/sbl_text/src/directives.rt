@@ -2,7 +2,7 @@
 
 ghost use Rattle.std.specs.Prelude.{◌≡◌, ◌⊎◌, List, ℕ, MatchResult, option_map, Some, None};
 ghost use Rattle.std.specs.Str.{chars};
-ghost use Rattle.sbl_lexemes.specs.Lexemes.{characters_in, inserts_in};
+ghost use Rattle.sbl_token.specs.Lexemes.{characters_in, inserts_in};
 ghost use Rattle.sbl_text.specs.Escapes.{with_inserts};
 ghost use Rattle.sbl_text.specs.Directives as spec;
 
@@ -10,15 +10,21 @@ use crate::codes::{MAX_DECIMAL_DIGITS, MAX_HEX_DIGITS, codes};
 use crate::escapes::Escapes;
 use crate::fault::ScriptFault;
 use crate::pieces::Wanted;
-use sbl_lexemes::{Kind, Token, Value, Word};
+use sbl_token::{Kind, Token, Value, Word};
 use std::alloc::Global;
 use std::marker::Model;
+
+/// The most characters of a macro (our own choice).
+const MAX_MACRO: usize = 64;
 
 /// How the literal of a macro is read: as it is, or as code points.
 #[derive(Clone, Copy, Debug, PartialEq, Eq)]
 pub enum Coding {
+    /// Its characters.
     Plain,
+    /// Hexadecimal codes.
     Hex,
+    /// Decimal codes.
     Decimal,
 }
 
@@ -57,14 +63,14 @@ fn recoded<'a>(defining: Option<Defining<'a>>, coding: Coding) -> Option<Definin
     }
 }
 
-/// Returns the value that a literal gives to a macro.
-fn coded(
+/// Returns the characters that a literal writes.
+fn decoded(
     alloc: Global,
     coding: Coding,
     characters: &[char],
     place: usize,
 ) -> Result<Vec<char>, ScriptFault>
-    ensures { MatchResult result (λ v. spec.coded coding characters.now ≡ Some v.items) (λ f. (f ≡ ScriptFault.OutOfMemory) ⊎ ((spec.coded coding characters.now ≡ None) × (f ≡ ScriptFault.BadCode place))) }
+    ensures { MatchResult result (λ v. spec.decoded coding characters.now ≡ Some v.items) (λ f. (f ≡ ScriptFault.OutOfMemory) ⊎ ((spec.decoded coding characters.now ≡ None) × (f ≡ ScriptFault.BadCode place))) }
 {
     match coding {
         Coding::Plain => match Vec::from_slice(alloc, characters) {
@@ -74,6 +80,27 @@ fn coded(
         Coding::Hex => codes(alloc, 16, MAX_HEX_DIGITS, characters, place),
         Coding::Decimal => codes(alloc, 10, MAX_DECIMAL_DIGITS, characters, place),
     }
+}
+
+/// Returns the value that a literal with these characters gives to a macro: the characters, or the characters with
+/// these codes (Snowball manual, "stringdef"; the limit is our own choice).
+///
+/// Returns `BadCode` at `place` if there is anything but codes, or if the value has more than 64 characters, and
+/// `OutOfMemory` if an allocation fails.
+#[tactic(auto, using(crate::proofs::Short::short_is_kept, crate::proofs::Short::long_is_refused, crate::proofs::Short::none_is_refused))]
+pub fn macro_value(
+    alloc: Global,
+    coding: Coding,
+    characters: &[char],
+    place: usize,
+) -> Result<Vec<char>, ScriptFault>
+    ensures { MatchResult result (λ v. spec.coded coding characters.now ≡ Some v.items) (λ f. (f ≡ ScriptFault.OutOfMemory) ⊎ ((spec.coded coding characters.now ≡ None) × (f ≡ ScriptFault.BadCode place))) }
+{
+    let value = decoded(alloc, coding, characters, place)?;
+    if value.len() > MAX_MACRO {
+        return Err(ScriptFault::BadCode { place });
+    }
+    Ok(value)
 }
 
 /// Returns the characters of a literal, or none for another value.
@@ -97,7 +124,7 @@ fn inserts_of(value: &Value<'_>) -> (char, char)
 }
 
 impl<'a> Directives<'a> {
-    ghost use Rattle.sbl_lexemes.specs.Lexemes.{lexeme_of};
+    ghost use Rattle.sbl_token.specs.Lexemes.{lexeme_of};
     ghost use Rattle.sbl_text.specs.Tokens.{HasValue, LacksValue};
 
     /// Returns the state at the start of a text.
@@ -193,7 +220,7 @@ impl<'a> Directives<'a> {
                 Ok(())
             }
             Some(defining) => {
-                let value = coded(alloc, defining.coding, characters, place)?;
+                let value = macro_value(alloc, defining.coding, characters, place)?;
                 self.escapes.define(defining.name, &value)?;
                 self.settle();
                 Ok(())

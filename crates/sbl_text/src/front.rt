@@ -3,7 +3,7 @@
 ghost use Rattle.std.specs.Prelude.{◌+◌, ◌^◌, ◌≤◌, ◌≡◌, ◌<◌, ◌∷◌, ◌++◌, [], List, ℕ, length, encode_utf8_all};
 ghost use Rattle.std.specs.Str.{chars};
 
-use sbl_lexemes::split_first;
+use sbl_token::split_first;
 
 /// Returns the part of `text` before `rest`, which is a suffix of `text`.
 pub fn front_before<'a>(text: &'a str, rest: &str) -> &'a str

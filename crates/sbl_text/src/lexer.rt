@@ -7,7 +7,7 @@ ghost use Rattle.sbl_text.specs.Scan.{Piece_at};
 ghost use Rattle.sbl_text.specs.Tokens as spec;
 ghost use Rattle.sbl_text.specs.Tokens.{Reading};
 ghost use Rattle.std.specs.List.{All};
-ghost use Rattle.sbl_lexemes.specs.Lexemes.{lexeme_of, SaysFitting};
+ghost use Rattle.sbl_token.specs.Lexemes.{lexeme_of, SaysFitting};
 ghost use Rattle.sbl_text.specs.Directives.{setting_of, start_under};
 
 use crate::directives::Directives;
@@ -16,7 +16,7 @@ use crate::fault::ScriptFault;
 use crate::front::{front_before, place_of};
 use crate::meanings::{end_or_fault, meaning};
 use crate::pieces::{Shape, past_gaps};
-use sbl_lexemes::Token;
+use sbl_token::Token;
 use std::alloc::Global;
 use std::marker::Model;
 

@@ -15,8 +15,9 @@ mod meanings;
 mod pieces;
 
 pub use codes::read_codes;
+pub use directives::{Coding, macro_value};
 pub use escapes::{Escapes, Inserts};
 pub use fault::ScriptFault;
 pub use lexer::{Lexer, tokens, tokens_under};
 pub use literals::read_literal;
-pub use sbl_lexemes::{Kind, Sign, Token, Value, Word};
+pub use sbl_token::{Kind, Sign, Token, Value, Word};

@@ -7,7 +7,7 @@ ghost use Rattle.sbl_text.specs.Classes.{is_white};
 ghost use Rattle.sbl_text.specs.Escapes as escaping;
 ghost use Rattle.sbl_text.specs.Literals as spec;
 
-use crate::classes::{Class, is_in};
+use crate::classes::{CharKind, is_in};
 use crate::codes::{MAX_HEX_DIGITS, code};
 use crate::escapes::{Escapes, Inserts, closes, opens};
 use crate::fault::ScriptFault;
@@ -36,7 +36,7 @@ pub fn is_closed(inserts: Option<Inserts>, mut chars: &[char]) -> bool
 fn is_blank(name: &[char]) -> bool
     ensures { result ≡ list_all is_white name.now }
 {
-    name.iter().all(|c| is_in(Class::White, *c))
+    name.iter().all(|c| is_in(CharKind::White, *c))
 }
 
 /// Returns the character that an insertion names: a quote, the opening insert character, or the character with the code

@@ -4,7 +4,7 @@ ghost use Rattle.std.specs.Prelude.{◌+◌, ◌^◌, length, ◌≡◌, ◌≤�
 ghost use Rattle.std.specs.Str.{chars};
 ghost use Rattle.sbl_text.specs.Pieces as pieces;
 ghost use Rattle.sbl_text.specs.Tokens as spec;
-ghost use Rattle.sbl_lexemes.specs.Lexemes.{fits, lexeme_by};
+ghost use Rattle.sbl_token.specs.Lexemes.{fits, lexeme_by};
 ghost use Rattle.sbl_text.specs.Directives as states;
 
 use crate::directives::Directives;
@@ -12,7 +12,7 @@ use crate::fault::ScriptFault;
 use crate::front::{between_quotes, place_of};
 use crate::literals::literal_value;
 use crate::pieces::{Shape, Wanted};
-use sbl_lexemes::{Kind, Value, sign_of, split_first, word_of};
+use sbl_token::{Kind, Value, sign_of, split_first, word_of};
 use std::alloc::Global;
 
 /// The largest number in a script (our own choice: the largest 32-bit signed integer).

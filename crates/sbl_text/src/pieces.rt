@@ -5,9 +5,9 @@ ghost use Rattle.std.specs.Str.{chars};
 ghost use Rattle.sbl_text.specs.Pieces as pieces;
 ghost use Rattle.sbl_text.specs.Scan as spec;
 
-use crate::classes::{Class, is_in, past};
+use crate::classes::{CharKind, is_in, past};
 use crate::escapes::{Inserts, closes, opens};
-use sbl_lexemes::{sign_front, split_first};
+use sbl_token::{sign_front, split_first};
 
 /// The shape of a piece.
 #[derive(Clone, Copy, Debug, PartialEq, Eq)]
@@ -45,11 +45,11 @@ pub enum Start {
 fn start_of(c: char) -> Start
     ensures { result ≡ spec.start_of c }
 {
-    if is_in(Class::White, c) {
+    if is_in(CharKind::White, c) {
         Start::White
-    } else if is_in(Class::Letter, c) {
+    } else if is_in(CharKind::Letter, c) {
         Start::Letter
-    } else if is_in(Class::Digit, c) {
+    } else if is_in(CharKind::Digit, c) {
         Start::Digit
     } else if c == '\'' {
         Start::Quote
@@ -120,7 +120,7 @@ fn slash<'a>(text: &'a str, rest: &'a str) -> Option<(Shape, &'a str)>
     ensures within { IfSome result (λ p. length p.1.now < length text.now) }
 {
     match split_first(rest) {
-        Some(('/', behind)) => Some((Shape::LineComment, past(Class::Line, behind))),
+        Some(('/', behind)) => Some((Shape::LineComment, past(CharKind::Line, behind))),
         Some(('*', behind)) => match past_block(behind) {
             Some(end) => Some((Shape::BlockComment, end)),
             None => None,
@@ -138,8 +138,8 @@ pub fn cut(inserts: Option<Inserts>, text: &str) -> Option<(Shape, &str)>
     let (c, rest) = split_first(text)?;
     match start_of(c) {
         Start::White => Some((Shape::Blank, rest)),
-        Start::Letter => Some((Shape::Word, past(Class::Word, rest))),
-        Start::Digit => Some((Shape::Number, past(Class::Digit, rest))),
+        Start::Letter => Some((Shape::Word, past(CharKind::Word, rest))),
+        Start::Digit => Some((Shape::Number, past(CharKind::Digit, rest))),
         Start::Quote => match past_literal(inserts, rest) {
             Some(end) => Some((Shape::Literal, end)),
             None => None,
@@ -156,11 +156,11 @@ fn pair_cut(text: &str) -> Option<(Shape, &str)>
     ensures within { IfSome result (λ p. length p.1.now < length text.now) }
 {
     let (a, rest) = split_first(text)?;
-    if is_in(Class::White, a) {
+    if is_in(CharKind::White, a) {
         return Some((Shape::Blank, rest));
     }
     let (b, behind) = split_first(rest)?;
-    if a == '\'' || is_in(Class::White, b) {
+    if a == '\'' || is_in(CharKind::White, b) {
         None
     } else {
         Some((Shape::Inserts, behind))
@@ -174,10 +174,10 @@ fn name_cut(text: &str) -> Option<(Shape, &str)>
     ensures within { IfSome result (λ p. length p.1.now < length text.now) }
 {
     let (c, rest) = split_first(text)?;
-    if is_in(Class::White, c) {
+    if is_in(CharKind::White, c) {
         Some((Shape::Blank, rest))
     } else {
-        Some((Shape::MacroName, past(Class::Black, rest)))
+        Some((Shape::MacroName, past(CharKind::Black, rest)))
     }
 }
 

@@ -3,7 +3,7 @@ use Rattle.std.proofs.Common.{◌≡◌, ◌∙◌, ◌++◌, ◌∷◌, ℕ, Li
 use Rattle.std.proofs.lemmas.Grind.{flat_map-append}
 use Rattle.std.proofs.lemmas.List.{append-nil}
 use Rattle.std.specs.List.{flat_map}
-use Rattle.sbl_records.specs.Records.{record_line, records_text}
+use Rattle.sbl_io.specs.Records.{record_line, records_text}
 
 pub both_texts : (a b : List (List (List ℕ))) → records_text (a ++ b) ≡ records_text a ++ records_text b
 both_texts a b = flat_map-append record_line a b

@@ -5,8 +5,8 @@ use Rattle.std.specs.List.{flat_map}
 use Rattle.sbl_amongs.specs.Amongs.{Held, amongs_of_body}
 use Rattle.sbl_machine.specs.Touched.{Item', Routine, Among, Grouping, item_cmp}
 use Rattle.sbl_script.specs.Parsed.{Source}
-use Rattle.sbl_tree.specs.Order.{in_order}
-use Rattle.sbl_tree.specs.Tree.{Entry, entry, Groups, bare, group, Plain, routine, grouping}
+use Rattle.sbl_ast.specs.Order.{in_order}
+use Rattle.sbl_ast.specs.Tree.{Entry, entry, Groups, bare, group, Plain, routine, grouping}
 
 -- the string of an entry of an among
 abbrev pub string_of : Entry → List ℕ

@@ -8,9 +8,9 @@ use Rattle.sbl_bench.specs.Setting.{Setting}
 use Rattle.sbl_machine.specs.BuiltFrom.{built_on}
 use Rattle.sbl_machine.specs.Touched.{Item', Grouping, item_of, items_in, same_item}
 use Rattle.sbl_machine.specs.declared.item.Item.{Item}
-use Rattle.sbl_tree.specs.Tree.{Groups, Plain, grouping}
-use Rattle.sbl_tree.specs.View.{view_among}
-use Rattle.sbl_tree.specs.declared.tree.Among.{Among}
+use Rattle.sbl_ast.specs.Tree.{Groups, Plain, grouping}
+use Rattle.sbl_ast.specs.View.{view_among}
+use Rattle.sbl_ast.specs.declared.tree.Among.{Among}
 use Rattle.sbl_unused.specs.Parts.{Part}
 use Rattle.sbl_unused.specs.Unused.{Take, is_met, is_taken, same_take}
 

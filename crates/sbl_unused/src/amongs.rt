@@ -2,13 +2,13 @@
 
 ghost use Rattle.std.specs.Prelude.{◌≡◌, ◌++◌, ◌∷◌, [], List, map, OnOk, IfOk};
 ghost use Rattle.sbl_amongs.specs.Amongs.{amongs_of_body};
-ghost use Rattle.sbl_tree.specs.Tree as trees;
-ghost use Rattle.sbl_tree.specs.View.{view_among, view_command, view_entry, view_groups, view_others, view_row, view_rows};
+ghost use Rattle.sbl_ast.specs.Tree as trees;
+ghost use Rattle.sbl_ast.specs.View.{view_among, view_command, view_entry, view_groups, view_others, view_row, view_rows};
 ghost use Rattle.sbl_unused.specs.Parts.{groups_held, string_of, strings_of};
 ghost use Rattle.sbl_unused.specs.Gathered.{gathered, gathered_groups, gathered_others, gathered_rows};
 ghost use Rattle.sbl_unused.specs.Views.{texts_of, view_amongs};
 
-use sbl_tree::{Among, Command, Entry, Group, Joined, Row};
+use sbl_ast::{Among, Command, Entry, Group, Joined, RowOfCommands};
 use std::alloc::{AllocError, Global};
 
 /// Appends the amongs of a command. Returns `AllocError` if an allocation fails.
@@ -64,7 +64,7 @@ fn add_groups<'a>(groups: &'a Vec<Group>, all: &mut Vec<&'a Among>) -> Result<()
 }
 
 #[cycle(list)]
-fn add_rows<'a>(rows: &'a Vec<Row>, all: &mut Vec<&'a Among>) -> Result<(), AllocError>
+fn add_rows<'a>(rows: &'a Vec<RowOfCommands>, all: &mut Vec<&'a Among>) -> Result<(), AllocError>
     ensures { OnOk result (view_amongs all.new.items ≡ gathered_rows (view_rows rows.now.items) (view_amongs all.old.items)) }
 {
     for row in rows {
@@ -74,7 +74,7 @@ fn add_rows<'a>(rows: &'a Vec<Row>, all: &mut Vec<&'a Among>) -> Result<(), Allo
 }
 
 #[cycle(list)]
-fn add_row<'a>(row: &'a Row, all: &mut Vec<&'a Among>) -> Result<(), AllocError>
+fn add_row<'a>(row: &'a RowOfCommands, all: &mut Vec<&'a Among>) -> Result<(), AllocError>
     ensures { OnOk result (view_amongs all.new.items ≡ gathered_others (view_row row.now).1 (gathered (view_row row.now).0 (view_amongs all.old.items))) }
 {
     add_command(&row.first, all)?;
@@ -101,7 +101,7 @@ fn push_among<'a>(among: &'a Among, all: &mut Vec<&'a Among>) -> Result<(), Allo
 
 /// Returns the amongs of a body. Returns `AllocError` if an allocation fails.
 #[tactic(auto, using(crate::proofs::Gathering::gathered_body))]
-pub(crate) fn amongs_of(alloc: Global, body: &Row) -> Result<Vec<&Among>, AllocError>
+pub(crate) fn amongs_of(alloc: Global, body: &RowOfCommands) -> Result<Vec<&Among>, AllocError>
     ensures { IfOk result (λ all. view_amongs all.items ≡ groups_held (amongs_of_body (view_row body.now))) }
 {
     let mut all = Vec::new(alloc);

@@ -4,14 +4,14 @@ ghost use Rattle.std.specs.Prelude.{◌≡◌, [], OnOk, IfOk};
 ghost use Rattle.std.specs.BTreeMap.{insert_entry};
 ghost use Rattle.sbl_machine.specs.Touched.{item_cmp, item_of};
 ghost use Rattle.sbl_script.specs.Parsed.{source_of};
-ghost use Rattle.sbl_tree.specs.View.{view_plain};
+ghost use Rattle.sbl_ast.specs.View.{view_plain};
 ghost use Rattle.sbl_unused.specs.Parts as spec;
 ghost use Rattle.sbl_unused.specs.Views.{texts_of, view_amongs, view_parts};
 
 use crate::amongs::{amongs_of, strings_in};
+use sbl_ast::{Among, Plain, items_in_order};
 use sbl_machine::Item;
 use sbl_script::Script;
-use sbl_tree::{Among, Plain, items_in_order};
 use std::alloc::{AllocError, Global};
 use std::collections::BTreeMap;
 

@@ -4,15 +4,15 @@ ghost use Rattle.std.specs.Prelude.{◌≡◌, ◌||◌, Bool, List, ℕ, map, O
 ghost use Rattle.std.specs.List.{list_any};
 ghost use Rattle.sbl_bench.specs.Kept.{setting_of};
 ghost use Rattle.sbl_machine.specs.Touched.{item_of};
-ghost use Rattle.sbl_run.specs.Events.{event_of};
+ghost use Rattle.sbl_interpreter.specs.Events.{event_of};
 ghost use Rattle.sbl_unused.specs.Unused.{Take, same_take, takes_at, takes_from, takes_of};
 ghost use Rattle.sbl_unused.specs.Views.{HasTaken, takes_in, texts_of};
 ghost use Rattle.sbl_why.specs.Moments.{at_start};
 ghost use Rattle.sbl_why.specs.Rows.{routine_names};
 
 use sbl_bench::Bench;
+use sbl_interpreter::Event;
 use sbl_machine::Item;
-use sbl_run::Event;
 use sbl_why::Moment;
 use std::alloc::{AllocError, Global};
 use std::collections::BTreeSet;

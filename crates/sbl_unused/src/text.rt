@@ -6,7 +6,7 @@ ghost use Rattle.csv.specs.Records.{fields_of, partial_of};
 ghost use Rattle.sbl_bench.specs.Kept.{setting_of};
 ghost use Rattle.sbl_bench.specs.Setting.{Setting};
 ghost use Rattle.sbl_machine.specs.Touched.{item_of};
-ghost use Rattle.sbl_records.specs.Records.{record_line, records_text};
+ghost use Rattle.sbl_io.specs.Records.{record_line, records_text};
 ghost use Rattle.sbl_unused.specs.Unused as spec;
 ghost use Rattle.sbl_unused.specs.Views.{HasMet, HasTaken, texts_of, view_parts};
 
@@ -16,8 +16,8 @@ use crate::touched::{has_item, met_by_words};
 use crate::words::words_of;
 use csv::ByteRecord;
 use sbl_bench::Bench;
+use sbl_io::{record_line, text_of};
 use sbl_machine::Item;
-use sbl_records::{record_line, text_of};
 use std::alloc::{AllocError, Global};
 use std::collections::BTreeSet;
 

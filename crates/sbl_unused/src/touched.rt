@@ -7,13 +7,13 @@ ghost use Rattle.sbl_bench.specs.Vocabulary.{is_word};
 ghost use Rattle.sbl_machine.specs.BuiltFrom.{affected, any_names, names};
 ghost use Rattle.sbl_machine.specs.Touched.{Item', Grouping, item_of, items_in, same_item, touched_of};
 ghost use Rattle.sbl_script.specs.Parsed.{source_of};
-ghost use Rattle.sbl_tree.specs.View.{view_argument, view_plain, view_term};
+ghost use Rattle.sbl_ast.specs.View.{view_argument, view_plain, view_term};
 ghost use Rattle.sbl_unused.specs.Views.{HasMet, and_terms, texts_of};
 
+use sbl_ast::{Argument, Plain, Term, items_in_order};
 use sbl_bench::Bench;
 use sbl_machine::Item;
 use sbl_script::Script;
-use sbl_tree::{Argument, Plain, Term, items_in_order};
 use std::alloc::{AllocError, Global};
 use std::collections::BTreeSet;
 

@@ -1,25 +1,25 @@
 -- Each search of a run takes the first of the strings that fit.
 use Rattle.std.proofs.Common.{subst, ◌≡◌, ℕ, zero, suc, Bool, true, false, List, [], length, Option, Some, None, Ok, refl, sym, ap, ◌∙◌, inl, inr}
 use Rattle.std.specs.Prelude.{ℤ, if◌then◌else◌, slice_index_or, neg_ℤ}
-use Rattle.sbl_tree.specs.declared.tree.DeclarationKind.TheVariants as kinds
-use Rattle.sbl_tree.specs.declared.tree.Simple.{Simple}
-use Rattle.sbl_tree.specs.declared.tree.Simple.TheVariants as simples
-use Rattle.sbl_tree.specs.declared.tree.Splice.{Splice}
-use Rattle.sbl_tree.specs.Tree as trees
-use Rattle.sbl_tree.specs.Tree.{bracket, simple_, literal_, name_, non_, prefixed, counted, move_, named, splice_, setlimit_, assign_, compare_, compare_values_, among_, no_rows, row, no_others, joined, no_starter, starter, bare, group}
-use Rattle.sbl_tree.specs.declared.mode.Mode.{Mode}
-use Rattle.sbl_tree.specs.declared.mode.Mode.TheVariants.{Forward, Backward}
-use Rattle.sbl_numbering.specs.Items.{Known, Body, place_of, is_among}
-use Rattle.sbl_numbering.specs.Regions.{Among, among_at, behind, behind_rows, behind_others, behind_starter, first, first_rows, first_others, mode_behind, waits, waits_others}
-use Rattle.sbl_run.specs.Moves.{touch_grouping}
-use Rattle.sbl_run.specs.Numbers.{Value, with_value, integer_at, fitted}
-use Rattle.sbl_run.specs.Run.{chosen, paid}
-use Rattle.sbl_run.specs.Search.{choice}
-use Rattle.sbl_run.specs.State.{State, Ending, Signals, Doing}
+use Rattle.sbl_ast.specs.declared.tree.DeclarationKind.TheVariants as kinds
+use Rattle.sbl_ast.specs.declared.tree.Simple.{Simple}
+use Rattle.sbl_ast.specs.declared.tree.Simple.TheVariants as simples
+use Rattle.sbl_ast.specs.declared.tree.Splice.{Splice}
+use Rattle.sbl_ast.specs.Tree as trees
+use Rattle.sbl_ast.specs.Tree.{bracket, simple_, literal_, name_, non_, prefixed, counted, move_, named, splice_, setlimit_, assign_, compare_, compare_values_, among_, no_rows, row, no_others, joined, no_starter, starter, bare, group}
+use Rattle.sbl_ast.specs.declared.mode.Mode.{Mode}
+use Rattle.sbl_ast.specs.declared.mode.Mode.TheVariants.{Forward, Backward}
+use Rattle.sbl_compiler.specs.Items.{Known, Body, place_of, is_among}
+use Rattle.sbl_compiler.specs.Regions.{Among, among_at, behind, behind_rows, behind_others, behind_starter, first, first_rows, first_others, mode_behind, waits, waits_others}
+use Rattle.sbl_interpreter.specs.Moves.{touch_grouping}
+use Rattle.sbl_interpreter.specs.Numbers.{Value, with_value, integer_at, fitted}
+use Rattle.sbl_interpreter.specs.Run.{chosen, paid}
+use Rattle.sbl_interpreter.specs.Search.{choice}
+use Rattle.sbl_interpreter.specs.State.{State, Ending, Signals, Doing}
 use Rattle.sbl_machine.specs.Meaning as meaning
 use Rattle.sbl_machine.specs.Meaning.{Offer, prefixed_does, counted_does, joined_does, limited_does, simple_does, moved_does, assigned_does, compared_does, named_does, edited_does, begins, takes, tried, search}
-use Rattle.sbl_tree.specs.declared.tree.Constant.{Constant}
-use Rattle.sbl_tree.specs.declared.tree.Constant.TheVariants as constants
+use Rattle.sbl_ast.specs.declared.tree.Constant.{Constant}
+use Rattle.sbl_ast.specs.declared.tree.Constant.TheVariants as constants
 use Rattle.sbl_why.specs.RoutineAmongs.{HasAmong, IsIn, IsInGroups, IsInOthers, IsInRows, IsInStarter}
 use Rattle.sbl_why.proofs.FirstAmongs.{first_is, none_is, others_are, rows_are}
 use Rattle.sbl_why.proofs.Parts.{Any_refusal, Family, GoodIn, Part, Some_end, at, forget, if_part, part_same, signals_good}

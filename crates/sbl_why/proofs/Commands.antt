@@ -3,31 +3,31 @@ use Rattle.std.proofs.Common.{append_assoc, ◌≡◌, ℕ, ◌+◌, ◌-◌, Bo
 use Rattle.std.specs.Prelude.{⊤, ◌&&◌, nat_le, nat_lt, nat_eq, drop, if◌then◌else◌, slice_get, slice_set, take}
 use Rattle.std.specs.List.{splice, starts_with}
 use Rattle.std.proofs.lemmas.Bool.{true≢false}
-use Rattle.sbl_tree.specs.declared.tree.Assignment.{Assignment}
-use Rattle.sbl_tree.specs.declared.tree.Comparison.{Comparison}
-use Rattle.sbl_tree.specs.declared.tree.DeclarationKind.TheVariants as kinds
-use Rattle.sbl_tree.specs.declared.tree.Move.{Move}
-use Rattle.sbl_tree.specs.declared.tree.Move.TheVariants as moves
-use Rattle.sbl_tree.specs.declared.tree.Naming.{Naming}
-use Rattle.sbl_tree.specs.declared.tree.Naming.TheVariants as namings
-use Rattle.sbl_tree.specs.declared.tree.Simple.{Simple}
-use Rattle.sbl_tree.specs.declared.tree.Simple.TheVariants as simples
-use Rattle.sbl_tree.specs.declared.tree.Splice.{Splice}
-use Rattle.sbl_tree.specs.declared.tree.Splice.TheVariants as edits
-use Rattle.sbl_tree.specs.declared.mode.Mode.{Mode}
-use Rattle.sbl_tree.specs.declared.mode.Mode.TheVariants.{Forward, Backward}
-use Rattle.sbl_tables.specs.Fitting.{read_as}
-use Rattle.sbl_numbering.specs.Items.{Known, Body, place_of}
-use Rattle.sbl_run.specs.declared.state.SavedCursor.{SavedCursor}
-use Rattle.sbl_run.specs.Events.{Event', Puts, with_event}
-use Rattle.sbl_run.specs.Moves.{match, next_is, one_of, next, hop, at_mark, to_mark, set_mark, set_boolean}
-use Rattle.sbl_run.specs.Numbers.{Value, given, natural, with_value, integer_at}
-use Rattle.sbl_run.specs.Slices.{is_slice, replaced, replace, keep, inserted, put_in, left_bracket, right_bracket}
-use Rattle.sbl_run.specs.State.{State, Signals, Stops, Doing, ahead, room, at_place, at_difference, to_limit, put_back, step_over, place_after, moved}
+use Rattle.sbl_ast.specs.declared.tree.Assignment.{Assignment}
+use Rattle.sbl_ast.specs.declared.tree.Comparison.{Comparison}
+use Rattle.sbl_ast.specs.declared.tree.DeclarationKind.TheVariants as kinds
+use Rattle.sbl_ast.specs.declared.tree.Move.{Move}
+use Rattle.sbl_ast.specs.declared.tree.Move.TheVariants as moves
+use Rattle.sbl_ast.specs.declared.tree.Naming.{Naming}
+use Rattle.sbl_ast.specs.declared.tree.Naming.TheVariants as namings
+use Rattle.sbl_ast.specs.declared.tree.Simple.{Simple}
+use Rattle.sbl_ast.specs.declared.tree.Simple.TheVariants as simples
+use Rattle.sbl_ast.specs.declared.tree.Splice.{Splice}
+use Rattle.sbl_ast.specs.declared.tree.Splice.TheVariants as edits
+use Rattle.sbl_ast.specs.declared.mode.Mode.{Mode}
+use Rattle.sbl_ast.specs.declared.mode.Mode.TheVariants.{Forward, Backward}
+use Rattle.sbl_among_search.specs.Fitting.{read_as}
+use Rattle.sbl_compiler.specs.Items.{Known, Body, place_of}
+use Rattle.sbl_interpreter.specs.declared.state.SavedCursor.{SavedCursor}
+use Rattle.sbl_interpreter.specs.Events.{Event', Puts, with_event}
+use Rattle.sbl_interpreter.specs.Moves.{match, next_is, one_of, next, hop, at_mark, to_mark, set_mark, set_boolean}
+use Rattle.sbl_interpreter.specs.Numbers.{Value, given, natural, with_value, integer_at}
+use Rattle.sbl_interpreter.specs.Slices.{is_slice, replaced, replace, keep, inserted, put_in, left_bracket, right_bracket}
+use Rattle.sbl_interpreter.specs.State.{State, Signals, Stops, Doing, ahead, room, at_place, at_difference, to_limit, put_back, step_over, place_after, moved}
 use Rattle.sbl_machine.specs.Meaning as meaning
 use Rattle.sbl_machine.specs.Meaning.{Offer, prefixed_does, counted_does, joined_does, limited_does, simple_does, moved_does, assigned_does, compared_does, named_does, edited_does, begins, takes, tried, search}
-use Rattle.sbl_run.specs.declared.fault.RunFault.{RunFault}
-use Rattle.sbl_run.specs.declared.fault.RunFault.TheVariants as faults
+use Rattle.sbl_interpreter.specs.declared.fault.RunFault.{RunFault}
+use Rattle.sbl_interpreter.specs.declared.fault.RunFault.TheVariants as faults
 use Rattle.sbl_why.specs.Searches.{course}
 use Rattle.sbl_why.proofs.Parts.{Any_refusal, Ends, Family, Good, GoodIn, Part, PartX, Refused, Some_end, at, forget, given_part, here, here_with, if_part, noted_with, signals_good, stop, stop_with}
 use Rattle.sbl_why.proofs.Onward.{after_x, good_grows, grows_by}

@@ -2,19 +2,19 @@
 use Rattle.std.specs.Prelude.{⊤}
 use Rattle.std.proofs.Common.{◌≤◌, subst, append_assoc, ◌≡◌, ℕ, zero, suc, ◌+◌, Bool, true, false, List, [], ◌∷◌, ◌++◌, Option, Some, None, refl, sym, ap, ◌∙◌, inl, inr, append-nil}
 use Rattle.std.proofs.lemmas.List.{append-nil}
-use Rattle.sbl_tree.specs.declared.tree.DeclarationKind.TheVariants as kinds
-use Rattle.sbl_tree.specs.Order.{in_order}
-use Rattle.sbl_tree.specs.declared.mode.Mode.{Mode}
-use Rattle.sbl_tree.specs.declared.mode.Mode.TheVariants.{Forward}
-use Rattle.sbl_tables.specs.Fitting.{ahead_at}
-use Rattle.sbl_numbering.specs.Items.{Known, Body, place_of, known_in, class_of, classes_behind, body_named}
-use Rattle.sbl_numbering.specs.Regions.{Among, behind, behind_others, first_others, waits}
-use Rattle.sbl_run.specs.Events.{Event', Enters, Leaves, Searches, Finds, Puts, with_event}
-use Rattle.sbl_run.specs.Run.{found, back_in, enter, leave, paid}
-use Rattle.sbl_run.specs.State.{State, Ending, Signals, Stops, Doing, bound_of}
+use Rattle.sbl_ast.specs.declared.tree.DeclarationKind.TheVariants as kinds
+use Rattle.sbl_ast.specs.Order.{in_order}
+use Rattle.sbl_ast.specs.declared.mode.Mode.{Mode}
+use Rattle.sbl_ast.specs.declared.mode.Mode.TheVariants.{Forward}
+use Rattle.sbl_among_search.specs.Fitting.{ahead_at}
+use Rattle.sbl_compiler.specs.Items.{Known, Body, place_of, known_in, class_of, classes_behind, body_named}
+use Rattle.sbl_compiler.specs.Regions.{Among, behind, behind_others, first_others, waits}
+use Rattle.sbl_interpreter.specs.Events.{Event', Enters, Leaves, Searches, Finds, Puts, with_event}
+use Rattle.sbl_interpreter.specs.Run.{found, back_in, enter, leave, paid}
+use Rattle.sbl_interpreter.specs.State.{State, Ending, Signals, Stops, Doing, bound_of}
 use Rattle.sbl_machine.specs.Meaning as meaning
 use Rattle.sbl_machine.specs.Meaning.{Offer, prefixed_does, counted_does, joined_does, limited_does, simple_does, moved_does, assigned_does, compared_does, named_does, edited_does, begins, takes, tried, search}
-use Rattle.sbl_run.specs.declared.fault.RunFault.TheVariants as faults
+use Rattle.sbl_interpreter.specs.declared.fault.RunFault.TheVariants as faults
 use Rattle.sbl_machine.specs.Why.{events_at, events_in, events_of, text_after}
 use Rattle.sbl_why.specs.RoutineAmongs.{HasAmong, IsInOthers}
 use Rattle.sbl_why.specs.Searches.{IsWhole, Course, EachSearchTakesFirst, EndsWith, SearchesTakeFirst, TakesFirst, call_of, course, fits, with_calls, within}

@@ -2,7 +2,7 @@
 use Rattle.std.proofs.Common.{◌≡◌, ◌∙◌, ◌++◌, ◌∷◌, ◌+◌, ◌<◌, ℕ, ℤ, suc, List, ap, sym, append_assoc, length, drop, arith}
 use Rattle.std.specs.Prelude.{slice_index_or}
 use Rattle.std.proofs.Math.Seq.{drop-cons}
-use Rattle.sbl_records.specs.Records.{record_line, records_text}
+use Rattle.sbl_io.specs.Records.{record_line, records_text}
 use Rattle.sbl_why.specs.Integers.{value_row, value_rows}
 
 add_one : (i : ℕ) → i + 1 ≡ suc i

@@ -1,16 +1,16 @@
 -- Parts of a run: what a part adds to the events, and that it ends in the same way with fewer steps, or is refused for them.
 use Rattle.std.proofs.Common.{◌≡◌, ◌≤◌, ℕ, suc, ◌+◌, Bool, true, false, List, [], ◌∷◌, ◌++◌, Option, Some, None, Ok, Err, refl, sym, ap, subst, ◌∙◌, append_assoc, append-nil, arith}
 use Rattle.std.specs.Prelude.{ℤ, ⊤, if◌then◌else◌}
-use Rattle.sbl_tree.specs.declared.mode.Mode.{Mode}
+use Rattle.sbl_ast.specs.declared.mode.Mode.{Mode}
 use Rattle.sbl_machine.specs.Why.{text_after, text_after_one}
-use Rattle.sbl_numbering.specs.Items.{Body, Known}
-use Rattle.sbl_run.specs.declared.fault.RunFault.{RunFault}
-use Rattle.sbl_run.specs.declared.fault.RunFault.TheVariants as faults
-use Rattle.sbl_run.specs.Events.{Event', Enters, Leaves, Searches, Finds, Puts, with_event}
-use Rattle.sbl_run.specs.Numbers.{Value, given}
-use Rattle.sbl_run.specs.State.{State, Ending, Signals, Stops, Doing, bound_of}
+use Rattle.sbl_compiler.specs.Items.{Body, Known}
+use Rattle.sbl_interpreter.specs.declared.fault.RunFault.{RunFault}
+use Rattle.sbl_interpreter.specs.declared.fault.RunFault.TheVariants as faults
+use Rattle.sbl_interpreter.specs.Events.{Event', Enters, Leaves, Searches, Finds, Puts, with_event}
+use Rattle.sbl_interpreter.specs.Numbers.{Value, given}
+use Rattle.sbl_interpreter.specs.State.{State, Ending, Signals, Stops, Doing, bound_of}
 use Rattle.sbl_why.specs.RoutineAmongs.{HasAmong}
-use Rattle.sbl_numbering.specs.Regions.{Among}
+use Rattle.sbl_compiler.specs.Regions.{Among}
 use Rattle.sbl_why.specs.Searches.{TakesFirst, course, within}
 
 -- ---- events added

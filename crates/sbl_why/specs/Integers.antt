@@ -3,10 +3,10 @@ use Rattle.std.specs.Prelude.{ℕ, ℤ, suc, List, [], ◌∷◌, codes, decimal
 use Rattle.std.specs.Fmt.{signed_decimal}
 use Rattle.sbl_bench.specs.Setting.{Setting}
 use Rattle.sbl_machine.specs.Outcome.{integers_of, used_of}
-use Rattle.sbl_numbering.specs.Items.{known_in}
-use Rattle.sbl_records.specs.Records.{records_text}
-use Rattle.sbl_tree.specs.Order.{in_order}
-use Rattle.sbl_tree.specs.declared.tree.DeclarationKind.TheVariants as kinds
+use Rattle.sbl_compiler.specs.Items.{known_in}
+use Rattle.sbl_io.specs.Records.{records_text}
+use Rattle.sbl_ast.specs.Order.{in_order}
+use Rattle.sbl_ast.specs.declared.tree.DeclarationKind.TheVariants as kinds
 
 -- the names of the integer variables of a script, in the order of their declarations
 abbrev pub integer_names : Setting → List (List ℕ)

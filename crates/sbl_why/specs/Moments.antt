@@ -1,9 +1,9 @@
 -- Where a run is between two of its events.
 use Rattle.std.specs.Prelude.{ℕ, ◌-◌, List, [], ◌∷◌, ◌++◌, length, take, drop, slice_index_or}
 use Rattle.std.specs.List.{splice}
-use Rattle.sbl_run.specs.Events.{Event', Enters, Leaves, Searches, Finds, Puts}
-use Rattle.sbl_tree.specs.declared.mode.Mode.{Mode}
-use Rattle.sbl_tree.specs.declared.mode.Mode.TheVariants.{Forward, Backward}
+use Rattle.sbl_interpreter.specs.Events.{Event', Enters, Leaves, Searches, Finds, Puts}
+use Rattle.sbl_ast.specs.declared.mode.Mode.{Mode}
+use Rattle.sbl_ast.specs.declared.mode.Mode.TheVariants.{Forward, Backward}
 
 -- the characters ahead of an offset of a text, the nearest first or, backwards, the nearest last
 abbrev pub ahead_of : Mode → ℕ → List ℕ → List ℕ

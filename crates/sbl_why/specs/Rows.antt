@@ -5,9 +5,9 @@ use Rattle.sbl_bench.specs.Setting.{Setting}
 use Rattle.sbl_machine.specs.Outcome.{Outcome', Stem, Refused, run_of}
 use Rattle.sbl_machine.specs.Touched.{names_of}
 use Rattle.sbl_machine.specs.Why.{events_of}
-use Rattle.sbl_records.specs.Records.{records_text}
-use Rattle.sbl_run.specs.Events.{Event', Enters, Leaves, Searches, Finds, Puts}
-use Rattle.sbl_run.specs.Names.{name_of}
+use Rattle.sbl_io.specs.Records.{records_text}
+use Rattle.sbl_interpreter.specs.Events.{Event', Enters, Leaves, Searches, Finds, Puts}
+use Rattle.sbl_interpreter.specs.Names.{name_of}
 use Rattle.sbl_why.specs.Moments.{Moment, after, at_start, depth_of, routine_of, string_taken}
 
 -- the names of the routines of a script, by their numbers

@@ -3,21 +3,21 @@ ghost use Rattle.std.specs.Prelude.{◌≡◌, ◌++◌, ◌∷◌, [], IfErr, I
 ghost use Rattle.sbl_bench.specs.Kept.{setting_of};
 ghost use Rattle.sbl_bench.specs.Whys.{refusal_of_why};
 ghost use Rattle.sbl_bench.specs.declared.fault.EditFault.{EditFault as AnyFault};
-ghost use Rattle.sbl_numbering.specs.Items.{known_in, names_by};
-ghost use Rattle.sbl_records.specs.Records.{record_line, records_text};
+ghost use Rattle.sbl_compiler.specs.Items.{known_in, names_by};
+ghost use Rattle.sbl_io.specs.Records.{record_line, records_text};
 ghost use Rattle.sbl_script.specs.Parsed.{source_of};
-ghost use Rattle.sbl_tree.specs.Order.{in_order, view_in_mode};
-ghost use Rattle.sbl_tree.specs.View.{view_plain};
-ghost use Rattle.sbl_tree.specs.declared.tree.DeclarationKind.TheVariants as kinds;
+ghost use Rattle.sbl_ast.specs.Order.{in_order, view_in_mode};
+ghost use Rattle.sbl_ast.specs.View.{view_plain};
+ghost use Rattle.sbl_ast.specs.declared.tree.DeclarationKind.TheVariants as kinds;
 ghost use Rattle.sbl_why.specs.Integers as spec;
 
 use crate::rows::push_line;
 use csv::ByteRecord;
+use sbl_ast::{DeclarationKind, ItemInMode, Plain, items_in_order};
 use sbl_bench::{Bench, EditFault};
-use sbl_numbering::NameList;
+use sbl_compiler::NameList;
 use sbl_script::Script;
 use sbl_script::laws::is_spelled;
-use sbl_tree::{DeclarationKind, ItemInMode, Plain, items_in_order};
 use std::alloc::{AllocError, Global};
 
 /// Appends names to a list. Returns `AllocError` if an allocation fails.

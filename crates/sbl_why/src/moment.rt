@@ -1,12 +1,12 @@
 //! Where a run is between two of its events.
 ghost use Rattle.std.specs.Prelude.{◌≡◌, ◌-◌, IfOk, OnOk, length, take, drop};
 ghost use Rattle.std.specs.List.{splice};
-ghost use Rattle.sbl_run.specs.Events.{event_of};
+ghost use Rattle.sbl_interpreter.specs.Events.{event_of};
 ghost use Rattle.sbl_why.specs.Moments as spec;
 ghost use Rattle.sbl_why.specs.Views.{view_search};
 
-use sbl_run::Event;
-use sbl_tree::Mode;
+use sbl_ast::Mode;
+use sbl_interpreter::Event;
 use std::alloc::{AllocError, Global};
 use std::marker::Model;
 

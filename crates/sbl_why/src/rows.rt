@@ -4,8 +4,8 @@ ghost use Rattle.std.specs.Str.{encode_utf8_all};
 ghost use Rattle.csv.specs.Records.{fields_of, partial_of};
 ghost use Rattle.sbl_bench.specs.Kept.{setting_of};
 ghost use Rattle.sbl_machine.specs.Outcome.{outcome_of};
-ghost use Rattle.sbl_records.specs.Records.{record_line, records_text};
-ghost use Rattle.sbl_run.specs.Events.{Finds, event_of};
+ghost use Rattle.sbl_io.specs.Records.{record_line, records_text};
+ghost use Rattle.sbl_interpreter.specs.Events.{Finds, event_of};
 ghost use Rattle.sbl_why.specs.Moments.{after};
 ghost use Rattle.sbl_why.specs.Views.{fields_after, fields_before};
 ghost use Rattle.sbl_why.specs.Rows as spec;
@@ -13,9 +13,9 @@ ghost use Rattle.sbl_why.specs.Rows as spec;
 use crate::moment::Moment;
 use csv::ByteRecord;
 use sbl_bench::Bench;
+use sbl_interpreter::Event;
+use sbl_io::{record_line, set_text};
 use sbl_machine::Outcome;
-use sbl_records::{record_line, set_text};
-use sbl_run::Event;
 use std::alloc::{AllocError, Global};
 
 /// Appends characters to a record, as one field. Returns `AllocError` if an allocation fails.

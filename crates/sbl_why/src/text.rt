@@ -4,16 +4,16 @@ ghost use Rattle.sbl_bench.specs.Kept.{setting_of};
 ghost use Rattle.sbl_bench.specs.Whys.{refusal_of_why};
 ghost use Rattle.sbl_bench.specs.declared.fault.EditFault.{EditFault as AnyFault};
 ghost use Rattle.sbl_machine.specs.Outcome.{outcome_of};
-ghost use Rattle.sbl_records.specs.Records.{records_text};
-ghost use Rattle.sbl_run.specs.Events.{event_of};
+ghost use Rattle.sbl_io.specs.Records.{records_text};
+ghost use Rattle.sbl_interpreter.specs.Events.{event_of};
 ghost use Rattle.sbl_why.specs.Moments.{at_start};
 ghost use Rattle.sbl_why.specs.Rows as spec;
 
 use crate::moment::Moment;
 use crate::rows::{push_event, push_more, push_outcome};
 use sbl_bench::{Bench, EditFault};
+use sbl_interpreter::Event;
 use sbl_machine::Why;
-use sbl_run::Event;
 use std::alloc::{AllocError, Global};
 
 /// No more events than this have a row.

@@ -5,7 +5,7 @@ use Rattle.std.proofs.lemmas.Str.{IsCharBoundary-at_seam, encodes-append, encode
 use Rattle.std.proofs.Math.Seq.{drop-append_seam}
 use Rattle.std.proofs.Math.Utf8.{scalars}
 use Rattle.std.specs.Str.{IsCharBoundary, IsUtf8, chars}
-use Rattle.sbl_lexemes.specs.declared.token.Token.{Token}
+use Rattle.sbl_token.specs.declared.token.Token.{Token}
 use Rattle.sbl_text.specs.Directives.{start}
 use Rattle.sbl_text.specs.Literals.{byte_length}
 use Rattle.sbl_text.specs.Tokens.{IsAnswer, IsFresh, IsNext, Reading, Stops, beginning}

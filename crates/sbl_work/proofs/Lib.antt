@@ -4,3 +4,5 @@ pub mod LineFacts
 pub mod FamilyFacts
 pub mod HeadFacts
 pub mod ReplyFacts
+pub mod ServingFacts
+pub mod WholeFacts

@@ -2,7 +2,7 @@
 use Rattle.std.specs.Prelude.{ℕ, Bool, false, ◌==◌, ◌||◌, List, [], ◌∷◌, codes, if◌then◌else◌, length, nat_lt, zero, suc, Option, Some, None, Result, Ok, Err}
 use Rattle.std.specs.Option.{option_and_then}
 use Rattle.std.specs.Str.{bytes_eq, chars, is_utf8}
-use Rattle.sbl_lines.specs.LinesOf.{lines_of}
+use Rattle.sbl_io.specs.LinesOf.{lines_of}
 use Rattle.sbl_script.specs.Edits.{ScriptEdit}
 use Rattle.sbl_sessions.specs.Block.{made_text, max_script}
 use Rattle.sbl_sessions.specs.Commands as session

@@ -5,7 +5,7 @@ use Rattle.sbl_print.specs.Canonical.{plain_text}
 use Rattle.sbl_script.specs.Edits.{defines, first_of}
 use Rattle.sbl_script.specs.Parsed.{Source}
 use Rattle.sbl_script.specs.declared.edits.DefinitionKind.TheVariants as kinds
-use Rattle.sbl_tree.specs.Tree.{Plain}
+use Rattle.sbl_ast.specs.Tree.{Plain}
 
 -- whether an item defines this name, as a routine or as a grouping
 abbrev pub defines_name : List ℕ → Plain → Bool

@@ -3,7 +3,7 @@ use Rattle.std.specs.Prelude.{ℕ, Bool, true, false, ◌==◌, ◌||◌, List, 
 use Rattle.std.specs.List.{filter, slice_split}
 use Rattle.sbl_bench.specs.Contents.{Contents}
 use Rattle.sbl_changes.specs.Families.{FamilyResult, Under, Over, Pairs, family_results}
-use Rattle.sbl_records.specs.Records.{records_text}
+use Rattle.sbl_io.specs.Records.{records_text}
 use Rattle.sbl_work.specs.Desks.{rows_now}
 use Rattle.sbl_work.specs.Reports.{named_rows, stem_fields}
 

@@ -1,7 +1,7 @@
 -- A text for a part of a script that begins as a definition of that part does.
 use Rattle.std.specs.Prelude.{◌≡◌, ◌⊎◌, ℕ, List, [], ◌∷◌, codes, encode_utf8_all, Option, Some, None, Ok}
 use Rattle.std.specs.Str.{chars}
-use Rattle.sbl_lexemes.specs.declared.token.Token.{Token}
+use Rattle.sbl_token.specs.declared.token.Token.{Token}
 use Rattle.sbl_script.specs.Edits.{ScriptEdit, among, body, terms}
 use Rattle.sbl_text.specs.Directives.{Directives, start}
 use Rattle.sbl_text.specs.Tokens.{Advances, Stops}

@@ -10,6 +10,9 @@ pub mod Heads
 pub mod Commands
 pub mod Replies
 pub mod ReplyViews
+pub mod Serving
+pub mod WholeWork
 -- definitions that functions inside the crate promise each other
 pub mod FamilyReader
 pub mod HeadReader
+pub mod Answering

@@ -5,16 +5,16 @@ ghost use Rattle.sbl_print.specs.Canonical.{plain_text};
 ghost use Rattle.sbl_script.specs.Edits as edits;
 ghost use Rattle.sbl_script.specs.Parsed.{source_of};
 ghost use Rattle.sbl_sessions.specs.CommandViews.{view_target};
-ghost use Rattle.sbl_tree.specs.View.{view_items, view_plain};
+ghost use Rattle.sbl_ast.specs.View.{view_items, view_plain};
 ghost use Rattle.sbl_work.specs.Definitions as spec;
 ghost use Rattle.sbl_work.specs.HeadReader.{IsAfterWord, IsEndOf, head_words};
 ghost use Rattle.sbl_work.specs.Heads as heads;
 
+use sbl_ast::copy_plain;
 use sbl_print::canonical_text;
-use sbl_script::{Item, Plain, Script};
+use sbl_script::{Plain, Script, ScriptItem};
 use sbl_sessions::Target;
 use sbl_text::{Lexer, ScriptFault, Token};
-use sbl_tree::copy_plain;
 use std::alloc::{AllocError, Global};
 use std::slice::from_ref;
 
@@ -153,13 +153,13 @@ fn first_in<'a>(plains: &'a [Plain], name: &str) -> Option<&'a Plain>
 }
 
 /// Returns the first definition of this name, in text order; `None` if there is none.
-fn definition_of<'a>(items: &'a [Item], name: &str) -> Option<&'a Plain>
+fn definition_of<'a>(items: &'a [ScriptItem], name: &str) -> Option<&'a Plain>
     ensures { MatchOption result (edits.first_of (spec.defines_name name.now) (view_items items.now) ≡ None) (λ x. edits.first_of (spec.defines_name name.now) (view_items items.now) ≡ Some (view_plain x.now)) }
 {
     for item in items {
         let found = match item {
-            Item::Plain(plain) => plain_if(plain, name),
-            Item::BackwardMode(plains) => first_in(plains.as_slice(), name),
+            ScriptItem::Plain(plain) => plain_if(plain, name),
+            ScriptItem::BackwardMode(plains) => first_in(plains.as_slice(), name),
         };
         if let Some(plain) = found {
             return Some(plain);
@@ -173,7 +173,7 @@ fn definition_of<'a>(items: &'a [Item], name: &str) -> Option<&'a Plain>
 fn line_of(alloc: Global, plain: &Plain) -> Result<Vec<u8>, AllocError>
     ensures { IfOk result (λ text. text.items ≡ plain_text (view_plain plain.now)) }
 {
-    let item = Item::Plain(copy_plain(alloc, plain)?);
+    let item = ScriptItem::Plain(copy_plain(alloc, plain)?);
     let text = canonical_text(alloc, from_ref(&item))?;
     Ok(text.into_bytes())
 }

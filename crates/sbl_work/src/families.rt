@@ -5,8 +5,8 @@ ghost use Rattle.csv.specs.Records.{fields_of, partial_of};
 ghost use Rattle.sbl_bench.specs.Kept.{contents_of};
 ghost use Rattle.sbl_changes.specs.Families.{view_result, view_results, view_words};
 ghost use Rattle.sbl_changes.specs.Rows.{texts_of};
-ghost use Rattle.sbl_lines.specs.LinesOf.{lines_of};
-ghost use Rattle.sbl_records.specs.Records.{record_line, records_text};
+ghost use Rattle.sbl_io.specs.LinesOf.{lines_of};
+ghost use Rattle.sbl_io.specs.Records.{record_line, records_text};
 ghost use Rattle.sbl_sessions.specs.Block.{made_text};
 ghost use Rattle.sbl_work.specs.Families as spec;
 ghost use Rattle.sbl_work.specs.FamilyReader.{families_read, read_by, read_on, with_word, words_read};
@@ -15,7 +15,7 @@ use crate::reports::{named_rows, push_line, push_stems, push_text};
 use csv::ByteRecord;
 use sbl_bench::Bench;
 use sbl_changes::{FamilyRow, families};
-use sbl_lines::first_line;
+use sbl_io::first_line;
 use std::alloc::{AllocError, Global};
 
 /// The families that are being read: those of the lines before, the words of the current line, and the current word.

@@ -1,4 +1,7 @@
 //! The files of work: the script and the words, and files that the script is saved in.
+ghost use Rattle.std.specs.Prelude.{IfOk, string_bytes};
+ghost use Rattle.sbl_bench.specs.Kept.{contents_of};
+ghost use Rattle.sbl_work.specs.WholeWork.{IsOpened};
 
 use crate::words::words_in;
 use sbl_bench::Bench;
@@ -68,7 +71,9 @@ fn bench_of(
     text: &[u8],
     external: &str,
     words: Vec<Vec<char>>,
-) -> Result<Bench, LoadFault> {
+) -> Result<Bench, LoadFault>
+    ensures { IfOk result (λ bench. IsOpened external.now text.now (contents_of bench)) }
+{
     let script = match Script::parse(alloc, text, external) {
         Ok(script) => script,
         Err(fault) => return Err(LoadFault::Script(fault)),
@@ -84,7 +89,9 @@ pub(crate) fn open<F: Files + AllocGlobal>(
     files: &F,
     keys: RandomState,
     paths: &Paths,
-) -> Result<(Bench, Vec<u8>), OpenFault> {
+) -> Result<(Bench, Vec<u8>), OpenFault>
+    ensures { IfOk result (λ opened. IsOpened (string_bytes paths.now.external) opened.1.items (contents_of opened.0)) }
+{
     let text = read_named(files, paths.script.as_str())?;
     let words = read_words(files, paths)?;
     let bench = bench_of(files.alloc(), keys, &text, paths.external.as_str(), words)?;

@@ -8,7 +8,7 @@ ghost use Rattle.sbl_changes.specs.Changes.{view_change, view_changes};
 ghost use Rattle.sbl_changes.specs.Classes.{view_class as view_stem_class, view_classes as view_stem_classes};
 ghost use Rattle.sbl_changes.specs.Rows.{texts_of, view_outcome, view_rows};
 ghost use Rattle.sbl_machine.specs.Outcome.{outcome_of};
-ghost use Rattle.sbl_records.specs.Records.{record_line, records_text};
+ghost use Rattle.sbl_io.specs.Records.{record_line, records_text};
 ghost use Rattle.sbl_work.specs.Desks.{rows_now, state_of, view_marked};
 ghost use Rattle.sbl_work.specs.Reports as spec;
 
@@ -19,8 +19,8 @@ use sbl_bench::{Bench, Row};
 use sbl_changes::{
     ChangeRow, RowStats, StemClass, WordOutcome, WordRow, changes, largest_classes, stats,
 };
+use sbl_io::{record_line, set_text};
 use sbl_machine::Outcome;
-use sbl_records::{record_line, set_text};
 use std::alloc::{AllocError, Global};
 
 /// Returns the outcome of a row, with the name of a refusal.

@@ -1,21 +1,29 @@
 //! Work: each request gets its reply before the next line is read.
 
-ghost use Rattle.std.specs.Prelude.{◌≡◌, ◌≤◌, [], OnOk, Some};
+ghost use Rattle.std.specs.Io.KnownBytes.{Appends};
+ghost use Rattle.std.specs.Prelude.{◌≡◌, ◌≤◌, ℕ, List, [], IfErr, IfOk, None, OnOk, Some, Err, string_bytes, take};
 ghost use Rattle.sbl_bench.specs.Kept.{contents_of};
-ghost use Rattle.sbl_lines.specs.Devices.{WritesInTime};
-ghost use Rattle.sbl_lines.specs.Held.{KeepsTime, fuel_of};
+ghost use Rattle.sbl_io.specs.Devices.{HasStopped, WritesInTime};
+ghost use Rattle.sbl_io.specs.Faults.{left_by};
+ghost use Rattle.sbl_io.specs.Held.{HasReason, IsDrained, KeepsTime, StaysEnded, TakesFeeds, fault_of, fuel_of, input_of, line_of, reads_bound};
+ghost use Rattle.sbl_sessions.specs.CommandViews.{IsReply};
+ghost use Rattle.sbl_sessions.specs.Session.{Ends};
+ghost use Rattle.sbl_work.specs.Answering.{BreaksWork, IsWorkAnswered};
 ghost use Rattle.sbl_work.specs.Commands as spec;
 ghost use Rattle.sbl_work.specs.Desks.{state_of};
-ghost use Rattle.sbl_work.specs.ReplyViews.{IsFileAnswer};
+ghost use Rattle.sbl_work.specs.ReplyViews.{FindsBlock, IsFileAnswer};
+ghost use Rattle.sbl_work.specs.Serving as serving;
+ghost use Rattle.sbl_work.specs.Serving.{IsWork, with_prompt};
+ghost use Rattle.sbl_work.specs.WholeWork.{IsWholeWork, WorksOrMemory, status_of};
 
 use crate::answers::answer_line;
 use crate::desk::Desk;
 use crate::files::{OpenFault, Paths, open, save};
 use crate::parts::answer_block;
 use crate::replies::edit_reply;
-use crate::requests::{Request, block_request, is_quit, request_of};
+use crate::requests::{BlockRequest, Request, block_request, is_quit, request_of};
 use sbl_bench::{Bench, EditFault};
-use sbl_lines::{Lines, ServeFault, Sink, Source, write_all};
+use sbl_io::{Lines, ServeFault, Sink, Source, write_all};
 use sbl_sessions::{LoadFault, Reply, read_block, write_reply};
 use std::alloc::Global;
 use std::fs;
@@ -108,25 +116,83 @@ fn answer_alone<F: Files + AllocGlobal>(
     }
 }
 
+/// Reads the block of the current line, for which `request` is found, makes the edit or the report, and returns the reply. If the
+/// block is not read to its end, makes no edit and returns the fault.
+fn answer_request<R: Source + Drop>(
+    desk: &mut Desk,
+    bench: &mut Bench,
+    lines: &mut Lines<R>,
+    request: BlockRequest,
+) -> Result<Reply, ServeFault>
+    requires asked { FindsBlock request (line_of lines.old) }
+    requires ready { fault_of lines.old ≡ None }
+    ensures answered { IfOk result (λ reply. IsWorkAnswered (input_of R.left lines.old) (input_of R.left lines.new) (line_of lines.old) (contents_of bench.old) (state_of desk.old) reply (contents_of bench.new) (state_of desk.new)) }
+    ensures broken { IfErr result (λ fault. BreaksWork (input_of R.left lines.old) (input_of R.left lines.new) (line_of lines.old) fault × (contents_of bench.new ≡ contents_of bench.old) × (state_of desk.new ≡ state_of desk.old)) }
+    ensures remembered { fault_of lines.new ≡ left_by result }
+    ensures drained { result ≡ Err ServeFault.Read → IsDrained lines.new }
+    ensures fuel { OnOk result (fuel_of lines.new ≤ fuel_of lines.old) }
+    ensures later { R.failures lines.old.reader ≤ R.failures lines.new.reader }
+    ensures stays { StaysEnded lines.old lines.new }
+    ensures feeds { OnOk result (TakesFeeds R.left lines.old lines.new) }
+    ensures steady { OnOk result (R.failures lines.new.reader ≡ R.failures lines.old.reader) }
+    ensures bound { reads_bound R.reads lines.new ≡ reads_bound R.reads lines.old }
+    ensures why { IfErr result (λ fault. HasReason R.failures R.interruptions R.reads lines.old lines.new fault) }
+    ensures in_time { KeepsTime R.ended R.late R.interruptions R.reads lines.old lines.new }
+{
+    let block = read_block(lines)?;
+    Ok(answer_block(lines.alloc(), desk, bench, request, block))
+}
+
 /// Makes the edit or the report that the current line asks for, with the block after it if it asks for one, and returns the
-/// reply.
+/// reply. If the block is not read to its end, makes no edit and returns the fault.
 fn answer<F: Files + AllocGlobal, R: Source + Drop>(
     folder: &mut Folder<'_, F>,
     desk: &mut Desk,
     bench: &mut Bench,
     lines: &mut Lines<R>,
 ) -> Result<Reply, ServeFault>
+    requires ready { fault_of lines.old ≡ None }
+    ensures answered { IfOk result (λ reply. IsWorkAnswered (input_of R.left lines.old) (input_of R.left lines.new) (line_of lines.old) (contents_of bench.old) (state_of desk.old) reply (contents_of bench.new) (state_of desk.new)) }
+    ensures broken { IfErr result (λ fault. BreaksWork (input_of R.left lines.old) (input_of R.left lines.new) (line_of lines.old) fault × (contents_of bench.new ≡ contents_of bench.old) × (state_of desk.new ≡ state_of desk.old)) }
+    ensures remembered { fault_of lines.new ≡ left_by result }
+    ensures drained { result ≡ Err ServeFault.Read → IsDrained lines.new }
     ensures fuel { OnOk result (fuel_of lines.new ≤ fuel_of lines.old) }
+    ensures later { R.failures lines.old.reader ≤ R.failures lines.new.reader }
+    ensures stays { StaysEnded lines.old lines.new }
+    ensures feeds { OnOk result (TakesFeeds R.left lines.old lines.new) }
+    ensures steady { OnOk result (R.failures lines.new.reader ≡ R.failures lines.old.reader) }
+    ensures bound { reads_bound R.reads lines.new ≡ reads_bound R.reads lines.old }
+    ensures why { IfErr result (λ fault. HasReason R.failures R.interruptions R.reads lines.old lines.new fault) }
     ensures in_time { KeepsTime R.ended R.late R.interruptions R.reads lines.old lines.new }
 {
-    let Some(request) = block_request(lines.alloc(), lines.line()) else {
-        return Ok(answer_alone(folder, desk, bench, lines.alloc(), lines.line()));
-    };
-    let block = read_block(lines)?;
-    Ok(answer_block(lines.alloc(), desk, bench, request, block))
+    match block_request(lines.alloc(), lines.line()) {
+        Some(request) => answer_request(desk, bench, lines, request),
+        None => Ok(answer_alone(folder, desk, bench, lines.alloc(), lines.line())),
+    }
 }
 
-/// Replies to each request of the input in turn, up to `quit` or the end of input. Before each line the prompt is written.
+/// Writes a reply and the prompt after it. Returns `Write` if the writer fails or is interrupted more than 1,000 times in a row;
+/// then a prefix of the two is written.
+fn write_prompted<W: Sink>(writer: &mut W, reply: &Reply, prompt: &[u8]) -> Result<(), ServeFault>
+    ensures all { OnOk result ((text : List ℕ) → IsReply reply.now text → Appends (W.held writer.old) (W.held writer.new) (with_prompt prompt.now text)) }
+    ensures front { (text : List ℕ) → IsReply reply.now text → (n : ℕ) × Appends (W.held writer.old) (W.held writer.new) (take n (with_prompt prompt.now text)) }
+    ensures later { W.failures writer.old ≤ W.failures writer.new }
+    ensures steady { OnOk result (W.failures writer.new ≡ W.failures writer.old) }
+    ensures why { IfErr result (λ fault. (fault ≡ ServeFault.Write) × HasStopped W.failures W.interruptions writer.old writer.new) }
+    ensures in_time { WritesInTime W.late W.interruptions writer.old writer.new }
+    ensures rested { OnOk result (W.interruptions writer.old ≡ 0 → W.interruptions writer.new ≡ 0) }
+{
+    write_reply(writer, reply)?;
+    write_all(writer, prompt)
+}
+
+/// Replies to each request of the input in turn, up to `quit` or the end of input. Before each line the prompt is written; the
+/// reply to a request is written before the next line is read.
+///
+/// Returns `Read` if the reader fails or a bound on reads or interruptions is reached, `Write` if the writer fails or is
+/// interrupted more than 1,000 times in a row, `LineTooLong` at a line of more than 65,536 bytes, and `Cut` if the input ends
+/// inside a block. The requests before the fault have their replies. After `Write` the edit of the current request is made, and a
+/// prefix of its reply and of the prompt after it is written.
 fn serve<F: Files + AllocGlobal, R: Source + Drop, W: Sink>(
     folder: &mut Folder<'_, F>,
     desk: &mut Desk,
@@ -135,6 +201,8 @@ fn serve<F: Files + AllocGlobal, R: Source + Drop, W: Sink>(
     lines: &mut Lines<R>,
     writer: &mut W,
 ) -> Result<(), ServeFault>
+    ensures work { fault_of lines.old ≡ None → IsWork prompt.now (input_of R.left lines.old) (input_of R.left lines.new) (W.held writer.old) (W.held writer.new) (contents_of bench.old) (state_of desk.old) (contents_of bench.new) (state_of desk.new) result }
+    ensures ends { Ends R.failures R.interruptions R.reads W.failures W.interruptions lines.old lines.new writer.old writer.new result }
     ensures reads_in_time { KeepsTime R.ended R.late R.interruptions R.reads lines.old lines.new }
     ensures writes_in_time { WritesInTime W.late W.interruptions writer.old writer.new }
 {
@@ -144,8 +212,7 @@ fn serve<F: Files + AllocGlobal, R: Source + Drop, W: Sink>(
             return Ok(());
         }
         let reply = answer(folder, desk, bench, lines)?;
-        write_reply(writer, &reply)?;
-        write_all(writer, prompt)?;
+        write_prompted(writer, &reply, prompt)?;
     }
     Ok(())
 }
@@ -173,12 +240,20 @@ fn serve_bench<F: Files + AllocGlobal, R: Source + Drop, W: Sink>(
     lines: &mut Lines<R>,
     writer: &mut W,
 ) -> Result<(), ServeFault>
+    ensures works { fault_of lines.old ≡ None → WorksOrMemory (Ends R.failures R.interruptions R.reads W.failures W.interruptions lines.old lines.new writer.old writer.new) folder.old.seen.items prompt.now (input_of R.left lines.old) (input_of R.left lines.new) (W.held writer.old) (W.held writer.new) (contents_of bench.old) result }
     ensures reads_in_time { KeepsTime R.ended R.late R.interruptions R.reads lines.old lines.new }
     ensures writes_in_time { WritesInTime W.late W.interruptions writer.old writer.new }
 {
     let text = Vec::from_slice(lines.alloc(), folder.seen.as_slice())?;
     let mut desk = Desk::new(lines.alloc(), bench, text)?;
     serve(folder, &mut desk, bench, prompt, lines, writer)
+}
+
+/// Returns what is written before each line is read.
+fn prompt_of(prompts: bool) -> &'static [u8]
+    ensures { result.now ≡ serving.prompt_of prompts }
+{
+    if prompts { PROMPT } else { b"".as_slice() }
 }
 
 /// Opens the bench of the files, and replies to each request of the input in turn, up to `quit` or the end of input.
@@ -190,13 +265,13 @@ fn work_on<F: Files + AllocGlobal, R: Source + Drop, W: Sink>(
     lines: &mut Lines<R>,
     writer: &mut W,
 ) -> Result<(), OpenFault>
+    ensures works { fault_of lines.old ≡ None → IsWholeWork (Ends R.failures R.interruptions R.reads W.failures W.interruptions lines.old lines.new writer.old writer.new) (string_bytes paths.now.external) (serving.prompt_of prompts) (input_of R.left lines.old) (input_of R.left lines.new) (W.held writer.old) (W.held writer.new) (status_of result) }
     ensures reads_in_time { KeepsTime R.ended R.late R.interruptions R.reads lines.old lines.new }
     ensures writes_in_time { WritesInTime W.late W.interruptions writer.old writer.new }
 {
     let (mut bench, seen) = open(files, keys, paths)?;
     let mut folder = Folder { files, paths, seen };
-    let prompt = if prompts { PROMPT } else { b"".as_slice() };
-    let served = serve_bench(&mut folder, &mut bench, prompt, lines, writer);
+    let served = serve_bench(&mut folder, &mut bench, prompt_of(prompts), lines, writer);
     bench.leak();
     match served {
         Ok(()) => Ok(()),
@@ -205,8 +280,11 @@ fn work_on<F: Files + AllocGlobal, R: Source + Drop, W: Sink>(
 }
 
 /// Works on the files of a script and of words: replies to each request of the input in turn, up to `quit` or the end of input.
-/// Returns the exit status: 0, or 1 after a fault, which is one line in `errors`. Before each line a prompt is written if
-/// `prompts` is true. The keys are those of the hash by which words are found, as in `Bench::open`.
+/// What follows a line `quit` is not answered. Returns the exit status: 0, or 1 after a fault, which is one line in `errors`;
+/// without a fault nothing is written there. Before each line a prompt is written if `prompts` is true. The keys are those of the
+/// hash by which words are found, as in `Bench::open`.
+///
+/// If a file cannot be read or has a fault, or an allocation for it fails, no line is read and nothing is written to `writer`.
 pub fn work<F: Files + AllocGlobal, R: Source + Drop, W: Sink, E: Sink>(
     files: &F,
     keys: RandomState,
@@ -216,6 +294,8 @@ pub fn work<F: Files + AllocGlobal, R: Source + Drop, W: Sink, E: Sink>(
     writer: &mut W,
     errors: &mut E,
 ) -> u8
+    ensures works { fault_of lines.old ≡ None → IsWholeWork (Ends R.failures R.interruptions R.reads W.failures W.interruptions lines.old lines.new writer.old writer.new) (string_bytes paths.now.external) (serving.prompt_of prompts) (input_of R.left lines.old) (input_of R.left lines.new) (W.held writer.old) (W.held writer.new) result }
+    ensures quiet { result ≡ 0 → E.held errors.new ≡ E.held errors.old }
     ensures status { result ≤ 1 }
     ensures reads_in_time { KeepsTime R.ended R.late R.interruptions R.reads lines.old lines.new }
     ensures writes_in_time { WritesInTime W.late W.interruptions writer.old writer.new }

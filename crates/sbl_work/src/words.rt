@@ -1,6 +1,6 @@
 //! The words of a file.
 
-use sbl_lines::{MAX_LINE, ServeFault, first_line};
+use sbl_io::{MAX_LINE, ServeFault, first_line};
 use sbl_sessions::LoadFault;
 use std::alloc::Global;
 

@@ -5,23 +5,23 @@ use Rattle.std.specs.declared.vec.Vec.{Vec}
 use Rattle.std.specs.declared.alloc.Global.{Global}
 use Rattle.sbl_bench.specs.Contents.{Contents}
 use Rattle.sbl_bench.specs.declared.fault.EditFault.TheVariants as edit
-use Rattle.sbl_differences.specs.Differences.{IsChecked}
+use Rattle.sbl_check.specs.Differences.{IsChecked}
 use Rattle.sbl_script.specs.Parsed.{Source}
 use Rattle.sbl_sessions.specs.Loaded.{IsLoaded, ReadsScript, TookSource}
 use Rattle.sbl_sessions.specs.Session.{IsSession}
 use Rattle.sbl_sessions.specs.declared.faults.LoadFault.{LoadFault}
 use Rattle.sbl_sessions.specs.declared.faults.LoadFault.TheVariants.{Input, Open, Script}
-use Rattle.sbl_lines.specs.declared.faults.ServeFault.{ServeFault}
-use Rattle.sbl_lines.specs.declared.faults.ServeFault.TheVariants as fault
+use Rattle.sbl_io.specs.declared.faults.ServeFault.{ServeFault}
+use Rattle.sbl_io.specs.declared.faults.ServeFault.TheVariants as fault
 use Rattle.sbl_sessions.proofs.LoadFacts.{script_unread}
 use Rattle.snowbench.specs.WholeCheck.{ChecksLists, IsWholeCheck, ReadsExpected, ReadsWords, list_text}
 use Rattle.snowbench.specs.WholeSession.{IsWholeSession, as_load}
 use Rattle.sbl_filter.specs.Filter.{IsFiltered}
 use Rattle.snowbench.specs.Stemmed.{IsStemmed}
 use Rattle.snowbench.specs.Program.{IsAnswer, IsReported, IsWritten, fault_line}
-use Rattle.sbl_command_line.specs.declared.command_line.Verb.{Verb}
-use Rattle.sbl_command_line.specs.declared.command_line.Verb.TheVariants as verb
-use Rattle.sbl_lines.specs.Devices.{HasStopped}
+use Rattle.snowbench.specs.declared.command_line.Verb.{Verb}
+use Rattle.snowbench.specs.declared.command_line.Verb.TheVariants as verb
+use Rattle.sbl_io.specs.Devices.{HasStopped}
 use Rattle.std.specs.Prelude.{◌==◌, IfErr, OnOk, if◌then◌else◌, take}
 use Rattle.std.specs.Io.KnownBytes.{Appends}
 

@@ -2,9 +2,9 @@
 use Rattle.std.proofs.Common.{◌≡◌, ◌≢◌, ◌∙◌, ◌++◌, ◌==◌, ◌-◌, ℕ, suc, zero, Bool, true, false, List, [], ◌∷◌, refl, sym, ap, subst, map, length, take, length-append, append_assoc, slice_index_or, arith}
 use Rattle.std.proofs.lemmas.List.Concat.{flat_map-cons}
 use Rattle.std.specs.Prelude.{⊤, if◌then◌else◌}
-use Rattle.sbl_lines.specs.Held.{NoFeed}
-use Rattle.sbl_lines.specs.LinesOf.{chomped, lines_of, onto_first, raw_lines}
-use Rattle.sbl_lines.proofs.Bytes.{lines-feed, no_feed_push, none_of, no_lines, raw-feed, raw-other}
+use Rattle.sbl_io.specs.Held.{NoFeed}
+use Rattle.sbl_io.specs.LinesOf.{chomped, lines_of, onto_first, raw_lines}
+use Rattle.sbl_io.proofs.Bytes.{lines-feed, no_feed_push, none_of, no_lines, raw-feed, raw-other}
 use Rattle.snowbench.specs.WholeCheck.{ListsAreRead, list_text}
 
 -- no line has a line feed

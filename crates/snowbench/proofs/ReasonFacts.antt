@@ -4,7 +4,7 @@ use Rattle.std.specs.Prelude.{IfErr, if◌then◌else◌, nat_lt}
 use Rattle.std.specs.Option.{option_or}
 use Rattle.std.specs.Str.{is_utf8}
 use Rattle.sbl_bench.specs.Contents.{Contents}
-use Rattle.sbl_differences.specs.Differences.{IsChecked, ending, line_fault, pair_fault}
+use Rattle.sbl_check.specs.Differences.{IsChecked, ending, line_fault, pair_fault}
 use Rattle.sbl_script.specs.Parsed.{Source}
 use Rattle.sbl_sessions.specs.Loaded as load
 use Rattle.sbl_sessions.specs.Loaded.{AfterSource, IsLoaded, ReadsScript, WordLines}
@@ -12,14 +12,14 @@ use Rattle.sbl_sessions.specs.Block.{BlockLines, Breaks}
 use Rattle.sbl_sessions.specs.Session.{Ends}
 use Rattle.sbl_sessions.specs.declared.faults.LoadFault.{LoadFault}
 use Rattle.sbl_sessions.specs.declared.faults.LoadFault.TheVariants.{Input}
-use Rattle.sbl_lines.specs.Devices.{HasStopped}
-use Rattle.sbl_lines.specs.Held.{HasCause, HasReason, fault_of, reads_bound}
-use Rattle.sbl_lines.specs.LinesOf.{max_line}
-use Rattle.sbl_lines.specs.declared.lines.Lines.{Lines}
-use Rattle.sbl_lines.specs.declared.faults.LineFault.{LineFault}
-use Rattle.sbl_lines.specs.declared.faults.LineFault.TheVariants as line
-use Rattle.sbl_lines.specs.declared.faults.ServeFault.{ServeFault}
-use Rattle.sbl_lines.specs.declared.faults.ServeFault.TheVariants as fault
+use Rattle.sbl_io.specs.Devices.{HasStopped}
+use Rattle.sbl_io.specs.Held.{HasCause, HasReason, fault_of, reads_bound}
+use Rattle.sbl_io.specs.LinesOf.{max_line}
+use Rattle.sbl_io.specs.declared.lines.Lines.{Lines}
+use Rattle.sbl_io.specs.declared.faults.LineFault.{LineFault}
+use Rattle.sbl_io.specs.declared.faults.LineFault.TheVariants as line
+use Rattle.sbl_io.specs.declared.faults.ServeFault.{ServeFault}
+use Rattle.sbl_io.specs.declared.faults.ServeFault.TheVariants as fault
 use Rattle.snowbench.specs.Program.{HasReasons}
 use Rattle.snowbench.specs.WholeCheck.{ReadsExpected, ReadsWords}
 

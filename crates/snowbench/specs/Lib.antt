@@ -3,3 +3,4 @@ pub mod Stemmed
 pub mod WholeSession
 pub mod WholeCheck
 pub mod Program
+pub mod CommandLine

@@ -1,14 +1,14 @@
 -- What the program writes for its input, and its exit status.
 use Rattle.std.specs.Prelude.{◌≡◌, ◌⊎◌, ◌++◌, ◌==◌, ℕ, List, [], ◌∷◌, Option, Result, Ok, Err, codes, if◌then◌else◌, take}
 use Rattle.std.specs.Io.KnownBytes.{Appends, Keeps}
-use Rattle.sbl_command_line.specs.declared.command_line.Verb.{Verb}
-use Rattle.sbl_command_line.specs.declared.command_line.Verb.TheVariants.{Session, Stem, Filter, Check, Work}
+use Rattle.snowbench.specs.declared.command_line.Verb.{Verb}
+use Rattle.snowbench.specs.declared.command_line.Verb.TheVariants.{Session, Stem, Filter, Check, Work}
 use Rattle.sbl_sessions.specs.declared.faults.LoadFault.{LoadFault}
 use Rattle.sbl_sessions.specs.declared.faults.LoadFault.TheVariants.{Input}
-use Rattle.sbl_lines.specs.Devices.{HasStopped}
-use Rattle.sbl_lines.specs.Held.{HasCause}
-use Rattle.sbl_lines.specs.declared.lines.Lines.{Lines}
-use Rattle.sbl_lines.specs.declared.faults.ServeFault.TheVariants as fault
+use Rattle.sbl_io.specs.Devices.{HasStopped}
+use Rattle.sbl_io.specs.Held.{HasCause}
+use Rattle.sbl_io.specs.declared.lines.Lines.{Lines}
+use Rattle.sbl_io.specs.declared.faults.ServeFault.TheVariants as fault
 use Rattle.sbl_filter.specs.Filter.{IsFiltered}
 use Rattle.snowbench.specs.Stemmed.{IsStemmed}
 use Rattle.snowbench.specs.WholeCheck.{IsWholeCheck}

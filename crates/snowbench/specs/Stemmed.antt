@@ -9,7 +9,7 @@ use Rattle.sbl_sessions.specs.Loaded.{IsInput, IsLoaded}
 use Rattle.sbl_sessions.specs.Rows.{stems_text}
 use Rattle.sbl_sessions.specs.declared.faults.LoadFault.{LoadFault}
 use Rattle.sbl_sessions.specs.declared.faults.LoadFault.TheVariants.{Input}
-use Rattle.sbl_lines.specs.declared.faults.ServeFault.TheVariants as fault
+use Rattle.sbl_io.specs.declared.faults.ServeFault.TheVariants as fault
 
 -- The rows of the vocabulary are written, and the input is left after the vocabulary. If the writer failed, a prefix of
 -- the rows is written. Otherwise nothing is written: loading failed with this fault, or an allocation failed during or

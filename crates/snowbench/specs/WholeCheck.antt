@@ -5,15 +5,15 @@ use Rattle.std.specs.Io.KnownBytes.{Appends, IsAtEnd}
 use Rattle.std.specs.declared.vec.Vec.{Vec}
 use Rattle.std.specs.declared.alloc.Global.{Global}
 use Rattle.sbl_script.specs.Parsed.{Source}
-use Rattle.sbl_differences.specs.Differences.{IsChecked}
+use Rattle.sbl_check.specs.Differences.{IsChecked}
 use Rattle.sbl_sessions.specs.Block.{BlockLines, Breaks, TookBlock}
 use Rattle.sbl_sessions.specs.Loaded.{ReadsScript, TookFault, TookSource}
 use Rattle.sbl_sessions.specs.declared.faults.LoadFault.{LoadFault}
 use Rattle.sbl_sessions.specs.declared.faults.LoadFault.TheVariants.{Script}
-use Rattle.sbl_lines.specs.Held.{AllFit, Took}
-use Rattle.sbl_lines.specs.LinesOf.{lines_of}
-use Rattle.sbl_lines.specs.declared.faults.ServeFault.{ServeFault}
-use Rattle.sbl_lines.specs.declared.faults.ServeFault.TheVariants as fault
+use Rattle.sbl_io.specs.Held.{AllFit, Took}
+use Rattle.sbl_io.specs.LinesOf.{lines_of}
+use Rattle.sbl_io.specs.declared.faults.ServeFault.{ServeFault}
+use Rattle.sbl_io.specs.declared.faults.ServeFault.TheVariants as fault
 use Rattle.snowbench.specs.WholeSession.{as_load}
 
 -- ---- lists

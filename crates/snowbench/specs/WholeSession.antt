@@ -6,7 +6,7 @@ use Rattle.sbl_sessions.specs.Loaded.{IsLoaded}
 use Rattle.sbl_sessions.specs.Session.{IsSession}
 use Rattle.sbl_sessions.specs.declared.faults.LoadFault.{LoadFault}
 use Rattle.sbl_sessions.specs.declared.faults.LoadFault.TheVariants.{Input}
-use Rattle.sbl_lines.specs.declared.faults.ServeFault.{ServeFault}
+use Rattle.sbl_io.specs.declared.faults.ServeFault.{ServeFault}
 
 -- a result without a bench: the same, or its fault as one of loading
 abbrev pub as_load : {A : Type 0} → Result A ServeFault → Result A LoadFault

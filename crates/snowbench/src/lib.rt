@@ -2,12 +2,13 @@
 //! stems with the expected stems.
 #![tactic(auto)]
 
+mod command_line;
 mod laws;
 mod program;
 
+pub use command_line::{CommandLine, Face, Verb, read_command_line};
 pub use laws::lists_are_read;
 pub use program::run;
-pub use sbl_command_line::{Face, Verb, Wanted, read_words};
-pub use sbl_differences::check;
-pub use sbl_lines::{Device, LineFault, Lines, MAX_LINE, ServeFault, Sink, Source, Stop};
+pub use sbl_check::check;
+pub use sbl_io::{Device, LineFault, Lines, MAX_LINE, ServeFault, Sink, Source, Stop};
 pub use sbl_sessions::{LoadFault, answers_are_one, load, loading_is_one, serve};

@@ -1,9 +1,9 @@
 //! The program over the lines of a reader and two writers.
 ghost use Rattle.std.specs.Prelude.{◌≡◌, ◌≤◌, ◌++◌, ◌∷◌, [], ℕ, List, Result, None, IfOk, IfErr, OnOk, string_bytes};
 ghost use Rattle.std.specs.Fmt.InlineText.{inline_text};
-ghost use Rattle.sbl_lines.specs.Devices.{WritesInTime};
-ghost use Rattle.sbl_lines.specs.Faults.{left_by};
-ghost use Rattle.sbl_lines.specs.Held.{KeepsTime, HasReason, fault_of, input_of, reads_bound};
+ghost use Rattle.sbl_io.specs.Devices.{WritesInTime};
+ghost use Rattle.sbl_io.specs.Faults.{left_by};
+ghost use Rattle.sbl_io.specs.Held.{KeepsTime, HasReason, fault_of, input_of, reads_bound};
 ghost use Rattle.sbl_script.specs.Parsed.{source_of};
 ghost use Rattle.sbl_sessions.specs.declared.faults.LoadFault.{LoadFault};
 ghost use Rattle.snowbench.specs.Program.{HasReasons, IsAnswer, IsReported, fault_line};
@@ -11,10 +11,10 @@ ghost use Rattle.snowbench.specs.Stemmed.{IsStemmed};
 ghost use Rattle.snowbench.specs.WholeCheck.{ChecksLists, IsWholeCheck, ReadsExpected, ReadsWords};
 ghost use Rattle.snowbench.specs.WholeSession.{IsWholeSession};
 
-use sbl_command_line::{Verb, Wanted};
-use sbl_differences::check;
+use crate::command_line::{CommandLine, Verb};
+use sbl_check::check;
 use sbl_filter::filter;
-use sbl_lines::{Lines, ServeFault, Sink, Source, write_all};
+use sbl_io::{Lines, ServeFault, Sink, Source, write_all};
 use sbl_script::Script;
 use sbl_sessions::{LoadFault, load, read_script, serve, stems_text};
 use std::alloc::AllocError;
@@ -40,13 +40,13 @@ const MAX_FAULT_LINE: usize = 96;
 /// `check` reads a script block, a block of words and the expected stems up to the end of input, all before it runs
 /// anything, and then writes a row for each difference.
 pub fn run<R: Source + Drop, W: Sink, E: Sink>(
-    wanted: &Wanted,
+    command_line: &CommandLine,
     keys: RandomState,
     lines: &mut Lines<R>,
     writer: &mut W,
     errors: &mut E,
 ) -> u8
-    ensures runs { fault_of lines.old ≡ None → (answer : Result ℕ LoadFault) × IsAnswer wanted.now.verb (string_bytes wanted.now.external) (input_of R.left lines.old) (input_of R.left lines.new) (W.held writer.old) (W.held writer.new) answer
+    ensures runs { fault_of lines.old ≡ None → (answer : Result ℕ LoadFault) × IsAnswer command_line.now.verb (string_bytes command_line.now.external) (input_of R.left lines.old) (input_of R.left lines.new) (W.held writer.old) (W.held writer.new) answer
         × IfErr answer (λ fault. HasReasons R.failures R.interruptions R.reads W.failures W.interruptions lines.old lines.new writer.old writer.new fault)
         × IsReported E.held E.failures E.interruptions errors.old errors.new result answer }
     ensures status { result ≤ 1 }
@@ -54,7 +54,7 @@ pub fn run<R: Source + Drop, W: Sink, E: Sink>(
     ensures writes_in_time { WritesInTime W.late W.interruptions writer.old writer.new }
     ensures errors_in_time { WritesInTime E.late E.interruptions errors.old errors.new }
 {
-    match answer(wanted, keys, lines, writer) {
+    match answer(command_line, keys, lines, writer) {
         Ok(0) => 0,
         Ok(_) => 1,
         Err(fault) => {
@@ -79,18 +79,18 @@ fn line_of_fault(fault: LoadFault) -> InlineText<MAX_FAULT_LINE>
 
 /// Does what the command line asks for, and returns the number of differences.
 fn answer<R: Source + Drop, W: Sink>(
-    wanted: &Wanted,
+    command_line: &CommandLine,
     keys: RandomState,
     lines: &mut Lines<R>,
     writer: &mut W,
 ) -> Result<u64, LoadFault>
-    ensures answers { fault_of lines.old ≡ None → IsAnswer wanted.now.verb (string_bytes wanted.now.external) (input_of R.left lines.old) (input_of R.left lines.new) (W.held writer.old) (W.held writer.new) result }
+    ensures answers { fault_of lines.old ≡ None → IsAnswer command_line.now.verb (string_bytes command_line.now.external) (input_of R.left lines.old) (input_of R.left lines.new) (W.held writer.old) (W.held writer.new) result }
     ensures why { fault_of lines.old ≡ None → IfErr result (λ fault. HasReasons R.failures R.interruptions R.reads W.failures W.interruptions lines.old lines.new writer.old writer.new fault) }
     ensures reads_in_time { KeepsTime R.ended R.late R.interruptions R.reads lines.old lines.new }
     ensures writes_in_time { WritesInTime W.late W.interruptions writer.old writer.new }
 {
-    let external = wanted.external.as_str();
-    match wanted.verb {
+    let external = command_line.external.as_str();
+    match command_line.verb {
         Verb::Session => {
             session(lines, keys, external, writer)?;
             Ok(0)

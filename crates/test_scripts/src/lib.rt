@@ -1,11 +1,11 @@
 //! Scripts for tests, a prefix for the body that a test gives, and a function that drops a tree.
 #![tactic(auto)]
 
-use sbl_tree::Item;
+use sbl_ast::ScriptItem;
 
 /// Drops a tree and frees its memory. A test crate that calls this function does not have to prove the destructors of
 /// trees again: they are proved here.
-pub fn discard(_items: Vec<Item>) {}
+pub fn discard(_items: Vec<ScriptItem>) {}
 
 /// The start of a script. The body of `stem` follows at byte 34.
 pub const FRONT: &str = "externals ( stem ) define stem as ";

@@ -1,3 +1,4 @@
-//! Desks, each file by what it tries.
+//! Desks and work, each file by what it tries.
 
 mod history;
+mod serving;

@@ -17,8 +17,9 @@ pub(crate) fn bench_of(alloc: Global, script: &str, words: &[&str]) -> Result<Be
     for &word in words {
         list.push(word_of(alloc, word)?)?;
     }
-    let script = Script::parse(alloc, script.as_bytes(), "stem")?;
     let keys = RandomState::new(&SameBytes)?;
+    // The script comes last: on no path is a script or a bench dropped, whose destructors would be proved here again.
+    let script = Script::parse(alloc, script.as_bytes(), "stem")?;
     Ok(Bench::open(alloc, keys, script, list)?)
 }
 
@@ -64,15 +65,15 @@ fn why_takes_any_word_that_fits(rt: HostRuntime) -> Result<(), Fail> {
     let bench = bench_of(rt.alloc(), PREFIXES, &["undo"])?;
     assert_eq!(rt; bench.why(&[]), Err(EditFault::EmptyWord));
     assert_eq!(rt; bench.why(&['a'; 256]), Err(EditFault::WordTooLong));
-    let why = bench.why(&['a'; 255])?;
-    assert_eq!(rt;
-        why.outcome,
-        Outcome::Stem(Vec::from_slice(rt.alloc(), &['a'; 255])?)
-    );
+    let why = bench.why(&['a'; 255]);
     assert_eq!(rt; bench.routine_name(0), "stem");
     assert_eq!(rt; bench.routine_name(1), "");
     assert_eq!(rt; bench.runs(), 1);
     bench.leak();
+    assert_eq!(rt;
+        why?.outcome,
+        Outcome::Stem(Vec::from_slice(rt.alloc(), &['a'; 255])?)
+    );
     Ok(())
 }
 
@@ -93,11 +94,11 @@ fn takes_a_word(rt: &(impl Abort + Print), bench: &mut Bench) -> Result<(), Fail
 // A refused growth leaves the bench as it was, and the same word is taken afterwards.
 #[test]
 fn a_refused_growth_changes_nothing(rt: HostRuntime) -> Result<(), Fail> {
+    let keys = RandomState::new(&SameBytes)?;
     let Ok(script) = Script::parse(rt.alloc(), PREFIXES.as_bytes(), "stem") else {
         println!(rt; "the script was refused")?;
         return Ok(());
     };
-    let keys = RandomState::new(&SameBytes)?;
     let Ok(mut bench) = Bench::open(rt.alloc(), keys, script, Vec::new(rt.alloc())) else {
         println!(rt; "the bench was refused")?;
         return Ok(());

@@ -27,8 +27,9 @@ fn changes_shown(alloc: Global, bench: &Bench) -> Result<String, Fail> {
 /// A limit, what setting it returns, and the changes after that.
 type Step<'a> = (u64, Result<(), EditFault>, &'a str);
 
-/// Sets one limit after another.
+/// Sets one limit after another, in a bench that was just opened.
 fn sets(rt: &impl Abort, alloc: Global, bench: &mut Bench, steps: &[Step]) -> Result<(), Fail> {
+    assert_eq!(rt; changes_shown(alloc, bench)?.as_str(), "");
     for step in steps {
         let (limit, answer, want) = *step;
         assert_eq!(rt; bench.set_limit(limit), answer, "{limit}");
@@ -43,7 +44,6 @@ fn sets(rt: &impl Abort, alloc: Global, bench: &mut Bench, steps: &[Step]) -> Re
 fn a_limit_changes_what_is_refused(rt: HostRuntime) -> Result<(), Fail> {
     let alloc = rt.alloc();
     let mut bench = bench_of(alloc, PLURALS, &["s", "dog"])?;
-    let opened = changes_shown(alloc, &bench)?;
     let done = sets(
         &rt,
         alloc,
@@ -60,9 +60,7 @@ fn a_limit_changes_what_is_refused(rt: HostRuntime) -> Result<(), Fail> {
         ],
     );
     bench.leak();
-    done?;
-    assert_eq!(rt; opened.as_str(), "");
-    Ok(())
+    done
 }
 
 /// Replaces the among of `tail`, with which it takes nothing off, and then refuses a word.

@@ -197,30 +197,35 @@ fn installs(
     Ok(())
 }
 
-/// Installs an edited script and takes it back, and then one with another external. Of the edited script the two words run that
-/// enter the routine which differs.
-fn installs_both(
-    rt: &impl Abort,
-    alloc: Global,
-    bench: &mut Bench,
-    edited: &mut Script,
-    other: &mut Script,
-) -> Result<(), Fail> {
+/// Installs an edited script and takes it back. The two words run that enter the routine which differs.
+fn installs_an_edited_one(rt: &impl Abort, alloc: Global, bench: &mut Bench) -> Result<(), Fail> {
     let rows = [("xyb xyb;ab a;xb b;q ;ad ad;", 7), (ROWS, 9)];
-    installs(rt, alloc, bench, edited, rows)?;
+    let mut script = Script::parse(alloc, OTHER_ROUTINE.as_bytes(), "stem")?;
+    let done = installs(rt, alloc, bench, &mut script, rows);
+    script.discard();
+    done
+}
+
+/// Installs a script with another external and takes it back. All words run.
+fn installs_another(rt: &impl Abort, alloc: Global, bench: &mut Bench) -> Result<(), Fail> {
     let rows = [("xyb xyb;ab ab;xb xb;q q;ad ad;", 14), (ROWS, 19)];
-    installs(rt, alloc, bench, other, rows)
+    let mut script = Script::parse(alloc, OTHER_EXTERNAL.as_bytes(), "other")?;
+    let done = installs(rt, alloc, bench, &mut script, rows);
+    script.discard();
+    done
+}
+
+/// Does both in turn.
+fn installs_both(rt: &impl Abort, alloc: Global, bench: &mut Bench) -> Result<(), Fail> {
+    installs_an_edited_one(rt, alloc, bench)?;
+    installs_another(rt, alloc, bench)
 }
 
 #[test]
 fn installing_the_script_before_takes_an_edit_back(rt: HostRuntime) -> Result<(), Fail> {
     let alloc = rt.alloc();
-    let mut edited = Script::parse(alloc, OTHER_ROUTINE.as_bytes(), "stem")?;
-    let mut other = Script::parse(alloc, OTHER_EXTERNAL.as_bytes(), "other")?;
     let mut bench = bench_of(alloc, FIRST, &WORDS)?;
-    let done = installs_both(&rt, alloc, &mut bench, &mut edited, &mut other);
-    edited.discard();
-    other.discard();
+    let done = installs_both(&rt, alloc, &mut bench);
     bench.leak();
     done
 }

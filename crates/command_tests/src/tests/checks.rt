@@ -1,7 +1,7 @@
 //! Tests of checks with writers in memory. tests/cases has more of them.
 
-use sbl_differences::check;
-use sbl_lines::{Device, ServeFault};
+use sbl_check::check;
+use sbl_io::{Device, ServeFault};
 use sbl_script::Script;
 use std::alloc::Global;
 use std::test::Fail;

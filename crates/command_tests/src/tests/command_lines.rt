@@ -1,6 +1,6 @@
 //! Tests of command lines: what they ask for, and which are refused.
 
-use sbl_command_line::{Verb, read_words};
+use snowbench::{Verb, read_command_line};
 use std::alloc::Global;
 use std::test::Fail;
 
@@ -27,12 +27,12 @@ fn a_command_line_is_a_verb_and_an_external(rt: HostRuntime) -> Result<(), Fail>
     ];
     for (words, verb, external) in rows {
         let line = line_of(alloc, words)?;
-        let Ok(wanted) = read_words(alloc, line.as_slice()) else {
+        let Ok(command_line) = read_command_line(alloc, line.as_slice()) else {
             assert!(rt; false, "{external}");
             return Ok(());
         };
-        assert!(rt; wanted.verb == verb);
-        assert!(rt; wanted.external.as_str() == external);
+        assert!(rt; command_line.verb == verb);
+        assert!(rt; command_line.external.as_str() == external);
     }
     Ok(())
 }
@@ -41,21 +41,25 @@ fn a_command_line_is_a_verb_and_an_external(rt: HostRuntime) -> Result<(), Fail>
 fn files_and_flags_are_those_of_the_line(rt: HostRuntime) -> Result<(), Fail> {
     let alloc = rt.alloc();
     let line = line_of(alloc, &["run", "a", "--strict", "b", "c"])?;
-    let Ok(wanted) = read_words(alloc, line.as_slice()) else {
+    let Ok(command_line) = read_command_line(alloc, line.as_slice()) else {
         assert!(rt; false);
         return Ok(());
     };
-    assert!(rt; wanted.verb == Verb::Session && wanted.is_strict && !wanted.shows_places);
-    assert!(rt; names(&wanted.script, "a") && names(&wanted.words, "b"));
-    assert!(rt; names(&wanted.commands, "c") && wanted.stems.is_none());
+    assert!(rt;
+        command_line.verb == Verb::Session && command_line.is_strict && !command_line.shows_places
+    );
+    assert!(rt; names(&command_line.script, "a") && names(&command_line.words, "b"));
+    assert!(rt; names(&command_line.commands, "c") && command_line.stems.is_none());
     let line = line_of(alloc, &["check", "--places", "a", "-", "c"])?;
-    let Ok(wanted) = read_words(alloc, line.as_slice()) else {
+    let Ok(command_line) = read_command_line(alloc, line.as_slice()) else {
         assert!(rt; false);
         return Ok(());
     };
-    assert!(rt; wanted.verb == Verb::Check && !wanted.is_strict && wanted.shows_places);
-    assert!(rt; names(&wanted.words, "-") && names(&wanted.stems, "c"));
-    assert!(rt; wanted.commands.is_none());
+    assert!(rt;
+        command_line.verb == Verb::Check && !command_line.is_strict && command_line.shows_places
+    );
+    assert!(rt; names(&command_line.words, "-") && names(&command_line.stems, "c"));
+    assert!(rt; command_line.commands.is_none());
     Ok(())
 }
 
@@ -90,7 +94,7 @@ fn other_command_lines_are_refused(rt: HostRuntime) -> Result<(), Fail> {
     ];
     for words in rows {
         let line = line_of(alloc, words)?;
-        assert!(rt; read_words(alloc, line.as_slice()).is_err());
+        assert!(rt; read_command_line(alloc, line.as_slice()).is_err());
     }
     Ok(())
 }

@@ -1,7 +1,7 @@
 //! Tests of readers and writers that fail at each of their calls, and of interruptions.
 
 use sbl_filter::filter;
-use sbl_lines::{Device, Lines, ServeFault};
+use sbl_io::{Device, Lines, ServeFault};
 use sbl_sessions::LoadFault;
 use std::alloc::Global;
 use std::test::Fail;

@@ -2,7 +2,7 @@
 
 use sbl_bench::EditFault;
 use sbl_filter::filter;
-use sbl_lines::{Device, Lines, ServeFault};
+use sbl_io::{Device, Lines, ServeFault};
 use sbl_script::ScriptFault;
 use sbl_sessions::LoadFault;
 use std::alloc::Global;

@@ -1,6 +1,6 @@
 //! Tests of the whole program with a reader and writers in memory. tests/cases has more of them.
 
-use snowbench::{Device, Lines, Verb, Wanted, run};
+use snowbench::{CommandLine, Device, Lines, Verb, run};
 use std::alloc::Global;
 use std::hash::RandomState;
 use std::test::Fail;
@@ -27,7 +27,7 @@ fn run_of(
     fails_at: u64,
 ) -> Result<Ran, Fail> {
     let external = String::from_str(alloc, external)?;
-    let wanted = Wanted {
+    let command_line = CommandLine {
         verb,
         external,
         script: None,
@@ -42,7 +42,7 @@ fn run_of(
     let mut errors = writer(alloc, fails_at);
     let mut lines = Lines::new(alloc, Device::new(in_pieces(input, 16, 0, 0)))?;
     let keys = RandomState::new(&SameBytes)?;
-    let status = run(&wanted, keys, &mut lines, &mut text, &mut errors);
+    let status = run(&command_line, keys, &mut lines, &mut text, &mut errors);
     Ok(Ran {
         status,
         text: text.into_inner().inner,

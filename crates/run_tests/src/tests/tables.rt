@@ -1,7 +1,7 @@
 //! Searches of the strings of an among, and what is printed of a run's faults.
 
+use sbl_ast::Mode;
 use sbl_machine::{AmongSearch, LinkedTable, PlainTable, RunFault, RunStop};
-use sbl_tree::Mode;
 use std::alloc::{AllocError, Global};
 use std::process::Abort;
 use std::test::Fail;

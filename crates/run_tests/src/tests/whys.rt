@@ -1,8 +1,8 @@
 //! What a run does, event by event.
 
 use crate::tests::runs::machine_of;
+use sbl_ast::Mode;
 use sbl_machine::{Event, Machine, Meter, Table};
-use sbl_tree::Mode;
 use std::alloc::{AllocError, Global};
 use std::process::Abort;
 use std::test::Fail;

@@ -1,13 +1,13 @@
 //! Tests of the trees of texts, and of faults of the grammar. tests/cases has more of them.
 
-use sbl_grammar::{one_fault, one_part, one_tree, parse};
-use sbl_script::{Command, Item, Plain};
+use sbl_parser::{one_fault, one_part, one_tree, parse};
+use sbl_script::{Command, Plain, ScriptItem};
 use sbl_text::{ScriptFault, tokens};
 use std::alloc::{AllocError, Global};
 use std::test::Fail;
 use test_scripts::{FRONT, PLURALS, PORTER, discard};
 
-fn read(alloc: Global, text: &str) -> Result<Vec<Item>, ScriptFault> {
+fn read(alloc: Global, text: &str) -> Result<Vec<ScriptItem>, ScriptFault> {
     let tokens = tokens(alloc, text)?;
     parse(alloc, &tokens, text.len())
 }
@@ -104,7 +104,7 @@ fn the_first_fault_of_the_grammar_is_answered(rt: HostRuntime) -> Result<(), Fai
 fn minus_of(alloc: Global, text: &str) -> Result<Option<bool>, ScriptFault> {
     let items = read(alloc, text)?;
     let minus = match items.first() {
-        Some(Item::Plain(Plain::Routine { body, .. })) => match &body.first {
+        Some(ScriptItem::Plain(Plain::Routine { body, .. })) => match &body.first {
             Command::Non { with_minus, .. } => Some(*with_minus),
             _ => None,
         },

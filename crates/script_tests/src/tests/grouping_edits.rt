@@ -2,7 +2,7 @@
 
 use crate::tests::script::fault_in;
 use sbl_script::laws::canonical_is_read;
-use sbl_script::{EditFault, Script, ScriptFault};
+use sbl_script::{Script, ScriptEditFault, ScriptFault};
 use std::alloc::Global;
 use std::process::Abort;
 use test_scripts::PORTER;
@@ -38,7 +38,11 @@ fn a_text_is_the_terms_of_a_grouping(rt: HostRuntime) {
     ];
     for (text, want) in rows {
         let taken = script.with_grouping(alloc, "v", text);
-        assert_eq!(rt; fault_in(taken), Some(EditFault::Script(want)), "{text}");
+        assert_eq!(rt;
+            fault_in(taken),
+            Some(ScriptEditFault::Script(want)),
+            "{text}"
+        );
     }
     let taken = script.with_grouping(alloc, "w", "'x' + v - 'a'");
     assert_eq!(rt; fault_in(taken), None);
@@ -61,15 +65,15 @@ fn a_grouping_is_found_by_its_name(rt: HostRuntime) {
         let taken = script.with_grouping(alloc, name, text);
         assert_eq!(rt;
             fault_in(taken),
-            Some(EditFault::NoGrouping),
+            Some(ScriptEditFault::NoGrouping),
             "{name} {text}"
         );
     }
     let taken = script.with_routine(alloc, "v", "true");
-    assert_eq!(rt; fault_in(taken), Some(EditFault::NoRoutine));
+    assert_eq!(rt; fault_in(taken), Some(ScriptEditFault::NoRoutine));
     let taken = script.with_among(alloc, "v", 1, "among ( 'a' )");
-    assert_eq!(rt; fault_in(taken), Some(EditFault::NoRoutine));
-    let shown = format!(in alloc; "{}", EditFault::NoGrouping).expect(&rt, "memory");
+    assert_eq!(rt; fault_in(taken), Some(ScriptEditFault::NoRoutine));
+    let shown = format!(in alloc; "{}", ScriptEditFault::NoGrouping).expect(&rt, "memory");
     assert_eq!(rt; shown.as_str(), "53 NoGrouping");
     script.discard();
 }
@@ -122,7 +126,7 @@ fn escapes_are_those_before_the_grouping(rt: HostRuntime) {
     let taken = script.with_grouping(alloc, "v", "'{c}'");
     assert_eq!(rt;
         fault_in(taken),
-        Some(EditFault::Script(ScriptFault::UnknownEscape { place: 1 }))
+        Some(ScriptEditFault::Script(ScriptFault::UnknownEscape { place: 1 }))
     );
     script.discard();
 }
@@ -142,7 +146,7 @@ fn a_grouping_may_be_in_a_backwardmode(rt: HostRuntime) {
     let taken = script.with_grouping(alloc, "v", "u");
     assert_eq!(rt;
         fault_in(taken),
-        Some(EditFault::Script(ScriptFault::Undefined { item: 5 }))
+        Some(ScriptEditFault::Script(ScriptFault::Undefined { item: 5 }))
     );
     script.discard();
 }

@@ -2,14 +2,20 @@
 //! in tests/cases.
 
 use crate::tests::script::fault_in;
-use sbl_script::{EditFault, Script, ScriptFault};
+use sbl_script::{Script, ScriptEditFault, ScriptFault};
 use std::alloc::Global;
 use std::process::Abort;
 use test_scripts::{FRONT, PLURALS, PORTER};
 
 /// Replaces among `k` of the external, or its body if `k` is 0, by the text. Returns why the edit is refused, or `None`
 /// if it is accepted.
-fn refused(rt: &impl Abort, alloc: Global, body: &str, k: u64, text: &str) -> Option<EditFault> {
+fn refused(
+    rt: &impl Abort,
+    alloc: Global,
+    body: &str,
+    k: u64,
+    text: &str,
+) -> Option<ScriptEditFault> {
     let script = format!(in alloc; "{FRONT}{body}").expect(rt, "memory");
     let script = Script::parse(alloc, script.as_bytes(), "stem").expect(rt, "a script");
     let taken = if k == 0 {
@@ -28,7 +34,11 @@ type Row<'a> = (&'a str, u64, &'a str, ScriptFault);
 fn are_refused(rt: &impl Abort, alloc: Global, rows: &[Row]) {
     for (body, k, text, want) in rows {
         let found = refused(rt, alloc, body, *k, text);
-        assert_eq!(rt; found, Some(EditFault::Script(*want)), "{body}: {text}");
+        assert_eq!(rt;
+            found,
+            Some(ScriptEditFault::Script(*want)),
+            "{body}: {text}"
+        );
     }
 }
 
@@ -195,7 +205,7 @@ fn escapes_are_those_before_the_item(rt: HostRuntime) {
     let taken = script.with_among(rt.alloc(), "stem", 1, "among ( '{a}' 'x' )");
     assert_eq!(rt;
         fault_in(taken),
-        Some(EditFault::Script(ScriptFault::RepeatedString { item: 4 }))
+        Some(ScriptEditFault::Script(ScriptFault::RepeatedString { item: 4 }))
     );
     let taken = script.with_among(rt.alloc(), "stem", 1, "among ( '{a}' '[a]' 'y' )");
     assert_eq!(rt; fault_in(taken), None);
@@ -203,7 +213,7 @@ fn escapes_are_those_before_the_item(rt: HostRuntime) {
     assert!(rt;
         matches!(
             fault_in(taken),
-            Some(EditFault::Script(ScriptFault::UnknownEscape { place: _ }))
+            Some(ScriptEditFault::Script(ScriptFault::UnknownEscape { place: _ }))
         )
     );
     script.discard();
@@ -214,24 +224,24 @@ fn a_routine_is_found_by_its_name(rt: HostRuntime) {
     let alloc = rt.alloc();
     let script = Script::parse(alloc, PLURALS.as_bytes(), "stem").expect(&rt, "a script");
     for (name, text, want) in [
-        ("nope", "", Some(EditFault::NoRoutine)),
-        ("nope", "true", Some(EditFault::NoRoutine)),
-        ("stem2", "nowhere", Some(EditFault::NoRoutine)),
+        ("nope", "", Some(ScriptEditFault::NoRoutine)),
+        ("nope", "true", Some(ScriptEditFault::NoRoutine)),
+        ("stem2", "nowhere", Some(ScriptEditFault::NoRoutine)),
         ("last", "true\n", None),
         (
             "tail",
             "nowhere",
-            Some(EditFault::Script(ScriptFault::Undeclared { item: 4 })),
+            Some(ScriptEditFault::Script(ScriptFault::Undeclared { item: 4 })),
         ),
         (
             "tail",
             "",
-            Some(EditFault::Script(ScriptFault::Syntax { place: 0 })),
+            Some(ScriptEditFault::Script(ScriptFault::Syntax { place: 0 })),
         ),
         (
             "stem",
             "tail",
-            Some(EditFault::Script(ScriptFault::WrongMode { item: 6 })),
+            Some(ScriptEditFault::Script(ScriptFault::WrongMode { item: 6 })),
         ),
     ] {
         let taken = script.with_routine(alloc, name, text);
@@ -337,15 +347,15 @@ fn a_script_under_another_external_is_another(rt: HostRuntime) {
 #[test]
 fn faults_of_edits_are_printed_with_their_numbers(rt: HostRuntime) {
     for (fault, want) in [
-        (EditFault::NoRoutine, "45 NoRoutine"),
-        (EditFault::NoAmong, "46 NoAmong"),
-        (EditFault::AmongCount, "47 AmongCount"),
+        (ScriptEditFault::NoRoutine, "45 NoRoutine"),
+        (ScriptEditFault::NoAmong, "46 NoAmong"),
+        (ScriptEditFault::AmongCount, "47 AmongCount"),
         (
-            EditFault::Script(ScriptFault::Undeclared { item: 2 }),
+            ScriptEditFault::Script(ScriptFault::Undeclared { item: 2 }),
             "48 10 Undeclared in item 2",
         ),
-        (EditFault::OutOfMemory, "49 OutOfMemory"),
-        (EditFault::NoGrouping, "53 NoGrouping"),
+        (ScriptEditFault::OutOfMemory, "49 OutOfMemory"),
+        (ScriptEditFault::NoGrouping, "53 NoGrouping"),
     ] {
         let text = format!(in rt.alloc(); "{fault}").expect(&rt, "memory");
         assert_eq!(rt; text.as_str(), want);

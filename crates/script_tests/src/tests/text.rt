@@ -1,7 +1,8 @@
 //! Tests of the tokens of texts, of literals and codes, and of the text of faults. tests/cases has rows of faults.
 
 use sbl_text::{
-    Escapes, Kind, Lexer, ScriptFault, Sign, Token, Value, Word, read_codes, read_literal, tokens,
+    Coding, Escapes, Kind, Lexer, ScriptFault, Sign, Token, Value, Word, macro_value, read_codes,
+    read_literal, tokens,
 };
 use std::alloc::{AllocError, Global};
 use std::test::Fail;
@@ -283,5 +284,76 @@ fn codes_are_read_in_their_base(rt: HostRuntime) -> Result<(), Fail> {
     assert!(rt;
         read_codes(rt.alloc(), false, &['9', 'a']).err() == Some(ScriptFault::BadCode { place: 0 })
     );
+    Ok(())
+}
+
+/// Returns how many characters a macro of this many codes has, or its fault.
+fn length_of(
+    alloc: Global,
+    coding: Coding,
+    code: &[char],
+    count: usize,
+) -> Result<usize, ScriptFault> {
+    let mut characters: Vec<char> = Vec::new(alloc);
+    for _ in 0..count {
+        characters.extend_from_slice(code)?;
+    }
+    Ok(macro_value(alloc, coding, &characters, 7)?.len())
+}
+
+#[test]
+fn a_macro_has_at_most_64_characters(rt: HostRuntime) -> Result<(), Fail> {
+    let alloc = rt.alloc();
+    let rows: [(Coding, &[char]); 3] = [
+        (Coding::Plain, &['\u{df}']),
+        (Coding::Hex, &['D', 'F', ' ']),
+        (Coding::Decimal, &['9', '8', '\n']),
+    ];
+    for (coding, code) in rows {
+        assert_eq!(rt; length_of(alloc, coding, code, 0)?, 0);
+        assert_eq!(rt; length_of(alloc, coding, code, 64)?, 64);
+        let found = length_of(alloc, coding, code, 65).err();
+        assert!(rt; found == Some(ScriptFault::BadCode { place: 7 }));
+    }
+    Ok(())
+}
+
+/// Returns a script that defines macros `m0`, `m1`, .. , each two insertions of the one before.
+fn doubled(alloc: Global, count: usize) -> Result<String, AllocError> {
+    let mut text = String::from_str(alloc, "stringescapes {} stringdef m0 'ab'")?;
+    for i in 1..count {
+        let before = i - 1;
+        let more = format!(in alloc; " stringdef m{i} '{{m{before}}}{{m{before}}}'")?;
+        text.push_str(more.as_str())?;
+    }
+    Ok(text)
+}
+
+#[test]
+fn macros_that_double_are_refused_at_the_first_that_is_too_long(
+    rt: HostRuntime,
+) -> Result<(), Fail> {
+    let alloc = rt.alloc();
+    let short = doubled(alloc, 6)?;
+    assert_eq!(rt; tokens(alloc, short.as_str())?.len(), 20);
+    let place = short.len() + " stringdef m6 ".len();
+    for count in [7, 8, 30] {
+        let long = doubled(alloc, count)?;
+        let found = tokens(alloc, long.as_str()).err();
+        assert!(rt; found == Some(ScriptFault::BadCode { place }));
+    }
+    Ok(())
+}
+
+#[test]
+fn a_macro_may_be_inserted_often(rt: HostRuntime) -> Result<(), Fail> {
+    let alloc = rt.alloc();
+    let mut text = doubled(alloc, 6)?;
+    text.push_str(" '")?;
+    for _ in 0..500 {
+        text.push_str("{m5}")?;
+    }
+    text.push_str("'")?;
+    assert_eq!(rt; last_value(alloc, text.as_str())?.len(), 32000);
     Ok(())
 }

@@ -1,6 +1,6 @@
 //! Tests of readers and writers that fail at each of their calls, and of the limit on reads.
 
-use sbl_lines::{Device, Lines, ServeFault};
+use sbl_io::{Device, Lines, ServeFault};
 use sbl_sessions::{LoadFault, load, serve};
 use std::alloc::Global;
 use std::hash::RandomState;

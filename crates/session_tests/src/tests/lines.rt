@@ -1,6 +1,6 @@
 //! Tests of the lines of a reader, and of its faults.
 
-use sbl_lines::{Device, LineFault, Lines};
+use sbl_io::{Device, LineFault, Lines};
 use std::test::Fail;
 use test_devices::in_pieces;
 

@@ -1,7 +1,7 @@
 //! Tests of whole sessions, what they write and how they end, and of devices that fail. tests/cases has more of them.
 
 use sbl_bench::EditFault;
-use sbl_lines::{Device, Lines, ServeFault};
+use sbl_io::{Device, Lines, ServeFault};
 use sbl_script::ScriptFault;
 use sbl_sessions::{LoadFault, load, serve};
 use std::alloc::Global;

@@ -28,6 +28,18 @@ fn desk_of(alloc: Global, bench: &Bench) -> Result<Desk, Fail> {
     Ok(Desk::new(alloc, bench, Vec::from_slice(alloc, STAYS.as_bytes())?)?)
 }
 
+#[test]
+fn a_desk_begins_with_the_text_of_its_script(rt: HostRuntime) -> Result<(), Fail> {
+    let alloc = rt.alloc();
+    let bench = bench_of_ab(alloc)?;
+    let text = b"// as it is\nexternals(stem)define stem as true";
+    let desk = Desk::new(alloc, &bench, Vec::from_slice(alloc, text)?)?;
+    let found = desk.text(&bench)?;
+    bench.leak();
+    assert_eq!(rt; found.as_slice(), text.as_slice());
+    Ok(())
+}
+
 /// Replaces the script by `SHORTER` and `STAYS` in turn.
 fn replace_in_turn(desk: &mut Desk, bench: &mut Bench, times: u32) -> Result<(), EditFault> {
     for i in 0..times {

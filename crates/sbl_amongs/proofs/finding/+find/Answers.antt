@@ -1,10 +1,10 @@
 use Rattle.std.proofs.Common.{◌+◌, ◌∷◌, drop, map, sym, ap, ◌∙◌}
 use Rattle.std.proofs.lemmas.Bool.{ne_eqb}
-use Rattle.sbl_tree.specs.Tree as trees
-use Rattle.sbl_tree.specs.View as view
-use Rattle.sbl_tree.specs.declared.tree.Command.{Command}
-use Rattle.sbl_tree.specs.declared.tree.Command.TheViews.{out-Group, out-Among, out-Row}
-use Rattle.sbl_tree.proofs.Views as views
+use Rattle.sbl_ast.specs.Tree as trees
+use Rattle.sbl_ast.specs.View as view
+use Rattle.sbl_ast.specs.declared.tree.Command.{Command}
+use Rattle.sbl_ast.specs.declared.tree.Command.TheViews.{out-Group, out-Among, out-RowOfCommands}
+use Rattle.sbl_ast.proofs.Views as views
 use Rattle.sbl_amongs.proofs.Putting as p
 use Rattle.sbl_amongs.proofs.Walking as f
 use Rattle.sbl_amongs.proofs.finding.+find.Goals as goal
@@ -66,11 +66,11 @@ in_others-loop-joined-preserved t c =
 
 pub in_row-returns-in-Behind : goal.in_row-returns-in-Behind
 in_row-returns-in-Behind t c =
-    f.row_finds c.in_others.result c.args.number c.in-Behind.number c.args.depth (view.view_row c.args.row.now) (view.view_command (out-Row c.args.row.now).first) (view.view_others (out-Row c.args.row.now).others.items) (f.seen_row c.args.row.now) c.in-Behind.ensures c.in_others.ensures
+    f.row_finds c.in_others.result c.args.number c.in-Behind.number c.args.depth (view.view_row c.args.row.now) (view.view_command (out-RowOfCommands c.args.row.now).first) (view.view_others (out-RowOfCommands c.args.row.now).others.items) (f.seen_row c.args.row.now) c.in-Behind.ensures c.in_others.ensures
 
 pub in_row-returns-in-There : goal.in_row-returns-in-There
 in_row-returns-in-There t c =
-    f.row_there c.in-There.depth c.in-There.among c.args.number c.args.depth (view.view_row c.args.row.now) (view.view_command (out-Row c.args.row.now).first) (view.view_others (out-Row c.args.row.now).others.items) (f.seen_row c.args.row.now) c.in-There.ensures
+    f.row_there c.in-There.depth c.in-There.among c.args.number c.args.depth (view.view_row c.args.row.now) (view.view_command (out-RowOfCommands c.args.row.now).first) (view.view_others (out-RowOfCommands c.args.row.now).others.items) (f.seen_row c.args.row.now) c.in-There.ensures
 
 pub in_rows-returns-in-There : goal.in_rows-returns-in-There
 in_rows-returns-in-There t c =

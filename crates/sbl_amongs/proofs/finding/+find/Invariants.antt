@@ -1,8 +1,8 @@
 use Rattle.std.proofs.Common.{◌≡◌, List, [], drop}
 use Rattle.sbl_amongs.specs.Amongs.{Held, nth_held, amongs_of_rows, amongs_of_others, amongs_of_groups}
-use Rattle.sbl_tree.specs.Places.{placed_rows, placed_others, placed_groups, AreShallow}
-use Rattle.sbl_tree.specs.Tree as trees
-use Rattle.sbl_tree.specs.View.{view_rows, view_others, view_groups}
+use Rattle.sbl_ast.specs.Places.{placed_rows, placed_others, placed_groups, AreShallow}
+use Rattle.sbl_ast.specs.Tree as trees
+use Rattle.sbl_ast.specs.View.{view_rows, view_others, view_groups}
 use Rattle.sbl_amongs.proofs.finding.+find.Given as goal
 
 abbrev pub invariant-in_groups-loop-group : goal.invariant-in_groups-loop-group

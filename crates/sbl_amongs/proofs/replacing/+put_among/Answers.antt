@@ -1,10 +1,10 @@
 use Rattle.std.proofs.Common.{◌+◌, ◌∷◌, List, drop, map, ap, ◌∙◌}
 use Rattle.std.proofs.lemmas.Bool.{ne_eqb}
-use Rattle.sbl_tree.specs.Tree as trees
-use Rattle.sbl_tree.specs.View as view
-use Rattle.sbl_tree.proofs.Views as views
+use Rattle.sbl_ast.specs.Tree as trees
+use Rattle.sbl_ast.specs.View as view
+use Rattle.sbl_ast.proofs.Views as views
 use Rattle.sbl_amongs.proofs.Putting as p
-use Rattle.sbl_tree.specs.declared.tree.Command.TheViews.{out-Group, out-Among}
+use Rattle.sbl_ast.specs.declared.tree.Command.TheViews.{out-Group, out-Among}
 use Rattle.sbl_amongs.proofs.replacing.+put_among.Goals.{put_in_one-in-None, put_in_one-in-Some+in_ok-rows-in-Some}
 use Rattle.sbl_amongs.proofs.replacing.+put_among.Goals as goal
 

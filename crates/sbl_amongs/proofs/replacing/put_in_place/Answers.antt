@@ -1,7 +1,7 @@
 use Rattle.std.proofs.Common.{sym, subst}
-use Rattle.sbl_tree.specs.Places.{AreShallow}
-use Rattle.sbl_tree.specs.Texts.{body, places_in}
-use Rattle.sbl_tree.specs.View.{RowView, view_among, view_row}
+use Rattle.sbl_ast.specs.Places.{AreShallow}
+use Rattle.sbl_ast.specs.Texts.{body, places_in}
+use Rattle.sbl_ast.specs.View.{RowView, view_among, view_row}
 use Rattle.sbl_amongs.proofs.Held.{body_put}
 use Rattle.sbl_amongs.proofs.replacing.put_in_place.Goals as goal
 

@@ -2,12 +2,13 @@ use Rattle.std.proofs.Common.{◌≡◌, ◌∙◌, false, List, Some, map, leng
 use Rattle.std.specs.List.{All, IsDistinct}
 use Rattle.std.proofs.lemmas.List.{length-map}
 use Rattle.std.specs.Str.{bytes_eq}
-use Rattle.sbl_bench.specs.Last.{last_changes, word_found, word_run}
+use Rattle.sbl_bench.specs.Last.{Follows, last_changes, word_found, word_run}
 use Rattle.sbl_bench.specs.Changes.{is_changed}
 use Rattle.sbl_bench.specs.Kept.{KeptWord}
 use Rattle.sbl_bench.specs.Pairs.{Text, find}
 use Rattle.sbl_bench.specs.declared.change.Change.{Change}
 use Rattle.sbl_bench.proofs.ChangeFacts.{all_fresh, fresh_list, words_kept, written}
+use Rattle.sbl_bench.proofs.Following.{follows}
 use Rattle.sbl_bench.proofs.LastChanges.{last_is}
 use Rattle.sbl_bench.proofs.change.make_changes.Goals as goal
 
@@ -28,6 +29,17 @@ returns-clause-fresh c = λ t anew.
 
 pub returns-clause-words : goal.returns-clause-words
 returns-clause-words c = words_kept c.args.traces.now.entries c.commit.new.traces.entries c.commit.ensures.keys
+
+pub returns-clause-follows : goal.returns-clause-follows
+returns-clause-follows c =
+    let es = c.args.traces.now.entries in
+    let fs = c.commit.new.traces.entries in
+    let cs = c.args.changes.items in
+    let ls = c.commit.new.changes in
+    let was : map word_run ls ≡ map (word_found es) cs = c.commit.ensures.before ∙ ap (map (word_found es)) c.as_mut_slice.ensures.value in
+    let same : length ls ≡ length cs = sym (length-map ls word_run) ∙ ap length was ∙ length-map cs (word_found es) in
+    let back : take c.args.changes.len (ls ++ drop (length ls) cs) ≡ ls = ap (λ (n : ℕ). take n (ls ++ drop (length ls) cs)) c.args.changes.ok.0 ∙ written ls cs same in
+    subst (λ (l : List Change). Follows es l fs) (sym back) (follows es fs cs ls was (subst (Stays es fs) c.as_mut_slice.ensures.value c.commit.ensures.others))
 
 pub returns-clause-last : goal.returns-clause-last
 returns-clause-last c = λ s t fresh anew.

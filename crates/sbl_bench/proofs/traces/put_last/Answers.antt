@@ -5,9 +5,10 @@ use Rattle.std.specs.declared.vec.Vec.{Vec}
 use Rattle.std.specs.declared.alloc.Global.{Global}
 use Rattle.sbl_machine.specs.Outcome.{outcome_of, run_of, touches_of, used_of}
 use Rattle.sbl_bench.specs.Kept.{KeptWord, words_in, IsKept}
+use Rattle.sbl_bench.specs.Pairs.{IsOneMore}
 use Rattle.sbl_bench.specs.Setting.{under}
 use Rattle.indexmap.proofs.CallerLemmas.{insert_entry-new}
-use Rattle.sbl_bench.proofs.Words.{is_key, not_found, words-push, kept-push}
+use Rattle.sbl_bench.proofs.Words.{is_key, not_found, words-push, kept-push, put_more}
 use Rattle.sbl_bench.proofs.traces.put_last.Goals as goal
 
 -- the new word goes last
@@ -32,3 +33,6 @@ returns-clause-kept c s made kept =
       touches = c.in_ok-last.ensures.touches ∙ c.in_ok-traced.ensures.touches s made ∙ ap (λ (w : List ℕ). touches_of s w c.args.limit) c.as_slice.ensures.value;
       used = c.in_ok-last.ensures.used ∙ c.in_ok-traced.ensures.used s made ∙ ap (λ (w : List ℕ). used_of s w c.args.limit) c.as_slice.ensures.value;
     }))
+
+pub returns-clause-more : goal.returns-clause-more
+returns-clause-more c = subst (λ (es : List KeptWord). IsOneMore c.args.word.items es c.args.traces.now.entries) (sym (goes_last c)) (put_more c.args.traces.now.entries (c.args.word, c.in_ok-last.last) c.requires.new)

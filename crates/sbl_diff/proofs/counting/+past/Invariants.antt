@@ -1,7 +1,7 @@
 use Rattle.std.proofs.Common.{◌≡◌, List, drop}
-use Rattle.sbl_numbering.specs.Regions.{behind_rows, behind_others, behind_groups}
-use Rattle.sbl_tree.specs.Tree as trees
-use Rattle.sbl_tree.specs.View.{view_rows, view_others, view_groups}
+use Rattle.sbl_compiler.specs.Regions.{behind_rows, behind_others, behind_groups}
+use Rattle.sbl_ast.specs.Tree as trees
+use Rattle.sbl_ast.specs.View.{view_rows, view_others, view_groups}
 use Rattle.sbl_diff.proofs.counting.+past.Given as goal
 
 abbrev pub invariant-past_groups-loop-group : goal.invariant-past_groups-loop-group

@@ -1,5 +1,5 @@
 use Rattle.std.proofs.Common.{◌≡◌, Some, drop, map}
-use Rattle.sbl_tree.specs.View.{view_item}
+use Rattle.sbl_ast.specs.View.{view_item}
 use Rattle.sbl_machine.specs.Differs.{join}
 use Rattle.sbl_machine.specs.Differs as spec
 use Rattle.sbl_machine.specs.Touched.{item_of}

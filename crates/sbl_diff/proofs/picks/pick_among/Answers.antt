@@ -1,7 +1,7 @@
 use Rattle.std.proofs.Common.{◌≡◌, [], ◌∷◌, suc, nat_eq, if◌then◌else◌, Some, None, List, ℕ, Bool, arith, sym, ap, Option}
 use Rattle.std.proofs.lemmas.Grind.{common_steps}
 use Rattle.sbl_diff.proofs.Behind.{as_many, not_as_many}
-use Rattle.sbl_tree.specs.View.{view_among}
+use Rattle.sbl_ast.specs.View.{view_among}
 use Rattle.sbl_diff.proofs.picks.pick_among.Goals as goal
 
 pub returns-then-branch-after-clause-numbers : goal.returns-then-branch-after-clause-numbers

@@ -1,5 +1,5 @@
 use Rattle.std.proofs.Common.{◌≡◌, drop, map, string_bytes}
-use Rattle.sbl_tree.specs.View.{view_entry, view_scales, view_sums, view_term}
+use Rattle.sbl_ast.specs.View.{view_entry, view_scales, view_sums, view_term}
 use Rattle.sbl_machine.specs.Same.{same_names}
 use Rattle.sbl_diff.proofs.same.same_names.Given as goal
 

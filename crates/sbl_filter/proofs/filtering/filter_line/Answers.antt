@@ -6,7 +6,7 @@ use Rattle.std.specs.Str.{IsUtf8, chars, is_utf8}
 use Rattle.sbl_bench.specs.Rows.{row_of}
 use Rattle.sbl_bench.specs.Setting.{under}
 use Rattle.sbl_machine.specs.Limit.{default_limit}
-use Rattle.sbl_records.specs.Records.{record_line}
+use Rattle.sbl_io.specs.Records.{record_line}
 use Rattle.sbl_sessions.specs.Rows.{row_fields}
 use Rattle.sbl_filter.proofs.FilterFacts.{is_none, is_some, line-cut, line-empty, line-long, line-row}
 use Rattle.sbl_filter.proofs.filtering.filter_line.Goals as goal
@@ -45,7 +45,7 @@ returns-in_err-write_all-clause-writes g c = λ s made.
     let items : c.in_ok-characters.characters.items ≡ chars c.args.line.now = of_word ∙ ap chars c.in-Ok.ensures.cases.0 in
     let some = is_some c.in_ok-characters.characters.items _ c.is_empty.result c.is_empty.ensures c.if-is_empty.false (search rules) in
     let short : length c.in_ok-characters.characters.items ≤ 255 = search rules in
-    let row = c.deref-2.ensures.value ∙ c.in_ok-row.ensures s made ∙ ap (λ (w : List ℕ). record_line (row_fields (row_of (under s default_limit) (chars w)))) c.in-Ok.ensures.cases.0 in
+    let row = c.deref-2.ensures.value ∙ c.in_ok-row.ensures.row s made ∙ ap (λ (w : List ℕ). record_line (row_fields (row_of (under s default_limit) (chars w)))) c.in-Ok.ensures.cases.0 in
     let p = err_from_is_err_and c.from_residual-in_err-write_all.result c.from_residual-in_err-write_all.ensures.1 in
     rw (p.1, p.2, c.in_err-write_all.ensures.why.0)
     (line-cut s c.args.line.now (g.W.Sink.held c.args.writer.now) (is_utf8-from_IsUtf8 c.args.line.now c.in-Ok.ensures.cases.1) items (g.W.Sink.held c.write_all.new.writer) c.deref-2.result.now some short row c.write_all.ensures.front.0 c.write_all.ensures.front.1)
@@ -56,5 +56,5 @@ returns-clause-writes g c = λ s made.
     let items : c.in_ok-characters.characters.items ≡ chars c.args.line.now = of_word ∙ ap chars c.in-Ok.ensures.cases.0 in
     let some = is_some c.in_ok-characters.characters.items _ c.is_empty.result c.is_empty.ensures c.if-is_empty.false (search rules) in
     let short : length c.in_ok-characters.characters.items ≤ 255 = search rules in
-    let row = c.deref-2.ensures.value ∙ c.in_ok-row.ensures s made ∙ ap (λ (w : List ℕ). record_line (row_fields (row_of (under s default_limit) (chars w)))) c.in-Ok.ensures.cases.0 in
+    let row = c.deref-2.ensures.value ∙ c.in_ok-row.ensures.row s made ∙ ap (λ (w : List ℕ). record_line (row_fields (row_of (under s default_limit) (chars w)))) c.in-Ok.ensures.cases.0 in
     line-row s c.args.line.now (g.W.Sink.held c.args.writer.now) (is_utf8-from_IsUtf8 c.args.line.now c.in-Ok.ensures.cases.1) items (g.W.Sink.held c.write_all.new.writer) c.deref-2.result.now some short row c.in_ok-write_all.ensures.all

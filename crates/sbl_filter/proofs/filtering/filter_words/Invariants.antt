@@ -1,14 +1,16 @@
 use Rattle.std.proofs.Common.{◌≡◌, List, ℕ}
 use Rattle.sbl_filter.specs.Filter.{Rows}
-use Rattle.sbl_lines.specs.Devices.{WritesInTime}
-use Rattle.sbl_lines.specs.Held.{KeepsTime, fault_of, fuel_of, input_of, reads_bound}
+use Rattle.sbl_filter.specs.LineWriter.{IsBetweenLines}
+use Rattle.sbl_io.specs.Devices.{WritesInTime}
+use Rattle.sbl_io.specs.Held.{KeepsTime, fault_of, fuel_of, input_of, reads_bound}
 use Rattle.sbl_machine.specs.MachineOf.{IsLinkedMachineOf}
 use Rattle.sbl_script.specs.Parsed.{source_of}
 use Rattle.sbl_filter.proofs.filtering.filter_words.Given as goal
 
-abbrev pub invariant-loop-meter : goal.invariant-loop-meter
-invariant-loop-meter g l = record {
+abbrev pub invariant-loop-rows : goal.invariant-loop-rows
+invariant-loop-rows g l = record {
   made : IsLinkedMachineOf l.machine (source_of l.script);
+  between : IsBetweenLines l.rows;
   rows : (lines : List (List ℕ)) × Rows (source_of l.script) (input_of g.R.Source.left l.fn.lines) (input_of g.R.Source.left l.lines) (g.W.Sink.held l.fn.writer) (g.W.Sink.held l.writer) lines;
   fault : fault_of l.lines ≡ fault_of l.fn.lines;
   read : g.R.Source.failures l.lines.reader ≡ g.R.Source.failures l.fn.lines.reader;
@@ -19,5 +21,5 @@ invariant-loop-meter g l = record {
   rested : g.W.Sink.interruptions l.fn.writer ≡ 0 → g.W.Sink.interruptions l.writer ≡ 0;
 }
 
-abbrev pub decreases-loop-meter : goal.decreases-loop-meter
-decreases-loop-meter g l = fuel_of l.lines
+abbrev pub decreases-loop-rows : goal.decreases-loop-rows
+decreases-loop-rows g l = fuel_of l.lines

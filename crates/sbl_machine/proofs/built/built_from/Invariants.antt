@@ -1,6 +1,6 @@
 use Rattle.std.proofs.Common.{◌≡◌, drop, map}
-use Rattle.sbl_tree.specs.Order.{in_order, view_in_mode}
-use Rattle.sbl_tree.specs.View.{view_items}
+use Rattle.sbl_ast.specs.Order.{in_order, view_in_mode}
+use Rattle.sbl_ast.specs.View.{view_items}
 use Rattle.sbl_machine.specs.BuiltFrom.{built_behind}
 use Rattle.sbl_machine.proofs.built.built_from.Given as goal
 

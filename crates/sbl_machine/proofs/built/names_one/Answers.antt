@@ -1,7 +1,7 @@
 use Rattle.std.proofs.Common.{◌≡◌, ◌∙◌, ap, sym}
-use Rattle.sbl_numbering.specs.Items.{is_among}
-use Rattle.sbl_numbering.proofs.SoundItems.{among_is}
-use Rattle.sbl_tree.specs.View.{view_argument}
+use Rattle.sbl_compiler.specs.Items.{is_among}
+use Rattle.sbl_compiler.proofs.SoundItems.{among_is}
+use Rattle.sbl_ast.specs.View.{view_argument}
 use Rattle.sbl_machine.specs.BuiltFrom.{names}
 use Rattle.sbl_machine.proofs.built.names_one.Goals as goal
 

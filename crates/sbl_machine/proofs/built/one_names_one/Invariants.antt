@@ -1,6 +1,6 @@
 use Rattle.std.proofs.Common.{◌≡◌, drop, map}
-use Rattle.sbl_numbering.specs.Items.{is_among}
-use Rattle.sbl_tree.specs.View.{view_term}
+use Rattle.sbl_compiler.specs.Items.{is_among}
+use Rattle.sbl_ast.specs.View.{view_term}
 use Rattle.sbl_machine.specs.BuiltFrom.{any_names}
 use Rattle.sbl_machine.proofs.built.one_names_one.Given as goal
 

@@ -1,11 +1,11 @@
 use Rattle.std.proofs.Common.{List, map, sym, subst, ap, ◌∙◌}
-use Rattle.sbl_lexemes.specs.declared.token.Token.{Token}
+use Rattle.sbl_token.specs.declared.token.Token.{Token}
 use Rattle.sbl_text.specs.Tokens.{placed_of}
-use Rattle.sbl_tree.specs.declared.tree.Item.{Item}
-use Rattle.sbl_tree.specs.View.{view_items}
-use Rattle.sbl_checks.specs.Laws.{EachPasses}
-use Rattle.sbl_checks.specs.Occurrences.{occurrences_of}
-use Rattle.sbl_checks.specs.Subjects.{IsFirstAfter}
+use Rattle.sbl_ast.specs.declared.tree.ScriptItem.{ScriptItem as Item}
+use Rattle.sbl_ast.specs.View.{view_items}
+use Rattle.sbl_resolver.specs.Laws.{EachPasses}
+use Rattle.sbl_resolver.specs.Occurrences.{occurrences_of}
+use Rattle.sbl_resolver.specs.Subjects.{IsFirstAfter}
 use Rattle.sbl_places.specs.SubjectTokens.{subject_tokens}
 use Rattle.sbl_places.specs.Walks.{range_at}
 use Rattle.sbl_places.proofs.NoPlaces.{cut_in, is_read, no_place_without_tokens, no_place_without_tree, no_place_without_fault, none_is_never, place_is}

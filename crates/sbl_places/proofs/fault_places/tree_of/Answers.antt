@@ -1,5 +1,5 @@
 use Rattle.std.proofs.Common.{sym, ◌∙◌, inl, inr}
-use Rattle.sbl_tree.specs.View.{view_items}
+use Rattle.sbl_ast.specs.View.{view_items}
 use Rattle.sbl_places.proofs.NoPlaces.{read_too, no_tree}
 use Rattle.sbl_places.proofs.fault_places.tree_of.Goals as goal
 

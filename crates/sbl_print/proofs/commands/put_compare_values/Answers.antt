@@ -1,5 +1,5 @@
 use Rattle.std.proofs.Common.{◌∙◌, refl, sym}
-use Rattle.sbl_tree.specs.Terminal as t
+use Rattle.sbl_ast.specs.Terminal as t
 use Rattle.sbl_print.proofs.Adding.{if_ok}
 use Rattle.sbl_print.proofs.commands.put_compare_values.Goals as goal
 

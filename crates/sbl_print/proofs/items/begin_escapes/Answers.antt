@@ -1,5 +1,5 @@
 use Rattle.std.proofs.Common.{string_bytes, ap, ◌∙◌, List, ℕ, [], ◌++◌}
-use Rattle.sbl_tree.specs.Terminal as t
+use Rattle.sbl_ast.specs.Terminal as t
 use Rattle.sbl_print.proofs.Adding.{if_ok, begun}
 use Rattle.sbl_print.proofs.items.begin_escapes.Goals as goal
 

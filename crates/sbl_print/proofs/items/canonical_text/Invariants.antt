@@ -1,5 +1,5 @@
 use Rattle.std.proofs.Common.{◌≡◌, ◌++◌, drop, string_bytes}
-use Rattle.sbl_tree.specs.View.{view_items}
+use Rattle.sbl_ast.specs.View.{view_items}
 use Rattle.sbl_print.specs.Canonical.{canonical}
 use Rattle.sbl_print.proofs.items.canonical_text.Given as goal
 

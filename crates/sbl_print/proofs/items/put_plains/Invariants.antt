@@ -1,6 +1,6 @@
 use Rattle.std.proofs.Common.{◌≡◌, ◌++◌, drop, map, string_bytes}
 use Rattle.std.specs.List.{flat_map}
-use Rattle.sbl_tree.specs.View.{view_plain}
+use Rattle.sbl_ast.specs.View.{view_plain}
 use Rattle.sbl_print.specs.Canonical.{plain_text}
 use Rattle.sbl_print.proofs.items.put_plains.Given as goal
 

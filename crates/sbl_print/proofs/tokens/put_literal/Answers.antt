@@ -1,6 +1,6 @@
 use Rattle.std.proofs.Common.{string_bytes, ap, ◌∙◌, List, ℕ, [], ◌∷◌, ◌++◌, refl, append_assoc}
-use Rattle.sbl_tree.specs.Terminal as t
-use Rattle.sbl_tree.specs.View.{view_literal}
+use Rattle.sbl_ast.specs.Terminal as t
+use Rattle.sbl_ast.specs.View.{view_literal}
 use Rattle.sbl_print.proofs.Adding.{if_put, one_more}
 use Rattle.sbl_print.proofs.tokens.put_literal.Goals as goal
 

@@ -1,6 +1,6 @@
 use Rattle.std.proofs.Common.{◌≡◌, drop, map}
 use Rattle.std.specs.List.{list_any}
-use Rattle.sbl_tree.specs.View.{view_plain}
+use Rattle.sbl_ast.specs.View.{view_plain}
 use Rattle.sbl_script.specs.Edits as spec
 use Rattle.sbl_script.proofs.edits.any_defines.Given as goal
 

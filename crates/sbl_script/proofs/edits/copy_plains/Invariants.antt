@@ -1,5 +1,5 @@
 use Rattle.std.proofs.Common.{◌≡◌, ◌++◌, drop, map}
-use Rattle.sbl_tree.specs.View.{view_plain}
+use Rattle.sbl_ast.specs.View.{view_plain}
 use Rattle.sbl_script.proofs.edits.copy_plains.Given as goal
 
 abbrev pub invariant-loop-plain : goal.invariant-loop-plain

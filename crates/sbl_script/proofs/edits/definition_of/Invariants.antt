@@ -1,5 +1,5 @@
 use Rattle.std.proofs.Common.{◌≡◌, drop}
-use Rattle.sbl_tree.specs.View.{view_items}
+use Rattle.sbl_ast.specs.View.{view_items}
 use Rattle.sbl_script.specs.Edits as spec
 use Rattle.sbl_script.proofs.edits.definition_of.Given as goal
 

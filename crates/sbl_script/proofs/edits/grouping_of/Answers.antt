@@ -1,7 +1,7 @@
 use Rattle.std.proofs.Common.{List, Some, map, ap, ◌∙◌, string_bytes, sym}
-use Rattle.sbl_tree.specs.Tree.{grouping}
-use Rattle.sbl_tree.specs.declared.tree.Term.{Term}
-use Rattle.sbl_tree.specs.View.{view_argument, view_items, view_plain, view_term}
+use Rattle.sbl_ast.specs.Tree.{grouping}
+use Rattle.sbl_ast.specs.declared.tree.Term.{Term}
+use Rattle.sbl_ast.specs.View.{view_argument, view_items, view_plain, view_term}
 use Rattle.sbl_script.proofs.Found.{grouping_found, no_other_grouping}
 use Rattle.sbl_script.proofs.edits.grouping_of.Goals as goal
 

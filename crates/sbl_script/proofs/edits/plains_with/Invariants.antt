@@ -1,5 +1,5 @@
 use Rattle.std.proofs.Common.{◌≡◌, ◌++◌, drop, map, if◌then◌else◌}
-use Rattle.sbl_tree.specs.View.{view_plain}
+use Rattle.sbl_ast.specs.View.{view_plain}
 use Rattle.sbl_script.specs.Edits as spec
 use Rattle.sbl_script.proofs.edits.plains_with.Given as goal
 

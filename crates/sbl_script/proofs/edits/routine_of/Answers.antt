@@ -1,5 +1,5 @@
 use Rattle.std.proofs.Common.{Some, ap, ◌∙◌, string_bytes}
-use Rattle.sbl_tree.specs.View.{view_items, view_plain, view_row}
+use Rattle.sbl_ast.specs.View.{view_items, view_plain, view_row}
 use Rattle.sbl_script.proofs.Found.{no_other_routine, routine_found}
 use Rattle.sbl_script.proofs.edits.routine_of.Goals as goal
 

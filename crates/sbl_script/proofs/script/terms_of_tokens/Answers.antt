@@ -1,8 +1,8 @@
 use Rattle.std.proofs.Common.{sym, ◌∙◌, map}
 use Rattle.sbl_text.specs.Tokens.{placed_of}
-use Rattle.sbl_grammar.specs.Reading.{IsReadAs}
-use Rattle.sbl_tree.specs.Texts.{terms}
-use Rattle.sbl_tree.specs.View.{view_argument, view_term}
+use Rattle.sbl_parser.specs.Reading.{IsReadAs}
+use Rattle.sbl_ast.specs.Texts.{terms}
+use Rattle.sbl_ast.specs.View.{view_argument, view_term}
 use Rattle.sbl_script.proofs.Places.{unread, read_as, offered_too}
 use Rattle.sbl_script.proofs.script.terms_of_tokens.Goals as goal
 

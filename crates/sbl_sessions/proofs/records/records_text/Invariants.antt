@@ -1,6 +1,6 @@
 use Rattle.std.proofs.Common.{take, map}
 use Rattle.sbl_sessions.specs.RowWriter.{HasWritten}
-use Rattle.sbl_records.specs.Records.{records_text}
+use Rattle.sbl_io.specs.Records.{records_text}
 use Rattle.sbl_sessions.proofs.records.records_text.Given as goal
 
 abbrev pub invariant-loop-item : goal.invariant-loop-item

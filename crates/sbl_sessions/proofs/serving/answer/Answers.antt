@@ -2,9 +2,9 @@ use Rattle.std.proofs.Common.{◌≡◌, ◌∙◌, List, ℕ, None, sym, subst,
 use Rattle.sbl_bench.specs.Kept.{contents_of}
 use Rattle.sbl_sessions.specs.CommandViews.{IsAnswer}
 use Rattle.sbl_sessions.specs.Commands.{line_command}
-use Rattle.sbl_lines.specs.Held.{input_of, line_of}
+use Rattle.sbl_io.specs.Held.{input_of, line_of}
 use Rattle.sbl_sessions.specs.Requests.{block_word}
-use Rattle.sbl_lines.proofs.Bytes.{whole_none}
+use Rattle.sbl_io.proofs.Bytes.{whole_none}
 use Rattle.sbl_sessions.proofs.SessionFacts.{answered_line, asks_none}
 use Rattle.sbl_sessions.proofs.serving.answer.Goals as goal
 

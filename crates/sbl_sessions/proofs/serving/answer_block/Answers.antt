@@ -1,7 +1,7 @@
 use Rattle.std.proofs.Common.{List, ℕ, refl, subst}
 use Rattle.sbl_bench.specs.Kept.{contents_of}
 use Rattle.sbl_sessions.specs.CommandViews.{FindsTarget}
-use Rattle.sbl_lines.specs.Held.{input_of, line_of}
+use Rattle.sbl_io.specs.Held.{input_of, line_of}
 use Rattle.sbl_sessions.specs.declared.replies.Reply.TheVariants as reply
 use Rattle.sbl_sessions.proofs.SessionFacts.{answered_block, asks}
 use Rattle.sbl_sessions.proofs.serving.answer_block.Goals as goal

@@ -1,11 +1,11 @@
 use Rattle.std.proofs.Common.{List, ℕ, decimal, refl, subst, sym}
 use Rattle.std.specs.Str.{chars}
 use Rattle.sbl_bench.specs.Edits as edits
-use Rattle.sbl_bench.specs.Kept.{contents_of}
+use Rattle.sbl_bench.specs.Kept.{Kept, contents_of}
 use Rattle.sbl_print.specs.Canonical.{canonical}
 use Rattle.sbl_sessions.specs.Answers.{ended}
 use Rattle.sbl_sessions.specs.CommandViews.{IsAnswer, IsEditAnswer}
-use Rattle.sbl_sessions.specs.Commands.{Classes, Command, Makes, Runs, Script, Stems}
+use Rattle.sbl_sessions.specs.Commands.{Class, Classes, Command, Makes, Runs, Script, Stems}
 use Rattle.sbl_sessions.specs.Rows.{classes_text, stems_text}
 use Rattle.sbl_sessions.specs.declared.replies.Reply.TheVariants as reply
 use Rattle.sbl_sessions.proofs.EditFacts.{answered}
@@ -45,9 +45,10 @@ returns-in-Stems c =
 
 pub returns-in-Classes : goal.returns-in-Classes
 returns-in-Classes c =
-    let s = contents_of c.args.bench.now in
-    let a : IsAnswer s Classes c.report-in-Classes.result s = report_answer c.classes_text.result c.report-in-Classes.result s (classes_text s) c.classes_text.ensures c.report-in-Classes.ensures.made c.report-in-Classes.ensures.refused in
-    subst (λ (x : Command). IsAnswer s x c.report-in-Classes.result s) c.in-Classes.ensures a
+    let s = contents_of c.keep_classes.new.bench in
+    let r = c.report-in-Classes.result in
+    let a : IsAnswer s Classes r s = report_answer c.classes_text.result r s (classes_text s) c.classes_text.ensures c.report-in-Classes.ensures.made c.report-in-Classes.ensures.refused in
+    subst (λ (x : Command). IsAnswer (contents_of c.args.bench.now) x r s) c.in-Classes.ensures (subst (λ (k : Kept). IsAnswer (contents_of k) Classes r s) c.keep_classes.ensures a)
 
 pub returns-in-Script : goal.returns-in-Script
 returns-in-Script c =
@@ -57,8 +58,10 @@ returns-in-Script c =
 
 pub returns-in-Class : goal.returns-in-Class
 returns-in-Class c =
-    let s = contents_of c.args.bench.now in
-    subst (λ (x : Command). IsAnswer s x c.class_reply.result s) c.in-Class.ensures c.class_reply.ensures
+    let s = contents_of c.keep_classes-in-Class.new.bench in
+    let r = c.class_reply.result in
+    subst (λ (x : Command). IsAnswer (contents_of c.args.bench.now) x r s) c.in-Class.ensures
+    (subst (λ (k : Kept). IsAnswer (contents_of k) (Class (chars c.in-Class.word.now)) r s) c.keep_classes-in-Class.ensures c.class_reply.ensures)
 
 pub returns-in-Trace : goal.returns-in-Trace
 returns-in-Trace c =

@@ -1,15 +1,15 @@
-use Rattle.sbl_lines.specs.declared.faults.ServeFault.TheVariants as fault
+use Rattle.sbl_io.specs.declared.faults.ServeFault.TheVariants as fault
 use Rattle.std.proofs.Common.{rules, Err, ◌≡◌, ◌∙◌, ap, sym, subst, refl, Option, None, IsSome}
-use Rattle.sbl_lines.specs.declared.faults.LineFault.{LineFault}
+use Rattle.sbl_io.specs.declared.faults.LineFault.{LineFault}
 use Rattle.std.proofs.KnownBytes.{Keeps-refl}
 use Rattle.sbl_bench.specs.Kept.{contents_of}
 use Rattle.std.proofs.lemmas.Result.{err_from_is_err_and}
 use Rattle.sbl_bench.specs.Contents.{Contents}
-use Rattle.sbl_lines.specs.Held.{TookWhole, fault_of, input_of, line_of}
+use Rattle.sbl_io.specs.Held.{TookWhole, fault_of, input_of, line_of}
 use Rattle.sbl_sessions.specs.Session.{IsSession}
-use Rattle.sbl_lines.specs.declared.faults.LineFault.TheVariants as read
-use Rattle.sbl_lines.specs.declared.faults.ServeFault.{ServeFault}
-use Rattle.sbl_lines.proofs.Bytes.{whole_none, whole_trans}
+use Rattle.sbl_io.specs.declared.faults.LineFault.TheVariants as read
+use Rattle.sbl_io.specs.declared.faults.ServeFault.{ServeFault}
+use Rattle.sbl_io.proofs.Bytes.{whole_none, whole_trans}
 use Rattle.sbl_sessions.proofs.SessionFacts.{session_starts, session_goes_on, session_ends, session_at_line, session_at_write, session_open}
 use Rattle.sbl_sessions.proofs.serving.serve.Goals as goal
 

@@ -2,7 +2,7 @@ use Rattle.std.proofs.Common.{◌≡◌, ◌⊎◌, map, ◌∙◌, ℕ, List, S
 use Rattle.std.specs.Str.{chars}
 use Rattle.std.proofs.lemmas.Result.{err_from_is_err_and}
 use Rattle.std.specs.List.{All}
-use Rattle.sbl_lexemes.specs.Lexemes.{SaysFitting, lexeme_of}
+use Rattle.sbl_token.specs.Lexemes.{SaysFitting, lexeme_of}
 use Rattle.sbl_text.specs.Tokens.{Advances, AreTokensFrom, ArePlacedFrom, IsFirstFaultFrom, Reading, placed_of}
 use Rattle.sbl_text.specs.Directives.{Directives}
 use Rattle.sbl_text.specs.declared.fault.ScriptFault.TheVariants as fault

@@ -1,7 +1,7 @@
 use Rattle.std.proofs.Common.{◌≡◌, length, None}
 use Rattle.std.specs.Str.{chars}
 use Rattle.std.specs.List.{All}
-use Rattle.sbl_lexemes.specs.Lexemes.{SaysFitting}
+use Rattle.sbl_token.specs.Lexemes.{SaysFitting}
 use Rattle.sbl_text.proofs.Lists.{SoFar}
 use Rattle.sbl_text.proofs.lexer.tokens_under.Given as goal
 

@@ -1,6 +1,6 @@
 use Rattle.std.proofs.Common.{ap, sym}
 use Rattle.std.proofs.lemmas.Str.{encodes-chars}
-use Rattle.sbl_lexemes.specs.Lexemes as lexemes
+use Rattle.sbl_token.specs.Lexemes as lexemes
 use Rattle.sbl_text.proofs.meanings.macro_name.Goals as goal
 
 pub returns-clause-told : goal.returns-clause-told

@@ -1,6 +1,6 @@
 use Rattle.std.proofs.Common.{◌≡◌, ◌++◌, drop, List}
-use Rattle.sbl_tree.specs.Tree as trees
-use Rattle.sbl_tree.specs.View.{view_groups}
+use Rattle.sbl_ast.specs.Tree as trees
+use Rattle.sbl_ast.specs.View.{view_groups}
 use Rattle.sbl_unused.specs.Parts.{strings_of}
 use Rattle.sbl_unused.specs.Views.{texts_of}
 use Rattle.sbl_unused.proofs.amongs.add_group_strings.Given as goal

@@ -1,5 +1,5 @@
 use Rattle.std.proofs.Common.{◌≡◌, ◌++◌, drop, map}
-use Rattle.sbl_tree.specs.View.{view_entry}
+use Rattle.sbl_ast.specs.View.{view_entry}
 use Rattle.sbl_unused.specs.Parts.{string_of}
 use Rattle.sbl_unused.specs.Views.{texts_of}
 use Rattle.sbl_unused.proofs.amongs.add_strings.Given as goal

@@ -1,6 +1,6 @@
 use Rattle.std.proofs.Common.{◌∙◌, ◌+◌, List, ap, drop, map, sym}
 use Rattle.std.specs.List.{flat_map}
-use Rattle.sbl_tree.specs.Order.{ItemInMode, view_in_mode}
+use Rattle.sbl_ast.specs.Order.{ItemInMode, view_in_mode}
 use Rattle.sbl_unused.specs.Parts.{Part, parts_by, put_in_order}
 use Rattle.sbl_unused.specs.Views.{view_parts}
 use Rattle.sbl_unused.proofs.Loops.{at_front}

@@ -1,7 +1,7 @@
 use Rattle.std.proofs.Common.{◌≡◌, drop, map}
 use Rattle.std.specs.List.{flat_map}
 use Rattle.sbl_script.specs.Parsed.{source_of}
-use Rattle.sbl_tree.specs.Order.{ItemInMode, view_in_mode}
+use Rattle.sbl_ast.specs.Order.{ItemInMode, view_in_mode}
 use Rattle.sbl_unused.specs.Parts.{parts_by, parts_of, put_in_order}
 use Rattle.sbl_unused.specs.Views.{view_parts}
 use Rattle.sbl_unused.proofs.parts.parts_of.Given as goal

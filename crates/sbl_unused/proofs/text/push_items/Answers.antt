@@ -1,7 +1,7 @@
 use Rattle.std.proofs.Common.{◌∙◌, ◌++◌, ap, sym}
 use Rattle.std.proofs.lemmas.List.{append-nil}
 use Rattle.std.specs.List.{flat_map}
-use Rattle.sbl_records.specs.Records.{records_text}
+use Rattle.sbl_io.specs.Records.{records_text}
 use Rattle.sbl_unused.specs.Parts.{Part}
 use Rattle.sbl_unused.specs.Unused as spec
 use Rattle.sbl_unused.specs.Views.{view_parts}

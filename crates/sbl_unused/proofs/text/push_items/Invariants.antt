@@ -1,7 +1,7 @@
 use Rattle.std.proofs.Common.{◌≡◌, ◌++◌, ℕ, List}
 use Rattle.std.specs.List.{flat_map}
 use Rattle.sbl_bench.specs.Setting.{Setting}
-use Rattle.sbl_records.specs.Records.{records_text}
+use Rattle.sbl_io.specs.Records.{records_text}
 use Rattle.sbl_unused.specs.Parts.{Part}
 use Rattle.sbl_unused.specs.Unused as spec
 use Rattle.sbl_unused.specs.Views.{HasMet, view_parts}

@@ -2,7 +2,7 @@ use Rattle.std.proofs.Common.{◌≡◌, ◌∙◌, ◌++◌, List, ℕ, ap, sub
 use Rattle.std.specs.Borrow.{Bor}
 use Rattle.std.specs.List.{flat_map}
 use Rattle.sbl_bench.specs.Kept.{setting_of}
-use Rattle.sbl_records.specs.Records.{records_text}
+use Rattle.sbl_io.specs.Records.{records_text}
 use Rattle.sbl_script.specs.Parsed.{Parsed, source_of}
 use Rattle.sbl_unused.specs.Parts.{Part, parts_of}
 use Rattle.sbl_unused.specs.Unused.{entry_rows, item_rows, unused_text}

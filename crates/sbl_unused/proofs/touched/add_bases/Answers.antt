@@ -2,9 +2,9 @@ use Rattle.std.proofs.Common.{◌∙◌, List, ℕ, ap, drop, map, sym}
 use Rattle.std.specs.List.{list_any}
 use Rattle.sbl_machine.specs.Touched.{items_in, same_item}
 use Rattle.sbl_script.specs.Parsed.{source_of}
-use Rattle.sbl_tree.specs.Order.{ItemInMode, in_order, view_in_mode}
-use Rattle.sbl_tree.specs.View.{view_items}
-use Rattle.sbl_tree.specs.declared.order.ItemInMode as declared
+use Rattle.sbl_ast.specs.Order.{ItemInMode, in_order, view_in_mode}
+use Rattle.sbl_ast.specs.View.{view_items}
+use Rattle.sbl_ast.specs.declared.order.ItemInMode as declared
 use Rattle.sbl_unused.specs.Views.{and_terms}
 use Rattle.sbl_unused.proofs.Bases.{reached, reached_is, same_terms}
 use Rattle.sbl_unused.proofs.Loops.{at_zero, before_index, one_less}

@@ -2,9 +2,9 @@ use Rattle.std.proofs.Common.{◌≡◌, ◌∙◌, ◌&&◌, ◌||◌, Bool, Li
 use Rattle.std.specs.List.{list_any}
 use Rattle.sbl_machine.specs.BuiltFrom.{any_names, names}
 use Rattle.sbl_machine.specs.Touched.{Grouping, items_in, same_item}
-use Rattle.sbl_tree.specs.View.{view_argument, view_plain, view_term}
-use Rattle.sbl_tree.specs.declared.tree.Plain as declared-plain
-use Rattle.sbl_tree.specs.declared.tree.Term as declared
+use Rattle.sbl_ast.specs.View.{view_argument, view_plain, view_term}
+use Rattle.sbl_ast.specs.declared.tree.Plain as declared-plain
+use Rattle.sbl_ast.specs.declared.tree.Term as declared
 use Rattle.sbl_unused.specs.Views.{and_terms}
 use Rattle.sbl_unused.proofs.Unions.{or_both}
 use Rattle.sbl_unused.proofs.touched.add_built_from.Goals as goal

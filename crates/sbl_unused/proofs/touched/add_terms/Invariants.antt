@@ -2,7 +2,7 @@ use Rattle.std.proofs.Common.{◌≡◌, ◌||◌, Bool, drop, map}
 use Rattle.std.specs.List.{list_any}
 use Rattle.sbl_machine.specs.BuiltFrom.{any_names}
 use Rattle.sbl_machine.specs.Touched.{Item', Grouping, items_in}
-use Rattle.sbl_tree.specs.View.{view_term}
+use Rattle.sbl_ast.specs.View.{view_term}
 use Rattle.sbl_unused.proofs.touched.add_terms.Given as goal
 
 abbrev pub invariant-loop-term : goal.invariant-loop-term

@@ -1,7 +1,7 @@
 use Rattle.std.proofs.Common.{◌≡◌, ◌++◌, drop, map}
-use Rattle.sbl_numbering.specs.Items.{known_in}
-use Rattle.sbl_tree.specs.Order.{view_in_mode}
-use Rattle.sbl_tree.specs.declared.tree.DeclarationKind.TheVariants as kinds
+use Rattle.sbl_compiler.specs.Items.{known_in}
+use Rattle.sbl_ast.specs.Order.{view_in_mode}
+use Rattle.sbl_ast.specs.declared.tree.DeclarationKind.TheVariants as kinds
 use Rattle.sbl_why.proofs.integers.names_in.Given as goal
 
 -- the names so far and those of the other items are those of all items

@@ -1,5 +1,5 @@
 use Rattle.std.proofs.Common.{◌≡◌, drop, map}
-use Rattle.sbl_tree.specs.View.{view_plain}
+use Rattle.sbl_ast.specs.View.{view_plain}
 use Rattle.sbl_script.specs.Edits as edits
 use Rattle.sbl_work.specs.Definitions.{defines_name}
 use Rattle.sbl_work.proofs.definitions.first_in.Given as goal

@@ -1,5 +1,5 @@
 use Rattle.std.proofs.Common.{◌≡◌, ◌++◌, length}
-use Rattle.sbl_lines.specs.LinesOf.{lines_of}
+use Rattle.sbl_io.specs.LinesOf.{lines_of}
 use Rattle.sbl_sessions.specs.Block.{made_text}
 use Rattle.sbl_work.proofs.families.lines_text.Given as goal
 

@@ -1,6 +1,6 @@
 use Rattle.std.proofs.Common.{◌≡◌, map, take}
 use Rattle.sbl_changes.specs.Families.{view_results}
-use Rattle.sbl_records.specs.Records.{records_text}
+use Rattle.sbl_io.specs.Records.{records_text}
 use Rattle.sbl_work.specs.Families as spec
 use Rattle.sbl_work.proofs.families.result_lines.Given as goal
 

@@ -1,6 +1,6 @@
 use Rattle.std.proofs.Common.{◌≡◌, map, take}
 use Rattle.sbl_changes.specs.Changes.{view_changes}
-use Rattle.sbl_records.specs.Records.{records_text}
+use Rattle.sbl_io.specs.Records.{records_text}
 use Rattle.sbl_work.specs.Reports as spec
 use Rattle.sbl_work.proofs.reports.change_lines.Given as goal
 

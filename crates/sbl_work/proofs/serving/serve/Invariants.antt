@@ -1,11 +1,20 @@
-use Rattle.std.proofs.Common.{◌≡◌}
-use Rattle.sbl_lines.specs.Devices.{WritesInTime}
-use Rattle.sbl_lines.specs.Held.{KeepsTime, fuel_of}
+use Rattle.std.proofs.Common.{◌≡◌, IsSome}
+use Rattle.sbl_bench.specs.Kept.{contents_of}
+use Rattle.sbl_io.specs.Devices.{WritesInTime}
+use Rattle.sbl_io.specs.Held.{KeepsTime, TakesFeeds, fault_of, fuel_of, input_of, reads_bound}
+use Rattle.sbl_work.specs.Desks.{state_of}
+use Rattle.sbl_work.specs.Serving.{Worked}
 use Rattle.sbl_work.proofs.serving.serve.Given as goal
 
--- what was read and written so far was in time
+-- each request so far has its reply; what was read and written so far was in time
 abbrev pub invariant-loop-lines : goal.invariant-loop-lines
 invariant-loop-lines g l = record {
+  work : Worked l.prompt (input_of g.R.Source.left l.fn.lines) (input_of g.R.Source.left l.lines) (g.W.Sink.held l.fn.writer) (g.W.Sink.held l.writer) (contents_of l.fn.bench) (state_of l.fn.desk) (contents_of l.bench) (state_of l.desk);
+  fault : fault_of l.lines ≡ fault_of l.fn.lines;
+  feeds : TakesFeeds g.R.Source.left l.fn.lines l.lines;
+  read : g.R.Source.failures l.lines.reader ≡ g.R.Source.failures l.fn.lines.reader;
+  written : g.W.Sink.failures l.writer ≡ g.W.Sink.failures l.fn.writer;
+  bound : reads_bound g.R.Source.reads l.lines ≡ reads_bound g.R.Source.reads l.fn.lines;
   reads : KeepsTime g.R.Source.ended g.R.Source.late g.R.Source.interruptions g.R.Source.reads l.fn.lines l.lines;
   writes : WritesInTime g.W.Sink.late g.W.Sink.interruptions l.fn.writer l.writer;
   rested : g.W.Sink.interruptions l.fn.writer ≡ 0 → g.W.Sink.interruptions l.writer ≡ 0;

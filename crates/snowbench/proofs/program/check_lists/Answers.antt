@@ -1,5 +1,5 @@
 use Rattle.std.proofs.lemmas.Result.{err_from_is_err_and}
-use Rattle.sbl_lines.specs.Held.{input_of}
+use Rattle.sbl_io.specs.Held.{input_of}
 use Rattle.sbl_script.specs.Parsed.{source_of}
 use Rattle.sbl_sessions.specs.declared.faults.LoadFault.TheVariants.{Input}
 use Rattle.snowbench.proofs.AnswerFacts.{lists_checked, lists_no_expected, lists_no_words}

@@ -14,8 +14,8 @@ use Rattle.sbl_bench.specs.Setting.{under}
 use Rattle.sbl_bench.proofs.Refusals.{accepted_among, adds, counts_no_more, edits_nothing}
 use Rattle.sbl_bench.proofs.bench.Bench.add.Goals as goal
 
-pub returns-in_err-word-clause-edits : goal.returns-in_err-word-clause-edits
-returns-in_err-word-clause-edits c =
+pub returns-in_err-copy-clause-edits : goal.returns-in_err-copy-clause-edits
+returns-in_err-copy-clause-edits c =
     let script = under (source_of c.self.inside.script) c.self.inside.limit in
     let es = c.self.inside.traces.entries in
     let free = accepted_among script es c.self.inside.meter c.args.word.now c.has_word.result c.len.result (search rules) (search rules) c.has_word.ensures c.if-has_word.false c.len.ensures.len (search rules) in
@@ -53,7 +53,7 @@ returns-clause-edits c =
     let es = c.self.inside.traces.entries in
     let script = under (source_of c.self.inside.script) c.self.inside.limit in
     let free = accepted_among script es c.self.inside.meter c.args.word.now c.has_word.result c.len.result (search rules) (search rules) c.has_word.ensures c.if-has_word.false c.len.ensures.len (search rules) in
-    let last = subst (λ (w : List ℕ). words_in c.put_last.new.traces.entries ≡ words_in es ++ w ∷ []) c.in_ok-word.ensures.items c.in_ok-put_last.ensures.words in
+    let last = subst (λ (w : List ℕ). words_in c.put_last.new.traces.entries ≡ words_in es ++ w ∷ []) c.in_ok-copy.ensures.items c.in_ok-put_last.ensures.words in
     let new = sym c.has_word.ensures ∙ c.if-has_word.false in
     subst (λ (k : Kept). Edits (Ok tt) (contents_of k) (Add c.args.word.now) (record { setting = script; words = words_in c.put_last.new.traces.entries; count = c.put_last.new.meter })) c.self.view_is
     (adds (Ok tt) (record { setting = script; words = words_in es; count = c.self.inside.meter }) c.args.word.now (words_in c.put_last.new.traces.entries) c.put_last.new.meter free new (c.is_full.ensures.room c.if-is_full.false) last

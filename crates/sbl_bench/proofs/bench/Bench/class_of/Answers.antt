@@ -3,12 +3,10 @@ use Rattle.sbl_script.specs.Parsed.{source_of}
 use Rattle.sbl_bench.specs.Setting.{under}
 use Rattle.sbl_machine.specs.declared.outcome.Outcome.{Outcome}
 use Rattle.sbl_machine.specs.Outcome.{outcome_of}
-use Rattle.sbl_bench.specs.Classes.{class_of, class_with, stem_of}
-use Rattle.sbl_bench.specs.Grouping.{words_paired}
+use Rattle.sbl_bench.specs.Classes.{class_of, class_with, in_order, stem_of, words_with}
 use Rattle.sbl_bench.specs.Kept.{setting_of, Kept, words_in}
-use Rattle.sbl_bench.specs.Pairs.{plain}
 use Rattle.sbl_bench.specs.Rows.{rows_of}
-use Rattle.sbl_bench.proofs.ClassFacts.{class_found, words_kept}
+use Rattle.sbl_bench.proofs.ClassFacts.{class_found}
 use Rattle.sbl_bench.proofs.bench.Bench.class_of.Goals as goal
 
 pub returns-in_ok-stem-in-Stem : goal.returns-in_ok-stem-in-Stem
@@ -18,9 +16,7 @@ returns-in_ok-stem-in-Stem c =
     let stem = c.in-Stem.stem.items in
     (λ i. Some (record {
       stem = (c.in_ok-stem-in-Stem.ensures.items ∙ c.as_slice-in-Stem.ensures.value) i;
-      words =
-          (c.in_ok-words-in-Stem.ensures.words ∙ ap (λ (s : List ℕ). words_paired s (map plain c.in_ok-pairs-in-Stem.pairs.keys)) c.as_slice.ensures.value
-          ∙ words_kept (under (source_of b.script) b.limit) b.traces.entries c.in_ok-pairs-in-Stem.pairs stem c.self.invariant.1.fresh c.words_are_unique.ensures c.in_ok-pairs-in-Stem.ensures c.words_with.ensures.ordered c.words_with.ensures.found) i;
+      words = (c.in_ok-words-in-Stem.ensures (under (source_of b.script) b.limit) c.self.invariant.1.fresh ∙ ap (λ (s : List ℕ). in_order (words_with s rows)) c.as_slice.ensures.value) i;
     }))
     ∙ ap (λ (o : Outcome). option_map (class_with rows) (stem_of (outcome_of o))) (sym c.in-Stem.is ∙ c.outcome.ensures)
     ∙ class_found (under (source_of b.script) b.limit) b.traces.entries c.args.word.now c.self.invariant.1.fresh (Some c.in-Some.last.now) c.in-Some.ensures.value

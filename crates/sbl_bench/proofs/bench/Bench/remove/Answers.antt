@@ -11,7 +11,8 @@ use Rattle.sbl_bench.proofs.LastChanges.{no_rows_change}
 use Rattle.sbl_bench.specs.Contents.{Contents}
 use Rattle.sbl_bench.specs.Setting.{under}
 use Rattle.sbl_bench.proofs.Refusals.{no_word, removes}
-use Rattle.sbl_bench.proofs.Words.{found_word, kept-remove, words-remove}
+use Rattle.sbl_bench.specs.Pairs.{IsIndexed}
+use Rattle.sbl_bench.proofs.Words.{found_word, kept-remove, key_taken, words-remove}
 use Rattle.sbl_bench.proofs.bench.Bench.remove.Goals as goal
 
 pub returns-in_default-clause-edits : goal.returns-in_default-clause-edits
@@ -30,6 +31,8 @@ invariant_of-self-2 c =
     let es = c.self.inside.traces.entries in (
       c.self.invariant.0,
       subst (IsKept (under (source_of c.self.inside.script) c.self.inside.limit)) (sym c.in-Some.ensures.entries) (kept-remove (under (source_of c.self.inside.script) c.self.inside.limit) word es c.self.invariant.1),
+      (let taken = key_taken word es c.shift_remove_entry.new.self.entries c.in-Some.key c.in-Some.last c.words_are_unique.ensures c.in-Some.ensures.entries c.in-Some.ensures.key c.in-Some.ensures.value in
+          c.follow_old.ensures es c.shift_remove_entry.new.self.entries taken.0 taken.1 (subst (IsIndexed es) (sym c.take.ensures.value) c.self.invariant.2)),
     )
 
 pub returns-clause-edits : goal.returns-clause-edits

@@ -7,7 +7,9 @@ use Rattle.sbl_bench.specs.Edits.{Edit, Edits, Limit, is_limit}
 use Rattle.sbl_bench.specs.Kept.{KeptWord, IsWord, Kept, contents_of, words_in}
 use Rattle.sbl_bench.specs.ChangedRows.{changed_rows}
 use Rattle.sbl_bench.specs.Contents.{Contents}
-use Rattle.sbl_bench.specs.Last.{last_changes}
+use Rattle.sbl_bench.specs.Last.{Follows, last_changes}
+use Rattle.sbl_bench.specs.Pairs.{IsIndexed}
+use Rattle.sbl_bench.specs.declared.change.Change.{Change}
 use Rattle.sbl_bench.specs.LeavesChanges.{rows_now}
 use Rattle.sbl_bench.specs.Rows.{rows_of}
 use Rattle.sbl_bench.specs.Setting.{under}
@@ -42,8 +44,8 @@ returns-in_err-changes-clause-edits c =
     (subst (λ (k : Kept). Edits (Err g) (contents_of k) e after) c.self.view_is
     (stopped s e t a es b refl c.self.invariant.1.fresh g c.rerun.new.meter c.in_err-changes.ensures.stop)))
 
-pub make_changes-requires-clause-changes : goal.make_changes-requires-clause-changes
-make_changes-requires-clause-changes c =
+pub make_changes-before-requires-clause-changes : goal.make_changes-before-requires-clause-changes
+make_changes-before-requires-clause-changes c =
     let p = source_of c.self.inside.script in
     let l = c.self.inside.limit in
     let n = c.in-Some.limit in
@@ -56,8 +58,8 @@ make_changes-requires-clause-changes c =
     let b : Brings s e t a = subst (Brings s e t) (sym c.above_smaller-affected.ensures) (limit_brings c.used_steps_suffice.ensures.suffice c.used_steps_suffice.ensures.touch s n ok) in
     (t, anew a t es c.in_ok-changes.changes.items (c.in_ok-changes.ensures.changes p c.self.invariant.0) (still s.setting t a b.stays es c.self.invariant.1.fresh))
 
-pub make_changes-requires-clause-apart : goal.make_changes-requires-clause-apart
-make_changes-requires-clause-apart c =
+pub make_changes-before-requires-clause-apart : goal.make_changes-before-requires-clause-apart
+make_changes-before-requires-clause-apart c =
     let t = under (source_of c.self.inside.script) c.in-Some.limit in
     apart t (affected_of c.above_smaller-affected.result) c.self.inside.traces.entries c.in_ok-changes.changes.items (c.in_ok-changes.ensures.changes (source_of c.self.inside.script) c.self.invariant.0) c.rerun.ensures.unique
 
@@ -73,14 +75,15 @@ invariant_of-self-2 c =
     let s : Contents = record { setting = under p l; words = words_in es; count = c.self.inside.meter } in
     let ok : is_limit n ≡ true = subst (λ (m : ℕ). is_limit m ≡ true) (sym c.in-Some.ensures.0) c.in-Some.ensures.1 in
     let b : Brings s e t a = subst (Brings s e t) (sym c.above_smaller-affected.ensures) (limit_brings c.used_steps_suffice.ensures.suffice c.used_steps_suffice.ensures.touch s n ok) in
-    let fs = c.make_changes.new.traces.entries in
-    let words = c.make_changes.ensures.words in (
+    let fs = c.make_changes-before.new.traces.entries in
+    let words = c.make_changes-before.ensures.words in (
       c.self.invariant.0,
       record {
-        fresh = c.make_changes.ensures.fresh t (anew a t es c.in_ok-changes.changes.items (c.in_ok-changes.ensures.changes p c.self.invariant.0) (still s.setting t a b.stays es c.self.invariant.1.fresh));
+        fresh = c.make_changes-before.ensures.fresh t (anew a t es c.in_ok-changes.changes.items (c.in_ok-changes.ensures.changes p c.self.invariant.0) (still s.setting t a b.stays es c.self.invariant.1.fresh));
         sound = subst (All IsWord) (sym words) c.self.invariant.1.sound;
         room = let x = words_length fs in let y = words_length es in let z = ap length words in let r = c.self.invariant.1.room in omega arith;
       },
+      c.follow.ensures es (subst (λ (l : List Change). Follows es l fs) (sym c.as_slice.ensures.value) c.make_changes-before.ensures.follows) (subst (IsIndexed es) (sym c.take.ensures.value) c.self.invariant.2),
     )
 
 pub returns-clause-edits : goal.returns-clause-edits
@@ -95,10 +98,10 @@ returns-clause-edits c =
     let s : Contents = record { setting = under p l; words = words_in es; count = c.self.inside.meter } in
     let ok : is_limit n ≡ true = subst (λ (m : ℕ). is_limit m ≡ true) (sym c.in-Some.ensures.0) c.in-Some.ensures.1 in
     let b : Brings s e t a = subst (Brings s e t) (sym c.above_smaller-affected.ensures) (limit_brings c.used_steps_suffice.ensures.suffice c.used_steps_suffice.ensures.touch s n ok) in
-    let after : Contents = record { setting = t; words = words_in c.make_changes.new.traces.entries; count = c.rerun.new.meter } in
+    let after : Contents = record { setting = t; words = words_in c.make_changes-before.new.traces.entries; count = c.rerun.new.meter } in
     subst (λ (m : ℕ). Edits (Ok tt) (contents_of c.args.self.now) (Limit m) after) c.in-Some.ensures.0
     (subst (λ (k : Kept). Edits (Ok tt) (contents_of k) e after) c.self.view_is
-    (made s e t a es b refl c.self.invariant.1.fresh c.make_changes.new.traces.entries c.rerun.new.meter c.make_changes.ensures.words c.in_ok-changes.ensures.room c.in_ok-changes.ensures.counted))
+    (made s e t a es b refl c.self.invariant.1.fresh c.make_changes-before.new.traces.entries c.rerun.new.meter c.make_changes-before.ensures.words c.in_ok-changes.ensures.room c.in_ok-changes.ensures.counted))
 
 pub returns-clause-changes : goal.returns-clause-changes
 returns-clause-changes c =
@@ -106,8 +109,8 @@ returns-clause-changes c =
     let l = c.self.inside.limit in
     let n = c.in-Some.limit in
     let es = c.self.inside.traces.entries in
-    let fs = c.make_changes.new.traces.entries in
-    let ls = c.make_changes.result.items in
+    let fs = c.make_changes-before.new.traces.entries in
+    let ls = c.make_changes-before.result.items in
     let a = affected_of c.above_smaller-affected.result in
     let e : Edit = Limit n in
     let t = under p n in
@@ -115,4 +118,4 @@ returns-clause-changes c =
     let ok : is_limit n ≡ true = subst (λ (m : ℕ). is_limit m ≡ true) (sym c.in-Some.ensures.0) c.in-Some.ensures.1 in
     let b : Brings s e t a = subst (Brings s e t) (sym c.above_smaller-affected.ensures) (limit_brings c.used_steps_suffice.ensures.suffice c.used_steps_suffice.ensures.touch s n ok) in
     subst (λ (k : Kept). last_changes fs ls ≡ changed_rows (rows_now k) (rows_of t (words_in fs))) c.self.view_is
-    (edit_changes s.setting t a es fs c.in_ok-changes.changes.items ls b.stays c.self.invariant.1.fresh (c.in_ok-changes.ensures.changes p c.self.invariant.0) c.make_changes.ensures.last c.make_changes.ensures.words)
+    (edit_changes s.setting t a es fs c.in_ok-changes.changes.items ls b.stays c.self.invariant.1.fresh (c.in_ok-changes.ensures.changes p c.self.invariant.0) c.make_changes-before.ensures.last c.make_changes-before.ensures.words)

@@ -8,7 +8,9 @@ use Rattle.sbl_bench.specs.Edits.{Edits}
 use Rattle.sbl_bench.specs.Kept.{KeptWord, IsKept, IsWord, Kept, contents_of, words_in}
 use Rattle.sbl_bench.specs.ChangedRows.{changed_rows}
 use Rattle.sbl_bench.specs.Contents.{Contents}
-use Rattle.sbl_bench.specs.Last.{last_changes}
+use Rattle.sbl_bench.specs.Last.{Follows, last_changes}
+use Rattle.sbl_bench.specs.Pairs.{IsIndexed}
+use Rattle.sbl_bench.specs.declared.change.Change.{Change}
 use Rattle.sbl_bench.specs.LeavesChanges.{rows_now}
 use Rattle.sbl_bench.specs.Rows.{rows_of}
 use Rattle.sbl_bench.specs.Setting.{under}
@@ -72,13 +74,14 @@ invariant_of-self-2 c =
     let b : Brings s e t a = subst (λ (k : Kept). Brings (contents_of k) e (under q k.limit) a) (sym c.self.view_is) c.requires.1 in
     let fs = c.make_changes-last.new.traces.entries in
     let words = c.make_changes-last.ensures.words in
-    subst (λ (x : Parsed). IsLinkedMachineOf c.in_ok-after.after (source_of x) × IsKept (under (source_of x) l) fs) (sym c.swap.ensures.x_after) (
+    subst (λ (x : Parsed). IsLinkedMachineOf c.in_ok-after.after (source_of x) × IsKept (under (source_of x) l) fs × IsIndexed fs c.follow.result) (sym c.swap.ensures.x_after) (
       c.in_ok-after.ensures,
       record {
         fresh = c.make_changes-last.ensures.fresh t (anew a t es c.in_ok-changes.changes.items (c.in_ok-changes.ensures.changes q c.in_ok-after.ensures) (still s.setting t a b.stays es c.self.invariant.1.fresh));
         sound = subst (All IsWord) (sym words) c.self.invariant.1.sound;
         room = let x = words_length fs in let y = words_length es in let z = ap length words in let r = c.self.invariant.1.room in omega arith;
       },
+      c.follow.ensures es (subst (λ (l : List Change). Follows es l fs) (sym c.as_slice.ensures.value) c.make_changes-last.ensures.follows) (subst (IsIndexed es) (sym c.take.ensures.value) c.self.invariant.2),
     )
 
 pub returns-clause-edits : goal.returns-clause-edits

@@ -1,16 +1,16 @@
 use Rattle.std.proofs.Common.{List, map, ap, ◌∙◌, ℕ, string_bytes}
-use Rattle.sbl_tree.specs.Order.{in_order}
-use Rattle.sbl_tree.specs.Tree.{Item}
+use Rattle.sbl_ast.specs.Order.{in_order}
+use Rattle.sbl_ast.specs.Tree.{Item}
 use Rattle.sbl_machine.specs.Touched.{Names'}
-use Rattle.sbl_tree.specs.declared.tree.DeclarationKind.TheVariants as kinds
-use Rattle.sbl_numbering.specs.Items.{known_in}
+use Rattle.sbl_ast.specs.declared.tree.DeclarationKind.TheVariants as kinds
+use Rattle.sbl_compiler.specs.Items.{known_in}
 use Rattle.sbl_program.specs.Listed.{Listed}
-use Rattle.sbl_numbering.specs.Numbered.{numbered_items}
+use Rattle.sbl_compiler.specs.Numbered.{numbered_items}
 use Rattle.sbl_machine.specs.MachineOf.{IsMachineOf}
 use Rattle.sbl_program.specs.FoundView.{listing_found}
 use Rattle.sbl_program.specs.ProgramOf.{program_of}
-use Rattle.sbl_run.proofs.NumberingTables.{same_tables}
-use Rattle.sbl_tree.specs.View.{view_items}
+use Rattle.sbl_interpreter.proofs.NumberingTables.{same_tables}
+use Rattle.sbl_ast.specs.View.{view_items}
 use Rattle.sbl_machine.proofs.machine.Machine.new.Goals as goal
 
 abbrev names_in : List Item → Names'

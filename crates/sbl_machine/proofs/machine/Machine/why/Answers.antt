@@ -1,12 +1,12 @@
 use Rattle.std.proofs.Common.{◌≡◌, [], Some, ap, ◌∙◌}
-use Rattle.sbl_tree.specs.declared.mode.Mode.TheVariants.{Forward}
+use Rattle.sbl_ast.specs.declared.mode.Mode.TheVariants.{Forward}
 use Rattle.sbl_machine.specs.MachineOf.{IsMachineOf, listed_in, machine_plan}
 use Rattle.sbl_machine.specs.Meaning.{ending_with_events}
 use Rattle.sbl_machine.specs.Outcome.{integers_at, outcome_at, used_at}
 use Rattle.sbl_machine.specs.Why.{events_at, events_in, events_of}
 use Rattle.sbl_program.specs.Program.{Program}
-use Rattle.sbl_run.specs.Run.{calls}
-use Rattle.sbl_run.specs.State.{State}
+use Rattle.sbl_interpreter.specs.Run.{calls}
+use Rattle.sbl_interpreter.specs.State.{State}
 use Rattle.sbl_machine.proofs.SoundRuns.{telling_of, telling_same}
 use Rattle.sbl_machine.proofs.WhyLaw.{events_change_nothing}
 use Rattle.sbl_machine.proofs.machine.Machine.why.Goals as goal
@@ -57,4 +57,4 @@ returns-clause-integers g c script h =
     let same : does begun ≡ ending_with_events script c.args.word.now c.args.limit =
     ap does (c.record_events.ensures ∙ ap (λ (s : State). record s { events = Some [] }) (c.in_ok-restart.ensures T))
     ∙ ap (λ (p : Program). telling_of p c.args.word.now c.args.limit) h.0 ∙ telling_same script c.args.word.now c.args.limit in
-    c.in_ok-integers.ensures.items_if_clones_equal (λ x y same. same) ∙ c.integers.ensures ∙ c.in_ok-traced.ensures.integers (does begun) c.run_call-end.ensures.follows ∙ ap integers_at same ∙ (events_change_nothing script c.args.word.now c.args.limit).integers
+    c.in_ok-integers.ensures ∙ c.in_ok-traced.ensures.integers (does begun) c.run_call-end.ensures.follows ∙ ap integers_at same ∙ (events_change_nothing script c.args.word.now c.args.limit).integers

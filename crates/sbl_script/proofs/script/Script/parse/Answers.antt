@@ -1,12 +1,12 @@
 use Rattle.std.proofs.Common.{ℕ, List, map, inl, inr, subst}
 use Rattle.std.proofs.lemmas.Result.{err_from_is_err_and}
 use Rattle.std.specs.Str.{chars}
-use Rattle.sbl_lexemes.specs.declared.token.Token.{Token}
+use Rattle.sbl_token.specs.declared.token.Token.{Token}
 use Rattle.sbl_text.specs.Directives.{start}
 use Rattle.sbl_text.specs.Tokens.{ArePlacedFrom, placed_of}
-use Rattle.sbl_grammar.specs.Reading.{IsReadAs}
-use Rattle.sbl_tree.specs.Texts as texts
-use Rattle.sbl_tree.specs.View.{view_items}
+use Rattle.sbl_parser.specs.Reading.{IsReadAs}
+use Rattle.sbl_ast.specs.Texts as texts
+use Rattle.sbl_ast.specs.View.{view_items}
 use Rattle.sbl_script.specs.Reading.{terminals}
 use Rattle.sbl_script.proofs.Spelled.{script_said}
 use Rattle.sbl_script.proofs.script.Script.parse.Goals as goal

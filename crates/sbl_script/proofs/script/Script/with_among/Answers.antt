@@ -1,15 +1,15 @@
 use Rattle.std.proofs.Common.{rules, ◌≡◌, ◌⊎◌, List, [], None, Some, true, false, length, map, inr, sym, ap, subst, ◌∙◌}
 use Rattle.std.proofs.lemmas.Result.{err_from_is_err_and}
 use Rattle.sbl_text.specs.declared.fault.ScriptFault.TheVariants as fault
-use Rattle.sbl_lexemes.specs.declared.token.Token.{Token}
+use Rattle.sbl_token.specs.declared.token.Token.{Token}
 use Rattle.sbl_text.specs.Tokens.{placed_of}
 use Rattle.sbl_amongs.specs.Amongs.{Held, amongs_of_body}
-use Rattle.sbl_tree.specs.Places.{placed_plain, places, AreShallow}
-use Rattle.sbl_grammar.specs.Reading.{IsReadAs}
-use Rattle.sbl_tree.specs.Texts as texts
-use Rattle.sbl_tree.specs.Tree.{Item, Plain, routine}
-use Rattle.sbl_tree.specs.View.{RowView, view_among, view_items, view_row}
-use Rattle.sbl_checks.specs.Checks.{fault_of}
+use Rattle.sbl_ast.specs.Places.{placed_plain, places, AreShallow}
+use Rattle.sbl_parser.specs.Reading.{IsReadAs}
+use Rattle.sbl_ast.specs.Texts as texts
+use Rattle.sbl_ast.specs.Tree.{Item, Plain, routine}
+use Rattle.sbl_ast.specs.View.{RowView, view_among, view_items, view_row}
+use Rattle.sbl_resolver.specs.Checks.{fault_of}
 use Rattle.sbl_script.specs.Parsed.{source_of}
 use Rattle.sbl_script.specs.Reading.{IsUnread, first_left_out, terminals}
 use Rattle.sbl_script.specs.declared.edits.DefinitionKind.TheVariants as kinds

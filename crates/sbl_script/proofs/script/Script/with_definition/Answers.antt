@@ -1,7 +1,7 @@
 use Rattle.std.proofs.Common.{rules, ◌≡◌, List, sym, subst}
-use Rattle.sbl_tree.specs.Places.{places, AreShallow}
-use Rattle.sbl_tree.specs.Tree.{Item}
-use Rattle.sbl_tree.specs.View.{view_items, view_plain}
+use Rattle.sbl_ast.specs.Places.{places, AreShallow}
+use Rattle.sbl_ast.specs.Tree.{Item}
+use Rattle.sbl_ast.specs.View.{view_items, view_plain}
 use Rattle.sbl_script.specs.Edits.{defines, items_with, state_before}
 use Rattle.sbl_script.specs.Parsed.{source_of}
 use Rattle.sbl_script.specs.Spelled.{AreSpelled, IsSpelled}

@@ -1,14 +1,14 @@
 use Rattle.std.proofs.Common.{rules, ◌≡◌, ◌⊎◌, List, [], None, Some, true, length, map, refl, sym, ap, subst, ◌∙◌}
 use Rattle.std.proofs.lemmas.Result.{err_from_is_err_and}
 use Rattle.sbl_text.specs.declared.fault.ScriptFault.TheVariants as fault
-use Rattle.sbl_lexemes.specs.declared.token.Token.{Token}
+use Rattle.sbl_token.specs.declared.token.Token.{Token}
 use Rattle.sbl_text.specs.Tokens.{placed_of}
-use Rattle.sbl_grammar.specs.Reading.{IsReadAs}
-use Rattle.sbl_tree.specs.Places.{placed_plain, AreShallow}
-use Rattle.sbl_tree.specs.Texts as texts
-use Rattle.sbl_tree.specs.Tree.{Plain, grouping}
-use Rattle.sbl_tree.specs.View.{view_argument, view_items, view_term}
-use Rattle.sbl_checks.specs.Checks.{fault_of}
+use Rattle.sbl_parser.specs.Reading.{IsReadAs}
+use Rattle.sbl_ast.specs.Places.{placed_plain, AreShallow}
+use Rattle.sbl_ast.specs.Texts as texts
+use Rattle.sbl_ast.specs.Tree.{Plain, grouping}
+use Rattle.sbl_ast.specs.View.{view_argument, view_items, view_term}
+use Rattle.sbl_resolver.specs.Checks.{fault_of}
 use Rattle.sbl_script.specs.declared.edits.DefinitionKind.TheVariants as kinds
 use Rattle.sbl_script.specs.Parsed.{source_of}
 use Rattle.sbl_script.specs.Reading.{IsUnread, first_left_out, terminals}

@@ -1,6 +1,6 @@
 use Rattle.std.proofs.Common.{refl}
 use Rattle.std.specs.Str.{chars}
-use Rattle.sbl_lexemes.specs.Lexemes.{lexeme_of}
+use Rattle.sbl_token.specs.Lexemes.{lexeme_of}
 use Rattle.sbl_text.proofs.Nexts.{next_ends, lacking}
 use Rattle.sbl_text.proofs.lexer.Lexer.advance.Goals as goal
 

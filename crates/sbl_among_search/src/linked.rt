@@ -1,0 +1,89 @@
+//! A search of sorted strings. Each string has a link to the longest shorter string that is a prefix of it.
+
+ghost use Rattle.std.specs.Prelude.{map};
+ghost use Rattle.sbl_char_class.specs.CharacterClasses.{members};
+ghost use Rattle.sbl_among_search.specs.Fitting.{read_all};
+ghost use Rattle.sbl_among_search.specs.Beginnings.{AreBeginnings};
+ghost use Rattle.sbl_among_search.specs.Linked.{IsLinked, texts_of};
+
+mod beginnings;
+mod links;
+mod rows;
+
+use crate::linked::beginnings::{Beginnings, beginnings_of};
+use crate::linked::links::{best_of, links_of};
+use crate::linked::rows::rows_of;
+use crate::plain::{ahead, copied_all};
+use crate::search::AmongSearch;
+use sbl_ast::Mode;
+use std::alloc::{AllocError, Global};
+use std::cmp::Reverse;
+
+/// Sorted strings with links.
+#[derive(Drop)]
+pub struct LinkedTable {
+    strings: Vec<Vec<char>>,
+    direction: Mode,
+    // The strings as read in the mode, sorted, each with its number. Of equal strings the one with the smallest number
+    // is last.
+    rows: Vec<(Vec<char>, Reverse<usize>)>,
+    // For each row, the last row of the longest shorter string that is a prefix of it.
+    links: Vec<Option<usize>>,
+    beginnings: Beginnings,
+    ghost linked: { ∥ IsLinked (read_all direction (map (λ v. v.items) strings.items)) rows.items links.items ∥₁ },
+    ghost begun: { ∥ AreBeginnings (members beginnings.characters) beginnings.everywhere (texts_of rows.items) ∥₁ },
+}
+
+impl LinkedTable {
+    ghost use Rattle.sbl_among_search.specs.Best.{IsBest};
+    ghost use Rattle.sbl_among_search.specs.Fitting.{read_as};
+    ghost use Rattle.sbl_among_search.specs.LinkedStrings.{strings_of};
+
+    /// Returns the number of the longest string with fewer than `below` characters that is a prefix of the text read.
+    fn best(&self, part: &[char], below: usize) -> Option<usize>
+        ensures { ∥ IsBest (strings_of self.now) (read_as self.now.direction part.now) below result ∥₁ }
+    {
+        best_of(&self.rows, &self.links, self.direction, part, below)
+    }
+}
+
+impl AmongSearch for LinkedTable {
+    ghost use Rattle.sbl_among_search.specs.LinkedStrings.{entries_of, mode_of};
+
+    ghost entries = { entries_of };
+
+    ghost mode = { mode_of };
+
+    fn build(
+        alloc: Global,
+        strings: &[Vec<char>],
+        direction: Mode,
+    ) -> Result<LinkedTable, AllocError> {
+        let rows = rows_of(alloc, strings, direction)?;
+        let links = links_of(alloc, &rows)?;
+        let beginnings = beginnings_of(alloc, &rows)?;
+        let copies = copied_all(alloc, strings)?;
+        Ok(LinkedTable {
+            strings: copies,
+            direction,
+            rows,
+            links,
+            beginnings,
+        })
+    }
+
+    fn longest(&self, text: &[char], at: usize, bound: usize) -> Option<usize> {
+        let part = ahead(self.direction, text, at, bound);
+        if !self.beginnings.may_begin(self.direction, part) {
+            return None;
+        }
+        self.best(part, part.len() + 1)
+    }
+
+    fn next_shorter(&self, i: usize) -> Option<usize> {
+        match self.strings.get(i) {
+            None => None,
+            Some(string) => self.best(string, string.len()),
+        }
+    }
+}

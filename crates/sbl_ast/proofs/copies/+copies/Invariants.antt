@@ -1,0 +1,12 @@
+use Rattle.std.proofs.Common.{◌≡◌, ◌++◌, drop, map}
+use Rattle.sbl_ast.specs.View.{view_row, view_group, view_joined}
+use Rattle.sbl_ast.proofs.copies.+copies.Given as goal
+
+abbrev pub invariant-copy_rows-loop-row : goal.invariant-copy_rows-loop-row
+invariant-copy_rows-loop-row l = map view_row l.copies.items ++ map view_row (drop l.row-index l.rows.items) ≡ map view_row l.rows.items
+
+abbrev pub invariant-copy_groups-loop-group : goal.invariant-copy_groups-loop-group
+invariant-copy_groups-loop-group l = map view_group l.copies.items ++ map view_group (drop l.group-index l.groups.items) ≡ map view_group l.groups.items
+
+abbrev pub invariant-copy_others-loop-joined : goal.invariant-copy_others-loop-joined
+invariant-copy_others-loop-joined l = map view_joined l.copies.items ++ map view_joined (drop l.joined-index l.others.items) ≡ map view_joined l.others.items

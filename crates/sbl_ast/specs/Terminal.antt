@@ -1,0 +1,306 @@
+-- A token as the grammar sees it: its role.
+use Rattle.std.specs.Prelude.{ℕ, List, [], ◌∷◌, map, drop}
+use Rattle.sbl_token.specs.Lexemes.{Lexeme, word, sign, lexeme_of}
+use Rattle.sbl_token.specs.Lexemes as lexemes
+use Rattle.sbl_token.specs.declared.words.Word.{Word}
+use Rattle.sbl_token.specs.declared.words.Word.TheVariants as w
+use Rattle.sbl_token.specs.declared.signs.Sign.{Sign}
+use Rattle.sbl_token.specs.declared.signs.Sign.TheVariants as s
+use Rattle.sbl_token.specs.declared.token.Token.{Token}
+use Rattle.sbl_ast.specs.declared.tree.DeclarationKind.{DeclarationKind}
+use Rattle.sbl_ast.specs.declared.tree.DeclarationKind.TheVariants as declarations
+use Rattle.sbl_ast.specs.declared.tree.Base.{Base}
+use Rattle.sbl_ast.specs.declared.tree.Base.TheVariants as bases
+use Rattle.sbl_ast.specs.declared.tree.Joiner.{Joiner}
+use Rattle.sbl_ast.specs.declared.tree.Joiner.TheVariants as joiners
+use Rattle.sbl_ast.specs.declared.tree.Simple.{Simple}
+use Rattle.sbl_ast.specs.declared.tree.Simple.TheVariants as simples
+use Rattle.sbl_ast.specs.declared.tree.Prefix.{Prefix}
+use Rattle.sbl_ast.specs.declared.tree.Prefix.TheVariants as prefixes
+use Rattle.sbl_ast.specs.declared.tree.Count.{Count}
+use Rattle.sbl_ast.specs.declared.tree.Count.TheVariants as counts
+use Rattle.sbl_ast.specs.declared.tree.Move.{Move}
+use Rattle.sbl_ast.specs.declared.tree.Move.TheVariants as moves
+use Rattle.sbl_ast.specs.declared.tree.Naming.{Naming}
+use Rattle.sbl_ast.specs.declared.tree.Naming.TheVariants as namings
+use Rattle.sbl_ast.specs.declared.tree.Splice.{Splice}
+use Rattle.sbl_ast.specs.declared.tree.Splice.TheVariants as edits
+use Rattle.sbl_ast.specs.declared.tree.Additive.{Additive}
+use Rattle.sbl_ast.specs.declared.tree.Additive.TheVariants as additives
+use Rattle.sbl_ast.specs.declared.tree.Multiplicative.{Multiplicative}
+use Rattle.sbl_ast.specs.declared.tree.Multiplicative.TheVariants as multiplicatives
+use Rattle.sbl_ast.specs.declared.tree.Assignment.{Assignment}
+use Rattle.sbl_ast.specs.declared.tree.Assignment.TheVariants as assignments
+use Rattle.sbl_ast.specs.declared.tree.Comparison.{Comparison}
+use Rattle.sbl_ast.specs.declared.tree.Comparison.TheVariants as comparisons
+use Rattle.sbl_ast.specs.declared.tree.Constant.{Constant}
+use Rattle.sbl_ast.specs.declared.tree.Constant.TheVariants as constants
+
+-- a literal: its spelling, as UTF-8 bytes, and the characters that it means
+pub record Quoted : Type 0 where
+  pub spelling : List ℕ
+  pub value : List ℕ
+
+-- words and signs that occur in no tree
+pub data Other : Type 0 where
+  get reverse size size_of question equals_greater : Other
+
+-- names are UTF-8 bytes
+pub data Terminal : Type 0 where
+  open_ close_ dollar as_ for_ non among define backward_mode set_limit string_def string_escapes len_of : Terminal
+  declares : DeclarationKind → Terminal
+  base : Base → Terminal
+  joiner : Joiner → Terminal
+  simple : Simple → Terminal
+  prefix : Prefix → Terminal
+  count : Count → Terminal
+  move : Move → Terminal
+  naming : Naming → Terminal
+  edit : Splice → Terminal
+  additive : Additive → Terminal
+  multiplicative : Multiplicative → Terminal
+  assigns : Assignment → Terminal
+  compares : Comparison → Terminal
+  constant : Constant → Terminal
+  name : List ℕ → Terminal
+  number : ℕ → Terminal
+  literal : Quoted → Terminal
+  inserts : ℕ → ℕ → Terminal
+  macro_name : List ℕ → Terminal
+  other : Other → Terminal
+
+-- ---- the role of each lexeme
+
+abbrev pub word_terminal : Word → Terminal
+word_terminal w.Among = among
+word_terminal w.And = joiner joiners.And
+word_terminal w.As = as_
+word_terminal w.AtLeast = count counts.AtLeast
+word_terminal w.AtLimit = simple simples.AtLimit
+word_terminal w.AtMark = move moves.AtMark
+word_terminal w.Attach = edit edits.Attach
+word_terminal w.BackwardMode = backward_mode
+word_terminal w.Backwards = prefix prefixes.Backwards
+word_terminal w.Booleans = declares declarations.Booleans
+word_terminal w.Cursor = constant constants.Cursor
+word_terminal w.Decimal = base bases.Decimal
+word_terminal w.Define = define
+word_terminal w.Delete = simple simples.Delete
+word_terminal w.Do = prefix prefixes.Do
+word_terminal w.Externals = declares declarations.Externals
+word_terminal w.Fail = prefix prefixes.Fail
+word_terminal w.False = simple simples.False
+word_terminal w.For = for_
+word_terminal w.Get = other get
+word_terminal w.GoPast = prefix prefixes.GoPast
+word_terminal w.GoTo = prefix prefixes.GoTo
+word_terminal w.Groupings = declares declarations.Groupings
+word_terminal w.Hex = base bases.Hex
+word_terminal w.Hop = move moves.Hop
+word_terminal w.Insert = edit edits.Insert
+word_terminal w.Integers = declares declarations.Integers
+word_terminal w.Len = constant constants.Len
+word_terminal w.LenOf = len_of
+word_terminal w.Limit = constant constants.Limit
+word_terminal w.Loop = count counts.Loop
+word_terminal w.MaxInt = constant constants.MaxInt
+word_terminal w.MinInt = constant constants.MinInt
+word_terminal w.Next = simple simples.Next
+word_terminal w.Non = non
+word_terminal w.Not = prefix prefixes.Not
+word_terminal w.Or = joiner joiners.Or
+word_terminal w.Repeat = prefix prefixes.Repeat
+word_terminal w.Reverse = other reverse
+word_terminal w.Routines = declares declarations.Routines
+word_terminal w.Set = naming namings.Set
+word_terminal w.SetLimit = set_limit
+word_terminal w.SetMark = naming namings.SetMark
+word_terminal w.Size = other size
+word_terminal w.SizeOf = other size_of
+word_terminal w.StringDef = string_def
+word_terminal w.StringEscapes = string_escapes
+word_terminal w.Strings = declares declarations.Strings
+word_terminal w.Substring = simple simples.Substring
+word_terminal w.Test = prefix prefixes.Test
+word_terminal w.ToLimit = simple simples.ToLimit
+word_terminal w.ToMark = move moves.ToMark
+word_terminal w.True = simple simples.True
+word_terminal w.Try = prefix prefixes.Try
+word_terminal w.Unset = naming namings.Unset
+
+abbrev pub sign_terminal : Sign → Terminal
+sign_terminal s.Open = open_
+sign_terminal s.Close = close_
+sign_terminal s.LeftBracket = simple simples.LeftBracket
+sign_terminal s.RightBracket = simple simples.RightBracket
+sign_terminal s.Dollar = dollar
+sign_terminal s.Plus = additive additives.Plus
+sign_terminal s.Minus = additive additives.Minus
+sign_terminal s.Star = multiplicative multiplicatives.Times
+sign_terminal s.Slash = multiplicative multiplicatives.Over
+sign_terminal s.Equals = assigns assignments.Equals
+sign_terminal s.Question = other question
+sign_terminal s.Less = compares comparisons.Less
+sign_terminal s.Greater = compares comparisons.Greater
+sign_terminal s.Same = compares comparisons.Same
+sign_terminal s.Differs = compares comparisons.Differs
+sign_terminal s.AtMost = compares comparisons.AtMost
+sign_terminal s.AtLeast = compares comparisons.AtLeast
+sign_terminal s.LessMinus = edit edits.Replace
+sign_terminal s.LessPlus = edit edits.InsertSign
+sign_terminal s.Arrow = naming namings.Arrow
+sign_terminal s.PlusEquals = assigns assignments.Plus
+sign_terminal s.MinusEquals = assigns assignments.Minus
+sign_terminal s.StarEquals = assigns assignments.Times
+sign_terminal s.SlashEquals = assigns assignments.Over
+sign_terminal s.EqualsGreater = other equals_greater
+
+abbrev pub terminal_of : Lexeme → Terminal
+terminal_of (word v) = word_terminal v
+terminal_of (sign v) = sign_terminal v
+terminal_of (lexemes.name n) = name n
+terminal_of (lexemes.number n) = number n
+terminal_of (lexemes.literal spelling value) = literal (record { spelling = spelling; value = value })
+terminal_of (lexemes.inserts a b) = inserts a b
+terminal_of (lexemes.macro_name n) = macro_name n
+
+abbrev pub terminals_of : List Token → List Terminal
+terminals_of ts = map (λ t. terminal_of (lexeme_of t)) ts
+
+-- the tokens from index `at` on
+abbrev pub left : List Token → ℕ → List Terminal
+left ts at = terminals_of (drop at ts)
+
+-- ---- the lexeme of each role
+
+abbrev pub declares_lexeme : DeclarationKind → Lexeme
+declares_lexeme declarations.Booleans = word w.Booleans
+declares_lexeme declarations.Externals = word w.Externals
+declares_lexeme declarations.Groupings = word w.Groupings
+declares_lexeme declarations.Integers = word w.Integers
+declares_lexeme declarations.Routines = word w.Routines
+declares_lexeme declarations.Strings = word w.Strings
+
+abbrev pub base_lexeme : Base → Lexeme
+base_lexeme bases.Decimal = word w.Decimal
+base_lexeme bases.Hex = word w.Hex
+
+abbrev pub joiner_lexeme : Joiner → Lexeme
+joiner_lexeme joiners.And = word w.And
+joiner_lexeme joiners.Or = word w.Or
+
+abbrev pub simple_lexeme : Simple → Lexeme
+simple_lexeme simples.AtLimit = word w.AtLimit
+simple_lexeme simples.Delete = word w.Delete
+simple_lexeme simples.False = word w.False
+simple_lexeme simples.Next = word w.Next
+simple_lexeme simples.Substring = word w.Substring
+simple_lexeme simples.ToLimit = word w.ToLimit
+simple_lexeme simples.True = word w.True
+simple_lexeme simples.LeftBracket = sign s.LeftBracket
+simple_lexeme simples.RightBracket = sign s.RightBracket
+
+abbrev pub prefix_lexeme : Prefix → Lexeme
+prefix_lexeme prefixes.Backwards = word w.Backwards
+prefix_lexeme prefixes.Do = word w.Do
+prefix_lexeme prefixes.Fail = word w.Fail
+prefix_lexeme prefixes.GoPast = word w.GoPast
+prefix_lexeme prefixes.GoTo = word w.GoTo
+prefix_lexeme prefixes.Not = word w.Not
+prefix_lexeme prefixes.Repeat = word w.Repeat
+prefix_lexeme prefixes.Test = word w.Test
+prefix_lexeme prefixes.Try = word w.Try
+
+abbrev pub count_lexeme : Count → Lexeme
+count_lexeme counts.AtLeast = word w.AtLeast
+count_lexeme counts.Loop = word w.Loop
+
+abbrev pub move_lexeme : Move → Lexeme
+move_lexeme moves.AtMark = word w.AtMark
+move_lexeme moves.Hop = word w.Hop
+move_lexeme moves.ToMark = word w.ToMark
+
+abbrev pub naming_lexeme : Naming → Lexeme
+naming_lexeme namings.Set = word w.Set
+naming_lexeme namings.SetMark = word w.SetMark
+naming_lexeme namings.Unset = word w.Unset
+naming_lexeme namings.Arrow = sign s.Arrow
+
+abbrev pub edit_lexeme : Splice → Lexeme
+edit_lexeme edits.Attach = word w.Attach
+edit_lexeme edits.Insert = word w.Insert
+edit_lexeme edits.Replace = sign s.LessMinus
+edit_lexeme edits.InsertSign = sign s.LessPlus
+
+abbrev pub additive_lexeme : Additive → Lexeme
+additive_lexeme additives.Plus = sign s.Plus
+additive_lexeme additives.Minus = sign s.Minus
+
+abbrev pub multiplicative_lexeme : Multiplicative → Lexeme
+multiplicative_lexeme multiplicatives.Times = sign s.Star
+multiplicative_lexeme multiplicatives.Over = sign s.Slash
+
+abbrev pub assigns_lexeme : Assignment → Lexeme
+assigns_lexeme assignments.Equals = sign s.Equals
+assigns_lexeme assignments.Plus = sign s.PlusEquals
+assigns_lexeme assignments.Minus = sign s.MinusEquals
+assigns_lexeme assignments.Times = sign s.StarEquals
+assigns_lexeme assignments.Over = sign s.SlashEquals
+
+abbrev pub compares_lexeme : Comparison → Lexeme
+compares_lexeme comparisons.Less = sign s.Less
+compares_lexeme comparisons.Greater = sign s.Greater
+compares_lexeme comparisons.Same = sign s.Same
+compares_lexeme comparisons.Differs = sign s.Differs
+compares_lexeme comparisons.AtMost = sign s.AtMost
+compares_lexeme comparisons.AtLeast = sign s.AtLeast
+
+abbrev pub constant_lexeme : Constant → Lexeme
+constant_lexeme constants.Cursor = word w.Cursor
+constant_lexeme constants.Len = word w.Len
+constant_lexeme constants.Limit = word w.Limit
+constant_lexeme constants.MaxInt = word w.MaxInt
+constant_lexeme constants.MinInt = word w.MinInt
+
+abbrev pub other_lexeme : Other → Lexeme
+other_lexeme get = word w.Get
+other_lexeme reverse = word w.Reverse
+other_lexeme size = word w.Size
+other_lexeme size_of = word w.SizeOf
+other_lexeme question = sign s.Question
+other_lexeme equals_greater = sign s.EqualsGreater
+
+abbrev pub lexeme_as : Terminal → Lexeme
+lexeme_as open_ = sign s.Open
+lexeme_as close_ = sign s.Close
+lexeme_as dollar = sign s.Dollar
+lexeme_as as_ = word w.As
+lexeme_as for_ = word w.For
+lexeme_as non = word w.Non
+lexeme_as among = word w.Among
+lexeme_as define = word w.Define
+lexeme_as backward_mode = word w.BackwardMode
+lexeme_as set_limit = word w.SetLimit
+lexeme_as string_def = word w.StringDef
+lexeme_as string_escapes = word w.StringEscapes
+lexeme_as len_of = word w.LenOf
+lexeme_as (declares x) = declares_lexeme x
+lexeme_as (base x) = base_lexeme x
+lexeme_as (joiner x) = joiner_lexeme x
+lexeme_as (simple x) = simple_lexeme x
+lexeme_as (prefix x) = prefix_lexeme x
+lexeme_as (count x) = count_lexeme x
+lexeme_as (move x) = move_lexeme x
+lexeme_as (naming x) = naming_lexeme x
+lexeme_as (edit x) = edit_lexeme x
+lexeme_as (additive x) = additive_lexeme x
+lexeme_as (multiplicative x) = multiplicative_lexeme x
+lexeme_as (assigns x) = assigns_lexeme x
+lexeme_as (compares x) = compares_lexeme x
+lexeme_as (constant x) = constant_lexeme x
+lexeme_as (other x) = other_lexeme x
+lexeme_as (name n) = lexemes.name n
+lexeme_as (number n) = lexemes.number n
+lexeme_as (literal q) = lexemes.literal q.spelling q.value
+lexeme_as (inserts a b) = lexemes.inserts a b
+lexeme_as (macro_name n) = lexemes.macro_name n

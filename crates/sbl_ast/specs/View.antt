@@ -1,0 +1,213 @@
+-- A tree without memory addresses.
+use Rattle.std.specs.Prelude.{ℕ, List, [], ◌∷◌, map, Option, Some, None, String, string_bytes}
+use Rattle.std.specs.Global.{Global, Vec}
+use Rattle.sbl_ast.specs.declared.tree.Literal.{Literal}
+use Rattle.sbl_ast.specs.declared.tree.Argument.{Argument}
+use Rattle.sbl_ast.specs.declared.tree.Argument.TheVariants as arguments
+use Rattle.sbl_ast.specs.declared.tree.Expression.{Expression}
+use Rattle.sbl_ast.specs.declared.tree.Added.{Added}
+use Rattle.sbl_ast.specs.declared.tree.Product.{Product}
+use Rattle.sbl_ast.specs.declared.tree.Scaled.{Scaled}
+use Rattle.sbl_ast.specs.declared.tree.Factor.{Factor}
+use Rattle.sbl_ast.specs.declared.tree.Factor.TheOpen.{Added-F, Expression-F, Factor-F, Product-F, Scaled-F}
+use Rattle.sbl_ast.specs.declared.tree.Factor.TheFolds.{fold-Added, fold-Expression, fold-Factor, fold-Product, fold-Scaled}
+use Rattle.sbl_ast.specs.declared.tree.Command.{Command}
+use Rattle.sbl_ast.specs.declared.tree.Among.{Among}
+use Rattle.sbl_ast.specs.declared.tree.Group.{Group}
+use Rattle.sbl_ast.specs.declared.tree.Joined.{Joined}
+use Rattle.sbl_ast.specs.declared.tree.RowOfCommands.{RowOfCommands as Row}
+use Rattle.sbl_ast.specs.declared.tree.Command.TheOpen.{Among-F, Command-F, Group-F, Joined-F, RowOfCommands-F}
+use Rattle.sbl_ast.specs.declared.tree.Command.TheFolds.{fold-Among, fold-Command, fold-Group, fold-Joined, fold-RowOfCommands}
+use Rattle.sbl_ast.specs.declared.tree.Entry.{Entry}
+use Rattle.sbl_ast.specs.declared.tree.Term.{Term}
+use Rattle.sbl_ast.specs.declared.tree.Plain.{Plain}
+use Rattle.sbl_ast.specs.declared.tree.Plain.TheVariants as plains
+use Rattle.sbl_ast.specs.declared.tree.ScriptItem.{ScriptItem as Item}
+use Rattle.sbl_ast.specs.declared.tree.ScriptItem.TheVariants as items
+use Rattle.sbl_ast.specs.declared.tree.Joiner.{Joiner}
+use Rattle.sbl_ast.specs.declared.tree.Additive.{Additive}
+use Rattle.sbl_ast.specs.declared.tree.Multiplicative.{Multiplicative}
+use Rattle.sbl_ast.specs.Terminal.{Quoted}
+use Rattle.sbl_ast.specs.Tree as trees
+
+abbrev pub view_literal : Literal → Quoted
+view_literal l = record { spelling = string_bytes l.spelling; value = l.value.items }
+
+abbrev pub view_argument : Argument → trees.Argument
+view_argument (arguments.Literal l) = trees.written_out (view_literal l)
+view_argument (arguments.Name n) = trees.by_name (string_bytes n)
+
+-- ---- arithmetic
+
+abbrev pub AddedView : Type 0
+AddedView = Additive × trees.Product
+
+abbrev pub ScaledView : Type 0
+ScaledView = Multiplicative × trees.Factor
+
+abbrev pub sums_of : List AddedView → trees.Sums
+sums_of [] = trees.no_sums
+sums_of (s ∷ ss) = trees.sum s.0 s.1 (sums_of ss)
+
+abbrev pub scales_of : List ScaledView → trees.Scales
+scales_of [] = trees.no_scales
+scales_of (s ∷ ss) = trees.scale s.0 s.1 (scales_of ss)
+
+-- one level, with the view of each child
+abbrev pub added_step : Added-F trees.Factor AddedView trees.Expression trees.Product ScaledView → AddedView
+added_step a = (a.operator, a.product)
+
+abbrev pub expression_step : Expression-F trees.Factor AddedView trees.Expression trees.Product ScaledView → trees.Expression
+expression_step e = trees.expression e.first (sums_of e.others.items)
+
+abbrev pub factor_step : Factor-F trees.Factor AddedView trees.Expression trees.Product ScaledView → trees.Factor
+factor_step (Factor-F.Minus f) = trees.negated f.value
+factor_step (Factor-F.Bracket e) = trees.bracketed e.value
+factor_step (Factor-F.Number n) = trees.numeral n
+factor_step (Factor-F.Name n) = trees.variable (string_bytes n)
+factor_step (Factor-F.Constant c) = trees.fixed c
+factor_step (Factor-F.LenOf a) = trees.length_of (view_argument a)
+
+abbrev pub product_step : Product-F trees.Factor AddedView trees.Expression trees.Product ScaledView → trees.Product
+product_step p = trees.product p.first (scales_of p.others.items)
+
+abbrev pub scaled_step : Scaled-F trees.Factor AddedView trees.Expression trees.Product ScaledView → ScaledView
+scaled_step s = (s.operator, s.factor)
+
+abbrev pub view_added : Added → AddedView
+view_added = fold-Added trees.Factor AddedView trees.Expression trees.Product ScaledView factor_step added_step expression_step product_step scaled_step
+
+abbrev pub view_expression : Expression → trees.Expression
+view_expression = fold-Expression trees.Factor AddedView trees.Expression trees.Product ScaledView factor_step added_step expression_step product_step scaled_step
+
+abbrev pub view_factor : Factor → trees.Factor
+view_factor = fold-Factor trees.Factor AddedView trees.Expression trees.Product ScaledView factor_step added_step expression_step product_step scaled_step
+
+abbrev pub view_product : Product → trees.Product
+view_product = fold-Product trees.Factor AddedView trees.Expression trees.Product ScaledView factor_step added_step expression_step product_step scaled_step
+
+abbrev pub view_scaled : Scaled → ScaledView
+view_scaled = fold-Scaled trees.Factor AddedView trees.Expression trees.Product ScaledView factor_step added_step expression_step product_step scaled_step
+
+abbrev pub view_sums : List Added → trees.Sums
+view_sums ss = sums_of (map view_added ss)
+
+abbrev pub view_scales : List Scaled → trees.Scales
+view_scales ss = scales_of (map view_scaled ss)
+
+-- ---- commands
+
+abbrev pub view_name : Option (String Global) → Option (List ℕ)
+view_name None = None
+view_name (Some n) = Some (string_bytes n)
+
+abbrev pub view_entry : Entry → trees.Entry
+view_entry e = trees.entry (view_literal e.string) (view_name e.condition)
+
+-- an among, a row, a joined command and a group, before they become part of a tree
+abbrev pub AmongView : Type 0
+AmongView = trees.Starter × trees.Groups
+
+abbrev pub RowView : Type 0
+RowView = trees.Command × trees.Others
+
+abbrev pub JoinedView : Type 0
+JoinedView = Joiner × trees.Command
+
+pub record GroupView : Type 0 where
+  pub first : trees.Entry
+  pub others : List trees.Entry
+  pub rows : trees.Rows
+
+abbrev pub rows_of : List RowView → trees.Rows
+rows_of [] = trees.no_rows
+rows_of (r ∷ rs) = trees.row r.0 r.1 (rows_of rs)
+
+abbrev pub others_of : List JoinedView → trees.Others
+others_of [] = trees.no_others
+others_of (o ∷ os) = trees.joined o.0 o.1 (others_of os)
+
+abbrev pub groups_of : List GroupView → List trees.Entry → trees.Groups
+groups_of [] es = trees.bare es
+groups_of (g ∷ gs) es = trees.group g.first g.others g.rows (groups_of gs es)
+
+abbrev pub starter_of : Option (Vec RowView) → trees.Starter
+starter_of None = trees.no_starter
+starter_of (Some rs) = trees.starter (rows_of rs.items)
+
+abbrev pub among_step : Among-F trees.Command AmongView GroupView JoinedView RowView → AmongView
+among_step a = (starter_of a.starter, groups_of a.groups.items (map view_entry a.bare.items))
+
+abbrev pub command_step : Command-F trees.Command AmongView GroupView JoinedView RowView → trees.Command
+command_step (Command-F.Bracket rs) = trees.bracket (rows_of rs.items)
+command_step (Command-F.Simple s) = trees.simple_ s
+command_step (Command-F.Literal l) = trees.literal_ (view_literal l)
+command_step (Command-F.Name n) = trees.name_ (string_bytes n)
+command_step (Command-F.Non with_minus n) = trees.non_ with_minus (string_bytes n)
+command_step (Command-F.Prefixed p c) = trees.prefixed p c.value
+command_step (Command-F.Counted n e c) = trees.counted n (view_expression e) c.value
+command_step (Command-F.Move m e) = trees.move_ m (view_expression e)
+command_step (Command-F.Named x n) = trees.named x (string_bytes n)
+command_step (Command-F.Splice x a) = trees.splice_ x (view_argument a)
+command_step (Command-F.SetLimit b c) = trees.setlimit_ b.value c.value
+command_step (Command-F.Assign n o e) = trees.assign_ (string_bytes n) o (view_expression e)
+command_step (Command-F.Compare n o e) = trees.compare_ (string_bytes n) o (view_expression e)
+command_step (Command-F.CompareValues e o f) = trees.compare_values_ (view_expression e) o (view_expression f)
+command_step (Command-F.Among a) = trees.among_ a.0 a.1
+
+abbrev pub group_step : Group-F trees.Command AmongView GroupView JoinedView RowView → GroupView
+group_step g = record { first = view_entry g.first; others = map view_entry g.others.items; rows = rows_of g.rows.items }
+
+abbrev pub joined_step : Joined-F trees.Command AmongView GroupView JoinedView RowView → JoinedView
+joined_step o = (o.joiner, o.command)
+
+abbrev pub row_step : RowOfCommands-F trees.Command AmongView GroupView JoinedView RowView → RowView
+row_step r = (r.first, others_of r.others.items)
+
+abbrev pub view_among : Among → AmongView
+view_among = fold-Among trees.Command AmongView GroupView JoinedView RowView command_step among_step group_step joined_step row_step
+
+abbrev pub view_command : Command → trees.Command
+view_command = fold-Command trees.Command AmongView GroupView JoinedView RowView command_step among_step group_step joined_step row_step
+
+abbrev pub view_group : Group → GroupView
+view_group = fold-Group trees.Command AmongView GroupView JoinedView RowView command_step among_step group_step joined_step row_step
+
+abbrev pub view_joined : Joined → JoinedView
+view_joined = fold-Joined trees.Command AmongView GroupView JoinedView RowView command_step among_step group_step joined_step row_step
+
+abbrev pub view_row : Row → RowView
+view_row = fold-RowOfCommands trees.Command AmongView GroupView JoinedView RowView command_step among_step group_step joined_step row_step
+
+-- the rows that were read so far
+abbrev pub view_rows : List Row → trees.Rows
+view_rows rs = rows_of (map view_row rs)
+
+abbrev pub view_others : List Joined → trees.Others
+view_others os = others_of (map view_joined os)
+
+abbrev pub view_groups : List Group → List trees.Entry → trees.Groups
+view_groups gs es = groups_of (map view_group gs) es
+
+abbrev pub view_starter : Option (Vec Row) → trees.Starter
+view_starter None = trees.no_starter
+view_starter (Some rs) = trees.starter (view_rows rs.items)
+
+-- ---- items
+
+abbrev pub view_term : Term → trees.Term
+view_term x = trees.term x.operator (view_argument x.argument)
+
+abbrev pub view_plain : Plain → trees.Plain
+view_plain (plains.Declaration k ns) = trees.declaration k (map string_bytes ns.items)
+view_plain (plains.StringEscapes a b) = trees.escapes a b
+view_plain (plains.StringDef n b l) = trees.macro (string_bytes n) b (view_literal l)
+view_plain (plains.Routine n r) = trees.routine (string_bytes n) (view_row r).0 (view_row r).1
+view_plain (plains.Grouping n a xs) = trees.grouping (string_bytes n) (view_argument a) (map view_term xs.items)
+
+abbrev pub view_item : Item → trees.Item
+view_item (items.Plain p) = trees.plain (view_plain p)
+view_item (items.BackwardMode ps) = trees.backward (map view_plain ps.items)
+
+abbrev pub view_items : List Item → List trees.Item
+view_items is = map view_item is

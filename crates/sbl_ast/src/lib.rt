@@ -1,0 +1,21 @@
+//! The AST of Snowball scripts: its types, the tokens that each tree is written with, copies of trees, the two modes,
+//! and the items of a script in order.
+#![tactic(auto)]
+
+mod copies;
+mod mode;
+mod order;
+mod tree;
+
+pub use copies::{
+    copy_among, copy_argument, copy_command, copy_entries, copy_entry, copy_expression,
+    copy_literal, copy_name, copy_names, copy_plain, copy_row, copy_terms,
+};
+pub use mode::Mode;
+pub use order::{ItemInMode, items_in_order};
+pub use tree::{
+    Added, Additive, Among, Argument, Assignment, Base, Command, Comparison, Constant, Count,
+    DeclarationKind, Entry, Expression, Factor, Group, Joined, Joiner, Literal, Move,
+    Multiplicative, Naming, Plain, Prefix, Product, RowOfCommands, Scaled, ScriptItem, Simple,
+    Splice, Term,
+};

@@ -1,0 +1,214 @@
+-- How the pairs that are kept follow an edit.
+use Rattle.std.proofs.Common.{map, ◌≡◌, ◌∙◌, ◌||◌, ◌&&◌, ◌⊎◌, ◌<◌, ◌+◌, not, inl, inr, ℕ, suc, Bool, true, false, cond, List, [], ◌∷◌, Option, Some, None, slice_index_or, drop, length, add-one, arith, refl, sym, ap, subst}
+use Rattle.std.specs.List.{All, list_any}
+use Rattle.std.specs.Str.{bytes_eq}
+use Rattle.std.specs.Ordering.{is_eq}
+use Rattle.std.specs.BTreeSet.{BTreeSet, Updates}
+use Rattle.std.proofs.Math.Seq.{drop-cons}
+use Rattle.std.proofs.lemmas.List.Elements.{All-cons}
+use Rattle.std.proofs.lemmas.Slice.Eq.{bytes_eq-Decides}
+use Rattle.sbl_machine.specs.Outcome.{Outcome', Stem, Refused, outcome_of}
+use Rattle.sbl_machine.specs.declared.outcome.Traced.{Traced}
+use Rattle.sbl_bench.specs.ChangedRows.{same_outcome}
+use Rattle.sbl_bench.specs.Changes.{is_changed}
+use Rattle.sbl_bench.specs.Classes.{is_stem}
+use Rattle.sbl_bench.specs.Kept.{KeptWord}
+use Rattle.sbl_bench.specs.Last.{Follows, word_found, word_run}
+use Rattle.sbl_bench.specs.Pairs.{ArePaired, IsFollowed, IsOneMore, Key, Text, find, has, has_stem, is_pair_of, key_cmp}
+use Rattle.sbl_bench.specs.declared.change.Change.{Change}
+use Rattle.sbl_bench.proofs.PairFacts.{key_tied}
+
+and_false : (a : Bool) → (a && false) ≡ false
+and_false true = refl
+and_false false = refl
+
+and_true : (a : Bool) → (a && true) ≡ a
+and_true true = refl
+and_true false = refl
+
+cond_not : (b x : Bool) → cond b false x ≡ (not b && x)
+cond_not true x = refl
+cond_not false x = refl
+
+-- a pair that is removed
+pub key_removed : (t w : Text) (s n : BTreeSet Key) → Updates key_cmp s n (t, w) false → (q : Key) → has n q ≡ (not (bytes_eq t.items q.0.items && bytes_eq w.items q.1.items) && has s q)
+key_removed t w s n h q = h.0 q ∙ cond_not (is_eq (key_cmp (t, w) q)) (has s q) ∙ ap (λ (b : Bool). not b && has s q) (key_tied (t, w) q)
+
+-- ---- one word
+
+-- the pair of another word
+pair_of_other : (word : List ℕ) (o : Outcome') (q : Key) → bytes_eq word q.1.items ≡ false → is_pair_of word o q ≡ false
+pair_of_other word o q h = ap (λ (b : Bool). is_stem q.0.items o && b) h ∙ and_false (is_stem q.0.items o)
+
+pair_of_own : (word : List ℕ) (o : Outcome') (q : Key) → bytes_eq word q.1.items ≡ true → is_pair_of word o q ≡ is_stem q.0.items o
+pair_of_own word o q h = ap (λ (b : Bool). is_stem q.0.items o && b) h ∙ and_true (is_stem q.0.items o)
+
+own_now : (now before old : Bool) → (old ≡ before) ⊎ (old ≡ now) → (now || (not before && old)) ≡ now
+own_now true before old h = refl
+own_now false true old h = refl
+own_now false false old (inl h) = h
+own_now false false old (inr h) = h
+
+-- a word whose pair is exchanged
+pub exchanged : (word : List ℕ) (before now : Outcome') (old new : Key → Bool) (q : Key)
+    → new q ≡ (is_pair_of word now q || (not (is_pair_of word before q) && old q)) → IsFollowed word before now old new q
+exchanged word before now old new q h = record {
+  others = λ other. h ∙ ap (λ (b : Bool). b || (not (is_pair_of word before q) && old q)) (pair_of_other word now q other) ∙ ap (λ (b : Bool). not b && old q) (pair_of_other word before q other);
+  own = λ same was.
+      h ∙ ap (λ (b : Bool). b || (not (is_pair_of word before q) && old q)) (pair_of_own word now q same)
+      ∙ ap (λ (b : Bool). is_stem q.0.items now || (not b && old q)) (pair_of_own word before q same)
+      ∙ own_now (is_stem q.0.items now) (is_stem q.0.items before) (old q) was;
+}
+
+same_stem : (o p : Outcome') (stem : List ℕ) → same_outcome o p ≡ true → is_stem stem o ≡ is_stem stem p
+same_stem (Stem s) (Stem t) stem h = ap (λ (x : List ℕ). bytes_eq x stem) ((bytes_eq-Decides s t).0 h)
+same_stem (Stem s) (Refused g) stem h = cc h
+same_stem (Refused f) (Stem t) stem h = cc h
+same_stem (Refused f) (Refused g) stem h = refl
+
+-- a word whose outcome is the same one
+pub stays_followed : (word : List ℕ) (before now : Outcome') (old new : Key → Bool) (q : Key) → same_outcome before now ≡ true → new q ≡ old q → IsFollowed word before now old new q
+stays_followed word before now old new q same is = record {
+  others = λ other. is;
+  own = λ own was. is ∙ by was;
+}
+  where
+    by : (old q ≡ is_stem q.0.items before) ⊎ (old q ≡ is_stem q.0.items now) → old q ≡ is_stem q.0.items now
+    by (inl h) = h ∙ same_stem before now q.0.items same
+    by (inr h) = h
+
+-- ---- a word that is added, or taken out
+
+found_same : (word w : List ℕ) (es : List KeptWord) → bytes_eq word w ≡ true → find w es ≡ find word es
+found_same word w es h = ap (λ (x : List ℕ). find x es) (sym ((bytes_eq-Decides word w).0 h))
+
+pub one_more : (word : List ℕ) (more es : List KeptWord) (t : Traced) (old new : Key → Bool) → IsOneMore word more es → Some t ≡ find word more
+    → ((q : Key) → old q ≡ has_stem q.0.items (find q.1.items es)) → ((q : Key) → new q ≡ (is_pair_of word (outcome_of t.outcome) q || old q))
+    → (q : Key) → new q ≡ has_stem q.0.items (find q.1.items more)
+one_more word more es t old new m there was put q = put q ∙ by (bytes_eq word q.1.items) refl
+  where
+    by : (b : Bool) → bytes_eq word q.1.items ≡ b → (is_pair_of word (outcome_of t.outcome) q || old q) ≡ has_stem q.0.items (find q.1.items more)
+    by true h =
+        let none : old q ≡ false = was q ∙ ap (has_stem q.0.items) (found_same word q.1.items es h ∙ m.absent) in
+        let is : has_stem q.0.items (find q.1.items more) ≡ is_stem q.0.items (outcome_of t.outcome) = ap (has_stem q.0.items) (found_same word q.1.items more h ∙ sym there) in
+        ap (λ (b : Bool). b || old q) (pair_of_own word (outcome_of t.outcome) q h) ∙ ap (λ (b : Bool). is_stem q.0.items (outcome_of t.outcome) || b) none ∙ or_false (is_stem q.0.items (outcome_of t.outcome)) ∙ sym is
+      where
+        or_false : (a : Bool) → (a || false) ≡ a
+        or_false true = refl
+        or_false false = refl
+    by false h = ap (λ (b : Bool). b || old q) (pair_of_other word (outcome_of t.outcome) q h) ∙ was q ∙ ap (has_stem q.0.items) (sym (m.others q.1 h))
+
+pub one_less : (word : List ℕ) (more es : List KeptWord) (t : Traced) (old new : Key → Bool) → IsOneMore word more es → find word more ≡ Some t
+    → ((q : Key) → old q ≡ has_stem q.0.items (find q.1.items more)) → ((q : Key) → new q ≡ (not (is_pair_of word (outcome_of t.outcome) q) && old q))
+    → (q : Key) → new q ≡ has_stem q.0.items (find q.1.items es)
+one_less word more es t old new m there was taken q = taken q ∙ by (bytes_eq word q.1.items) refl
+  where
+    not_both : (a : Bool) → (not a && a) ≡ false
+    not_both true = refl
+    not_both false = refl
+
+    by : (b : Bool) → bytes_eq word q.1.items ≡ b → (not (is_pair_of word (outcome_of t.outcome) q) && old q) ≡ has_stem q.0.items (find q.1.items es)
+    by true h =
+        let is : old q ≡ is_stem q.0.items (outcome_of t.outcome) = was q ∙ ap (has_stem q.0.items) (found_same word q.1.items more h ∙ there) in
+        let none : has_stem q.0.items (find q.1.items es) ≡ false = ap (has_stem q.0.items) (found_same word q.1.items es h ∙ m.absent) in
+        ap (λ (b : Bool). not b && old q) (pair_of_own word (outcome_of t.outcome) q h) ∙ ap (λ (b : Bool). not (is_stem q.0.items (outcome_of t.outcome)) && b) is ∙ not_both (is_stem q.0.items (outcome_of t.outcome)) ∙ sym none
+    by false h = ap (λ (b : Bool). not b && old q) (pair_of_other word (outcome_of t.outcome) q h) ∙ was q ∙ ap (has_stem q.0.items) (m.others q.1 h)
+
+-- ---- the words of an edit, one after another
+
+-- The set has the pairs of the words as they are now, but for the words of the changes that are still to come. Of such a word it
+-- has the pair before, or the one now.
+pub record AreFollowedSoFar (old new : List KeptWord) (rest : List Change) (set : BTreeSet Key) : Type 0 where
+  pub done : (q : Key) → is_changed rest q.1.items ≡ false → has set q ≡ has_stem q.0.items (find q.1.items new)
+  pub either : (q : Key) → (has set q ≡ has_stem q.0.items (find q.1.items old)) ⊎ (has set q ≡ has_stem q.0.items (find q.1.items new))
+
+pub followed_none : (old new : List KeptWord) (last : List Change) (set : BTreeSet Key) → Follows old last new → ArePaired old set → AreFollowedSoFar old new last set
+followed_none old new last set f paired = record {
+  done = λ q other. paired q ∙ ap (has_stem q.0.items) (sym (f.others q.1 other));
+  either = λ q. inl (paired q);
+}
+
+pub followed_all : (old new : List KeptWord) (rest : List Change) (set : BTreeSet Key) → rest ≡ [] → AreFollowedSoFar old new rest set → ArePaired new set
+followed_all old new rest set none so q = so.done q (ap (λ (l : List Change). is_changed l q.1.items) none)
+
+module _ (old new : List KeptWord) (c : Change) (rest : List Change) (t : Traced) (s n : BTreeSet Key) (was : find c.word.items old ≡ Some c.traced) (is : Some t ≡ find c.word.items new)
+    (one : (q : Key) → IsFollowed c.word.items (outcome_of c.traced.outcome) (outcome_of t.outcome) (has s) (has n) q) (so : AreFollowedSoFar old new (c ∷ rest) s) where
+  own : (q : Key) → bytes_eq c.word.items q.1.items ≡ true → has n q ≡ has_stem q.0.items (find q.1.items new)
+  own q h = (one q).own h (by (so.either q)) ∙ sym now
+    where
+      before : has_stem q.0.items (find q.1.items old) ≡ is_stem q.0.items (outcome_of c.traced.outcome)
+      before = ap (has_stem q.0.items) (found_same c.word.items q.1.items old h ∙ was)
+
+      now : has_stem q.0.items (find q.1.items new) ≡ is_stem q.0.items (outcome_of t.outcome)
+      now = ap (has_stem q.0.items) (found_same c.word.items q.1.items new h ∙ sym is)
+
+      by : (has s q ≡ has_stem q.0.items (find q.1.items old)) ⊎ (has s q ≡ has_stem q.0.items (find q.1.items new))
+          → (has s q ≡ is_stem q.0.items (outcome_of c.traced.outcome)) ⊎ (has s q ≡ is_stem q.0.items (outcome_of t.outcome))
+      by (inl k) = inl (k ∙ before)
+      by (inr k) = inr (k ∙ now)
+
+  followed_step : AreFollowedSoFar old new rest n
+  followed_step = record {
+    done = λ q other. done q other (bytes_eq c.word.items q.1.items) refl;
+    either = λ q. either q (bytes_eq c.word.items q.1.items) refl;
+  }
+    where
+      done : (q : Key) → is_changed rest q.1.items ≡ false → (b : Bool) → bytes_eq c.word.items q.1.items ≡ b → has n q ≡ has_stem q.0.items (find q.1.items new)
+      done q other true h = own q h
+      done q other false h = (one q).others h ∙ so.done q (ap (λ (b : Bool). b || is_changed rest q.1.items) h ∙ other)
+
+      either : (q : Key) → (b : Bool) → bytes_eq c.word.items q.1.items ≡ b → (has n q ≡ has_stem q.0.items (find q.1.items old)) ⊎ (has n q ≡ has_stem q.0.items (find q.1.items new))
+      either q true h = inr (own q h)
+      either q false h = by (so.either q)
+        where
+          by : (has s q ≡ has_stem q.0.items (find q.1.items old)) ⊎ (has s q ≡ has_stem q.0.items (find q.1.items new))
+              → (has n q ≡ has_stem q.0.items (find q.1.items old)) ⊎ (has n q ≡ has_stem q.0.items (find q.1.items new))
+          by (inl k) = inl ((one q).others h ∙ k)
+          by (inr k) = inr ((one q).others h ∙ k)
+
+-- one more change is followed
+pub followed_more : (old new : List KeptWord) (last : List Change) (i : ℕ) (d c : Change) (t : Traced) (s n : BTreeSet Key) → i < length last → c ≡ slice_index_or last i d → Follows old last new
+    → Some t ≡ find c.word.items new → ((q : Key) → IsFollowed c.word.items (outcome_of c.traced.outcome) (outcome_of t.outcome) (has s) (has n) q)
+    → AreFollowedSoFar old new (drop i last) s → AreFollowedSoFar old new (drop (i + 1) last) n
+followed_more old new last i d c t s n below at f is one so =
+    let rest = drop (i + 1) last in
+    let next : drop i last ≡ c ∷ rest = drop-cons last i d below ∙ ap (λ (x : Change). x ∷ drop (suc i) last) (sym at) ∙ ap (λ (k : ℕ). c ∷ drop k last) (sym (add-one i)) in
+    let was : find c.word.items old ≡ Some c.traced = subst (λ (x : Change). find x.word.items old ≡ Some x.traced) (sym at) (f.before i d below) in
+    followed_step old new c rest t s n was is one (subst (λ (l : List Change). AreFollowedSoFar old new l s) next so)
+
+-- ---- the runs before
+
+heads : {A : Type 0} (x y : A) (xs ys : List A) → (x ∷ xs) ≡ (y ∷ ys) → x ≡ y
+heads x y xs ys e = cc e
+
+tails : {A : Type 0} (x y : A) (xs ys : List A) → (x ∷ xs) ≡ (y ∷ ys) → xs ≡ ys
+tails x y xs ys e = cc e
+
+-- the changes have the runs before
+runs_before : (es : List KeptWord) (cs ls : List Change) → map word_run ls ≡ map (word_found es) cs → All (λ c. find c.word.items es ≡ Some c.traced) ls
+runs_before es cs [] was = λ k d h. absurd (omega (arith, h))
+runs_before es [] (l ∷ ls) was = cc was
+runs_before es (c ∷ cs) (l ∷ ls) was =
+    let first = heads (word_run l) (word_found es c) (map word_run ls) (map (word_found es) cs) was in
+    let word : l.word.items ≡ c.word.items = ap (λ (p : List ℕ × Option Traced). p.0) first in
+    let run : Some l.traced ≡ find c.word.items es = ap (λ (p : List ℕ × Option Traced). p.1) first in
+    All-cons (λ (x : Change). find x.word.items es ≡ Some x.traced) l ls (ap (λ (x : List ℕ). find x es) word ∙ sym run)
+    (runs_before es cs ls (tails (word_run l) (word_found es c) (map word_run ls) (map (word_found es) cs) was))
+
+-- the changes have the same words
+same_words : (es : List KeptWord) (cs ls : List Change) (w : List ℕ) → map word_run ls ≡ map (word_found es) cs → is_changed ls w ≡ is_changed cs w
+same_words es [] [] w was = refl
+same_words es [] (l ∷ ls) w was = cc was
+same_words es (c ∷ cs) [] w was = cc was
+same_words es (c ∷ cs) (l ∷ ls) w was =
+    let first = heads (word_run l) (word_found es c) (map word_run ls) (map (word_found es) cs) was in
+    let word : l.word.items ≡ c.word.items = ap (λ (p : List ℕ × Option Traced). p.0) first in
+    ap (λ (x : List ℕ). bytes_eq x w || is_changed ls w) word
+    ∙ ap (λ (b : Bool). bytes_eq c.word.items w || b) (same_words es cs ls w (tails (word_run l) (word_found es c) (map word_run ls) (map (word_found es) cs) was))
+
+pub follows : (es fs : List KeptWord) (cs ls : List Change) → map word_run ls ≡ map (word_found es) cs
+    → ((w : Text) → is_changed cs w.items ≡ false → find w.items fs ≡ find w.items es) → Follows es ls fs
+follows es fs cs ls was others = record {
+  before = runs_before es cs ls was;
+  others = λ w h. others w (sym (same_words es cs ls w.items was) ∙ h);
+}

@@ -1,9 +1,0 @@
-use Rattle.std.proofs.Common.{◌≡◌, ◌++◌, map}
-use Rattle.sbl_bench.specs.Classes.{words_of}
-use Rattle.sbl_bench.specs.Grouping.{words_paired}
-use Rattle.sbl_bench.specs.Pairs.{plain}
-use Rattle.sbl_bench.proofs.class.words_with.Given as goal
-
--- the words so far, and those of the pairs still to come
-abbrev pub invariant-loop-pair : goal.invariant-loop-pair
-invariant-loop-pair l = words_of l.words.items ++ words_paired l.stem (map plain l.pair-iterator) ≡ words_paired l.stem (map plain l.pairs.keys)

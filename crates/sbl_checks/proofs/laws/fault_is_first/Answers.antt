@@ -1,5 +1,0 @@
-use Rattle.sbl_checks.proofs.FirstFault as first
-use Rattle.sbl_checks.proofs.laws.fault_is_first.Goals as goal
-
-pub returns : goal.returns
-returns c = first.fault_is_first

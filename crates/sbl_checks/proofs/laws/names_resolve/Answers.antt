@@ -1,5 +1,0 @@
-use Rattle.sbl_checks.proofs.Resolving as resolving
-use Rattle.sbl_checks.proofs.laws.names_resolve.Goals as goal
-
-pub returns : goal.returns
-returns c = resolving.names_resolve

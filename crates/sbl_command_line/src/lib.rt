@@ -1,6 +1,0 @@
-//! The command line, defined with `clap`: its arguments and its help.
-#![tactic(auto)]
-
-mod command_line;
-
-pub use command_line::{Face, Verb, Wanted, read_words};

@@ -1,0 +1,106 @@
+-- The program of a routine in terms of its names, its mode and its own tree: a `substring` looks ahead for the next
+-- among of its region.
+use Rattle.std.specs.Prelude.{ℕ, suc, Bool, true, false, List, [], ◌∷◌, Option, Some, None}
+use Rattle.sbl_ast.specs.Order.{ItemInMode}
+use Rattle.sbl_ast.specs.declared.tree.Simple.{Simple}
+use Rattle.sbl_ast.specs.declared.tree.Simple.TheVariants as simples
+use Rattle.sbl_ast.specs.Tree as trees
+use Rattle.sbl_ast.specs.Tree.{bracket, simple_, literal_, name_, non_, prefixed, counted, move_, named, splice_, setlimit_, assign_, compare_, compare_values_, among_, no_rows, row, no_others, joined, no_starter, starter, bare, group, declaration, escapes, macro, routine, grouping}
+use Rattle.sbl_program.specs.Listed.{listing}
+use Rattle.sbl_program.specs.Grouped.{join}
+use Rattle.sbl_compiler.specs.Numbered.{name_alone, behind_prefix, behind_count, move, change_named, edit, change_of, relation_of}
+use Rattle.sbl_compiler.specs.NumberedAmongs.{Found, strings_behind, entries_behind}
+use Rattle.sbl_compiler.specs.NumberedNames.{Names, number_of}
+use Rattle.sbl_compiler.specs.NumberedNumbers.{expression, text}
+use Rattle.sbl_program.specs.Program as programs
+use Rattle.sbl_compiler.specs.Regions.{Among, among_at, behind, behind_rows, behind_others, behind_starter, first, first_rows, first_others, mode_behind, waits, waits_others}
+use Rattle.sbl_ast.specs.declared.mode.Mode.{Mode}
+
+abbrev pub found_as : Names → Among → Found
+found_as ns a = record { number = a.number; strings = listing a.mode (strings_behind a.groups []); entries = entries_behind ns 0 a.groups [] }
+
+abbrev pub search_of : Found → programs.Node
+search_of f = programs.search f.number f.strings f.entries
+
+-- an among does its search itself, followed by its starter, unless a `substring` waits for it
+abbrev pub search_then : Names → Bool → Among → programs.Nodes → programs.Nodes
+search_then ns true a cs = programs.no_commands
+search_then ns false a cs = programs.command (search_of (found_as ns a)) cs
+
+-- f if the region has no among ahead
+abbrev pub search_next : Names → Option Among → programs.Node
+search_next ns None = programs.act programs.f
+search_next ns (Some a) = search_of (found_as ns a)
+
+abbrev pub simple_by : Names → Simple → Option Among → programs.Node
+simple_by ns simples.LeftBracket n = programs.act programs.left_bracket
+simple_by ns simples.RightBracket n = programs.act programs.right_bracket
+simple_by ns simples.Substring n = search_next ns n
+simple_by ns simples.Next n = programs.act programs.next
+simple_by ns simples.ToLimit n = programs.act programs.tolimit
+simple_by ns simples.AtLimit n = programs.act programs.atlimit
+simple_by ns simples.Delete n = programs.act programs.delete
+simple_by ns simples.True n = programs.act programs.t
+simple_by ns simples.False n = programs.act programs.f
+
+module _ (ns : Names) where
+  abbrev mutual
+    pub made : Mode → ℕ → Bool → Option Among → trees.Command → programs.Node
+    made m k w next (bracket rs) = programs.sequence (made_rows m k w next rs)
+    made m k w next (simple_ s) = simple_by ns s next
+    made m k w next (literal_ q) = programs.act (programs.match (programs.literal q.value))
+    made m k w next (name_ n) = name_alone ns n
+    made m k w next (non_ b n) = programs.act (programs.non (number_of ns.groupings n))
+    made m k w next (prefixed x c) = behind_prefix x (made (mode_behind x m) k w next c)
+    made m k w next (counted x e c) = behind_count x (expression ns e) (made m k w next c)
+    made m k w next (move_ x e) = programs.act (move x (expression ns e))
+    made m k w next (named x n) = programs.act (change_named ns x n)
+    made m k w next (splice_ x a) = programs.act (edit x (text ns a))
+    made m k w next (setlimit_ b c) = programs.setlimit (made m k w (first m c (behind b k) next) b) (made m (behind b k) (waits b w) next c)
+    made m k w next (assign_ n o e) = programs.act (programs.assign (number_of ns.integers n) (change_of o) (expression ns e))
+    made m k w next (compare_ n o e) = programs.act (programs.compare (programs.integer (number_of ns.integers n)) (relation_of o) (expression ns e))
+    made m k w next (compare_values_ e o f) = programs.act (programs.compare (expression ns e) (relation_of o) (expression ns f))
+    made m k w next (among_ s gs) = programs.among k (search_then ns w (among_at m k gs) (made_starter m (suc k) s)) (made_groups m (behind_starter s (suc k)) gs)
+
+    pub made_rows : Mode → ℕ → Bool → Option Among → trees.Rows → programs.Nodes
+    made_rows m k w next no_rows = programs.no_commands
+    made_rows m k w next (row c os rs) =
+        programs.command
+        (made_others m (behind c k) (waits c w) (first_rows m rs (behind_others os (behind c k)) next) os
+        (made m k w (first_others m os (behind c k) (first_rows m rs (behind_others os (behind c k)) next)) c))
+        (made_rows m (behind_others os (behind c k)) (waits_others os (waits c w)) next rs)
+
+    -- commands joined from left to right to the one so far
+    pub made_others : Mode → ℕ → Bool → Option Among → trees.Others → programs.Node → programs.Node
+    made_others m k w next no_others sofar = sofar
+    made_others m k w next (joined j c os) sofar =
+        made_others m (behind c k) (waits c w) next os (join j sofar (made m k w (first_others m os (behind c k) next) c))
+
+    pub made_starter : Mode → ℕ → trees.Starter → programs.Nodes
+    made_starter m k no_starter = programs.no_commands
+    made_starter m k (starter rs) = programs.command (programs.sequence (made_rows m k false None rs)) programs.no_commands
+
+    pub made_groups : Mode → ℕ → trees.Groups → programs.Nodes
+    made_groups m k (bare es) = programs.no_commands
+    made_groups m k (group e es rs gs) =
+        programs.command (programs.sequence (made_rows m k false None rs)) (made_groups m (behind_rows rs k) gs)
+
+  -- a routine of this mode
+  abbrev pub routine_made : Mode → trees.Command → trees.Others → programs.Routine
+  routine_made m c os = record {
+    body = made_others m (behind c 0) (waits c false) None os (made m 0 false (first_others m os (behind c 0) None) c);
+    amongs = behind_others os (behind c 0);
+  }
+
+-- the routine of an item, if it has one, before others
+abbrev pub routine_in : Names → Mode → trees.Plain → List programs.Routine → List programs.Routine
+routine_in ns m (routine n c os) rs = routine_made ns m c os ∷ rs
+routine_in ns m (declaration k xs) rs = rs
+routine_in ns m (escapes a b) rs = rs
+routine_in ns m (macro n b q) rs = rs
+routine_in ns m (grouping n a ts) rs = rs
+
+-- the routines of these items, in their order
+abbrev pub routines_in : Names → List ItemInMode → List programs.Routine
+routines_in ns [] = []
+routines_in ns (x ∷ xs) = routine_in ns x.mode x.plain (routines_in ns xs)

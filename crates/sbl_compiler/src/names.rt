@@ -1,0 +1,92 @@
+//! The names of a script by kind, and their numbers.
+
+ghost use Rattle.std.specs.Prelude.{◌≡◌, ◌++◌, map, OnOk, IfOk, string_bytes};
+ghost use Rattle.sbl_ast.specs.Order.{view_in_mode};
+ghost use Rattle.sbl_ast.specs.View.{view_plain};
+ghost use Rattle.sbl_compiler.specs.NumberedNames as spec;
+ghost use Rattle.sbl_compiler.specs.NumberedView.{view_names};
+
+use crate::name_list::NameList;
+use sbl_ast::{DeclarationKind, ItemInMode, Plain};
+use std::alloc::{AllocError, Global};
+
+/// The names of a script: variables in the order of their declarations, groupings and routines in the order of their
+/// definitions.
+#[derive(Drop)]
+pub struct SymbolTable {
+    /// The string variables.
+    pub strings: NameList,
+    /// The integers.
+    pub integers: NameList,
+    /// The booleans.
+    pub booleans: NameList,
+    /// The groupings.
+    pub groupings: NameList,
+    /// The routines.
+    pub routines: NameList,
+}
+
+// Adds names after the others. Returns `AllocError` if an allocation fails.
+fn add_names(alloc: Global, more: &Vec<String>, names: &mut NameList) -> Result<(), AllocError>
+    ensures { OnOk result (names.new ≡ names.old ++ map string_bytes more.now.items) }
+{
+    for name in more {
+        names.add(alloc, name.as_str())?;
+    }
+    Ok(())
+}
+
+fn declare(
+    alloc: Global,
+    kind: DeclarationKind,
+    more: &Vec<String>,
+    names: &mut SymbolTable,
+) -> Result<(), AllocError>
+    ensures { OnOk result (view_names names.new ≡ spec.declaring kind (map string_bytes more.now.items) (view_names names.old)) }
+{
+    match kind {
+        DeclarationKind::Strings => add_names(alloc, more, &mut names.strings),
+        DeclarationKind::Integers => add_names(alloc, more, &mut names.integers),
+        DeclarationKind::Booleans => add_names(alloc, more, &mut names.booleans),
+        DeclarationKind::Routines | DeclarationKind::Externals | DeclarationKind::Groupings => Ok(
+            (),
+        ),
+    }
+}
+
+fn name_item(alloc: Global, plain: &Plain, names: &mut SymbolTable) -> Result<(), AllocError>
+    ensures { OnOk result (view_names names.new ≡ spec.naming (view_plain plain.now) (view_names names.old)) }
+{
+    match plain {
+        Plain::Declaration(kind, more) => declare(alloc, *kind, more, names),
+        Plain::Routine { name, body: _ } => names.routines.add(alloc, name.as_str()),
+        Plain::Grouping {
+            name,
+            first: _,
+            others: _,
+        } => names.groupings.add(alloc, name.as_str()),
+        Plain::StringEscapes(_, _) => Ok(()),
+        Plain::StringDef {
+            name: _,
+            base: _,
+            value: _,
+        } => Ok(()),
+    }
+}
+
+/// Returns the names of a script. Returns `AllocError` if an allocation fails.
+pub fn names_of(alloc: Global, items: &[ItemInMode]) -> Result<SymbolTable, AllocError>
+    ensures { IfOk result (λ names. view_names names ≡ spec.names_behind (map view_in_mode items.now) spec.no_names) }
+{
+    let mut names = SymbolTable {
+        strings: NameList::new(alloc),
+        integers: NameList::new(alloc),
+        booleans: NameList::new(alloc),
+        groupings: NameList::new(alloc),
+        routines: NameList::new(alloc),
+    };
+    for item in items {
+        name_item(alloc, item.plain, &mut names)?;
+    }
+    Ok(names)
+}

@@ -1,0 +1,175 @@
+//! The position of a command among the amongs of a script.
+
+ghost use Rattle.std.specs.Prelude.{◌≡◌, List, length};
+ghost use Rattle.sbl_ast.specs.View.{view_command, view_rows, view_row, view_others, view_among, view_groups};
+ghost use Rattle.sbl_ast.specs.Tree as trees;
+ghost use Rattle.sbl_compiler.specs.Numbered as spec;
+ghost use Rattle.sbl_compiler.specs.NumberedView.{view_place};
+
+use sbl_ast::{Among, Command, Group, Joined, RowOfCommands, Simple};
+use sbl_program::Found;
+
+/// The position of a command.
+#[derive(Clone, Copy)]
+pub struct CommandPosition {
+    /// The number of the next among in the script.
+    pub next: usize,
+    /// The number of the amongs still to come that are after its region.
+    pub behind: usize,
+    /// Whether a `substring` waits for the next among.
+    pub waits: bool,
+}
+
+/// Returns the number of amongs still to come.
+pub fn left_of(amongs: &Vec<Found>, place: CommandPosition) -> usize
+    ensures { result ≡ length (view_place amongs.now.items place).coming }
+{
+    amongs.len().saturating_sub(place.next)
+}
+
+/// Returns the position inside the next among, after its word.
+pub fn inside(amongs: &Vec<Found>, place: CommandPosition) -> CommandPosition
+    ensures { view_place amongs.now.items result ≡ spec.inside (view_place amongs.now.items place) }
+{
+    CommandPosition {
+        next: if place.next < amongs.len() {
+            place.next + 1
+        } else {
+            place.next
+        },
+        behind: place.behind,
+        waits: false,
+    }
+}
+
+/// Returns the same position, at which no `substring` waits.
+pub fn closed(_amongs: &Vec<Found>, place: CommandPosition) -> CommandPosition
+    ensures { view_place _amongs.now.items result ≡ spec.closed (view_place _amongs.now.items place) }
+{
+    CommandPosition {
+        waits: false,
+        ..place
+    }
+}
+
+/// Returns the position at the beginning of a region; `behind` is the position after the region.
+pub fn begun(
+    amongs: &Vec<Found>,
+    place: CommandPosition,
+    behind: CommandPosition,
+) -> CommandPosition
+    ensures { view_place amongs.now.items result ≡ spec.begun (view_place amongs.now.items place) (view_place amongs.now.items behind) }
+{
+    CommandPosition {
+        next: place.next,
+        behind: left_of(amongs, behind),
+        waits: false,
+    }
+}
+
+fn past_simple(_amongs: &Vec<Found>, word: Simple, place: CommandPosition) -> CommandPosition
+    ensures { view_place _amongs.now.items result ≡ spec.past_simple word (view_place _amongs.now.items place) }
+{
+    match word {
+        Simple::Substring => CommandPosition {
+            waits: true,
+            ..place
+        },
+        Simple::LeftBracket
+        | Simple::RightBracket
+        | Simple::Next
+        | Simple::ToLimit
+        | Simple::AtLimit
+        | Simple::Delete
+        | Simple::True
+        | Simple::False => place,
+    }
+}
+
+/// Returns the position after a command.
+#[cycle(passing)]
+fn past(amongs: &Vec<Found>, command: &Command, place: CommandPosition) -> CommandPosition
+    ensures { view_place amongs.now.items result ≡ spec.past (view_command command.now) (view_place amongs.now.items place) }
+{
+    match command {
+        Command::Bracket(rows) => past_rows(amongs, rows, place),
+        Command::Simple(word) => past_simple(amongs, *word, place),
+        Command::Prefixed(_, inner) => past(amongs, inner, place),
+        Command::Counted(_, _, inner) => past(amongs, inner, place),
+        Command::SetLimit(limit, inner) => {
+            let between = past(amongs, limit, place);
+            past(amongs, inner, between)
+        }
+        Command::Among(among) => past_among(amongs, among, place),
+        Command::Literal(_)
+        | Command::Name(_)
+        | Command::Non {
+            with_minus: _,
+            name: _,
+        }
+        | Command::Move(_, _)
+        | Command::Named(_, _)
+        | Command::Splice(_, _)
+        | Command::Assign(_, _, _)
+        | Command::Compare(_, _, _)
+        | Command::CompareValues(_, _, _) => place,
+    }
+}
+
+/// Returns the position after the rows in parentheses.
+#[cycle(passing)]
+pub fn past_rows(
+    amongs: &Vec<Found>,
+    rows: &Vec<RowOfCommands>,
+    place: CommandPosition,
+) -> CommandPosition
+    ensures { view_place amongs.now.items result ≡ spec.past_rows (view_rows rows.now.items) (view_place amongs.now.items place) }
+{
+    let mut behind = place;
+    for row in rows {
+        behind = past_row(amongs, row, behind);
+    }
+    behind
+}
+
+/// Returns the position after a row.
+#[cycle(passing)]
+pub fn past_row(amongs: &Vec<Found>, row: &RowOfCommands, place: CommandPosition) -> CommandPosition
+    ensures { view_place amongs.now.items result ≡ spec.past_others (view_row row.now).1 (spec.past (view_row row.now).0 (view_place amongs.now.items place)) }
+{
+    let first = past(amongs, &row.first, place);
+    past_others(amongs, &row.others, first)
+}
+
+#[cycle(passing)]
+fn past_others(amongs: &Vec<Found>, others: &Vec<Joined>, place: CommandPosition) -> CommandPosition
+    ensures { view_place amongs.now.items result ≡ spec.past_others (view_others others.now.items) (view_place amongs.now.items place) }
+{
+    let mut behind = place;
+    for joined in others {
+        behind = past(amongs, &joined.command, behind);
+    }
+    behind
+}
+
+#[cycle(passing)]
+fn past_among(amongs: &Vec<Found>, among: &Among, place: CommandPosition) -> CommandPosition
+    ensures { view_place amongs.now.items result ≡ spec.past (trees.among_ (view_among among.now).0 (view_among among.now).1) (view_place amongs.now.items place) }
+{
+    let mut behind = inside(amongs, place);
+    if let Some(rows) = &among.starter {
+        behind = past_rows(amongs, rows, behind);
+    }
+    closed(amongs, past_groups(amongs, &among.groups, behind))
+}
+
+#[cycle(passing)]
+fn past_groups(amongs: &Vec<Found>, groups: &Vec<Group>, place: CommandPosition) -> CommandPosition
+    ensures { (bare : List trees.Entry) → view_place amongs.now.items result ≡ spec.past_groups (view_groups groups.now.items bare) (view_place amongs.now.items place) }
+{
+    let mut behind = place;
+    for group in groups {
+        behind = past_rows(amongs, &group.rows, closed(amongs, behind));
+    }
+    behind
+}

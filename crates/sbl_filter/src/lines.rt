@@ -1,0 +1,44 @@
+//! The text of records, one line at a time.
+ghost use Rattle.std.specs.Prelude.{◌≡◌, IfOk, OnOk};
+ghost use Rattle.csv.specs.Records.{fields_of};
+ghost use Rattle.sbl_filter.specs.LineWriter.{IsBetweenLines};
+ghost use Rattle.sbl_io.specs.Records as texts;
+
+use csv::{ByteRecord, Writer, WriterBuilder};
+use std::alloc::{AllocError, Global};
+
+/// A writer of lines keeps at most this many bytes before its next line.
+const MOST: usize = 65_536;
+
+/// Returns a writer of lines that has no line yet. Does not allocate.
+pub(crate) fn line_writer(alloc: Global) -> Writer<Vec<u8>>
+    ensures { IsBetweenLines result }
+{
+    WriterBuilder::new()
+        .flexible(true)
+        .from_writer(Vec::new(alloc))
+}
+
+/// Returns the text of one record: its fields, quoted if `csv` quotes them, and a line feed. Returns `AllocError` if an
+/// allocation fails.
+///
+/// A writer of `csv` has a buffer that takes longer to make than a line. So it makes many lines.
+#[inline(never)]
+pub(crate) fn next_line(
+    alloc: Global,
+    lines: &mut Writer<Vec<u8>>,
+    csv_record: &ByteRecord,
+) -> Result<Vec<u8>, AllocError>
+    requires { IsBetweenLines lines.old }
+    ensures line { IfOk result (λ text. text.items ≡ texts.record_line (fields_of csv_record.now)) }
+    ensures between { OnOk result (IsBetweenLines lines.new) }
+{
+    if MOST < lines.get_ref().len() {
+        *lines = line_writer(alloc);
+    }
+    let before = lines.get_ref().len();
+    if lines.write_byte_record(csv_record).is_err() || lines.flush().is_err() {
+        return Err(AllocError);
+    }
+    Vec::from_slice(alloc, &lines.get_ref()[before..])
+}

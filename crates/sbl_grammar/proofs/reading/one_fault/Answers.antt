@@ -1,8 +1,0 @@
-use Rattle.sbl_grammar.proofs.OneFault.{fault_is_one, tree_or_fault}
-use Rattle.sbl_grammar.proofs.reading.one_fault.Goals as goal
-
-pub returns-clause-one : goal.returns-clause-one
-returns-clause-one c = fault_is_one
-
-pub returns-clause-none : goal.returns-clause-none
-returns-clause-none c = tree_or_fault

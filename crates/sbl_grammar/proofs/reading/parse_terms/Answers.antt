@@ -1,6 +1,0 @@
-use Rattle.sbl_tree.specs.Texts.{terms}
-use Rattle.sbl_grammar.proofs.Whole.{fault_of}
-use Rattle.sbl_grammar.proofs.reading.parse_terms.Goals as goal
-
-pub returns-in-Err-clause-fault : goal.returns-in-Err-clause-fault
-returns-in-Err-clause-fault c = rw c.told.ensures (fault_of terms c.args.tokens.now c.args.end c.in-Err.error c.in-Err.ensures.fault)

@@ -1,0 +1,214 @@
+-- What a command does, from its step on: the forms that the search leaves.
+use Rattle.std.proofs.Common.{◌≡◌, ℕ, ◌+◌, ◌-◌, ◌<◌, ◌≤◌, zero, suc, Bool, true, false, List, [], ◌∷◌, Option, Some, None, Result, Err, refl, sym, ap, ◌∙◌, arith, rules, length, get_or, Vec, Box, Global}
+use Rattle.std.specs.Prelude.{slice_get, drop}
+use Rattle.std.proofs.lemmas.List.{drop_more}
+use Rattle.sbl_program.specs.declared.action.Arithmetic.{Arithmetic}
+use Rattle.sbl_interpreter.specs.declared.fault.RunFault.{RunFault}
+use Rattle.sbl_interpreter.specs.declared.halt.Halt.{Halt}
+use Rattle.sbl_program.specs.declared.node.Candidate.{Candidate}
+use Rattle.sbl_program.specs.declared.node.Node.{Node}
+use Rattle.sbl_program.specs.declared.node.Node.TheVariants.{Not, Test, Try, Do, Fail, Backwards, Goto, GoPast, SetLimit, Repeat, Loop, AtLeast, Search, Among, Sequence}
+use Rattle.sbl_interpreter.specs.declared.state.Limits.{Limits}
+use Rattle.sbl_program.specs.declared.node.Node.TheFolds.{fold_out-Node}
+use Rattle.sbl_program.specs.declared.node.Node.TheViews.{the_lemmas}
+use Rattle.sbl_interpreter.specs.Halts.{fault_of}
+use Rattle.sbl_interpreter.specs.Kept.{Follows, Halts, Tried}
+use Rattle.sbl_program.specs.Listed.{Listed}
+use Rattle.sbl_among_search.specs.Fitting.{first}
+use Rattle.sbl_interpreter.specs.Moves.{next}
+use Rattle.sbl_interpreter.specs.Numbers.{value, given}
+use Rattle.sbl_program.specs.ProgramOf.{view_node, view_nodes, view_number}
+use Rattle.sbl_program.specs.Program as programs
+use Rattle.sbl_interpreter.specs.Run.{runs_paid, turns, times, count_of, seeks, found, backwards_from, backwards_end, calls, runs, all_run, group_runs, nth_runs, leave, back_in, enter, body_does, limits, limited, limit_here, limit_back}
+use Rattle.sbl_interpreter.specs.Search.{choice, search_all, tries, try_one}
+use Rattle.sbl_interpreter.specs.State.{State, Ending, Doing, Signals, Stops, after, then_on, saved_cursor, put_back}
+use Rattle.sbl_ast.specs.declared.mode.Mode.{Mode}
+use Rattle.sbl_ast.specs.declared.mode.Mode.TheVariants.{Backward}
+
+-- an early end, through what leaves it as it is
+passed : (o : Option RunFault) (new : State) (e : Ending) (f : Ending → Ending) → ((fault : RunFault) → f (Stops fault new) ≡ Stops fault new) → Halts o new e → Halts o new (f e)
+passed None new e f same h = tt
+passed (Some fault) new e f same h = ap f h ∙ same fault
+
+-- an early end, fault by fault
+by_fault_of : (o : Option RunFault) (new : State) (e : Ending) → ((fault : RunFault) → o ≡ Some fault → e ≡ Stops fault new) → Halts o new e
+by_fault_of None new e h = tt
+by_fault_of (Some fault) new e h = h fault refl
+
+pub by_fault : (halt : Halt) (new : State) (e : Ending) → ((fault : RunFault) → fault_of halt ≡ Some fault → e ≡ Stops fault new) → Follows (Err halt) new e
+by_fault halt new e h = by_fault_of (fault_of halt) new e h
+
+stops_of : (o : Option RunFault) (new : State) (e : Ending) (fault : RunFault) → o ≡ Some fault → Halts o new e → e ≡ Stops fault new
+stops_of None new e fault is h = let no : ⊥ = cc in absurd no
+stops_of (Some f) new e fault is h = let same : f ≡ fault = cc in h ∙ ap (λ (k : RunFault). Stops k new) same
+
+pub stops_at : (halt : Halt) (new : State) (e : Ending) (fault : RunFault) → fault_of halt ≡ Some fault → Follows (Err halt) new e → e ≡ Stops fault new
+stops_at halt new e fault is h = stops_of (fault_of halt) new e fault is h
+
+pub follows_at : (r : Result Bool Halt) (new : State) (e w : Ending) → e ≡ w → Follows r new w → Follows r new e
+follows_at r new e w p h = rw p h
+
+view_repeat : (T : ℕ → Listed) (inner : Box Node Global) → view_node T (Repeat inner) ≡ programs.repeat (view_node T inner.value)
+view_repeat T inner = first_of (search (rules, the_lemmas), search (rules, the_lemmas, fold_out-Node))
+
+view_loop : (T : ℕ → Listed) (n : Arithmetic) (inner : Box Node Global) → view_node T (Loop n inner) ≡ programs.loop (view_number n) (view_node T inner.value)
+view_loop T n inner = first_of (search (rules, the_lemmas), search (rules, the_lemmas, fold_out-Node))
+
+view_atleast : (T : ℕ → Listed) (n : Arithmetic) (inner : Box Node Global) → view_node T (AtLeast n inner) ≡ programs.atleast (view_number n) (view_node T inner.value)
+view_atleast T n inner = first_of (search (rules, the_lemmas), search (rules, the_lemmas, fold_out-Node))
+
+view_search : (T : ℕ → Listed) (k table : ℕ) (entries : Vec Candidate Global) → view_node T (Search k table entries) ≡ programs.search k (T table) entries.items
+view_search T k table entries = first_of (search (rules, the_lemmas), search (rules, the_lemmas, fold_out-Node))
+
+view_among : (T : ℕ → Listed) (k : ℕ) (before bodies : Vec Node Global) → view_node T (Among k before bodies) ≡ programs.among k (view_nodes T before.items) (view_nodes T bodies.items)
+view_among T k before bodies = first_of (search (rules, the_lemmas), search (rules, the_lemmas, fold_out-Node))
+
+view_sequence : (T : ℕ → Listed) (cs : Vec Node Global) → view_node T (Sequence cs) ≡ programs.sequence (view_nodes T cs.items)
+view_sequence T cs = first_of (search (rules, the_lemmas), search (rules, the_lemmas, fold_out-Node))
+
+view_goto : (T : ℕ → Listed) (inner : Box Node Global) → view_node T (Goto inner) ≡ programs.goto (view_node T inner.value)
+view_goto T inner = first_of (search (rules, the_lemmas), search (rules, the_lemmas, fold_out-Node))
+
+view_gopast : (T : ℕ → Listed) (inner : Box Node Global) → view_node T (GoPast inner) ≡ programs.gopast (view_node T inner.value)
+view_gopast T inner = first_of (search (rules, the_lemmas), search (rules, the_lemmas, fold_out-Node))
+
+view_setlimit : (T : ℕ → Listed) (a b : Box Node Global) → view_node T (SetLimit a b) ≡ programs.setlimit (view_node T a.value) (view_node T b.value)
+view_setlimit T a b = first_of (search (rules, the_lemmas), search (rules, the_lemmas, fold_out-Node))
+
+pub goto_does : (T : ℕ → Listed) (p : programs.Program) (levels : ℕ) (inner : Box Node Global) (m : Mode) (s : State) → runs_paid p levels (view_node T (Goto inner)) m s ≡ seeks (suc s.steps) false (runs p levels (view_node T inner.value)) m s
+goto_does T p levels inner m s = ap (λ c. runs_paid p levels c m s) (view_goto T inner)
+
+pub gopast_does : (T : ℕ → Listed) (p : programs.Program) (levels : ℕ) (inner : Box Node Global) (m : Mode) (s : State) → runs_paid p levels (view_node T (GoPast inner)) m s ≡ seeks (suc s.steps) true (runs p levels (view_node T inner.value)) m s
+gopast_does T p levels inner m s = ap (λ c. runs_paid p levels c m s) (view_gopast T inner)
+
+pub setlimit_does : (T : ℕ → Listed) (p : programs.Program) (levels : ℕ) (a b : Box Node Global) (m : Mode) (s : State) → runs_paid p levels (view_node T (SetLimit a b)) m s ≡ after (runs p levels (view_node T a.value) m s) (λ t. then_on (put_back m (saved_cursor s) (limit_here m t)) (λ u. limited m (limits s) (runs p levels (view_node T b.value) m u))) (Signals false)
+setlimit_does T p levels a b m s = ap (λ c. runs_paid p levels c m s) (view_setlimit T a b)
+
+pub limited_signals : (m : Mode) (from : Limits) (e : Ending) (b : Bool) (t : State) → e ≡ Signals b t → limited m from e ≡ Signals b (limit_back m from t)
+limited_signals m from e true t p = ap (limited m from) p
+limited_signals m from e false t p = ap (limited m from) p
+
+pub limited_halts : (m : Mode) (from : Limits) (halt : Halt) (new : State) (e : Ending) → Follows (Err halt) new e → Follows (Err halt) new (limited m from e)
+limited_halts m from halt new e h = passed (fault_of halt) new e (limited m from) (λ fault. refl) h
+
+pub one_time : (l : ℕ) (c : Doing) (m : Mode) (s new : State) (w : Ending) → 0 < l → c m s ≡ Signals true new → times l c m s ≡ w → times (l - 1) c m new ≡ w
+one_time zero c m s new w l e h = absurd (omega arith)
+one_time (suc k) c m s new w l e h =
+    let j : suc k - 1 ≡ k = omega arith in
+    ap (λ n. times n c m new) j ∙ sym (ap (λ r. after r (times k c m) (Signals false)) e) ∙ h
+
+pub repeat_does : (T : ℕ → Listed) (p : programs.Program) (levels : ℕ) (inner : Box Node Global) (m : Mode) (s : State) → runs_paid p levels (view_node T (Repeat inner)) m s ≡ turns (suc s.steps) (runs p levels (view_node T inner.value)) m s
+repeat_does T p levels inner m s = ap (λ c. runs_paid p levels c m s) (view_repeat T inner)
+
+pub loop_does : (T : ℕ → Listed) (p : programs.Program) (levels : ℕ) (n : Arithmetic) (inner : Box Node Global) (m : Mode) (s : State) → runs_paid p levels (view_node T (Loop n inner)) m s ≡ given (value (view_number n) m s) s (λ z. times (count_of z) (runs p levels (view_node T inner.value)) m s)
+loop_does T p levels n inner m s = ap (λ c. runs_paid p levels c m s) (view_loop T n inner)
+
+pub atleast_does : (T : ℕ → Listed) (p : programs.Program) (levels : ℕ) (n : Arithmetic) (inner : Box Node Global) (m : Mode) (s : State) → runs_paid p levels (view_node T (AtLeast n inner)) m s ≡ after (given (value (view_number n) m s) s (λ z. times (count_of z) (runs p levels (view_node T inner.value)) m s)) (λ t. turns (suc t.steps) (runs p levels (view_node T inner.value)) m t) (Signals false)
+atleast_does T p levels n inner m s = ap (λ c. runs_paid p levels c m s) (view_atleast T n inner)
+
+pub search_does : (T : ℕ → Listed) (p : programs.Program) (levels k table : ℕ) (entries : Vec Candidate Global) (m : Mode) (s : State) → runs_paid p levels (view_node T (Search k table entries)) m s ≡ search_all (calls p levels) k entries.items (T table) m s
+search_does T p levels k table entries m s = ap (λ c. runs_paid p levels c m s) (view_search T k table entries)
+
+pub among_does : (T : ℕ → Listed) (p : programs.Program) (levels k : ℕ) (before bodies : Vec Node Global) (m : Mode) (s : State) → runs_paid p levels (view_node T (Among k before bodies)) m s ≡ after (all_run p levels (view_nodes T before.items) m s) (λ t. group_runs p levels (view_nodes T bodies.items) (choice k t) m t) (Signals false)
+among_does T p levels k before bodies m s = ap (λ c. runs_paid p levels c m s) (view_among T k before bodies)
+
+pub sequence_does : (T : ℕ → Listed) (p : programs.Program) (levels : ℕ) (cs : Vec Node Global) (m : Mode) (s : State) → runs_paid p levels (view_node T (Sequence cs)) m s ≡ all_run p levels (view_nodes T cs.items) m s
+sequence_does T p levels cs m s = ap (λ c. runs_paid p levels c m s) (view_sequence T cs)
+
+-- the g-th of some commands
+pub nth_is : (T : ℕ → Listed) (p : programs.Program) (levels : ℕ) (ns : List Node) (g : ℕ) (n : Node) (m : Mode) (s : State) → g < length ns → n ≡ get_or ns g n → nth_runs p levels (view_nodes T ns) g m s ≡ runs p levels (view_node T n) m s
+nth_is T p levels [] g n m s l e = absurd (omega arith)
+nth_is T p levels (x ∷ ns) zero n m s l e = ap (λ c. runs p levels (view_node T c) m s) (sym e)
+nth_is T p levels (x ∷ ns) (suc g) n m s l e = nth_is T p levels ns g n m s (omega arith) e
+
+pub nth_past : (T : ℕ → Listed) (p : programs.Program) (levels : ℕ) (ns : List Node) (g : ℕ) (m : Mode) (s : State) → length ns ≤ g → nth_runs p levels (view_nodes T ns) g m s ≡ Signals true s
+nth_past T p levels [] g m s l = refl
+nth_past T p levels (x ∷ ns) zero m s l = absurd (omega arith)
+nth_past T p levels (x ∷ ns) (suc g) m s l = nth_past T p levels ns g m s (omega arith)
+
+pub one_turn : (n : ℕ) (c : Doing) (m : Mode) (s new : State) (w : Ending) → new.steps < s.steps → s.steps ≤ n → c m s ≡ Signals true new → turns (suc n) c m s ≡ w → (k : ℕ) × (new.steps ≤ k) × (turns (suc k) c m new ≡ w)
+one_turn zero c m s new w f l e h = absurd (omega arith)
+one_turn (suc k) c m s new w f l e h = (k, omega arith, sym (ap (λ r. after r (turns (suc k) c m) (put_back m (saved_cursor s))) e) ∙ h)
+
+pub one_try : (n : ℕ) (past : Bool) (c : Doing) (m : Mode) (s f b new : State) (w : Ending) → new.steps < s.steps → s.steps ≤ n → c m s ≡ Signals false f → put_back m (saved_cursor s) f ≡ Signals true b → next m b ≡ Signals true new → seeks (suc n) past c m s ≡ w → (k : ℕ) × (new.steps ≤ k) × (seeks (suc k) past c m new ≡ w)
+one_try zero past c m s f b new w less l e p x h = absurd (omega arith)
+one_try (suc k) past c m s f b new w less l e p x h =
+    let go = λ (b : State). after (next m b) (seeks (suc k) past c m) (Signals false) in
+    (k, omega arith, sym (ap (λ r. after r (found past m s) (λ f. then_on (put_back m (saved_cursor s) f) go)) e ∙ ap (λ r. then_on r go) p ∙ ap (λ r. after r (seeks (suc k) past c m) (Signals false)) x) ∙ h)
+
+pub one_more : (call : ℕ → Doing) (a : ℕ) (es : List Candidate) (m : Mode) (from : State) (rest : List ℕ) (i : ℕ) (s : State) (place : Option ℕ) → place ≡ first rest → place ≡ Some i → (js : List ℕ) × (rest ≡ i ∷ js) × (tries call a es m from rest s ≡ try_one call a (slice_get es i) m from s (tries call a es m from js))
+one_more call a es m from [] i s place p q = let e : Some i ≡ None = sym q ∙ p in absurd (let no : ⊥ = cc in no)
+one_more call a es m from (j ∷ js) i s place p q =
+    let e : Some i ≡ Some j = sym q ∙ p in
+    let same : i ≡ j = cc in
+    (js, ap (λ k. k ∷ js) (sym same), ap (λ k. try_one call a (slice_get es k) m from s (tries call a es m from js)) (sym same))
+
+pub halted : (halt : Halt) (new : State) (e f w : Ending) → Tried (Err halt) new e f → e ≡ w → Follows (Err halt) new w
+halted halt new e f w h p = follows_at (Err halt) new w e (sym p) h
+
+-- a call with a level left
+pub called : (p : programs.Program) (n i : ℕ) (m : Mode) (s : State) (r : programs.Routine) → 0 < n → slice_get p.routines i ≡ Some r → calls p n i m s ≡ leave s.routine s.choices (runs p (n - 1) r.body m (enter i r.amongs s))
+called p zero i m s r h e = absurd (omega arith)
+called p (suc n) i m s r h e =
+    let k : n ≡ suc n - 1 = omega arith in
+    ap (λ o. body_does (runs p n) i o m s) e ∙ ap (λ k. leave s.routine s.choices (runs p k r.body m (enter i r.amongs s))) k
+
+pub leave_signals : (i : ℕ) (cs : List (Option ℕ)) (e : Ending) (b : Bool) (t : State) → e ≡ Signals b t → leave i cs e ≡ Signals b (back_in i cs b t)
+leave_signals i cs e true t p = ap (leave i cs) p
+leave_signals i cs e false t p = ap (leave i cs) p
+
+pub leave_halts : (i : ℕ) (cs : List (Option ℕ)) (halt : Halt) (new : State) (e : Ending) → Follows (Err halt) new e → Follows (Err halt) new (leave i cs e)
+leave_halts i cs halt new e h = passed (fault_of halt) new e (leave i cs) (λ fault. refl) h
+
+pub after_halts : (halt : Halt) (new : State) (e : Ending) (on_t on_f : State → Ending) → Follows (Err halt) new e → Follows (Err halt) new (after e on_t on_f)
+after_halts halt new e on_t on_f h = passed (fault_of halt) new e (λ r. after r on_t on_f) (λ fault. refl) h
+
+-- a command whose signal is not looked at
+pub either_way : (b : Bool) (u : State) (go : State → Ending) → after (Signals b u) go go ≡ go u
+either_way true u go = refl
+either_way false u go = refl
+
+-- the i-th of some commands, and then those that follow it
+pub turn_is : (T : ℕ → Listed) (p : programs.Program) (levels : ℕ) (cs : List Node) (i : ℕ) (x : Node) (m : Mode) (s : State) → i < length cs → x ≡ get_or cs i x → all_run p levels (view_nodes T (drop i cs)) m s ≡ after (runs p levels (view_node T x) m s) (all_run p levels (view_nodes T (drop (i + 1) cs)) m) (Signals false)
+turn_is T p levels cs i x m s l e = ap (λ ns. all_run p levels (view_nodes T ns) m s) (drop_more cs i x l ∙ ap (λ y. y ∷ drop (i + 1) cs) (sym e))
+
+-- a turn that is refused
+pub time_stops : (l : ℕ) (c : Doing) (m : Mode) (s new : State) (fault : RunFault) → 0 < l → c m s ≡ Stops fault new → times l c m s ≡ Stops fault new
+time_stops zero c m s new fault l e = absurd (omega arith)
+time_stops (suc k) c m s new fault l e = ap (λ r. after r (times k c m) (Signals false)) e
+
+view_not : (T : ℕ → Listed) (inner : Box Node Global) → view_node T (Not inner) ≡ programs.not (view_node T inner.value)
+view_not T inner = first_of (search (rules, the_lemmas), search (rules, the_lemmas, fold_out-Node))
+
+pub not_does : (T : ℕ → Listed) (p : programs.Program) (levels : ℕ) (inner : Box Node Global) (m : Mode) (s : State) → runs_paid p levels (view_node T (Not inner)) m s ≡ after (runs p levels (view_node T inner.value) m s) (Signals false) (put_back m (saved_cursor s))
+not_does T p levels inner m s = ap (λ c. runs_paid p levels c m s) (view_not T inner)
+
+view_test : (T : ℕ → Listed) (inner : Box Node Global) → view_node T (Test inner) ≡ programs.test (view_node T inner.value)
+view_test T inner = first_of (search (rules, the_lemmas), search (rules, the_lemmas, fold_out-Node))
+
+pub test_does : (T : ℕ → Listed) (p : programs.Program) (levels : ℕ) (inner : Box Node Global) (m : Mode) (s : State) → runs_paid p levels (view_node T (Test inner)) m s ≡ after (runs p levels (view_node T inner.value) m s) (put_back m (saved_cursor s)) (Signals false)
+test_does T p levels inner m s = ap (λ c. runs_paid p levels c m s) (view_test T inner)
+
+view_try : (T : ℕ → Listed) (inner : Box Node Global) → view_node T (Try inner) ≡ programs.try (view_node T inner.value)
+view_try T inner = first_of (search (rules, the_lemmas), search (rules, the_lemmas, fold_out-Node))
+
+pub try_does : (T : ℕ → Listed) (p : programs.Program) (levels : ℕ) (inner : Box Node Global) (m : Mode) (s : State) → runs_paid p levels (view_node T (Try inner)) m s ≡ after (runs p levels (view_node T inner.value) m s) (Signals true) (put_back m (saved_cursor s))
+try_does T p levels inner m s = ap (λ c. runs_paid p levels c m s) (view_try T inner)
+
+view_do : (T : ℕ → Listed) (inner : Box Node Global) → view_node T (Do inner) ≡ programs.do_ (view_node T inner.value)
+view_do T inner = first_of (search (rules, the_lemmas), search (rules, the_lemmas, fold_out-Node))
+
+pub do_does : (T : ℕ → Listed) (p : programs.Program) (levels : ℕ) (inner : Box Node Global) (m : Mode) (s : State) → runs_paid p levels (view_node T (Do inner)) m s ≡ after (runs p levels (view_node T inner.value) m s) (put_back m (saved_cursor s)) (put_back m (saved_cursor s))
+do_does T p levels inner m s = ap (λ c. runs_paid p levels c m s) (view_do T inner)
+
+view_fail : (T : ℕ → Listed) (inner : Box Node Global) → view_node T (Fail inner) ≡ programs.fail (view_node T inner.value)
+view_fail T inner = first_of (search (rules, the_lemmas), search (rules, the_lemmas, fold_out-Node))
+
+pub fail_does : (T : ℕ → Listed) (p : programs.Program) (levels : ℕ) (inner : Box Node Global) (m : Mode) (s : State) → runs_paid p levels (view_node T (Fail inner)) m s ≡ after (runs p levels (view_node T inner.value) m s) (Signals false) (Signals false)
+fail_does T p levels inner m s = ap (λ c. runs_paid p levels c m s) (view_fail T inner)
+
+view_backwards : (T : ℕ → Listed) (inner : Box Node Global) → view_node T (Backwards inner) ≡ programs.backwards (view_node T inner.value)
+view_backwards T inner = first_of (search (rules, the_lemmas), search (rules, the_lemmas, fold_out-Node))
+
+pub backwards_does : (T : ℕ → Listed) (p : programs.Program) (levels : ℕ) (inner : Box Node Global) (m : Mode) (s : State) → runs_paid p levels (view_node T (Backwards inner)) m s ≡ then_on (backwards_from s) (λ b. after (runs p levels (view_node T inner.value) Backward b) backwards_end (Signals false))
+backwards_does T p levels inner m s = ap (λ c. runs_paid p levels c m s) (view_backwards T inner)

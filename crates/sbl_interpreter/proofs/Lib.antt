@@ -1,0 +1,6 @@
+pub mod Arms
+pub mod Rows
+pub mod Nothing
+pub mod NumberingTables
+pub mod Marked
+pub mod SlotValues

@@ -1,0 +1,36 @@
+-- What each command without a command inside does after its step is paid.
+use Rattle.std.specs.Prelude.{ℕ, Bool, true, false, List, []}
+use Rattle.sbl_interpreter.specs.Moves.{characters, match, one_of, touch_grouping, next, hop, at_limit, set_mark, at_mark, to_mark, set_boolean, test_boolean}
+use Rattle.sbl_interpreter.specs.Numbers.{value, natural, given, assign, compare}
+use Rattle.sbl_program.specs.Program as programs
+use Rattle.sbl_char_class.specs.Terms.{class_at}
+use Rattle.sbl_interpreter.specs.Slices.{left_bracket, right_bracket, replace, keep, insert, attach}
+use Rattle.sbl_interpreter.specs.State.{State, Ending, Signals, to_limit}
+use Rattle.sbl_ast.specs.declared.mode.Mode.{Mode}
+
+-- `classes` has the classes of the groupings
+abbrev pub acts : List (ℕ → Bool) → programs.Action → Mode → State → Ending
+acts classes (programs.match t) m s = match (characters t s) m s
+acts classes (programs.grouping g) m s = one_of true (class_at classes g) m (touch_grouping g s)
+acts classes (programs.non g) m s = one_of false (class_at classes g) m (touch_grouping g s)
+acts classes programs.next m s = next m s
+acts classes (programs.hop a) m s = given (value a m s) s (λ z. hop (natural z) m s)
+acts classes programs.tolimit m s = to_limit m s
+acts classes programs.atlimit m s = at_limit m s
+acts classes (programs.setmark x) m s = Signals true (set_mark x s)
+acts classes (programs.atmark a) m s = given (value a m s) s (λ z. at_mark (natural z) s)
+acts classes (programs.tomark a) m s = given (value a m s) s (λ z. to_mark (natural z) m s)
+acts classes (programs.set b) m s = Signals true (set_boolean b true s)
+acts classes (programs.unset b) m s = Signals true (set_boolean b false s)
+acts classes (programs.boolean b) m s = test_boolean b s
+acts classes programs.left_bracket m s = Signals true (left_bracket m s)
+acts classes programs.right_bracket m s = Signals true (right_bracket m s)
+acts classes (programs.replace t) m s = replace (characters t s) s
+acts classes programs.delete m s = replace [] s
+acts classes (programs.keep x) m s = keep x s
+acts classes (programs.insert t) m s = insert (characters t s) m s
+acts classes (programs.attach t) m s = attach (characters t s) m s
+acts classes (programs.assign x change a) m s = assign x change a m s
+acts classes (programs.compare a relation b) m s = compare a relation b m s
+acts classes programs.t m s = Signals true s
+acts classes programs.f m s = Signals false s

@@ -1,0 +1,63 @@
+-- The search of an among.
+use Rattle.std.specs.Prelude.{ℕ, true, false, List, [], ◌∷◌, length, nat_lt, if◌then◌else◌, Option, Some, None, slice_get, slice_index_or, slice_set}
+use Rattle.sbl_program.specs.declared.node.Candidate.{Candidate}
+use Rattle.sbl_program.specs.Listed.{Listed}
+use Rattle.sbl_interpreter.specs.Listing.{fits_at}
+use Rattle.sbl_interpreter.specs.Events.{Searches, Finds}
+use Rattle.sbl_interpreter.specs.declared.touch.Touch.TheVariants.{Searched}
+use Rattle.sbl_interpreter.specs.State.{State, Ending, Signals, Doing, after, then_on, pay, saved_cursor, limit_of, place_after, note_event}
+use Rattle.sbl_interpreter.specs.Touches.{with_touch}
+use Rattle.sbl_ast.specs.declared.mode.Mode.{Mode}
+use Rattle.sbl_ast.specs.declared.mode.Mode.TheVariants.{Forward, Backward}
+
+-- the choice of an among: the group of the string that was taken, or none
+abbrev pub choose : ℕ → Option ℕ → State → State
+choose k g s = record s { choices = slice_set s.choices k g }
+
+-- a search takes a string of this many characters and this group, or none
+abbrev pub take_string : ℕ → ℕ → ℕ → State → State
+take_string k n g s = note_event (Finds k (Some n)) (choose k (Some g) s)
+
+abbrev pub take_none : ℕ → State → State
+take_none k s = note_event (Finds k None) (choose k None s)
+
+abbrev pub choice : ℕ → State → Option ℕ
+choice k s = slice_index_or s.choices k None
+
+-- the end of the part ahead, as an offset of the text
+abbrev pub bound_in : Mode → State → ℕ
+bound_in Forward s = limit_of s
+bound_in Backward s = if nat_lt s.left (length s.text) then s.left else length s.text
+
+-- begins a search of the among with this number in the current routine, which touches it
+abbrev pub touch_among : ℕ → Mode → State → State
+touch_among k m s = note_event (Searches s.routine k m s.cursor) (record s { touched = with_touch (Searched s.routine k) s.touched })
+
+-- the condition of a string: a call, which uses a step of its own
+abbrev pub condition_does : (ℕ → Doing) → Option ℕ → Mode → State → Ending
+condition_does call None m s = Signals true s
+condition_does call (Some i) m s = then_on (pay s.steps s) (call i m)
+
+-- One string: the cursor moves to just after it, and its condition is called. At t it is taken, and the cursor is set
+-- just after it again; at f `next` continues from the state that the condition left.
+abbrev pub try_one : (ℕ → Doing) → ℕ → Option Candidate → Mode → State → State → (State → Ending) → Ending
+try_one call k None m from s next = Signals true s
+try_one call k (Some e) m from s next =
+    then_on (place_after m (saved_cursor from) e.length s) (λ a.
+    after (condition_does call e.condition m a)
+    (λ b. then_on (place_after m (saved_cursor from) e.length b) (λ c. Signals true (take_string k e.length e.group c)))
+    next)
+
+-- the strings one after another, from the state in which the search began; if none is taken, nothing is chosen
+abbrev pub tries : (ℕ → Doing) → ℕ → List Candidate → Mode → State → List ℕ → State → Ending
+tries call k entries m from [] s = Signals false (take_none k s)
+tries call k entries m from (i ∷ is) s =
+    try_one call k (slice_get entries i) m from s (tries call k entries m from is)
+
+-- the strings that match where the search begins, the longest first
+abbrev pub searched : (ℕ → Doing) → ℕ → List Candidate → Listed → Mode → State → Ending
+searched call k entries strings m s = tries call k entries m s (fits_at strings s.text s.cursor (bound_in m s)) s
+
+-- a search touches its among, whatever its result
+abbrev pub search_all : (ℕ → Doing) → ℕ → List Candidate → Listed → Mode → State → Ending
+search_all call k entries strings m s = searched call k entries strings m (touch_among k m s)

@@ -1,0 +1,411 @@
+//! Runs commands on a state.
+
+ghost use Rattle.std.specs.Prelude.{◌≡◌, ◌+◌, ◌<◌, ◌≤◌, true, false, suc, map, IfOk, slice_get};
+ghost use Rattle.sbl_interpreter.specs.Kept.{Follows, IsSaved, Tried};
+ghost use Rattle.sbl_interpreter.specs.Numbers.{value, given};
+ghost use Rattle.sbl_program.specs.ProgramOf.{program_of, view_joined, view_node, view_nodes, view_number};
+ghost use Rattle.sbl_interpreter.specs.Run.{runs, runs_paid, all_run, backwards_end, backwards_from, group_runs, calls, limit_here, limited, limits, turns, times, count_of, seeks};
+ghost use Rattle.sbl_ast.specs.declared.mode.Mode.TheVariants.{Backward};
+ghost use Rattle.sbl_interpreter.specs.Rows.{is_settled, joined_runs, row_runs};
+ghost use Rattle.sbl_interpreter.specs.Search.{choice, searched, try_one};
+ghost use Rattle.sbl_interpreter.specs.State.{State as RunState, Ending, Signals, after, then_on, saved_cursor, put_back};
+
+use crate::halt::Halt;
+use crate::state::numbers::count_of;
+use crate::state::{SavedCursor, State};
+use crate::table::Tables;
+use sbl_ast::{Joiner, Mode};
+use sbl_program::{Arithmetic, Candidate, JoinedNode, Node, Program};
+
+/// The fixed part of the interpreter. A call and `backwards` run their commands with a runner of their own.
+#[derive_where(Clone, Copy)]
+pub struct Runner<'a, T> {
+    /// The tables of the program's amongs.
+    pub tables: &'a T,
+    /// The program whose routines are called.
+    pub program: &'a Program,
+    /// The number of levels that calls may still go down.
+    pub levels: u32,
+    /// The mode: the direction in which commands read the text.
+    pub mode: Mode,
+}
+
+impl<'a, T: Tables> Runner<'a, T> {
+    /// Runs a command and returns its signal, or why it has none. A command without a command inside is done here,
+    /// without another call.
+    #[cycle(run)]
+    #[inline(always)]
+    fn run_command(&self, command: &Node, state: &mut State) -> Result<bool, Halt>
+        ensures follows { Follows result state.new (runs (program_of (T.listed self.now.tables.now) self.now.program.now) self.now.levels (view_node (T.listed self.now.tables.now) command.now) self.now.mode state.old) }
+        ensures fewer { IfOk result (λ _. state.new.steps < state.old.steps) }
+    {
+        state.pay()?;
+        if let Node::Act(action) = command {
+            return state.act(&self.program.groupings, self.mode, action);
+        }
+        self.run_paid(command, state)
+    }
+
+    /// Runs a command whose step is already paid.
+    #[cycle(run)]
+    #[inline(never)]
+    fn run_paid(&self, command: &Node, state: &mut State) -> Result<bool, Halt>
+        ensures follows { Follows result state.new (runs_paid (program_of (T.listed self.now.tables.now) self.now.program.now) self.now.levels (view_node (T.listed self.now.tables.now) command.now) self.now.mode state.old) }
+        ensures no_more { IfOk result (λ _. state.new.steps ≤ state.old.steps) }
+    {
+        match command {
+            Node::Act(action) => state.act(&self.program.groupings, self.mode, action),
+            Node::Sequence(commands) => self.run_in_turn(commands, state),
+            Node::Row { first, others } => { self.run_row(first, others, state) }
+            Node::Not(inner) => self.run_not(inner, state),
+            Node::Test(inner) => self.run_test(inner, state),
+            Node::Try(inner) => self.run_try(inner, state),
+            Node::Do(inner) => self.run_do(inner, state),
+            Node::Fail(inner) => {
+                self.run_command(inner, state)?;
+                Ok(false)
+            }
+            Node::Repeat(inner) => self.run_turns(inner, state),
+            Node::Loop(count, inner) => self.run_times(count, inner, state),
+            Node::AtLeast(count, inner) => {
+                if !self.run_times(count, inner, state)? {
+                    return Ok(false);
+                }
+                self.run_turns(inner, state)
+            }
+            Node::Goto(inner) => self.run_seek(false, inner, state),
+            Node::GoPast(inner) => self.run_seek(true, inner, state),
+            Node::Backwards(inner) => self.run_backwards(inner, state),
+            Node::SetLimit(first, second) => self.run_limited(first, second, state),
+            Node::Call(number) => self.run_call(*number, state),
+            Node::Search {
+                among,
+                table,
+                entries,
+            } => {
+                state.touch_among(*among, self.mode)?;
+                self.run_search(*among, *table, entries, state)
+            }
+            Node::Among {
+                among,
+                before,
+                bodies,
+            } => self.run_among(*among, before, bodies, state),
+        }
+    }
+
+    /// Runs a command. Returns f if it signals t; if it signals f, puts the cursor back and returns t.
+    #[cycle(run)]
+    fn run_not(&self, inner: &Node, state: &mut State) -> Result<bool, Halt>
+        ensures follows { Follows result state.new (after (runs (program_of (T.listed self.now.tables.now) self.now.program.now) self.now.levels (view_node (T.listed self.now.tables.now) inner.now) self.now.mode state.old) (Signals false) (put_back self.now.mode (saved_cursor state.old))) }
+        ensures no_more { IfOk result (λ _. state.new.steps ≤ state.old.steps) }
+    {
+        let from = state.saved_cursor();
+        if self.run_command(inner, state)? {
+            return Ok(false);
+        }
+        state.put_back(self.mode, from)?;
+        Ok(true)
+    }
+
+    /// Runs a command and returns its signal. If it signals t, puts the cursor back.
+    #[cycle(run)]
+    fn run_test(&self, inner: &Node, state: &mut State) -> Result<bool, Halt>
+        ensures follows { Follows result state.new (after (runs (program_of (T.listed self.now.tables.now) self.now.program.now) self.now.levels (view_node (T.listed self.now.tables.now) inner.now) self.now.mode state.old) (put_back self.now.mode (saved_cursor state.old)) (Signals false)) }
+        ensures no_more { IfOk result (λ _. state.new.steps ≤ state.old.steps) }
+    {
+        let from = state.saved_cursor();
+        if !self.run_command(inner, state)? {
+            return Ok(false);
+        }
+        state.put_back(self.mode, from)?;
+        Ok(true)
+    }
+
+    /// Runs a command and returns t. If it signals f, puts the cursor back.
+    #[cycle(run)]
+    fn run_try(&self, inner: &Node, state: &mut State) -> Result<bool, Halt>
+        ensures follows { Follows result state.new (after (runs (program_of (T.listed self.now.tables.now) self.now.program.now) self.now.levels (view_node (T.listed self.now.tables.now) inner.now) self.now.mode state.old) (Signals true) (put_back self.now.mode (saved_cursor state.old))) }
+        ensures no_more { IfOk result (λ _. state.new.steps ≤ state.old.steps) }
+    {
+        let from = state.saved_cursor();
+        if !self.run_command(inner, state)? {
+            state.put_back(self.mode, from)?;
+        }
+        Ok(true)
+    }
+
+    /// Runs a command, puts the cursor back whatever it signals, and returns t.
+    #[cycle(run)]
+    fn run_do(&self, inner: &Node, state: &mut State) -> Result<bool, Halt>
+        ensures follows { Follows result state.new (after (runs (program_of (T.listed self.now.tables.now) self.now.program.now) self.now.levels (view_node (T.listed self.now.tables.now) inner.now) self.now.mode state.old) (put_back self.now.mode (saved_cursor state.old)) (put_back self.now.mode (saved_cursor state.old))) }
+        ensures no_more { IfOk result (λ _. state.new.steps ≤ state.old.steps) }
+    {
+        let from = state.saved_cursor();
+        self.run_command(inner, state)?;
+        state.put_back(self.mode, from)?;
+        Ok(true)
+    }
+
+    /// Runs a command backwards, on the text between the cursor and the limit.
+    #[cycle(run)]
+    fn run_backwards(&self, inner: &Node, state: &mut State) -> Result<bool, Halt>
+        ensures follows { Follows result state.new (then_on (backwards_from state.old) (λ b. after (runs (program_of (T.listed self.now.tables.now) self.now.program.now) self.now.levels (view_node (T.listed self.now.tables.now) inner.now) Backward b) backwards_end (Signals false))) }
+        ensures no_more { IfOk result (λ _. state.new.steps ≤ state.old.steps) }
+    {
+        state.begin_backwards()?;
+        let backwards = Runner {
+            mode: Mode::Backward,
+            ..*self
+        };
+        if !backwards.run_command(inner, state)? {
+            return Ok(false);
+        }
+        state.end_backwards()?;
+        Ok(true)
+    }
+
+    /// Runs a command that sets the limit, and then another one within that limit, from where the cursor was before.
+    #[cycle(run)]
+    fn run_limited(&self, first: &Node, second: &Node, state: &mut State) -> Result<bool, Halt>
+        ensures follows { Follows result state.new (after (runs (program_of (T.listed self.now.tables.now) self.now.program.now) self.now.levels (view_node (T.listed self.now.tables.now) first.now) self.now.mode state.old) (λ t. then_on (put_back self.now.mode (saved_cursor state.old) (limit_here self.now.mode t)) (λ u. limited self.now.mode (limits state.old) (runs (program_of (T.listed self.now.tables.now) self.now.program.now) self.now.levels (view_node (T.listed self.now.tables.now) second.now) self.now.mode u))) (Signals false)) }
+        ensures no_more { IfOk result (λ _. state.new.steps ≤ state.old.steps) }
+    {
+        let from = state.saved_cursor();
+        let limits = state.limits();
+        if !self.run_command(first, state)? {
+            return Ok(false);
+        }
+        state.limit_here(self.mode);
+        state.put_back(self.mode, from)?;
+        let signal = self.run_command(second, state)?;
+        state.limit_back(self.mode, limits);
+        Ok(signal)
+    }
+
+    /// Runs a row, grouped from left to right. Its first step is already paid.
+    #[cycle(run)]
+    fn run_row(&self, first: &Node, others: &[JoinedNode], state: &mut State) -> Result<bool, Halt>
+        ensures follows { Follows result state.new (row_runs (program_of (T.listed self.now.tables.now) self.now.program.now) self.now.levels (view_node (T.listed self.now.tables.now) first.now) (map (view_joined (T.listed self.now.tables.now)) others.now) self.now.mode state.old) }
+        ensures no_more { IfOk result (λ _. state.new.steps ≤ state.old.steps) }
+    {
+        state.pay_for(others.len().saturating_sub(1))?;
+        let from = state.saved_cursor();
+        let mut signal = self.run_command(first, state)?;
+        for joined in others {
+            signal = self.run_joined(from, signal, joined, state)?;
+        }
+        Ok(signal)
+    }
+
+    /// Runs the next command of a row from the saved cursor at the beginning of the row, unless the signal so far
+    /// decides the row.
+    #[cycle(run)]
+    fn run_joined(
+        &self,
+        from: SavedCursor,
+        signal: bool,
+        joined: &JoinedNode,
+        state: &mut State,
+    ) -> Result<bool, Halt>
+        requires { IsSaved from }
+        ensures follows { Follows result state.new (joined_runs (program_of (T.listed self.now.tables.now) self.now.program.now) self.now.levels self.now.mode from (view_joined (T.listed self.now.tables.now) joined.now) signal state.old) }
+        ensures no_more { IfOk result (λ _. state.new.steps ≤ state.old.steps) }
+    {
+        if is_settled(joined.joiner, signal) {
+            return Ok(signal);
+        }
+        state.put_back(self.mode, from)?;
+        self.run_command(&joined.command, state)
+    }
+
+    /// Runs commands one after another, up to the first f.
+    #[cycle(run)]
+    fn run_in_turn(&self, commands: &[Node], state: &mut State) -> Result<bool, Halt>
+        ensures follows { Follows result state.new (all_run (program_of (T.listed self.now.tables.now) self.now.program.now) self.now.levels (view_nodes (T.listed self.now.tables.now) commands.now) self.now.mode state.old) }
+        ensures no_more { IfOk result (λ _. state.new.steps ≤ state.old.steps) }
+    {
+        for one in commands {
+            if !self.run_command(one, state)? {
+                return Ok(false);
+            }
+        }
+        Ok(true)
+    }
+
+    /// Runs a command again and again up to its first f, and puts the cursor back to where it was before that.
+    #[cycle(run)]
+    fn run_turns(&self, inner: &Node, state: &mut State) -> Result<bool, Halt>
+        ensures follows { Follows result state.new (turns (suc state.old.steps) (runs (program_of (T.listed self.now.tables.now) self.now.program.now) self.now.levels (view_node (T.listed self.now.tables.now) inner.now)) self.now.mode state.old) }
+        ensures no_more { IfOk result (λ _. state.new.steps ≤ state.old.steps) }
+    {
+        loop {
+            let from = state.saved_cursor();
+            if !self.run_command(inner, state)? {
+                state.put_back(self.mode, from)?;
+                return Ok(true);
+            }
+        }
+    }
+
+    /// Runs a command as often as `count` says, up to the first f.
+    #[cycle(run)]
+    fn run_times(&self, count: &Arithmetic, inner: &Node, state: &mut State) -> Result<bool, Halt>
+        ensures follows { Follows result state.new (given (value (view_number count.now) self.now.mode state.old) state.old (λ z. times (count_of z) (runs (program_of (T.listed self.now.tables.now) self.now.program.now) self.now.levels (view_node (T.listed self.now.tables.now) inner.now)) self.now.mode state.old)) }
+        ensures no_more { IfOk result (λ _. state.new.steps ≤ state.old.steps) }
+    {
+        let number = state.value(self.mode, count)?;
+        let mut left = count_of(number);
+        while 0 < left {
+            if !self.run_command(inner, state)? {
+                return Ok(false);
+            }
+            left -= 1;
+        }
+        Ok(true)
+    }
+
+    /// Tries a command at the cursor and further on, up to its first t. The cursor stays after the match, or goes
+    /// before it.
+    #[cycle(run)]
+    fn run_seek(&self, past: bool, inner: &Node, state: &mut State) -> Result<bool, Halt>
+        ensures follows { Follows result state.new (seeks (suc state.old.steps) past (runs (program_of (T.listed self.now.tables.now) self.now.program.now) self.now.levels (view_node (T.listed self.now.tables.now) inner.now)) self.now.mode state.old) }
+        ensures no_more { IfOk result (λ _. state.new.steps ≤ state.old.steps) }
+    {
+        loop {
+            let from = state.saved_cursor();
+            if self.run_command(inner, state)? {
+                if !past {
+                    state.put_back(self.mode, from)?;
+                }
+                return Ok(true);
+            }
+            state.put_back(self.mode, from)?;
+            if !state.take_next(self.mode) {
+                return Ok(false);
+            }
+        }
+    }
+
+    /// Calls the routine with this number and returns its signal; f if there is none.
+    ///
+    /// Returns `Depth` if no level is left, `OutOfMemory` if an allocation fails or a number to be touched is above
+    /// `u32::MAX`, and else the fault of a command in the routine. After a fault the state is the one at the fault.
+    #[cycle(run)]
+    pub fn run_call(&self, number: usize, state: &mut State) -> Result<bool, Halt>
+        ensures follows { Follows result state.new (calls (program_of (T.listed self.now.tables.now) self.now.program.now) self.now.levels number self.now.mode state.old) }
+        ensures no_more { IfOk result (λ _. state.new.steps ≤ state.old.steps) }
+    {
+        if self.levels == 0 {
+            return Err(Halt::Depth);
+        }
+        match self.program.routine(number) {
+            None => Ok(false),
+            Some(routine) => {
+                let caller = state.routine();
+                let kept = state.enter(number, routine.amongs)?;
+                let deeper = Runner {
+                    levels: self.levels - 1,
+                    ..*self
+                };
+                let signal = deeper.run_command(&routine.body, state)?;
+                state.leave(caller, kept, signal)?;
+                Ok(signal)
+            }
+        }
+    }
+
+    /// Runs what an among does before the command of its group, and then the command of the chosen group.
+    #[cycle(run)]
+    fn run_among(
+        &self,
+        among: usize,
+        before: &Vec<Node>,
+        bodies: &Vec<Node>,
+        state: &mut State,
+    ) -> Result<bool, Halt>
+        ensures follows { Follows result state.new (after (all_run (program_of (T.listed self.now.tables.now) self.now.program.now) self.now.levels (view_nodes (T.listed self.now.tables.now) before.now.items) self.now.mode state.old) (λ t. group_runs (program_of (T.listed self.now.tables.now) self.now.program.now) self.now.levels (view_nodes (T.listed self.now.tables.now) bodies.now.items) (choice among t) self.now.mode t) (Signals false)) }
+        ensures no_more { IfOk result (λ _. state.new.steps ≤ state.old.steps) }
+    {
+        if !self.run_in_turn(before, state)? {
+            return Ok(false);
+        }
+        let Some(group) = state.choice(among) else {
+            return Ok(false);
+        };
+        match bodies.get(group) {
+            None => Ok(true),
+            Some(body) => self.run_command(body, state),
+        }
+    }
+
+    /// Tries the strings that match, the longest first.
+    #[cycle(run)]
+    #[inline(never)]
+    fn run_search(
+        &self,
+        among: usize,
+        table: usize,
+        entries: &[Candidate],
+        state: &mut State,
+    ) -> Result<bool, Halt>
+        ensures follows { Follows result state.new (searched (calls (program_of (T.listed self.now.tables.now) self.now.program.now) self.now.levels) among entries.now (T.listed self.now.tables.now table) self.now.mode state.old) }
+        ensures no_more { IfOk result (λ _. state.new.steps ≤ state.old.steps) }
+    {
+        let from = state.saved_cursor();
+        let mut place = self
+            .tables
+            .longest(table, state.text(), state.place(), state.bound(self.mode));
+        while let Some(i) = place {
+            match self.try_string(among, from, entries, i, state) {
+                Err(halt) => return Err(halt),
+                Ok(true) => return Ok(true),
+                Ok(false) => {}
+            }
+            place = self.tables.next_shorter(table, i);
+        }
+        state.take_none(among)?;
+        Ok(false)
+    }
+
+    /// Tries one string and returns whether it is taken. It is not taken if its condition signals f.
+    #[cycle(run)]
+    fn try_string(
+        &self,
+        among: usize,
+        from: SavedCursor,
+        entries: &[Candidate],
+        i: usize,
+        state: &mut State,
+    ) -> Result<bool, Halt>
+        requires { IsSaved from }
+        ensures tried { (begun : RunState) (follow : RunState → Ending) → from ≡ saved_cursor begun → Tried result state.new (try_one (calls (program_of (T.listed self.now.tables.now) self.now.program.now) self.now.levels) among (slice_get entries.now i) self.now.mode begun state.old follow) (follow state.new) }
+        ensures no_more { IfOk result (λ _. state.new.steps ≤ state.old.steps) }
+        ensures fewer { IfOk result (λ b. b ≡ false → state.new.steps < state.old.steps) }
+    {
+        let Some(entry) = entries.get(i).copied() else {
+            return Ok(true);
+        };
+        state.place_after(self.mode, from, entry.length)?;
+        if let Some(number) = entry.condition {
+            state.pay()?;
+            if !self.run_call(number, state)? {
+                return Ok(false);
+            }
+        }
+        state.place_after(self.mode, from, entry.length)?;
+        state.take_string(among, entry.length, entry.group)?;
+        Ok(true)
+    }
+}
+
+// Returns whether the signal decides the row so far, whatever the next command does.
+#[inline(always)]
+fn is_settled(joiner: Joiner, signal: bool) -> bool
+    ensures { result ≡ is_settled joiner signal }
+{
+    match joiner {
+        Joiner::Or => signal,
+        Joiner::And => !signal,
+    }
+}

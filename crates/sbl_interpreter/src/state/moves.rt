@@ -1,0 +1,208 @@
+//! Moving and testing.
+
+ghost use Rattle.std.specs.Prelude.{◌≡◌, ◌≤◌, ◌<◌, length, map, nat_eq, IfOk, IsTrue, slice_get};
+ghost use Rattle.std.specs.List.{starts_with};
+ghost use Rattle.sbl_char_class.specs.CharacterClasses.{members};
+ghost use Rattle.sbl_char_class.specs.Terms.{class_at};
+ghost use Rattle.sbl_among_search.specs.Fitting.{read_as};
+ghost use Rattle.sbl_interpreter.specs.State.{Signals, ahead, room, moved};
+ghost use Rattle.sbl_program.specs.ProgramOf.{view_text};
+ghost use Rattle.sbl_interpreter.specs.Moves.{characters, match, next_is, one_of, next, hop, at_limit, set_mark, at_mark, to_mark, set_boolean, test_boolean};
+
+use crate::state::State;
+use crate::state::variables::{boolean_of, set_boolean, set_integer};
+use sbl_ast::Mode;
+use sbl_char_class::{CharacterClass, is_in_class};
+use sbl_program::StringTerm;
+use std::alloc::AllocError;
+
+impl State {
+    // Returns the number of characters ahead.
+    #[inline(always)]
+    fn room(&self, mode: Mode) -> usize
+        ensures { result ≡ room mode self.now }
+    {
+        match mode {
+            Mode::Forward => self.limit().saturating_sub(self.cursor),
+            Mode::Backward => self.cursor.saturating_sub(self.left),
+        }
+    }
+
+    // Moves the cursor by n characters, which are ahead.
+    #[inline(always)]
+    fn advance(&mut self, mode: Mode, n: usize)
+        requires { n ≤ room mode self.old }
+        ensures { self.new ≡ moved mode n self.old }
+    {
+        match mode {
+            Mode::Forward => self.cursor += n,
+            Mode::Backward => self.cursor -= n,
+        }
+    }
+
+    /// Moves over a literal or the value of a string variable, and returns whether it is a prefix of the text ahead.
+    pub fn take_term(&mut self, mode: Mode, term: &StringTerm) -> bool
+        ensures leads { match (characters (view_text term.now) self.old) mode self.old ≡ Signals result self.new }
+        ensures same_steps { self.new.steps ≡ self.old.steps }
+    {
+        let string = self.characters(term);
+        let found = is_front(mode, self.part_ahead(mode), string);
+        let length = string.len();
+        if found {
+            self.advance(mode, length);
+        }
+        found
+    }
+
+    // Returns the next character to read, if any.
+    #[inline(always)]
+    fn next_character(&self, mode: Mode) -> Option<char>
+        ensures value { result ≡ slice_get (ahead mode self.now) 0 }
+    {
+        let part = self.part_ahead(mode);
+        match mode {
+            Mode::Forward => part.first().copied(),
+            Mode::Backward => part.last().copied(),
+        }
+    }
+
+    /// Moves over one character that is in the class with this number, or over one that is not, as `wanted` says, and
+    /// returns whether there is one. A class that does not exist has no characters.
+    pub fn take_one(
+        &mut self,
+        mode: Mode,
+        classes: &[CharacterClass],
+        number: usize,
+        wanted: bool,
+    ) -> bool
+        ensures leads { one_of wanted (class_at (map members classes.now) number) mode self.old ≡ Signals result self.new }
+        ensures same_steps { self.new.steps ≡ self.old.steps }
+    {
+        let found = is_wanted(self.next_character(mode), classes, number, wanted);
+        if found {
+            self.advance(mode, 1);
+        }
+        found
+    }
+
+    /// `next`: moves over one character, and returns whether there is one.
+    pub fn take_next(&mut self, mode: Mode) -> bool
+        ensures leads { next mode self.old ≡ Signals result self.new }
+        ensures same_steps { self.new.steps ≡ self.old.steps }
+    {
+        let found = 0 < self.room(mode);
+        if found {
+            self.advance(mode, 1);
+        }
+        found
+    }
+
+    /// `hop`: moves over this many characters, and returns whether they are ahead.
+    pub fn hop(&mut self, mode: Mode, number: Option<usize>) -> bool
+        ensures leads { hop number mode self.old ≡ Signals result self.new }
+        ensures same_steps { self.new.steps ≡ self.old.steps }
+    {
+        match number {
+            None => false,
+            Some(n) => {
+                let found = n <= self.room(mode);
+                if found {
+                    self.advance(mode, n);
+                }
+                found
+            }
+        }
+    }
+
+    /// `atlimit`: returns whether nothing is ahead.
+    pub fn is_at_limit(&self, mode: Mode) -> bool
+        ensures { at_limit mode self.now ≡ Signals result self.now }
+    {
+        self.room(mode) == 0
+    }
+
+    /// `setmark`: stores the cursor in an integer. Returns `AllocError` if an allocation fails.
+    pub fn set_mark(&mut self, number: usize) -> Result<(), AllocError>
+        ensures { IfOk result (λ _. self.new ≡ set_mark number self.old) }
+    {
+        set_integer(&mut self.integers, number, self.cursor as i32)
+    }
+
+    /// `atmark`: returns whether the cursor is at this offset.
+    pub fn is_at_mark(&self, place: Option<usize>) -> bool
+        ensures { at_mark place self.now ≡ Signals result self.now }
+    {
+        match place {
+            None => false,
+            Some(place) => self.cursor == place,
+        }
+    }
+
+    /// `tomark`: moves the cursor to an offset between it and the limit of the direction, and returns whether the
+    /// offset is there.
+    pub fn to_mark(&mut self, mode: Mode, place: Option<usize>) -> bool
+        ensures leads { to_mark place mode self.old ≡ Signals result self.new }
+        ensures same_steps { self.new.steps ≡ self.old.steps }
+    {
+        let Some(place) = place else {
+            return false;
+        };
+        let found = match mode {
+            Mode::Forward => self.cursor <= place
+                && place <= self.text.len()
+                && place + self.beyond <= self.text.len(),
+            Mode::Backward => self.left <= place && place <= self.cursor,
+        };
+        if found {
+            self.cursor = place;
+        }
+        found
+    }
+
+    /// Sets a boolean. Returns `AllocError` if an allocation fails.
+    pub fn set_boolean(&mut self, number: usize, value: bool) -> Result<(), AllocError>
+        ensures { IfOk result (λ _. self.new ≡ set_boolean number value self.old) }
+    {
+        set_boolean(&mut self.booleans, number, value)
+    }
+
+    /// Returns the value of a boolean.
+    pub fn test_boolean(&self, number: usize) -> bool
+        ensures { test_boolean number self.now ≡ Signals result self.now }
+    {
+        boolean_of(&self.booleans, number)
+    }
+}
+
+// Returns whether `string` is a prefix of `part` as read in the mode.
+fn is_front(mode: Mode, part: &[char], string: &[char]) -> bool
+    ensures value { result ≡ starts_with nat_eq (read_as mode part.now) (read_as mode string.now) }
+    ensures bound { IsTrue result → length string.now ≤ length part.now }
+{
+    match mode {
+        Mode::Forward => part.starts_with(string),
+        Mode::Backward => part.ends_with(string),
+    }
+}
+
+// Returns whether there is a character that is in the class with this number, or is not, as `wanted` says.
+#[inline(always)]
+fn is_wanted(
+    character: Option<char>,
+    classes: &[CharacterClass],
+    number: usize,
+    wanted: bool,
+) -> bool
+    ensures { result ≡ next_is wanted (class_at (map members classes.now) number) character }
+{
+    match character {
+        None => false,
+        Some(c) => {
+            if wanted {
+                is_in_class(classes, number, c)
+            } else {
+                !is_in_class(classes, number, c)
+            }
+        }
+    }
+}

@@ -1,0 +1,98 @@
+-- The effect of a read and a write on a device: its bytes, if they are known, and its counts.
+use Rattle.std.specs.Prelude.{◌≡◌, ◌+◌, ◌-◌, ◌^◌, ◌<◌, ◌≤◌, ◌==◌, ◌⊎◌, ◌||◌, ◌&&◌, nat_le, nat_lt, min, ℕ, Bool, false, List, length, take, if◌then◌else◌, Option, Result, Ok, Err}
+use Rattle.std.specs.Io.KnownBytes.{Appends, Consumes, IsAtEnd, Keeps}
+use Rattle.std.specs.IoError.{error_kind}
+use Rattle.std.specs.declared.io.Error.{Error}
+use Rattle.std.specs.declared.io.ErrorKind.{ErrorKind}
+use Rattle.std.specs.declared.io.ErrorKind.TheVariants as kind
+use Rattle.sbl_io.specs.declared.devices.Stop.{Stop}
+use Rattle.sbl_io.specs.declared.devices.Stop.TheVariants.{Interrupted, Failed}
+
+-- A read takes bytes from the start of those left. It returns 0 with a buffer that is not empty only at the end. If it
+-- is stopped, it takes nothing.
+abbrev pub Reads : Option (List ℕ) → Option (List ℕ) → Result ℕ Stop → List ℕ → Type 0
+Reads old new (Ok n) buf = Consumes old new (take n buf) × (n ≡ 0 → 0 < length buf → IsAtEnd new)
+Reads old new (Err stop) buf = Keeps old new
+
+-- A write takes a prefix of the bytes, at least one byte unless there are none. If it is stopped, it takes nothing.
+abbrev pub Writes : Option (List ℕ) → Option (List ℕ) → Result ℕ Stop → List ℕ → Type 0
+Writes old new (Ok n) bytes = Appends old new (take n bytes) × (0 < length bytes → 0 < n)
+Writes old new (Err stop) bytes = Keeps old new
+
+-- The count of failures rises by one at each `Failed`, and only then.
+abbrev pub Counts : ℕ → ℕ → Result ℕ Stop → Type 0
+Counts old new (Ok n) = new ≡ old
+Counts old new (Err Interrupted) = new ≡ old
+Counts old new (Err Failed) = new ≡ old + 1
+
+-- the number of tries of a read or a write that is interrupted each time
+abbrev pub max_tries : ℕ
+max_tries = 1001
+
+-- The count of interruptions in a row rises by one at each interruption, up to max_tries, and is reset to 0 by anything
+-- else.
+abbrev pub CountsRow : ℕ → ℕ → Result ℕ Stop → Type 0
+CountsRow old new (Ok n) = new ≡ 0
+CountsRow old new (Err Interrupted) = new ≡ min (old + 1) max_tries
+CountsRow old new (Err Failed) = new ≡ 0
+
+-- the greatest number of reads of a reader
+abbrev pub max_reads : ℕ
+max_reads = 1099511627776
+
+-- The count of reads rises by one at each read, up to max_reads.
+abbrev pub CountsRead : ℕ → ℕ → Type 0
+CountsRead old new = new ≡ min (old + 1) max_reads
+
+-- ---- reads and writes past a limit
+
+-- the read returned no bytes into a buffer that is not empty
+abbrev pub tells_end : Result ℕ Stop → List ℕ → Bool
+tells_end (Ok n) buf = (n == 0) && nat_lt 0 (length buf)
+tells_end (Err stop) buf = false
+
+-- A read is late if the end was returned before it, or after max_tries interruptions in a row, or after max_reads
+-- reads.
+abbrev pub is_late_read : Bool → ℕ → ℕ → Bool
+is_late_read ended row reads = ended || (nat_le max_tries row || nat_le max_reads reads)
+
+-- A write is late after max_tries interruptions in a row.
+abbrev pub is_late_write : ℕ → Bool
+is_late_write row = nat_le max_tries row
+
+-- if no write before was late and the last one was not interrupted, no write up to now is late
+abbrev pub WritesInTime : {W : Type 0} → (W → Bool) → (W → ℕ) → W → W → Type 0
+WritesInTime late row old new = late old ≡ false → row old ≡ 0 → late new ≡ false
+
+-- a device that was not used: it has not returned the end, no read was late, and it was neither interrupted nor read
+pub record IsUnasked {R : Type 0} (ended late : R → Bool) (row reads : R → ℕ) (reader : R) : Type 0 where
+  pub not_ended : ended reader ≡ false
+  pub in_time : late reader ≡ false
+  pub rested : row reader ≡ 0
+  pub none : reads reader ≡ 0
+
+-- ---- errors of std
+
+-- the stop for an error of this kind
+abbrev pub stop_of_kind : ErrorKind → Stop
+stop_of_kind kind.Interrupted = Interrupted
+stop_of_kind k = Failed
+
+-- the same, but an interruption if the count of failures is full
+abbrev pub stop_of : ℕ → ErrorKind → Stop
+stop_of failures k = if failures == 2 ^ 64 - 1 then Interrupted else stop_of_kind k
+
+-- the result of a read or a write of std, with its error converted
+abbrev pub Judged : ℕ → Result ℕ Error → Result ℕ Stop → Type 0
+Judged failures (Ok n) judged = judged ≡ Ok n
+Judged failures (Err e) judged = judged ≡ Err (stop_of failures (error_kind e))
+
+-- the same for a write of these bytes; it failed if it took none of some bytes
+abbrev pub JudgedWrite : ℕ → List ℕ → Result ℕ Error → Result ℕ Stop → Type 0
+JudgedWrite failures bytes (Ok n) judged =
+    judged ≡ (if nat_lt 0 (length bytes) && (n == 0) then Err (stop_of failures kind.WriteZero) else Ok n)
+JudgedWrite failures bytes (Err e) judged = Judged failures (Err e) judged
+
+-- the writer has failed since, or it was interrupted more than 1,000 times in a row
+abbrev pub HasStopped : {W : Type 0} → (W → ℕ) → (W → ℕ) → W → W → Type 0
+HasStopped failures interruptions old new = (failures old < failures new) ⊎ (max_tries ≤ interruptions new)

@@ -1,0 +1,133 @@
+-- The input that is left of a `Lines`: the bytes in its buffer, and then the bytes left in its reader.
+use Rattle.std.specs.Prelude.{◌≡◌, ◌≢◌, ◌⊎◌, ◌<◌, ◌≤◌, ◌++◌, ℕ, Bool, true, false, List, [], ◌∷◌, Option, Some, None, ⊤, slice_range, length, min, ◌+◌, ◌*◌, ◌-◌}
+use Rattle.std.specs.Option.{option_map}
+use Rattle.std.specs.Io.KnownBytes.{Consumes, IsAtEnd, prepend_known}
+use Rattle.sbl_io.specs.Devices.{max_reads, max_tries}
+use Rattle.sbl_io.specs.LinesOf.{AreWhole, lines_of, max_line}
+use Rattle.sbl_io.specs.declared.lines.Lines.{Lines}
+use Rattle.sbl_io.specs.declared.lines.LineEnd.{LineEnd}
+use Rattle.sbl_io.specs.declared.lines.LineEnd.TheVariants.{Feed, Input, Beyond}
+use Rattle.sbl_io.specs.declared.faults.LineFault.{LineFault}
+use Rattle.sbl_io.specs.declared.faults.LineFault.TheVariants as read
+use Rattle.sbl_io.specs.declared.faults.ServeFault.{ServeFault}
+use Rattle.sbl_io.specs.declared.faults.ServeFault.TheVariants as serve
+
+-- the bytes that will still be read: those left in the reader, or none if it has returned its end, since it is not read
+-- again
+abbrev pub to_be_read : Bool → Option (List ℕ) → Option (List ℕ)
+to_be_read false left = left
+to_be_read true left = option_map (λ bytes. []) left
+
+-- the bytes that were taken are whole lines, if they are known
+abbrev pub TookWhole : Option (List ℕ) → Option (List ℕ) → Type 0
+TookWhole None new = ⊤
+TookWhole (Some bytes) None = ⊥
+TookWhole (Some bytes) (Some rest) = (front : List ℕ) × (bytes ≡ front ++ rest) × AreWhole front
+
+module _ {R : Type 0} where
+  -- the bytes that were read but not taken yet
+  abbrev pub held_of : Lines R → List ℕ
+  held_of l = slice_range l.chunk.items l.at l.end
+
+  abbrev pub line_of : Lines R → List ℕ
+  line_of l = l.line.items
+
+  abbrev pub fault_of : Lines R → Option LineFault
+  fault_of l = l.fault
+
+  -- all bytes that are left, if they are known
+  abbrev pub input_of : (R → Option (List ℕ)) → Lines R → Option (List ℕ)
+  input_of left l = prepend_known (held_of l) (to_be_read l.ended (left l.reader))
+
+  -- all bytes that were read have been taken, and the reader has not returned its end
+  abbrev pub IsDrained : Lines R → Type 0
+  IsDrained l = (held_of l ≡ []) × (l.ended ≡ false)
+
+  -- once the reader has returned its end, this stays so
+  abbrev pub StaysEnded : Lines R → Lines R → Type 0
+  StaysEnded old new = new.ended ≡ false → old.ended ≡ false
+
+  -- if the reader has not returned its end, the last line taken in between ended with a line feed
+  abbrev pub TakesFeeds : (R → Option (List ℕ)) → Lines R → Lines R → Type 0
+  TakesFeeds left old new = new.ended ≡ false → TookWhole (input_of left old) (input_of left new)
+
+  -- an upper bound on the number of bytes that are left
+  abbrev pub fuel_of : Lines R → ℕ
+  fuel_of l = l.reads_left * 4096 + (l.end - l.at)
+
+  -- the limit on reads: the count of the reader when these lines stop reading
+  abbrev pub reads_bound : (R → ℕ) → Lines R → ℕ
+  reads_bound reads l = min (reads l.reader + l.reads_left) max_reads
+
+  -- the reader has failed since, or was read up to the limit, or was interrupted more than 1,000 times in a row
+  abbrev pub HasCause : (R → ℕ) → (R → ℕ) → (R → ℕ) → Lines R → Lines R → Type 0
+  HasCause failures interruptions reads old new = (failures old.reader < failures new.reader) ⊎ (reads_bound reads old ≤ reads new.reader) ⊎ (max_tries ≤ interruptions new.reader)
+
+  -- No read was late, and none will be: the lines know if the reader has returned its end, and they stop at the limit
+  -- on reads.
+  pub record AreAsked (ended late : R → Bool) (reads : R → ℕ) (l : Lines R) : Type 0 where
+    pub in_time : late l.reader ≡ false
+    pub known : ended l.reader ≡ true → l.ended ≡ true
+    pub within : reads l.reader + l.reads_left ≤ max_reads
+
+  -- the same; and if the lines have no fault, the last read of the reader was not interrupted
+  abbrev pub InTime : (R → Bool) → (R → Bool) → (R → ℕ) → (R → ℕ) → Lines R → Type 0
+  InTime ended late row reads l = AreAsked ended late reads l × (fault_of l ≡ None → row l.reader ≡ 0)
+
+  abbrev pub KeepsTime : (R → Bool) → (R → Bool) → (R → ℕ) → (R → ℕ) → Lines R → Lines R → Type 0
+  KeepsTime ended late row reads old new = InTime ended late row reads old → InTime ended late row reads new
+
+  -- if no read before was late and the last one was not interrupted, no read up to now is late
+  abbrev pub AsksInTime : (R → Bool) → (R → Bool) → (R → ℕ) → (R → ℕ) → Lines R → Lines R → Type 0
+  AsksInTime ended late row reads old new = AreAsked ended late reads old → row old.reader ≡ 0 → AreAsked ended late reads new
+
+  -- a fault `Read` is caused by the reader or a limit, or the lines return an earlier fault again
+  abbrev pub HasReason : (R → ℕ) → (R → ℕ) → (R → ℕ) → Lines R → Lines R → ServeFault → Type 0
+  HasReason failures row reads lines new_lines f = f ≡ serve.Read → HasCause failures row reads lines new_lines ⊎ (fault_of lines ≡ Some read.Read)
+
+-- no byte is a line feed
+abbrev pub NoFeed : List ℕ → Type 0
+NoFeed [] = ⊤
+NoFeed (b ∷ bytes) = (b ≢ 10) × NoFeed bytes
+
+-- the line was taken; the last argument says how it ended
+abbrev pub TakesLine : Option (List ℕ) → Option (List ℕ) → List ℕ → LineEnd → Type 0
+TakesLine old new line Feed = Consumes old new (line ++ 10 ∷ [])
+TakesLine old new line Input = Consumes old new line × IsAtEnd new
+TakesLine old new line Beyond = (length line ≡ max_line + 1) × (b : ℕ) × (b ≢ 10) × Consumes old new (line ++ b ∷ [])
+
+-- reading failed inside a line: a part of it was taken, without a line feed
+abbrev pub BreaksOff : Option (List ℕ) → Option (List ℕ) → List ℕ → Type 0
+BreaksOff old new part = Consumes old new part × NoFeed part
+
+-- These are the lines of a prefix of the bytes, and the rest follows. Each line ends with a line feed, except that the
+-- last one may end at the end of input.
+pub record StandFirst (bytes : List ℕ) (lines : List (List ℕ)) (rest : List ℕ) : Type 0 where
+  pub front : List ℕ
+  pub bytes_are : bytes ≡ front ++ rest
+  pub whole : AreWhole front ⊎ (rest ≡ [])
+  pub lines_are : lines_of front ≡ lines
+
+-- these lines were taken from the start of the input, if it is known
+abbrev pub Took : Option (List ℕ) → Option (List ℕ) → List (List ℕ) → Type 0
+Took None new lines = ⊤
+Took (Some bytes) None lines = ⊥
+Took (Some bytes) (Some rest) lines = StandFirst bytes lines rest
+
+-- the first line was taken
+abbrev pub GivesLine : Option (List ℕ) → Option (List ℕ) → List ℕ → Type 0
+GivesLine old new line = Took old new (line ∷ [])
+
+-- a line has too many bytes, without its line end
+abbrev pub IsTooLong : List ℕ → Type 0
+IsTooLong line = max_line < length line
+
+-- no line has too many bytes
+abbrev pub AllFit : List (List ℕ) → Type 0
+AllFit [] = ⊤
+AllFit (line ∷ lines) = (length line ≤ max_line) × AllFit lines
+
+-- the first line has too many bytes
+abbrev pub BeginsLong : Option (List ℕ) → Type 0
+BeginsLong None = ⊤
+BeginsLong (Some bytes) = (line : List ℕ) × (rest : List (List ℕ)) × (lines_of bytes ≡ line ∷ rest) × IsTooLong line

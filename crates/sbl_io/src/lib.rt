@@ -1,0 +1,17 @@
+//! Readers and writers of bytes, the lines of a reader, and CSV records as text: what they return, when they fail, and
+//! what is left to read.
+#![tactic(auto)]
+
+mod devices;
+mod faults;
+mod lines;
+mod records;
+mod text_lines;
+mod writing;
+
+pub use devices::{Device, Sink, Source, Stop, judge_read, judge_write};
+pub use faults::{LineFault, ServeFault};
+pub use lines::{Lines, MAX_LINE};
+pub use records::{record_line, set_text, text_of};
+pub use text_lines::first_line;
+pub use writing::write_all;

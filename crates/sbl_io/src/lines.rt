@@ -1,0 +1,298 @@
+//! The lines of a reader, in buffers of fixed size.
+ghost use Rattle.std.specs.Prelude.{◌≡◌, ◌≢◌, ◌+◌, ◌≤◌, ◌<◌, ◌⊎◌, ℕ, List, Option, [], ◌∷◌, vec_len, vec_capacity, OnOk, OnErr, IfOk, IfErr, MatchOption, Some, None, Ok, Err, true, false, length, min, IsSome};
+ghost use Rattle.std.specs.Io.KnownBytes.{Consumes, IsAtEnd, Keeps};
+ghost use Rattle.sbl_io.specs.LinesOf.{chomped, max_line};
+
+use crate::devices::{MAX_READS, MAX_TRIES, Source, Stop};
+use crate::faults::LineFault;
+use crate::text_lines::first_feed;
+use std::alloc::{AllocError, Global};
+
+/// The greatest length of a line in bytes, without its line end (our own choice).
+pub const MAX_LINE: usize = 65_536;
+
+/// The size of the buffer for a read in bytes (our own choice).
+const CHUNK: usize = 4_096;
+
+/// How a line ended.
+#[derive(Clone, Copy, Debug, PartialEq, Eq)]
+enum LineEnd {
+    /// At a line feed.
+    Feed,
+    /// At the end of input.
+    Input,
+    /// Not at all: the line has too many bytes.
+    Beyond,
+}
+
+/// The lines of a reader. A line ends at a line feed or at the end of input; one carriage return before the end is
+/// dropped.
+#[derive(Drop)]
+pub struct Lines<R> {
+    alloc: Global,
+    reader: R,
+    chunk: Vec<u8>,
+    at: usize,
+    end: usize,
+    line: Vec<u8>,
+    reads_left: u64,
+    ended: bool,
+    fault: Option<LineFault>,
+    ghost in_order: { at ≤ end },
+    ghost in_chunk: { end ≤ vec_len chunk },
+    ghost whole: { vec_len chunk ≡ 4096 },
+    ghost room: { max_line + 1 ≤ vec_capacity line },
+}
+
+impl<R: Source + Drop> Lines<R> {
+    ghost use Rattle.sbl_io.specs.Devices.{IsUnasked, max_reads};
+    ghost use Rattle.sbl_io.specs.Held.{fuel_of, line_of, fault_of, input_of, reads_bound, AsksInTime, BeginsLong, BreaksOff, HasCause, InTime, IsDrained, KeepsTime, StaysEnded, TakesFeeds, TakesLine, NoFeed, GivesLine};
+
+    /// Returns the lines of `reader`, which is read at most 1,099,511,627,776 times. Allocates all buffers. Returns
+    /// `AllocError` if an allocation fails.
+    pub fn new(alloc: Global, reader: R) -> Result<Lines<R>, AllocError>
+        ensures input { IfOk result (λ lines. input_of R.left lines ≡ R.left reader) }
+        ensures fault { IfOk result (λ lines. fault_of lines ≡ None) }
+        ensures bound { IfOk result (λ lines. reads_bound R.reads lines ≡ max_reads) }
+        ensures in_time { IsUnasked R.ended R.late R.interruptions R.reads reader → IfOk result (λ lines. InTime R.ended R.late R.interruptions R.reads lines) }
+    {
+        Lines::with_reads(alloc, reader, MAX_READS)
+    }
+
+    /// Returns the lines of `reader`, which is read at most `most` times, and at most as often as by `new`. Allocates
+    /// all buffers. Returns `AllocError` if an allocation fails.
+    pub fn with_reads(alloc: Global, reader: R, most: u64) -> Result<Lines<R>, AllocError>
+        ensures input { IfOk result (λ lines. input_of R.left lines ≡ R.left reader) }
+        ensures fault { IfOk result (λ lines. fault_of lines ≡ None) }
+        ensures bound { IfOk result (λ lines. reads_bound R.reads lines ≡ min (R.reads reader + most) max_reads) }
+        ensures in_time { IsUnasked R.ended R.late R.interruptions R.reads reader → IfOk result (λ lines. InTime R.ended R.late R.interruptions R.reads lines) }
+    {
+        let chunk = vec![in alloc; 0u8; CHUNK]?;
+        let line = Vec::with_capacity(alloc, MAX_LINE + 1)?;
+        Ok(Lines {
+            alloc,
+            reader,
+            chunk,
+            at: 0,
+            end: 0,
+            line,
+            reads_left: most.min(MAX_READS),
+            ended: false,
+            fault: None,
+        })
+    }
+
+    /// Returns the allocator of the buffers.
+    pub fn alloc(&self) -> Global {
+        self.alloc
+    }
+
+    /// Returns the last line that was read, without its line end.
+    pub fn line(&self) -> &[u8]
+        ensures { result.now ≡ line_of self.now }
+    {
+        self.line.as_slice()
+    }
+
+    /// Reads more bytes into the chunk, after all bytes in it were used. It reads none only at the end of input. After
+    /// a read has returned the end, the reader is not read again. Returns `Read` if the reader fails or a limit is
+    /// reached.
+    fn fill(&mut self) -> Result<(), LineFault>
+        requires { self.old.at ≡ self.old.end }
+        ensures input { Keeps (input_of R.left self.old) (input_of R.left self.new) }
+        ensures end { OnOk result (self.new.at ≡ self.new.end → IsAtEnd (input_of R.left self.new)) }
+        ensures line { line_of self.new ≡ line_of self.old }
+        ensures fault { fault_of self.new ≡ fault_of self.old }
+        ensures drained { OnErr result (IsDrained self.new) }
+        ensures fuel { fuel_of self.new ≤ fuel_of self.old }
+        ensures later { R.failures self.old.reader ≤ R.failures self.new.reader }
+        ensures stays { StaysEnded self.old self.new }
+        ensures told { OnOk result (self.new.at ≡ self.new.end → self.new.ended ≡ true) }
+        ensures steady { OnOk result (R.failures self.new.reader ≡ R.failures self.old.reader) }
+        ensures bound { reads_bound R.reads self.new ≡ reads_bound R.reads self.old }
+        ensures why { IfErr result (λ fault. (fault ≡ LineFault.Read) × HasCause R.failures R.interruptions R.reads self.old self.new) }
+        ensures asks { AsksInTime R.ended R.late R.interruptions R.reads self.old self.new }
+        ensures rested { OnOk result (R.interruptions self.old.reader ≡ 0 → R.interruptions self.new.reader ≡ 0) }
+    {
+        if self.ended {
+            return Ok(());
+        }
+        for _ in 0..MAX_TRIES {
+            if self.reads_left == 0 {
+                return Err(LineFault::Read);
+            }
+            self.reads_left -= 1;
+            match self.reader.read(&mut self.chunk) {
+                Ok(n) => {
+                    self.at = 0;
+                    self.end = n;
+                    self.ended = n == 0;
+                    return Ok(());
+                }
+                Err(Stop::Failed) => return Err(LineFault::Read),
+                Err(Stop::Interrupted) => {}
+            }
+        }
+        Err(LineFault::Read)
+    }
+
+    /// Returns the next byte, or `None` at the end of input. Returns `Read` if the reader fails or a limit is reached.
+    fn next_byte(&mut self) -> Result<Option<u8>, LineFault>
+        ensures byte { IfOk result (λ o. MatchOption o (IsAtEnd (input_of R.left self.new) × Keeps (input_of R.left self.old) (input_of R.left self.new)) (λ b. Consumes (input_of R.left self.old) (input_of R.left self.new) (b ∷ []))) }
+        ensures err { OnErr result (Keeps (input_of R.left self.old) (input_of R.left self.new)) }
+        ensures drained { OnErr result (IsDrained self.new) }
+        ensures line { line_of self.new ≡ line_of self.old }
+        ensures fault { fault_of self.new ≡ fault_of self.old }
+        ensures fuel { fuel_of self.new ≤ fuel_of self.old }
+        ensures falls { IfOk result (λ o. MatchOption o Unit (λ b. fuel_of self.new < fuel_of self.old)) }
+        ensures later { R.failures self.old.reader ≤ R.failures self.new.reader }
+        ensures stays { StaysEnded self.old self.new }
+        ensures told { IfOk result (λ o. MatchOption o (self.new.ended ≡ true) (λ b. Unit)) }
+        ensures steady { OnOk result (R.failures self.new.reader ≡ R.failures self.old.reader) }
+        ensures bound { reads_bound R.reads self.new ≡ reads_bound R.reads self.old }
+        ensures why { IfErr result (λ fault. (fault ≡ LineFault.Read) × HasCause R.failures R.interruptions R.reads self.old self.new) }
+        ensures asks { AsksInTime R.ended R.late R.interruptions R.reads self.old self.new }
+        ensures rested { OnOk result (R.interruptions self.old.reader ≡ 0 → R.interruptions self.new.reader ≡ 0) }
+    {
+        if self.at == self.end {
+            self.fill()?;
+            if self.at == self.end {
+                return Ok(None);
+            }
+        }
+        let byte = self.chunk[self.at];
+        self.at += 1;
+        Ok(Some(byte))
+    }
+
+    /// Moves bytes from the chunk to the line, up to a line feed or until the line has one byte more than a line may
+    /// have.
+    fn take_held(&mut self)
+        requires { length (line_of self.old) ≤ max_line + 1 }
+        ensures takes { (whole : Option (List ℕ)) → Consumes whole (input_of R.left self.old) (line_of self.old) → Consumes whole (input_of R.left self.new) (line_of self.new) }
+        ensures no_feed { NoFeed (line_of self.old) → NoFeed (line_of self.new) }
+        ensures room { length (line_of self.new) ≤ max_line + 1 }
+        ensures fuel { length (line_of self.new) + fuel_of self.new ≤ length (line_of self.old) + fuel_of self.old }
+        ensures falls { fuel_of self.new ≤ fuel_of self.old }
+        ensures same { (self.new.reader ≡ self.old.reader) × (self.new.ended ≡ self.old.ended) × (self.new.reads_left ≡ self.old.reads_left) × (self.new.fault ≡ self.old.fault) }
+    {
+        let held = &self.chunk[self.at..self.end];
+        let room = MAX_LINE + 1 - self.line.len();
+        let count = first_feed(held).min(room);
+        self.line.extend_from_slice(&held[..count]).unwrap();
+        self.at += count;
+    }
+
+    /// Reads the bytes of a line, up to a line feed, the end of input or too many bytes.
+    fn take_line(&mut self) -> Result<LineEnd, LineFault>
+        ensures takes { IfOk result (λ end. TakesLine (input_of R.left self.old) (input_of R.left self.new) (line_of self.new) end) }
+        ensures no_feed { OnOk result (NoFeed (line_of self.new)) }
+        ensures cut { OnErr result (BreaksOff (input_of R.left self.old) (input_of R.left self.new) (line_of self.new)) }
+        ensures drained { OnErr result (IsDrained self.new) }
+        ensures fault { fault_of self.new ≡ fault_of self.old }
+        ensures fuel { OnOk result (vec_len self.new.line + fuel_of self.new ≤ fuel_of self.old) }
+        ensures falls { IfOk result (λ end. end ≢ LineEnd.Input → fuel_of self.new < fuel_of self.old) }
+        ensures later { R.failures self.old.reader ≤ R.failures self.new.reader }
+        ensures stays { StaysEnded self.old self.new }
+        ensures told { IfOk result (λ end. end ≡ LineEnd.Input → self.new.ended ≡ true) }
+        ensures steady { OnOk result (R.failures self.new.reader ≡ R.failures self.old.reader) }
+        ensures bound { reads_bound R.reads self.new ≡ reads_bound R.reads self.old }
+        ensures why { IfErr result (λ fault. (fault ≡ LineFault.Read) × HasCause R.failures R.interruptions R.reads self.old self.new) }
+        ensures asks { AsksInTime R.ended R.late R.interruptions R.reads self.old self.new }
+        ensures rested { OnOk result (R.interruptions self.old.reader ≡ 0 → R.interruptions self.new.reader ≡ 0) }
+    {
+        self.line.clear();
+        loop {
+            self.take_held();
+            match self.next_byte()? {
+                None => return Ok(LineEnd::Input),
+                Some(b'\n') => return Ok(LineEnd::Feed),
+                Some(byte) => {
+                    if self.line.len() > MAX_LINE {
+                        return Ok(LineEnd::Beyond);
+                    }
+                    self.line.push(byte).unwrap();
+                }
+            }
+        }
+    }
+
+    /// Reads the next line, or returns `false` at the end of input.
+    fn take_whole(&mut self) -> Result<bool, LineFault>
+        ensures more { IfOk result (λ more. more ≡ true → GivesLine (input_of R.left self.old) (input_of R.left self.new) (line_of self.new)) }
+        ensures fits { IfOk result (λ more. more ≡ true → length (line_of self.new) ≤ max_line) }
+        ensures end { IfOk result (λ more. more ≡ false → IsAtEnd (input_of R.left self.old) × IsAtEnd (input_of R.left self.new) × Keeps (input_of R.left self.old) (input_of R.left self.new)) }
+        ensures long { IfErr result (λ fault. fault ≡ LineFault.TooLong → BeginsLong (input_of R.left self.old)) }
+        ensures cut { IfErr result (λ fault. fault ≡ LineFault.Read → BreaksOff (input_of R.left self.old) (input_of R.left self.new) (line_of self.new)) }
+        ensures drained { IfErr result (λ fault. fault ≡ LineFault.Read → IsDrained self.new) }
+        ensures falls { IfOk result (λ more. more ≡ true → fuel_of self.new < fuel_of self.old) }
+        ensures fault { fault_of self.new ≡ fault_of self.old }
+        ensures later { R.failures self.old.reader ≤ R.failures self.new.reader }
+        ensures stays { StaysEnded self.old self.new }
+        ensures feeds { IfOk result (λ more. more ≡ true → TakesFeeds R.left self.old self.new) }
+        ensures steady { OnOk result (R.failures self.new.reader ≡ R.failures self.old.reader) }
+        ensures bound { reads_bound R.reads self.new ≡ reads_bound R.reads self.old }
+        ensures why { IfErr result (λ fault. fault ≡ LineFault.Read → HasCause R.failures R.interruptions R.reads self.old self.new) }
+        ensures asks { AsksInTime R.ended R.late R.interruptions R.reads self.old self.new }
+        ensures rested { OnOk result (R.interruptions self.old.reader ≡ 0 → R.interruptions self.new.reader ≡ 0) }
+    {
+        let end = self.take_line()?;
+        if end == LineEnd::Input && self.line.is_empty() {
+            return Ok(false);
+        }
+        if end == LineEnd::Beyond {
+            return Err(LineFault::TooLong);
+        }
+        chomp(&mut self.line);
+        if self.line.len() > MAX_LINE {
+            return Err(LineFault::TooLong);
+        }
+        Ok(true)
+    }
+
+    /// Reads the next line and returns `true`, or returns `false` at the end of input.
+    ///
+    /// Returns `Read` if the reader fails or the limit on reads or on interruptions is reached, and `TooLong` if the
+    /// line has more than 65,536 bytes without its line end. After a fault every later call returns the same fault and
+    /// reads nothing.
+    pub fn next_line(&mut self) -> Result<bool, LineFault>
+        ensures more { IfOk result (λ more. more ≡ true → GivesLine (input_of R.left self.old) (input_of R.left self.new) (line_of self.new)) }
+        ensures fits { IfOk result (λ more. more ≡ true → length (line_of self.new) ≤ max_line) }
+        ensures end { IfOk result (λ more. more ≡ false → IsAtEnd (input_of R.left self.old) × IsAtEnd (input_of R.left self.new) × Keeps (input_of R.left self.old) (input_of R.left self.new)) }
+        ensures long { IfErr result (λ fault. fault ≡ LineFault.TooLong → BeginsLong (input_of R.left self.old) ⊎ (fault_of self.old ≡ Some fault)) }
+        ensures cut { IfErr result (λ fault. fault ≡ LineFault.Read → fault_of self.old ≡ None → BreaksOff (input_of R.left self.old) (input_of R.left self.new) (line_of self.new)) }
+        ensures drained { IfErr result (λ fault. fault ≡ LineFault.Read → fault_of self.old ≡ None → IsDrained self.new) }
+        ensures falls { IfOk result (λ more. more ≡ true → fuel_of self.new < fuel_of self.old) }
+        ensures again { IsSome (fault_of self.old) → (fault_of self.new ≡ fault_of self.old) × Keeps (input_of R.left self.old) (input_of R.left self.new) }
+        ensures ready { OnOk result ((fault_of self.old ≡ None) × (fault_of self.new ≡ None)) }
+        ensures fault { IfErr result (λ fault. fault_of self.new ≡ Some fault) }
+        ensures later { R.failures self.old.reader ≤ R.failures self.new.reader }
+        ensures stays { StaysEnded self.old self.new }
+        ensures feeds { IfOk result (λ more. more ≡ true → TakesFeeds R.left self.old self.new) }
+        ensures steady { OnOk result (R.failures self.new.reader ≡ R.failures self.old.reader) }
+        ensures bound { reads_bound R.reads self.new ≡ reads_bound R.reads self.old }
+        ensures why { IfErr result (λ fault. fault ≡ LineFault.Read → HasCause R.failures R.interruptions R.reads self.old self.new ⊎ (fault_of self.old ≡ Some fault)) }
+        ensures in_time { KeepsTime R.ended R.late R.interruptions R.reads self.old self.new }
+    {
+        if let Some(fault) = self.fault {
+            return Err(fault);
+        }
+        match self.take_whole() {
+            Ok(more) => Ok(more),
+            Err(fault) => {
+                self.fault = Some(fault);
+                Err(fault)
+            }
+        }
+    }
+}
+
+/// Removes one carriage return at the end of the line.
+fn chomp(line: &mut Vec<u8>)
+    ensures items { line.new.items ≡ chomped line.old.items }
+    ensures capacity { vec_capacity line.new ≡ vec_capacity line.old }
+{
+    if line.last() == Some(&b'\r') {
+        line.pop();
+    }
+}

@@ -1,0 +1,45 @@
+//! The text of a record, written with `csv`.
+ghost use Rattle.std.specs.Prelude.{◌≡◌, IfOk, OnOk, string_bytes};
+ghost use Rattle.std.specs.Str.{encode_utf8_all};
+ghost use Rattle.csv.specs.Records.{fields_of};
+ghost use Rattle.sbl_io.specs.Records as spec;
+
+use csv::{ByteRecord, WriterBuilder};
+use std::alloc::{AllocError, Global};
+
+/// Returns the characters as UTF-8. Returns `AllocError` if an allocation fails.
+pub fn text_of(alloc: Global, characters: &[char]) -> Result<String, AllocError>
+    ensures { IfOk result (λ text. string_bytes text ≡ encode_utf8_all characters.now) }
+{
+    let mut text = String::with_capacity(alloc, characters.len())?;
+    set_text(&mut text, characters)?;
+    Ok(text)
+}
+
+/// Replaces the text by these characters. Returns `AllocError` if an allocation fails.
+pub fn set_text(text: &mut String, characters: &[char]) -> Result<(), AllocError>
+    ensures { OnOk result (string_bytes text.new ≡ encode_utf8_all characters.now) }
+{
+    text.clear();
+    for c in characters {
+        text.push(*c)?;
+    }
+    Ok(())
+}
+
+/// Returns the text of one record: its fields, quoted if `csv` quotes them, and a line feed. Returns `AllocError` if an
+/// allocation fails.
+pub fn record_line(alloc: Global, row: &ByteRecord) -> Result<Vec<u8>, AllocError>
+    ensures { IfOk result (λ text. text.items ≡ spec.record_line (fields_of row.now)) }
+{
+    let mut writer = WriterBuilder::new()
+        .flexible(true)
+        .from_writer(Vec::new(alloc));
+    if writer.write_byte_record(row).is_err() {
+        return Err(AllocError);
+    }
+    match writer.into_inner() {
+        Ok(text) => Ok(text),
+        Err(_) => Err(AllocError),
+    }
+}

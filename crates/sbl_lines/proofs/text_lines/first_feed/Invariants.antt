@@ -1,6 +1,0 @@
-use Rattle.std.proofs.Common.{◌≤◌, length, take}
-use Rattle.sbl_lines.specs.Held.{NoFeed}
-use Rattle.sbl_lines.proofs.text_lines.first_feed.Given as goal
-
-abbrev pub invariant-loop-at : goal.invariant-loop-at
-invariant-loop-at l = (l.at ≤ length l.bytes) × NoFeed (take l.at l.bytes)

@@ -1,9 +1,0 @@
-use Rattle.std.proofs.Common.{◌≡◌, drop, List}
-use Rattle.sbl_tree.specs.Tree as trees
-use Rattle.sbl_tree.specs.View.{view_groups}
-use Rattle.sbl_numbering.specs.NumberedAmongs.{entries_behind}
-use Rattle.sbl_numbering.specs.NumberedView.{view_names}
-use Rattle.sbl_numbering.proofs.amongs.add_group_entries.Given as goal
-
-abbrev pub invariant-loop-number : goal.invariant-loop-number
-invariant-loop-number l = (bare : List trees.Entry) → entries_behind (view_names l.names) l.number (view_groups (drop l.number l.groups.items) bare) l.entries.items ≡ entries_behind (view_names l.names) 0 (view_groups l.groups.items bare) l.initial.entries.items

@@ -1,5 +1,0 @@
-use Rattle.sbl_numbering.proofs.Own.{classes_are_their_terms}
-use Rattle.sbl_numbering.proofs.laws.classes_are_their_terms.Goals as goal
-
-pub returns : goal.returns
-returns c = classes_are_their_terms

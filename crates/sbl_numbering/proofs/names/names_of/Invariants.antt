@@ -1,8 +1,0 @@
-use Rattle.std.proofs.Common.{◌≡◌, drop, map}
-use Rattle.sbl_numbering.specs.NumberedNames.{names_behind, no_names}
-use Rattle.sbl_tree.specs.Order.{view_in_mode}
-use Rattle.sbl_numbering.specs.NumberedView.{view_names}
-use Rattle.sbl_numbering.proofs.names.names_of.Given as goal
-
-abbrev pub invariant-loop-item : goal.invariant-loop-item
-invariant-loop-item l = names_behind (map view_in_mode (drop l.item-index l.items)) (view_names l.names) ≡ names_behind (map view_in_mode l.items) no_names

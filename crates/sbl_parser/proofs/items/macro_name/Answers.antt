@@ -1,0 +1,19 @@
+use Rattle.std.proofs.Common.{◌≡◌, ◌∷◌, ℕ, List, string_bytes, drop, arith, ap, sym, refl, ◌∙◌}
+use Rattle.sbl_ast.specs.Terminal.{Terminal, left}
+use Rattle.sbl_ast.specs.Terminal as t
+use Rattle.sbl_parser.specs.Steps.{Stack, fault}
+use Rattle.sbl_parser.specs.Steps as s
+use Rattle.sbl_parser.proofs.Descent as d
+use Rattle.sbl_parser.proofs.RoleTokens as of_role
+use Rattle.sbl_parser.proofs.items.macro_name.Goals as goal
+
+pub returns-in_ok-text-in-MacroName : goal.returns-in_ok-text-in-MacroName
+returns-in_ok-text-in-MacroName c =
+    let first : (left c.args.tokens.now c.args.at) ≡ (t.macro_name (string_bytes c.in_ok-text-in-MacroName.field-0)) ∷ drop 1 (left c.args.tokens.now c.args.at) = of_role.as_macro (drop c.args.at c.args.tokens.now) (sym c.role.ensures ∙ c.in-MacroName.is) ∙ ap (λ (n : List ℕ). t.macro_name n ∷ drop 1 (left c.args.tokens.now c.args.at)) (sym c.in_ok-text-in-MacroName.ensures) in
+    (d.headed (left c.args.tokens.now c.args.at) (left c.args.tokens.now c.behind.result) (t.macro_name (string_bytes c.in_ok-text-in-MacroName.field-0)) first c.behind.ensures, λ k. d.took (left c.args.tokens.now c.args.at) (left c.args.tokens.now c.behind.result) (t.macro_name (string_bytes c.in_ok-text-in-MacroName.field-0)) (s.macro ∷ k) k 0 first c.behind.ensures refl (omega arith))
+
+pub returns-in_default : goal.returns-in_default
+returns-in_default c = rw c.syntax.ensures (λ k. d.refused_macro (left c.args.tokens.now c.args.at) k (λ e. c.in_default.not-MacroName (c.role.ensures ∙ e)))
+
+pub behind-requires : goal.behind-requires
+behind-requires c = of_role.some_first (left c.args.tokens.now c.args.at) _ (sym c.role.ensures ∙ c.in-MacroName.is) (λ e. cc)

@@ -1,0 +1,27 @@
+use Rattle.std.proofs.Common.{◌≡◌, ◌∷◌, List, drop, arith, ap, sym, refl, ◌∙◌}
+use Rattle.std.proofs.lemmas.Result.{err_from_is_err_and}
+use Rattle.sbl_ast.specs.Terminal.{Terminal, left}
+use Rattle.sbl_ast.specs.Terminal as t
+use Rattle.sbl_ast.specs.Tree as trees
+use Rattle.sbl_parser.specs.Steps.{Stack, fault}
+use Rattle.sbl_parser.specs.Steps as s
+use Rattle.sbl_parser.proofs.Descent as d
+use Rattle.sbl_parser.proofs.RoleTokens as of_role
+use Rattle.sbl_ast.proofs.Views as views
+use Rattle.sbl_parser.proofs.leaves.edited.Goals as goal
+
+pub returns-in_err-string : goal.returns-in_err-string
+returns-in_err-string c =
+    let first : (left c.args.tokens.now c.args.at) ≡ (t.edit c.args.word) ∷ drop 1 (left c.args.tokens.now c.args.at) = of_role.as_terminal (left c.args.tokens.now c.args.at) (t.edit c.args.word) refl c.requires.first in
+    let p = err_from_is_err_and c.from_residual.result c.from_residual.ensures.1 in
+    rw (p.1, p.2) (λ k. d.fails_along c.args.tokens.now c.in_err-string.field-0.0 (fault (left c.args.tokens.now c.args.at) (s.command c.args.depth ∷ k)) _ (d.took (left c.args.tokens.now c.args.at) (left c.args.tokens.now c.behind.result) (t.edit c.args.word) (s.command c.args.depth ∷ k) (s.argument c.args.depth ∷ k) c.args.depth first c.behind.ensures refl (omega arith)) (c.in_err-string.ensures (k)))
+
+pub returns : goal.returns
+returns c =
+    let first : (left c.args.tokens.now c.args.at) ≡ (t.edit c.args.word) ∷ drop 1 (left c.args.tokens.now c.args.at) = of_role.as_terminal (left c.args.tokens.now c.args.at) (t.edit c.args.word) refl c.requires.first in (
+      d.headed (left c.args.tokens.now c.args.at) (left c.args.tokens.now c.behind.result) (t.edit c.args.word) first c.behind.ensures ∙ ap (λ (r : List Terminal). (t.edit c.args.word) ∷ r) (c.in_ok-string.ensures.0) ∙ ap (λ (x : trees.Command). trees.spelled x (left c.args.tokens.now c.in_ok-string.rest)) (sym (views.command_Edit c.args.word c.in_ok-string.string)),
+      λ k. d.took (left c.args.tokens.now c.args.at) (left c.args.tokens.now c.behind.result) (t.edit c.args.word) (s.command c.args.depth ∷ k) (s.argument c.args.depth ∷ k) c.args.depth first c.behind.ensures refl (omega arith) ∙ c.in_ok-string.ensures.1 (k),
+    )
+
+pub behind-requires : goal.behind-requires
+behind-requires c = of_role.some_first (left c.args.tokens.now c.args.at) _ (c.requires.first) (λ e. cc)

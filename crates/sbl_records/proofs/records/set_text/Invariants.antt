@@ -1,6 +1,0 @@
-use Rattle.std.proofs.Common.{◌≡◌, take, string_bytes}
-use Rattle.std.specs.Str.{encode_utf8_all}
-use Rattle.sbl_records.proofs.records.set_text.Given as goal
-
-abbrev pub invariant-loop-c : goal.invariant-loop-c
-invariant-loop-c l = string_bytes l.text ≡ encode_utf8_all (take l.c-index l.characters)

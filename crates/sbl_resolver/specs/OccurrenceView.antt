@@ -1,0 +1,23 @@
+-- An occurrence without memory addresses.
+use Rattle.std.specs.Prelude.{List, map}
+use Rattle.sbl_resolver.specs.declared.occurrences.Notice.{Notice}
+use Rattle.sbl_resolver.specs.declared.occurrences.Notice.TheVariants as notices
+use Rattle.sbl_resolver.specs.declared.occurrences.Occurrence.{Occurrence}
+use Rattle.sbl_resolver.specs.Occurrences as spec
+
+abbrev pub view_notice : Notice → spec.Notice
+view_notice (notices.Declares k n) = spec.declares k n.now
+view_notice (notices.DefinesRoutine n) = spec.defines_routine n.now
+view_notice (notices.DefinesGrouping n) = spec.defines_grouping n.now
+view_notice (notices.Uses u n) = spec.uses u n.now
+view_notice notices.Substring = spec.substring
+view_notice (notices.Among has_starter is_empty) = spec.among has_starter is_empty
+view_notice (notices.String owner value) = spec.string owner value.now
+view_notice notices.Backwards = spec.backwards
+view_notice notices.RegionEnd = spec.region_end
+
+abbrev pub view_occurrence : Occurrence → spec.Occurrence
+view_occurrence m = record { site = m.site; notice = view_notice m.notice }
+
+abbrev pub view_occurrences : List Occurrence → List spec.Occurrence
+view_occurrences ms = map view_occurrence ms

@@ -1,0 +1,183 @@
+-- What the checks look at: the occurrences of a script, in text order.
+use Rattle.std.specs.Prelude.{ℕ, ◌+◌, Bool, true, false, List, [], ◌∷◌, ◌++◌, Option, Some, None}
+use Rattle.sbl_ast.specs.declared.tree.DeclarationKind.{DeclarationKind}
+use Rattle.sbl_ast.specs.declared.tree.Simple.{Simple}
+use Rattle.sbl_ast.specs.declared.tree.Simple.TheVariants as simples
+use Rattle.sbl_ast.specs.declared.tree.Prefix.{Prefix}
+use Rattle.sbl_ast.specs.declared.tree.Prefix.TheVariants as prefixes
+use Rattle.sbl_ast.specs.declared.tree.Naming.{Naming}
+use Rattle.sbl_ast.specs.declared.tree.Naming.TheVariants as namings
+use Rattle.sbl_ast.specs.Tree.{Argument, written_out, by_name, Expression, expression, Sums, no_sums, sum, Product, product, Scales, no_scales, scale, Factor, negated, bracketed, numeral, variable, fixed, length_of, Entry, entry, Command, bracket, simple_, literal_, name_, non_, prefixed, counted, move_, named, splice_, setlimit_, assign_, compare_, compare_values_, among_, Rows, no_rows, row, Others, no_others, joined, Starter, no_starter, starter, Groups, bare, group, Term, term, Plain, declaration, escapes, macro, routine, grouping, Item}
+use Rattle.sbl_ast.specs.Order.{ItemInMode, in_order}
+use Rattle.sbl_ast.specs.declared.mode.Mode.TheVariants.{Backward}
+use Rattle.sbl_resolver.specs.declared.occurrences.Use.{Use}
+use Rattle.sbl_resolver.specs.declared.occurrences.Use.TheVariants as use_as
+use Rattle.sbl_resolver.specs.declared.occurrences.Site.{Site}
+
+-- what occurs at one place of a script; names are UTF-8 bytes
+pub data Notice : Type 0 where
+  declares : DeclarationKind → List ℕ → Notice
+  defines_routine defines_grouping : List ℕ → Notice
+  uses : Use → List ℕ → Notice
+  substring : Notice
+  -- an among: whether it has a starter, whether it has no string
+  among : Bool → Bool → Notice
+  -- a string of an among: the number of the among in its item, and the characters of the string
+  string : ℕ → List ℕ → Notice
+  backwards : Notice
+  -- the end of a routine's body, or of the parentheses of a group or a starter
+  region_end : Notice
+
+pub record Occurrence : Type 0 where
+  pub site : Site
+  pub notice : Notice
+
+-- Each of the following functions appends its own occurrences to those so far.
+abbrev pub put : Notice → Site → List Occurrence → List Occurrence
+put n p sofar = sofar ++ (record { site = p; notice = n }) ∷ []
+
+-- the number of amongs of the current routine after an occurrence, given the number before it
+abbrev pub amongs_after : Notice → ℕ → ℕ
+amongs_after (defines_routine n) k = 0
+amongs_after (among has_starter is_empty) k = k + 1
+amongs_after _ k = k
+
+-- the number of amongs in the last routine of these occurrences; if there is no routine, k plus all amongs
+abbrev pub amongs_in : List Occurrence → ℕ → ℕ
+amongs_in [] k = k
+amongs_in (m ∷ ms) k = amongs_in ms (amongs_after m.notice k)
+
+-- ---- names of strings and integers
+
+-- a string that is a name
+abbrev pub noted_string : Argument → Site → List Occurrence → List Occurrence
+noted_string (written_out q) p sofar = sofar
+noted_string (by_name n) p sofar = put (uses use_as.String n) p sofar
+
+abbrev mutual
+  pub noted_expression : Expression → Site → List Occurrence → List Occurrence
+  noted_expression (expression x ss) p sofar = noted_sums ss p (noted_product x p sofar)
+
+  pub noted_sums : Sums → Site → List Occurrence → List Occurrence
+  noted_sums no_sums p sofar = sofar
+  noted_sums (sum o x ss) p sofar = noted_sums ss p (noted_product x p sofar)
+
+  pub noted_product : Product → Site → List Occurrence → List Occurrence
+  noted_product (product f ss) p sofar = noted_scales ss p (noted_factor f p sofar)
+
+  pub noted_scales : Scales → Site → List Occurrence → List Occurrence
+  noted_scales no_scales p sofar = sofar
+  noted_scales (scale o f ss) p sofar = noted_scales ss p (noted_factor f p sofar)
+
+  pub noted_factor : Factor → Site → List Occurrence → List Occurrence
+  noted_factor (negated f) p sofar = noted_factor f p sofar
+  noted_factor (bracketed e) p sofar = noted_expression e p sofar
+  noted_factor (numeral n) p sofar = sofar
+  noted_factor (variable n) p sofar = put (uses use_as.Integer n) p sofar
+  noted_factor (fixed c) p sofar = sofar
+  noted_factor (length_of a) p sofar = noted_string a p sofar
+
+-- ---- commands
+
+abbrev pub noted_simple : Simple → Site → List Occurrence → List Occurrence
+noted_simple simples.Substring p sofar = put substring p sofar
+noted_simple _ p sofar = sofar
+
+abbrev pub noted_prefix : Prefix → Site → List Occurrence → List Occurrence
+noted_prefix prefixes.Backwards p sofar = put backwards p sofar
+noted_prefix _ p sofar = sofar
+
+-- the site of a command after a prefix
+abbrev pub site_behind : Prefix → Site → Site
+site_behind prefixes.Backwards p = record { item = p.item; mode = Backward }
+site_behind _ p = p
+
+abbrev pub use_of : Naming → Use
+use_of namings.SetMark = use_as.Integer
+use_of namings.Set = use_as.Boolean
+use_of namings.Unset = use_as.Boolean
+use_of namings.Arrow = use_as.String
+
+abbrev pub noted_condition : Option (List ℕ) → Site → List Occurrence → List Occurrence
+noted_condition None p sofar = sofar
+noted_condition (Some n) p sofar = put (uses use_as.Condition n) p sofar
+
+-- a string of the among of this number
+abbrev pub noted_entry : Entry → ℕ → Site → List Occurrence → List Occurrence
+noted_entry (entry q c) k p sofar = noted_condition c p (put (string k q.value) p sofar)
+
+abbrev pub noted_entries : List Entry → ℕ → Site → List Occurrence → List Occurrence
+noted_entries [] k p sofar = sofar
+noted_entries (e ∷ es) k p sofar = noted_entries es k p (noted_entry e k p sofar)
+
+abbrev pub has_starter : Starter → Bool
+has_starter no_starter = false
+has_starter (starter rs) = true
+
+abbrev pub is_empty : Groups → Bool
+is_empty (bare []) = true
+is_empty _ = false
+
+abbrev mutual
+  pub noted : Command → Site → List Occurrence → List Occurrence
+  noted (bracket rs) p sofar = noted_rows rs p sofar
+  noted (simple_ s) p sofar = noted_simple s p sofar
+  noted (literal_ q) p sofar = sofar
+  noted (name_ n) p sofar = put (uses use_as.Command n) p sofar
+  noted (non_ with_minus n) p sofar = put (uses use_as.Excluded n) p sofar
+  noted (prefixed x c) p sofar = noted c (site_behind x p) (noted_prefix x p sofar)
+  noted (counted n e c) p sofar = noted c p (noted_expression e p sofar)
+  noted (move_ m e) p sofar = noted_expression e p sofar
+  noted (named x n) p sofar = put (uses (use_of x) n) p sofar
+  noted (splice_ x a) p sofar = noted_string a p sofar
+  noted (setlimit_ b c) p sofar = noted c p (noted b p sofar)
+  noted (assign_ n o e) p sofar = noted_expression e p (put (uses use_as.Integer n) p sofar)
+  noted (compare_ n o e) p sofar = noted_expression e p (put (uses use_as.Integer n) p sofar)
+  noted (compare_values_ e o f) p sofar = noted_expression f p (noted_expression e p sofar)
+  noted (among_ s gs) p sofar = noted_groups gs (amongs_in sofar 0 + 1) p (noted_starter s p (put (among (has_starter s) (is_empty gs)) p sofar))
+
+  pub noted_rows : Rows → Site → List Occurrence → List Occurrence
+  noted_rows no_rows p sofar = sofar
+  noted_rows (row c os rs) p sofar = noted_rows rs p (noted_others os p (noted c p sofar))
+
+  pub noted_others : Others → Site → List Occurrence → List Occurrence
+  noted_others no_others p sofar = sofar
+  noted_others (joined j c os) p sofar = noted_others os p (noted c p sofar)
+
+  pub noted_starter : Starter → Site → List Occurrence → List Occurrence
+  noted_starter no_starter p sofar = sofar
+  noted_starter (starter rs) p sofar = put region_end p (noted_rows rs p sofar)
+
+  pub noted_groups : Groups → ℕ → Site → List Occurrence → List Occurrence
+  noted_groups (bare es) k p sofar = noted_entries es k p sofar
+  noted_groups (group e es rs gs) k p sofar = noted_groups gs k p (put region_end p (noted_rows rs p (noted_entries es k p (noted_entry e k p sofar))))
+
+-- ---- items
+
+abbrev pub noted_names : DeclarationKind → List (List ℕ) → Site → List Occurrence → List Occurrence
+noted_names k [] p sofar = sofar
+noted_names k (n ∷ ns) p sofar = noted_names k ns p (put (declares k n) p sofar)
+
+abbrev pub noted_term : Argument → Site → List Occurrence → List Occurrence
+noted_term (written_out q) p sofar = sofar
+noted_term (by_name n) p sofar = put (uses use_as.Term n) p sofar
+
+abbrev pub noted_terms : List Term → Site → List Occurrence → List Occurrence
+noted_terms [] p sofar = sofar
+noted_terms (term o a ∷ ts) p sofar = noted_terms ts p (noted_term a p sofar)
+
+abbrev pub noted_plain : Plain → Site → List Occurrence → List Occurrence
+noted_plain (declaration k ns) p sofar = noted_names k ns p sofar
+noted_plain (escapes a b) p sofar = sofar
+noted_plain (macro n b q) p sofar = sofar
+noted_plain (routine n c os) p sofar = put region_end p (noted_others os p (noted c p (put (defines_routine n) p sofar)))
+noted_plain (grouping n a ts) p sofar = noted_terms ts p (noted_term a p (put (defines_grouping n) p sofar))
+
+-- the occurrences of these items; n is the number of the first one
+abbrev pub noted_items : List ItemInMode → ℕ → List Occurrence → List Occurrence
+noted_items [] n sofar = sofar
+noted_items (x ∷ xs) n sofar = noted_items xs (n + 1) (noted_plain x.plain (record { item = n; mode = x.mode }) sofar)
+
+-- the occurrences of a script, with items counted from 1
+abbrev pub occurrences_of : List Item → List Occurrence
+occurrences_of items = noted_items (in_order items) 1 []

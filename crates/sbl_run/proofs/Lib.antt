@@ -1,5 +1,0 @@
-pub mod Arms
-pub mod Rows
-pub mod Nothing
-pub mod NumberingTables
-pub mod Marked

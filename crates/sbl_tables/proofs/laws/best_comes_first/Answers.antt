@@ -1,5 +1,0 @@
-use Rattle.sbl_tables.proofs.Fits.{best_is_first}
-use Rattle.sbl_tables.proofs.laws.best_comes_first.Goals as goal
-
-pub returns : goal.returns
-returns c = best_is_first

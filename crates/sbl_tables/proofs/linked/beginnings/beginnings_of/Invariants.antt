@@ -1,9 +1,0 @@
-use Rattle.std.proofs.Common.{◌≡◌, ◌<◌, ℕ, List, Some, true}
-use Rattle.std.specs.Prelude.{slice_get}
-use Rattle.sbl_program.specs.CharacterClasses.{members}
-use Rattle.sbl_tables.specs.Beginnings.{begins}
-use Rattle.sbl_tables.specs.Linked.{texts_of}
-use Rattle.sbl_tables.proofs.linked.beginnings.beginnings_of.Given as goal
-
-abbrev pub invariant-loop-row : goal.invariant-loop-row
-invariant-loop-row l = (k : ℕ) (v : List ℕ) → k < l.row-index → slice_get (texts_of l.rows) k ≡ Some v → begins (members l.beginnings.characters) l.beginnings.empty v ≡ true

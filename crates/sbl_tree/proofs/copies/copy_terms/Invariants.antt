@@ -1,6 +1,0 @@
-use Rattle.std.proofs.Common.{◌≡◌, ◌++◌, drop, map}
-use Rattle.sbl_tree.specs.View.{view_term}
-use Rattle.sbl_tree.proofs.copies.copy_terms.Given as goal
-
-abbrev pub invariant-loop-term : goal.invariant-loop-term
-invariant-loop-term l = map view_term l.copies.items ++ map view_term (drop l.term-index l.terms.items) ≡ map view_term l.terms.items

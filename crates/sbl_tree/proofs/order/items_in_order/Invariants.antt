@@ -1,7 +1,0 @@
-use Rattle.std.proofs.Common.{◌≡◌, ◌++◌, drop, map}
-use Rattle.sbl_tree.specs.Order.{in_order, view_in_mode}
-use Rattle.sbl_tree.specs.View.{view_items}
-use Rattle.sbl_tree.proofs.order.items_in_order.Given as goal
-
-abbrev pub invariant-loop-item : goal.invariant-loop-item
-invariant-loop-item l = map view_in_mode l.all.items ++ in_order (view_items (drop l.item-index l.items)) ≡ in_order (view_items l.items)

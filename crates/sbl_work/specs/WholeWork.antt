@@ -1,0 +1,49 @@
+-- What the whole of work reads and writes: the two files are read, and then the lines of the input get their replies.
+use Rattle.std.specs.Prelude.{◌≡◌, ◌⊎◌, ℕ, List, [], Option, Some, None, Result, Ok, Err}
+use Rattle.sbl_bench.specs.Contents.{Contents, opened, opening_fault}
+use Rattle.sbl_io.specs.declared.faults.ServeFault.{ServeFault}
+use Rattle.sbl_io.specs.declared.faults.ServeFault.TheVariants as fault
+use Rattle.sbl_script.specs.Parsed.{Source}
+use Rattle.sbl_script.specs.Reading.{IsScriptOf}
+use Rattle.sbl_work.specs.Desks.{State, rows_now}
+use Rattle.sbl_work.specs.Serving.{IsWork}
+
+-- A bench of a script that these bytes are with this external, and of some words. No definition says what a file has.
+pub record IsOpened (external bytes : List ℕ) (s : Contents) : Type 0 where
+  pub script : Source
+  pub words : List (List ℕ)
+  pub is_script : IsScriptOf bytes external script
+  pub are_words : opening_fault [] words ≡ None
+  pub bench : s ≡ opened script words
+
+-- the desk at the start: these bytes are its text, nothing can be undone or redone, and the mark is set
+abbrev pub first_desk : Contents → List ℕ → State
+first_desk s bytes = record { text = Some bytes; past = record { earlier = []; later = [] }; marked = rows_now s }
+
+-- the status is 0 without a fault, and 1 with one
+abbrev pub status_of : {F : Type 0} → Result (Unit {0}) F → ℕ
+status_of (Ok u) = 0
+status_of (Err f) = 1
+
+-- nothing was read, and nothing was written
+abbrev pub IsUntouched : Option (List ℕ) → Option (List ℕ) → Option (List ℕ) → Option (List ℕ) → Type 0
+IsUntouched input new_input held new_held = (new_input ≡ input) × (new_held ≡ held)
+
+-- Work goes on from this bench and its desk at the start, and ends with this result, which has one of these reasons.
+abbrev pub WorksFrom : (Result (Unit {0}) ServeFault → Type 0) → List ℕ → List ℕ → Option (List ℕ) → Option (List ℕ) → Option (List ℕ) → Option (List ℕ) → Contents → Result (Unit {0}) ServeFault → Type 0
+WorksFrom Ends bytes prompt input new_input held new_held s result =
+    (t : Contents) × (e : State) × IsWork prompt input new_input held new_held s (first_desk s bytes) t e result × Ends result
+
+-- the same; or an allocation for the desk fails
+abbrev pub WorksOrMemory : (Result (Unit {0}) ServeFault → Type 0) → List ℕ → List ℕ → Option (List ℕ) → Option (List ℕ) → Option (List ℕ) → Option (List ℕ) → Contents → Result (Unit {0}) ServeFault → Type 0
+WorksOrMemory Ends bytes prompt input new_input held new_held s result =
+    WorksFrom Ends bytes prompt input new_input held new_held s result
+    ⊎ ((result ≡ Err fault.OutOfMemory) × IsUntouched input new_input held new_held)
+
+-- There is no bench or no desk: the status is 1, and nothing is read or written. Or a bench is opened, the lines of the input get
+-- their replies, and the status is that of their end.
+abbrev pub IsWholeWork : (Result (Unit {0}) ServeFault → Type 0) → List ℕ → List ℕ → Option (List ℕ) → Option (List ℕ) → Option (List ℕ) → Option (List ℕ) → ℕ → Type 0
+IsWholeWork Ends external prompt input new_input held new_held status =
+    ((status ≡ 1) × IsUntouched input new_input held new_held)
+    ⊎ ((bytes : List ℕ) × (s : Contents) × (served : Result (Unit {0}) ServeFault) × IsOpened external bytes s
+    × WorksFrom Ends bytes prompt input new_input held new_held s served × (status ≡ status_of served))

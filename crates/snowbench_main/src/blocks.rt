@@ -1,0 +1,85 @@
+//! The blocks of an input.
+
+use sbl_io::first_line;
+use std::alloc::{AllocError, Global};
+
+/// Returns the number of the first line that is a single point, from 1.
+pub(crate) fn point_line(text: &[u8]) -> Option<u64> {
+    let mut rest = text;
+    let mut number: u64 = 1;
+    while let Some((line, after)) = first_line(rest) {
+        if line == b".".as_slice() {
+            return Some(number);
+        }
+        number = number.saturating_add(1);
+        rest = after;
+    }
+    None
+}
+
+/// Returns the text after the first line that is a single point.
+pub(crate) fn after_point(text: &[u8]) -> Option<&[u8]> {
+    let mut rest = text;
+    while let Some((line, after)) = first_line(rest) {
+        if line == b".".as_slice() {
+            return Some(after);
+        }
+        rest = after;
+    }
+    None
+}
+
+/// Returns the number of lines.
+pub(crate) fn line_count(text: &[u8]) -> u64 {
+    let mut rest = text;
+    let mut count: u64 = 0;
+    while let Some((_, after)) = first_line(rest) {
+        count = count.saturating_add(1);
+        rest = after;
+    }
+    count
+}
+
+/// Returns the line with this number, from 1, or an empty one if there are fewer.
+pub(crate) fn line_at(text: &[u8], number: usize) -> &[u8] {
+    let mut rest = text;
+    let mut left = number;
+    while let Some((line, after)) = first_line(rest) {
+        if left <= 1 {
+            return line;
+        }
+        left -= 1;
+        rest = after;
+    }
+    rest
+}
+
+/// Appends a block, and then the point. If the last line has no end, it gets one.
+fn push_block(input: &mut Vec<u8>, block: &[u8]) -> Result<(), AllocError> {
+    input.extend_from_slice(block)?;
+    if !block.is_empty() && block.last() != Some(&b'\n') {
+        input.extend_from_slice(b"\n")?;
+    }
+    input.extend_from_slice(b".\n")
+}
+
+/// Returns the input with a script alone, before the first word.
+pub(crate) fn script_block(alloc: Global, script: &[u8]) -> Result<Vec<u8>, AllocError> {
+    let mut input = Vec::new(alloc);
+    push_block(&mut input, script)?;
+    Ok(input)
+}
+
+/// Returns the input with a script, words, and what follows them.
+pub(crate) fn compose(
+    alloc: Global,
+    script: &[u8],
+    words: &[u8],
+    rest: &[u8],
+) -> Result<Vec<u8>, AllocError> {
+    let mut input = Vec::new(alloc);
+    push_block(&mut input, script)?;
+    push_block(&mut input, words)?;
+    input.extend_from_slice(rest)?;
+    Ok(input)
+}

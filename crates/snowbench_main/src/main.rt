@@ -1,0 +1,145 @@
+//! The program `snowbench`: parses its command line, and runs on files and on standard input, output and error.
+#![tactic(auto)]
+
+mod at_work;
+mod blocks;
+mod declared;
+mod messages;
+mod near;
+mod places;
+mod reasons;
+mod sentences;
+mod sessions;
+mod streams;
+mod talk;
+mod typed;
+mod watching;
+
+use crate::at_work::start_work;
+use crate::messages::{NO_MEMORY, REFUSED, fail_memory, plain_text};
+use crate::sessions::{Named, reads_twice, run_check, run_filter, run_input, run_session};
+use clap::error::ErrorKind;
+use snowbench::{CommandLine, Verb, read_command_line};
+use std::io;
+use std::process::ExitCode;
+
+/// The text that is printed if a word of the command line is not UTF-8.
+const NOT_UTF8: &str = "error: a word of the command line is not UTF-8";
+
+/// The text that is printed if `run` names standard input twice.
+const NAMED_TWICE: &str =
+    "snowbench: standard input can be only one of SCRIPT, WORDS and COMMANDS. Without WORDS it is these";
+
+/// The text that is printed if `check` names standard input twice.
+const NAMED_TWICE_BY_CHECK: &str =
+    "snowbench: standard input can be only one of SCRIPT, WORDS and STEMS";
+
+/// The text that is printed if `check` has one file or two.
+const THREE_FILES: &str =
+    "snowbench: check takes three files, ./snowbench check SCRIPT WORDS STEMS, or all from standard input, ./snowbench check < INPUT";
+
+fn main(rt: HostRuntime) -> io::Result<ExitCode> {
+    let words = match words_of(&rt) {
+        Ok(words) => words,
+        Err(error) => return Ok(refuse_words(&rt, &error)),
+    };
+    match read_command_line(rt.alloc(), &words) {
+        Ok(command_line) => Ok(ExitCode::from(start(&rt, command_line))),
+        Err(error) if error.kind() == ErrorKind::OutOfMemory => {
+            Ok(ExitCode::from(fail_memory(&rt)))
+        }
+        Err(error) => Ok(ExitCode::from(refuse_line(&rt, &error))),
+    }
+}
+
+/// Returns the words of the command line. Returns `OutOfMemory` if an allocation fails, and `InvalidData` if a word is not UTF-8.
+fn words_of(rt: &HostRuntime) -> io::Result<Vec<String>> {
+    Ok(std::env::args(rt)?.collect(rt.alloc())?)
+}
+
+/// Prints why the words of the command line cannot be read, and returns the exit status.
+fn refuse_words(rt: &HostRuntime, error: &io::Error) -> ExitCode {
+    if error.kind() == io::ErrorKind::OutOfMemory {
+        let _ = eprintln!(rt; "{NO_MEMORY}");
+        return ExitCode::FAILURE;
+    }
+    let _ = eprintln!(rt; "{NOT_UTF8}");
+    ExitCode::from(REFUSED)
+}
+
+/// Prints why the command line is refused, and returns the exit status.
+fn refuse_line(rt: &HostRuntime, error: &clap::Error) -> u8 {
+    let text = match format!(in rt.alloc(); "{error}") {
+        Ok(text) => plain_text(rt.alloc(), text.as_str()),
+        Err(error) => Err(error),
+    };
+    match text {
+        Ok(text) => {
+            let _ = eprint!(rt; "{text}");
+            REFUSED
+        }
+        Err(_) => fail_memory(rt),
+    }
+}
+
+/// Does what the command line asks for, and returns the exit status.
+fn start(rt: &HostRuntime, command_line: CommandLine) -> u8 {
+    if command_line.verb == Verb::Work {
+        return start_work(rt, command_line);
+    }
+    match &command_line.script {
+        None => run_input(rt, &command_line),
+        Some(script) => run_files(rt, &command_line, script.as_str()),
+    }
+}
+
+/// Runs a session or a check over files, and returns the exit status.
+fn run_files(rt: &HostRuntime, command_line: &CommandLine, script: &str) -> u8 {
+    let words = match &command_line.words {
+        Some(words) => words.as_str(),
+        None => "-",
+    };
+    if command_line.verb == Verb::Filter {
+        return run_filter(rt, command_line, script);
+    }
+    if command_line.verb == Verb::Check {
+        return check_files(rt, command_line, script, words);
+    }
+    let rest = text_in(&command_line.commands);
+    let named = Named {
+        script,
+        words,
+        rest,
+    };
+    if reads_twice(named) {
+        let _ = eprintln!(rt; "{NAMED_TWICE}");
+        return REFUSED;
+    }
+    run_session(rt, command_line, named)
+}
+
+/// Compares stems of files, and returns the exit status.
+fn check_files(rt: &HostRuntime, command_line: &CommandLine, script: &str, words: &str) -> u8 {
+    let Some(stems) = text_in(&command_line.stems) else {
+        let _ = eprintln!(rt; "{THREE_FILES}");
+        return REFUSED;
+    };
+    let named = Named {
+        script,
+        words,
+        rest: Some(stems),
+    };
+    if reads_twice(named) {
+        let _ = eprintln!(rt; "{NAMED_TWICE_BY_CHECK}");
+        return REFUSED;
+    }
+    run_check(rt, command_line, named, stems)
+}
+
+/// Returns the text, if there is one.
+fn text_in(text: &Option<String>) -> Option<&str> {
+    match text {
+        Some(text) => Some(text.as_str()),
+        None => None,
+    }
+}

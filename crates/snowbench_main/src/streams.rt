@@ -1,0 +1,190 @@
+//! Streams that remember what passes through them.
+
+use std::alloc::Global;
+use std::cell::RefCell;
+use std::io;
+use std::io::{ErrorKind, Read, Write};
+
+/// The most bytes of an input that are kept to show a place; a script has fewer (our own choice).
+const MOST_KEPT: usize = 2_097_152;
+
+/// The first bytes that were read, and whether they are all.
+#[derive(Drop)]
+pub(crate) struct Kept {
+    bytes: Vec<u8>,
+    is_whole: bool,
+}
+
+impl Kept {
+    /// Returns no bytes. More are kept only if they are wanted.
+    pub(crate) fn new(alloc: Global, is_wanted: bool) -> Kept {
+        Kept {
+            bytes: Vec::new(alloc),
+            is_whole: is_wanted,
+        }
+    }
+
+    /// Returns the bytes.
+    pub(crate) fn bytes(&self) -> &[u8] {
+        self.bytes.as_slice()
+    }
+
+    /// Returns whether these are all bytes that were read.
+    pub(crate) fn is_whole(&self) -> bool {
+        self.is_whole
+    }
+
+    /// Keeps more bytes, if there is room for them and none before them was left out.
+    fn keep(&mut self, bytes: &[u8]) {
+        if !self.is_whole {
+            return;
+        }
+        let room = MOST_KEPT.saturating_sub(self.bytes.len());
+        if bytes.len() > room || self.bytes.extend_from_slice(bytes).is_err() {
+            self.is_whole = false;
+        }
+    }
+}
+
+/// A reader that keeps the first bytes that it reads.
+#[derive(Drop)]
+pub(crate) struct Front<'a, R> {
+    inner: R,
+    kept: &'a RefCell<Kept>,
+}
+
+impl<'a, R> Front<'a, R> {
+    /// Returns the reader before its first read.
+    pub(crate) fn new(inner: R, kept: &'a RefCell<Kept>) -> Front<'a, R> {
+        Front { inner, kept }
+    }
+}
+
+impl<R: Read> Read for Front<'_, R> {
+    ghost remaining = { λ f. R.remaining f.inner };
+
+    fn read(&mut self, buf: &mut [u8]) -> io::Result<usize> {
+        match self.inner.read(buf) {
+            Ok(count) => {
+                if let Ok(mut kept) = self.kept.try_borrow_mut() {
+                    kept.keep(&buf[..count]);
+                }
+                Ok(count)
+            }
+            Err(error) => Err(error),
+        }
+    }
+}
+
+/// What has been seen of a line that may be a refusal: `no`, a number of two digits, and a name. A row has a comma, so no row
+/// is one.
+#[derive(Clone, Copy, PartialEq, Eq)]
+enum LinePart {
+    Nothing,
+    N,
+    No,
+    FirstBlank,
+    FirstDigit,
+    Number,
+    SecondBlank,
+    Name,
+    Other,
+}
+
+/// Returns what has been seen after one more byte of the line.
+fn part_after(part: LinePart, byte: u8) -> LinePart {
+    match part {
+        LinePart::Nothing if byte == b'n' => LinePart::N,
+        LinePart::N if byte == b'o' => LinePart::No,
+        LinePart::No if byte == b' ' => LinePart::FirstBlank,
+        LinePart::FirstBlank if byte.is_ascii_digit() => LinePart::FirstDigit,
+        LinePart::FirstDigit if byte.is_ascii_digit() => LinePart::Number,
+        LinePart::Number if byte == b' ' => LinePart::SecondBlank,
+        LinePart::SecondBlank if byte.is_ascii_uppercase() => LinePart::Name,
+        LinePart::Name if byte.is_ascii_alphanumeric() => LinePart::Name,
+        _ => LinePart::Other,
+    }
+}
+
+/// What lines were.
+#[derive(Drop)]
+struct Seen {
+    part: LinePart,
+    lines: u64,
+    has_refusal: bool,
+}
+
+impl Seen {
+    /// Notes more bytes of the lines.
+    fn note(&mut self, bytes: &[u8]) {
+        for byte in bytes {
+            if *byte == b'\n' {
+                self.has_refusal = self.has_refusal || self.part == LinePart::Name;
+                self.lines = self.lines.saturating_add(1);
+                self.part = LinePart::Nothing;
+            } else {
+                self.part = part_after(self.part, *byte);
+            }
+        }
+    }
+}
+
+/// A writer, and what the lines written to it were.
+#[derive(Drop)]
+pub(crate) struct Output<W> {
+    inner: W,
+    seen: Seen,
+    is_closed: bool,
+}
+
+impl<W> Output<W> {
+    /// Returns the writer before its first write.
+    pub(crate) fn new(inner: W) -> Output<W> {
+        let seen = Seen {
+            part: LinePart::Nothing,
+            lines: 0,
+            has_refusal: false,
+        };
+        Output {
+            inner,
+            seen,
+            is_closed: false,
+        }
+    }
+
+    /// Returns the number of lines that were written.
+    pub(crate) fn lines(&self) -> u64 {
+        self.seen.lines
+    }
+
+    /// Returns whether one of the lines is the reply to a command that was refused.
+    pub(crate) fn has_refusal(&self) -> bool {
+        self.seen.has_refusal
+    }
+
+    /// Returns whether a write failed because the reader of the pipe has closed it.
+    pub(crate) fn is_closed(&self) -> bool {
+        self.is_closed
+    }
+}
+
+impl<W: Write> Write for Output<W> {
+    ghost contents = { λ o. W.contents o.inner };
+
+    fn write(&mut self, buf: &[u8]) -> io::Result<usize> {
+        match self.inner.write(buf) {
+            Ok(count) => {
+                self.seen.note(&buf[..count]);
+                Ok(count)
+            }
+            Err(error) => {
+                self.is_closed = error.kind() == ErrorKind::BrokenPipe;
+                Err(error)
+            }
+        }
+    }
+
+    fn flush(&mut self) -> io::Result<()> {
+        self.inner.flush()
+    }
+}

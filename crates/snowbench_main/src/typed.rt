@@ -1,0 +1,237 @@
+//! The place of a fault in a block that was typed.
+
+use crate::places::{Title, fault_of, fault_text, offset_of_byte, push_title, script_fault_text};
+use crate::sentences::Faulty;
+use sbl_places::{Part, cut_at_part, offset_in_block};
+use sbl_script::{Script, ScriptEditFault, ScriptFault};
+use sbl_sessions::Target;
+use sbl_text::{Kind, Lexer, Token, Word, tokens};
+use std::alloc::{AllocError, Global};
+
+/// A block that was refused, and what was in force then.
+#[derive(Clone, Copy)]
+pub(crate) struct Typed<'a> {
+    /// The lines of the block.
+    pub(crate) block: &'a [u8],
+    /// The script in force.
+    pub(crate) script: &'a [u8],
+    pub(crate) external: &'a str,
+    /// Whether the block may begin as the definition does that it is put into.
+    pub(crate) takes_heads: bool,
+    /// The name of the input that has the block, and the line of the input in which the block begins.
+    pub(crate) source: Option<(&'a str, usize)>,
+}
+
+/// Returns what an edit replaces.
+fn part_of(target: &Target) -> Part<'_> {
+    match target {
+        Target::Body(name) => Part::Body(name.as_str()),
+        Target::Among(name, k) => Part::Among(name.as_str(), *k),
+        Target::Terms(name) => Part::Terms(name.as_str()),
+    }
+}
+
+/// Returns the command of an edit.
+fn title_of(alloc: Global, part: Part<'_>) -> Result<String, AllocError> {
+    match part {
+        Part::Body(name) => format!(in alloc; "routine {name}"),
+        Part::Among(name, k) => format!(in alloc; "among {name} {k}"),
+        Part::Terms(name) => format!(in alloc; "grouping {name}"),
+    }
+}
+
+/// Returns where a token ends if it is this word.
+fn end_if(token: Option<&Token<'_>>, word: &str) -> Option<usize> {
+    match token {
+        Some(token) if token.text == word => Some(token.end),
+        _ => None,
+    }
+}
+
+/// Returns where a text begins after `define NAME as`, or after `define NAME` for a grouping; 0 if it does not begin so.
+fn head_end(tokens: &[Token<'_>], part: Part<'_>) -> usize {
+    let (name, is_routine) = match part {
+        Part::Body(name) => (name, true),
+        Part::Terms(name) => (name, false),
+        Part::Among(_, _) => return 0,
+    };
+    if end_if(tokens.first(), "define").is_none() {
+        return 0;
+    }
+    let Some(end) = end_if(tokens.get(1), name) else {
+        return 0;
+    };
+    if !is_routine {
+        return end;
+    }
+    end_if(tokens.get(2), "as").unwrap_or(0)
+}
+
+/// Returns the first three tokens of a text, up to one that is wrong.
+fn first_tokens(alloc: Global, text: &str) -> Result<Vec<Token<'_>>, AllocError> {
+    let mut found = Vec::new(alloc);
+    let mut lexer = Lexer::new(alloc, text);
+    for _ in 0..3u8 {
+        match lexer.next() {
+            Ok(Some(token)) => found.push(token)?,
+            _ => return Ok(found),
+        }
+    }
+    Ok(found)
+}
+
+/// Returns the fault with which an edit is refused, if it is refused.
+fn edit_fault(
+    alloc: Global,
+    script: &Script,
+    part: Part<'_>,
+    text: &str,
+) -> Option<ScriptEditFault> {
+    let edited = match part {
+        Part::Body(name) => script.with_routine(alloc, name, text),
+        Part::Among(name, k) => script.with_among(alloc, name, k, text),
+        Part::Terms(name) => script.with_grouping(alloc, name, text),
+    };
+    match edited {
+        Ok(script) => {
+            script.discard();
+            None
+        }
+        Err(fault) => Some(fault),
+    }
+}
+
+/// Returns how many words `among` a text has.
+fn among_count(alloc: Global, text: &[u8]) -> usize {
+    let Ok(text) = str::from_utf8(text) else {
+        return 0;
+    };
+    let Ok(tokens) = tokens(alloc, text) else {
+        return 0;
+    };
+    let mut count: usize = 0;
+    for token in &tokens {
+        if token.kind == Kind::Word(Word::Among) {
+            count = count.saturating_add(1);
+        }
+    }
+    count
+}
+
+/// Returns a number of amongs in words.
+fn amongs(alloc: Global, count: usize) -> Result<String, AllocError> {
+    if count == 1 {
+        return format!(in alloc; "1 among");
+    }
+    format!(in alloc; "{count} amongs")
+}
+
+/// Returns the line on a text that has another number of amongs than what it replaces.
+fn count_text(
+    alloc: Global,
+    title: Title<'_>,
+    new: &[u8],
+    old: &[u8],
+) -> Result<String, AllocError> {
+    let mut shown = String::new(alloc);
+    push_title(alloc, &mut shown, title, None)?;
+    let amongs = amongs(alloc, among_count(alloc, new))?;
+    let had = among_count(alloc, old);
+    let text = format!(in alloc;
+        "the text has {amongs}, and the among that it replaces has {had}, those inside it counted"
+    )?;
+    shown.push_str(text.as_str())?;
+    Ok(shown)
+}
+
+/// Returns the lines on the fault of an edit of a part of this script, if the edit has a fault. `rest` is the text of the part, and
+/// begins at the offset `skipped` of the block.
+fn fault_in_part<'x>(
+    alloc: Global,
+    typed: Typed<'x>,
+    title: Title<'_>,
+    script: &Script,
+    part: Part<'x>,
+    skipped: usize,
+) -> Result<Option<String>, AllocError> {
+    let Ok(rest) = str::from_utf8(typed.block.get(skipped..).unwrap_or(&[])) else {
+        return Ok(None);
+    };
+    let (Some(fault), Ok(text)) = (
+        edit_fault(alloc, script, part, rest),
+        str::from_utf8(typed.script),
+    ) else {
+        return Ok(None);
+    };
+    let Some(cut) = cut_at_part(alloc, text, part)? else {
+        return Ok(None);
+    };
+    let fault = match fault {
+        ScriptEditFault::Script(fault) => fault,
+        ScriptEditFault::AmongCount => return Ok(Some(count_text(
+            alloc,
+            title,
+            typed.block,
+            cut.part,
+        )?)),
+        _ => return Ok(None),
+    };
+    let begin = offset_in_block(alloc, cut.before, rest.as_bytes(), cut.after, fault)?;
+    let begin = begin.map(|offset| offset.saturating_add(skipped));
+    Ok(Some(fault_text(alloc, title, faulty_of(typed, part, fault), begin)?))
+}
+
+/// Returns the block as a text with this fault.
+fn faulty_of<'a>(typed: Typed<'a>, part: Part<'a>, fault: ScriptFault) -> Faulty<'a> {
+    Faulty {
+        text: typed.block,
+        fault,
+        part: Some(part),
+        script: typed.script,
+        external: typed.external,
+    }
+}
+
+/// Returns the lines on the fault of a block that was to replace a part, if it has one.
+pub(crate) fn part_text<'x>(
+    alloc: Global,
+    typed: Typed<'x>,
+    target: &'x Target,
+) -> Result<Option<String>, AllocError> {
+    let part = part_of(target);
+    let title = title_of(alloc, part)?;
+    let title = Title {
+        title: title.as_str(),
+        source: typed.source,
+    };
+    let Ok(text) = str::from_utf8(typed.block) else {
+        let faulty = faulty_of(typed, part, ScriptFault::NotUtf8);
+        let begin = offset_of_byte(typed.block);
+        return Ok(Some(fault_text(alloc, title, faulty, begin)?));
+    };
+    let skipped = if typed.takes_heads {
+        head_end(&first_tokens(alloc, text)?, part)
+    } else {
+        0
+    };
+    let Ok(script) = Script::parse(alloc, typed.script, typed.external) else {
+        return Ok(None);
+    };
+    let shown = fault_in_part(alloc, typed, title, &script, part, skipped);
+    script.discard();
+    shown
+}
+
+/// Returns the lines on the fault of a block that was to replace the whole script, if it has one.
+pub(crate) fn whole_text(alloc: Global, typed: Typed<'_>) -> Result<Option<String>, AllocError> {
+    match fault_of(alloc, typed.block, typed.external) {
+        Some(fault) => Ok(Some(script_fault_text(
+            alloc,
+            "replace",
+            typed.block,
+            typed.external,
+            fault,
+        )?)),
+        None => Ok(None),
+    }
+}

@@ -1,0 +1,50 @@
+# What tests/launcher and tests/terminal share: a room, a script with words and a session, and judgements. They set `top` and `room`.
+# shellcheck shell=bash disable=SC2034,SC2154
+passed=0 failed=0 status=""
+
+# Judges one test: a title, then a condition.
+is() {
+  local title=$1
+  shift
+  if "$@"; then
+    passed=$((passed + 1))
+  else
+    failed=$((failed + 1))
+    echo "FAILED ${0##*/}: $title (status $status, $(head -c 200 "$room/err" | tr '\n' '|'))"
+  fi
+}
+# Runs ./snowbench: its status, and what it writes in out and err.
+snowbench() {
+  timeout 60 "$top/snowbench" "$@" >"$room/out" 2>"$room/err"
+  status=$?
+}
+# Whether it ended with this status, and wrote these texts (a text that is not given is not looked at).
+ended() {
+  [ "$status" -eq "$1" ] && { [ $# -lt 2 ] || [ "$(cat "$room/out")" = "$2" ]; } && { [ $# -lt 3 ] || [ "$(cat "$room/err")" = "$3" ]; }
+}
+ended_telling() {
+  [ "$status" -eq "$1" ] && grep -q "$2" "$room/err"
+}
+# Waits some seconds for a condition.
+soon() {
+  local turn
+  for ((turn = 0; turn < 200; turn++)); do
+    "$@" && return
+    sleep 0.05
+  done
+  return 1
+}
+# Whether no program of these tests runs any more, and no file of it is there. (The environment of a program has TMPDIR.)
+nothing_is_left() {
+  local there
+  [ -z "$(ls -A "$TMPDIR")" ] || return
+  for there in /proc/[0-9]*; do
+    if [ "$(readlink "$there/exe")" = "$SNOWBENCH_PROGRAM" ] && grep -qas "$TMPDIR" "$there/environ"; then return 1; fi
+  done 2>/dev/null
+}
+
+script=$room/script.sbl words=$room/words
+echo "externals ( stem other ) define stem as ( [ 'un' ] delete ) define other as true" >"$script"
+printf 'undo\ndo\n' >"$words"
+session=$room/session
+{ cat "$script"; printf '%s\n' . undo . 'add do'; } >"$session"
