@@ -22,7 +22,7 @@ def lay_out_why(answer, word, figures):
             calls.append(Call(row[2]))
         elif kind == "return":
             call = calls.pop()
-            if len(calls) > 1 and (call.asks_only or call.acts and row[3] == "f"):
+            if calls and call.acts and row[3] == "f" or len(calls) > 1 and call.asks_only:
                 lines.append((calls[-1].name, "%s is %s" % (call.name, "true" if row[3] == "t" else "false")))
         elif kind == "taken":
             calls[-1].asks_only, calls[-1].acts = False, True
