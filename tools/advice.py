@@ -67,6 +67,8 @@ class Advice:
         begin = "%s %s: " % (word, named(name))
         if not name:
             return "%s needs a name: %s NAME." % (word, word)
+        if name in there and rest and word == "show":
+            return "show takes one name."
         if name in there and rest:
             return '%sthe text goes on the lines after it, and a line with a single point ends it. Type only "%s %s" first.' % (begin, word, name)
         if word != "show" and names.kinds.get(name) and name in names.defined:
@@ -114,9 +116,8 @@ class Advice:
             return "quit or Ctrl-D ends. Ctrl-L clears the screen." if word == "clear" else "quit or Ctrl-D ends."
         if line.lstrip().startswith(("//", "/*")):
             return "A comment begins with # at the beginning of the line."
-        if word == "define":
-            name = argument.partition(" ")[0]
-            return 'Type "%s %s" first, and then this as its text.' % ("routine" if " as " in line else "grouping", named(name))
+        if line.split()[:1] == ["define"]:
+            return "A definition begins with define NAME as, or define NAME and the terms of a grouping, in one line."
         if line.lstrip().split(" ")[0] in PLAIN + ONE_LINE + BLOCKS:
             return "A command begins at the beginning of the line."
         return "%s is not a command.%s help lists the commands." % (named((word or line.strip())[:60]), command_meant(word) if word else "")
@@ -131,6 +132,8 @@ class Advice:
         if not path:
             return "save needs a file: save FILE."
         folder = os.path.dirname(path) or "."
+        if os.path.realpath(path) == os.path.realpath(self.desk.script) and not os.path.lexists(path):
+            return "%s is not there any more, and was not written: save to another file." % named(path)
         if self.desk.files.is_script(path) and os.access(path, os.W_OK):
             return "%s has changed since it was read, and was not overwritten. Enter reads it again; save to another file to keep both." % named(path)
         if not os.path.isdir(folder):

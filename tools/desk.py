@@ -41,6 +41,8 @@ class Desk:
         self.history = None
         # A save or an end that was refused, and is accepted if it is asked for again.
         self.doubted = None
+        # The rows of `changes` that were shown last since the mark.
+        self.changes = []
 
     def query(self, lines):
         return self.child.query(lines)
@@ -51,32 +53,46 @@ class Desk:
             say(["A line may have %d bytes at most. Nothing was done." % LONGEST])
             return "refused"
         word, _, argument = lines[0].partition(" ")
+        if word != "save" or self.doubted != "save":
+            self.doubted = None
         if word == "save" and not self.may_save(argument):
             return "refused"
+        former = read(argument) if word == "save" else None
         if word == "save" and self.files.is_script(argument):
             lines = ["save " + self.script]
         typed, text = self.before_reload() if word == "reload" else ({}, None)
         answer = self.child.run(lines, say, text)
         if answer is None:
+            say(list(filter(None, [word == "save" and self.files.put_back(argument, former)])))
             return self.end()
         if answer is False:
             return self.bring_back()
         refusal = REFUSAL.match(answer[0]) if len(answer) == 1 else None
         if refusal:
-            write(answer)
-            say(self.child.said() + self.advice.lines(int(refusal[1]), lines))
+            self.refuse(answer, int(refusal[1]), lines, former)
+            self.files.refused = text
             return "refused"
         write(self.lay_out(lines[0], answer))
         say(self.advice.note(lines))
         if word == "save":
-            self.files.note_saved(argument)
+            say(self.files.note_saved(argument, former))
             self.history.note_saved(argument)
+        if word in ("mark", "changes"):
+            self.changes = answer if word == "changes" else []
         script, changes = self.child.query_each(["script"], ["changes"]) if word in EDITS else (None, [])
         if script is not None:
             self.note_edit(lines[0], typed, script)
         if changes is not None and is_edit:
-            write(lay_out_changes(changes, is_edit))
+            write(since_mark(self.changes, changes) + lay_out_changes(changes, is_edit))
+            self.changes = changes
         return "ok" if changes is not None else self.end()
+
+    def refuse(self, answer, code, lines, former):
+        """Shows a refusal and what to do. `former` is what the file of `save` had before."""
+        word, _, argument = lines[0].partition(" ")
+        write(answer)
+        cut = self.files.put_back(argument, former) if word == "save" else None
+        say(self.child.said() + ([cut] if cut else self.advice.lines(code, lines)))
 
     def lay_out(self, command, answer):
         if command in LAYOUTS:
@@ -94,16 +110,26 @@ class Desk:
             self.doubted = "save"
             name = named(path)
             why = "%s has a change that undo took back. Nothing was written: Enter reads it again, save %s again overwrites it." % (name, name)
+        if not why and self.files.is_script(path) and self.files.has_refused() and self.doubted != "save":
+            self.doubted = "save"
+            name = named(path)
+            why = "%s has a text that was refused. Nothing was written: correct it there and press Enter, or save %s again overwrites it." % (name, name)
         if why:
             say([why])
         return not why
 
     def quit(self):
         """Returns `ok` if no typed edit would be lost, or if it is asked for again; otherwise says so."""
-        if not self.history or not self.history.unsaved() or self.doubted == "quit":
+        if not self.history or self.doubted == "quit":
+            return "ok"
+        aside = self.history.put_aside()
+        if self.history.unsaved():
+            say(["The edits that you typed are in no file: save FILE keeps them, quit again drops them."])
+        elif aside:
+            say([put_aside(aside, is_unsaved=True) + " quit again ends."])
+        else:
             return "ok"
         self.doubted = "quit"
-        say(["The edits that you typed are in no file: save FILE keeps them, quit again drops them."])
         return "refused"
 
     def peek(self, line):
@@ -134,22 +160,23 @@ class Desk:
 
     def definitions(self):
         """Returns the definition of each part that is typed and in force, by its name; the whole script has no name."""
-        names = dict.fromkeys(edit.name() for edit in self.history.typed() if self.history.script_file not in edit.files)
+        names = dict.fromkeys(edit.name() for edit in self.history.typed())
         return {name: self.query(["show " + name if name else "script"]) for name in names}
 
     def note_edit(self, command, typed, script):
         """Notes an accepted edit, and says which one was undone or redone, or which typed parts are put aside."""
-        self.doubted = None
         before, is_reload = self.history.script, command == "reload"
-        edit = self.history.note(command, script)
+        is_new, edit = self.history.note(command, script)
         if edit:
             write(["%s: %s" % ("undid" if command == "undo" else "redid", edit.command)])
-            if command == "undo" and edit.word == "reload":
+            if command == "undo" and (edit.word == "reload" or self.history.script_file in edit.files):
                 say(["%s still has what undo took back: Enter reads it again." % named(self.script)])
+        elif not is_new and not is_reload and command not in ("undo", "redo"):
+            say(["This was in force already, so undo does not count it."])
         if is_reload:
-            self.history.note_read(before == self.history.script, self.files.note_read())
             gone = [name for name, lines in typed.items() if self.query(["show " + name if name else "script"]) != lines]
-            say([put_aside(gone)] if gone else [])
+            aside = self.history.note_read(before == self.history.script, gone, self.files.note_read())
+            say([put_aside(aside)] if aside else [])
             self.warn([self.script])
 
     def start(self):
@@ -216,6 +243,13 @@ def write(lines):
 def say(lines):
     sys.stderr.buffer.write("".join(for_terminal(line) + "\n" for line in lines).encode("utf-8"))
     sys.stderr.flush()
+
+
+def since_mark(before, now):
+    """Returns the line above the changes after an edit if there were some before it."""
+    if not before or not now:
+        return []
+    return ["This edit changed no word and no class. Since the mark:" if now == before else "Since the mark:"]
 
 
 def outcome(kind, text):

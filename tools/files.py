@@ -1,5 +1,7 @@
 """The files of the desk: which of them `save` may write."""
+import contextlib
 import os
+import re
 
 from plain import named
 from warn import read
@@ -10,6 +12,8 @@ class Files:
 
     def __init__(self, script, words):
         self.script, self.words, self.written, self.seen = script, words, {}, read(script)
+        # What `reload` read last, if it was refused.
+        self.refused = None
         self.look()
 
     def look(self):
@@ -36,17 +40,52 @@ class Files:
             return "%s was changed since you saved to it, and save does not overwrite it. Nothing was written: save to a new file." % named(path)
         return None
 
-    def note_saved(self, path):
+    def has_refused(self):
+        """Returns whether the script's file has a text that was refused."""
+        return self.refused is not None and self.refused == read(self.script)
+
+    def note_saved(self, path, former):
+        """Notes that the script was written to a file, which had the text `former`. Returns the lines on what it lost."""
         if self.is_script(path):
-            self.seen = read(path)
+            self.seen, self.refused = read(path), None
             self.look()
         else:
             self.written[os.path.realpath(path)] = state_of(path)
+        lost = count_comments(former) - count_comments(read(path))
+        return [] if lost <= 0 else ["%s of the parts that you typed %s no longer in %s." % (*amount(lost), named(path))]
+
+    def put_back(self, path, former):
+        """Gives a file its former text back, if a save that failed has begun to write it. Returns the sentence on that, or nothing."""
+        if read(path) == former:
+            return None
+        begin = "%s cannot be written: perhaps the disk is full." % named(path)
+        if former is None:
+            with contextlib.suppress(OSError):
+                os.remove(path)
+            return begin + " What was written of it was removed."
+        try:
+            with open(path, "wb") as file:
+                file.write(former)
+        except OSError:
+            return begin + " It has lost its text: save the script to another file."
+        if self.is_script(path):
+            self.look()
+        return begin + " It has its former text."
 
     def note_read(self):
         """Notes that the script was read. Returns whether it has other bytes than before."""
-        before, self.seen = self.seen, read(self.script)
+        before, self.seen, self.refused = self.seen, read(self.script), None
         return self.seen != before
+
+
+def count_comments(text):
+    """Returns the number of comments of a script."""
+    tokens = re.findall(rb"'(?:\{[^}]*\}|[^'])*'|//[^\n]*|/\*.*?\*/", text or b"", re.S)
+    return sum(token.startswith(b"/") for token in tokens)
+
+
+def amount(comments):
+    return ("A comment", "is") if comments == 1 else ("%d comments" % comments, "are")
 
 
 def is_same(path, other):

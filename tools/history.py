@@ -29,29 +29,32 @@ class History:
     def __init__(self, script_file, lines):
         self.script_file = os.path.realpath(script_file)
         self.past, self.future, self.limit = [], [], "100000"
+        # The edits before those that `undo` can take back, and those that reading the file has put aside when no file had them.
+        self.older, self.aside = [], []
         self.script = digest(lines)
         # How many edits there were when the file was read last, and whether an edit was made after these were undone.
         self.read_at, self.has_parted = 0, False
 
     def note(self, command, lines):
-        """Notes an accepted command of EDITS, after which the script has these lines. Returns the edit that it undid or redid."""
+        """Notes an accepted command of EDITS, after which the script has these lines. Returns whether it is a new edit, and the edit that
+        it undid or redid."""
         before, word = (self.script, self.limit), command.partition(" ")[0]
         self.script = digest(lines)
         if word in ("undo", "redo"):
-            return self.turn(is_undo=word == "undo")
+            return False, self.turn(is_undo=word == "undo")
         if word == "limit":
             self.limit = command.partition(" ")[2].lstrip("0")
         after = (self.script, self.limit)
         if after != before:
             self.remember(Edit(command, before, after))
-        return None
+        return after != before, None
 
     def remember(self, edit):
         self.has_parted = self.has_parted or len(self.past) < self.read_at
         self.future = []
         self.past.append(edit)
         if len(self.past) > MOST:
-            self.past.pop(0)
+            self.older.append(self.past.pop(0))
             self.read_at = max(0, self.read_at - 1)
 
     def turn(self, is_undo):
@@ -60,16 +63,17 @@ class History:
         edit = taken.pop() if taken else None
         state = edit and (edit.before if is_undo else edit.after)
         if not edit or state[0] != self.script:
+            self.older += self.past
             self.past, self.future, self.read_at = [], [], 0
             return None
         given.append(edit)
         self.limit = state[1]
         return edit
 
-    def typed(self):
-        """Returns the typed edits in force: those after the file was read last."""
+    def typed(self, past=None):
+        """Returns the typed edits in force: those after the file was read last. `past` is what was done so far."""
         edits = []
-        for edit in self.past:
+        for edit in self.older + (self.past if past is None else past):
             if edit.word in ("reload", "replace"):
                 edits = []
             if edit.word in TYPED:
@@ -80,19 +84,30 @@ class History:
         """Returns the typed edits in force that no file has."""
         return [edit for edit in self.typed() if not edit.files]
 
-    def note_read(self, is_same, is_new):
-        """Notes that the file was read: whether it has the script in force before, and whether it has new bytes."""
-        for edit in self.past:
-            if is_same:
+    def put_aside(self):
+        """Returns the names of the typed parts that `undo` can bring back, that reading the file has put aside, and that no file has."""
+        in_force = self.typed()
+        return distinct(edit.name() for edit in self.aside if edit in self.past and edit not in in_force)
+
+    def note_read(self, is_same, gone, is_new):
+        """Notes that the file was read: whether it has the script in force before, the names of the typed parts that it does not have, and
+        whether it has new bytes. Returns the names of the parts that are put aside and that the file did not have before."""
+        before = self.typed(self.past if is_same else self.past[:-1])
+        lost = [edit for edit in before if edit.name() in gone]
+        aside = distinct(edit.name() for edit in lost if self.script_file not in edit.files)
+        self.aside += [edit for edit in lost if not edit.files]
+        for edit in self.older + self.past:
+            if is_same or (edit in before and edit not in lost):
                 edit.files.add(self.script_file)
             else:
                 edit.files.discard(self.script_file)
         if is_new:
             self.read_at, self.has_parted = len(self.past), False
+        return aside
 
     def note_saved(self, path):
         """Notes that the script in force was written to a file."""
-        for edit in self.past:
+        for edit in self.typed():
             edit.files.add(os.path.realpath(path))
         for edit in self.future:
             edit.files.discard(os.path.realpath(path))
@@ -108,8 +123,14 @@ def digest(lines):
     return hashlib.sha256("\n".join(lines).encode("utf-8", "surrogateescape")).digest()
 
 
-def put_aside(names):
-    """Returns the sentence on typed parts that reading the file has put aside."""
+def distinct(names):
+    return list(dict.fromkeys(names))
+
+
+def put_aside(names, is_unsaved=False):
+    """Returns the sentence on typed parts that reading the file has put aside, also that no file has them."""
     shown = [name or "the whole script" for name in names[:4]] + (["%d more" % (len(names) - 4)] if len(names) > 4 else [])
     edits, them = ("edit", "it") if len(names) == 1 else ("edits", "them")
-    return "Your %s of %s %s put aside: undo brings %s back." % (edits, listed(shown, "and"), "was" if len(names) == 1 else "were", them)
+    put, are = ("was put", "is") if len(names) == 1 else ("were put", "are")
+    besides = " and %s in no file" % are if is_unsaved else ""
+    return "Your %s of %s %s aside%s: undo brings %s back." % (edits, listed(shown, "and"), put, besides, them)

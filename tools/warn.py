@@ -66,6 +66,8 @@ def on_words(name, lines):
     """Warnings on what only a list of words may have."""
     said = []
     text = "\n".join(lines)
+    if re.search(r"\bexternals\s*\(", text):
+        return [name + ": this looks like a script, and each of its lines is a word here"]
     if re.search(r"[^\S\n](?:\n|\Z)|(?:\n|\A)[^\S\n]", text):
         found = lines_that(lines, lambda line: line != line.strip())
         said.append(name + from_line(found, "a blank at an end of the word, which belongs to it", "lines") + ". To take them away: sed -i 's/^[ \\t]*//; s/[ \\t]*$//' " + name)
