@@ -57,6 +57,8 @@ class Desk:
             self.doubted = None
         if word == "save" and not self.may_save(argument):
             return "refused"
+        if word == "changes" and argument:
+            return self.show_changes(argument)
         former = read(argument) if word == "save" else None
         if word == "save" and self.files.is_script(argument):
             lines = ["save " + self.script]
@@ -94,9 +96,20 @@ class Desk:
         cut = self.files.put_back(argument, former) if word == "save" else None
         say(self.child.said() + ([cut] if cut else self.advice.lines(code, lines)))
 
+    def show_changes(self, text):
+        """Shows the rows of `changes` that have a text."""
+        answer = self.query(["changes"])
+        if answer is None:
+            return self.end()
+        rows = [line for line in answer if any(text in name for name in names_in(next(csv.reader([line]))))]
+        write(["Only what has %s:" % named(text)] + lay_out_changes(rows) if rows else ["no change has %s" % named(text)])
+        return "ok"
+
     def lay_out(self, command, answer):
         if command in LAYOUTS:
             return LAYOUTS[command](answer)
+        if command.startswith("largest "):
+            return lay_out_largest(answer)
         if command.startswith("why "):
             return lay_out_why(answer, command[4:], self.query(["integers " + command[4:]]))
         return answer
@@ -295,6 +308,18 @@ def lay_out_changes(answer, is_edit=False):
     lines += shown(kinds["split"], is_edit, lambda row: "  split    %s -> %s" % (stem(row[0]), stems(row[1:])))
     lines += shown(kinds["merged"], is_edit, lambda row: "  merged   %s -> %s" % (stems(row[1:]), stem(row[0])))
     return lines + shown(kinds["renamed"], is_edit, lambda row: "  renamed  %s -> %s" % (stem(row[0]), stem(row[1])))
+
+
+def names_in(row):
+    """Returns the words and stems in a row of `changes`."""
+    return row[1::2] if row[0] == "changed" else row[1:]
+
+
+def lay_out_largest(answer):
+    """Lays out classes with their sizes."""
+    rows = list(csv.reader(answer))
+    column = max([len(str(len(row) - 1)) for row in rows], default=0)
+    return ["%*d  %s: %s" % (column, len(row) - 1, stem(row[0]), ", ".join(map(named, row[1:]))) for row in rows]
 
 
 def lay_out_stats(answer):
