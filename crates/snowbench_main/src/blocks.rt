@@ -3,6 +3,9 @@
 use sbl_io::first_line;
 use std::alloc::{AllocError, Global};
 
+/// How many characters a word has at most.
+pub(crate) const MAX_WORD_LENGTH: usize = 255;
+
 /// Returns the number of the first line that is a single point, from 1.
 pub(crate) fn point_line(text: &[u8]) -> Option<u64> {
     let mut rest = text;
@@ -52,6 +55,28 @@ pub(crate) fn line_at(text: &[u8], number: usize) -> &[u8] {
         rest = after;
     }
     rest
+}
+
+/// Returns the number of the first line, from 1, that has too many characters for a word.
+pub(crate) fn long_line(text: &[u8]) -> Option<u64> {
+    let mut rest = text;
+    let mut number: u64 = 1;
+    while let Some((line, after)) = first_line(rest) {
+        if is_long(line) {
+            return Some(number);
+        }
+        number = number.saturating_add(1);
+        rest = after;
+    }
+    None
+}
+
+/// Returns whether a line has too many characters for a word.
+fn is_long(line: &[u8]) -> bool {
+    match str::from_utf8(line) {
+        Ok(text) => text.chars().count() > MAX_WORD_LENGTH,
+        Err(_) => false,
+    }
 }
 
 /// Appends a block, and then the point. If the last line has no end, it gets one.

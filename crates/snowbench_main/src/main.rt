@@ -4,10 +4,14 @@
 mod at_work;
 mod blocks;
 mod declared;
+mod encodings;
+mod faults;
+mod file_names;
 mod messages;
 mod near;
 mod places;
 mod reasons;
+mod run_result;
 mod sentences;
 mod sessions;
 mod streams;
@@ -16,8 +20,9 @@ mod typed;
 mod watching;
 
 use crate::at_work::start_work;
+use crate::file_names::{FileNames, reads_twice};
 use crate::messages::{NO_MEMORY, REFUSED, fail_memory, plain_text};
-use crate::sessions::{Named, reads_twice, run_check, run_filter, run_input, run_session};
+use crate::sessions::{run_check, run_filter, run_input, run_session};
 use clap::error::ErrorKind;
 use snowbench::{CommandLine, Verb, read_command_line};
 use std::io;
@@ -27,16 +32,14 @@ use std::process::ExitCode;
 const NOT_UTF8: &str = "error: a word of the command line is not UTF-8";
 
 /// The text that is printed if `run` names standard input twice.
-const NAMED_TWICE: &str =
-    "snowbench: standard input can be only one of SCRIPT, WORDS and COMMANDS. Without WORDS it is these";
+const NAMED_TWICE: &str = "snowbench: standard input can be only one of SCRIPT, WORDS and COMMANDS. Without WORDS it is these";
 
 /// The text that is printed if `check` names standard input twice.
 const NAMED_TWICE_BY_CHECK: &str =
     "snowbench: standard input can be only one of SCRIPT, WORDS and STEMS";
 
 /// The text that is printed if `check` has one file or two.
-const THREE_FILES: &str =
-    "snowbench: check takes three files, ./snowbench check SCRIPT WORDS STEMS, or all from standard input, ./snowbench check < INPUT";
+const THREE_FILES: &str = "snowbench: check takes three files, ./snowbench check SCRIPT WORDS STEMS, or all from standard input, ./snowbench check < INPUT";
 
 fn main(rt: HostRuntime) -> io::Result<ExitCode> {
     let words = match words_of(&rt) {
@@ -106,16 +109,16 @@ fn run_files(rt: &HostRuntime, command_line: &CommandLine, script: &str) -> u8 {
         return check_files(rt, command_line, script, words);
     }
     let rest = text_in(&command_line.commands);
-    let named = Named {
+    let names = FileNames {
         script,
         words,
         rest,
     };
-    if reads_twice(named) {
+    if reads_twice(names) {
         let _ = eprintln!(rt; "{NAMED_TWICE}");
         return REFUSED;
     }
-    run_session(rt, command_line, named)
+    run_session(rt, command_line, names)
 }
 
 /// Compares stems of files, and returns the exit status.
@@ -124,16 +127,16 @@ fn check_files(rt: &HostRuntime, command_line: &CommandLine, script: &str, words
         let _ = eprintln!(rt; "{THREE_FILES}");
         return REFUSED;
     };
-    let named = Named {
+    let names = FileNames {
         script,
         words,
         rest: Some(stems),
     };
-    if reads_twice(named) {
+    if reads_twice(names) {
         let _ = eprintln!(rt; "{NAMED_TWICE_BY_CHECK}");
         return REFUSED;
     }
-    run_check(rt, command_line, named, stems)
+    run_check(rt, command_line, names, stems)
 }
 
 /// Returns the text, if there is one.

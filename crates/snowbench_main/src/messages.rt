@@ -144,6 +144,24 @@ pub(crate) fn plain_text(alloc: Global, text: &str) -> Result<String, AllocError
     Ok(shown)
 }
 
+/// Returns a number with commas between thousands, and the word for one or for more.
+pub(crate) fn counted(
+    alloc: Global,
+    number: u64,
+    one: &str,
+    many: &str,
+) -> Result<String, AllocError> {
+    let word = if number == 1 { one } else { many };
+    let (millions, thousands, ones) = (number / 1_000_000, number / 1_000 % 1_000, number % 1_000);
+    if number >= 1_000_000 {
+        return format!(in alloc; "{millions},{thousands:03},{ones:03} {word}");
+    }
+    if number >= 1_000 {
+        return format!(in alloc; "{thousands},{ones:03} {word}");
+    }
+    format!(in alloc; "{ones} {word}")
+}
+
 /// Prints a line, and returns the status. If an allocation has failed, it prints that.
 pub(crate) fn print_line(rt: &HostRuntime, line: Result<String, AllocError>, status: u8) -> u8 {
     let shown = match line {

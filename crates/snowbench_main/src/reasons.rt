@@ -46,7 +46,7 @@ pub(crate) fn reason(fault: ScriptFault) -> &'static str {
         }
         ScriptFault::DeclaredTwice { .. } => "is declared twice: take one of the two away",
         ScriptFault::Undeclared { .. } => "is not declared.",
-        ScriptFault::WrongKind { .. } => { "is declared as something that cannot be used here" }
+        ScriptFault::WrongKind { .. } => "is declared as something that cannot be used here",
         ScriptFault::DefinedTwice { .. } => "is defined twice: take one of the two away",
         ScriptFault::Undefined { .. } => {
             "is declared, but not defined before it is used: add its define"
@@ -60,7 +60,7 @@ pub(crate) fn reason(fault: ScriptFault) -> &'static str {
         ScriptFault::Starter { .. } => {
             "an among here has commands before its first string, but its substring is elsewhere: put them before the among"
         }
-        ScriptFault::RepeatedString { .. } => { "is in this among twice: take one of the two away" }
+        ScriptFault::RepeatedString { .. } => "is in this among twice: take one of the two away",
         ScriptFault::EmptyAmong { .. } => "this among has no string",
         ScriptFault::NestedBackwards { .. } => {
             "backward mode is on here already: take this backwards away"
@@ -69,9 +69,7 @@ pub(crate) fn reason(fault: ScriptFault) -> &'static str {
             "is of Snowball, but left out here: docs/LANGUAGE.md says what to write"
         }
         ScriptFault::NoExternal => "the script does not define the external",
-        ScriptFault::NotUtf8 => {
-            "this byte is not UTF-8. If the file is Latin-1: iconv -f latin1 -t utf-8 OLD > NEW"
-        }
+        ScriptFault::NotUtf8 => "the text is not UTF-8",
         ScriptFault::ScriptTooLong => "a script may have 1048576 bytes at most",
         ScriptFault::OutOfMemory => "an allocation failed",
     }

@@ -1,6 +1,7 @@
 //! What is wrong at the place of a fault, in a sentence.
 
 use crate::declared::{declaration_of, declared_in, kind_text, names_of};
+use crate::encodings::push_conversion;
 use crate::messages::{push_hexadecimal, push_named};
 use crate::near::{push_listed, push_near, push_near_word};
 use crate::reasons::{begins_sentence, reason};
@@ -176,7 +177,8 @@ fn defined_first(alloc: Global, text: &[u8]) -> Result<Option<&str>, AllocError>
     };
     match (tokens.first(), tokens.get(1)) {
         (Some(first), Some(second))
-            if first.kind == Kind::Word(Word::Define) && second.kind == Kind::Name => {
+            if first.kind == Kind::Word(Word::Define) && second.kind == Kind::Name =>
+        {
             Ok(Some(second.text))
         }
         _ => Ok(None),
@@ -302,7 +304,8 @@ fn push_byte(shown: &mut String, faulty: Faulty<'_>, begin: usize) -> Result<(),
     };
     shown.push_str("byte ")?;
     push_hexadecimal(shown, u32::from(*byte), 16)?;
-    shown.push_str(" is not UTF-8. If the file is Latin-1: iconv -f latin1 -t utf-8 OLD > NEW")
+    shown.push_str(" is not UTF-8. ")?;
+    push_conversion(shown, faulty.text, "OLD")
 }
 
 /// Appends the sentence for a fault at a place.

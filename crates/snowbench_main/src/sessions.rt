@@ -1,12 +1,13 @@
 //! Runs over files, and over standard input.
 
-use crate::blocks::{after_point, compose, line_count, point_line, script_block};
-use crate::messages::{FAILED, NO_KEYS, REFUSED, fail_memory, print_line};
-use crate::places::{fault_of, script_fault_text};
+use crate::blocks::{compose, line_count, point_line, script_block};
+use crate::faults::{hint, run_fault_text};
+use crate::file_names::{FileNames, STANDARD_INPUT, file_name};
+use crate::messages::{FAILED, NO_KEYS, REFUSED, counted, fail_memory, print_line};
+use crate::run_result::RunResult;
 use crate::streams::{Front, Kept, Output};
 use crate::talk::{Lead, Talk};
 use crate::watching::{Context, Quiet, Watched};
-use sbl_sessions::read_script;
 use snowbench::{CommandLine, Device, Lines, Source, Verb, run};
 use std::alloc::{AllocError, Global};
 use std::cell::RefCell;
@@ -20,22 +21,12 @@ const CLOSED_PIPE: u8 = 141;
 /// How many bytes the line of a fault has at most.
 const MAX_FAULT_LINE: usize = 96;
 
-/// How a run has ended: its status, the line of its fault, and what its output was.
-#[derive(Drop)]
-struct Ended {
-    status: u8,
-    said: Vec<u8>,
-    rows: u64,
-    has_refusal: bool,
-    is_closed: bool,
-}
-
 /// Runs what the command line asks for over the lines of a reader.
 fn run_lines<R: Source + Drop>(
     rt: &HostRuntime,
     command_line: &CommandLine,
     lines: &mut Lines<R>,
-) -> Result<Ended, AllocError> {
+) -> Result<RunResult, AllocError> {
     let Ok(keys) = RandomState::new(rt) else {
         return without_keys(rt.alloc());
     };
@@ -44,7 +35,7 @@ fn run_lines<R: Source + Drop>(
     let mut errors = Device::new(said);
     let status = run(command_line, keys, lines, &mut writer, &mut errors);
     let output = writer.into_inner();
-    Ok(Ended {
+    Ok(RunResult {
         status,
         said: errors.into_inner(),
         rows: output.lines(),
@@ -61,7 +52,7 @@ fn run_watched<'x, R: Read + Drop>(
     input: &'x str,
     reader: R,
     talk: &'x RefCell<Talk>,
-) -> Result<Ended, AllocError> {
+) -> Result<RunResult, AllocError> {
     let Ok(keys) = RandomState::new(rt) else {
         return without_keys(rt.alloc());
     };
@@ -78,7 +69,7 @@ fn run_watched<'x, R: Read + Drop>(
     let mut errors = Device::new(said);
     let status = run(command_line, keys, &mut lines, &mut writer, &mut errors);
     let output = writer.into_inner().into_inner();
-    Ok(Ended {
+    Ok(RunResult {
         status,
         said: errors.into_inner(),
         rows: output.lines(),
@@ -88,8 +79,8 @@ fn run_watched<'x, R: Read + Drop>(
 }
 
 /// Returns the end of a run for which the system gives no random numbers.
-fn without_keys(alloc: Global) -> Result<Ended, AllocError> {
-    Ok(Ended {
+fn without_keys(alloc: Global) -> Result<RunResult, AllocError> {
+    Ok(RunResult {
         status: FAILED,
         said: Vec::from_slice(alloc, NO_KEYS.as_bytes())?,
         rows: 0,
@@ -99,7 +90,7 @@ fn without_keys(alloc: Global) -> Result<Ended, AllocError> {
 }
 
 /// Returns the exit status: that of the run, and with `--strict` 1 after a refused command.
-fn status_of(command_line: &CommandLine, ended: &Ended) -> u8 {
+fn status_of(command_line: &CommandLine, ended: &RunResult) -> u8 {
     if command_line.is_strict && ended.has_refusal {
         return FAILED;
     }
@@ -107,102 +98,30 @@ fn status_of(command_line: &CommandLine, ended: &Ended) -> u8 {
 }
 
 /// Prints the line of a fault.
-fn print_said(rt: &HostRuntime, ended: &Ended) {
+fn print_said(rt: &HostRuntime, ended: &RunResult) {
     if let Ok(said) = str::from_utf8(ended.said.as_slice()) {
         let _ = eprint!(rt; "{said}");
     }
 }
 
-/// Prints the line of a fault, and its place in the script of the input. `title` is the name of the script. Returns the exit
-/// status. A reader of a pipe that has closed it, as `head` does, is no fault.
+/// Prints the line of a fault, and what it says of the input: its place, or what is missing. Without `names` all of the input is
+/// from standard input. Returns the exit status. A reader of a pipe that has closed it, as `head` does, is no fault.
 fn print_fault(
     rt: &HostRuntime,
     command_line: &CommandLine,
-    title: &str,
+    names: Option<FileNames<'_>>,
     input: &[u8],
-    ended: &Ended,
+    ended: &RunResult,
 ) -> u8 {
     if ended.is_closed && ended.said.as_slice() == b"snowbench: 71 Write\n".as_slice() {
         return CLOSED_PIPE;
     }
     print_said(rt, ended);
-    let text = if ended.said.as_slice() == b"snowbench: 73 Cut\n".as_slice() {
-        format!(in rt.alloc(); "  {}", cut_text(command_line.verb, input)).map(Some)
-    } else {
-        script_text(
-            rt.alloc(),
-            command_line.external.as_str(),
-            title,
-            input,
-            ended,
-        )
-    };
-    match text {
+    match run_fault_text(rt.alloc(), command_line, names, input, ended) {
         Ok(Some(text)) => print_line(rt, Ok(text), status_of(command_line, ended)),
         Ok(None) => status_of(command_line, ended),
         Err(_) => fail_memory(rt),
     }
-}
-
-/// Returns the lines on a fault of the script, if that is the fault of the run.
-fn script_text(
-    alloc: Global,
-    external: &str,
-    title: &str,
-    input: &[u8],
-    ended: &Ended,
-) -> Result<Option<String>, AllocError> {
-    if ended.said.is_empty() {
-        return Ok(None);
-    }
-    let mut lines = Lines::new(alloc, Device::new(input))?;
-    let Ok(text) = read_script(&mut lines) else {
-        return Ok(None);
-    };
-    let Some(fault) = fault_of(alloc, &text, external) else {
-        return Ok(None);
-    };
-    let line = format!(in alloc; "snowbench: {fault}\n")?;
-    if line.as_bytes() != ended.said.as_slice() {
-        return Ok(None);
-    }
-    Ok(Some(script_fault_text(alloc, title, &text, external, fault)?))
-}
-
-/// Returns what an input lacks that is cut inside a block.
-fn cut_text(verb: Verb, input: &[u8]) -> &'static str {
-    if point_line(input).is_none() {
-        return "the input ends inside the script: a line that is a single point ends the script";
-    }
-    if verb == Verb::Check {
-        return "the input ends inside the words: a line that is a single point ends them";
-    }
-    "the input ends inside a block: a line that is a single point ends it"
-}
-
-/// Returns what to say about an input that is not read to its end, because a point is missing or is one too many.
-fn hint(verb: Verb, input: &[u8]) -> Option<&'static str> {
-    let words = after_point(input)?;
-    let rest = after_point(words);
-    match (verb, rest) {
-        (Verb::Session, None) => Some(
-            "snowbench: no line is read as a command: a line that is a single point ends the words",
-        ),
-        (Verb::Stem, Some(rest)) if has_text(rest) => {
-            Some("snowbench: what follows the words is not read: stem takes no commands")
-        }
-        _ => None,
-    }
-}
-
-/// Returns whether a byte is no end of a line.
-fn has_text(text: &[u8]) -> bool {
-    for byte in text {
-        if *byte != b'\n' && *byte != b'\r' {
-            return true;
-        }
-    }
-    false
 }
 
 /// Runs what the command line asks for over standard input, and returns the exit status.
@@ -220,7 +139,7 @@ pub(crate) fn run_input(rt: &HostRuntime, command_line: &CommandLine) -> u8 {
     if ended.status == 0 && kept.is_whole() {
         print_hint(rt, command_line.verb, kept.bytes());
     }
-    print_fault(rt, command_line, "standard input", kept.bytes(), &ended)
+    print_fault(rt, command_line, None, kept.bytes(), &ended)
 }
 
 /// Runs what the command line asks for over standard input, and keeps its first bytes.
@@ -229,10 +148,10 @@ fn run_front(
     command_line: &CommandLine,
     kept: &RefCell<Kept>,
     talk: &RefCell<Talk>,
-) -> Result<Ended, AllocError> {
+) -> Result<RunResult, AllocError> {
     let front = Front::new(rt.stdin(), kept);
     if command_line.shows_places && command_line.verb == Verb::Session {
-        return run_watched(rt, command_line, "standard input", front, talk);
+        return run_watched(rt, command_line, STANDARD_INPUT, front, talk);
     }
     let mut lines = Lines::new(rt.alloc(), Device::new(front))?;
     run_lines(rt, command_line, &mut lines)
@@ -287,7 +206,7 @@ fn read_block(rt: &HostRuntime, command: &str, path: &str, what: &str) -> Result
     let Some(line) = point_line(&bytes) else {
         return Ok(bytes);
     };
-    let name = if path == "-" { "standard input" } else { path };
+    let name = file_name(path);
     let alloc = rt.alloc();
     let text = format!(in alloc;
         "snowbench: line {line} of {name} is a single point, which would end it: {command} writes the points itself"
@@ -295,28 +214,15 @@ fn read_block(rt: &HostRuntime, command: &str, path: &str, what: &str) -> Result
     Err(print_line(rt, text, REFUSED))
 }
 
-/// The names of the files: `-` is standard input.
-#[derive(Clone, Copy)]
-pub(crate) struct Named<'a> {
-    pub(crate) script: &'a str,
-    pub(crate) words: &'a str,
-    /// The commands of `run`, if they are in a file, or the stems of `check`.
-    pub(crate) rest: Option<&'a str>,
-}
-
-/// Returns whether more than one of the files is standard input.
-pub(crate) fn reads_twice(named: Named<'_>) -> bool {
-    let script = named.script == "-";
-    let words = named.words == "-";
-    let rest = named.rest == Some("-");
-    (script && words) || (script && rest) || (words && rest)
-}
-
 /// Runs the commands of a file over a script and words in files, and returns the exit status.
-pub(crate) fn run_session(rt: &HostRuntime, command_line: &CommandLine, named: Named<'_>) -> u8 {
-    match session_input(rt, named) {
-        Ok(input) => match run_commands(rt, command_line, named, &input) {
-            Ok(ended) => print_fault(rt, command_line, named.script, &input, &ended),
+pub(crate) fn run_session(
+    rt: &HostRuntime,
+    command_line: &CommandLine,
+    names: FileNames<'_>,
+) -> u8 {
+    match session_input(rt, names) {
+        Ok(input) => match run_commands(rt, command_line, names, &input) {
+            Ok(ended) => print_fault(rt, command_line, Some(names), &input, &ended),
             Err(_) => fail_memory(rt),
         },
         Err(status) => status,
@@ -327,12 +233,12 @@ pub(crate) fn run_session(rt: &HostRuntime, command_line: &CommandLine, named: N
 fn run_commands(
     rt: &HostRuntime,
     command_line: &CommandLine,
-    named: Named<'_>,
+    names: FileNames<'_>,
     input: &[u8],
-) -> Result<Ended, AllocError> {
-    let name = match named.rest {
-        None | Some("-") => "standard input",
-        Some(name) => name,
+) -> Result<RunResult, AllocError> {
+    let name = match names.rest {
+        None => STANDARD_INPUT,
+        Some(path) => file_name(path),
     };
     let talk = RefCell::new(Talk::new(rt.alloc(), Lead::Commands));
     run_watched(rt, command_line, name, input, &talk)
@@ -343,16 +249,16 @@ fn run_bytes(
     rt: &HostRuntime,
     command_line: &CommandLine,
     input: &[u8],
-) -> Result<Ended, AllocError> {
+) -> Result<RunResult, AllocError> {
     let mut lines = Lines::new(rt.alloc(), Device::new(input))?;
     run_lines(rt, command_line, &mut lines)
 }
 
 /// Returns the input of a session. Without a file of commands the command is `stems`.
-fn session_input(rt: &HostRuntime, named: Named<'_>) -> Result<Vec<u8>, u8> {
-    let script = read_block(rt, "run", named.script, "lines of the script")?;
-    let words = read_block(rt, "run", named.words, "words")?;
-    let composed = match named.rest {
+fn session_input(rt: &HostRuntime, names: FileNames<'_>) -> Result<Vec<u8>, u8> {
+    let script = read_block(rt, "run", names.script, "lines of the script")?;
+    let words = read_block(rt, "run", names.words, "words")?;
+    let composed = match names.rest {
         Some(path) => {
             let commands = read_named(rt, path, "commands")?;
             compose(rt.alloc(), &script, &words, &commands)
@@ -378,8 +284,13 @@ pub(crate) fn run_filter(rt: &HostRuntime, command_line: &CommandLine, script: &
     let Ok(input) = script_block(rt.alloc(), &text) else {
         return fail_memory(rt);
     };
+    let names = FileNames {
+        script,
+        words: "-",
+        rest: None,
+    };
     match filter_words(rt, command_line, &input) {
-        Ok(ended) => print_fault(rt, command_line, script, &input, &ended),
+        Ok(ended) => print_fault(rt, command_line, Some(names), &input, &ended),
         Err(_) => fail_memory(rt),
     }
 }
@@ -389,7 +300,7 @@ fn filter_words(
     rt: &HostRuntime,
     command_line: &CommandLine,
     input: &[u8],
-) -> Result<Ended, AllocError> {
+) -> Result<RunResult, AllocError> {
     let reader = input.chain(rt.stdin());
     let mut lines = Lines::new(rt.alloc(), Device::new(reader))?;
     run_lines(rt, command_line, &mut lines)
@@ -399,17 +310,17 @@ fn filter_words(
 pub(crate) fn run_check(
     rt: &HostRuntime,
     command_line: &CommandLine,
-    named: Named<'_>,
+    names: FileNames<'_>,
     stems: &str,
 ) -> u8 {
-    let (input, words) = match check_input(rt, named, stems) {
+    let (input, words) = match check_input(rt, names, stems) {
         Ok(read) => read,
         Err(status) => return status,
     };
     let Ok(ended) = run_bytes(rt, command_line, &input) else {
         return fail_memory(rt);
     };
-    let status = print_fault(rt, command_line, named.script, &input, &ended);
+    let status = print_fault(rt, command_line, Some(names), &input, &ended);
     if ended.said.is_empty() {
         let rows = ended.rows;
         let text = counts_text(rt.alloc(), words, rows);
@@ -419,32 +330,19 @@ pub(crate) fn run_check(
 }
 
 /// Returns the input of a check, and the number of its words.
-fn check_input(rt: &HostRuntime, named: Named<'_>, stems: &str) -> Result<(Vec<u8>, u64), u8> {
-    let script = read_block(rt, "check", named.script, "lines of the script")?;
-    let words = read_block(rt, "check", named.words, "words")?;
+fn check_input(rt: &HostRuntime, names: FileNames<'_>, stems: &str) -> Result<(Vec<u8>, u64), u8> {
+    let script = read_block(rt, "check", names.script, "lines of the script")?;
+    let words = read_block(rt, "check", names.words, "words")?;
     let expected = read_named(rt, stems, "stems")?;
     let (count, other) = (line_count(&words), line_count(&expected));
     if count != other {
-        let text = lengths_text(rt.alloc(), named.words, count, stems, other);
+        let text = lengths_text(rt.alloc(), names.words, count, stems, other);
         return Err(print_line(rt, text, REFUSED));
     }
     match compose(rt.alloc(), &script, &words, &expected) {
         Ok(input) => Ok((input, count)),
         Err(_) => Err(fail_memory(rt)),
     }
-}
-
-/// Returns a number with commas between thousands, and the word for one or for more.
-fn counted(alloc: Global, number: u64, one: &str, many: &str) -> Result<String, AllocError> {
-    let word = if number == 1 { one } else { many };
-    let (millions, thousands, ones) = (number / 1_000_000, number / 1_000 % 1_000, number % 1_000);
-    if number >= 1_000_000 {
-        return format!(in alloc; "{millions},{thousands:03},{ones:03} {word}");
-    }
-    if number >= 1_000 {
-        return format!(in alloc; "{thousands},{ones:03} {word}");
-    }
-    format!(in alloc; "{ones} {word}")
 }
 
 /// Returns how many words there are, and how many differ.

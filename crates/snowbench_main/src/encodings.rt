@@ -1,0 +1,37 @@
+//! Texts that are not UTF-8: how they may be encoded, and how to make them UTF-8.
+
+use crate::messages::push_named;
+use std::alloc::AllocError;
+
+/// How a text that is not UTF-8 may be encoded.
+enum Encoding {
+    Gzip,
+    Latin1,
+    Utf16,
+}
+
+/// Returns how a text may be encoded that is not UTF-8.
+fn encoding_of(text: &[u8]) -> Encoding {
+    match (text.get(0), text.get(1)) {
+        (Some(0x1F), Some(0x8B)) => Encoding::Gzip,
+        (Some(0xFF), Some(0xFE)) | (Some(0xFE), Some(0xFF)) => Encoding::Utf16,
+        _ => Encoding::Latin1,
+    }
+}
+
+/// Appends what the text may be, and how to make it UTF-8. `name` is the name of its file.
+pub(crate) fn push_conversion(
+    shown: &mut String,
+    text: &[u8],
+    name: &str,
+) -> Result<(), AllocError> {
+    let (guess, command) = match encoding_of(text) {
+        Encoding::Gzip => ("If gzip compressed it: ", "gzip -d < "),
+        Encoding::Latin1 => ("If it is Latin-1: ", "iconv -f latin1 -t utf-8 "),
+        Encoding::Utf16 => ("If it is UTF-16: ", "iconv -f utf-16 -t utf-8 "),
+    };
+    shown.push_str(guess)?;
+    shown.push_str(command)?;
+    push_named(shown, name)?;
+    shown.push_str(" > NEW")
+}
