@@ -243,6 +243,10 @@ fn push_undeclared(
     push_thing(shown, spot)?;
     shown.push_str(" is not declared.")?;
     let declared = declared_in(alloc, faulty.script)?;
+    if spot.token == faulty.external && names_of(alloc, &declared, true)?.is_empty() {
+        let text = format!(in alloc; " Declare it: externals ( {} )", spot.token)?;
+        return shown.push_str(text.as_str());
+    }
     let names = names_of(alloc, &declared, false)?;
     if push_near(alloc, shown, spot.token, &names)? {
         return Ok(());
