@@ -105,7 +105,9 @@ fn long_word_text(
     };
     let mut shown = String::new(alloc);
     push_named(&mut shown, name)?;
-    let place = format!(in alloc; ":{line}: more than {MAX_WORD_LENGTH} characters, which no word may have")?;
+    let place = format!(in alloc;
+        ":{line}: more than {MAX_WORD_LENGTH} characters, which no word may have"
+    )?;
     shown.push_str(place.as_str())?;
     Ok(Some(shown))
 }
@@ -132,9 +134,7 @@ fn script_text(
     if line.as_bytes() != said {
         return Ok(None);
     }
-    Ok(Some(script_fault_text(
-        alloc, title, &text, external, fault,
-    )?))
+    Ok(Some(script_fault_text(alloc, title, &text, external, fault)?))
 }
 
 /// Returns what an input lacks that is cut inside a block.

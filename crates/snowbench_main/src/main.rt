@@ -32,14 +32,16 @@ use std::process::ExitCode;
 const NOT_UTF8: &str = "error: a word of the command line is not UTF-8";
 
 /// The text that is printed if `run` names standard input twice.
-const NAMED_TWICE: &str = "snowbench: standard input can be only one of SCRIPT, WORDS and COMMANDS. Without WORDS it is these";
+const NAMED_TWICE: &str =
+    "snowbench: standard input can be only one of SCRIPT, WORDS and COMMANDS. Without WORDS it is these";
 
 /// The text that is printed if `check` names standard input twice.
 const NAMED_TWICE_BY_CHECK: &str =
     "snowbench: standard input can be only one of SCRIPT, WORDS and STEMS";
 
 /// The text that is printed if `check` has one file or two.
-const THREE_FILES: &str = "snowbench: check takes three files, ./snowbench check SCRIPT WORDS STEMS, or all from standard input, ./snowbench check < INPUT";
+const THREE_FILES: &str =
+    "snowbench: check takes three files, ./snowbench check SCRIPT WORDS STEMS, or all from standard input, ./snowbench check < INPUT";
 
 fn main(rt: HostRuntime) -> io::Result<ExitCode> {
     let words = match words_of(&rt) {

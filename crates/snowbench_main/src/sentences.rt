@@ -177,8 +177,7 @@ fn defined_first(alloc: Global, text: &[u8]) -> Result<Option<&str>, AllocError>
     };
     match (tokens.first(), tokens.get(1)) {
         (Some(first), Some(second))
-            if first.kind == Kind::Word(Word::Define) && second.kind == Kind::Name =>
-        {
+            if first.kind == Kind::Word(Word::Define) && second.kind == Kind::Name => {
             Ok(Some(second.text))
         }
         _ => Ok(None),
