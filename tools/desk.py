@@ -48,7 +48,7 @@ class Desk:
         return self.child.query(lines)
 
     def ask(self, lines, is_edit=False):
-        """Runs a command, shows the reply and, after an edit, the changes. Returns `ok`, `refused` or `ended`."""
+        """Runs a command unless it would lose something, shows the reply and, after an edit, the changes. Returns `ok`, `refused` or `ended`."""
         if any(len(line.encode("utf-8", "surrogateescape")) > LONGEST for line in lines):
             say(["A line may have %d bytes at most. Nothing was done." % LONGEST])
             return "refused"
@@ -59,9 +59,12 @@ class Desk:
             return "refused"
         if word == "changes" and argument:
             return self.show_changes(argument)
-        former = read(argument) if word == "save" else None
         if word == "save" and self.files.is_script(argument):
             lines = ["save " + self.script]
+        return self.run(word, argument, lines, is_edit)
+
+    def run(self, word, argument, lines, is_edit):
+        former = read(argument) if word == "save" else None
         typed, text = self.before_reload() if word == "reload" else ({}, None)
         answer = self.child.run(lines, say, text)
         if answer is None:
@@ -72,7 +75,7 @@ class Desk:
         refusal = REFUSAL.match(answer[0]) if len(answer) == 1 else None
         if refusal:
             self.refuse(answer, int(refusal[1]), lines, former)
-            self.files.refused = text
+            self.files.refused = text if word == "reload" else self.files.refused
             return "refused"
         write(self.lay_out(lines[0], answer))
         say(self.advice.note(lines))
@@ -81,13 +84,19 @@ class Desk:
             self.history.note_saved(argument)
         if word in ("mark", "changes"):
             self.changes = answer if word == "changes" else []
-        script, changes = self.child.query_each(["script"], ["changes"]) if word in EDITS else (None, [])
+        return self.show_edit(lines[0], typed, is_edit) if word in EDITS else "ok"
+
+    def show_edit(self, command, typed, is_edit):
+        """Notes an accepted edit of the script or the limit, and shows the changes."""
+        script, changes = self.child.query_each(["script"], ["changes"])
         if script is not None:
-            self.note_edit(lines[0], typed, script)
-        if changes is not None and is_edit:
+            self.note_edit(command, typed, script)
+        if changes is None:
+            return self.end()
+        if is_edit:
             write(since_mark(self.changes, changes) + lay_out_changes(changes, is_edit))
             self.changes = changes
-        return "ok" if changes is not None else self.end()
+        return "ok"
 
     def refuse(self, answer, code, lines, former):
         """Shows a refusal and what to do. `former` is what the file of `save` had before."""
