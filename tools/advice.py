@@ -30,7 +30,7 @@ class Advice:
         return Names(self.desk.query(["script"]) or [])
 
     def words(self):
-        return [row[0] for row in csv.reader(self.desk.query(["stems"]) or []) if row]
+        return [row[0] for row in csv.reader(line + "\n" for line in self.desk.query(["stems"]) or []) if row]
 
     def lines(self, code, command):
         """Returns the lines on a refused command, beside those of the program: `code` is the number of the refusal."""
@@ -94,7 +94,14 @@ class Advice:
         return "%s has %s, so K is %s (those inside others count, too)." % (name, amount(count), numbers)
 
     def count(self, name):
-        return words_of(self.desk.query(["show " + name]) or []).count("among")
+        escapes = ""
+        for line in self.desk.query(["script"]) or []:
+            words = line.split()
+            if words[0] == "stringescapes":
+                escapes = words[1]
+            if words[:2] == ["define", name]:
+                return words_of([line], escapes).count("among")
+        return 0
 
     def lines_52(self, word, argument, command):
         return [self.bad_command(word, argument, command[0])]
@@ -157,7 +164,7 @@ class Advice:
             name, _, k = argument.partition(" ")
             if name and k and name not in names.of("routine", "external"):
                 return [self.no_name(word, name, "routine", ("routine", "external"))]
-            if not re.match(r"^[0-9]+$", k):
+            if not re.match(r"^[0-9]{1,9}$", k):
                 return [self.bad_command(word, argument, line)]
             if not 1 <= int(k) <= self.count(name):
                 return [self.amongs_of(name)]
@@ -179,9 +186,12 @@ def command_meant(word):
     return meant(word, commands) or (" Did you mean %s?" % listed(longer) if 0 < len(longer) < 4 else "")
 
 
-def words_of(lines):
-    """Returns the tokens of canonical lines, which have a blank between any two. Of a literal only the quotes remain."""
-    return re.sub(r"'[^']*'", "''", "\n".join(lines)).split()
+def words_of(lines, escapes=""):
+    """Returns the tokens of canonical lines, which have a blank between any two. Of a literal only the quotes remain. A quote in an insertion,
+    between the two characters `escapes`, ends no literal."""
+    begin, end = map(re.escape, escapes or "  ")
+    insertion = "%s[^%s]*%s|" % (begin, end, end) if escapes else ""
+    return re.sub("'(?:%s[^'])*'" % insertion, "''", "\n".join(lines)).split()
 
 
 class Names:

@@ -15,7 +15,7 @@ import sys
 from advice import Advice
 from child import Child
 from files import Files
-from history import EDITS, History, digest, put_aside
+from history import EDITS, TYPED, History, digest, put_aside
 from plain import for_terminal, named
 from whys import lay_out_why
 from warn import read, warnings_on
@@ -66,6 +66,7 @@ class Desk:
     def run(self, word, argument, lines, is_edit):
         former = read(argument) if word == "save" else None
         typed, text = self.before_reload() if word == "reload" else ({}, None)
+        replaced = self.definition(argument.partition(" ")[0]) if word in TYPED else None
         answer = self.child.run(lines, say, text)
         if answer is None:
             say(list(filter(None, [word == "save" and self.files.put_back(argument, former)])))
@@ -75,7 +76,8 @@ class Desk:
         refusal = REFUSAL.match(answer[0]) if len(answer) == 1 else None
         if refusal:
             self.refuse(answer, int(refusal[1]), lines, former)
-            self.files.refused = text if word == "reload" else self.files.refused
+            if word == "reload" and text is not None:
+                self.files.refused = text
             return "refused"
         write(self.lay_out(lines[0], answer))
         say(self.advice.note(lines))
@@ -84,13 +86,13 @@ class Desk:
             self.history.note_saved(argument)
         if word in ("mark", "changes"):
             self.changes = answer if word == "changes" else []
-        return self.show_edit(lines[0], typed, is_edit) if word in EDITS else "ok"
+        return self.show_edit(lines[0], typed, replaced, is_edit) if word in EDITS else "ok"
 
-    def show_edit(self, command, typed, is_edit):
+    def show_edit(self, command, typed, replaced, is_edit):
         """Notes an accepted edit of the script or the limit, and shows the changes."""
         script, changes = self.child.query_each(["script"], ["changes"])
         if script is not None:
-            self.note_edit(command, typed, script)
+            self.note_edit(command, typed, replaced, script)
         if changes is None:
             return self.end()
         if is_edit:
@@ -110,8 +112,8 @@ class Desk:
         answer = self.query(["changes"])
         if answer is None:
             return self.end()
-        rows = [line for line in answer if any(text in name for name in names_in(next(csv.reader([line]))))]
-        write(["Only what has %s:" % named(text)] + lay_out_changes(rows) if rows else ["no change has %s" % named(text)])
+        rows = [row for row in rows_of(answer) if any(text in name for name in names_in(row))]
+        write(["Only what has %s:" % named(text)] + lay_out_rows(rows) if rows else ["no change has %s" % named(text)])
         return "ok"
 
     def lay_out(self, command, answer):
@@ -126,16 +128,16 @@ class Desk:
     def may_save(self, path):
         """Whether `save` may write to a file; otherwise says why not."""
         why = self.files.refusal(path)
-        if not why and self.files.is_script(path) and self.child.copy is not None and self.files.seen != read(self.script):
+        if not why and self.files.is_script(path) and self.child.copy is not None and self.files.seen != read(self.script) and not self.files.has_refused():
             why = self.advice.cannot_save(path)
-        if not why and self.files.is_script(path) and self.history.is_older() and self.doubted != "save":
-            self.doubted = "save"
-            name = named(path)
-            why = "%s has a change that undo took back. Nothing was written: Enter reads it again, save %s again overwrites it." % (name, name)
         if not why and self.files.is_script(path) and self.files.has_refused() and self.doubted != "save":
             self.doubted = "save"
             name = named(path)
             why = "%s has a text that was refused. Nothing was written: correct it there and press Enter, or save %s again overwrites it." % (name, name)
+        elif not why and self.files.is_script(path) and self.history.is_older() and self.doubted != "save":
+            self.doubted = "save"
+            name = named(path)
+            why = "%s has a change that undo took back. Nothing was written: Enter reads it again, save %s again overwrites it." % (name, name)
         if why:
             say([why])
         return not why
@@ -183,20 +185,25 @@ class Desk:
     def definitions(self):
         """Returns the definition of each part that is typed and in force, by its name; the whole script has no name."""
         names = dict.fromkeys(edit.name() for edit in self.history.typed())
-        return {name: self.query(["show " + name if name else "script"]) for name in names}
+        return {name: self.definition(name) for name in names}
 
-    def note_edit(self, command, typed, script):
+    def definition(self, name):
+        """Returns the definition of a part; the whole script has no name."""
+        return self.query(["show " + name if name else "script"])
+
+    def note_edit(self, command, typed, replaced, script):
         """Notes an accepted edit, and says which one was undone or redone, or which typed parts are put aside."""
         before, is_reload = self.history.script, command == "reload"
-        is_new, edit = self.history.note(command, script)
+        is_new, edit = self.history.note(command, script, replaced)
         if edit:
             write(["%s: %s" % ("undid" if command == "undo" else "redid", edit.command)])
-            if command == "undo" and (edit.word == "reload" or self.history.script_file in edit.files):
+            if command == "undo" and self.history.in_file != self.history.script and (edit.word == "reload" or self.history.script_file in edit.files):
                 say(["%s still has what undo took back: Enter reads it again." % named(self.script)])
         elif not is_new and not is_reload and command not in ("undo", "redo"):
             say(["This was in force already, so undo does not count it."])
         if is_reload:
-            gone = [name for name, lines in typed.items() if self.query(["show " + name if name else "script"]) != lines]
+            now = {name: self.definition(name) for name in typed}
+            gone = {name: now[name] for name in typed if now[name] != typed[name]}
             aside = self.history.note_read(before == self.history.script, gone, self.files.note_read())
             say([put_aside(aside)] if aside else [])
             self.warn([self.script])
@@ -223,7 +230,7 @@ class Desk:
         return "ok"
 
     def explain_refused(self):
-        rows = [row for row in csv.reader(self.query(["stems"])) if row[1:2] == ["refused"]]
+        rows = [row for row in rows_of(self.query(["stems"])) if row[1:2] == ["refused"]]
         word, name = rows[0][0], rows[0][2]
         loops = ": the script loops on it, or needs more than 100,000 steps" if name == "Steps" else ""
         say(['The first refused word is %s (%s%s). "trace %s" shows which routines its run used.' % (named(word), name, loops, named(word))])
@@ -297,10 +304,19 @@ def shown(rows, is_edit, lay_out):
     return [lay_out(row) for row in rows[:most]] + more
 
 
+def rows_of(answer):
+    """Returns the rows of an answer. A row that has a line feed is several lines."""
+    return list(csv.reader(line + "\n" for line in answer))
+
+
 def lay_out_changes(answer, is_edit=False):
+    return lay_out_rows(rows_of(answer), is_edit)
+
+
+def lay_out_rows(rows, is_edit=False):
     """Lays out the rows of `changes`: words with their stems before and after, then classes."""
     kinds = {kind: [] for kind in ("added", "removed", "changed", "split", "merged", "renamed")}
-    for row in csv.reader(answer):
+    for row in rows:
         kinds[row[0]].append(row[1:])
     if not any(kinds.values()):
         return ["no word and no class differs from the mark"]
@@ -326,7 +342,7 @@ def names_in(row):
 
 def lay_out_largest(answer):
     """Lays out classes with their sizes."""
-    rows = list(csv.reader(answer))
+    rows = rows_of(answer)
     column = max([len(str(len(row) - 1)) for row in rows], default=0)
     return ["%*d  %s: %s" % (column, len(row) - 1, stem(row[0]), ", ".join(map(named, row[1:]))) for row in rows]
 

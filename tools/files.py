@@ -51,7 +51,7 @@ class Files:
             self.look()
         else:
             self.written[os.path.realpath(path)] = state_of(path)
-        lost = count_comments(former) - count_comments(read(path))
+        lost = count_comments(self.seen if former is None else former) - count_comments(read(path))
         return [] if lost <= 0 else ["%s of the parts that you typed %s no longer in %s." % (*amount(lost), named(path))]
 
     def put_back(self, path, former):
@@ -80,7 +80,7 @@ class Files:
 
 def count_comments(text):
     """Returns the number of comments of a script."""
-    tokens = re.findall(rb"'(?:\{[^}]*\}|[^'])*'|//[^\n]*|/\*.*?\*/", text or b"", re.S)
+    tokens = re.findall(rb"'(?:\{[^}]*\}|\{(?![^}]*\})|[^'{])*'|//[^\n]*|/\*.*?\*/", text or b"", re.S)
     return sum(token.startswith(b"/") for token in tokens)
 
 

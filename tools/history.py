@@ -12,10 +12,11 @@ EDITS = TYPED + "limit reload undo redo".split()
 
 
 class Edit:
-    """An accepted edit: its command, the script and the limit before and after, and the files that were written with it."""
+    """An accepted edit: its command, the script and the limit before and after, the definition that a typed part replaced, and the files
+    that were written with it."""
 
-    def __init__(self, command, before, after):
-        self.command, self.before, self.after, self.files = command, before, after, set()
+    def __init__(self, command, before, after, former):
+        self.command, self.before, self.after, self.former, self.files = command, before, after, former, set()
         self.word, _, self.argument = command.partition(" ")
 
     def name(self):
@@ -34,8 +35,10 @@ class History:
         self.script = digest(lines)
         # How many edits there were when the file was read last, and whether an edit was made after these were undone.
         self.read_at, self.has_parted = 0, False
+        # The script that the file had when it was read or written last.
+        self.in_file = self.script
 
-    def note(self, command, lines):
+    def note(self, command, lines, former=None):
         """Notes an accepted command of EDITS, after which the script has these lines. Returns whether it is a new edit, and the edit that
         it undid or redid."""
         before, word = (self.script, self.limit), command.partition(" ")[0]
@@ -46,7 +49,7 @@ class History:
             self.limit = command.partition(" ")[2].lstrip("0")
         after = (self.script, self.limit)
         if after != before:
-            self.remember(Edit(command, before, after))
+            self.remember(Edit(command, before, after, former))
         return after != before, None
 
     def remember(self, edit):
@@ -82,7 +85,7 @@ class History:
 
     def unsaved(self):
         """Returns the typed edits in force that no file has."""
-        return [edit for edit in self.typed() if not edit.files]
+        return [edit for edit in self.typed() if not any(map(os.path.isfile, edit.files))]
 
     def put_aside(self):
         """Returns the names of the typed parts that `undo` can bring back, that reading the file has put aside, and that no file has."""
@@ -90,20 +93,23 @@ class History:
         return distinct(edit.name() for edit in self.aside if edit in self.past and edit not in in_force)
 
     def note_read(self, is_same, gone, is_new):
-        """Notes that the file was read: whether it has the script in force before, the names of the typed parts that it does not have, and
-        whether it has new bytes. Returns the names of the parts that are put aside and that the file did not have before."""
+        """Notes that the file was read: whether it has the script in force before, the typed parts that it does not have, each with its
+        definition now, and whether it has new bytes. Returns the names of the parts that are put aside: the file did not have them before,
+        or has what they replaced, as an editor writes it that did not see them."""
         before = self.typed(self.past if is_same else self.past[:-1])
         lost = [edit for edit in before if edit.name() in gone]
-        aside = distinct(edit.name() for edit in lost if self.script_file not in edit.files)
-        self.aside += [edit for edit in lost if not edit.files]
+        stale = [edit.name() for edit in lost if edit.former == gone[edit.name()]]
+        aside = [edit for edit in lost if self.script_file not in edit.files or edit.name() in stale]
+        self.aside += [edit for edit in aside if not edit.files - {self.script_file}]
         for edit in self.older + self.past:
             if is_same or (edit in before and edit not in lost):
                 edit.files.add(self.script_file)
             else:
                 edit.files.discard(self.script_file)
+        self.in_file = self.script
         if is_new:
             self.read_at, self.has_parted = len(self.past), False
-        return aside
+        return distinct(edit.name() for edit in aside)
 
     def note_saved(self, path):
         """Notes that the script in force was written to a file."""
@@ -111,6 +117,8 @@ class History:
             edit.files.add(os.path.realpath(path))
         for edit in self.future:
             edit.files.discard(os.path.realpath(path))
+        if os.path.realpath(path) == self.script_file:
+            self.in_file = self.script
         if self.is_older() and os.path.realpath(path) == self.script_file:
             self.read_at, self.has_parted = 0, False
 
@@ -132,5 +140,5 @@ def put_aside(names, is_unsaved=False):
     shown = [name or "the whole script" for name in names[:4]] + (["%d more" % (len(names) - 4)] if len(names) > 4 else [])
     edits, them = ("edit", "it") if len(names) == 1 else ("edits", "them")
     put, are = ("was put", "is") if len(names) == 1 else ("were put", "are")
-    besides = " and %s in no file" % are if is_unsaved else ""
-    return "Your %s of %s %s aside%s: undo brings %s back." % (edits, listed(shown, "and"), put, besides, them)
+    begin = "Your %s of %s %s aside" % (edits, listed(shown, "and"), put)
+    return begin + (" and %s in no file: undo goes back to %s." % (are, them) if is_unsaved else ": undo brings %s back." % them)

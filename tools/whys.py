@@ -14,7 +14,7 @@ class Call:
 def lay_out_why(answer, word, figures):
     """Returns a line for each row of `why WORD` that took a string, asked a routine or changed the text, or with which a routine that did
     so signalled f, and one for the outcome, with the steps and the values of the integer variables, which are the rows `figures` of `integers WORD`."""
-    rows = list(csv.reader(answer))
+    rows = list(csv.reader(line + "\n" for line in answer))
     text, lines, calls = word, [], []
     for row in rows:
         kind = row[0]
