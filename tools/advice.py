@@ -1,11 +1,11 @@
 """The sentences after a refused command: what is wrong, and what to do."""
-import csv
 import os
 import re
 import unicodedata
 
 from near import listed, meant, near
 from plain import named
+from rows import rows_of
 
 PLAIN = "stems classes script runs reload undo redo mark changes stats unused help quit".split()
 ONE_LINE = "add remove class trace why events integers limit largest show save echo".split()
@@ -30,7 +30,7 @@ class Advice:
         return Names(self.desk.query(["script"]) or [])
 
     def words(self):
-        return [row[0] for row in csv.reader(line + "\n" for line in self.desk.query(["stems"]) or []) if row]
+        return [row[0] for row in rows_of(self.desk.query(["stems"]) or []) if row]
 
     def lines(self, code, command):
         """Returns the lines on a refused command, beside those of the program: `code` is the number of the refusal."""

@@ -15,8 +15,9 @@ import sys
 from advice import Advice
 from child import Child
 from files import Files
-from history import EDITS, TYPED, History, digest, put_aside
+from history import EDITS, TYPED, History, aside_sentence, digest
 from plain import for_terminal, named
+from rows import rows_of
 from whys import lay_out_why
 from warn import read, warnings_on
 from watch import watch
@@ -150,7 +151,7 @@ class Desk:
         if self.history.unsaved():
             say(["The edits that you typed are in no file: save FILE keeps them, quit again drops them."])
         elif aside:
-            say([put_aside(aside, is_unsaved=True) + " quit again ends."])
+            say([aside_sentence(aside, is_unsaved=True) + " quit again ends."])
         else:
             return "ok"
         self.doubted = "quit"
@@ -205,7 +206,7 @@ class Desk:
             now = {name: self.definition(name) for name in typed}
             gone = {name: now[name] for name in typed if now[name] != typed[name]}
             aside = self.history.note_read(before == self.history.script, gone, self.files.note_read())
-            say([put_aside(aside)] if aside else [])
+            say([aside_sentence(aside)] if aside else [])
             self.warn([self.script])
 
     def start(self):
@@ -302,11 +303,6 @@ def shown(rows, is_edit, lay_out):
     most = MOST if is_edit and len(rows) > MOST else len(rows)
     more = ['  .. and %d more: "changes" shows all' % (len(rows) - most)] if most < len(rows) else []
     return [lay_out(row) for row in rows[:most]] + more
-
-
-def rows_of(answer):
-    """Returns the rows of an answer. A row that has a line feed is several lines."""
-    return list(csv.reader(line + "\n" for line in answer))
 
 
 def lay_out_changes(answer, is_edit=False):

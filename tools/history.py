@@ -135,7 +135,7 @@ def distinct(names):
     return list(dict.fromkeys(names))
 
 
-def put_aside(names, is_unsaved=False):
+def aside_sentence(names, is_unsaved=False):
     """Returns the sentence on typed parts that reading the file has put aside, also that no file has them."""
     shown = [name or "the whole script" for name in names[:4]] + (["%d more" % (len(names) - 4)] if len(names) > 4 else [])
     edits, them = ("edit", "it") if len(names) == 1 else ("edits", "them")

@@ -1,7 +1,6 @@
 """Lays out the rows of `why` for people: the strings that were taken, what other routines were asked, and the changes of the text."""
-import csv
-
 from plain import named
+from rows import rows_of
 
 
 class Call:
@@ -14,7 +13,7 @@ class Call:
 def lay_out_why(answer, word, figures):
     """Returns a line for each row of `why WORD` that took a string, asked a routine or changed the text, or with which a routine that did
     so signalled f, and one for the outcome, with the steps and the values of the integer variables, which are the rows `figures` of `integers WORD`."""
-    rows = list(csv.reader(line + "\n" for line in answer))
+    rows = rows_of(answer)
     text, lines, calls = word, [], []
     for row in rows:
         kind = row[0]
@@ -44,7 +43,7 @@ def lay_out_why(answer, word, figures):
 
 def lay_out_figures(figures):
     """Returns the steps of a run, and the names and values of the integer variables at its end."""
-    rows = list(csv.reader(figures))
+    rows = rows_of(figures)
     steps = "%s step%s" % (rows[0][1], "" if rows[0][1] == "1" else "s")
     values = " ".join("%s=%s" % (name, value) for _, name, value in rows[1:])
     return "%s, %s" % (steps, values) if values else steps
