@@ -31,8 +31,8 @@ pub struct Runner<'a, T> {
 }
 
 impl<'a, T: Tables> Runner<'a, T> {
-    /// Runs a command and returns its signal, or why it has none. A command without a command inside is done here,
-    /// without another call.
+    /// Runs a command and returns its signal, or why it has none. The commands that are most of a run are done here, without
+    /// a call of `run_paid`.
     #[cycle(run)]
     #[inline(always)]
     fn run_command(&self, command: &Node, state: &mut State) -> Result<bool, Halt>
@@ -40,10 +40,12 @@ impl<'a, T: Tables> Runner<'a, T> {
         ensures fewer { IfOk result (λ _. state.new.steps < state.old.steps) }
     {
         state.pay()?;
-        if let Node::Act(action) = command {
-            return state.act(&self.program.groupings, self.mode, action);
+        match command {
+            Node::Act(action) => state.act_here(&self.program.groupings, self.mode, action),
+            Node::Sequence(commands) => self.run_in_turn(commands, state),
+            Node::Call(number) => self.run_call(*number, state),
+            _ => self.run_paid(command, state),
         }
-        self.run_paid(command, state)
     }
 
     /// Runs a command whose step is already paid.
@@ -221,6 +223,7 @@ impl<'a, T: Tables> Runner<'a, T> {
 
     /// Runs commands one after another, up to the first f.
     #[cycle(run)]
+    #[inline(never)]
     fn run_in_turn(&self, commands: &[Node], state: &mut State) -> Result<bool, Halt>
         ensures follows { Follows result state.new (all_run (program_of (T.listed self.now.tables.now) self.now.program.now) self.now.levels (view_nodes (T.listed self.now.tables.now) commands.now) self.now.mode state.old) }
         ensures no_more { IfOk result (λ _. state.new.steps ≤ state.old.steps) }

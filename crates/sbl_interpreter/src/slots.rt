@@ -1,4 +1,4 @@
-//! Values by number, of which some are missing. All are taken away at once, at the same cost however many there are.
+//! Values by number, some of them missing. All are removed at once, at a cost that does not depend on how many there are.
 
 ghost use Rattle.std.specs.Prelude.{◌≡◌, ℕ, ◌<◌, ◌≤◌, [], length, replicate, map, Some, None, IfOk, MatchResult, slice_set, slice_index_or};
 ghost use Rattle.std.specs.Option.{option_copied};

@@ -201,6 +201,7 @@ fn grow(bits: &mut Vec<bool>, i: usize) -> Result<(), AllocError>
 }
 
 // Grows the rows, and one of them, until this bit exists. Returns `AllocError` if an allocation fails.
+#[inline(always)]
 fn grow_in(rows: &mut Vec<Vec<bool>>, i: usize, k: usize) -> Result<(), AllocError>
     ensures same { (j l : ℕ) → is_set_in (map (λ row. row.items) rows.new.items) j l ≡ is_set_in (map (λ row. row.items) rows.old.items) j l }
     ensures there { IfOk result (λ _. (i < length rows.new.items) × (k < length (slice_index_or (map (λ row. row.items) rows.new.items) i []))) }

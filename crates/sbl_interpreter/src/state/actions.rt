@@ -16,6 +16,30 @@ use sbl_char_class::CharacterClass;
 use sbl_program::{Action, Arithmetic};
 
 impl State {
+    /// Does a command as `act` does. `[` and `]` are done here, without another call.
+    #[inline(always)]
+    pub(crate) fn act_here(
+        &mut self,
+        groupings: &[CharacterClass],
+        mode: Mode,
+        action: &Action,
+    ) -> Result<bool, Halt>
+        ensures follows { Follows result self.new (acts (map members groupings.now) (view_action action.now) mode self.old) }
+        ensures same_steps { IfOk result (λ _. self.new.steps ≡ self.old.steps) }
+    {
+        match action {
+            Action::LeftBracket => {
+                self.left_bracket(mode);
+                Ok(true)
+            }
+            Action::RightBracket => {
+                self.right_bracket(mode);
+                Ok(true)
+            }
+            _ => self.act(groupings, mode, action),
+        }
+    }
+
     /// Does a command without a command inside, after its step is paid, and returns its signal. `groupings` has the
     /// class of each grouping.
     ///

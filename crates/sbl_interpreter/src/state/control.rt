@@ -207,7 +207,7 @@ impl State {
         Ok(kept)
     }
 
-    // Returns this many choices, none of which is made, in the memory of an ended call if there is one.
+    // Returns this many choices, all still open, in the memory of an ended call if there is one.
     fn fresh_choices(&mut self, amongs: usize) -> Slots<usize>
         ensures fresh { result ≡ replicate amongs None }
         ensures same { self.new ≡ self.old }
