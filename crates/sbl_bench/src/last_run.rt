@@ -1,6 +1,6 @@
 //! The last run of a word. Runs with equal touches share one list of them.
 
-ghost use Rattle.std.specs.Prelude.{◌≡◌, IfOk};
+ghost use Rattle.std.specs.Prelude.{◌≡◌, IfOk, IfSome};
 
 use sbl_machine::{Outcome, Touch, Traced};
 use std::alloc::{AllocError, Global};
@@ -109,17 +109,56 @@ impl SharedLists {
         ensures used { IfOk result (λ run. run.used ≡ traced.used) }
     {
         let number = digest(traced.touches.as_slice());
-        let touches = list_of(alloc, self.lists.get(&number), traced.touches.as_slice())?;
-        self.lists.insert(number, touches.clone()?)?;
+        let touches = match shared_list(self.lists.get(&number), traced.touches.as_slice())? {
+            Some(list) => list,
+            None => self.add(alloc, number, traced.touches.as_slice())?,
+        };
         Ok(LastRun {
             outcome: traced.outcome,
             touches,
             used: traced.used,
         })
     }
+
+    // Returns a new list of touches, and keeps it at its digest.
+    fn add(
+        &mut self,
+        alloc: Global,
+        digest: u64,
+        touches: &[Touch],
+    ) -> Result<Rc<Vec<Touch>>, AllocError>
+        ensures { IfOk result (λ list. list.value.items ≡ touches.now) }
+    {
+        let list = new_list(alloc, touches)?;
+        self.lists.insert(digest, list.clone()?)?;
+        Ok(list)
+    }
 }
 
-// Another owner of the list if it has these touches, and otherwise a new list of them, with no spare room.
+// Returns another owner of the list if it has these touches. Returns `AllocError` if the list has too many owners.
+fn shared_list(
+    list: Option<&Rc<Vec<Touch>>>,
+    touches: &[Touch],
+) -> Result<Option<Rc<Vec<Touch>>>, AllocError>
+    ensures { IfOk result (λ found. IfSome found (λ list. list.value.items ≡ touches.now)) }
+{
+    if let Some(list) = list {
+        if list.as_slice() == touches {
+            return Ok(Some(list.clone()?));
+        }
+    }
+    Ok(None)
+}
+
+// Returns a new list of touches, with no spare room.
+fn new_list(alloc: Global, touches: &[Touch]) -> Result<Rc<Vec<Touch>>, AllocError>
+    ensures { IfOk result (λ list. list.value.items ≡ touches.now) }
+{
+    let touches = Vec::from_slice(alloc, touches)?;
+    Ok(Rc::new(alloc, touches)?)
+}
+
+// Returns another owner of the list if it has these touches, and otherwise a new list of them.
 fn list_of(
     alloc: Global,
     list: Option<&Rc<Vec<Touch>>>,
@@ -127,13 +166,10 @@ fn list_of(
 ) -> Result<Rc<Vec<Touch>>, AllocError>
     ensures { IfOk result (λ list. list.value.items ≡ touches.now) }
 {
-    if let Some(list) = list {
-        if list.as_slice() == touches {
-            return list.clone();
-        }
+    match shared_list(list, touches)? {
+        Some(list) => Ok(list),
+        None => new_list(alloc, touches),
     }
-    let touches = Vec::from_slice(alloc, touches)?;
-    Ok(Rc::new(alloc, touches)?)
 }
 
 // A number that is made of the touches in their order. Nothing rests on it but how many lists are shared.

@@ -1,6 +1,6 @@
 use Rattle.std.proofs.Common.{rules, ◌≡◌, ◌∙◌, ap, sym}
 use Rattle.sbl_bench.proofs.TouchFacts.{equal_lists, ok_more}
-use Rattle.sbl_bench.proofs.last_run.list_of.Goals as goal
+use Rattle.sbl_bench.proofs.last_run.shared_list.Goals as goal
 
 pub returns-then-eq : goal.returns-then-eq
 returns-then-eq c =
