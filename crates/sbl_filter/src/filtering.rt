@@ -12,9 +12,7 @@ ghost use Rattle.sbl_script.specs.Parsed.{Source, source_of};
 ghost use Rattle.sbl_sessions.specs.Faults.{left_by_load};
 ghost use Rattle.sbl_sessions.specs.Loaded.{HasReason};
 
-use crate::lines::line_writer;
-use crate::rows::row_text;
-use csv::Writer;
+use crate::rows::{RowWriter, row_text};
 use sbl_bench::{EditFault, MAX_WORD_LENGTH};
 use sbl_io::{Lines, ServeFault, Sink, Source, write_all};
 use sbl_machine::{Machine, Meter, Table};
@@ -29,12 +27,12 @@ fn filter_line<W: Sink>(
     alloc: Global,
     machine: &Machine<Table>,
     meter: &mut Meter,
-    rows: &mut Writer<Vec<u8>>,
+    rows: &mut RowWriter,
     line: &[u8],
     writer: &mut W,
 ) -> Result<(), LoadFault>
-    requires between { IsBetweenLines rows.old }
-    ensures between { OnOk result (IsBetweenLines rows.new) }
+    requires between { IsBetweenLines rows.old.lines }
+    ensures between { OnOk result (IsBetweenLines rows.new.lines) }
     ensures writes { (s : Source) → IsLinkedMachineOf machine.now s → WritesLine s line.now (W.held writer.old) (W.held writer.new) result }
     ensures steady { OnOk result (W.failures writer.new ≡ W.failures writer.old) }
     ensures why { IfErr result (λ fault. fault ≡ LoadFault.Input ServeFault.Write → HasStopped W.failures W.interruptions writer.old writer.new) }
@@ -76,7 +74,7 @@ fn filter_words<R: Source + Drop, W: Sink>(
     let alloc = lines.alloc();
     let machine = Machine::new(alloc, script)?;
     let mut meter = Meter::new();
-    let mut rows = line_writer(alloc);
+    let mut rows = RowWriter::new(alloc);
     while lines.next_line()? {
         if lines.line() == b".".as_slice() {
             return Ok(());

@@ -15,7 +15,7 @@ returns-in_err-machine-clause-filters g c = λ _.
 pub loop-rows-init : goal.loop-rows-init
 loop-rows-init g c = record {
   made = c.in_ok-machine.ensures;
-  between = c.line_writer-rows.ensures;
+  between = c.new-rows.ensures;
   rows = ([], rows-none _ _ _);
   fault = refl;
   read = refl;

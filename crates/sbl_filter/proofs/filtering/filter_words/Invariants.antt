@@ -10,7 +10,7 @@ use Rattle.sbl_filter.proofs.filtering.filter_words.Given as goal
 abbrev pub invariant-loop-rows : goal.invariant-loop-rows
 invariant-loop-rows g l = record {
   made : IsLinkedMachineOf l.machine (source_of l.script);
-  between : IsBetweenLines l.rows;
+  between : IsBetweenLines l.rows.lines;
   rows : (lines : List (List ℕ)) × Rows (source_of l.script) (input_of g.R.Source.left l.fn.lines) (input_of g.R.Source.left l.lines) (g.W.Sink.held l.fn.writer) (g.W.Sink.held l.writer) lines;
   fault : fault_of l.lines ≡ fault_of l.fn.lines;
   read : g.R.Source.failures l.lines.reader ≡ g.R.Source.failures l.fn.lines.reader;
