@@ -122,7 +122,7 @@ impl Seen {
                 self.has_refusal = self.has_refusal || self.part == LinePart::Name;
                 self.lines = self.lines.saturating_add(1);
                 self.part = LinePart::Nothing;
-            } else {
+            } else if self.part != LinePart::Other {
                 self.part = part_after(self.part, *byte);
             }
         }
