@@ -3,20 +3,92 @@
 use sbl_changes::{ChangeRow, FamilyRow, StemClass, WordOutcome, WordRow};
 use std::alloc::{AllocError, Global};
 
-/// A word with its stem.
-pub(crate) fn stem<'a>(word: &'a [char], stem: &'a [char]) -> WordRow<'a> {
-    WordRow {
-        word,
-        outcome: WordOutcome::Stem(stem),
-    }
+/// A row with its own characters.
+#[derive(Drop)]
+pub(crate) struct OwnRow {
+    word: Vec<char>,
+    stem: Vec<char>,
+    // Why the run of the word is refused; then there is no stem.
+    refusal: Option<String>,
 }
 
-/// A word whose run is refused.
-pub(crate) fn refused<'a>(word: &'a [char], name: &'a str) -> WordRow<'a> {
-    WordRow {
-        word,
-        outcome: WordOutcome::Refused(name),
+/// The row of a text: `cats=cat` is a word and its stem, `cats!Steps` a word whose run is refused.
+fn row_in(alloc: Global, text: &str) -> Result<OwnRow, AllocError> {
+    if let Some((word, name)) = text.split_once('!') {
+        return Ok(OwnRow {
+            word: word.chars().collect(alloc)?,
+            stem: Vec::new(alloc),
+            refusal: Some(String::from_str(alloc, name)?),
+        });
     }
+    let (word, stem) = text.split_once('=').unwrap_or((text, ""));
+    Ok(OwnRow {
+        word: word.chars().collect(alloc)?,
+        stem: stem.chars().collect(alloc)?,
+        refusal: None,
+    })
+}
+
+/// The rows of a text, which are separated by spaces.
+pub(crate) fn rows_in(alloc: Global, text: &str) -> Result<Vec<OwnRow>, AllocError> {
+    let mut rows = Vec::new(alloc);
+    for part in text.split_whitespace() {
+        rows.push(row_in(alloc, part)?)?;
+    }
+    Ok(rows)
+}
+
+/// The rows as the calls take them.
+pub(crate) fn view(alloc: Global, rows: &[OwnRow]) -> Result<Vec<WordRow<'_>>, AllocError> {
+    let mut views = Vec::new(alloc);
+    for row in rows {
+        let outcome = match &row.refusal {
+            None => WordOutcome::Stem(&row.stem),
+            Some(name) => WordOutcome::Refused(name.as_str()),
+        };
+        views.push(WordRow {
+            word: &row.word,
+            outcome,
+        })?;
+    }
+    Ok(views)
+}
+
+/// Lists of words: the words are separated by spaces, and the lists by ` / `.
+pub(crate) fn lists_in(alloc: Global, text: &str) -> Result<Vec<Vec<Vec<char>>>, AllocError> {
+    let mut lists = Vec::new(alloc);
+    let mut list = Vec::new(alloc);
+    for part in text.split_whitespace() {
+        if part == "/" {
+            lists.push(list)?;
+            list = Vec::new(alloc);
+        } else {
+            list.push(part.chars().collect(alloc)?)?;
+        }
+    }
+    lists.push(list)?;
+    Ok(lists)
+}
+
+/// The words of a list as the calls take them.
+fn view_list(alloc: Global, list: &[Vec<char>]) -> Result<Vec<&[char]>, AllocError> {
+    let mut views = Vec::new(alloc);
+    for word in list {
+        views.push(word.as_slice())?;
+    }
+    Ok(views)
+}
+
+/// The lists as the calls take them.
+pub(crate) fn view_lists(
+    alloc: Global,
+    lists: &[Vec<Vec<char>>],
+) -> Result<Vec<Vec<&[char]>>, AllocError> {
+    let mut views = Vec::new(alloc);
+    for list in lists {
+        views.push(view_list(alloc, list)?)?;
+    }
+    Ok(views)
 }
 
 /// Appends the characters.

@@ -1,6 +1,6 @@
 //! Figures about rows.
 
-use crate::tests::lists::{refused, stem};
+use crate::tests::lists::{rows_in, view};
 use sbl_changes::{RowStats, stats};
 use std::test::Fail;
 
@@ -20,14 +20,8 @@ fn no_rows_have_no_figures(rt: HostRuntime) -> Result<(), Fail> {
 
 #[test]
 fn figures_of_six_words(rt: HostRuntime) -> Result<(), Fail> {
-    let rows = [
-        stem(&['a'], &['x']),
-        stem(&['x'], &['x']),
-        refused(&['b'], "Steps"),
-        stem(&['c'], &['y']),
-        stem(&['d'], &['x']),
-        stem(&['y', 'y'], &['y', 'y']),
-    ];
+    let rows = rows_in(rt.alloc(), "a=x x=x b!Steps c=y d=x yy=yy")?;
+    let rows = view(rt.alloc(), &rows)?;
     let figures = RowStats {
         words: 6,
         refused: 1,
