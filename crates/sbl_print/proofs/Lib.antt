@@ -1,3 +1,4 @@
 pub mod Adding
 pub mod Spelled
 pub mod Spaced
+pub mod Placed

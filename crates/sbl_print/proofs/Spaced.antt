@@ -9,8 +9,10 @@ use Rattle.sbl_text.specs.Spaced.{Spaced, are_white, lexeme_text, lexemes_of, sp
 use Rattle.sbl_ast.specs.Terminal.{Terminal, lexeme_as}
 use Rattle.sbl_ast.specs.Terminal as t
 use Rattle.sbl_ast.specs.Tree.{Plain, declaration, escapes, macro, routine, grouping, Item, plain, backward, spelled_plain, spelled_plains, spelled_item, spelled_items, written}
+use Rattle.sbl_ast.specs.Places.{placed_plain, tokens}
 use Rattle.sbl_print.specs.Canonical.{token_text, space, line_feed, line, plain_text, item_text, canonical}
 use Rattle.sbl_print.specs.Spaced.{IsSpaced}
+use Rattle.sbl_print.proofs.Placed.{plain_tokens}
 use Rattle.sbl_print.proofs.Spelled.{plain_before, plains_before, item_before}
 
 one_byte : (c : ℕ) → c < 128 → encode_utf8_all (c ∷ []) ≡ c ∷ []
@@ -82,12 +84,15 @@ of_same {us} {vs} {x} e h = record { spaced = h.spaced; tokens = h.tokens ∙ ap
 
 -- ---- items
 
+placed_spaced : (p : Plain) → IsSpaced (tokens (placed_plain p [])) (plain_text p)
+placed_spaced (declaration k ns) = line_spaced _ _
+placed_spaced (escapes a b) = line_spaced _ _
+placed_spaced (macro n b q) = line_spaced _ _
+placed_spaced (routine n c os) = line_spaced _ _
+placed_spaced (grouping n a xs) = line_spaced _ _
+
 plain_spaced : (p : Plain) → IsSpaced (spelled_plain p []) (plain_text p)
-plain_spaced (declaration k ns) = line_spaced _ _
-plain_spaced (escapes a b) = line_spaced _ _
-plain_spaced (macro n b q) = line_spaced _ _
-plain_spaced (routine n c os) = line_spaced _ _
-plain_spaced (grouping n a xs) = line_spaced _ _
+plain_spaced p = of_same (plain_tokens p []) (placed_spaced p)
 
 plains_spaced : (ps : List Plain) → IsSpaced (spelled_plains ps []) (flat_map plain_text ps)
 plains_spaced [] = nothing_spaced

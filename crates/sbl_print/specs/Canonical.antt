@@ -4,7 +4,8 @@ use Rattle.std.specs.List.{flat_map, join_by}
 use Rattle.sbl_text.specs.Spaced.{lexeme_text}
 use Rattle.sbl_ast.specs.Terminal.{Terminal, lexeme_as}
 use Rattle.sbl_ast.specs.Terminal as t
-use Rattle.sbl_ast.specs.Tree.{Plain, Item, plain, backward, spelled_plain}
+use Rattle.sbl_ast.specs.Tree.{Plain, Item, plain, backward}
+use Rattle.sbl_ast.specs.Places.{placed_plain, tokens}
 
 -- The text of a token, as UTF-8 bytes: words and signs as in the language, a number as its value in decimal, a literal
 -- as its spelling in quotes, names, insert characters and names of macros unchanged.
@@ -23,7 +24,7 @@ line ts = join_by token_text space ts ++ line_feed
 
 -- an item that is allowed in a `backwardmode` is one line of its tokens
 abbrev pub plain_text : Plain → List ℕ
-plain_text p = line (spelled_plain p [])
+plain_text p = line (tokens (placed_plain p []))
 
 -- a `backwardmode` is the line `backwardmode (`, its items, and the line `)`
 abbrev pub item_text : Item → List ℕ
