@@ -7,8 +7,9 @@ use Rattle.sbl_ast.specs.Terminal.{Terminal}
 use Rattle.sbl_ast.specs.Terminal as t
 use Rattle.sbl_ast.specs.Tree.{Expression, expression, Sums, no_sums, sum, Product, product, Scales, no_scales, scale, Factor, negated, bracketed, numeral, variable, fixed, length_of, Entry, entry, Command, bracket, simple_, literal_, name_, non_, prefixed, counted, move_, named, splice_, setlimit_, assign_, compare_, compare_values_, among_, Rows, no_rows, row, Others, no_others, joined, Starter, no_starter, starter, Groups, bare, group, Term, term, Plain, declaration, escapes, macro, routine, grouping, argument_terminal, spelled_expression, spelled_sums, spelled_product, spelled_scales, spelled_factor, spelled_entry, spelled_entries, spelled, spelled_rows, spelled_others, spelled_starter, spelled_groups, spelled_names, spelled_base, spelled_terms, spelled_plain}
 use Rattle.sbl_ast.specs.Places.{AtDepth, placed_expression, placed_sums, placed_product, placed_scales, placed_factor, placed_entry, placed_entries, placed, placed_rows, placed_others, placed_starter, placed_groups, placed_names, placed_base, placed_terms, placed_plain, tokens}
-use Rattle.sbl_print.specs.Adding.{Begins}
-use Rattle.sbl_print.specs.Canonical.{token_text, space}
+use Rattle.sbl_print.specs.Adding.{token_text, Begins, BeginsLine}
+use Rattle.sbl_print.specs.Canonical.{space}
+use Rattle.sbl_print.proofs.Roles.{joined_is}
 
 abbrev Ts : Type 0
 Ts = List Terminal
@@ -103,5 +104,8 @@ plain_tokens (routine n c os) ps = cons t.define (cons (t.name n) (cons t.as_ (t
 plain_tokens (grouping n a xs) ps = cons t.define (cons (t.name n) (cons (argument_terminal a) (terms_tokens xs ps)))
 
 -- a line that begins with the tokens of an item as written begins with its tokens
-pub begins_placed : (old new : List ℕ) (p : Plain) → Begins old new (spelled_plain p []) → Begins old new (tokens (placed_plain p []))
-begins_placed old new p h = h ∙ ap (λ (ts : Ts). old ++ join_by token_text space ts) (sym (plain_tokens p []))
+pub begins_placed : (old new : List ℕ) (p : Plain) → Begins old new (spelled_plain p []) → BeginsLine old new (tokens (placed_plain p []))
+begins_placed old new p h =
+    h
+    ∙ ap (λ (ts : Ts). old ++ join_by token_text space ts) (sym (plain_tokens p []))
+    ∙ ap (λ (b : List ℕ). old ++ b) (joined_is (tokens (placed_plain p [])))
