@@ -89,10 +89,8 @@ IsSettingAfter s (Limit n) t = (is_limit n ≡ true) × (t.script ≡ s.setting.
 abbrev pub is_of_script : Edit → Bool
 is_of_script (Add word) = false
 is_of_script (Remove word) = false
-is_of_script (Replace what text) = true
-is_of_script (Whole bytes) = true
-is_of_script (Install script) = true
 is_of_script (Limit n) = false
+is_of_script _ = true
 
 -- ---- words and runs
 
@@ -100,10 +98,7 @@ is_of_script (Limit n) = false
 abbrev pub words_after : Contents → Edit → List (List ℕ)
 words_after s (Add word) = s.words ++ word ∷ []
 words_after s (Remove word) = without word s.words
-words_after s (Replace what text) = s.words
-words_after s (Whole bytes) = s.words
-words_after s (Install script) = s.words
-words_after s (Limit n) = s.words
+words_after s _ = s.words
 
 abbrev pub smaller : ℕ → ℕ → ℕ
 smaller m n = if nat_le m n then m else n
@@ -167,12 +162,8 @@ IsVerdict s e (Some f) t = (IsRefused s e f ⊎ IsMeterFull s e f) × (t ≡ s)
 
 -- whether the edit may need memory
 abbrev pub wants_memory : Edit → Bool
-wants_memory (Add word) = true
 wants_memory (Remove word) = false
-wants_memory (Replace what text) = true
-wants_memory (Whole bytes) = true
-wants_memory (Install script) = true
-wants_memory (Limit n) = true
+wants_memory _ = true
 
 -- whether the edit is refused for its text; every other refusal is found without an allocation
 abbrev pub is_of_text : EditFault → Bool

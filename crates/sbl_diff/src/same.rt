@@ -1,6 +1,12 @@
 //! Whether two parts of trees are the same.
 
 ghost use Rattle.std.specs.Prelude.{◌≡◌, ◌&&◌, map, string_bytes};
+ghost use Rattle.std.specs.Bool.{beq};
+ghost use Rattle.std.specs.Cmp.Lexicographic.{pointwise};
+ghost use Rattle.std.specs.Option.{option_eq};
+ghost use Rattle.std.specs.Str.{bytes_eq};
+ghost use denote.Enum.Bare.{sameb};
+ghost use Rattle.sbl_ast.specs.contracts.tree.Base as base;
 ghost use Rattle.sbl_ast.specs.View.{view_argument, view_entry, view_expression, view_factor, view_group, view_literal, view_name, view_product, view_scales, view_sums, view_term};
 ghost use Rattle.sbl_machine.specs.Same as spec;
 
@@ -10,12 +16,11 @@ use sbl_ast::{
 
 /// Whether two flags are the same.
 pub(crate) fn same_flag(one: bool, other: bool) -> bool
-    ensures { result ≡ spec.same_flag one other }
+    ensures { result ≡ beq one other }
 {
     match (one, other) {
-        (true, other) => other,
-        (false, true) => false,
-        (false, false) => true,
+        (true, true) | (false, false) => true,
+        (true, false) | (false, true) => false,
     }
 }
 
@@ -152,7 +157,7 @@ fn same_factor(one: &Factor, other: &Factor) -> bool
 }
 
 fn same_condition(one: &Option<String>, other: &Option<String>) -> bool
-    ensures { result ≡ spec.same_condition (view_name one.now) (view_name other.now) }
+    ensures { result ≡ option_eq bytes_eq (view_name one.now) (view_name other.now) }
 {
     match (one, other) {
         (None, None) => true,
@@ -169,7 +174,7 @@ fn same_entry(one: &Entry, other: &Entry) -> bool
 
 /// Whether two lists of strings of an among are the same.
 pub(crate) fn same_entries(one: &Vec<Entry>, other: &Vec<Entry>) -> bool
-    ensures { result ≡ spec.same_entries (map view_entry one.now.items) (map view_entry other.now.items) }
+    ensures { result ≡ pointwise spec.same_entry (map view_entry one.now.items) (map view_entry other.now.items) }
 {
     let mut others = other.as_slice();
     for first in one {
@@ -186,14 +191,14 @@ pub(crate) fn same_entries(one: &Vec<Entry>, other: &Vec<Entry>) -> bool
 
 /// Whether two groups have the same strings.
 pub(crate) fn same_strings(one: &Group, other: &Group) -> bool
-    ensures { result ≡ (spec.same_entry (view_group one.now).first (view_group other.now).first && spec.same_entries (view_group one.now).others (view_group other.now).others) }
+    ensures { result ≡ (spec.same_entry (view_group one.now).first (view_group other.now).first && pointwise spec.same_entry (view_group one.now).others (view_group other.now).others) }
 {
     same_entry(&one.first, &other.first) && same_entries(&one.others, &other.others)
 }
 
 /// Whether two lists of names are the same.
 pub(crate) fn same_names(one: &Vec<String>, other: &Vec<String>) -> bool
-    ensures { result ≡ spec.same_names (map string_bytes one.now.items) (map string_bytes other.now.items) }
+    ensures { result ≡ pointwise bytes_eq (map string_bytes one.now.items) (map string_bytes other.now.items) }
 {
     let mut others = other.as_slice();
     for first in one {
@@ -210,7 +215,7 @@ pub(crate) fn same_names(one: &Vec<String>, other: &Vec<String>) -> bool
 
 /// Whether two bases are the same, or there is neither.
 pub(crate) fn same_base(one: &Option<Base>, other: &Option<Base>) -> bool
-    ensures { result ≡ spec.same_base one.now other.now }
+    ensures { result ≡ option_eq (sameb base.the_type) one.now other.now }
 {
     match (one, other) {
         (None, None) => true,
@@ -221,7 +226,7 @@ pub(crate) fn same_base(one: &Option<Base>, other: &Option<Base>) -> bool
 
 /// Whether two lists of terms are the same.
 pub(crate) fn same_terms(one: &Vec<Term>, other: &Vec<Term>) -> bool
-    ensures { result ≡ spec.same_terms (map view_term one.now.items) (map view_term other.now.items) }
+    ensures { result ≡ pointwise spec.same_term (map view_term one.now.items) (map view_term other.now.items) }
 {
     let mut others = other.as_slice();
     for first in one {

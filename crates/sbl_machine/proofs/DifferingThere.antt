@@ -2,9 +2,14 @@
 use Rattle.std.proofs.Common.{◌≡◌, ◌∙◌, ◌&&◌, ℕ, Bool, true, false, nat_eq, if◌then◌else◌, List, [], ◌∷◌, ◌++◌, map, Option, Some, None, refl, ap, subst}
 use Rattle.std.specs.Prelude.{⊤}
 use Rattle.std.specs.List.{AllByRecursion, list_all}
+use Rattle.std.specs.Cmp.Lexicographic.{pointwise}
+use Rattle.std.specs.Option.{option_eq}
 use Rattle.std.specs.Str.{bytes_eq}
 use Rattle.std.proofs.lemmas.List.Folds.{list_all-append}
 use Rattle.std.proofs.lemmas.Option.{none-some, same_Some}
+use denote.Enum.Bare.{sameb}
+use Rattle.sbl_ast.specs.contracts.tree.Base as base
+use Rattle.sbl_ast.specs.contracts.tree.DeclarationKind as kind
 use Rattle.sbl_ast.specs.Order.{ItemInMode, in_mode, in_order}
 use Rattle.sbl_ast.specs.declared.mode.Mode.TheVariants.{Backward}
 use Rattle.sbl_ast.specs.declared.tree.DeclarationKind.TheVariants as kinds
@@ -14,7 +19,7 @@ use Rattle.sbl_compiler.specs.Regions.{behind}
 use Rattle.sbl_machine.specs.DifferLaws.{DifferingAreThere}
 use Rattle.sbl_machine.specs.Differs.{when, join, differ, differ_others, items_by, differ_plain, differ_plains, differ_item, differ_items}
 use Rattle.sbl_machine.specs.Marks.{has_item}
-use Rattle.sbl_machine.specs.Same.{same_argument, same_base, same_kind, same_names, same_quoted, same_terms}
+use Rattle.sbl_machine.specs.Same.{same_argument, same_quoted, same_term}
 use Rattle.sbl_machine.specs.Touched.{Item', Among, Grouping, Names', names_of}
 use Rattle.sbl_machine.proofs.DiffersAgree.{halves, if_so, none_listed}
 use Rattle.sbl_machine.proofs.EditsAgree.{first_name, grouping_more, routine_more}
@@ -54,14 +59,14 @@ module _ (names : Names') where
   terms_there n has false = also _ _ has refl
 
   plain_there : (x y : Plain) (zs : List Item') → differ_plain x y ≡ Some zs → HasPlain x → There zs
-  plain_there (declaration k ms) (declaration l ns) zs is has = none_there (same_kind k l && same_names ms ns) zs is
+  plain_there (declaration k ms) (declaration l ns) zs is has = none_there (sameb kind.the_type k l && pointwise bytes_eq ms ns) zs is
   plain_there (escapes a b) (escapes c d) zs is has = none_there (nat_eq a c && nat_eq b d) zs is
-  plain_there (macro m b q) (macro n c r) zs is has = none_there (bytes_eq m n && (same_base b c && same_quoted q r)) zs is
+  plain_there (macro m b q) (macro n c r) zs is has = none_there (bytes_eq m n && (option_eq (sameb base.the_type) b c && same_quoted q r)) zs is
   plain_there (routine m c os) (routine n d ps) zs is has =
       let o = join (differ 0 c d) (differ_others (behind c 0) os ps) in
       subst There (same_Some (items_by m o) zs (if_so _ _ zs is).1) (body_there m has o)
   plain_there (grouping m a xs) (grouping n b ys) zs is has =
-      let same = same_argument a b && same_terms xs ys in
+      let same = same_argument a b && pointwise same_term xs ys in
       subst There (same_Some (if same then [] else Grouping m ∷ []) zs (if_so _ _ zs is).1) (terms_there m has same)
   plain_there (declaration x0 x1) (escapes y0 y1) zs is has = absurd (none-some zs is)
   plain_there (declaration x0 x1) (macro y0 y1 y2) zs is has = absurd (none-some zs is)

@@ -5,6 +5,7 @@ use Rattle.std.specs.Option.{option_or}
 use Rattle.std.proofs.lemmas.Bool.{eqb-true}
 use Rattle.std.proofs.lemmas.List.Folds.{list_all-append}
 use Rattle.std.proofs.lemmas.Option.{none-some, same_Some}
+use Rattle.std.specs.Cmp.Lexicographic.{pointwise}
 use Rattle.sbl_ast.specs.Counts.{count_in_among}
 use Rattle.sbl_ast.specs.Tree.{Argument, Term, Command, Rows, Others, Starter, Groups, bracket, simple_, literal_, name_, non_, prefixed, counted, move_, named, splice_, setlimit_, assign_, compare_, compare_values_, among_, no_rows, row, no_others, joined, no_starter, starter, bare, group, Plain, declaration, escapes, macro, routine, grouping, Item, plain, backward}
 use Rattle.sbl_compiler.specs.Regions.{behind, behind_rows, behind_others, behind_starter, behind_groups}
@@ -15,7 +16,7 @@ use Rattle.sbl_machine.specs.BuiltFrom.{affected_by}
 use Rattle.sbl_machine.specs.DifferLaws.{DifferingAgree, DifferingStay}
 use Rattle.sbl_machine.specs.Frame.{AgreeOutside}
 use Rattle.sbl_machine.specs.Holes.{hole, with_holes, rows_with_holes, others_with_holes, starter_with_holes, groups_with_holes, holed_plain, holed_item}
-use Rattle.sbl_machine.specs.Same.{same_argument, same_terms}
+use Rattle.sbl_machine.specs.Same.{same_argument, same_term}
 use Rattle.sbl_machine.specs.Touched.{Item', Routine, Among, Grouping}
 use Rattle.sbl_machine.proofs.EditsAgree.{unmet_by_one_stay}
 use Rattle.sbl_machine.proofs.HoledPuts.{behind_is, hole_same}
@@ -451,7 +452,7 @@ module _ (picked : Item' → Bool) where
       (λ i. if picked (Routine n) then routine n (bracket no_rows) no_others else routine n (x.0 i) (y.0 i))
 
   -- two lists of terms of one grouping
-  groupings : (n : List ℕ) (a b : Argument) (xs ys : List Term) (same : Bool) → (same_argument a b && same_terms xs ys) ≡ same → Picked (if same then [] else Grouping n ∷ [])
+  groupings : (n : List ℕ) (a b : Argument) (xs ys : List Term) (same : Bool) → (same_argument a b && pointwise same_term xs ys) ≡ same → Picked (if same then [] else Grouping n ∷ [])
       → holed_plain picked (grouping n a xs) ≡ holed_plain picked (grouping n b ys)
   groupings n a b xs ys true e all =
       let h = both _ _ e in
@@ -485,7 +486,7 @@ module _ (picked : Item' → Bool) where
       bodies m c d os ps o refl (ap (list_all picked) e ∙ all) ∙ ap (λ (x : List ℕ). holed_plain picked (routine x d ps)) (name_is m n h.0)
   plain_agree (grouping m a xs) (grouping n b ys) zs is all =
       let h = if_so _ _ zs is in
-      let same = same_argument a b && same_terms xs ys in
+      let same = same_argument a b && pointwise same_term xs ys in
       let e = same_Some (if same then [] else Grouping m ∷ []) zs h.1 in
       groupings m a b xs ys same refl (ap (list_all picked) e ∙ all) ∙ ap (λ (x : List ℕ). holed_plain picked (grouping x b ys)) (name_is m n h.0)
   plain_agree (declaration x0 x1) (escapes y0 y1) zs is all = absurd (none-some zs is)

@@ -1,9 +1,12 @@
 -- Parts of trees that are the same are equal.
 use Rattle.std.proofs.Common.{◌≡◌, ◌∙◌, ℕ, Bool, true, false, ◌&&◌, List, [], ◌∷◌, Option, Some, None, refl, sym, ap}
+use Rattle.std.specs.Bool.{beq}
+use Rattle.std.specs.Cmp.Lexicographic.{pointwise}
+use Rattle.std.specs.Option.{option_eq}
 use Rattle.std.specs.Str.{bytes_eq}
 use Rattle.std.proofs.lemmas.Bool.{eqb-true, true≢false}
 use Rattle.std.proofs.lemmas.Slice.Eq.{bytes_eq-Decides}
-use denote.Enum.Bare.{same_true}
+use denote.Enum.Bare.{same_true, sameb}
 use Rattle.sbl_ast.specs.contracts.tree.Simple as simple
 use Rattle.sbl_ast.specs.contracts.tree.Prefix as prefix
 use Rattle.sbl_ast.specs.contracts.tree.Count as times
@@ -34,7 +37,7 @@ use Rattle.sbl_ast.specs.declared.tree.DeclarationKind.{DeclarationKind}
 use Rattle.sbl_ast.specs.declared.tree.Base.{Base}
 use Rattle.sbl_ast.specs.Terminal.{Quoted}
 use Rattle.sbl_ast.specs.Tree.{Argument, written_out, by_name, Expression, expression, Sums, no_sums, sum, Product, product, Scales, no_scales, scale, Factor, negated, bracketed, numeral, variable, fixed, length_of, Entry, entry, Term, term}
-use Rattle.sbl_machine.specs.Same.{same_additive, same_argument, same_assignment, same_base, same_comparison, same_condition, same_constant, same_entries, same_entry, same_expression, same_factor, same_flag, same_joiner, same_kind, same_move, same_multiplicative, same_names, same_naming, same_prefix, same_product, same_quoted, same_scales, same_simple, same_splicing, same_sums, same_terms, same_times}
+use Rattle.sbl_machine.specs.Same.{same_argument, same_entry, same_expression, same_factor, same_product, same_quoted, same_scales, same_sums, same_term}
 
 pub both : (a b : Bool) → (a && b) ≡ true → (a ≡ true) × (b ≡ true)
 both true b e = (refl, e)
@@ -46,47 +49,48 @@ never e = absurd (true≢false (sym e))
 pub name_is : (m n : List ℕ) → bytes_eq m n ≡ true → m ≡ n
 name_is m n e = (bytes_eq-Decides m n).0 e
 
-pub simple_is : (x y : Simple) → same_simple x y ≡ true → x ≡ y
+pub simple_is : (x y : Simple) → sameb simple.the_type x y ≡ true → x ≡ y
 simple_is x y e = same_true simple.the_type tt x y e
 
-pub prefix_is : (x y : Prefix) → same_prefix x y ≡ true → x ≡ y
+pub prefix_is : (x y : Prefix) → sameb prefix.the_type x y ≡ true → x ≡ y
 prefix_is x y e = same_true prefix.the_type tt x y e
 
-pub times_is : (x y : Count) → same_times x y ≡ true → x ≡ y
+pub times_is : (x y : Count) → sameb times.the_type x y ≡ true → x ≡ y
 times_is x y e = same_true times.the_type tt x y e
 
-pub move_is : (x y : Move) → same_move x y ≡ true → x ≡ y
+pub move_is : (x y : Move) → sameb move.the_type x y ≡ true → x ≡ y
 move_is x y e = same_true move.the_type tt x y e
 
-pub naming_is : (x y : Naming) → same_naming x y ≡ true → x ≡ y
+pub naming_is : (x y : Naming) → sameb naming.the_type x y ≡ true → x ≡ y
 naming_is x y e = same_true naming.the_type tt x y e
 
-pub splicing_is : (x y : Splice) → same_splicing x y ≡ true → x ≡ y
+pub splicing_is : (x y : Splice) → sameb splicing.the_type x y ≡ true → x ≡ y
 splicing_is x y e = same_true splicing.the_type tt x y e
 
-pub additive_is : (x y : Additive) → same_additive x y ≡ true → x ≡ y
+pub additive_is : (x y : Additive) → sameb additive.the_type x y ≡ true → x ≡ y
 additive_is x y e = same_true additive.the_type tt x y e
 
-pub multiplicative_is : (x y : Multiplicative) → same_multiplicative x y ≡ true → x ≡ y
+pub multiplicative_is : (x y : Multiplicative) → sameb multiplicative.the_type x y ≡ true → x ≡ y
 multiplicative_is x y e = same_true multiplicative.the_type tt x y e
 
-pub assignment_is : (x y : Assignment) → same_assignment x y ≡ true → x ≡ y
+pub assignment_is : (x y : Assignment) → sameb assignment.the_type x y ≡ true → x ≡ y
 assignment_is x y e = same_true assignment.the_type tt x y e
 
-pub comparison_is : (x y : Comparison) → same_comparison x y ≡ true → x ≡ y
+pub comparison_is : (x y : Comparison) → sameb comparison.the_type x y ≡ true → x ≡ y
 comparison_is x y e = same_true comparison.the_type tt x y e
 
-pub constant_is : (x y : Constant) → same_constant x y ≡ true → x ≡ y
+pub constant_is : (x y : Constant) → sameb constant.the_type x y ≡ true → x ≡ y
 constant_is x y e = same_true constant.the_type tt x y e
 
-pub joiner_is : (x y : Joiner) → same_joiner x y ≡ true → x ≡ y
+pub joiner_is : (x y : Joiner) → sameb joiner.the_type x y ≡ true → x ≡ y
 joiner_is x y e = same_true joiner.the_type tt x y e
 
-pub kind_is : (x y : DeclarationKind) → same_kind x y ≡ true → x ≡ y
+pub kind_is : (x y : DeclarationKind) → sameb kind.the_type x y ≡ true → x ≡ y
 kind_is x y e = same_true kind.the_type tt x y e
 
-pub flag_is : (x y : Bool) → same_flag x y ≡ true → x ≡ y
-flag_is true b e = sym e
+pub flag_is : (x y : Bool) → beq x y ≡ true → x ≡ y
+flag_is true true e = refl
+flag_is true false e = never e
 flag_is false true e = never e
 flag_is false false e = refl
 
@@ -180,7 +184,7 @@ mutual
   factor_is (length_of a) (variable b) e = never e
   factor_is (length_of a) (fixed b) e = never e
 
-condition_is : (x y : Option (List ℕ)) → same_condition x y ≡ true → x ≡ y
+condition_is : (x y : Option (List ℕ)) → option_eq bytes_eq x y ≡ true → x ≡ y
 condition_is None None e = refl
 condition_is (Some m) (Some n) e = ap Some (name_is m n e)
 condition_is None (Some n) e = never e
@@ -193,7 +197,7 @@ entry_is (entry q m) (entry r n) e =
     let b = condition_is m n h.1 in
     (λ i. entry (a i) (b i))
 
-pub entries_are : (x y : List Entry) → same_entries x y ≡ true → x ≡ y
+pub entries_are : (x y : List Entry) → pointwise same_entry x y ≡ true → x ≡ y
 entries_are [] [] e = refl
 entries_are (a ∷ xs) (b ∷ ys) e =
     let h = both _ _ e in
@@ -203,7 +207,7 @@ entries_are (a ∷ xs) (b ∷ ys) e =
 entries_are [] (b ∷ ys) e = never e
 entries_are (a ∷ xs) [] e = never e
 
-pub names_are : (x y : List (List ℕ)) → same_names x y ≡ true → x ≡ y
+pub names_are : (x y : List (List ℕ)) → pointwise bytes_eq x y ≡ true → x ≡ y
 names_are [] [] e = refl
 names_are (a ∷ xs) (b ∷ ys) e =
     let h = both _ _ e in
@@ -213,20 +217,20 @@ names_are (a ∷ xs) (b ∷ ys) e =
 names_are [] (b ∷ ys) e = never e
 names_are (a ∷ xs) [] e = never e
 
-pub base_is : (x y : Option Base) → same_base x y ≡ true → x ≡ y
+pub base_is : (x y : Option Base) → option_eq (sameb base.the_type) x y ≡ true → x ≡ y
 base_is None None e = refl
 base_is (Some m) (Some n) e = ap Some (same_true base.the_type tt m n e)
 base_is None (Some n) e = never e
 base_is (Some m) None e = never e
 
-pub terms_are : (x y : List Term) → same_terms x y ≡ true → x ≡ y
+pub terms_are : (x y : List Term) → pointwise same_term x y ≡ true → x ≡ y
 terms_are [] [] e = refl
 terms_are (term o a ∷ xs) (term u b ∷ ys) e =
     let h = both _ _ e in
-    let j = both _ _ h.1 in
-    let c = additive_is o u h.0 in
-    let p = argument_is a b j.0 in
-    let q = terms_are xs ys j.1 in
+    let j = both _ _ h.0 in
+    let c = additive_is o u j.0 in
+    let p = argument_is a b j.1 in
+    let q = terms_are xs ys h.1 in
     (λ i. term (c i) (p i) ∷ q i)
 terms_are [] (term u b ∷ ys) e = never e
 terms_are (term o a ∷ xs) [] e = never e

@@ -1,9 +1,12 @@
 -- Each part of a tree is the same as itself.
 use Rattle.std.proofs.Common.{◌≡◌, ℕ, Bool, true, false, ◌&&◌, List, [], ◌∷◌, Option, Some, None, refl, sym}
+use Rattle.std.specs.Bool.{beq}
+use Rattle.std.specs.Cmp.Lexicographic.{pointwise}
+use Rattle.std.specs.Option.{option_eq}
 use Rattle.std.specs.Str.{bytes_eq}
 use Rattle.std.proofs.lemmas.Bool.{eq-eqb, true≢false}
 use Rattle.std.proofs.lemmas.Slice.Eq.{bytes_eq-Decides}
-use denote.Enum.Bare.{true_same}
+use denote.Enum.Bare.{sameb, true_same}
 use Rattle.sbl_ast.specs.contracts.tree.Additive as additive
 use Rattle.sbl_ast.specs.contracts.tree.Multiplicative as multiplicative
 use Rattle.sbl_ast.specs.contracts.tree.Constant as constant
@@ -11,7 +14,7 @@ use Rattle.sbl_ast.specs.contracts.tree.Base as base
 use Rattle.sbl_ast.specs.declared.tree.Base.{Base}
 use Rattle.sbl_ast.specs.Terminal.{Quoted}
 use Rattle.sbl_ast.specs.Tree.{Argument, written_out, by_name, Expression, expression, Sums, no_sums, sum, Product, product, Scales, no_scales, scale, Factor, negated, bracketed, numeral, variable, fixed, length_of, Entry, entry, Term, term}
-use Rattle.sbl_machine.specs.Same.{same_argument, same_base, same_condition, same_entries, same_entry, same_expression, same_factor, same_flag, same_names, same_product, same_quoted, same_scales, same_sums, same_terms}
+use Rattle.sbl_machine.specs.Same.{same_argument, same_entry, same_expression, same_factor, same_product, same_quoted, same_scales, same_sums, same_term}
 
 pub also : (a b : Bool) → a ≡ true → b ≡ true → (a && b) ≡ true
 also true b p q = q
@@ -20,7 +23,7 @@ also false b p q = absurd (true≢false (sym p))
 pub name_self : (n : List ℕ) → bytes_eq n n ≡ true
 name_self n = (bytes_eq-Decides n n).1 refl
 
-pub flag_self : (b : Bool) → same_flag b b ≡ true
+pub flag_self : (b : Bool) → beq b b ≡ true
 flag_self true = refl
 flag_self false = refl
 
@@ -54,25 +57,25 @@ mutual
   factor_self (fixed c) = true_same constant.the_type c c refl
   factor_self (length_of a) = argument_self a
 
-condition_self : (c : Option (List ℕ)) → same_condition c c ≡ true
+condition_self : (c : Option (List ℕ)) → option_eq bytes_eq c c ≡ true
 condition_self None = refl
 condition_self (Some n) = name_self n
 
 pub entry_self : (e : Entry) → same_entry e e ≡ true
 entry_self (entry q c) = also _ _ (quoted_self q) (condition_self c)
 
-pub entries_self : (es : List Entry) → same_entries es es ≡ true
+pub entries_self : (es : List Entry) → pointwise same_entry es es ≡ true
 entries_self [] = refl
 entries_self (e ∷ es) = also _ _ (entry_self e) (entries_self es)
 
-pub names_self : (ns : List (List ℕ)) → same_names ns ns ≡ true
+pub names_self : (ns : List (List ℕ)) → pointwise bytes_eq ns ns ≡ true
 names_self [] = refl
 names_self (n ∷ ns) = also _ _ (name_self n) (names_self ns)
 
-pub base_self : (b : Option Base) → same_base b b ≡ true
+pub base_self : (b : Option Base) → option_eq (sameb base.the_type) b b ≡ true
 base_self None = refl
 base_self (Some b) = true_same base.the_type b b refl
 
-pub terms_self : (ts : List Term) → same_terms ts ts ≡ true
+pub terms_self : (ts : List Term) → pointwise same_term ts ts ≡ true
 terms_self [] = refl
-terms_self (term o a ∷ ts) = also _ _ (true_same additive.the_type o o refl) (also _ _ (argument_self a) (terms_self ts))
+terms_self (term o a ∷ ts) = also _ _ (also _ _ (true_same additive.the_type o o refl) (argument_self a)) (terms_self ts)

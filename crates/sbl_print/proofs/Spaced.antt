@@ -9,8 +9,12 @@ use Rattle.sbl_text.specs.Spaced.{Spaced, are_white, lexeme_text, lexemes_of, sp
 use Rattle.sbl_ast.specs.Terminal.{Terminal, lexeme_as}
 use Rattle.sbl_ast.specs.Terminal as t
 use Rattle.sbl_ast.specs.Tree.{Plain, declaration, escapes, macro, routine, grouping, Item, plain, backward, spelled_plain, spelled_plains, spelled_item, spelled_items, written}
-use Rattle.sbl_print.specs.Canonical.{token_text, space, line_feed, line, plain_text, item_text, canonical}
+use Rattle.sbl_ast.specs.Places.{placed_plain, tokens}
+use Rattle.sbl_print.specs.Adding.{token_text}
+use Rattle.sbl_print.specs.Canonical.{space, line_feed, line, plain_text, item_text, canonical}
 use Rattle.sbl_print.specs.Spaced.{IsSpaced}
+use Rattle.sbl_print.proofs.Placed.{plain_tokens}
+use Rattle.sbl_print.proofs.Roles.{joined_is}
 use Rattle.sbl_print.proofs.Spelled.{plain_before, plains_before, item_before}
 
 one_byte : (c : ℕ) → c < 128 → encode_utf8_all (c ∷ []) ≡ c ∷ []
@@ -22,13 +26,16 @@ abbrev behind_first : Terminal → List Terminal → List Spaced
 behind_first x [] = record { lexeme = lexeme_as x; space = 10 } ∷ []
 behind_first x (y ∷ ys) = record { lexeme = lexeme_as x; space = 32 } ∷ behind_first y ys
 
-line_text : (x : Terminal) (xs : List Terminal) → spaced_text (behind_first x xs) ≡ line (x ∷ xs)
-line_text x [] =
+line_joined : (x : Terminal) (xs : List Terminal) → spaced_text (behind_first x xs) ≡ join_by token_text space (x ∷ xs) ++ line_feed
+line_joined x [] =
     ap (λ (b : List ℕ). token_text x ++ (b ++ [])) (one_byte 10 (omega arith)) ∙ sym (append_assoc (token_text x) [] line_feed)
-line_text x (y ∷ ys) =
+line_joined x (y ∷ ys) =
     ap (λ (b : List ℕ). token_text x ++ (b ++ spaced_text (behind_first y ys))) (one_byte 32 (omega arith))
-    ∙ ap (λ (b : List ℕ). token_text x ++ 32 ∷ b) (line_text y ys)
+    ∙ ap (λ (b : List ℕ). token_text x ++ 32 ∷ b) (line_joined y ys)
     ∙ sym (append_assoc (token_text x) (32 ∷ join_by token_text space (y ∷ ys)) line_feed)
+
+line_text : (x : Terminal) (xs : List Terminal) → spaced_text (behind_first x xs) ≡ line (x ∷ xs)
+line_text x xs = line_joined x xs ∙ ap (λ (b : List ℕ). b ++ line_feed) (joined_is (x ∷ xs))
 
 line_tokens : (x : Terminal) (xs : List Terminal) → lexemes_of (behind_first x xs) ≡ map lexeme_as (x ∷ xs)
 line_tokens x [] = refl
@@ -82,12 +89,15 @@ of_same {us} {vs} {x} e h = record { spaced = h.spaced; tokens = h.tokens ∙ ap
 
 -- ---- items
 
+placed_spaced : (p : Plain) → IsSpaced (tokens (placed_plain p [])) (plain_text p)
+placed_spaced (declaration k ns) = line_spaced _ _
+placed_spaced (escapes a b) = line_spaced _ _
+placed_spaced (macro n b q) = line_spaced _ _
+placed_spaced (routine n c os) = line_spaced _ _
+placed_spaced (grouping n a xs) = line_spaced _ _
+
 plain_spaced : (p : Plain) → IsSpaced (spelled_plain p []) (plain_text p)
-plain_spaced (declaration k ns) = line_spaced _ _
-plain_spaced (escapes a b) = line_spaced _ _
-plain_spaced (macro n b q) = line_spaced _ _
-plain_spaced (routine n c os) = line_spaced _ _
-plain_spaced (grouping n a xs) = line_spaced _ _
+plain_spaced p = of_same (plain_tokens p []) (placed_spaced p)
 
 plains_spaced : (ps : List Plain) → IsSpaced (spelled_plains ps []) (flat_map plain_text ps)
 plains_spaced [] = nothing_spaced

@@ -1,8 +1,14 @@
 -- What is appended to a line that has a token.
 use Rattle.std.specs.Prelude.{◌≡◌, ℕ, List, ◌++◌}
 use Rattle.std.specs.List.{flat_map, join_by}
-use Rattle.sbl_ast.specs.Terminal.{Terminal}
-use Rattle.sbl_print.specs.Canonical.{token_text, space}
+use Rattle.sbl_text.specs.Spaced.{lexeme_text}
+use Rattle.sbl_ast.specs.Terminal.{Terminal, lexeme_as}
+use Rattle.sbl_print.specs.Canonical.{space}
+use Rattle.sbl_print.specs.Roles.{role_text}
+
+-- the text of the lexeme that the table of roles names
+abbrev pub token_text : Terminal → List ℕ
+token_text x = lexeme_text (lexeme_as x)
 
 -- tokens, each with a space before it
 unfoldable pub more : List Terminal → List ℕ
@@ -15,3 +21,7 @@ Adds old new f = (rest : List Terminal) → new ++ more rest ≡ old ++ more (f 
 -- the appended text is that of these tokens at the start of a line
 abbrev pub Begins : List ℕ → List ℕ → List Terminal → Type 0
 Begins old new ts = new ≡ old ++ join_by token_text space ts
+
+-- the same, by roles
+abbrev pub BeginsLine : List ℕ → List ℕ → List Terminal → Type 0
+BeginsLine old new ts = new ≡ old ++ join_by role_text space ts

@@ -1,15 +1,11 @@
 -- The canonical text of a script.
 use Rattle.std.specs.Prelude.{ℕ, List, [], ◌∷◌, ◌++◌}
 use Rattle.std.specs.List.{flat_map, join_by}
-use Rattle.sbl_text.specs.Spaced.{lexeme_text}
-use Rattle.sbl_ast.specs.Terminal.{Terminal, lexeme_as}
+use Rattle.sbl_ast.specs.Terminal.{Terminal}
 use Rattle.sbl_ast.specs.Terminal as t
-use Rattle.sbl_ast.specs.Tree.{Plain, Item, plain, backward, spelled_plain}
-
--- The text of a token, as UTF-8 bytes: words and signs as in the language, a number as its value in decimal, a literal
--- as its spelling in quotes, names, insert characters and names of macros unchanged.
-abbrev pub token_text : Terminal → List ℕ
-token_text x = lexeme_text (lexeme_as x)
+use Rattle.sbl_ast.specs.Tree.{Plain, Item, plain, backward}
+use Rattle.sbl_ast.specs.Places.{placed_plain, tokens}
+use Rattle.sbl_print.specs.Roles.{role_text}
 
 abbrev pub space : List ℕ
 space = 32 ∷ []
@@ -19,11 +15,11 @@ line_feed = 10 ∷ []
 
 -- the tokens separated by single spaces, and a line feed
 abbrev pub line : List Terminal → List ℕ
-line ts = join_by token_text space ts ++ line_feed
+line ts = join_by role_text space ts ++ line_feed
 
 -- an item that is allowed in a `backwardmode` is one line of its tokens
 abbrev pub plain_text : Plain → List ℕ
-plain_text p = line (spelled_plain p [])
+plain_text p = line (tokens (placed_plain p []))
 
 -- a `backwardmode` is the line `backwardmode (`, its items, and the line `)`
 abbrev pub item_text : Item → List ℕ

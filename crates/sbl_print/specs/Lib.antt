@@ -1,4 +1,5 @@
 -- definitions that public contracts depend on
+pub mod Roles
 pub mod Canonical
 pub mod Spaced
 -- what the functions inside the crate promise each other; no public contract depends on these

@@ -3,11 +3,12 @@
 ghost use Rattle.std.specs.Prelude.{◌≡◌, ◌++◌, ◌∷◌, [], IfOk, OnOk, map, string_bytes};
 ghost use Rattle.std.specs.List.{flat_map};
 ghost use Rattle.sbl_ast.specs.Terminal as t;
-ghost use Rattle.sbl_ast.specs.Tree.{spelled_base, spelled_names, spelled_plain, spelled_terms};
+ghost use Rattle.sbl_ast.specs.Places.{placed_plain, tokens};
+ghost use Rattle.sbl_ast.specs.Tree.{spelled_base, spelled_names, spelled_terms};
 ghost use Rattle.sbl_ast.specs.Tree as trees;
 ghost use Rattle.sbl_ast.specs.View.{view_argument, view_item, view_items, view_literal, view_plain, view_row, view_term};
 ghost use Rattle.sbl_print.specs.Canonical.{canonical, item_text, plain_text};
-ghost use Rattle.sbl_print.specs.Adding.{Adds, Begins};
+ghost use Rattle.sbl_print.specs.Adding.{Adds, BeginsLine};
 
 use crate::commands::put_row;
 use crate::tokens::{
@@ -55,7 +56,7 @@ fn begin_declaration(
     kind: DeclarationKind,
     names: &Vec<String>,
 ) -> Result<(), AllocError>
-    ensures { OnOk result (Begins (string_bytes out.old) (string_bytes out.new) (spelled_plain (trees.declaration kind (map string_bytes names.now.items)) [])) }
+    ensures { OnOk result (BeginsLine (string_bytes out.old) (string_bytes out.new) (tokens (placed_plain (trees.declaration kind (map string_bytes names.now.items)) []))) }
 {
     out.push_str(declaration_text(kind))?;
     put_sign(out, Sign::Open)?;
@@ -66,7 +67,7 @@ fn begin_declaration(
 /// Appends `stringescapes` and its insert characters at the start of a line. Returns `AllocError` if an allocation
 /// fails.
 fn begin_escapes(out: &mut String, a: char, b: char) -> Result<(), AllocError>
-    ensures { OnOk result (Begins (string_bytes out.old) (string_bytes out.new) (spelled_plain (trees.escapes a b) [])) }
+    ensures { OnOk result (BeginsLine (string_bytes out.old) (string_bytes out.new) (tokens (placed_plain (trees.escapes a b) []))) }
 {
     out.push_str(Word::StringEscapes.text())?;
     put_inserts(out, a, b)
@@ -79,7 +80,7 @@ fn begin_macro(
     base: Option<Base>,
     value: &Literal,
 ) -> Result<(), AllocError>
-    ensures { OnOk result (Begins (string_bytes out.old) (string_bytes out.new) (spelled_plain (trees.macro (string_bytes name.now) base (view_literal value.now)) [])) }
+    ensures { OnOk result (BeginsLine (string_bytes out.old) (string_bytes out.new) (tokens (placed_plain (trees.macro (string_bytes name.now) base (view_literal value.now)) []))) }
 {
     out.push_str(Word::StringDef.text())?;
     put_macro_name(out, name)?;
@@ -94,7 +95,7 @@ fn begin_routine(
     name: &String,
     body: &RowOfCommands,
 ) -> Result<(), AllocError>
-    ensures { OnOk result (Begins (string_bytes out.old) (string_bytes out.new) (spelled_plain (trees.routine (string_bytes name.now) (view_row body.now).0 (view_row body.now).1) [])) }
+    ensures { OnOk result (BeginsLine (string_bytes out.old) (string_bytes out.new) (tokens (placed_plain (trees.routine (string_bytes name.now) (view_row body.now).0 (view_row body.now).1) []))) }
 {
     out.push_str(Word::Define.text())?;
     put_name(out, name)?;
@@ -109,7 +110,7 @@ fn begin_grouping(
     first: &Argument,
     others: &Vec<Term>,
 ) -> Result<(), AllocError>
-    ensures { OnOk result (Begins (string_bytes out.old) (string_bytes out.new) (spelled_plain (trees.grouping (string_bytes name.now) (view_argument first.now) (map view_term others.now.items)) [])) }
+    ensures { OnOk result (BeginsLine (string_bytes out.old) (string_bytes out.new) (tokens (placed_plain (trees.grouping (string_bytes name.now) (view_argument first.now) (map view_term others.now.items)) []))) }
 {
     out.push_str(Word::Define.text())?;
     put_name(out, name)?;
@@ -146,6 +147,7 @@ fn put_plains(alloc: Global, out: &mut String, plains: &Vec<Plain>) -> Result<()
 }
 
 /// Appends the lines of an item. Returns `AllocError` if an allocation fails.
+#[tactic(auto, unfolding(crate::specs::Roles::role_text))]
 fn put_item(alloc: Global, out: &mut String, item: &ScriptItem) -> Result<(), AllocError>
     ensures { OnOk result (string_bytes out.new ≡ string_bytes out.old ++ item_text (view_item item.now)) }
 {

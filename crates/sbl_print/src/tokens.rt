@@ -6,8 +6,7 @@ ghost use Rattle.sbl_ast.specs.Terminal.{Terminal, lexeme_as};
 ghost use Rattle.sbl_token.specs.Lexemes as lexemes;
 ghost use Rattle.sbl_ast.specs.Tree.{argument_terminal};
 ghost use Rattle.sbl_ast.specs.View.{view_argument, view_literal};
-ghost use Rattle.sbl_print.specs.Canonical.{token_text};
-ghost use Rattle.sbl_print.specs.Adding.{Adds};
+ghost use Rattle.sbl_print.specs.Adding.{Adds, token_text};
 
 use sbl_ast::{Argument, Literal};
 use sbl_token::{Sign, Word};

@@ -2,7 +2,7 @@
 
 ghost use Rattle.std.specs.Prelude.{◌≡◌};
 ghost use Rattle.sbl_ast.specs.Terminal as t;
-ghost use Rattle.sbl_print.specs.Canonical.{token_text};
+ghost use Rattle.sbl_print.specs.Adding.{token_text};
 
 use sbl_ast::{
     Additive, Assignment, Base, Comparison, Constant, Count, DeclarationKind, Joiner, Move,

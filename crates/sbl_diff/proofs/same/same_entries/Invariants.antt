@@ -1,7 +1,8 @@
 use Rattle.std.proofs.Common.{◌≡◌, drop, map, string_bytes}
+use Rattle.std.specs.Cmp.Lexicographic.{pointwise}
 use Rattle.sbl_ast.specs.View.{view_entry, view_scales, view_sums, view_term}
-use Rattle.sbl_machine.specs.Same.{same_entries}
+use Rattle.sbl_machine.specs.Same.{same_entry}
 use Rattle.sbl_diff.proofs.same.same_entries.Given as goal
 
 abbrev pub invariant-loop-first : goal.invariant-loop-first
-invariant-loop-first l = same_entries (map view_entry (drop l.first-index l.one.items)) (map view_entry l.others) ≡ same_entries (map view_entry l.one.items) (map view_entry l.other.items)
+invariant-loop-first l = pointwise same_entry (map view_entry (drop l.first-index l.one.items)) (map view_entry l.others) ≡ pointwise same_entry (map view_entry l.one.items) (map view_entry l.other.items)

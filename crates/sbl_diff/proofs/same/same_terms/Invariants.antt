@@ -1,7 +1,8 @@
 use Rattle.std.proofs.Common.{◌≡◌, drop, map, string_bytes}
+use Rattle.std.specs.Cmp.Lexicographic.{pointwise}
 use Rattle.sbl_ast.specs.View.{view_entry, view_scales, view_sums, view_term}
-use Rattle.sbl_machine.specs.Same.{same_terms}
+use Rattle.sbl_machine.specs.Same.{same_term}
 use Rattle.sbl_diff.proofs.same.same_terms.Given as goal
 
 abbrev pub invariant-loop-first : goal.invariant-loop-first
-invariant-loop-first l = same_terms (map view_term (drop l.first-index l.one.items)) (map view_term l.others) ≡ same_terms (map view_term l.one.items) (map view_term l.other.items)
+invariant-loop-first l = pointwise same_term (map view_term (drop l.first-index l.one.items)) (map view_term l.others) ≡ pointwise same_term (map view_term l.one.items) (map view_term l.other.items)
