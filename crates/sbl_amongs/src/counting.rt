@@ -1,6 +1,6 @@
-//! Whether two amongs hold the same number of amongs.
+//! The number of amongs that an among holds.
 
-ghost use Rattle.std.specs.Prelude.{◌≡◌, ◌<◌, ◌-◌, List, nat_eq};
+ghost use Rattle.std.specs.Prelude.{◌≡◌, ◌≤◌, ◌<◌, ◌-◌, List, MatchOption, nat_eq};
 ghost use Rattle.sbl_ast.specs.Counts as spec;
 ghost use Rattle.sbl_ast.specs.Tree as trees;
 ghost use Rattle.sbl_ast.specs.View.{view_among, view_command, view_groups, view_others, view_row, view_rows};
@@ -18,19 +18,7 @@ fn less_command(command: &Command, number: u64) -> u64
         Command::Counted(_, _, inner) => less_command(inner, number),
         Command::SetLimit(limit, inner) => less_command(inner, less_command(limit, number)),
         Command::Among(among) => less_among(among, number),
-        Command::Simple(_)
-        | Command::Literal(_)
-        | Command::Name(_)
-        | Command::Non {
-            with_minus: _,
-            name: _,
-        }
-        | Command::Move(_, _)
-        | Command::Named(_, _)
-        | Command::Splice(_, _)
-        | Command::Assign(_, _, _)
-        | Command::Compare(_, _, _)
-        | Command::CompareValues(_, _, _) => number,
+        _ => number,
     }
 }
 
@@ -94,4 +82,15 @@ pub fn has_as_many_amongs(among: &Among, other: &Among) -> bool
     ensures { result ≡ nat_eq (spec.count_in_among (view_among among.now)) (spec.count_in_among (view_among other.now)) }
 {
     less_among(among, u64::MAX) == less_among(other, u64::MAX)
+}
+
+/// Returns the number of amongs that an among holds: itself and those inside it. Returns `None` if there are 2^64 - 1 or
+/// more.
+pub fn among_count(among: &Among) -> Option<u64>
+    ensures { MatchOption result (18446744073709551615 ≤ spec.count_in_among (view_among among.now)) (λ count. count ≡ spec.count_in_among (view_among among.now)) }
+{
+    match less_among(among, u64::MAX) {
+        0 => None,
+        left => Some(u64::MAX - left),
+    }
 }

@@ -35,19 +35,7 @@ fn in_command(command: &Command, depth: u8, number: u64) -> WalkEnd<'_>
             WalkEnd::There(depth, among) => WalkEnd::There(depth, among),
         },
         Command::Among(among) => in_among(among, depth, number),
-        Command::Simple(_)
-        | Command::Literal(_)
-        | Command::Name(_)
-        | Command::Non {
-            with_minus: _,
-            name: _,
-        }
-        | Command::Move(_, _)
-        | Command::Named(_, _)
-        | Command::Splice(_, _)
-        | Command::Assign(_, _, _)
-        | Command::Compare(_, _, _)
-        | Command::CompareValues(_, _, _) => WalkEnd::Behind(number),
+        _ => WalkEnd::Behind(number),
     }
 }
 

@@ -6,7 +6,7 @@ mod finding;
 mod laws;
 mod replacing;
 
-pub use counting::has_as_many_amongs;
+pub use counting::{among_count, has_as_many_amongs};
 pub use finding::nth_among;
 pub use laws::one_is_replaced;
 pub use replacing::put_in_place;

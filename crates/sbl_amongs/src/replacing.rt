@@ -56,19 +56,7 @@ fn put_in_command(
             let (one, rest) = put_in_one(alloc, one, at, among)?;
             Ok((Command::Among(one), rest))
         }
-        Command::Simple(_)
-        | Command::Literal(_)
-        | Command::Name(_)
-        | Command::Non {
-            with_minus: _,
-            name: _,
-        }
-        | Command::Move(_, _)
-        | Command::Named(_, _)
-        | Command::Splice(_, _)
-        | Command::Assign(_, _, _)
-        | Command::Compare(_, _, _)
-        | Command::CompareValues(_, _, _) => Ok((copy_command(alloc, command)?, at)),
+        _ => Ok((copy_command(alloc, command)?, at)),
     }
 }
 
