@@ -209,19 +209,7 @@ fn find(
             find(alloc, names, first, mode, inner, all)
         }
         Command::Among(among) => find_among(alloc, names, first, mode, among, all),
-        Command::Simple(_)
-        | Command::Literal(_)
-        | Command::Name(_)
-        | Command::Non {
-            with_minus: _,
-            name: _,
-        }
-        | Command::Move(_, _)
-        | Command::Named(_, _)
-        | Command::Splice(_, _)
-        | Command::Assign(_, _, _)
-        | Command::Compare(_, _, _)
-        | Command::CompareValues(_, _, _) => Ok(()),
+        _ => Ok(()),
     }
 }
 

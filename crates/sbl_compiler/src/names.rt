@@ -59,18 +59,10 @@ fn name_item(alloc: Global, plain: &Plain, names: &mut SymbolTable) -> Result<()
 {
     match plain {
         Plain::Declaration(kind, more) => declare(alloc, *kind, more, names),
-        Plain::Routine { name, body: _ } => names.routines.add(alloc, name.as_str()),
-        Plain::Grouping {
-            name,
-            first: _,
-            others: _,
-        } => names.groupings.add(alloc, name.as_str()),
+        Plain::Routine { name, .. } => names.routines.add(alloc, name.as_str()),
+        Plain::Grouping { name, .. } => names.groupings.add(alloc, name.as_str()),
         Plain::StringEscapes(_, _) => Ok(()),
-        Plain::StringDef {
-            name: _,
-            base: _,
-            value: _,
-        } => Ok(()),
+        Plain::StringDef { .. } => Ok(()),
     }
 }
 

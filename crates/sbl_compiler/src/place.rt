@@ -101,18 +101,7 @@ fn past(amongs: &Vec<Found>, command: &Command, place: CommandPosition) -> Comma
             past(amongs, inner, between)
         }
         Command::Among(among) => past_among(amongs, among, place),
-        Command::Literal(_)
-        | Command::Name(_)
-        | Command::Non {
-            with_minus: _,
-            name: _,
-        }
-        | Command::Move(_, _)
-        | Command::Named(_, _)
-        | Command::Splice(_, _)
-        | Command::Assign(_, _, _)
-        | Command::Compare(_, _, _)
-        | Command::CompareValues(_, _, _) => place,
+        _ => place,
     }
 }
 

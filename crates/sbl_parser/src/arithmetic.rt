@@ -10,7 +10,7 @@ ghost use Rattle.sbl_ast.specs.Tree.{spelled_expression, spelled_sums, spelled_p
 ghost use Rattle.sbl_ast.specs.View.{view_expression, view_sums, view_product, view_scales, view_factor};
 ghost use Rattle.sbl_parser.specs.Gives.{Gives};
 
-use crate::error::{MAX_DEPTH, ReadError, syntax, too_deep};
+use crate::error::{MAX_DEPTH, Parsed, syntax, too_deep};
 use crate::front::{behind, number, role, text};
 use crate::role::Role;
 use crate::tokens::{argument, close};
@@ -20,12 +20,7 @@ use std::alloc::Global;
 
 /// Parses an arithmetic expression. Parentheses or a minus in it are one level deeper than `depth`.
 #[cycle(arithmetic)]
-pub fn expression(
-    alloc: Global,
-    tokens: &[Token<'_>],
-    at: usize,
-    depth: u8,
-) -> Result<(Expression, usize), ReadError>
+pub fn expression(alloc: Global, tokens: &[Token<'_>], at: usize, depth: u8) -> Parsed<Expression>
     requires { depth ≤ max_depth }
     ensures { Gives tokens.now at (wanted.expression depth []) (λ x. spelled_expression (view_expression x.0) (left tokens.now x.1)) (λ x. x.1) result }
 {
@@ -36,12 +31,7 @@ pub fn expression(
 
 /// Parses the products after the first one, if any.
 #[cycle(arithmetic)]
-fn sums(
-    alloc: Global,
-    tokens: &[Token<'_>],
-    at: usize,
-    depth: u8,
-) -> Result<(Vec<Added>, usize), ReadError>
+fn sums(alloc: Global, tokens: &[Token<'_>], at: usize, depth: u8) -> Parsed<Vec<Added>>
     requires { depth ≤ max_depth }
     ensures { Gives tokens.now at (wanted.sums depth ∷ []) (λ x. spelled_sums (view_sums x.0.items) (left tokens.now x.1)) (λ x. x.1) result }
 {
@@ -57,12 +47,7 @@ fn sums(
 
 /// Parses a product.
 #[cycle(arithmetic)]
-fn product(
-    alloc: Global,
-    tokens: &[Token<'_>],
-    at: usize,
-    depth: u8,
-) -> Result<(Product, usize), ReadError>
+fn product(alloc: Global, tokens: &[Token<'_>], at: usize, depth: u8) -> Parsed<Product>
     requires { depth ≤ max_depth }
     ensures { Gives tokens.now at (wanted.factor depth ∷ wanted.scales depth ∷ []) (λ x. spelled_product (view_product x.0) (left tokens.now x.1)) (λ x. x.1) result }
 {
@@ -73,12 +58,7 @@ fn product(
 
 /// Parses the factors after the first one, if any.
 #[cycle(arithmetic)]
-fn scales(
-    alloc: Global,
-    tokens: &[Token<'_>],
-    at: usize,
-    depth: u8,
-) -> Result<(Vec<Scaled>, usize), ReadError>
+fn scales(alloc: Global, tokens: &[Token<'_>], at: usize, depth: u8) -> Parsed<Vec<Scaled>>
     requires { depth ≤ max_depth }
     ensures { Gives tokens.now at (wanted.scales depth ∷ []) (λ x. spelled_scales (view_scales x.0.items) (left tokens.now x.1)) (λ x. x.1) result }
 {
@@ -94,12 +74,7 @@ fn scales(
 
 /// Parses a factor.
 #[cycle(arithmetic)]
-fn factor(
-    alloc: Global,
-    tokens: &[Token<'_>],
-    at: usize,
-    depth: u8,
-) -> Result<(Factor, usize), ReadError>
+fn factor(alloc: Global, tokens: &[Token<'_>], at: usize, depth: u8) -> Parsed<Factor>
     requires { depth ≤ max_depth }
     ensures { Gives tokens.now at (wanted.factor depth ∷ []) (λ x. spelled_factor (view_factor x.0) (left tokens.now x.1)) (λ x. x.1) result }
 {
@@ -122,7 +97,7 @@ fn negated(
     at: usize,
     depth: u8,
     operator: Additive,
-) -> Result<(Factor, usize), ReadError>
+) -> Parsed<Factor>
     requires first { role_of (left tokens.now at) ≡ Role.Additive operator }
     requires shallow { depth ≤ max_depth }
     ensures { Gives tokens.now at (wanted.factor depth ∷ []) (λ x. spelled_factor (view_factor x.0) (left tokens.now x.1)) (λ x. x.1) result }
@@ -141,12 +116,7 @@ fn negated(
 
 /// Parses `( E )`.
 #[cycle(arithmetic)]
-fn bracketed(
-    alloc: Global,
-    tokens: &[Token<'_>],
-    at: usize,
-    depth: u8,
-) -> Result<(Factor, usize), ReadError>
+fn bracketed(alloc: Global, tokens: &[Token<'_>], at: usize, depth: u8) -> Parsed<Factor>
     requires first { role_of (left tokens.now at) ≡ Role.Open }
     requires shallow { depth ≤ max_depth }
     ensures { Gives tokens.now at (wanted.factor depth ∷ []) (λ x. spelled_factor (view_factor x.0) (left tokens.now x.1)) (λ x. x.1) result }
@@ -160,12 +130,7 @@ fn bracketed(
 }
 
 /// Parses `lenof S`.
-fn length_of(
-    alloc: Global,
-    tokens: &[Token<'_>],
-    at: usize,
-    depth: u8,
-) -> Result<(Factor, usize), ReadError>
+fn length_of(alloc: Global, tokens: &[Token<'_>], at: usize, depth: u8) -> Parsed<Factor>
     requires first { role_of (left tokens.now at) ≡ Role.LenOf }
     requires shallow { depth ≤ max_depth }
     ensures { Gives tokens.now at (wanted.factor depth ∷ []) (λ x. spelled_factor (view_factor x.0) (left tokens.now x.1)) (λ x. x.1) result }

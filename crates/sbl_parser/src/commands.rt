@@ -14,7 +14,7 @@ ghost use Rattle.std.specs.Prelude.{map};
 
 use crate::arithmetic::expression;
 use crate::entries::{entries, entry};
-use crate::error::{MAX_DEPTH, ReadError, syntax, too_deep};
+use crate::error::{MAX_DEPTH, Parsed, syntax, too_deep};
 use crate::front::{behind, literal, role, text};
 use crate::leaves::{dollar, edited, moved, named, non};
 use crate::role::Role;
@@ -26,12 +26,7 @@ use std::alloc::Global;
 
 /// Parses a command whose first token is at nesting depth `depth`.
 #[cycle(commands)]
-pub fn command(
-    alloc: Global,
-    tokens: &[Token<'_>],
-    at: usize,
-    depth: u8,
-) -> Result<(Command, usize), ReadError>
+pub fn command(alloc: Global, tokens: &[Token<'_>], at: usize, depth: u8) -> Parsed<Command>
     requires { depth ≤ max_depth + 1 }
     ensures shallow { OnOk result (depth ≤ max_depth) }
     ensures gives { Gives tokens.now at (wanted.command depth ∷ []) (λ x. spelled (view_command x.0) (left tokens.now x.1)) (λ x. x.1) result }
@@ -69,12 +64,7 @@ pub fn command(
 
 /// Parses `( C1 C2 .. )`.
 #[cycle(commands)]
-fn bracket(
-    alloc: Global,
-    tokens: &[Token<'_>],
-    at: usize,
-    depth: u8,
-) -> Result<(Command, usize), ReadError>
+fn bracket(alloc: Global, tokens: &[Token<'_>], at: usize, depth: u8) -> Parsed<Command>
     requires first { role_of (left tokens.now at) ≡ Role.Open }
     requires shallow { depth ≤ max_depth }
     ensures { Gives tokens.now at (wanted.command depth ∷ []) (λ x. spelled (view_command x.0) (left tokens.now x.1)) (λ x. x.1) result }
@@ -91,7 +81,7 @@ fn prefixed(
     at: usize,
     depth: u8,
     prefix: Prefix,
-) -> Result<(Command, usize), ReadError>
+) -> Parsed<Command>
     requires first { role_of (left tokens.now at) ≡ Role.Prefix prefix }
     requires shallow { depth ≤ max_depth }
     ensures { Gives tokens.now at (wanted.command depth ∷ []) (λ x. spelled (view_command x.0) (left tokens.now x.1)) (λ x. x.1) result }
@@ -108,7 +98,7 @@ fn counted(
     at: usize,
     depth: u8,
     count: Count,
-) -> Result<(Command, usize), ReadError>
+) -> Parsed<Command>
     requires first { role_of (left tokens.now at) ≡ Role.Count count }
     requires shallow { depth ≤ max_depth }
     ensures { Gives tokens.now at (wanted.command depth ∷ []) (λ x. spelled (view_command x.0) (left tokens.now x.1)) (λ x. x.1) result }
@@ -123,12 +113,7 @@ fn counted(
 
 /// Parses `setlimit C1 for C2`.
 #[cycle(commands)]
-fn set_limit(
-    alloc: Global,
-    tokens: &[Token<'_>],
-    at: usize,
-    depth: u8,
-) -> Result<(Command, usize), ReadError>
+fn set_limit(alloc: Global, tokens: &[Token<'_>], at: usize, depth: u8) -> Parsed<Command>
     requires first { role_of (left tokens.now at) ≡ Role.SetLimit }
     requires shallow { depth ≤ max_depth }
     ensures { Gives tokens.now at (wanted.command depth ∷ []) (λ x. spelled (view_command x.0) (left tokens.now x.1)) (λ x. x.1) result }
@@ -144,12 +129,7 @@ fn set_limit(
 
 /// Parses `among ( .. )`.
 #[cycle(commands)]
-pub fn among(
-    alloc: Global,
-    tokens: &[Token<'_>],
-    at: usize,
-    depth: u8,
-) -> Result<(Among, usize), ReadError>
+pub fn among(alloc: Global, tokens: &[Token<'_>], at: usize, depth: u8) -> Parsed<Among>
     requires first { role_of (left tokens.now at) ≡ Role.Among }
     requires shallow { depth ≤ max_depth }
     ensures { Gives tokens.now at (wanted.among depth ∷ []) (λ x. spelled (among_ (view_among x.0).0 (view_among x.0).1) (left tokens.now x.1)) (λ x. x.1) result }
@@ -176,7 +156,7 @@ fn starter(
     tokens: &[Token<'_>],
     at: usize,
     depth: u8,
-) -> Result<(Option<Vec<RowOfCommands>>, usize), ReadError>
+) -> Parsed<Option<Vec<RowOfCommands>>>
     requires { depth ≤ max_depth }
     ensures { Gives tokens.now at (wanted.starter depth ∷ []) (λ x. spelled_starter (view_starter x.0) (left tokens.now x.1)) (λ x. x.1) result }
 {
@@ -200,7 +180,7 @@ fn groups(
     tokens: &[Token<'_>],
     at: usize,
     depth: u8,
-) -> Result<((Vec<Group>, Vec<Entry>), usize), ReadError>
+) -> Parsed<(Vec<Group>, Vec<Entry>)>
     requires { depth ≤ max_depth }
     ensures { Gives tokens.now at (wanted.groups depth ∷ []) (λ x. spelled_groups (view_groups x.0.0.items (map view_entry x.0.1.items)) (left tokens.now x.1)) (λ x. x.1) result }
 {
@@ -233,12 +213,7 @@ fn groups(
 
 /// Parses the commands after a `(` at depth `depth`, and the `)`.
 #[cycle(commands)]
-fn block(
-    alloc: Global,
-    tokens: &[Token<'_>],
-    at: usize,
-    depth: u8,
-) -> Result<(Vec<RowOfCommands>, usize), ReadError>
+fn block(alloc: Global, tokens: &[Token<'_>], at: usize, depth: u8) -> Parsed<Vec<RowOfCommands>>
     requires { depth ≤ max_depth }
     ensures { Gives tokens.now at (wanted.rows (depth + 1) ∷ wanted.closing depth ∷ []) (λ x. spelled_rows (view_rows x.0.items) (t.close_ ∷ left tokens.now x.1)) (λ x. x.1) result }
 {
@@ -249,12 +224,7 @@ fn block(
 
 /// Parses rows up to a token that does not begin a command.
 #[cycle(commands)]
-fn rows(
-    alloc: Global,
-    tokens: &[Token<'_>],
-    at: usize,
-    depth: u8,
-) -> Result<(Vec<RowOfCommands>, usize), ReadError>
+fn rows(alloc: Global, tokens: &[Token<'_>], at: usize, depth: u8) -> Parsed<Vec<RowOfCommands>>
     requires { depth ≤ max_depth + 1 }
     ensures { Gives tokens.now at (wanted.rows depth ∷ []) (λ x. spelled_rows (view_rows x.0.items) (left tokens.now x.1)) (λ x. x.1) result }
 {
@@ -271,12 +241,7 @@ fn rows(
 
 /// Parses the commands after the first one of a row, if any.
 #[cycle(commands)]
-pub fn others(
-    alloc: Global,
-    tokens: &[Token<'_>],
-    at: usize,
-    depth: u8,
-) -> Result<(Vec<Joined>, usize), ReadError>
+pub fn others(alloc: Global, tokens: &[Token<'_>], at: usize, depth: u8) -> Parsed<Vec<Joined>>
     requires { depth ≤ max_depth }
     ensures { Gives tokens.now at (wanted.others depth ∷ []) (λ x. spelled_others (view_others x.0.items) (left tokens.now x.1)) (λ x. x.1) result }
 {

@@ -9,7 +9,7 @@ ghost use Rattle.sbl_ast.specs.Tree.{spelled_condition, spelled_entry, spelled_e
 ghost use Rattle.sbl_ast.specs.View.{view_name, view_entry};
 ghost use Rattle.sbl_parser.specs.Gives.{Gives};
 
-use crate::error::ReadError;
+use crate::error::{Parsed, ReadError};
 use crate::front::{behind, literal, role, text};
 use crate::role::Role;
 use sbl_ast::Entry;
@@ -17,12 +17,7 @@ use sbl_text::Token;
 use std::alloc::Global;
 
 /// Parses the condition of a string, if there is one.
-fn condition(
-    alloc: Global,
-    tokens: &[Token<'_>],
-    at: usize,
-    depth: u8,
-) -> Result<(Option<String>, usize), ReadError>
+fn condition(alloc: Global, tokens: &[Token<'_>], at: usize, depth: u8) -> Parsed<Option<String>>
     requires { depth ≤ max_depth }
     ensures memory { IfErr result (λ e. e ≡ ReadError.Memory) }
     ensures gives { Gives tokens.now at (wanted.condition depth ∷ []) (λ x. spelled_condition (view_name x.0) (left tokens.now x.1)) (λ x. x.1) result }
@@ -34,12 +29,7 @@ fn condition(
 }
 
 /// Parses a string and its condition.
-pub fn entry(
-    alloc: Global,
-    tokens: &[Token<'_>],
-    at: usize,
-    depth: u8,
-) -> Result<(Entry, usize), ReadError>
+pub fn entry(alloc: Global, tokens: &[Token<'_>], at: usize, depth: u8) -> Parsed<Entry>
     requires first { role_of (left tokens.now at) ≡ Role.Literal }
     requires shallow { depth ≤ max_depth }
     ensures spelled { IfOk result (λ x. left tokens.now at ≡ spelled_entry (view_entry x.0) (left tokens.now x.1)) }
@@ -52,12 +42,7 @@ pub fn entry(
 }
 
 /// Parses more strings, if any.
-pub fn entries(
-    alloc: Global,
-    tokens: &[Token<'_>],
-    at: usize,
-    depth: u8,
-) -> Result<(Vec<Entry>, usize), ReadError>
+pub fn entries(alloc: Global, tokens: &[Token<'_>], at: usize, depth: u8) -> Parsed<Vec<Entry>>
     requires { depth ≤ max_depth }
     ensures spelled { IfOk result (λ x. left tokens.now at ≡ spelled_entries (map view_entry x.0.items) (left tokens.now x.1)) }
     ensures faults { IfOk result (λ x. (k : wanted.Stack) → wanted.fault (left tokens.now at) (wanted.entries depth ∷ k) ≡ wanted.fault (left tokens.now x.1) (wanted.entries depth ∷ k)) }

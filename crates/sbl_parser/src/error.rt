@@ -28,6 +28,9 @@ pub enum ReadError {
     Fault(Fault),
 }
 
+/// What a function reads, with the index of the token after it.
+pub type Parsed<T> = Result<(T, usize), ReadError>;
+
 impl From<AllocError> for ReadError {
     ghost from_gives = { λ _ e. e ≡ Memory };
 

@@ -11,7 +11,7 @@ ghost use Rattle.sbl_ast.specs.View.{view_argument, view_literal, view_term, vie
 ghost use Rattle.sbl_parser.specs.Gives.{Gives};
 
 use crate::commands::{command, others};
-use crate::error::{ReadError, syntax};
+use crate::error::{Parsed, syntax};
 use crate::front::{behind, inserts, literal, role, text};
 use crate::role::Role;
 use crate::starts::{begins_argument, begins_item, begins_plain};
@@ -21,7 +21,7 @@ use sbl_text::Token;
 use std::alloc::Global;
 
 /// Parses names up to a token that is not a name.
-fn names(alloc: Global, tokens: &[Token<'_>], at: usize) -> Result<(Vec<String>, usize), ReadError>
+fn names(alloc: Global, tokens: &[Token<'_>], at: usize) -> Parsed<Vec<String>>
     ensures { Gives tokens.now at (wanted.names ∷ []) (λ x. spelled_names (map string_bytes x.0.items) (left tokens.now x.1)) (λ x. x.1) result }
 {
     let mut names = Vec::new(alloc);
@@ -34,11 +34,7 @@ fn names(alloc: Global, tokens: &[Token<'_>], at: usize) -> Result<(Vec<String>,
 }
 
 /// Parses the terms after the first one of a grouping, if any.
-pub fn terms(
-    alloc: Global,
-    tokens: &[Token<'_>],
-    at: usize,
-) -> Result<(Vec<Term>, usize), ReadError>
+pub fn terms(alloc: Global, tokens: &[Token<'_>], at: usize) -> Parsed<Vec<Term>>
     ensures { Gives tokens.now at (wanted.terms ∷ []) (λ x. spelled_terms (map view_term x.0.items) (left tokens.now x.1)) (λ x. x.1) result }
 {
     let mut terms = Vec::new(alloc);
@@ -52,7 +48,7 @@ pub fn terms(
 }
 
 /// Parses the name of a macro.
-fn macro_name(alloc: Global, tokens: &[Token<'_>], at: usize) -> Result<(String, usize), ReadError>
+fn macro_name(alloc: Global, tokens: &[Token<'_>], at: usize) -> Parsed<String>
     ensures { Gives tokens.now at (wanted.macro ∷ []) (λ x. t.macro_name (string_bytes x.0) ∷ left tokens.now x.1) (λ x. x.1) result }
 {
     match role(tokens, at) {
@@ -73,11 +69,7 @@ fn base(tokens: &[Token<'_>], at: usize) -> (Option<Base>, usize)
 }
 
 /// Parses the literal of a macro.
-fn macro_literal(
-    alloc: Global,
-    tokens: &[Token<'_>],
-    at: usize,
-) -> Result<(Literal, usize), ReadError>
+fn macro_literal(alloc: Global, tokens: &[Token<'_>], at: usize) -> Parsed<Literal>
     ensures { Gives tokens.now at (wanted.literal ∷ []) (λ x. t.literal (view_literal x.0) ∷ left tokens.now x.1) (λ x. x.1) result }
 {
     match role(tokens, at) {
@@ -92,7 +84,7 @@ fn declaration(
     tokens: &[Token<'_>],
     at: usize,
     kind: DeclarationKind,
-) -> Result<(Plain, usize), ReadError>
+) -> Parsed<Plain>
     requires { role_of (left tokens.now at) ≡ Role.Declares kind }
     ensures { Gives tokens.now at (wanted.plain ∷ []) (λ x. spelled_plain (view_plain x.0) (left tokens.now x.1)) (λ x. x.1) result }
 {
@@ -103,7 +95,7 @@ fn declaration(
 }
 
 /// Parses `stringescapes AB`.
-fn string_escapes(tokens: &[Token<'_>], at: usize) -> Result<(Plain, usize), ReadError>
+fn string_escapes(tokens: &[Token<'_>], at: usize) -> Parsed<Plain>
     requires { role_of (left tokens.now at) ≡ Role.StringEscapes }
     ensures { Gives tokens.now at (wanted.plain ∷ []) (λ x. spelled_plain (view_plain x.0) (left tokens.now x.1)) (λ x. x.1) result }
 {
@@ -118,7 +110,7 @@ fn string_escapes(tokens: &[Token<'_>], at: usize) -> Result<(Plain, usize), Rea
 }
 
 /// Parses `stringdef M 'abc'` and similar definitions.
-fn string_def(alloc: Global, tokens: &[Token<'_>], at: usize) -> Result<(Plain, usize), ReadError>
+fn string_def(alloc: Global, tokens: &[Token<'_>], at: usize) -> Parsed<Plain>
     requires { role_of (left tokens.now at) ≡ Role.StringDef }
     ensures { Gives tokens.now at (wanted.plain ∷ []) (λ x. spelled_plain (view_plain x.0) (left tokens.now x.1)) (λ x. x.1) result }
 {
@@ -133,7 +125,7 @@ pub fn grouping_terms(
     alloc: Global,
     tokens: &[Token<'_>],
     at: usize,
-) -> Result<((Argument, Vec<Term>), usize), ReadError>
+) -> Parsed<(Argument, Vec<Term>)>
     requires { role_of (left tokens.now at) ≡ Role.As → ⊥ }
     ensures { Gives tokens.now at (wanted.definition ∷ []) (λ x. argument_terminal (view_argument x.0.0) ∷ spelled_terms (map view_term x.0.1.items) (left tokens.now x.1)) (λ x. x.1) result }
 {
@@ -146,11 +138,7 @@ pub fn grouping_terms(
 }
 
 /// Parses the body of a routine.
-pub fn row(
-    alloc: Global,
-    tokens: &[Token<'_>],
-    at: usize,
-) -> Result<(RowOfCommands, usize), ReadError>
+pub fn row(alloc: Global, tokens: &[Token<'_>], at: usize) -> Parsed<RowOfCommands>
     ensures { Gives tokens.now at (wanted.command 1 ∷ wanted.others 1 ∷ []) (λ x. spelled (view_row x.0).0 (spelled_others (view_row x.0).1 (left tokens.now x.1))) (λ x. x.1) result }
 {
     let (first, rest) = command(alloc, tokens, at, 1)?;
@@ -159,7 +147,7 @@ pub fn row(
 }
 
 /// Parses `define NAME as R` and `define NAME T1 + T2 ..`.
-fn define(alloc: Global, tokens: &[Token<'_>], at: usize) -> Result<(Plain, usize), ReadError>
+fn define(alloc: Global, tokens: &[Token<'_>], at: usize) -> Parsed<Plain>
     requires { role_of (left tokens.now at) ≡ Role.Define }
     ensures { Gives tokens.now at (wanted.plain ∷ []) (λ x. spelled_plain (view_plain x.0) (left tokens.now x.1)) (λ x. x.1) result }
 {
@@ -191,7 +179,7 @@ fn define(alloc: Global, tokens: &[Token<'_>], at: usize) -> Result<(Plain, usiz
 }
 
 /// Parses an item that is allowed in a `backwardmode`.
-fn plain(alloc: Global, tokens: &[Token<'_>], at: usize) -> Result<(Plain, usize), ReadError>
+fn plain(alloc: Global, tokens: &[Token<'_>], at: usize) -> Parsed<Plain>
     ensures { Gives tokens.now at (wanted.plain ∷ []) (λ x. spelled_plain (view_plain x.0) (left tokens.now x.1)) (λ x. x.1) result }
 {
     match role(tokens, at) {
@@ -204,7 +192,7 @@ fn plain(alloc: Global, tokens: &[Token<'_>], at: usize) -> Result<(Plain, usize
 }
 
 /// Parses the items of a `backwardmode`, if any.
-fn plains(alloc: Global, tokens: &[Token<'_>], at: usize) -> Result<(Vec<Plain>, usize), ReadError>
+fn plains(alloc: Global, tokens: &[Token<'_>], at: usize) -> Parsed<Vec<Plain>>
     ensures { Gives tokens.now at (wanted.plains ∷ []) (λ x. spelled_plains (map view_plain x.0.items) (left tokens.now x.1)) (λ x. x.1) result }
 {
     let mut plains = Vec::new(alloc);
@@ -218,11 +206,7 @@ fn plains(alloc: Global, tokens: &[Token<'_>], at: usize) -> Result<(Vec<Plain>,
 }
 
 /// Parses `backwardmode ( .. )`.
-fn backward_mode(
-    alloc: Global,
-    tokens: &[Token<'_>],
-    at: usize,
-) -> Result<(ScriptItem, usize), ReadError>
+fn backward_mode(alloc: Global, tokens: &[Token<'_>], at: usize) -> Parsed<ScriptItem>
     requires { role_of (left tokens.now at) ≡ Role.BackwardMode }
     ensures { Gives tokens.now at (wanted.item ∷ []) (λ x. spelled_item (view_item x.0) (left tokens.now x.1)) (λ x. x.1) result }
 {
@@ -233,7 +217,7 @@ fn backward_mode(
 }
 
 /// Parses an item.
-fn item(alloc: Global, tokens: &[Token<'_>], at: usize) -> Result<(ScriptItem, usize), ReadError>
+fn item(alloc: Global, tokens: &[Token<'_>], at: usize) -> Parsed<ScriptItem>
     ensures { Gives tokens.now at (wanted.item ∷ []) (λ x. spelled_item (view_item x.0) (left tokens.now x.1)) (λ x. x.1) result }
 {
     match role(tokens, at) {
@@ -246,11 +230,7 @@ fn item(alloc: Global, tokens: &[Token<'_>], at: usize) -> Result<(ScriptItem, u
 }
 
 /// Parses items up to a token that does not begin an item.
-pub fn items(
-    alloc: Global,
-    tokens: &[Token<'_>],
-    at: usize,
-) -> Result<(Vec<ScriptItem>, usize), ReadError>
+pub fn items(alloc: Global, tokens: &[Token<'_>], at: usize) -> Parsed<Vec<ScriptItem>>
     ensures { Gives tokens.now at (wanted.items ∷ []) (λ x. spelled_items (view_items x.0.items) (left tokens.now x.1)) (λ x. x.1) result }
 {
     let mut items = Vec::new(alloc);

@@ -11,7 +11,7 @@ ghost use Rattle.sbl_ast.specs.View.{view_command};
 ghost use Rattle.sbl_parser.specs.Gives.{Gives};
 
 use crate::arithmetic::expression;
-use crate::error::{ReadError, out_of_profile, syntax};
+use crate::error::{Parsed, out_of_profile, syntax};
 use crate::front::{behind, role, text};
 use crate::role::Role;
 use crate::tokens::{argument, close, comparison, name};
@@ -20,12 +20,7 @@ use sbl_text::Token;
 use std::alloc::Global;
 
 /// Parses `non G` and `non - G`.
-pub fn non(
-    alloc: Global,
-    tokens: &[Token<'_>],
-    at: usize,
-    depth: u8,
-) -> Result<(Command, usize), ReadError>
+pub fn non(alloc: Global, tokens: &[Token<'_>], at: usize, depth: u8) -> Parsed<Command>
     requires first { role_of (left tokens.now at) ≡ Role.Non }
     requires shallow { depth ≤ max_depth }
     ensures { Gives tokens.now at (wanted.command depth ∷ []) (λ x. spelled (view_command x.0) (left tokens.now x.1)) (λ x. x.1) result }
@@ -51,7 +46,7 @@ fn non_minus(
     at: usize,
     depth: u8,
     operator: Additive,
-) -> Result<(Command, usize), ReadError>
+) -> Parsed<Command>
     requires first { role_of (left tokens.now at) ≡ Role.Non }
     requires second { role_of (drop 1 (left tokens.now at)) ≡ Role.Additive operator }
     requires shallow { depth ≤ max_depth }
@@ -80,7 +75,7 @@ pub fn moved(
     at: usize,
     depth: u8,
     word: Move,
-) -> Result<(Command, usize), ReadError>
+) -> Parsed<Command>
     requires first { role_of (left tokens.now at) ≡ Role.Move word }
     requires shallow { depth ≤ max_depth }
     ensures { Gives tokens.now at (wanted.command depth ∷ []) (λ x. spelled (view_command x.0) (left tokens.now x.1)) (λ x. x.1) result }
@@ -96,7 +91,7 @@ pub fn named(
     at: usize,
     depth: u8,
     word: Naming,
-) -> Result<(Command, usize), ReadError>
+) -> Parsed<Command>
     requires first { role_of (left tokens.now at) ≡ Role.Naming word }
     requires shallow { depth ≤ max_depth }
     ensures { Gives tokens.now at (wanted.command depth ∷ []) (λ x. spelled (view_command x.0) (left tokens.now x.1)) (λ x. x.1) result }
@@ -112,7 +107,7 @@ pub fn edited(
     at: usize,
     depth: u8,
     word: Splice,
-) -> Result<(Command, usize), ReadError>
+) -> Parsed<Command>
     requires first { role_of (left tokens.now at) ≡ Role.Splice word }
     requires shallow { depth ≤ max_depth }
     ensures { Gives tokens.now at (wanted.command depth ∷ []) (λ x. spelled (view_command x.0) (left tokens.now x.1)) (λ x. x.1) result }
@@ -122,12 +117,7 @@ pub fn edited(
 }
 
 /// Parses `$ X = E`, `$ X == E`, `$ ( E1 == E2 )` and similar commands.
-pub fn dollar(
-    alloc: Global,
-    tokens: &[Token<'_>],
-    at: usize,
-    depth: u8,
-) -> Result<(Command, usize), ReadError>
+pub fn dollar(alloc: Global, tokens: &[Token<'_>], at: usize, depth: u8) -> Parsed<Command>
     requires first { role_of (left tokens.now at) ≡ Role.Dollar }
     requires shallow { depth ≤ max_depth }
     ensures { Gives tokens.now at (wanted.command depth ∷ []) (λ x. spelled (view_command x.0) (left tokens.now x.1)) (λ x. x.1) result }
@@ -141,12 +131,7 @@ pub fn dollar(
 }
 
 /// Parses `$ X = E` and similar commands. If there is no operator after the name, the fault is at the `$`.
-fn assigned(
-    alloc: Global,
-    tokens: &[Token<'_>],
-    at: usize,
-    depth: u8,
-) -> Result<(Command, usize), ReadError>
+fn assigned(alloc: Global, tokens: &[Token<'_>], at: usize, depth: u8) -> Parsed<Command>
     requires first { role_of (left tokens.now at) ≡ Role.Dollar }
     requires second { role_of (drop 1 (left tokens.now at)) ≡ Role.Name }
     requires shallow { depth ≤ max_depth }
@@ -169,12 +154,7 @@ fn assigned(
 }
 
 /// Parses `$ ( E1 == E2 )` and similar commands.
-fn values_compared(
-    alloc: Global,
-    tokens: &[Token<'_>],
-    at: usize,
-    depth: u8,
-) -> Result<(Command, usize), ReadError>
+fn values_compared(alloc: Global, tokens: &[Token<'_>], at: usize, depth: u8) -> Parsed<Command>
     requires first { role_of (left tokens.now at) ≡ Role.Dollar }
     requires second { role_of (drop 1 (left tokens.now at)) ≡ Role.Open }
     requires shallow { depth ≤ max_depth }

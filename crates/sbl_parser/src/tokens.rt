@@ -10,7 +10,7 @@ ghost use Rattle.sbl_ast.specs.Tree.{argument_terminal};
 ghost use Rattle.sbl_ast.specs.View.{view_argument};
 ghost use Rattle.sbl_parser.specs.Gives.{Gives};
 
-use crate::error::{ReadError, syntax};
+use crate::error::{Parsed, ReadError, syntax};
 use crate::front::{behind, literal, role, text};
 use crate::role::Role;
 use sbl_ast::{Argument, Comparison};
@@ -51,12 +51,7 @@ pub fn for_word(tokens: &[Token<'_>], at: usize, depth: u8) -> Result<usize, Rea
 }
 
 /// Parses a name.
-pub fn name(
-    alloc: Global,
-    tokens: &[Token<'_>],
-    at: usize,
-    depth: u8,
-) -> Result<(String, usize), ReadError>
+pub fn name(alloc: Global, tokens: &[Token<'_>], at: usize, depth: u8) -> Parsed<String>
     requires { depth ≤ max_depth }
     ensures { Gives tokens.now at (wanted.name depth ∷ []) (λ x. t.name (string_bytes x.0) ∷ left tokens.now x.1) (λ x. x.1) result }
 {
@@ -67,12 +62,7 @@ pub fn name(
 }
 
 /// Parses a literal or a name.
-pub fn argument(
-    alloc: Global,
-    tokens: &[Token<'_>],
-    at: usize,
-    depth: u8,
-) -> Result<(Argument, usize), ReadError>
+pub fn argument(alloc: Global, tokens: &[Token<'_>], at: usize, depth: u8) -> Parsed<Argument>
     requires { depth ≤ max_depth }
     ensures { Gives tokens.now at (wanted.argument depth ∷ []) (λ x. argument_terminal (view_argument x.0) ∷ left tokens.now x.1) (λ x. x.1) result }
 {
@@ -87,11 +77,7 @@ pub fn argument(
 }
 
 /// Parses a sign that compares two numbers.
-pub fn comparison(
-    tokens: &[Token<'_>],
-    at: usize,
-    depth: u8,
-) -> Result<(Comparison, usize), ReadError>
+pub fn comparison(tokens: &[Token<'_>], at: usize, depth: u8) -> Parsed<Comparison>
     requires { depth ≤ max_depth }
     ensures { Gives tokens.now at (wanted.comparison depth ∷ []) (λ x. t.compares x.0 ∷ left tokens.now x.1) (λ x. x.1) result }
 {
