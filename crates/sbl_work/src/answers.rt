@@ -4,7 +4,7 @@ ghost use Rattle.std.specs.Str.{chars};
 ghost use Rattle.sbl_bench.specs.Kept.{contents_of};
 ghost use Rattle.sbl_sessions.specs.Answers.{ended};
 ghost use Rattle.sbl_work.specs.Commands as spec;
-ghost use Rattle.sbl_work.specs.Desks.{State, state_of};
+ghost use Rattle.sbl_desk.specs.Desks.{State, state_of};
 ghost use Rattle.sbl_work.specs.ReplyViews.{IsWorkAnswer, view_file};
 
 use crate::definitions::definition_text;
@@ -80,6 +80,21 @@ fn largest(alloc: Global, bench: &Bench, argument: &str) -> Reply
         Some(number) => report(largest_text(alloc, bench, number)),
         None => Reply::Fixed(BAD_NUMBER),
     }
+}
+
+/// Returns the lines of a file, each without the carriage return at its end, and each followed by a line feed. Returns `AllocError`
+/// if an allocation fails.
+fn lines_text(alloc: Global, bytes: &[u8]) -> Result<Vec<u8>, AllocError>
+    ensures { IfOk result (λ text. text.items ≡ made_text (lines_of bytes.now)) }
+{
+    let mut text = Vec::new(alloc);
+    let mut rest = bytes;
+    while let Some((line, after)) = first_line(rest) {
+        text.extend_from_slice(line)?;
+        text.extend_from_slice(b"\n")?;
+        rest = after;
+    }
+    Ok(text)
 }
 
 /// Returns the reply to `families` for a file.

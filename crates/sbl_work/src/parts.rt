@@ -7,8 +7,8 @@ ghost use Rattle.sbl_sessions.specs.Block.{HoldsText, made_text};
 ghost use Rattle.sbl_sessions.specs.CommandViews.{FindsTarget, view_target};
 ghost use Rattle.sbl_sessions.specs.Commands.{target_of, text_of_block};
 ghost use Rattle.sbl_work.specs.Commands as spec;
-ghost use Rattle.sbl_work.specs.Desks.{State, state_of};
-ghost use Rattle.sbl_work.specs.Editing.{Replaces};
+ghost use Rattle.sbl_desk.specs.Desks.{State, state_of};
+ghost use Rattle.sbl_desk.specs.Editing.{Replaces};
 ghost use Rattle.sbl_work.specs.ReplyViews.{FindsBlock, IsFamiliesAnswer, IsPartResult, IsWorkAnswer, NamesText};
 
 use crate::definitions::without_head;

@@ -10,7 +10,7 @@ ghost use Rattle.sbl_sessions.specs.CommandViews.{IsReply};
 ghost use Rattle.sbl_sessions.specs.Session.{Ends};
 ghost use Rattle.sbl_work.specs.Answering.{BreaksWork, IsWorkAnswered};
 ghost use Rattle.sbl_work.specs.Commands as spec;
-ghost use Rattle.sbl_work.specs.Desks.{state_of};
+ghost use Rattle.sbl_desk.specs.Desks.{state_of};
 ghost use Rattle.sbl_work.specs.ReplyViews.{FindsBlock, IsFileAnswer};
 ghost use Rattle.sbl_work.specs.Serving as serving;
 ghost use Rattle.sbl_work.specs.Serving.{IsWork, with_prompt};
