@@ -33,8 +33,12 @@ ReplacesPart result what text s d t e =
     ((kept : Option (List ℕ)) × IsTextOf s t kept × Replaces result (Replace what text) kept s d t e)
     ⊎ ((result ≡ Err fault.OutOfMemory) × (t ≡ s) × (e ≡ d))
 
+-- The limit was this one before. It is remembered if the bench has another one now.
+abbrev pub NotesLimit : ℕ → Contents → State → State → Type 0
+NotesLimit before t d e =
+    ((t.setting.limit ≡ before) × (e ≡ d))
+    ⊎ (¬ (t.setting.limit ≡ before) × (e ≡ record d { past = remembered d.past (ToLimit before) }))
+
 -- After a request that may set the limit, the limit before is remembered if it was another one.
 abbrev pub IsLimitNoted : Contents → Contents → State → State → Type 0
-IsLimitNoted s t d e =
-    ((t.setting.limit ≡ s.setting.limit) × (e ≡ d))
-    ⊎ (¬ (t.setting.limit ≡ s.setting.limit) × (e ≡ record d { past = remembered d.past (ToLimit s.setting.limit) }))
+IsLimitNoted s t d e = NotesLimit s.setting.limit t d e

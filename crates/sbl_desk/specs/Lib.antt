@@ -1,6 +1,7 @@
 -- definitions that public contracts depend on
 pub mod History
 pub mod Desks
+pub mod Parts
 pub mod Editing
 pub mod Reports
 pub mod Families

@@ -4,28 +4,28 @@ ghost use Rattle.std.specs.Option.{is_some, option_map};
 ghost use Rattle.sbl_print.specs.Canonical.{plain_text};
 ghost use Rattle.sbl_script.specs.Edits as edits;
 ghost use Rattle.sbl_script.specs.Parsed.{source_of};
-ghost use Rattle.sbl_sessions.specs.CommandViews.{view_target};
 ghost use Rattle.sbl_ast.specs.View.{view_items, view_plain};
 ghost use Rattle.sbl_desk.specs.Definitions as spec;
 ghost use Rattle.sbl_desk.specs.HeadReader.{IsAfterWord, IsEndOf, head_words};
 ghost use Rattle.sbl_desk.specs.Heads as heads;
+ghost use Rattle.sbl_desk.specs.Parts.{view_part};
 
 use sbl_ast::copy_plain;
+use sbl_places::Part;
 use sbl_print::canonical_text;
 use sbl_script::{Plain, Script, ScriptItem};
-use sbl_sessions::Target;
 use sbl_text::{Lexer, ScriptFault, Token};
 use std::alloc::{AllocError, Global};
 use std::slice::from_ref;
 
-/// Returns the name of a target and whether it is a routine; `None` if a definition has no text for it.
-fn head_of(target: &Target) -> Option<(&str, bool)>
-    ensures { MatchOption result (heads.head_of (view_target target.now) ≡ None) (λ x. heads.head_of (view_target target.now) ≡ Some (head_words x.0.now x.1)) }
+/// Returns the name of a part and whether it is a routine; `None` if a definition has no text for it.
+fn head_of(part: Part<'_>) -> Option<(&str, bool)>
+    ensures { MatchOption result (heads.head_of (view_part part.entry) ≡ None) (λ x. heads.head_of (view_part part.entry) ≡ Some (head_words x.0.now x.1)) }
 {
-    match target {
-        Target::Body(name) => Some((name.as_str(), true)),
-        Target::Terms(name) => Some((name.as_str(), false)),
-        Target::Among(_, _) => None,
+    match part {
+        Part::Body(name) => Some((name, true)),
+        Part::Terms(name) => Some((name, false)),
+        Part::Among(_, _) => None,
     }
 }
 
@@ -97,15 +97,15 @@ fn after_head<'a>(
     }
 }
 
-/// Returns the text without `define NAME as`, or `define NAME` for a grouping, if these are its first tokens.
-pub(crate) fn without_head<'a>(
-    alloc: Global,
-    target: &Target,
-    text: &'a str,
-) -> Result<&'a str, AllocError>
-    ensures { IfOk result (λ rest. heads.IsWithoutHead (view_target target.now) text.now rest.now) }
+/// Returns the text of a part without `define NAME as`, or `define NAME` for a grouping, if these are its first tokens.
+///
+/// # Errors
+///
+/// Returns `AllocError` if an allocation fails.
+pub fn without_head<'a>(alloc: Global, part: Part<'_>, text: &'a str) -> Result<&'a str, AllocError>
+    ensures { IfOk result (λ rest. heads.IsWithoutHead (view_part part.entry) text.now rest.now) }
 {
-    match head_of(target) {
+    match head_of(part) {
         Some((name, is_routine)) => after_head(alloc, name, is_routine, text),
         None => Ok(text),
     }
@@ -179,8 +179,12 @@ fn line_of(alloc: Global, plain: &Plain) -> Result<Vec<u8>, AllocError>
 }
 
 /// Returns the line of the definition of this name, as the canonical text of the script has it; `None` if the script defines
-/// no routine, external or grouping of this name. Returns `AllocError` if an allocation fails.
-pub(crate) fn definition_text(
+/// no routine, external or grouping of this name.
+///
+/// # Errors
+///
+/// Returns `AllocError` if an allocation fails. It does so only if there is such a definition.
+pub fn definition_text(
     alloc: Global,
     script: &Script,
     name: &str,

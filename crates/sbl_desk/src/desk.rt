@@ -3,11 +3,10 @@ ghost use Rattle.std.specs.Prelude.{◌≡◌, ◌⊎◌, ℕ, List, [], IfOk, I
 ghost use Rattle.sbl_bench.specs.Edits.{Edits, Replace, Whole};
 ghost use Rattle.sbl_bench.specs.Kept.{contents_of};
 ghost use Rattle.sbl_print.specs.Canonical.{canonical};
-ghost use Rattle.sbl_sessions.specs.CommandViews.{IsAnswer, view_target};
-ghost use Rattle.sbl_sessions.specs.Commands.{line_command};
 ghost use Rattle.sbl_desk.specs.Desks.{Redoes, Undoes, rows_now, state_of, text_in, view_marked, view_text};
-ghost use Rattle.sbl_desk.specs.Editing.{IsLimitNoted, Replaces, ReplacesPart};
+ghost use Rattle.sbl_desk.specs.Editing.{NotesLimit, Replaces, ReplacesPart};
 ghost use Rattle.sbl_desk.specs.History.{ToText, remembered};
+ghost use Rattle.sbl_desk.specs.Parts.{view_part};
 ghost use Rattle.sbl_desk.specs.Splicing.{Reads};
 
 use crate::history::{HistoryFault, text_of};
@@ -15,7 +14,7 @@ use crate::marks::{MarkedRow, copy_rows};
 use crate::splice::{SplicedText, splice};
 use crate::steps::{History, Step};
 use sbl_bench::{Bench, EditFault};
-use sbl_sessions::{Reply, Target, answer_line};
+use sbl_places::Part;
 use std::alloc::{AllocError, Global};
 
 /// What is kept beside a bench at work: the text of its script, the edits that can be undone and redone, and the rows at the
@@ -75,18 +74,14 @@ impl Desk {
         Ok(())
     }
 
-    /// Makes the edit or the report of a session that a line without a block asks for, and returns the reply. If the edit
-    /// changed the limit, the limit before is remembered.
-    pub fn answer(&mut self, bench: &mut Bench, line: &[u8]) -> Reply
-        ensures answered { IsAnswer (contents_of bench.old) (line_command line.now) result (contents_of bench.new) }
-        ensures noted { IsLimitNoted (contents_of bench.old) (contents_of bench.new) (state_of self.old) (state_of self.new) }
+    /// Notes that the bench may have another limit now than this one, which it had before. If it has, the limit before is
+    /// remembered.
+    pub fn note_limit(&mut self, bench: &Bench, before: u32)
+        ensures { NotesLimit before (contents_of bench.now) (state_of self.old) (state_of self.new) }
     {
-        let before = bench.limit();
-        let reply = answer_line(self.alloc, bench, line);
         if before != bench.limit() {
             self.history.remember(Step::Limit(before));
         }
-        reply
     }
 
     /// Returns the script before an edit. Returns `AllocError` if an allocation fails.
@@ -139,10 +134,10 @@ impl Desk {
     pub fn replace_part(
         &mut self,
         bench: &mut Bench,
-        target: &Target,
+        target: Part<'_>,
         text: &str,
     ) -> Result<(), EditFault>
-        ensures { ReplacesPart result (view_target target.now) text.now (contents_of bench.old) (state_of self.old) (contents_of bench.new) (state_of self.new) }
+        ensures { ReplacesPart result (view_part target.entry) text.now (contents_of bench.old) (state_of self.old) (contents_of bench.new) (state_of self.new) }
     {
         let before = self.before(bench)?;
         let external = bench.script().external();
@@ -191,13 +186,13 @@ impl Desk {
 }
 
 /// Replaces a part of the script of a bench by a text. Returns the fault of the bench.
-fn edit_part(bench: &mut Bench, target: &Target, text: &str) -> Result<(), EditFault>
-    ensures { Edits result (contents_of bench.old) (Replace (view_target target.now) text.now) (contents_of bench.new) }
+fn edit_part(bench: &mut Bench, target: Part<'_>, text: &str) -> Result<(), EditFault>
+    ensures { Edits result (contents_of bench.old) (Replace (view_part target.entry) text.now) (contents_of bench.new) }
 {
     match target {
-        Target::Body(name) => bench.replace_routine(name.as_str(), text),
-        Target::Among(name, k) => bench.replace_among(name.as_str(), *k, text),
-        Target::Terms(name) => bench.replace_grouping(name.as_str(), text),
+        Part::Body(name) => bench.replace_routine(name, text),
+        Part::Among(name, k) => bench.replace_among(name, k, text),
+        Part::Terms(name) => bench.replace_grouping(name, text),
     }
 }
 

@@ -192,7 +192,12 @@ fn lists_text(alloc: Global, bench: &Bench, lists: &[Vec<&[char]>]) -> Result<Ve
     result_lines(alloc, &found)
 }
 
-/// Returns the report of the families of a text. Returns `AllocError` if an allocation fails.
+/// Returns the report of the families of a text over the rows of a bench: a family for each line, with spaces, tabs or commas
+/// between its words.
+///
+/// # Errors
+///
+/// Returns `AllocError` if an allocation fails.
 pub fn families_text(alloc: Global, bench: &Bench, text: &str) -> Result<Vec<u8>, AllocError>
     ensures { IfOk result (λ report. report.items ≡ spec.families_text (contents_of bench.now) (spec.families_in (chars text.now))) }
 {

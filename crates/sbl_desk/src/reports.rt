@@ -196,8 +196,12 @@ fn change_lines(alloc: Global, found: &[ChangeRow<'_>]) -> Result<Vec<u8>, Alloc
     Ok(out)
 }
 
-/// Returns the report of what differs from the mark. Returns `AllocError` if an allocation fails.
-pub(crate) fn changes_text(alloc: Global, desk: &Desk, bench: &Bench) -> Result<Vec<u8>, AllocError>
+/// Returns the report of what differs from the mark: a row for each change between the rows at the mark and those of the bench.
+///
+/// # Errors
+///
+/// Returns `AllocError` if an allocation fails.
+pub fn changes_text(alloc: Global, desk: &Desk, bench: &Bench) -> Result<Vec<u8>, AllocError>
     ensures { IfOk result (λ text. text.items ≡ spec.changes_text (state_of desk.now) (contents_of bench.now)) }
 {
     let rows = bench.rows()?;
@@ -239,8 +243,12 @@ fn push_class_figures(
     push_figure(alloc, out, "largest", figures.largest as u64)
 }
 
-/// Returns the report of figures of the rows and classes. Returns `AllocError` if an allocation fails.
-pub(crate) fn stats_text(alloc: Global, bench: &Bench) -> Result<Vec<u8>, AllocError>
+/// Returns the report of figures of the rows and classes of a bench, and of its runs.
+///
+/// # Errors
+///
+/// Returns `AllocError` if an allocation fails.
+pub fn stats_text(alloc: Global, bench: &Bench) -> Result<Vec<u8>, AllocError>
     ensures { IfOk result (λ text. text.items ≡ spec.stats_text (contents_of bench.now)) }
 {
     let rows = bench.rows()?;
@@ -276,13 +284,12 @@ fn class_lines(alloc: Global, classes: &[StemClass<'_>]) -> Result<Vec<u8>, Allo
     Ok(out)
 }
 
-/// Returns the report of the largest classes, at most `number` of them: the largest first, those of one size by stem. Returns
-/// `AllocError` if an allocation fails.
-pub(crate) fn largest_text(
-    alloc: Global,
-    bench: &Bench,
-    number: usize,
-) -> Result<Vec<u8>, AllocError>
+/// Returns the report of the largest classes, at most `number` of them: the largest first, those of one size by stem.
+///
+/// # Errors
+///
+/// Returns `AllocError` if an allocation fails.
+pub fn largest_text(alloc: Global, bench: &Bench, number: usize) -> Result<Vec<u8>, AllocError>
     ensures { IfOk result (λ text. text.items ≡ spec.largest_text number (contents_of bench.now)) }
 {
     let rows = bench.rows()?;

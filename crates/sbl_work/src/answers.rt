@@ -2,20 +2,21 @@
 ghost use Rattle.std.specs.Prelude.{◌≡◌, IfOk};
 ghost use Rattle.std.specs.Str.{chars};
 ghost use Rattle.sbl_bench.specs.Kept.{contents_of};
+ghost use Rattle.sbl_io.specs.LinesOf.{lines_of};
 ghost use Rattle.sbl_sessions.specs.Answers.{ended};
+ghost use Rattle.sbl_sessions.specs.Block.{made_text};
+ghost use Rattle.sbl_sessions.specs.Commands.{line_command};
 ghost use Rattle.sbl_work.specs.Commands as spec;
 ghost use Rattle.sbl_desk.specs.Desks.{State, state_of};
 ghost use Rattle.sbl_work.specs.ReplyViews.{IsWorkAnswer, view_file};
 
-use crate::definitions::definition_text;
-use crate::desk::Desk;
-use crate::families::lines_text;
 use crate::parts::families_reply;
 use crate::replies::{BAD_NUMBER, NO_FILE, edit_reply, memory_reply, redo_reply, undo_reply};
-use crate::reports::{changes_text, largest_text, stats_text};
 use crate::requests::{Request, count_in, request_of};
 use crate::whys::{integers_reply, why_reply};
 use sbl_bench::{Bench, EditFault};
+use sbl_desk::{Desk, changes_text, definition_text, largest_text, stats_text};
+use sbl_io::first_line;
 use sbl_sessions::{Reply, report};
 use sbl_unused::unused_text;
 use std::alloc::{AllocError, Global};
@@ -161,6 +162,17 @@ fn echo(alloc: Global, bench: &Bench, text: &[u8]) -> Reply
     report(echo_text(alloc, text))
 }
 
+/// Makes the edit or the report of a session that a line without a block asks for, and returns the reply. If the edit changed the
+/// limit, the desk remembers the limit before.
+fn session(alloc: Global, desk: &mut Desk, bench: &mut Bench, line: &[u8]) -> Reply
+    ensures { IsWorkAnswer (contents_of bench.old) (state_of desk.old) (spec.Session (line_command line.now)) result (contents_of bench.new) (state_of desk.new) }
+{
+    let before = bench.limit();
+    let reply = sbl_sessions::answer_line(alloc, bench, line);
+    desk.note_limit(bench, before);
+    reply
+}
+
 /// Makes the edit or the report that a line without a block asks for, and returns the reply.
 ///
 /// `file` has the bytes of the file that the line needs: of the script's for `reload`, of the one that `families` names. It is
@@ -194,6 +206,6 @@ pub fn answer_line(
         Request::Save(_) => saved(bench, file),
         Request::Echo(text) => echo(alloc, bench, text),
         Request::Help => Reply::Fixed(""),
-        Request::Session => desk.answer(bench, line),
+        Request::Session => session(alloc, desk, bench, line),
     }
 }

@@ -12,6 +12,6 @@ mod words;
 
 pub use answers::answer_line;
 pub use files::Paths;
-pub use parts::answer_block;
+pub use parts::{answer_block, part_of};
 pub use requests::{BlockRequest, block_request};
 pub use serving::work;

@@ -17,12 +17,12 @@ ghost use Rattle.sbl_work.specs.Serving.{IsWork, with_prompt};
 ghost use Rattle.sbl_work.specs.WholeWork.{IsWholeWork, WorksOrMemory, status_of};
 
 use crate::answers::answer_line;
-use crate::desk::Desk;
 use crate::files::{OpenFault, Paths, open, save};
 use crate::parts::answer_block;
 use crate::replies::edit_reply;
 use crate::requests::{BlockRequest, Request, block_request, is_quit, request_of};
 use sbl_bench::{Bench, EditFault};
+use sbl_desk::Desk;
 use sbl_io::{Lines, ServeFault, Sink, Source, write_all};
 use sbl_sessions::{LoadFault, Reply, read_block, write_reply};
 use std::alloc::Global;
