@@ -25,7 +25,7 @@ use Rattle.sbl_sessions.specs.declared.block_text.BlockText.{BlockText}
 use Rattle.sbl_sessions.specs.declared.replies.Reply.{Reply}
 use Rattle.sbl_work.specs.Answering.{IsWorkAnswered}
 use Rattle.sbl_work.specs.Commands.{asks_work_block, block_command, quit_line}
-use Rattle.sbl_work.specs.Desks.{State}
+use Rattle.sbl_desk.specs.Desks.{State}
 use Rattle.sbl_work.specs.ReplyViews.{FindsBlock, IsFileAnswer, IsWorkAnswer}
 use Rattle.sbl_work.specs.Serving.{AreReplies, Choice, HalfReplied, IsReplyBy, IsWork, IsWorkRequest, IsOpenWork, IsBegunWork, Replied, TookWork, Worked, dialogue, with_prompt}
 use Rattle.sbl_work.specs.declared.requests.BlockRequest.{BlockRequest}

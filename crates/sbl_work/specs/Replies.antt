@@ -14,14 +14,14 @@ use Rattle.sbl_unused.specs.Unused as unused
 use Rattle.sbl_why.specs.Integers as integers
 use Rattle.sbl_why.specs.Rows as rows
 use Rattle.sbl_work.specs.Commands.{WorkCommand, Nothing, Session, EditPart, EditWhole, Undo, Redo, Mark, Changes, Stats, Unused, Largest, Families, Why, Integers, Show, Saved, NoFile, Echo}
-use Rattle.sbl_work.specs.Definitions.{definition_text}
-use Rattle.sbl_work.specs.Desks.{Redoes, State, Undoes, rows_now}
-use Rattle.sbl_work.specs.Editing.{IsLimitNoted, Replaces, ReplacesPart}
-use Rattle.sbl_work.specs.Families.{families_in, families_text}
-use Rattle.sbl_work.specs.Heads.{IsWithoutHead}
-use Rattle.sbl_work.specs.Reports.{changes_text, largest_text, stats_text}
-use Rattle.sbl_work.specs.declared.history.HistoryFault.{HistoryFault}
-use Rattle.sbl_work.specs.declared.history.HistoryFault.TheVariants as fault
+use Rattle.sbl_desk.specs.Definitions.{definition_text}
+use Rattle.sbl_desk.specs.Desks.{Redoes, State, Undoes, rows_now}
+use Rattle.sbl_desk.specs.Editing.{IsLimitNoted, Replaces, ReplacesPart}
+use Rattle.sbl_desk.specs.Families.{families_in, families_text}
+use Rattle.sbl_desk.specs.Heads.{IsWithoutHead}
+use Rattle.sbl_desk.specs.Reports.{changes_text, largest_text, stats_text}
+use Rattle.sbl_desk.specs.declared.history.HistoryFault.{HistoryFault}
+use Rattle.sbl_desk.specs.declared.history.HistoryFault.TheVariants as fault
 
 -- ---- texts
 

@@ -17,10 +17,10 @@ use Rattle.sbl_sessions.specs.declared.replies.Reply.{Reply}
 use Rattle.sbl_text.specs.declared.fault.ScriptFault.TheVariants as script
 use Rattle.sbl_work.specs.Commands as command
 use Rattle.sbl_work.specs.Commands.{WorkCommand, alone_command, count_in, families_in_file, is_replace, with_file}
-use Rattle.sbl_work.specs.Desks.{State}
-use Rattle.sbl_work.specs.Editing.{ReplacesPart}
-use Rattle.sbl_work.specs.Heads.{IsWithoutHead}
-use Rattle.sbl_work.specs.Families.{families_in, families_text}
+use Rattle.sbl_desk.specs.Desks.{State}
+use Rattle.sbl_desk.specs.Editing.{ReplacesPart}
+use Rattle.sbl_desk.specs.Heads.{IsWithoutHead}
+use Rattle.sbl_desk.specs.Families.{families_in, families_text}
 use Rattle.sbl_work.specs.Replies.{IsWorkReply, TellsReport}
 use Rattle.sbl_work.specs.declared.requests.BlockRequest.{BlockRequest}
 use Rattle.sbl_work.specs.declared.requests.BlockRequest.TheVariants as blocks

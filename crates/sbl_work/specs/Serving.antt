@@ -11,7 +11,7 @@ use Rattle.sbl_io.specs.declared.faults.ServeFault.TheVariants as fault
 use Rattle.sbl_sessions.specs.Block.{BlockLines, Breaks}
 use Rattle.sbl_sessions.specs.Requests.{HasBlock, Request, lines_in_all}
 use Rattle.sbl_work.specs.Commands.{asks_work_block, by_work_block, quit_line}
-use Rattle.sbl_work.specs.Desks.{State}
+use Rattle.sbl_desk.specs.Desks.{State}
 use Rattle.sbl_work.specs.Replies.{IsWorkReply}
 
 -- ---- requests

@@ -2,20 +2,21 @@
 ghost use Rattle.std.specs.Prelude.{◌≡◌, IfOk};
 ghost use Rattle.std.specs.Str.{chars};
 ghost use Rattle.sbl_bench.specs.Kept.{contents_of};
+ghost use Rattle.sbl_io.specs.LinesOf.{lines_of};
 ghost use Rattle.sbl_sessions.specs.Answers.{ended};
+ghost use Rattle.sbl_sessions.specs.Block.{made_text};
+ghost use Rattle.sbl_sessions.specs.Commands.{line_command};
 ghost use Rattle.sbl_work.specs.Commands as spec;
-ghost use Rattle.sbl_work.specs.Desks.{State, state_of};
+ghost use Rattle.sbl_desk.specs.Desks.{State, state_of};
 ghost use Rattle.sbl_work.specs.ReplyViews.{IsWorkAnswer, view_file};
 
-use crate::definitions::definition_text;
-use crate::desk::Desk;
-use crate::families::lines_text;
 use crate::parts::families_reply;
 use crate::replies::{BAD_NUMBER, NO_FILE, edit_reply, memory_reply, redo_reply, undo_reply};
-use crate::reports::{changes_text, largest_text, stats_text};
 use crate::requests::{Request, count_in, request_of};
 use crate::whys::{integers_reply, why_reply};
 use sbl_bench::{Bench, EditFault};
+use sbl_desk::{Desk, changes_text, definition_text, largest_text, stats_text};
+use sbl_io::first_line;
 use sbl_sessions::{Reply, report};
 use sbl_unused::unused_text;
 use std::alloc::{AllocError, Global};
@@ -82,6 +83,21 @@ fn largest(alloc: Global, bench: &Bench, argument: &str) -> Reply
     }
 }
 
+/// Returns the lines of a file, each without the carriage return at its end, and each followed by a line feed. Returns `AllocError`
+/// if an allocation fails.
+fn lines_text(alloc: Global, bytes: &[u8]) -> Result<Vec<u8>, AllocError>
+    ensures { IfOk result (λ text. text.items ≡ made_text (lines_of bytes.now)) }
+{
+    let mut text = Vec::new(alloc);
+    let mut rest = bytes;
+    while let Some((line, after)) = first_line(rest) {
+        text.extend_from_slice(line)?;
+        text.extend_from_slice(b"\n")?;
+        rest = after;
+    }
+    Ok(text)
+}
+
 /// Returns the reply to `families` for a file.
 fn families(alloc: Global, bench: &Bench, file: Option<&[u8]>) -> Reply
     ensures { (d : State) → IsWorkAnswer (contents_of bench.now) d (spec.with_file spec.families_in_file (view_file file.entry)) result (contents_of bench.now) d }
@@ -146,6 +162,17 @@ fn echo(alloc: Global, bench: &Bench, text: &[u8]) -> Reply
     report(echo_text(alloc, text))
 }
 
+/// Makes the edit or the report of a session that a line without a block asks for, and returns the reply. If the edit changed the
+/// limit, the desk remembers the limit before.
+fn session(alloc: Global, desk: &mut Desk, bench: &mut Bench, line: &[u8]) -> Reply
+    ensures { IsWorkAnswer (contents_of bench.old) (state_of desk.old) (spec.Session (line_command line.now)) result (contents_of bench.new) (state_of desk.new) }
+{
+    let before = bench.limit();
+    let reply = sbl_sessions::answer_line(alloc, bench, line);
+    desk.note_limit(bench, before);
+    reply
+}
+
 /// Makes the edit or the report that a line without a block asks for, and returns the reply.
 ///
 /// `file` has the bytes of the file that the line needs: of the script's for `reload`, of the one that `families` names. It is
@@ -179,6 +206,6 @@ pub fn answer_line(
         Request::Save(_) => saved(bench, file),
         Request::Echo(text) => echo(alloc, bench, text),
         Request::Help => Reply::Fixed(""),
-        Request::Session => desk.answer(bench, line),
+        Request::Session => session(alloc, desk, bench, line),
     }
 }

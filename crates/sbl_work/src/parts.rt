@@ -7,16 +7,16 @@ ghost use Rattle.sbl_sessions.specs.Block.{HoldsText, made_text};
 ghost use Rattle.sbl_sessions.specs.CommandViews.{FindsTarget, view_target};
 ghost use Rattle.sbl_sessions.specs.Commands.{target_of, text_of_block};
 ghost use Rattle.sbl_work.specs.Commands as spec;
-ghost use Rattle.sbl_work.specs.Desks.{State, state_of};
-ghost use Rattle.sbl_work.specs.Editing.{Replaces};
+ghost use Rattle.sbl_desk.specs.Desks.{State, state_of};
+ghost use Rattle.sbl_desk.specs.Editing.{Replaces};
+ghost use Rattle.sbl_desk.specs.Parts.{view_part};
 ghost use Rattle.sbl_work.specs.ReplyViews.{FindsBlock, IsFamiliesAnswer, IsPartResult, IsWorkAnswer, NamesText};
 
-use crate::definitions::without_head;
-use crate::desk::Desk;
-use crate::families::families_text;
 use crate::replies::{NOT_TEXT, edit_reply};
 use crate::requests::BlockRequest;
 use sbl_bench::{Bench, EditFault};
+use sbl_desk::{Desk, families_text, without_head};
+use sbl_places::Part;
 use sbl_script::ScriptFault;
 use sbl_sessions::{BAD_COMMAND, BlockFault, BlockText, Reply, Target, report};
 use std::alloc::{AllocError, Global};
@@ -42,21 +42,32 @@ fn replace_by(desk: &mut Desk, bench: &mut Bench, block: BlockText) -> Result<()
     }
 }
 
+/// Returns the part of a script that a target is.
+pub fn part_of(target: &Target) -> Part<'_>
+    ensures { view_part result ≡ view_target target.now }
+{
+    match target {
+        Target::Body(name) => Part::Body(name.as_str()),
+        Target::Among(name, k) => Part::Among(name.as_str(), *k),
+        Target::Terms(name) => Part::Terms(name.as_str()),
+    }
+}
+
 /// Replaces a part of the script by a text that may begin as its definition does.
 fn replace_part_by(
     alloc: Global,
     desk: &mut Desk,
     bench: &mut Bench,
-    target: &Target,
+    part: Part<'_>,
     text: &[u8],
 ) -> Result<(), EditFault>
-    ensures { IsPartResult result (view_target target.now) text.now (contents_of bench.old) (state_of desk.old) (contents_of bench.new) (state_of desk.new) }
+    ensures { IsPartResult result (view_part part.entry) text.now (contents_of bench.old) (state_of desk.old) (contents_of bench.new) (state_of desk.new) }
 {
     let Ok(text) = str::from_utf8(text) else {
         return Err(EditFault::Script(ScriptFault::NotUtf8));
     };
-    match without_head(alloc, target, text) {
-        Ok(rest) => desk.replace_part(bench, target, rest),
+    match without_head(alloc, part, text) {
+        Ok(rest) => desk.replace_part(bench, part, rest),
         Err(_) => Err(EditFault::OutOfMemory),
     }
 }
@@ -72,7 +83,7 @@ fn edit_target(
     ensures { (lines : List (List ℕ)) → HoldsText block lines → IsWorkAnswer (contents_of bench.old) (state_of desk.old) (spec.part_command (Some (view_target target.now)) (text_of_block lines)) result (contents_of bench.new) (state_of desk.new) }
 {
     match text_of(block) {
-        Ok(text) => edit_reply(replace_part_by(alloc, desk, bench, target, &text)),
+        Ok(text) => edit_reply(replace_part_by(alloc, desk, bench, part_of(target), &text)),
         Err(fault) => edit_reply(Err(fault)),
     }
 }

@@ -5,8 +5,8 @@ ghost use Rattle.sbl_sessions.specs.CommandViews.{IsReply};
 ghost use Rattle.sbl_sessions.specs.Edits.{fault_in};
 ghost use Rattle.sbl_work.specs.Replies as spec;
 
-use crate::history::HistoryFault;
 use sbl_bench::EditFault;
+use sbl_desk::HistoryFault;
 use sbl_sessions::{Reply, edit_text};
 use std::alloc::AllocError;
 

@@ -6,6 +6,7 @@ use sbl_places::{Part, cut_at_part, offset_in_block};
 use sbl_script::{Script, ScriptEditFault, ScriptFault};
 use sbl_sessions::Target;
 use sbl_text::{Kind, Lexer, Token, Word, tokens};
+use sbl_work::part_of;
 use std::alloc::{AllocError, Global};
 
 /// A block that was refused, and what was in force then.
@@ -20,15 +21,6 @@ pub(crate) struct Typed<'a> {
     pub(crate) takes_heads: bool,
     /// The name of the input that has the block, and the line of the input in which the block begins.
     pub(crate) source: Option<(&'a str, usize)>,
-}
-
-/// Returns what an edit replaces.
-fn part_of(target: &Target) -> Part<'_> {
-    match target {
-        Target::Body(name) => Part::Body(name.as_str()),
-        Target::Among(name, k) => Part::Among(name.as_str(), *k),
-        Target::Terms(name) => Part::Terms(name.as_str()),
-    }
 }
 
 /// Returns the command of an edit.

@@ -1,8 +1,8 @@
 //! Edits that are undone and redone.
 
 use sbl_bench::{Bench, EditFault};
+use sbl_desk::{Desk, HistoryFault};
 use sbl_script::{Script, ScriptFault};
-use sbl_work::{Desk, HistoryFault};
 use std::alloc::Global;
 use std::hash::RandomState;
 use std::test::Fail;

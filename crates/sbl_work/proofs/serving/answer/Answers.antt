@@ -2,7 +2,7 @@ use Rattle.std.proofs.Common.{◌≡◌, ℕ, List, false, subst}
 use Rattle.sbl_bench.specs.Kept.{contents_of}
 use Rattle.sbl_io.specs.Held.{input_of, line_of}
 use Rattle.sbl_work.specs.Commands.{asks_work_block}
-use Rattle.sbl_work.specs.Desks.{state_of}
+use Rattle.sbl_desk.specs.Desks.{state_of}
 use Rattle.sbl_work.specs.ReplyViews.{IsFileAnswer}
 use Rattle.sbl_work.proofs.ServingFacts.{answered_line}
 use Rattle.sbl_work.proofs.serving.answer.Goals as goal

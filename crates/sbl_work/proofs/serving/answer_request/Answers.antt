@@ -1,6 +1,6 @@
 use Rattle.sbl_bench.specs.Kept.{contents_of}
 use Rattle.sbl_io.specs.Held.{input_of, line_of}
-use Rattle.sbl_work.specs.Desks.{state_of}
+use Rattle.sbl_desk.specs.Desks.{state_of}
 use Rattle.sbl_work.proofs.ServingFacts.{answered_block, asks_found}
 use Rattle.sbl_work.proofs.serving.answer_request.Goals as goal
 

@@ -1,5 +1,5 @@
 use Rattle.sbl_bench.specs.Kept.{contents_of}
-use Rattle.sbl_work.specs.Desks.{state_of}
+use Rattle.sbl_desk.specs.Desks.{state_of}
 use Rattle.sbl_work.proofs.ReplyFacts.{save_memory}
 use Rattle.sbl_work.proofs.serving.save_as.Goals as goal
 

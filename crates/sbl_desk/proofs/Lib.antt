@@ -1,0 +1,4 @@
+pub mod Latest
+pub mod Refusing
+pub mod FamilyFacts
+pub mod HeadFacts

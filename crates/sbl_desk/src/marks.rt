@@ -1,0 +1,59 @@
+//! The rows at the mark.
+ghost use Rattle.std.specs.Prelude.{◌≡◌, IfOk, map};
+ghost use Rattle.sbl_bench.specs.Kept.{contents_of};
+ghost use Rattle.sbl_bench.specs.Rows.{view_row};
+ghost use Rattle.sbl_machine.specs.Outcome.{outcome_of};
+ghost use Rattle.sbl_desk.specs.Desks.{rows_now, view_marked};
+
+use sbl_bench::{Bench, Row};
+use sbl_machine::Outcome;
+use std::alloc::{AllocError, Global};
+
+/// A row that is kept: a word and the outcome of its run.
+#[derive(Debug, Drop)]
+pub struct MarkedRow {
+    /// The word.
+    pub word: Vec<char>,
+    /// The outcome of its run.
+    pub outcome: Outcome,
+}
+
+/// Returns a copy of an outcome. Returns `AllocError` if an allocation fails.
+fn copy_outcome(alloc: Global, outcome: &Outcome) -> Result<Outcome, AllocError>
+    ensures { IfOk result (λ copy. outcome_of copy ≡ outcome_of outcome.now) }
+{
+    match outcome {
+        Outcome::Stem(stem) => Ok(Outcome::Stem(Vec::from_slice(alloc, stem.as_slice())?)),
+        Outcome::Refused(fault) => Ok(Outcome::Refused(*fault)),
+    }
+}
+
+/// Returns a copy of a row. Returns `AllocError` if an allocation fails.
+fn copy_row(alloc: Global, row: &Row<'_>) -> Result<MarkedRow, AllocError>
+    ensures { IfOk result (λ copy. view_marked copy ≡ view_row row.now) }
+{
+    Ok(MarkedRow {
+        word: Vec::from_slice(alloc, row.word)?,
+        outcome: copy_outcome(alloc, row.outcome)?,
+    })
+}
+
+/// Returns copies of rows. Returns `AllocError` if an allocation fails.
+fn copy_all(alloc: Global, rows: &[Row<'_>]) -> Result<Vec<MarkedRow>, AllocError>
+    ensures { IfOk result (λ copies. map view_marked copies.items ≡ map view_row rows.now) }
+{
+    let mut copies = Vec::with_capacity(alloc, rows.len())?;
+    for row in rows {
+        let copy = copy_row(alloc, row)?;
+        copies.push(copy)?;
+    }
+    Ok(copies)
+}
+
+/// Returns a copy of the rows of a bench. Returns `AllocError` if an allocation fails.
+pub(crate) fn copy_rows(alloc: Global, bench: &Bench) -> Result<Vec<MarkedRow>, AllocError>
+    ensures { IfOk result (λ copies. map view_marked copies.items ≡ rows_now (contents_of bench.now)) }
+{
+    let rows = bench.rows()?;
+    copy_all(alloc, &rows)
+}

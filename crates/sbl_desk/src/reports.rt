@@ -1,0 +1,299 @@
+//! The reports of work: what differs from the mark, figures, and the largest classes.
+ghost use Rattle.std.specs.Prelude.{◌≡◌, ◌++◌, ◌∷◌, [], IfOk, OnOk, codes, map};
+ghost use Rattle.std.specs.Str.{encode_utf8_all};
+ghost use Rattle.csv.specs.Records.{fields_of, partial_of};
+ghost use Rattle.sbl_bench.specs.Kept.{contents_of};
+ghost use Rattle.sbl_bench.specs.Rows.{view_row};
+ghost use Rattle.sbl_changes.specs.Changes.{view_change, view_changes};
+ghost use Rattle.sbl_changes.specs.Classes.{view_class as view_stem_class, view_classes as view_stem_classes};
+ghost use Rattle.sbl_changes.specs.Rows.{texts_of, view_outcome, view_rows};
+ghost use Rattle.sbl_machine.specs.Outcome.{outcome_of};
+ghost use Rattle.sbl_io.specs.Records.{record_line, records_text};
+ghost use Rattle.sbl_desk.specs.Desks.{rows_now, state_of, view_marked};
+ghost use Rattle.sbl_desk.specs.Reports as spec;
+
+use crate::desk::Desk;
+use crate::marks::MarkedRow;
+use csv::ByteRecord;
+use sbl_bench::{Bench, Row};
+use sbl_changes::{
+    ChangeRow, RowStats, StemClass, WordOutcome, WordRow, changes, largest_classes, stats,
+};
+use sbl_io::{record_line, set_text};
+use sbl_machine::Outcome;
+use std::alloc::{AllocError, Global};
+
+/// Returns the outcome of a row, with the name of a refusal.
+fn named_outcome(outcome: &Outcome) -> WordOutcome<'_>
+    ensures { view_outcome result ≡ spec.named_outcome (outcome_of outcome.now) }
+{
+    match outcome {
+        Outcome::Stem(stem) => WordOutcome::Stem(stem.as_slice()),
+        Outcome::Refused(fault) => WordOutcome::Refused(fault.name()),
+    }
+}
+
+/// Returns the rows of a bench with the names of refusals. Returns `AllocError` if an allocation fails.
+pub(crate) fn named_rows<'a>(
+    alloc: Global,
+    rows: &[Row<'a>],
+) -> Result<Vec<WordRow<'a>>, AllocError>
+    ensures { IfOk result (λ named. view_rows named.items ≡ spec.named_rows (map view_row rows.now)) }
+{
+    let mut named = Vec::with_capacity(alloc, rows.len())?;
+    for row in rows {
+        named.push(WordRow {
+            word: row.word,
+            outcome: named_outcome(row.outcome),
+        })?;
+    }
+    Ok(named)
+}
+
+/// Returns the rows at the mark with the names of refusals. Returns `AllocError` if an allocation fails.
+fn named_marks(alloc: Global, rows: &[MarkedRow]) -> Result<Vec<WordRow<'_>>, AllocError>
+    ensures { IfOk result (λ named. view_rows named.items ≡ spec.named_rows (map view_marked rows.now)) }
+{
+    let mut named = Vec::with_capacity(alloc, rows.len())?;
+    for row in rows {
+        named.push(WordRow {
+            word: row.word.as_slice(),
+            outcome: named_outcome(&row.outcome),
+        })?;
+    }
+    Ok(named)
+}
+
+/// Appends characters to a record, as one field. Returns `AllocError` if an allocation fails.
+pub(crate) fn push_text(
+    text: &mut String,
+    csv_record: &mut ByteRecord,
+    characters: &[char],
+) -> Result<(), AllocError>
+    requires { partial_of csv_record.old ≡ [] }
+    ensures fields { OnOk result (fields_of csv_record.new ≡ fields_of csv_record.old ++ encode_utf8_all characters.now ∷ []) }
+    ensures partial { OnOk result (partial_of csv_record.new ≡ []) }
+{
+    set_text(text, characters)?;
+    csv_record.push_field(text.as_bytes())
+}
+
+/// Appends stems to a record, each as one field. Returns `AllocError` if an allocation fails.
+pub(crate) fn push_stems(
+    text: &mut String,
+    csv_record: &mut ByteRecord,
+    stems: &[&[char]],
+) -> Result<(), AllocError>
+    requires { partial_of csv_record.old ≡ [] }
+    ensures fields { OnOk result (fields_of csv_record.new ≡ fields_of csv_record.old ++ map encode_utf8_all (texts_of stems.now)) }
+    ensures partial { OnOk result (partial_of csv_record.new ≡ []) }
+{
+    for stem in stems {
+        push_text(text, csv_record, stem)?;
+    }
+    Ok(())
+}
+
+/// Appends an outcome to a record, as two fields. Returns `AllocError` if an allocation fails.
+fn push_outcome(
+    text: &mut String,
+    csv_record: &mut ByteRecord,
+    outcome: WordOutcome<'_>,
+) -> Result<(), AllocError>
+    requires { partial_of csv_record.old ≡ [] }
+    ensures fields { OnOk result (fields_of csv_record.new ≡ fields_of csv_record.old ++ spec.outcome_fields (view_outcome outcome.entry)) }
+    ensures partial { OnOk result (partial_of csv_record.new ≡ []) }
+{
+    match outcome {
+        WordOutcome::Stem(stem) => {
+            csv_record.push_field(b"stem")?;
+            push_text(text, csv_record, stem)
+        }
+        WordOutcome::Refused(name) => {
+            csv_record.push_field(b"refused")?;
+            csv_record.push_field(name.as_bytes())
+        }
+    }
+}
+
+/// Appends the fields of a change to an empty record. Returns `AllocError` if an allocation fails.
+fn fill_change(
+    text: &mut String,
+    csv_record: &mut ByteRecord,
+    change: &ChangeRow<'_>,
+) -> Result<(), AllocError>
+    requires empty { fields_of csv_record.old ≡ [] }
+    requires whole { partial_of csv_record.old ≡ [] }
+    ensures { OnOk result (fields_of csv_record.new ≡ spec.change_fields (view_change change.now)) }
+{
+    match change {
+        ChangeRow::Added(word) => {
+            csv_record.push_field(b"added")?;
+            push_text(text, csv_record, word)
+        }
+        ChangeRow::Removed(word) => {
+            csv_record.push_field(b"removed")?;
+            push_text(text, csv_record, word)
+        }
+        ChangeRow::Changed {
+            word,
+            before,
+            after,
+        } => {
+            csv_record.push_field(b"changed")?;
+            push_text(text, csv_record, word)?;
+            push_outcome(text, csv_record, *before)?;
+            push_outcome(text, csv_record, *after)
+        }
+        ChangeRow::Split { stem, into } => {
+            csv_record.push_field(b"split")?;
+            push_text(text, csv_record, stem)?;
+            push_stems(text, csv_record, into.as_slice())
+        }
+        ChangeRow::Merged { stem, from } => {
+            csv_record.push_field(b"merged")?;
+            push_text(text, csv_record, stem)?;
+            push_stems(text, csv_record, from.as_slice())
+        }
+        ChangeRow::Renamed { from, to } => {
+            csv_record.push_field(b"renamed")?;
+            push_text(text, csv_record, from)?;
+            push_text(text, csv_record, to)
+        }
+    }
+}
+
+/// Appends the line of a record. Returns `AllocError` if an allocation fails.
+pub(crate) fn push_line(
+    alloc: Global,
+    out: &mut Vec<u8>,
+    csv_record: &ByteRecord,
+) -> Result<(), AllocError>
+    ensures { OnOk result (out.new.items ≡ out.old.items ++ record_line (fields_of csv_record.now)) }
+{
+    let line = record_line(alloc, csv_record)?;
+    out.extend_from_slice(&line)
+}
+
+/// Appends the line of a change. Returns `AllocError` if an allocation fails.
+fn push_change(alloc: Global, out: &mut Vec<u8>, change: &ChangeRow<'_>) -> Result<(), AllocError>
+    ensures { OnOk result (out.new.items ≡ out.old.items ++ record_line (spec.change_fields (view_change change.now))) }
+{
+    let mut text = String::new(alloc);
+    let mut csv_record = ByteRecord::new(alloc);
+    fill_change(&mut text, &mut csv_record, change)?;
+    push_line(alloc, out, &csv_record)
+}
+
+/// Returns the lines of changes. Returns `AllocError` if an allocation fails.
+fn change_lines(alloc: Global, found: &[ChangeRow<'_>]) -> Result<Vec<u8>, AllocError>
+    ensures { IfOk result (λ text. text.items ≡ records_text (map spec.change_fields (view_changes found.now))) }
+{
+    let mut out = Vec::new(alloc);
+    for change in found {
+        push_change(alloc, &mut out, change)?;
+    }
+    Ok(out)
+}
+
+/// Returns the report of what differs from the mark: a row for each change between the rows at the mark and those of the bench.
+///
+/// # Errors
+///
+/// Returns `AllocError` if an allocation fails.
+pub fn changes_text(alloc: Global, desk: &Desk, bench: &Bench) -> Result<Vec<u8>, AllocError>
+    ensures { IfOk result (λ text. text.items ≡ spec.changes_text (state_of desk.now) (contents_of bench.now)) }
+{
+    let rows = bench.rows()?;
+    let before = named_marks(alloc, desk.marked())?;
+    let after = named_rows(alloc, &rows)?;
+    let found = changes(alloc, &before, &after)?;
+    change_lines(alloc, &found)
+}
+
+/// Appends the line of a figure. Returns `AllocError` if an allocation fails.
+fn push_figure(alloc: Global, out: &mut Vec<u8>, name: &str, number: u64) -> Result<(), AllocError>
+    ensures { OnOk result (out.new.items ≡ out.old.items ++ record_line (spec.figure_fields name.now number)) }
+{
+    let digits = format!(in alloc; "{number}")?;
+    let mut csv_record = ByteRecord::new(alloc);
+    csv_record.push_field(name.as_bytes())?;
+    csv_record.push_field(digits.as_bytes())?;
+    push_line(alloc, out, &csv_record)
+}
+
+/// Appends the lines of the figures about words. Returns `AllocError` if an allocation fails.
+fn push_word_figures(alloc: Global, out: &mut Vec<u8>, figures: &RowStats) -> Result<(), AllocError>
+    ensures { OnOk result (out.new.items ≡ out.old.items ++ records_text (spec.figure_fields (codes "words") figures.now.words ∷ spec.figure_fields (codes "refused") figures.now.refused ∷ [])) }
+{
+    push_figure(alloc, out, "words", figures.words as u64)?;
+    push_figure(alloc, out, "refused", figures.refused as u64)
+}
+
+/// Appends the lines of the figures about classes. Returns `AllocError` if an allocation fails.
+fn push_class_figures(
+    alloc: Global,
+    out: &mut Vec<u8>,
+    figures: &RowStats,
+) -> Result<(), AllocError>
+    ensures { OnOk result (out.new.items ≡ out.old.items ++ records_text (spec.figure_fields (codes "classes") figures.now.classes ∷ spec.figure_fields (codes "alone") figures.now.alone ∷ spec.figure_fields (codes "largest") figures.now.largest ∷ [])) }
+{
+    push_figure(alloc, out, "classes", figures.classes as u64)?;
+    push_figure(alloc, out, "alone", figures.alone as u64)?;
+    push_figure(alloc, out, "largest", figures.largest as u64)
+}
+
+/// Returns the report of figures of the rows and classes of a bench, and of its runs.
+///
+/// # Errors
+///
+/// Returns `AllocError` if an allocation fails.
+pub fn stats_text(alloc: Global, bench: &Bench) -> Result<Vec<u8>, AllocError>
+    ensures { IfOk result (λ text. text.items ≡ spec.stats_text (contents_of bench.now)) }
+{
+    let rows = bench.rows()?;
+    let named = named_rows(alloc, &rows)?;
+    let figures = stats(alloc, &named)?;
+    let mut out = Vec::new(alloc);
+    push_word_figures(alloc, &mut out, &figures)?;
+    push_class_figures(alloc, &mut out, &figures)?;
+    push_figure(alloc, &mut out, "unchanged", figures.unchanged as u64)?;
+    push_figure(alloc, &mut out, "runs", bench.runs())?;
+    Ok(out)
+}
+
+/// Appends the line of a class: its stem, and its words. Returns `AllocError` if an allocation fails.
+fn push_class(alloc: Global, out: &mut Vec<u8>, class: &StemClass<'_>) -> Result<(), AllocError>
+    ensures { OnOk result (out.new.items ≡ out.old.items ++ record_line (spec.class_fields (view_stem_class class.now))) }
+{
+    let mut text = String::new(alloc);
+    let mut csv_record = ByteRecord::new(alloc);
+    push_text(&mut text, &mut csv_record, class.stem)?;
+    push_stems(&mut text, &mut csv_record, class.members.as_slice())?;
+    push_line(alloc, out, &csv_record)
+}
+
+/// Returns the lines of classes. Returns `AllocError` if an allocation fails.
+fn class_lines(alloc: Global, classes: &[StemClass<'_>]) -> Result<Vec<u8>, AllocError>
+    ensures { IfOk result (λ text. text.items ≡ records_text (map spec.class_fields (view_stem_classes classes.now))) }
+{
+    let mut out = Vec::new(alloc);
+    for class in classes {
+        push_class(alloc, &mut out, class)?;
+    }
+    Ok(out)
+}
+
+/// Returns the report of the largest classes, at most `number` of them: the largest first, those of one size by stem.
+///
+/// # Errors
+///
+/// Returns `AllocError` if an allocation fails.
+pub fn largest_text(alloc: Global, bench: &Bench, number: usize) -> Result<Vec<u8>, AllocError>
+    ensures { IfOk result (λ text. text.items ≡ spec.largest_text number (contents_of bench.now)) }
+{
+    let rows = bench.rows()?;
+    let named = named_rows(alloc, &rows)?;
+    let classes = largest_classes(alloc, &named, number)?;
+    class_lines(alloc, &classes)
+}
