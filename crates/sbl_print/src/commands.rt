@@ -6,8 +6,7 @@ ghost use Rattle.sbl_ast.specs.Terminal as t;
 ghost use Rattle.sbl_ast.specs.Tree.{spelled, spelled_entries, spelled_entry, spelled_expression, spelled_groups, spelled_others, spelled_rows, spelled_starter};
 ghost use Rattle.sbl_ast.specs.Tree as trees;
 ghost use Rattle.sbl_ast.specs.View.{view_among, view_argument, view_command, view_entry, view_expression, view_groups, view_others, view_row, view_rows};
-ghost use Rattle.sbl_print.specs.Adding.{Adds, more};
-ghost use Rattle.sbl_print.specs.Canonical.{token_text};
+ghost use Rattle.sbl_print.specs.Adding.{Adds, more, token_text};
 
 use crate::arithmetic::put_expression;
 use crate::tokens::{put, put_argument, put_literal, put_name, put_sign, put_word};
