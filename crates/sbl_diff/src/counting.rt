@@ -18,5 +18,8 @@ pub(crate) fn past_among(among: &Among, before: u64) -> Result<u64, AllocError>
     let Some(count) = among_count(among) else {
         return Err(AllocError);
     };
-    before.checked_add(count).ok_or(AllocError)
+    let Some(after) = before.checked_add(count) else {
+        return Err(AllocError);
+    };
+    Ok(after)
 }
