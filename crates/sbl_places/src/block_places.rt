@@ -11,7 +11,7 @@ use std::alloc::{AllocError, Global};
 
 /// Returns the whole text. Returns `AllocError` if an allocation fails.
 fn joined(alloc: Global, cut: Cut<'_>) -> Result<Vec<u8>, AllocError>
-    ensures { IfOk result (λ text. text.items ≡ cut.before.now ++ cut.part.now ++ cut.after.now) }
+    ensures { IfOk result (λ text. text.items ≡ cut.entry.before.now ++ cut.entry.part.now ++ cut.entry.after.now) }
 {
     let mut text = Vec::from_slice(alloc, cut.before)?;
     text.extend_from_slice(cut.part)?;
@@ -36,7 +36,7 @@ fn token_offset_in(
     cut: Cut<'_>,
     fault: ScriptFault,
 ) -> Result<Option<usize>, AllocError>
-    ensures { IfOk result (λ o. IsTokenIn cut.before.now cut.part.now cut.after.now fault o) }
+    ensures { IfOk result (λ o. IsTokenIn cut.entry.before.now cut.entry.part.now cut.entry.after.now fault o) }
 {
     token_is_one();
     let text = joined(alloc, cut)?;
