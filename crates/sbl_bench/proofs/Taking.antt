@@ -1,15 +1,15 @@
 -- What taking a word does to the entries that are kept.
 use Rattle.std.proofs.Common.{◌≡◌, ◌∙◌, ◌++◌, ℕ, Bool, true, false, List, [], ◌∷◌, length, refl, sym, ap, subst, nat_eq, None, HashMap, Vec, Global}
 use Rattle.std.specs.Str.{bytes_eq}
-use Rattle.std.specs.declared.random_state.RandomState.{RandomState}
 use Rattle.indexmap.specs.IndexMap.{get, insert_entry}
 use Rattle.indexmap.proofs.CallerLemmas.{insert_entry-new}
 use Rattle.sbl_machine.specs.declared.outcome.Traced.{Traced}
+use Rattle.sbl_bench.specs.declared.word_hash.WordKeys.{WordKeys}
 use Rattle.sbl_bench.specs.Kept.{KeptWord}
 use Rattle.sbl_bench.specs.Vocabulary.{is_word, with_word}
 
 abbrev pub Traces : Type 0
-Traces = HashMap (Vec ℕ Global) Traced RandomState
+Traces = HashMap (Vec ℕ Global) Traced WordKeys
 
 abbrev same_word : Vec ℕ Global → Vec ℕ Global → Bool
 same_word x y = bytes_eq x.items y.items

@@ -15,6 +15,7 @@ pub mod Undo
 pub mod Kept
 pub mod LeavesChanges
 pub mod Whys
+pub mod WordHash
 -- what the functions inside the crate promise each other: nothing in these need be believed
 pub mod Pairs
 pub mod Grouping

@@ -17,6 +17,7 @@ mod open;
 mod pairs;
 mod row;
 mod traces;
+mod word_hash;
 
 pub use bench::{Bench, MAX_LIMIT, MAX_WORDS};
 pub use changed_row::ChangedRow;
@@ -25,3 +26,4 @@ pub use fault::EditFault;
 pub use row::Row;
 pub use sbl_interpreter::MAX_WORD_LENGTH;
 pub use sbl_script::ScriptFault;
+pub use word_hash::{WordHasher, WordKeys};

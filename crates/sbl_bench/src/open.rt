@@ -15,6 +15,7 @@ use crate::bench::{Bench, MAX_WORDS};
 use crate::fault::EditFault;
 use crate::last_run::{LastRun, SharedLists};
 use crate::traces::{Traces, has_word};
+use crate::word_hash::WordKeys;
 use indexmap::IndexMap;
 use indexmap::map::{Entry, OccupiedEntry};
 use sbl_interpreter::MAX_WORD_LENGTH;
@@ -31,8 +32,9 @@ impl Bench {
     /// Returns the bench of a script and a list of words. The words are taken in order. Empty words and repeats are skipped, so
     /// a word keeps its first position. Each word of the vocabulary is run once.
     ///
-    /// Words are found by a hash with these keys; the bench is the same with any keys. If they come from the system, as those of
-    /// `RandomState::new`, nobody can choose words that collide, which would make each word take as long as all before it.
+    /// Words are found by a hash whose keys are made of these (`WordKeys`); the bench is the same with any keys. Words that
+    /// collide would each take as long as all before it. If the keys come from the system, as those of `RandomState::new`,
+    /// they are secret, and we know no way to choose such words without them.
     ///
     /// Returns `WordTooLong` at a word of more than 255 characters, even if it is a repeat, and `Full` at a new word after
     /// 100,000 others, whichever comes first. Returns `OutOfMemory` if an allocation fails. (Our own choice.)
@@ -47,7 +49,7 @@ impl Bench {
     {
         let machine = Machine::new(alloc, &script)?;
         let mut meter = Meter::new();
-        let mut traces = IndexMap::with_hasher(alloc, keys);
+        let mut traces = IndexMap::with_hasher(alloc, WordKeys::new(keys));
         let mut lists = SharedLists::new(alloc);
         for word in words {
             take_word(alloc, &machine, &mut meter, &mut lists, &mut traces, word)?;
@@ -115,7 +117,7 @@ fn take_word(
 
 // Leaves the entry of a word, and the others, unchanged. (The map promises this for an entry that is swapped with itself, but
 // promises nothing for an entry that is dropped.)
-fn leave(entry: OccupiedEntry<'_, Vec<char>, LastRun, RandomState>)
+fn leave(entry: OccupiedEntry<'_, Vec<char>, LastRun, WordKeys>)
     ensures { entry.exit.0.now.entries ≡ (entry_map (Occupied entry.entry)).entries }
 {
     let index = entry.index();

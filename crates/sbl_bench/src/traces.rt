@@ -13,14 +13,13 @@ ghost use Rattle.sbl_bench.specs.Stops.{IsStop};
 
 use crate::fault::EditFault;
 use crate::last_run::LastRun;
+use crate::word_hash::WordKeys;
 use indexmap::IndexMap;
 use sbl_machine::{Machine, Meter, Table};
 use std::alloc::Global;
-use std::hash::RandomState;
 
-/// The words of a bench in their order, each with its last run. They are found by a hash with keys, so that nobody who does not
-/// know the keys can choose words that collide.
-pub(crate) type Traces = IndexMap<Vec<char>, LastRun, RandomState>;
+/// The words of a bench in their order, each with its last run. They are found by a hash with secret keys.
+pub(crate) type Traces = IndexMap<Vec<char>, LastRun, WordKeys>;
 
 /// A map does not contain a word twice.
 pub(crate) fn words_are_unique(traces: &Traces)

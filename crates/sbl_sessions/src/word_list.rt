@@ -4,24 +4,24 @@ ghost use Rattle.sbl_bench.specs.Contents.{word_fault};
 ghost use Rattle.sbl_sessions.specs.WordLists.{HoldsWords, OpensAs, texts_of};
 
 use indexmap::IndexSet;
-use sbl_bench::{MAX_WORD_LENGTH, MAX_WORDS};
+use sbl_bench::{MAX_WORD_LENGTH, MAX_WORDS, WordKeys};
 use std::alloc::{AllocError, Global};
 use std::hash::RandomState;
 
 /// The words so far that a bench does not skip, and the first word that a bench refuses. The words after that one are not kept.
 #[derive(Drop)]
 pub(crate) struct WordList {
-    words: IndexSet<Vec<char>, RandomState>,
+    words: IndexSet<Vec<char>, WordKeys>,
     refused: Option<Vec<char>>,
 }
 
 impl WordList {
-    /// Returns the list of no words. They are found by a hash with these keys.
+    /// Returns the list of no words. They are found by a hash with keys that are made of these.
     pub(crate) fn new(alloc: Global, keys: RandomState) -> WordList
         ensures { HoldsWords result [] }
     {
         WordList {
-            words: IndexSet::with_hasher(alloc, keys),
+            words: IndexSet::with_hasher(alloc, WordKeys::new(keys)),
             refused: None,
         }
     }
