@@ -3,6 +3,7 @@ pub mod SubjectTokens
 pub mod FaultPlaces
 pub mod BlockPlaces
 pub mod Positions
+pub mod ItemWords
 -- what the functions inside the crate promise each other; no public contract depends on these
 pub mod Walks
 pub mod FaultKinds

@@ -5,16 +5,17 @@ ghost use Rattle.sbl_places.specs.BlockPlaces.{IsBlockOffset, IsTokenIn};
 
 use crate::fault_places::{place_in, token_offset};
 use crate::laws::token_is_one;
+use crate::parts::Cut;
 use sbl_text::ScriptFault;
 use std::alloc::{AllocError, Global};
 
-/// Returns three texts as one. Returns `AllocError` if an allocation fails.
-fn joined(alloc: Global, before: &[u8], block: &[u8], after: &[u8]) -> Result<Vec<u8>, AllocError>
-    ensures { IfOk result (λ text. text.items ≡ before.now ++ block.now ++ after.now) }
+/// Returns the whole text. Returns `AllocError` if an allocation fails.
+fn joined(alloc: Global, cut: Cut<'_>) -> Result<Vec<u8>, AllocError>
+    ensures { IfOk result (λ text. text.items ≡ cut.before.now ++ cut.part.now ++ cut.after.now) }
 {
-    let mut text = Vec::from_slice(alloc, before)?;
-    text.extend_from_slice(block)?;
-    text.extend_from_slice(after)?;
+    let mut text = Vec::from_slice(alloc, cut.before)?;
+    text.extend_from_slice(cut.part)?;
+    text.extend_from_slice(cut.after)?;
     Ok(text)
 }
 
@@ -29,20 +30,18 @@ fn offset_in(begin: usize, length: usize, offset: usize) -> Option<usize>
     if inside < length { Some(inside) } else { None }
 }
 
-/// Returns the byte offset in the block of the token at which the checks find this fault.
+/// Returns the byte offset in the part of the token at which the checks find this fault in the whole text.
 fn token_offset_in(
     alloc: Global,
-    before: &[u8],
-    block: &[u8],
-    after: &[u8],
+    cut: Cut<'_>,
     fault: ScriptFault,
 ) -> Result<Option<usize>, AllocError>
-    ensures { IfOk result (λ o. IsTokenIn before.now block.now after.now fault o) }
+    ensures { IfOk result (λ o. IsTokenIn cut.before.now cut.part.now cut.after.now fault o) }
 {
     token_is_one();
-    let text = joined(alloc, before, block, after)?;
+    let text = joined(alloc, cut)?;
     match token_offset(alloc, &text, fault)? {
-        Some(offset) => Ok(offset_in(before.len(), block.len(), offset)),
+        Some(offset) => Ok(offset_in(cut.before.len(), cut.part.len(), offset)),
         None => Ok(None),
     }
 }
@@ -64,6 +63,13 @@ pub fn offset_in_block(
 {
     match place_in(fault) {
         Some(place) => Ok(Some(place)),
-        None => token_offset_in(alloc, before, block, after, fault),
+        None => {
+            let cut = Cut {
+                before,
+                part: block,
+                after,
+            };
+            token_offset_in(alloc, cut, fault)
+        }
     }
 }

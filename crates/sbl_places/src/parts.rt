@@ -1,6 +1,7 @@
 //! The part of a script's text that a block replaces.
 
 ghost use Rattle.std.specs.Prelude.{◌≡◌, ◌++◌, IfOk, IfSome};
+ghost use Rattle.sbl_places.specs.ItemWords as spec;
 
 use sbl_text::{Kind, ScriptFault, Sign, Token, Word, tokens};
 use std::alloc::{AllocError, Global};
@@ -27,22 +28,29 @@ pub struct Cut<'a> {
     pub after: &'a [u8],
 }
 
+/// Returns whether an item can begin with this word. Does not allocate.
+pub fn begins_item(word: Word) -> bool
+    ensures { result ≡ spec.begins_item word }
+{
+    matches!(
+        word,
+        Word::BackwardMode
+            | Word::Booleans
+            | Word::Define
+            | Word::Externals
+            | Word::Groupings
+            | Word::Integers
+            | Word::Routines
+            | Word::StringDef
+            | Word::StringEscapes
+            | Word::Strings
+    )
+}
+
 /// Returns whether the token begins an item, or ends the parentheses that items are in.
 fn ends_item(kind: Kind) -> bool {
     match kind {
-        Kind::Word(word) => matches!(
-            word,
-            Word::BackwardMode
-                | Word::Booleans
-                | Word::Define
-                | Word::Externals
-                | Word::Groupings
-                | Word::Integers
-                | Word::Routines
-                | Word::StringDef
-                | Word::StringEscapes
-                | Word::Strings
-        ),
+        Kind::Word(word) => begins_item(word),
         Kind::Sign(sign) => sign == Sign::Close,
         _ => false,
     }

@@ -3,10 +3,10 @@
 ghost use Rattle.std.specs.Prelude.{◌≡◌, ◌++◌, ◌∷◌, List, OnOk, map, string_bytes};
 ghost use Rattle.sbl_ast.specs.Terminal.{Terminal};
 ghost use Rattle.sbl_ast.specs.Terminal as t;
-ghost use Rattle.sbl_ast.specs.Tree.{spelled, spelled_entries, spelled_entry, spelled_groups, spelled_others, spelled_rows, spelled_starter};
+ghost use Rattle.sbl_ast.specs.Tree.{spelled, spelled_entries, spelled_entry, spelled_expression, spelled_groups, spelled_others, spelled_rows, spelled_starter};
 ghost use Rattle.sbl_ast.specs.Tree as trees;
 ghost use Rattle.sbl_ast.specs.View.{view_among, view_argument, view_command, view_entry, view_expression, view_groups, view_others, view_row, view_rows};
-ghost use Rattle.sbl_print.specs.Adding.{Adds, more};
+ghost use Rattle.sbl_print.specs.Adding.{Adds, more, token_text};
 
 use crate::arithmetic::put_expression;
 use crate::tokens::{put, put_argument, put_literal, put_name, put_sign, put_word};
@@ -15,8 +15,8 @@ use crate::words::{
     simple_text, splice_text,
 };
 use sbl_ast::{
-    Among, Argument, Assignment, Command, Comparison, Entry, Expression, Group, Joined, Move,
-    Naming, RowOfCommands, Splice,
+    Among, Argument, Command, Comparison, Entry, Expression, Group, Joined, Move, Naming,
+    RowOfCommands, Splice,
 };
 use sbl_token::{Sign, Word};
 use std::alloc::{AllocError, Global};
@@ -61,35 +61,19 @@ fn put_splice(out: &mut String, word: Splice, string: &Argument) -> Result<(), A
     put_argument(out, string)
 }
 
-/// Appends `$ X = E` and similar commands. Returns `AllocError` if an allocation fails.
-fn put_assign(
+/// Appends `$ X`, a sign and an expression, as in `$ X = E` and `$ X == E`. Returns `AllocError` if an allocation fails.
+fn put_dollar(
     alloc: Global,
     out: &mut String,
     name: &String,
-    sign: Assignment,
+    sign: &str,
     number: &Expression,
 ) -> Result<(), AllocError>
-    ensures { OnOk result (Adds (string_bytes out.old) (string_bytes out.new) (spelled (trees.assign_ (string_bytes name.now) sign (view_expression number.now)))) }
+    ensures { OnOk result ((x : Terminal) → token_text x ≡ sign.now → Adds (string_bytes out.old) (string_bytes out.new) (λ rest. t.dollar ∷ t.name (string_bytes name.now) ∷ x ∷ spelled_expression (view_expression number.now) rest)) }
 {
     put_sign(out, Sign::Dollar)?;
     put_name(out, name)?;
-    put(out, assignment_text(sign))?;
-    put_expression(alloc, out, number)
-}
-
-/// Appends `$ X == E` and similar commands. Returns `AllocError` if an allocation fails.
-fn put_compare(
-    alloc: Global,
-    out: &mut String,
-    name: &String,
-    sign: Comparison,
-    number: &Expression,
-) -> Result<(), AllocError>
-    ensures { OnOk result (Adds (string_bytes out.old) (string_bytes out.new) (spelled (trees.compare_ (string_bytes name.now) sign (view_expression number.now)))) }
-{
-    put_sign(out, Sign::Dollar)?;
-    put_name(out, name)?;
-    put(out, comparison_text(sign))?;
+    put(out, sign)?;
     put_expression(alloc, out, number)
 }
 
@@ -161,8 +145,12 @@ fn put_command(alloc: Global, out: &mut String, command: &Command) -> Result<(),
             put_word(out, Word::For)?;
             put_command(alloc, out, inner)
         }
-        Command::Assign(name, sign, number) => put_assign(alloc, out, name, *sign, number),
-        Command::Compare(name, sign, number) => put_compare(alloc, out, name, *sign, number),
+        Command::Assign(name, sign, number) => {
+            put_dollar(alloc, out, name, assignment_text(*sign), number)
+        }
+        Command::Compare(name, sign, number) => {
+            put_dollar(alloc, out, name, comparison_text(*sign), number)
+        }
         Command::CompareValues(first, sign, second) => {
             put_compare_values(alloc, out, first, *sign, second)
         }

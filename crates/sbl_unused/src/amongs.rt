@@ -25,19 +25,7 @@ fn add_command<'a>(command: &'a Command, all: &mut Vec<&'a Among>) -> Result<(),
             add_command(inner, all)
         }
         Command::Among(among) => add_among(among, all),
-        Command::Simple(_)
-        | Command::Literal(_)
-        | Command::Name(_)
-        | Command::Non {
-            with_minus: _,
-            name: _,
-        }
-        | Command::Move(_, _)
-        | Command::Named(_, _)
-        | Command::Splice(_, _)
-        | Command::Assign(_, _, _)
-        | Command::Compare(_, _, _)
-        | Command::CompareValues(_, _, _) => Ok(()),
+        _ => Ok(()),
     }
 }
 

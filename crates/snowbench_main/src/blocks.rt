@@ -1,10 +1,8 @@
 //! The blocks of an input.
 
+use sbl_bench::MAX_WORD_LENGTH;
 use sbl_io::first_line;
 use std::alloc::{AllocError, Global};
-
-/// How many characters a word has at most.
-pub(crate) const MAX_WORD_LENGTH: usize = 255;
 
 /// Returns the number of the first line that is a single point, from 1.
 pub(crate) fn point_line(text: &[u8]) -> Option<u64> {

@@ -5,7 +5,7 @@ use crate::encodings::push_conversion;
 use crate::messages::{push_hexadecimal, push_named};
 use crate::near::{push_listed, push_near, push_near_word};
 use crate::reasons::{begins_sentence, reason};
-use sbl_places::{Part, Position, ScriptFault, position_of};
+use sbl_places::{Part, Position, ScriptFault, begins_item, position_of};
 use sbl_text::{Kind, Sign, Token, Word, tokens};
 use std::alloc::{AllocError, Global};
 
@@ -41,21 +41,9 @@ fn whole_text(part: Part<'_>) -> &'static str {
 }
 
 /// Returns whether the token begins an item, or whether there is none.
-fn begins_item(kind: Option<Kind>) -> bool {
+fn is_at_item(kind: Option<Kind>) -> bool {
     match kind {
-        Some(Kind::Word(word)) => matches!(
-            word,
-            Word::BackwardMode
-                | Word::Booleans
-                | Word::Define
-                | Word::Externals
-                | Word::Groupings
-                | Word::Integers
-                | Word::Routines
-                | Word::StringDef
-                | Word::StringEscapes
-                | Word::Strings
-        ),
+        Some(Kind::Word(word)) => begins_item(word),
         Some(_) => false,
         None => true,
     }
@@ -208,7 +196,7 @@ fn push_syntax(
     } else {
         " cannot follow what is before it"
     })?;
-    if begins_item(spot.kind) {
+    if is_at_item(spot.kind) {
         push_open(alloc, shown, faulty.text, before.open)?;
     }
     if spot.kind == Some(Kind::Name) && push_near_word(alloc, shown, spot.token)? {
