@@ -13,18 +13,18 @@ import re
 import sys
 
 from advice import Advice
+from changes import LAYOUTS, counted, lay_out_changes, lay_out_largest, lay_out_rows, names_in, since_mark
 from child import Child
 from files import Files
 from history import EDITS, TYPED, History, aside_sentence, digest
 from plain import for_terminal, named
 from rows import rows_of
+from shows import Shows
 from whys import lay_out_why
 from warn import read, warnings_on
 from watch import watch
 
 REFUSAL = re.compile(r"^no (\d\d) ([A-Za-z0-9]+)$")
-# How many words, and classes of a kind, are shown after an edit; `changes` shows all.
-MOST = 20
 # The most bytes of a line.
 LONGEST = 65536
 # The status after Ctrl-C at the start.
@@ -39,6 +39,7 @@ class Desk:
         self.files = Files(script, words)
         self.child = Child(program, options, script, words)
         self.advice = Advice(self)
+        self.shows = Shows(self)
         self.history = None
         # A save or an end that was refused, and is accepted if it is asked for again.
         self.doubted = None
@@ -122,6 +123,10 @@ class Desk:
             return LAYOUTS[command](answer)
         if command.startswith("largest "):
             return lay_out_largest(answer)
+        if command == "script":
+            return self.shows.script(answer)
+        if command.startswith("show "):
+            return self.shows.definition(command[5:], "\n".join(answer))
         if command.startswith("why "):
             return lay_out_why(answer, command[4:], self.query(["integers " + command[4:]]))
         return answer
@@ -273,81 +278,6 @@ def write(lines):
 def say(lines):
     sys.stderr.buffer.write("".join(for_terminal(line) + "\n" for line in lines).encode("utf-8"))
     sys.stderr.flush()
-
-
-def since_mark(before, now):
-    """Returns the line above the changes after an edit if there were some before it."""
-    if not before or not now:
-        return []
-    return ["This edit changed no word and no class. Since the mark:" if now == before else "Since the mark:"]
-
-
-def outcome(kind, text):
-    return "refused %s" % text if kind == "refused" else named(text) or "(empty)"
-
-
-def stem(name):
-    return outcome("stem", name)
-
-
-def stems(names):
-    return ", ".join(map(stem, names))
-
-
-def counted(count, one, many):
-    return "{:,} {}".format(count, one if count == 1 else many)
-
-
-def shown(rows, is_edit, lay_out):
-    """Lays out rows, after an edit the first of them."""
-    most = MOST if is_edit and len(rows) > MOST else len(rows)
-    more = ['  .. and %d more: "changes" shows all' % (len(rows) - most)] if most < len(rows) else []
-    return [lay_out(row) for row in rows[:most]] + more
-
-
-def lay_out_changes(answer, is_edit=False):
-    return lay_out_rows(rows_of(answer), is_edit)
-
-
-def lay_out_rows(rows, is_edit=False):
-    """Lays out the rows of `changes`: words with their stems before and after, then classes."""
-    kinds = {kind: [] for kind in ("added", "removed", "changed", "split", "merged", "renamed")}
-    for row in rows:
-        kinds[row[0]].append(row[1:])
-    if not any(kinds.values()):
-        return ["no word and no class differs from the mark"]
-    changed, lines = kinds["changed"], []
-    for kind in ("added", "removed"):
-        if kinds[kind]:
-            lines += [counted(len(kinds[kind]), "word", "words") + " " + kind] + shown(kinds[kind], is_edit, lambda row: "  " + named(row[0]))
-    column = min(24, max([len(row[0]) for row in changed], default=0))
-    kept = all(row[1] == row[3] == "stem" for row in changed)
-    lines += [counted(len(changed), "word has", "words have") + (" another stem" if kept else " another stem or refusal")]
-    lines += shown(changed, is_edit, lambda row: "  %-*s  %s -> %s" % (column, named(row[0]), outcome(*row[1:3]), outcome(*row[3:5])))
-    counts = tuple(len(kinds[kind]) for kind in ("split", "merged", "renamed"))
-    lines += ["classes: %d split, %d merged, %d renamed" % counts] if any(counts) else []
-    lines += shown(kinds["split"], is_edit, lambda row: "  split    %s -> %s" % (stem(row[0]), stems(row[1:])))
-    lines += shown(kinds["merged"], is_edit, lambda row: "  merged   %s -> %s" % (stems(row[1:]), stem(row[0])))
-    return lines + shown(kinds["renamed"], is_edit, lambda row: "  renamed  %s -> %s" % (stem(row[0]), stem(row[1])))
-
-
-def names_in(row):
-    """Returns the words and stems in a row of `changes`."""
-    return row[1::2] if row[0] == "changed" else row[1:]
-
-
-def lay_out_largest(answer):
-    """Lays out classes with their sizes."""
-    rows = rows_of(answer)
-    column = max([len(str(len(row) - 1)) for row in rows], default=0)
-    return ["%*d  %s: %s" % (column, len(row) - 1, stem(row[0]), ", ".join(map(named, row[1:]))) for row in rows]
-
-
-def lay_out_stats(answer):
-    return ["%-10s %s" % tuple(row) for row in csv.reader(answer)]
-
-
-LAYOUTS = {"changes": lay_out_changes, "stats": lay_out_stats}
 
 
 def requests():
