@@ -15,6 +15,7 @@ import sys
 from advice import Advice
 from changes import LAYOUTS, counted, lay_out_changes, lay_out_largest, lay_out_rows, names_in, since_mark
 from child import Child
+from conditions import Conditions
 from files import Files
 from history import EDITS, TYPED, History, aside_sentence, digest
 from plain import for_terminal, named
@@ -39,7 +40,7 @@ class Desk:
         self.files = Files(script, words)
         self.child = Child(program, options, script, words)
         self.advice = Advice(self)
-        self.shows = Shows(self)
+        self.shows, self.conditions = Shows(self), Conditions(self)
         self.history = None
         # A save or an end that was refused, and is accepted if it is asked for again.
         self.doubted = None
@@ -61,6 +62,8 @@ class Desk:
             return "refused"
         if word == "changes" and argument:
             return self.show_changes(argument)
+        if word == "tests":
+            return self.show_tests(argument)
         if word == "save" and self.files.is_script(argument):
             lines = ["save " + self.script]
         return self.run(word, argument, lines, is_edit)
@@ -128,8 +131,26 @@ class Desk:
         if command.startswith("show "):
             return self.shows.definition(command[5:], "\n".join(answer))
         if command.startswith("why "):
-            return lay_out_why(answer, command[4:], self.query(["integers " + command[4:]]))
+            return self.lay_out_why(command[4:], rows_of(answer))
         return answer
+
+    def lay_out_why(self, word, rows):
+        figures = rows_of(self.query(["integers " + word]))
+        return lay_out_why(rows, word, figures, self.conditions.failures(word, rows, int(figures[0][1])))
+
+    def show_tests(self, word):
+        """Shows the tests of a word's run that have no name."""
+        answer, figures = self.child.query_each(["events " + word], ["integers " + word])
+        if figures is None:
+            return self.end()
+        refusal = REFUSAL.match(answer[0])
+        if refusal:
+            self.refuse(answer, int(refusal[1]), ["tests " + word], None)
+            return "refused"
+        lines = self.conditions.lay_out(word, rows_of(answer), int(rows_of(figures)[0][1]))
+        write(lines or [])
+        say([] if lines else ["The tests of this run cannot be shown: it is too long, or near a limit. events %s shows its events." % named(word)])
+        return "ok"
 
     def may_save(self, path):
         """Whether `save` may write to a file; otherwise says why not."""

@@ -1,7 +1,7 @@
 """Shows a definition, or the whole script, as its author wrote it: `show` and `script` at a terminal."""
 from layout import laid_out
 from plain import named
-from source import definition, escapes_at, tokens_of
+from source import decoded, definition, escapes_at, tokens_of
 from warn import read
 
 
@@ -42,7 +42,3 @@ class Shows:
             shown += laid_out(line, escapes)
             escapes = line.split()[1] if line.startswith("stringescapes ") else escapes
         return shown
-
-
-def decoded(text):
-    return text.decode("utf-8", "surrogateescape")

@@ -19,12 +19,6 @@ class Token:
     def __init__(self, text, start, end):
         self.text, self.start, self.end = text, start, end
 
-    def is_literal(self):
-        return self.text.startswith("'")
-
-    def is_name(self):
-        return self.text[:1].isalpha()
-
     def value(self):
         """Returns the text, of a number without leading zeros."""
         return self.text.lstrip("0") or "0" if self.text.isdigit() else self.text
@@ -106,3 +100,8 @@ def escapes_at(tokens):
 def place_of(text, at):
     """Returns the line and the column of an offset, from 1."""
     return text.count("\n", 0, at) + 1, at - text.rfind("\n", 0, at)
+
+
+def decoded(text):
+    """Returns the text of a script's bytes, or nothing if there are none."""
+    return (text or b"").decode("utf-8", "surrogateescape")
