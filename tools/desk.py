@@ -18,8 +18,9 @@ from child import Child
 from conditions import Conditions
 from files import Files
 from history import EDITS, TYPED, History, aside_sentence, digest
-from plain import for_terminal, named
+from plain import named
 from rows import rows_of
+from screen import say, write
 from shows import Shows
 from whys import lay_out_why
 from warn import read, warnings_on
@@ -84,7 +85,7 @@ class Desk:
             if word == "reload" and text is not None:
                 self.files.refused = text
             return "refused"
-        write(self.lay_out(lines[0], answer))
+        write(self.lay_out(lines[0], answer), is_text=word in ("show", "script", "echo"))
         say(self.advice.note(lines))
         if word == "save":
             say(self.files.note_saved(argument, former))
@@ -110,7 +111,8 @@ class Desk:
         word, _, argument = lines[0].partition(" ")
         write(answer)
         cut = self.files.put_back(argument, former) if word == "save" else None
-        say(self.child.said() + ([cut] if cut else self.advice.lines(code, lines)))
+        say(self.child.said(), is_text=True)
+        say([cut] if cut else self.advice.lines(code, lines))
 
     def show_changes(self, text):
         """Shows the rows of `changes` that have a text."""
@@ -266,13 +268,13 @@ class Desk:
         for line in warnings_on(paths[0], paths[1] if len(paths) > 1 else ""):
             if line not in self.warned:
                 self.warned.append(line)
-                say([line])
+                say([line], is_text=True)
 
     def end(self):
         """Says why the program has ended."""
         self.child.process.wait()
         said = self.child.said()
-        say(said)
+        say(said, is_text=True)
         fault = re.match(r"snowbench: (\d+) \w+", said[0]) if said else None
         if fault and int(fault[1]) < 25 and looks_swapped(self.script, self.words):
             say(["%s looks like a script. The script comes first: ./snowbench work SCRIPT WORDS" % named(self.words)])
@@ -289,16 +291,6 @@ def holds(path, text):
             return text in file.read(1048576)
     except OSError:
         return False
-
-
-def write(lines):
-    sys.stdout.buffer.write("".join(for_terminal(line) + "\n" for line in lines).encode("utf-8"))
-    sys.stdout.flush()
-
-
-def say(lines):
-    sys.stderr.buffer.write("".join(for_terminal(line) + "\n" for line in lines).encode("utf-8"))
-    sys.stderr.flush()
 
 
 def requests():

@@ -23,8 +23,13 @@ class Shows:
         there = text is not None and definition(decoded(text), canonical)
         is_typed = name in [edit.name() for edit in self.desk.history.typed()]
         where = "%snot in %s:" % ("as you typed it, " if is_typed else "", named(path))
-        lines = there.lines() if there else [canonical]
-        return [where, *(laid_out(canonical, self.escapes(canonical)) if lines == [canonical] else "\n".join(lines).split("\n"))]
+        if there and not self.is_canonical(text):
+            return [where, *there.lines()]
+        return [where, *laid_out(canonical, self.escapes(canonical))]
+
+    def is_canonical(self, text):
+        """Returns whether the text of the script is its canonical text, which the program makes if it has no other."""
+        return decoded(text).splitlines() == self.desk.query(["script"])
 
     def escapes(self, canonical):
         """Returns the insert characters in force at a canonical definition."""
