@@ -73,7 +73,8 @@ class Desk:
         former = read(argument) if word == "save" else None
         typed, text = self.before_reload() if word == "reload" else ({}, None)
         replaced = self.definition(argument.partition(" ")[0]) if word in TYPED else None
-        answer = self.child.run(lines, say, text)
+        is_own = word == "save" and self.files.has_crlf()
+        answer = self.files.write_crlf(argument, self.child.text()) if is_own else self.child.run(lines, say, text)
         if answer is None:
             say(list(filter(None, [word == "save" and self.files.put_back(argument, former)])))
             return self.end()
