@@ -42,8 +42,16 @@ def lay_out_changes(answer, is_edit=False):
     return lay_out_rows(rows_of(answer), is_edit)
 
 
-def lay_out_rows(rows, is_edit=False):
-    """Lays out the rows of `changes`: words with their stems before and after, then classes."""
+def lay_out_part(rows, text):
+    """Lays out those rows of `changes` that have a text in a word or a stem."""
+    part = [row for row in rows if any(text in name for name in names_in(row))]
+    if rows and not part:
+        return ['no change has %s: "changes" shows all' % named(text)]
+    return ["Only what has %s:" % named(text)] * bool(part) + lay_out_rows(part, is_part=True)
+
+
+def lay_out_rows(rows, is_edit=False, is_part=False):
+    """Lays out rows of `changes`, all or a part: words with their stems before and after, then classes."""
     kinds = {kind: [] for kind in ("added", "removed", "changed", "split", "merged", "renamed")}
     for row in rows:
         kinds[row[0]].append(row[1:])
@@ -55,7 +63,10 @@ def lay_out_rows(rows, is_edit=False):
             lines += [counted(len(kinds[kind]), "word", "words") + " " + kind] + shown(kinds[kind], is_edit, lambda row: "  " + named(row[0]))
     column = min(24, max([len(row[0]) for row in changed], default=0))
     kept = all(row[1] == row[3] == "stem" for row in changed)
-    lines += [counted(len(changed), "word has", "words have") + (" another stem" if kept else " another stem or refusal")]
+    if changed:
+        lines += [counted(len(changed), "word has", "words have") + (" another stem" if kept else " another stem or refusal")]
+    elif not is_part:
+        lines += ["no word has another stem"]
     lines += shown(changed, is_edit, lambda row: "  %-*s  %s -> %s" % (column, named(row[0]), outcome(*row[1:3]), outcome(*row[3:5])))
     counts = tuple(len(kinds[kind]) for kind in ("split", "merged", "renamed"))
     lines += ["classes: %d split, %d merged, %d renamed" % counts] if any(counts) else []

@@ -13,7 +13,7 @@ import re
 import sys
 
 from advice import Advice
-from changes import LAYOUTS, counted, lay_out_changes, lay_out_largest, lay_out_rows, names_in, since_mark
+from changes import LAYOUTS, counted, lay_out_changes, lay_out_largest, lay_out_part, since_mark
 from child import Child
 from conditions import Conditions
 from files import Files
@@ -120,8 +120,7 @@ class Desk:
         answer = self.query(["changes"])
         if answer is None:
             return self.end()
-        rows = [row for row in rows_of(answer) if any(text in name for name in names_in(row))]
-        write(["Only what has %s:" % named(text)] + lay_out_rows(rows) if rows else ["no change has %s" % named(text)])
+        write(lay_out_part(rows_of(answer), text))
         return "ok"
 
     def lay_out(self, command, answer):
