@@ -8,7 +8,7 @@ from plain import named
 from rows import rows_of
 
 PLAIN = "stems classes script runs reload undo redo mark changes stats unused help quit".split()
-ONE_LINE = "add remove class trace why tests events integers limit largest show save echo".split()
+ONE_LINE = "add append remove class trace why tests events integers limit largest show save echo".split()
 BLOCKS = "routine among grouping replace families".split()
 # What `show` does not show, and what does.
 VARIABLES = {"integer": " integers WORD shows its value at the end of a run.", "string": "", "boolean": ""}

@@ -12,6 +12,7 @@ import os
 import re
 import sys
 
+from added import Added
 from advice import Advice
 from changes import LAYOUTS, counted, lay_out_changes, lay_out_largest, lay_out_part, since_mark
 from child import Child
@@ -38,7 +39,7 @@ class Desk:
         self.program, self.script, self.words, self.options = program, script, words, options
         # The warnings that were given; the status at the end if it is not the program's.
         self.warned, self.status = [], None
-        self.files = Files(script, words)
+        self.files, self.added = Files(script, words), Added(script, words)
         self.child = Child(program, options, script, words)
         self.advice = Advice(self)
         self.shows, self.conditions = Shows(self), Conditions(self)
@@ -65,6 +66,8 @@ class Desk:
             return self.show_changes(argument)
         if word == "tests":
             return self.show_tests(argument)
+        if word == "append":
+            return self.append(argument)
         if word == "save" and self.files.is_script(argument):
             lines = ["save " + self.script]
         return self.run(word, argument, lines, is_edit)
@@ -91,6 +94,8 @@ class Desk:
         if word == "save":
             say(self.files.note_saved(argument, former))
             self.history.note_saved(argument)
+        if word in ("add", "remove"):
+            self.added.note(word, argument)
         if word in ("mark", "changes"):
             self.changes = answer if word == "changes" else []
         return self.show_edit(lines[0], typed, replaced, is_edit) if word in EDITS else "ok"
@@ -172,18 +177,27 @@ class Desk:
         return not why
 
     def quit(self):
-        """Returns `ok` if no typed edit would be lost, or if it is asked for again; otherwise says so."""
+        """Returns `ok` if no typed edit and no added word would be lost, or if it is asked for again; otherwise says so."""
         if not self.history or self.doubted == "quit":
             return "ok"
-        aside = self.history.put_aside()
+        aside, doubts = self.history.put_aside(), []
         if self.history.unsaved():
-            say(["The edits that you typed are in no file: save FILE keeps them, quit again drops them."])
+            doubts = ["The edits that you typed are in no file: save FILE keeps them, quit again drops them."]
         elif aside:
-            say([aside_sentence(aside, is_unsaved=True) + " quit again ends."])
-        else:
+            doubts = [aside_sentence(aside, is_unsaved=True) + " quit again ends."]
+        doubts += self.added.doubts()
+        if not doubts:
             return "ok"
+        say(doubts)
         self.doubted = "quit"
         return "refused"
+
+    def append(self, path):
+        """Puts the added words into a file."""
+        is_done, sentence = self.added.append(path)
+        write(["ok"] if is_done else [])
+        say([sentence])
+        return "ok" if is_done else "refused"
 
     def peek(self, line):
         """Returns `ok` if a block may follow a line; otherwise says what is wrong with it."""

@@ -56,7 +56,7 @@ class Files:
 
     def has_crlf(self):
         """Returns whether each line of the script's file ended by a carriage return and a line feed when it was read."""
-        return bool(self.seen) and 0 < self.seen.count(b"\n") == self.seen.count(b"\r\n")
+        return is_crlf(self.seen or b"")
 
     def write_crlf(self, path, text):
         """Writes the text of the script to a file with such line ends, also in the parts that were typed. Returns what the program replies."""
@@ -91,6 +91,10 @@ class Files:
         """Notes that the script was read. Returns whether it has other bytes than before."""
         before, self.seen, self.refused = self.seen, read(self.script), None
         return self.seen != before
+
+
+def is_crlf(text):
+    return 0 < text.count(b"\n") == text.count(b"\r\n")
 
 
 def with_crlf(text):
