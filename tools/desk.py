@@ -28,6 +28,12 @@ from warn import read, warnings_on
 from watch import watch
 
 REFUSAL = re.compile(r"^no (\d\d) ([A-Za-z0-9]+)$")
+# What is shown for replies without a row.
+EMPTY = {
+    "unused": "some word uses each routine, among, grouping and string",
+    "stems": "there are no words: add WORD",
+    "classes": "there are no classes",
+}
 # The most bytes of a line.
 LONGEST = 65536
 # The status after Ctrl-C at the start.
@@ -129,6 +135,8 @@ class Desk:
         return "ok"
 
     def lay_out(self, command, answer):
+        if not answer and command in EMPTY:
+            return [EMPTY[command]]
         if command in LAYOUTS:
             return LAYOUTS[command](answer)
         if command.startswith("largest "):
@@ -247,8 +255,10 @@ class Desk:
         if is_reload:
             now = {name: self.definition(name) for name in typed}
             gone = {name: now[name] for name in typed if now[name] != typed[name]}
-            aside = self.history.note_read(before == self.history.script, gone, self.files.note_read())
+            is_new = self.files.note_read()
+            aside = self.history.note_read(before == self.history.script, gone, is_new)
             say([aside_sentence(aside)] if aside else [])
+            say([] if is_new or before != self.history.script else ["%s has not changed since it was read." % named(self.script)])
             self.warn([self.script])
 
     def start(self):
