@@ -21,7 +21,7 @@ from files import Files
 from history import EDITS, TYPED, History, aside_sentence, digest
 from plain import named
 from rows import rows_of
-from screen import say, write
+from screen import say, say_program, write
 from shows import Shows
 from whys import lay_out_why
 from warn import read, warnings_on
@@ -123,7 +123,7 @@ class Desk:
         word, _, argument = lines[0].partition(" ")
         write(answer)
         cut = self.files.put_back(argument, former) if word == "save" else None
-        say(self.child.said(), is_text=True)
+        say_program(self.child.said())
         say([cut] if cut else self.advice.lines(code, lines))
 
     def show_changes(self, text):
@@ -298,7 +298,7 @@ class Desk:
         """Says why the program has ended."""
         self.child.process.wait()
         said = self.child.said()
-        say(said, is_text=True)
+        say_program(said)
         fault = re.match(r"snowbench: (\d+) \w+", said[0]) if said else None
         if fault and int(fault[1]) < 25 and looks_swapped(self.script, self.words):
             say(["%s looks like a script. The script comes first: ./snowbench work SCRIPT WORDS" % named(self.words)])

@@ -20,6 +20,12 @@ def say(lines, is_text=False):
     put(sys.stderr, lines, is_text)
 
 
+def say_program(lines):
+    """Writes what the program says to standard error. The line of a fault and the carets below it, which are indented, are not broken."""
+    for line in lines:
+        say([line], is_text=line.startswith(" "))
+
+
 def put(stream, lines, is_text):
     most = width() if lines and not is_text else 0
     shown = [part for line in lines for part in ([for_terminal(line)] if is_text else broken(for_terminal(line), most))]

@@ -39,7 +39,8 @@ def lay_out_why(rows, word, figures, failures):
         else:
             lines.append((kind, "%s   %s" % (named(row[1]) or "''", lay_out_figures(figures))))
     column = max(len(name) for name, _ in lines)
-    return [("  %-*s  %s" % (column, name, what)).rstrip() for name, what in lines]
+    more = "  nothing took a string or changed the text: \"events %s\" shows the searches, \"tests %s\" the tests" % (named(word), named(word))
+    return [more] * (len(lines) == 1) + [("  %-*s  %s" % (column, name, what)).rstrip() for name, what in lines]
 
 
 def lay_out_figures(figures):
