@@ -13,6 +13,8 @@ from warn import read
 
 # How many letters of a row of commands are shown at most.
 LONGEST = 60
+# How many tests are listed at most.
+MOST_LINES = 200
 # The largest limit of steps.
 MOST_STEPS = 10000000
 
@@ -55,10 +57,10 @@ def declared(routine, names):
     return "\n".join(parts) + "\n"
 
 
-def events_of(command, text, word, steps):
-    """Returns the rows of the events of a word's run by the text of a script, or nothing if it cannot be run."""
+def events_of(command, text, word, limit):
+    """Returns the rows of the events of a word's run by the text of a script under a limit, or nothing if it cannot be run."""
     file = memory_file(text.encode("utf-8", "surrogateescape"))
-    sent = "limit %d\nevents %s\n" % (min(4 * steps + 100, MOST_STEPS), word)
+    sent = "limit %d\nevents %s\n" % (limit, word)
     words = [*command, "--", "/dev/fd/%d" % file]
     try:
         ended = subprocess.run(words, input=sent.encode("utf-8", "surrogateescape"), stdout=subprocess.PIPE, stderr=subprocess.DEVNULL, pass_fds=(file,))
@@ -80,6 +82,21 @@ def split(rows, prefix):
     return kept, asked
 
 
+def limit_of(rows, steps):
+    """Returns the limit for the copy, whose calls take steps, too. If the run was refused for its steps, the copy may not go further than it."""
+    return steps - 1 if rows[-1] == ["refused", "Steps"] else min(4 * steps + 100, MOST_STEPS)
+
+
+def agreed(rows, kept):
+    """Returns how many rows of a run its copy has, too; or nothing if the copy did otherwise. The copy may end before the run, since it takes
+    more steps, levels of calls and events."""
+    if not kept or kept == rows:
+        return len(kept)
+    body = [row for row in kept[:-1] if row[0] != "more"]
+    is_cut = kept[-1][0] == "refused" or len(body) < len(kept) - 1
+    return len(body) if is_cut and rows[: len(body)] == body else 0
+
+
 class Conditions:
     """Knows the desk, its program and its files."""
 
@@ -89,25 +106,26 @@ class Conditions:
         self.text, self.tests, self.there = "", [], {}
 
     def asked(self, word, rows, steps):
-        """Returns the tests of a run that has these rows of events and so many steps, as `split`; or nothing if they cannot be known."""
+        """Returns how many rows of the events of a run, which has so many steps, are known with their tests, and these tests, as `split`."""
         try:
             self.text = decoded(self.desk.child.text())
             grammar = Grammar(self.text)
             prefix = free_prefix(grammar.tokens)
             copy, self.tests = with_routines(grammar, self.text, prefix)
-            kept, asked = split(events_of(self.desk.child.command, copy, word, steps) or [], prefix)
+            kept, asked = split(events_of(self.desk.child.command, copy, word, limit_of(rows, steps)) or [], prefix)
         except (IndexError, ValueError, RecursionError, OSError):
-            return None
+            return 0, {}
         file = decoded(read(self.desk.script))
         self.there = {routine.name: definition(file, self.text[routine.tokens[0].start : routine.tokens[-1].end]) for routine in grammar.routines}
-        return asked if kept == rows and rows[-2:-1] != ["more"] else None
+        return agreed(rows, kept), asked
 
     def failures(self, word, rows, steps):
         """Returns, by the numbers of the rows of events in which a routine returns f, the test that was false, if it has no name: the text of
         its row, and its place."""
         failures = {}
-        for i, tests in (self.asked(word, rows, steps) or {}).items():
-            number, is_true = tests[-1]
+        count, asked = self.asked(word, rows, steps)
+        for i in filter(asked.get, range(count)):
+            number, is_true = asked[i][-1]
             routine, test = self.tests[number]
             if rows[i][0] == "return" and rows[i][3] == "f" and routine.is_plain and is_true == bool(test.command):
                 tokens = shortest(test)
@@ -117,17 +135,21 @@ class Conditions:
     def lay_out(self, word, rows, steps):
         """Returns a line for each test of a run: whether it was true, how often if it was asked again before anything else happened, and its
         place. Nothing if the tests cannot be known."""
-        asked = self.asked(word, rows, steps)
-        if asked is None:
+        known, asked = self.asked(word, rows, steps)
+        if not known:
             return None
         lines, calls = [], []
-        for i, row in enumerate(rows):
+        for i, row in enumerate(rows[: known + 1]):
             counts = Counter(asked.get(i, []))
             lines += [(calls[-1], self.line(number, is_true, count)) for (number, is_true), count in counts.items() if not self.tests[number][1].command]
             if row[0] == "call":
                 calls.append(row[2])
             elif row[0] == "return":
                 calls.pop()
+        if known < len(rows) or (lines and rows[-1] == ["refused", "Steps"]):
+            lines.append(("..", "the tests after these are not known"))
+        if len(lines) > MOST_LINES:
+            lines[MOST_LINES:] = [("..", "and %d more" % (len(lines) - MOST_LINES))]
         column = max([len(name) for name, _ in lines], default=0)
         return [("  %-*s  %s" % (column, name, line)).rstrip() for name, line in lines] or ["its run asked no test"]
 

@@ -286,7 +286,7 @@ class Desk:
         rows = [row for row in rows_of(self.query(["stems"])) if row[1:2] == ["refused"]]
         word, name = rows[0][0], rows[0][2]
         loops = ": the script loops on it, or needs more than 100,000 steps" if name == "Steps" else ""
-        say(['The first refused word is %s (%s%s). "trace %s" shows which routines its run used.' % (named(word), name, loops, named(word))])
+        say(['The first refused word is %s (%s%s). "tests %s" shows the tests of its run, "trace %s" its routines.' % (named(word), name, loops, named(word), named(word))])
 
     def warn(self, paths):
         for line in warnings_on(paths[0], paths[1] if len(paths) > 1 else ""):
