@@ -4,7 +4,7 @@ import os
 import subprocess
 from collections import Counter
 
-from child import memory_file
+from child import fill
 from grammar import Grammar
 from plain import named
 from rows import rows_of
@@ -59,10 +59,11 @@ def declared(routine, names):
 
 def events_of(command, text, word, limit):
     """Returns the rows of the events of a word's run by the text of a script under a limit, or nothing if it cannot be run."""
-    file = memory_file(text.encode("utf-8", "surrogateescape"))
+    file = os.memfd_create("snowbench")
     sent = "limit %d\nevents %s\n" % (limit, word)
     words = [*command, "--", "/dev/fd/%d" % file]
     try:
+        fill(file, text.encode("utf-8", "surrogateescape"))
         ended = subprocess.run(words, input=sent.encode("utf-8", "surrogateescape"), stdout=subprocess.PIPE, stderr=subprocess.DEVNULL, pass_fds=(file,))
     finally:
         os.close(file)

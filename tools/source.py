@@ -103,5 +103,5 @@ def place_of(text, at):
 
 
 def decoded(text):
-    """Returns the text of a script's bytes, or nothing if there are none."""
-    return (text or b"").decode("utf-8", "surrogateescape")
+    """Returns the text of a script's bytes without a byte order mark, or nothing if there are none."""
+    return (text or b"").decode("utf-8", "surrogateescape").removeprefix("\ufeff")
