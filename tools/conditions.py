@@ -103,35 +103,48 @@ class Conditions:
 
     def __init__(self, desk):
         self.desk = desk
-        # The text of the script of the last run, its tests, and the definitions of their routines in the script's file, by their names.
-        self.text, self.tests, self.there = "", [], {}
+        # The script of the last run: its text, its tests, and by their names its routines and what the script's file has of them.
+        self.text, self.tests, self.routines, self.there = "", [], {}, {}
 
     def asked(self, word, rows, steps):
         """Returns how many rows of the events of a run, which has so many steps, are known with their tests, and these tests, as `split`."""
         try:
             self.text = decoded(self.desk.child.text())
             grammar = Grammar(self.text)
+            self.note(grammar.routines)
             prefix = free_prefix(grammar.tokens)
             copy, self.tests = with_routines(grammar, self.text, prefix)
             kept, asked = split(events_of(self.desk.child.command, copy, word, limit_of(rows, steps)) or [], prefix)
         except (IndexError, ValueError, RecursionError, OSError):
             return 0, {}
-        file = decoded(read(self.desk.script))
-        self.there = {routine.name: definition(file, self.text[routine.tokens[0].start : routine.tokens[-1].end]) for routine in grammar.routines}
         return agreed(rows, kept), asked
 
-    def failures(self, word, rows, steps):
+    def note(self, routines):
+        file = decoded(read(self.desk.script))
+        self.routines = {routine.name: routine for routine in routines}
+        self.there = {routine.name: definition(file, self.text[routine.tokens[0].start : routine.tokens[-1].end]) for routine in routines}
+
+    def taken(self, row):
+        """Returns the place of the string that an among took; that of the among if the string is spelled otherwise."""
+        _, _, name, k, string = row
+        routine = self.routines.get(name)
+        if not routine or len(routine.amongs) < int(k):
+            return ""
+        among, *strings = routine.amongs[int(k) - 1]
+        return self.place(routine, next((token for token in strings if token.text == "'%s'" % string), among))
+
+    def notes(self, word, rows, steps):
         """Returns, by the numbers of the rows of events in which a routine returns f, the test that was false, if it has no name: the text of
-        its row, and its place."""
-        failures = {}
+        its row, and its place. In the same way it returns the place of each string that an among took."""
+        notes = {}
         count, asked = self.asked(word, rows, steps)
         for i in filter(asked.get, range(count)):
             number, is_true = asked[i][-1]
             routine, test = self.tests[number]
             if rows[i][0] == "return" and rows[i][3] == "f" and routine.is_plain and is_true == bool(test.command):
                 tokens = shortest(test)
-                failures[i] = shown(tokens), self.place(routine, tokens[0])
-        return failures
+                notes[i] = shown(tokens), self.place(routine, tokens[0])
+        return notes | {i: self.taken(row) for i, row in enumerate(rows) if row[0] == "taken"}
 
     def lay_out(self, word, rows, steps):
         """Returns a line for each test of a run: whether it was true, how often if it was asked again before anything else happened, and its

@@ -151,7 +151,7 @@ class Desk:
 
     def lay_out_why(self, word, rows):
         figures = rows_of(self.query(["integers " + word]))
-        return lay_out_why(rows, word, figures, self.conditions.failures(word, rows, int(figures[0][1])))
+        return lay_out_why(rows, word, figures, self.conditions.notes(word, rows, int(figures[0][1])))
 
     def show_tests(self, word):
         """Shows the tests of a word's run that have no name."""

@@ -22,11 +22,11 @@ class Test:
 
 
 class Routine:
-    """A definition of a routine: its tokens, whether it is in a backwardmode, and its tests. `is_plain`: no among can fail for a search that found
+    """A definition of a routine: its tokens, whether it is in a backwardmode, its tests, and the tokens of each of its amongs: the word and the strings. `is_plain`: no among can fail for a search that found
     nothing before other commands, since each substring is in the same row of commands as its among."""
 
     def __init__(self, name, is_backward):
-        self.name, self.is_backward, self.tokens, self.tests, self.is_plain = name, is_backward, [], [], True
+        self.name, self.is_backward, self.tokens, self.tests, self.amongs, self.is_plain = name, is_backward, [], [], [], True
 
 
 class Grammar:
@@ -34,7 +34,7 @@ class Grammar:
 
     def __init__(self, text):
         self.tokens, self.at, self.kinds, self.routines = tokens_of(text), 0, {}, []
-        self.is_backward, self.tests, self.pairs = False, [], 0
+        self.is_backward, self.tests, self.amongs, self.pairs = False, [], [], 0
         while self.at < len(self.tokens):
             self.item()
 
@@ -78,7 +78,7 @@ class Grammar:
             return
         self.take("as")
         routine = Routine(name, self.is_backward)
-        self.tests, self.pairs = routine.tests, 0
+        self.tests, self.amongs, self.pairs = routine.tests, routine.amongs, 0
         self.row(is_body=True)
         routine.tokens = self.tokens[begin : self.at]
         routine.is_plain = self.pairs == sum(token.text == "substring" for token in routine.tokens)
@@ -154,7 +154,8 @@ class Grammar:
 
     def read_among(self):
         """Reads the strings and commands of an among."""
-        first = len(self.tests)
+        first, strings = len(self.tests), [self.tokens[self.at - 1]]
+        self.amongs.append(strings)
         self.take("(")
         while self.peek() != ")":
             if self.peek() == "(":
@@ -162,6 +163,7 @@ class Grammar:
             elif not self.peek().startswith("'") and self.kinds.get(self.peek()) != "routine":
                 raise ValueError(self.peek())
             else:
+                strings.append(self.tokens[self.at])
                 self.take()
         self.take(")")
         for test in self.tests[first:]:

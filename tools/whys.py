@@ -9,10 +9,11 @@ class Call:
         self.name, self.asks_only, self.acts = name, True, False
 
 
-def lay_out_why(rows, word, figures, failures):
+def lay_out_why(rows, word, figures, notes):
     """Returns a line for each row of `why WORD` that took a string, asked a routine or changed the text, or with which a routine that did
     so signalled f, and one for the outcome, with the steps and the values of the integer variables, which are the rows `figures` of `integers WORD`.
-    `failures` are the tests without a name that were false when a routine signalled f: their texts and places, by the numbers of the rows."""
+    `notes` are, by the numbers of the rows, the tests without a name that were false when a routine signalled f: their texts and places; and
+    the places of the strings that were taken."""
     text, lines, calls = word, [], []
     for i, row in enumerate(rows):
         kind = row[0]
@@ -20,13 +21,13 @@ def lay_out_why(rows, word, figures, failures):
             calls.append(Call(row[2]))
         elif kind == "return":
             call = calls.pop()
-            if calls and call.acts and i in failures:
-                lines.append((call.name, "%s is false   %s" % failures[i]))
+            if calls and call.acts and i in notes:
+                lines.append((call.name, "%s is false   %s" % notes[i]))
             if calls and call.acts and row[3] == "f" or len(calls) > 1 and call.asks_only:
                 lines.append((calls[-1].name, "%s is %s" % (call.name, "true" if row[3] == "t" else "false")))
         elif kind == "taken":
             calls[-1].asks_only, calls[-1].acts = False, True
-            lines.append((row[2], "among %s takes %s" % (row[3], quoted(row[4]))))
+            lines.append((row[2], "among %s takes %s   %s" % (row[3], quoted(row[4]), notes[i])))
         elif kind in ("search", "none"):
             calls[-1].asks_only = False
         elif kind == "put":
