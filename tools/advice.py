@@ -8,7 +8,7 @@ from plain import named
 from rows import rows_of
 
 PLAIN = "stems classes script runs reload undo redo mark changes stats unused help quit".split()
-ONE_LINE = "add remove class trace why events integers limit largest show save echo".split()
+ONE_LINE = "add append remove class trace why tests events integers limit largest show save echo".split()
 BLOCKS = "routine among grouping replace families".split()
 # What `show` does not show, and what does.
 VARIABLES = {"integer": " integers WORD shows its value at the end of a run.", "string": "", "boolean": ""}
@@ -39,8 +39,13 @@ class Advice:
         if of_code:
             return of_code(word, argument, command)
         if code in (47, 48):
-            return ["Nothing changed."]
+            return [self.nothing_changed(word)]
         return [SENTENCES[code].replace("COMMAND", named(word)).replace("THE_WORD", named(argument))] if code in SENTENCES else []
+
+    def nothing_changed(self, word):
+        if word == "reload":
+            return "Nothing changed. Correct it in %s, save it there, and press Enter." % named(self.desk.script)
+        return "Nothing changed. The up arrow brings the lines of the block back."
 
     def lines_41(self, word, argument, command):
         words = self.words()
@@ -108,7 +113,7 @@ class Advice:
 
     def bad_command(self, word, argument, line):
         if any("\udc80" <= character <= "\udcff" for character in line):
-            return "The line is not UTF-8."
+            return "The line is not UTF-8. Set the terminal to UTF-8 and type it again."
         if word == "among":
             name = argument.partition(" ")[0]
             known = name in self.names().of("routine", "external")
@@ -133,7 +138,8 @@ class Advice:
         if word == "save":
             return [self.cannot_save(argument)]
         path = argument or self.desk.script
-        return ["%s cannot be read: %s" % (named(path), why_unreadable(path))]
+        keeps = ". The script that was read is in force: save FILE keeps it." if word == "reload" else ""
+        return ["%s cannot be read: %s%s" % (named(path), why_unreadable(path), keeps)]
 
     def cannot_save(self, path):
         if not path:
@@ -145,7 +151,9 @@ class Advice:
             return "%s has changed since it was read, and was not overwritten. Enter reads it again; save to another file to keep both." % named(path)
         if not os.path.isdir(folder):
             return "%s cannot be written: there is no folder %s." % (named(path), named(folder))
-        return "%s cannot be written: %s." % (named(path), "it is a folder" if os.path.isdir(path) else "you may not write there")
+        if os.path.isdir(path):
+            return "%s cannot be written: it is a folder. Name a file in it." % named(path)
+        return "%s cannot be written: you may not write there. Save to another file." % named(path)
 
     def lines_75(self, word, argument, command):
         return ["%s is not UTF-8. If it is Latin-1: iconv -f latin1 -t utf-8 OLD > NEW" % named(argument or "The text")]
@@ -236,7 +244,7 @@ SENTENCES = {
     40: "THE_WORD is in the vocabulary already.",
     42: "COMMAND needs a word: COMMAND WORD.",
     43: "A word may have 255 characters at most.",
-    44: "The vocabulary has 100,000 words, and takes no more.",
+    44: "The vocabulary has 100,000 words, and takes no more. remove WORD makes room.",
     49: "There was not enough memory. Nothing changed; you can try again.",
     50: "The count of runs is at its end. Start again.",
     51: "A limit is a number from 1 to 10000000, such as limit 1000.",

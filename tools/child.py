@@ -35,12 +35,15 @@ class Child:
         # Ctrl-C rings it.
         self.bell = os.pipe()
         os.set_blocking(self.bell[0], False)
+        # The program saves the text of the script in force into it.
+        self.paper = os.pipe()
+        os.set_blocking(self.paper[0], False)
         self.start([name for name in (script, words) if name])
 
     def start(self, names, files=()):
         pipe = subprocess.PIPE
         words = [*self.command, *(["--", *names] if names else [])]
-        self.process = subprocess.Popen(words, stdin=pipe, stdout=pipe, stderr=pipe, pass_fds=files)
+        self.process = subprocess.Popen(words, stdin=pipe, stdout=pipe, stderr=pipe, pass_fds=(*files, self.paper[1]))
         os.set_blocking(self.process.stderr.fileno(), False)
 
     def said(self):
@@ -54,6 +57,21 @@ class Child:
     def query(self, lines):
         """Sends lines to the program, and returns the lines of its answer, or nothing if it has ended."""
         return self.answer() if self.send(lines) else None
+
+    def text(self):
+        """Returns the text of the script in force, as `save` writes it; or nothing if it cannot be had."""
+        if not self.send(["save /dev/fd/%d" % self.paper[1]]):
+            return None
+        text, ready = bytearray(), []
+        while self.process.stdout not in ready:
+            ready = select.select([self.process.stdout, self.paper[0]], [], [])[0]
+            with contextlib.suppress(BlockingIOError):
+                text += os.read(self.paper[0], 65536)
+        is_whole = self.answer() == ["ok"]
+        with contextlib.suppress(BlockingIOError):
+            while True:
+                text += os.read(self.paper[0], 65536)
+        return bytes(text) if is_whole else None
 
     def query_each(self, *commands):
         """Sends commands at once, and returns the answer of each."""

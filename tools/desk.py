@@ -12,19 +12,28 @@ import os
 import re
 import sys
 
+from added import Added
 from advice import Advice
+from changes import LAYOUTS, counted, lay_out_changes, lay_out_largest, lay_out_part, since_mark
 from child import Child
+from conditions import Conditions
 from files import Files
 from history import EDITS, TYPED, History, aside_sentence, digest
-from plain import for_terminal, named
+from plain import named
 from rows import rows_of
+from screen import say, say_program, write
+from shows import Shows
 from whys import lay_out_why
 from warn import read, warnings_on
 from watch import watch
 
 REFUSAL = re.compile(r"^no (\d\d) ([A-Za-z0-9]+)$")
-# How many words, and classes of a kind, are shown after an edit; `changes` shows all.
-MOST = 20
+# What is shown for replies without a row.
+EMPTY = {
+    "unused": "some word uses each routine, among, grouping and string",
+    "stems": "there are no words: add WORD",
+    "classes": "there are no classes",
+}
 # The most bytes of a line.
 LONGEST = 65536
 # The status after Ctrl-C at the start.
@@ -36,9 +45,10 @@ class Desk:
         self.program, self.script, self.words, self.options = program, script, words, options
         # The warnings that were given; the status at the end if it is not the program's.
         self.warned, self.status = [], None
-        self.files = Files(script, words)
+        self.files, self.added = Files(script, words), Added(script, words)
         self.child = Child(program, options, script, words)
         self.advice = Advice(self)
+        self.shows, self.conditions = Shows(self), Conditions(self)
         self.history = None
         # A save or an end that was refused, and is accepted if it is asked for again.
         self.doubted = None
@@ -60,6 +70,10 @@ class Desk:
             return "refused"
         if word == "changes" and argument:
             return self.show_changes(argument)
+        if word == "tests":
+            return self.show_tests(argument)
+        if word == "append":
+            return self.append(argument)
         if word == "save" and self.files.is_script(argument):
             lines = ["save " + self.script]
         return self.run(word, argument, lines, is_edit)
@@ -68,7 +82,8 @@ class Desk:
         former = read(argument) if word == "save" else None
         typed, text = self.before_reload() if word == "reload" else ({}, None)
         replaced = self.definition(argument.partition(" ")[0]) if word in TYPED else None
-        answer = self.child.run(lines, say, text)
+        is_own = word == "save" and self.files.has_crlf()
+        answer = self.files.write_crlf(argument, self.child.text()) if is_own else self.child.run(lines, say, text)
         if answer is None:
             say(list(filter(None, [word == "save" and self.files.put_back(argument, former)])))
             return self.end()
@@ -80,11 +95,13 @@ class Desk:
             if word == "reload" and text is not None:
                 self.files.refused = text
             return "refused"
-        write(self.lay_out(lines[0], answer))
+        write(self.lay_out(lines[0], answer), is_text=word in ("show", "script", "echo"))
         say(self.advice.note(lines))
         if word == "save":
             say(self.files.note_saved(argument, former))
             self.history.note_saved(argument)
+        if word in ("add", "remove"):
+            self.added.note(word, argument)
         if word in ("mark", "changes"):
             self.changes = answer if word == "changes" else []
         return self.show_edit(lines[0], typed, replaced, is_edit) if word in EDITS else "ok"
@@ -106,25 +123,49 @@ class Desk:
         word, _, argument = lines[0].partition(" ")
         write(answer)
         cut = self.files.put_back(argument, former) if word == "save" else None
-        say(self.child.said() + ([cut] if cut else self.advice.lines(code, lines)))
+        say_program(self.child.said())
+        say([cut] if cut else self.advice.lines(code, lines))
 
     def show_changes(self, text):
         """Shows the rows of `changes` that have a text."""
         answer = self.query(["changes"])
         if answer is None:
             return self.end()
-        rows = [row for row in rows_of(answer) if any(text in name for name in names_in(row))]
-        write(["Only what has %s:" % named(text)] + lay_out_rows(rows) if rows else ["no change has %s" % named(text)])
+        write(lay_out_part(rows_of(answer), text))
         return "ok"
 
     def lay_out(self, command, answer):
+        if not answer and command in EMPTY:
+            return [EMPTY[command]]
         if command in LAYOUTS:
             return LAYOUTS[command](answer)
         if command.startswith("largest "):
             return lay_out_largest(answer)
+        if command == "script":
+            return self.shows.script(answer)
+        if command.startswith("show "):
+            return self.shows.definition(command[5:], "\n".join(answer))
         if command.startswith("why "):
-            return lay_out_why(answer, command[4:], self.query(["integers " + command[4:]]))
+            return self.lay_out_why(command[4:], rows_of(answer))
         return answer
+
+    def lay_out_why(self, word, rows):
+        figures = rows_of(self.query(["integers " + word]))
+        return lay_out_why(rows, word, figures, self.conditions.notes(word, rows, int(figures[0][1])))
+
+    def show_tests(self, word):
+        """Shows the tests of a word's run that have no name."""
+        answer, figures = self.child.query_each(["events " + word], ["integers " + word])
+        if figures is None:
+            return self.end()
+        refusal = REFUSAL.match(answer[0])
+        if refusal:
+            self.refuse(answer, int(refusal[1]), ["tests " + word], None)
+            return "refused"
+        lines = self.conditions.lay_out(word, rows_of(answer), int(rows_of(figures)[0][1]))
+        write(lines or [])
+        say([] if lines else ["The tests of this run cannot be shown: it is too long, or near a limit. events %s shows its events." % named(word)])
+        return "ok"
 
     def may_save(self, path):
         """Whether `save` may write to a file; otherwise says why not."""
@@ -144,18 +185,27 @@ class Desk:
         return not why
 
     def quit(self):
-        """Returns `ok` if no typed edit would be lost, or if it is asked for again; otherwise says so."""
+        """Returns `ok` if no typed edit and no added word would be lost, or if it is asked for again; otherwise says so."""
         if not self.history or self.doubted == "quit":
             return "ok"
-        aside = self.history.put_aside()
+        aside, doubts = self.history.put_aside(), []
         if self.history.unsaved():
-            say(["The edits that you typed are in no file: save FILE keeps them, quit again drops them."])
+            doubts = ["The edits that you typed are in no file: save FILE keeps them, quit again drops them."]
         elif aside:
-            say([aside_sentence(aside, is_unsaved=True) + " quit again ends."])
-        else:
+            doubts = [aside_sentence(aside, is_unsaved=True) + " quit again ends."]
+        doubts += self.added.doubts()
+        if not doubts:
             return "ok"
+        say(doubts)
         self.doubted = "quit"
         return "refused"
+
+    def append(self, path):
+        """Puts the added words into a file."""
+        is_done, sentence = self.added.append(path)
+        write(["ok"] if is_done else [])
+        say([sentence])
+        return "ok" if is_done else "refused"
 
     def peek(self, line):
         """Returns `ok` if a block may follow a line; otherwise says what is wrong with it."""
@@ -205,8 +255,10 @@ class Desk:
         if is_reload:
             now = {name: self.definition(name) for name in typed}
             gone = {name: now[name] for name in typed if now[name] != typed[name]}
-            aside = self.history.note_read(before == self.history.script, gone, self.files.note_read())
+            is_new = self.files.note_read()
+            aside = self.history.note_read(before == self.history.script, gone, is_new)
             say([aside_sentence(aside)] if aside else [])
+            say([] if is_new or before != self.history.script else ["%s has not changed since it was read." % named(self.script)])
             self.warn([self.script])
 
     def start(self):
@@ -234,19 +286,19 @@ class Desk:
         rows = [row for row in rows_of(self.query(["stems"])) if row[1:2] == ["refused"]]
         word, name = rows[0][0], rows[0][2]
         loops = ": the script loops on it, or needs more than 100,000 steps" if name == "Steps" else ""
-        say(['The first refused word is %s (%s%s). "trace %s" shows which routines its run used.' % (named(word), name, loops, named(word))])
+        say(['The first refused word is %s (%s%s). "tests %s" shows the tests of its run, "trace %s" its routines.' % (named(word), name, loops, named(word), named(word))])
 
     def warn(self, paths):
         for line in warnings_on(paths[0], paths[1] if len(paths) > 1 else ""):
             if line not in self.warned:
                 self.warned.append(line)
-                say([line])
+                say([line], is_text=True)
 
     def end(self):
         """Says why the program has ended."""
         self.child.process.wait()
         said = self.child.said()
-        say(said)
+        say_program(said)
         fault = re.match(r"snowbench: (\d+) \w+", said[0]) if said else None
         if fault and int(fault[1]) < 25 and looks_swapped(self.script, self.words):
             say(["%s looks like a script. The script comes first: ./snowbench work SCRIPT WORDS" % named(self.words)])
@@ -263,91 +315,6 @@ def holds(path, text):
             return text in file.read(1048576)
     except OSError:
         return False
-
-
-def write(lines):
-    sys.stdout.buffer.write("".join(for_terminal(line) + "\n" for line in lines).encode("utf-8"))
-    sys.stdout.flush()
-
-
-def say(lines):
-    sys.stderr.buffer.write("".join(for_terminal(line) + "\n" for line in lines).encode("utf-8"))
-    sys.stderr.flush()
-
-
-def since_mark(before, now):
-    """Returns the line above the changes after an edit if there were some before it."""
-    if not before or not now:
-        return []
-    return ["This edit changed no word and no class. Since the mark:" if now == before else "Since the mark:"]
-
-
-def outcome(kind, text):
-    return "refused %s" % text if kind == "refused" else named(text) or "(empty)"
-
-
-def stem(name):
-    return outcome("stem", name)
-
-
-def stems(names):
-    return ", ".join(map(stem, names))
-
-
-def counted(count, one, many):
-    return "{:,} {}".format(count, one if count == 1 else many)
-
-
-def shown(rows, is_edit, lay_out):
-    """Lays out rows, after an edit the first of them."""
-    most = MOST if is_edit and len(rows) > MOST else len(rows)
-    more = ['  .. and %d more: "changes" shows all' % (len(rows) - most)] if most < len(rows) else []
-    return [lay_out(row) for row in rows[:most]] + more
-
-
-def lay_out_changes(answer, is_edit=False):
-    return lay_out_rows(rows_of(answer), is_edit)
-
-
-def lay_out_rows(rows, is_edit=False):
-    """Lays out the rows of `changes`: words with their stems before and after, then classes."""
-    kinds = {kind: [] for kind in ("added", "removed", "changed", "split", "merged", "renamed")}
-    for row in rows:
-        kinds[row[0]].append(row[1:])
-    if not any(kinds.values()):
-        return ["no word and no class differs from the mark"]
-    changed, lines = kinds["changed"], []
-    for kind in ("added", "removed"):
-        if kinds[kind]:
-            lines += [counted(len(kinds[kind]), "word", "words") + " " + kind] + shown(kinds[kind], is_edit, lambda row: "  " + named(row[0]))
-    column = min(24, max([len(row[0]) for row in changed], default=0))
-    kept = all(row[1] == row[3] == "stem" for row in changed)
-    lines += [counted(len(changed), "word has", "words have") + (" another stem" if kept else " another stem or refusal")]
-    lines += shown(changed, is_edit, lambda row: "  %-*s  %s -> %s" % (column, named(row[0]), outcome(*row[1:3]), outcome(*row[3:5])))
-    counts = tuple(len(kinds[kind]) for kind in ("split", "merged", "renamed"))
-    lines += ["classes: %d split, %d merged, %d renamed" % counts] if any(counts) else []
-    lines += shown(kinds["split"], is_edit, lambda row: "  split    %s -> %s" % (stem(row[0]), stems(row[1:])))
-    lines += shown(kinds["merged"], is_edit, lambda row: "  merged   %s -> %s" % (stems(row[1:]), stem(row[0])))
-    return lines + shown(kinds["renamed"], is_edit, lambda row: "  renamed  %s -> %s" % (stem(row[0]), stem(row[1])))
-
-
-def names_in(row):
-    """Returns the words and stems in a row of `changes`."""
-    return row[1::2] if row[0] == "changed" else row[1:]
-
-
-def lay_out_largest(answer):
-    """Lays out classes with their sizes."""
-    rows = rows_of(answer)
-    column = max([len(str(len(row) - 1)) for row in rows], default=0)
-    return ["%*d  %s: %s" % (column, len(row) - 1, stem(row[0]), ", ".join(map(named, row[1:]))) for row in rows]
-
-
-def lay_out_stats(answer):
-    return ["%-10s %s" % tuple(row) for row in csv.reader(answer)]
-
-
-LAYOUTS = {"changes": lay_out_changes, "stats": lay_out_stats}
 
 
 def requests():

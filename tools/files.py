@@ -54,6 +54,21 @@ class Files:
         lost = count_comments(self.seen if former is None else former) - count_comments(read(path))
         return [] if lost <= 0 else ["%s of the parts that you typed %s no longer in %s." % (*amount(lost), named(path))]
 
+    def has_crlf(self):
+        """Returns whether each line of the script's file ended by a carriage return and a line feed when it was read."""
+        return is_crlf(self.seen or b"")
+
+    def write_crlf(self, path, text):
+        """Writes the text of the script to a file with such line ends, also in the parts that were typed. Returns what the program replies."""
+        if text is None or (self.is_script(path) and self.seen != read(path)):
+            return ["no 57 NoFile"]
+        try:
+            with open(path, "wb") as file:
+                file.write(with_crlf(text))
+        except OSError:
+            return ["no 57 NoFile"]
+        return ["ok"]
+
     def put_back(self, path, former):
         """Gives a file its former text back, if a save that failed has begun to write it. Returns the sentence on that, or nothing."""
         if read(path) == former:
@@ -76,6 +91,16 @@ class Files:
         """Notes that the script was read. Returns whether it has other bytes than before."""
         before, self.seen, self.refused = self.seen, read(self.script), None
         return self.seen != before
+
+
+def is_crlf(text):
+    return 0 < text.count(b"\n") == text.count(b"\r\n")
+
+
+def with_crlf(text):
+    """Returns a text with a carriage return before each line feed. The line feed that the program puts after a typed part with a comment goes:
+    in such a file the line ends there anyway."""
+    return re.sub(rb"(?<!\r)\n", b"\r\n", re.sub(rb"(?<!\r)\n(?=\r\n)", b"", text))
 
 
 def count_comments(text):

@@ -1,6 +1,5 @@
 """Lays out the rows of `why` for people: the strings that were taken, what other routines were asked, and the changes of the text."""
 from plain import named
-from rows import rows_of
 
 
 class Call:
@@ -10,22 +9,25 @@ class Call:
         self.name, self.asks_only, self.acts = name, True, False
 
 
-def lay_out_why(answer, word, figures):
+def lay_out_why(rows, word, figures, notes):
     """Returns a line for each row of `why WORD` that took a string, asked a routine or changed the text, or with which a routine that did
-    so signalled f, and one for the outcome, with the steps and the values of the integer variables, which are the rows `figures` of `integers WORD`."""
-    rows = rows_of(answer)
+    so signalled f, and one for the outcome, with the steps and the values of the integer variables, which are the rows `figures` of `integers WORD`.
+    `notes` are, by the numbers of the rows, the tests without a name that were false when a routine signalled f: their texts and places; and
+    the places of the strings that were taken."""
     text, lines, calls = word, [], []
-    for row in rows:
+    for i, row in enumerate(rows):
         kind = row[0]
         if kind == "call":
             calls.append(Call(row[2]))
         elif kind == "return":
             call = calls.pop()
+            if calls and call.acts and i in notes:
+                lines.append((call.name, "%s is false   %s" % notes[i]))
             if calls and call.acts and row[3] == "f" or len(calls) > 1 and call.asks_only:
                 lines.append((calls[-1].name, "%s is %s" % (call.name, "true" if row[3] == "t" else "false")))
         elif kind == "taken":
             calls[-1].asks_only, calls[-1].acts = False, True
-            lines.append((row[2], "among %s takes %s" % (row[3], quoted(row[4]))))
+            lines.append((row[2], "among %s takes %s   %s" % (row[3], quoted(row[4]), notes[i])))
         elif kind in ("search", "none"):
             calls[-1].asks_only = False
         elif kind == "put":
@@ -38,14 +40,14 @@ def lay_out_why(answer, word, figures):
         else:
             lines.append((kind, "%s   %s" % (named(row[1]) or "''", lay_out_figures(figures))))
     column = max(len(name) for name, _ in lines)
-    return ["  %-*s  %s" % (column, name, what) for name, what in lines]
+    more = "  nothing took a string or changed the text: \"events %s\" shows the searches, \"tests %s\" the tests" % (named(word), named(word))
+    return [more] * (len(lines) == 1) + [("  %-*s  %s" % (column, name, what)).rstrip() for name, what in lines]
 
 
 def lay_out_figures(figures):
     """Returns the steps of a run, and the names and values of the integer variables at its end."""
-    rows = rows_of(figures)
-    steps = "%s step%s" % (rows[0][1], "" if rows[0][1] == "1" else "s")
-    values = " ".join("%s=%s" % (name, value) for _, name, value in rows[1:])
+    steps = "%s step%s" % (figures[0][1], "" if figures[0][1] == "1" else "s")
+    values = " ".join("%s=%s" % (name, value) for _, name, value in figures[1:])
     return "%s, %s" % (steps, values) if values else steps
 
 

@@ -1,0 +1,94 @@
+"""Lays out for people what `changes`, `largest` and `stats` write."""
+import csv
+
+from plain import named
+from rows import rows_of
+
+# How many words, and classes of a kind, are shown after an edit; `changes` shows all.
+MOST = 20
+
+
+def since_mark(before, now):
+    """Returns the line above the changes after an edit if there were some before it."""
+    if not before or not now:
+        return []
+    return ["This edit changed no word and no class. Since the mark:" if now == before else "Since the mark:"]
+
+
+def outcome(kind, text):
+    return "refused %s" % text if kind == "refused" else named(text) or "(empty)"
+
+
+def stem(name):
+    return outcome("stem", name)
+
+
+def stems(names):
+    return ", ".join(map(stem, names))
+
+
+def counted(count, one, many):
+    return "{:,} {}".format(count, one if count == 1 else many)
+
+
+def shown(rows, is_edit, lay_out):
+    """Lays out rows, after an edit the first of them."""
+    most = MOST if is_edit and len(rows) > MOST else len(rows)
+    more = ['  .. and %d more: "changes" shows all' % (len(rows) - most)] if most < len(rows) else []
+    return [lay_out(row) for row in rows[:most]] + more
+
+
+def lay_out_changes(answer, is_edit=False):
+    return lay_out_rows(rows_of(answer), is_edit)
+
+
+def lay_out_part(rows, text):
+    """Lays out those rows of `changes` that have a text in a word or a stem."""
+    part = [row for row in rows if any(text in name for name in names_in(row))]
+    if rows and not part:
+        return ['no change has %s: "changes" shows all' % named(text)]
+    return ["Only what has %s:" % named(text)] * bool(part) + lay_out_rows(part, is_part=True)
+
+
+def lay_out_rows(rows, is_edit=False, is_part=False):
+    """Lays out rows of `changes`, all or a part: words with their stems before and after, then classes."""
+    kinds = {kind: [] for kind in ("added", "removed", "changed", "split", "merged", "renamed")}
+    for row in rows:
+        kinds[row[0]].append(row[1:])
+    if not any(kinds.values()):
+        return ["no word and no class differs from the mark"]
+    changed, lines = kinds["changed"], []
+    for kind in ("added", "removed"):
+        if kinds[kind]:
+            lines += [counted(len(kinds[kind]), "word", "words") + " " + kind] + shown(kinds[kind], is_edit, lambda row: "  " + named(row[0]))
+    column = min(24, max([len(row[0]) for row in changed], default=0))
+    kept = all(row[1] == row[3] == "stem" for row in changed)
+    if changed:
+        lines += [counted(len(changed), "word has", "words have") + (" another stem" if kept else " another stem or refusal")]
+    elif not is_part:
+        lines += ["no word has another stem"]
+    lines += shown(changed, is_edit, lambda row: "  %-*s  %s -> %s" % (column, named(row[0]), outcome(*row[1:3]), outcome(*row[3:5])))
+    counts = tuple(len(kinds[kind]) for kind in ("split", "merged", "renamed"))
+    lines += ["classes: %d split, %d merged, %d renamed" % counts] if any(counts) else []
+    lines += shown(kinds["split"], is_edit, lambda row: "  split    %s -> %s" % (stem(row[0]), stems(row[1:])))
+    lines += shown(kinds["merged"], is_edit, lambda row: "  merged   %s -> %s" % (stems(row[1:]), stem(row[0])))
+    return lines + shown(kinds["renamed"], is_edit, lambda row: "  renamed  %s -> %s" % (stem(row[0]), stem(row[1])))
+
+
+def names_in(row):
+    """Returns the words and stems in a row of `changes`."""
+    return row[1::2] if row[0] == "changed" else row[1:]
+
+
+def lay_out_largest(answer):
+    """Lays out classes with their sizes."""
+    rows = rows_of(answer)
+    column = max([len(str(len(row) - 1)) for row in rows], default=0)
+    return ["%*d  %s: %s" % (column, len(row) - 1, stem(row[0]), ", ".join(map(named, row[1:]))) for row in rows]
+
+
+def lay_out_stats(answer):
+    return ["%-10s %s" % tuple(row) for row in csv.reader(answer)]
+
+
+LAYOUTS = {"changes": lay_out_changes, "stats": lay_out_stats}

@@ -1,0 +1,107 @@
+"""The text of a script as its author wrote it: its tokens with their places, and its definitions."""
+import re
+
+# White space is U+0009 to U+000D, the space and U+FEFF.
+WHITE = "\t\n\x0b\x0c\r \ufeff"
+COMMENT = re.compile(r"//[^\n]*|/\*.*?(?:\*/|\Z)", re.S)
+BLANK = re.compile("[%s]+" % WHITE)
+SKIPPED = re.compile("%s|%s" % (BLANK.pattern, COMMENT.pattern), re.S)
+# After these words comes no ordinary token: two insert characters, the name of a macro.
+DIRECTIVES = ("stringescapes", "stringdef")
+PLAIN = re.compile(r"[A-Za-z][A-Za-z0-9_]*|[0-9]+|<-|<\+|->|=>|[=!<>+\-*/]=|.", re.S)
+
+
+class Token:
+    """A token, and where it is: the offsets of its first character and of the one after it."""
+
+    __slots__ = ("text", "start", "end")
+
+    def __init__(self, text, start, end):
+        self.text, self.start, self.end = text, start, end
+
+    def value(self):
+        """Returns the text, of a number without leading zeros."""
+        return self.text.lstrip("0") or "0" if self.text.isdigit() else self.text
+
+
+def tokens_of(text, escapes=""):
+    """Returns the tokens of a script. `escapes` are the two insert characters in force at its beginning."""
+    tokens, at, before = [], 0, ""
+    while at < len(text):
+        skipped = (BLANK if before else SKIPPED).match(text, at)
+        if skipped:
+            at = skipped.end()
+            continue
+        end = end_of_token(text, at, before, escapes)
+        token = Token(text[at:end], at, end)
+        tokens.append(token)
+        if before == "stringescapes":
+            escapes = token.text
+        at, before = end, "" if before or token.text not in DIRECTIVES else token.text
+    return tokens
+
+
+def end_of_token(text, at, before, escapes):
+    """Returns where the token that begins here ends. `before` is the directive before it, or nothing."""
+    if before == "stringescapes":
+        return min(at + 2, len(text))
+    if before == "stringdef":
+        return re.compile("[^%s]*" % WHITE).match(text, at).end()
+    if text[at] == "'":
+        return literal(escapes).match(text, at).end()
+    return PLAIN.match(text, at).end()
+
+
+def literal(escapes):
+    """Returns the pattern of a literal. A quote in an insertion, between the two insert characters, ends no literal."""
+    begin, end = map(re.escape, escapes) if len(escapes) == 2 else ("", "")
+    insertion = "%s[^%s]*%s|" % (begin, end, end) if escapes else ""
+    return re.compile("'(?:%s[^'\n])*'?" % insertion)
+
+
+class Definition:
+    """A definition in a text: its tokens."""
+
+    def __init__(self, text, tokens):
+        self.text, self.tokens = text, tokens
+
+    def line(self):
+        return place_of(self.text, self.tokens[0].start)[0]
+
+    def lines(self):
+        """Returns its lines as they are in the text, with a comment after it on its last line."""
+        start, end = self.tokens[0].start, self.tokens[-1].end
+        begin = self.text.rfind("\n", 0, start) + 1
+        if not self.text[begin:start].strip(WHITE):
+            start = begin
+        rest = self.text[end:].split("\n", 1)[0]
+        if not COMMENT.sub("", rest).strip(WHITE):
+            end += len(rest)
+        return [line.rstrip("\r") for line in self.text[start:end].split("\n")]
+
+
+def definition(text, canonical):
+    """Returns the definition in a text that has the tokens of a canonical one, which is a line; or nothing if the text has another one."""
+    name = canonical.split()[1]
+    tokens = tokens_of(text)
+    for i, token in enumerate(tokens[:-1]):
+        if token.text == "define" and tokens[i + 1].text == name:
+            meant = tokens_of(canonical, escapes_at(tokens[:i]))
+            found = tokens[i : i + len(meant)]
+            return Definition(text, found) if [one.value() for one in found] == [one.value() for one in meant] else None
+    return None
+
+
+def escapes_at(tokens):
+    """Returns the insert characters in force after these tokens."""
+    return next((tokens[i + 1].text for i in range(len(tokens) - 2, -1, -1) if tokens[i].text == "stringescapes"), "")
+
+
+def place_of(text, at):
+    """Returns the line and the column of an offset, from 1."""
+    return text.count("\n", 0, at) + 1, at - text.rfind("\n", 0, at)
+
+
+def decoded(text):
+    """Returns the text of a script's bytes without a byte order mark, or nothing if there are none."""
+    return (text or b"").decode("utf-8", "surrogateescape").removeprefix("\ufeff")
