@@ -54,7 +54,7 @@ pub(crate) fn view(alloc: Global, rows: &[OwnRow]) -> Result<Vec<WordRow<'_>>, A
     Ok(views)
 }
 
-/// Lists of words: the words are separated by spaces, and the lists by ` / `.
+/// Lists of words: the words are separated by spaces, and the lists by ` / `. An empty text has no list.
 pub(crate) fn lists_in(alloc: Global, text: &str) -> Result<Vec<Vec<Vec<char>>>, AllocError> {
     let mut lists = Vec::new(alloc);
     let mut list = Vec::new(alloc);
@@ -66,7 +66,9 @@ pub(crate) fn lists_in(alloc: Global, text: &str) -> Result<Vec<Vec<Vec<char>>>,
             list.push(part.chars().collect(alloc)?)?;
         }
     }
-    lists.push(list)?;
+    if !text.is_empty() {
+        lists.push(list)?;
+    }
     Ok(lists)
 }
 
