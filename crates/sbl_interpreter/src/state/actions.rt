@@ -16,7 +16,7 @@ use sbl_char_class::CharacterClass;
 use sbl_program::{Action, Arithmetic};
 
 impl State {
-    /// Does a command as `act` does. `[` and `]` are done here, without another call.
+    /// Does a command as `act` does. The commands that are most of a run are done here, without a call of `act`.
     #[inline(always)]
     pub(crate) fn act_here(
         &mut self,
@@ -35,6 +35,11 @@ impl State {
             Action::RightBracket => {
                 self.right_bracket(mode);
                 Ok(true)
+            }
+            Action::Match(term) => Ok(self.take_term(mode, term)),
+            Action::Grouping(number) => {
+                self.touch_grouping(*number)?;
+                Ok(self.take_one(mode, groupings, *number, true))
             }
             _ => self.act(groupings, mode, action),
         }
