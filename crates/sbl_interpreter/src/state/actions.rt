@@ -37,10 +37,7 @@ impl State {
                 Ok(true)
             }
             Action::Match(term) => Ok(self.take_term(mode, term)),
-            Action::Grouping(number) => {
-                self.touch_grouping(*number)?;
-                Ok(self.take_one(mode, groupings, *number, true))
-            }
+            Action::Grouping(number) => self.take_grouping(mode, groupings, *number, true),
             _ => self.act(groupings, mode, action),
         }
     }
@@ -62,14 +59,8 @@ impl State {
     {
         match action {
             Action::Match(term) => Ok(self.take_term(mode, term)),
-            Action::Grouping(number) => {
-                self.touch_grouping(*number)?;
-                Ok(self.take_one(mode, groupings, *number, true))
-            }
-            Action::NonGrouping(number) => {
-                self.touch_grouping(*number)?;
-                Ok(self.take_one(mode, groupings, *number, false))
-            }
+            Action::Grouping(number) => self.take_grouping(mode, groupings, *number, true),
+            Action::NonGrouping(number) => self.take_grouping(mode, groupings, *number, false),
             Action::Next => Ok(self.take_next(mode)),
             Action::Hop(expression) => self.hop_by(mode, expression),
             Action::ToLimit => {

@@ -1,4 +1,4 @@
-//! `goto` and `gopast` of a grouping.
+//! Tests of groupings: one, and `goto` and `gopast` of one.
 
 ghost use Rattle.std.specs.Prelude.{◌≡◌, ◌<◌, ◌≤◌, map, suc, IfOk};
 ghost use Rattle.sbl_char_class.specs.CharacterClasses.{members};
@@ -13,8 +13,25 @@ use sbl_ast::Mode;
 use sbl_char_class::CharacterClass;
 
 impl State {
-    /// Tests the grouping with this number, as a command on its own does: uses a step, records the touch, and moves over
-    /// one character that is in the class, or over one that is not, as `wanted` says.
+    /// Tests the grouping with this number, after its step is paid: records the touch, and moves over one character that is
+    /// in the class, or over one that is not, as `wanted` says. Returns `OutOfMemory` if an allocation fails or the
+    /// number is above `u32::MAX`.
+    #[inline(always)]
+    pub(crate) fn take_grouping(
+        &mut self,
+        mode: Mode,
+        classes: &[CharacterClass],
+        number: usize,
+        wanted: bool,
+    ) -> Result<bool, Halt>
+        ensures follows { Follows result self.new (test_grouping wanted (class_at (map members classes.now) number) number mode self.old) }
+        ensures same_steps { IfOk result (λ _. self.new.steps ≡ self.old.steps) }
+    {
+        self.touch_grouping(number)?;
+        Ok(self.take_one(mode, classes, number, wanted))
+    }
+
+    // Uses a step and tests the grouping.
     #[inline(always)]
     fn test_one(
         &mut self,
@@ -27,8 +44,7 @@ impl State {
         ensures fewer { IfOk result (λ _. self.new.steps < self.old.steps) }
     {
         self.pay()?;
-        self.touch_grouping(number)?;
-        Ok(self.take_one(mode, classes, number, wanted))
+        self.take_grouping(mode, classes, number, wanted)
     }
 
     /// Tests the grouping with this number at the cursor and further on, up to the first t. The cursor stays after the
