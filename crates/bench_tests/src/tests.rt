@@ -1,9 +1,9 @@
 //! Public calls, each file by what it tries.
 
 mod bench;
-mod bench_edits;
 mod changes;
 mod characters;
+mod edits;
 mod groupings;
 mod limits;
 mod whole_scripts;

@@ -2,7 +2,6 @@
 
 mod amongs;
 mod control;
-mod integers;
 mod runs;
 mod slices;
 mod stems;

@@ -1,5 +1,6 @@
-//! Tests of public functions, one file for each subject.
+//! Public calls, each file by what it tries.
 
+mod edits;
 mod grammar;
 mod grouping_edits;
 mod printing;

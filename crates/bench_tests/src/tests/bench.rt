@@ -108,28 +108,30 @@ fn a_refused_growth_changes_nothing(rt: HostRuntime) -> Result<(), Fail> {
     taken
 }
 
+const FAULTS: &[(EditFault, &str)] = &[
+    (EditFault::Present, "40 Present"),
+    (EditFault::Absent, "41 Absent"),
+    (EditFault::EmptyWord, "42 EmptyWord"),
+    (EditFault::WordTooLong, "43 WordTooLong"),
+    (EditFault::Full, "44 Full"),
+    (EditFault::NoRoutine, "45 NoRoutine"),
+    (EditFault::NoAmong, "46 NoAmong"),
+    (EditFault::AmongCount, "47 AmongCount"),
+    (
+        EditFault::Script(ScriptFault::Undeclared { item: 2 }),
+        "48 Undeclared",
+    ),
+    (EditFault::Script(ScriptFault::NoExternal), "48 NoExternal"),
+    (EditFault::OutOfMemory, "49 OutOfMemory"),
+    (EditFault::MeterFull, "50 MeterFull"),
+    (EditFault::BadLimit, "51 BadLimit"),
+    (EditFault::NoGrouping, "53 NoGrouping"),
+];
+
 #[test]
 fn faults_are_printed_with_their_numbers(rt: HostRuntime) -> Result<(), Fail> {
-    for (fault, text) in [
-        (EditFault::Present, "40 Present"),
-        (EditFault::Absent, "41 Absent"),
-        (EditFault::EmptyWord, "42 EmptyWord"),
-        (EditFault::WordTooLong, "43 WordTooLong"),
-        (EditFault::Full, "44 Full"),
-        (EditFault::NoRoutine, "45 NoRoutine"),
-        (EditFault::NoAmong, "46 NoAmong"),
-        (EditFault::AmongCount, "47 AmongCount"),
-        (
-            EditFault::Script(ScriptFault::Undeclared { item: 2 }),
-            "48 Undeclared",
-        ),
-        (EditFault::Script(ScriptFault::NoExternal), "48 NoExternal"),
-        (EditFault::OutOfMemory, "49 OutOfMemory"),
-        (EditFault::MeterFull, "50 MeterFull"),
-        (EditFault::BadLimit, "51 BadLimit"),
-        (EditFault::NoGrouping, "53 NoGrouping"),
-    ] {
-        assert_eq!(rt; format!(in rt.alloc(); "{fault}")?.as_str(), text);
+    for (fault, text) in FAULTS {
+        assert_eq!(rt; format!(in rt.alloc(); "{fault}")?.as_str(), *text);
     }
     Ok(())
 }

@@ -1,13 +1,14 @@
 //! Whole scripts as edits, with the rows and the count of runs after each.
 
 use crate::tests::bench::{bench_of, rows_shown};
-use sbl_bench::{Bench, EditFault, ScriptFault};
+use crate::tests::edits::{ANY, Case, Edit, tries};
+use sbl_bench::Bench;
 use sbl_script::Script;
 use std::alloc::Global;
 use std::process::Abort;
 use std::test::Fail;
 
-const WORDS: [&str; 5] = ["xyb", "ab", "xb", "q", "ad"];
+const WORDS: &[&str] = &["xyb", "ab", "xb", "q", "ad"];
 
 /// The rows of these words under `FIRST`.
 const ROWS: &str = "xyb xb;ab a;xb b;q ;ad ad;";
@@ -108,75 +109,57 @@ define stem as ( 'x' head ) or ( 'a' tail ) or ( [ non w ] delete )
 
 const OTHER_EXTERNAL: &str = "externals ( other ) define other as next";
 
-/// A whole script, what the edit answers (nothing if it is accepted), the rows after it, and the count of runs.
-type Row<'a> = (&'a str, &'a str, &'a str, u64);
-
-/// Replaces the script once.
-fn replaces_one(rt: &impl Abort, alloc: Global, bench: &mut Bench, row: Row) -> Result<(), Fail> {
-    let (text, answer, rows, runs) = row;
-    match bench.replace_script(text.as_bytes()) {
-        Ok(()) => assert_eq!(rt; "", answer, "{text}"),
-        Err(fault) => {
-            let told = format!(in alloc; "{fault}")?;
-            assert_eq!(rt; told.as_str(), answer, "{text}");
-        }
-    }
-    let shown = rows_shown(alloc, bench)?;
-    assert_eq!(rt; shown.as_str(), rows, "{text}");
-    assert_eq!(rt; bench.runs(), runs, "{text}");
-    Ok(())
-}
-
-/// Replaces the script by one after another.
-fn replaces(rt: &impl Abort, alloc: Global, bench: &mut Bench, rows: &[Row]) -> Result<(), Fail> {
-    for row in rows {
-        replaces_one(rt, alloc, bench, *row)?;
-    }
-    Ok(())
-}
+const AFTER: &str = "xyb xb;ab a;xb b;q q;ad ad;";
 
 // The first two run nothing, the next four what met the items that differ, then two run all, and three are refused.
-#[test]
-fn a_whole_script_runs_what_met_the_items_that_differ(rt: HostRuntime) -> Result<(), Fail> {
-    let alloc = rt.alloc();
-    let after = "xyb xb;ab a;xb b;q q;ad ad;";
-    let mut bench = bench_of(alloc, FIRST, &WORDS)?;
-    let done = replaces(
-        &rt,
-        alloc,
-        &mut bench,
-        &[
-            (FIRST, "", ROWS, 5),
-            (LAID_OUT, "", ROWS, 5),
-            (OTHER_ROUTINE, "", "xyb xyb;ab a;xb b;q ;ad ad;", 7),
-            (OTHER_AMONG, "", "xyb xyb;ab ae;xb b;q ;ad ad;", 8),
-            (OTHER_GROUPING, "", "xyb xyb;ab ae;xb b;q q;ad ad;", 11),
-            (TWO_ITEMS, "", after, 14),
-            (MOVED, "", after, 19),
-            (DECLARED, "", after, 24),
-            ("define", "48 Syntax", after, 24),
-            (OTHER_EXTERNAL, "48 NoExternal", after, 24),
-            ("", "48 NoExternal", after, 24),
-            (FIRST, "", ROWS, 29),
-        ],
-    );
-    bench.leak();
-    done
-}
+pub(crate) const WHOLE_SCRIPTS: &[Case] = &[(
+    FIRST,
+    WORDS,
+    &[
+        (Edit::Whole(FIRST), "", ROWS, ANY, 5),
+        (Edit::Whole(LAID_OUT), "", ROWS, ANY, 5),
+        (
+            Edit::Whole(OTHER_ROUTINE),
+            "",
+            "xyb xyb;ab a;xb b;q ;ad ad;",
+            ANY,
+            7,
+        ),
+        (
+            Edit::Whole(OTHER_AMONG),
+            "",
+            "xyb xyb;ab ae;xb b;q ;ad ad;",
+            ANY,
+            8,
+        ),
+        (
+            Edit::Whole(OTHER_GROUPING),
+            "",
+            "xyb xyb;ab ae;xb b;q q;ad ad;",
+            ANY,
+            11,
+        ),
+        (Edit::Whole(TWO_ITEMS), "", AFTER, ANY, 14),
+        (Edit::Whole(MOVED), "", AFTER, ANY, 19),
+        (Edit::Whole(DECLARED), "", AFTER, ANY, 24),
+        (Edit::Whole("define"), "48 Syntax", AFTER, ANY, 24),
+        (Edit::Whole(OTHER_EXTERNAL), "48 NoExternal", AFTER, ANY, 24),
+        (Edit::Whole(""), "48 NoExternal", AFTER, ANY, 24),
+        (Edit::Whole(FIRST), "", ROWS, ANY, 29),
+    ],
+)];
 
 // The longest script has 1,048,576 bytes.
 #[test]
 fn a_script_that_is_too_long_changes_nothing(rt: HostRuntime) -> Result<(), Fail> {
     let alloc = rt.alloc();
-    let text = vec![in alloc; b' '; 1_048_577]?;
-    let mut bench = bench_of(alloc, FIRST, &WORDS)?;
-    let answer = bench.replace_script(text.as_slice());
-    let shown = rows_shown(alloc, &bench);
-    let runs = bench.runs();
-    bench.leak();
-    assert_eq!(rt; answer, Err(EditFault::Script(ScriptFault::ScriptTooLong)));
-    assert_eq!(rt; shown?.as_str(), ROWS);
-    assert_eq!(rt; runs, 5);
+    let mut text = String::new(alloc);
+    for _ in 0..1_048_577 {
+        text.push(' ')?;
+    }
+    let edit = Edit::Whole(text.as_str());
+    let row = (edit, "48 ScriptTooLong", ROWS, ANY, 5);
+    tries(&rt, alloc, &(FIRST, WORDS, &[row]))?;
     Ok(())
 }
 
@@ -224,7 +207,7 @@ fn installs_both(rt: &impl Abort, alloc: Global, bench: &mut Bench) -> Result<()
 #[test]
 fn installing_the_script_before_takes_an_edit_back(rt: HostRuntime) -> Result<(), Fail> {
     let alloc = rt.alloc();
-    let mut bench = bench_of(alloc, FIRST, &WORDS)?;
+    let mut bench = bench_of(alloc, FIRST, WORDS)?;
     let done = installs_both(&rt, alloc, &mut bench);
     bench.leak();
     done

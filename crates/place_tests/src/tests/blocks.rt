@@ -1,145 +1,178 @@
 //! The place of a fault in a block. Offsets were counted by hand.
 
 use sbl_places::{Part, ScriptFault, cut_at_part, offset_in_block};
+use std::alloc::{AllocError, Global};
 use std::test::Fail;
+
+const BEFORE: &str = "externals ( stem )\nroutines ( r )\ndefine r as ";
+
+const AFTER: &str = "\ndefine stem as r\n";
+
+const OUTSIDE: ScriptFault = ScriptFault::Undeclared { item: 2 };
+
+/// What is before a block, the block, what is after it, a fault, and its offset in the block.
+const BLOCKS: &[(&str, &str, &str, ScriptFault, Option<usize>)] = &[
+    (
+        BEFORE,
+        "( do true do x )",
+        AFTER,
+        ScriptFault::Undeclared { item: 3 },
+        Some(13),
+    ),
+    (
+        BEFORE,
+        "x",
+        AFTER,
+        ScriptFault::Undeclared { item: 3 },
+        Some(0),
+    ),
+    // a condition, and the string after it that is there twice
+    (
+        BEFORE,
+        "among ( 'a' y (delete) 'b' )",
+        AFTER,
+        ScriptFault::Undeclared { item: 3 },
+        Some(12),
+    ),
+    (
+        BEFORE,
+        "among ( 'a' r (delete) 'b' 'a' )",
+        AFTER,
+        ScriptFault::RepeatedString { item: 3 },
+        Some(27),
+    ),
+    // a string of an among in the command of another
+    (
+        BEFORE,
+        "among ( 'a' ( 'b' [ among ( 'b' 'c' 'b' () ) ] ) )",
+        AFTER,
+        ScriptFault::RepeatedString { item: 3 },
+        Some(36),
+    ),
+    // the text has another fault, or none
+    (
+        BEFORE,
+        "( do x )",
+        AFTER,
+        ScriptFault::Undeclared { item: 4 },
+        None,
+    ),
+    (
+        BEFORE,
+        "( do true )",
+        AFTER,
+        ScriptFault::Undeclared { item: 3 },
+        None,
+    ),
+    // a fault with a place of its own
+    (
+        BEFORE,
+        "( do true",
+        AFTER,
+        ScriptFault::Syntax { place: 9 },
+        Some(9),
+    ),
+    // a fault outside the block is at no offset
+    (
+        "externals ( stem )\ndefine stem as ( x do ",
+        "true",
+        " )\n",
+        OUTSIDE,
+        None,
+    ),
+    (
+        "externals ( stem )\ndefine stem as ( do ",
+        "true",
+        " x )\n",
+        OUTSIDE,
+        None,
+    ),
+    // the token right after the block is outside
+    (
+        "externals ( stem )\ndefine stem as ( do ",
+        "true ",
+        "x )\n",
+        OUTSIDE,
+        None,
+    ),
+];
 
 #[test]
 fn a_fault_of_the_checks_is_at_its_token_in_the_block(rt: HostRuntime) -> Result<(), Fail> {
-    let before = "externals ( stem )\nroutines ( r )\ndefine r as ";
-    let after = "\ndefine stem as r\n";
-    for (block, fault, want) in [
-        (
-            "( do true do x )",
-            ScriptFault::Undeclared { item: 3 },
-            Some(13),
-        ),
-        ("x", ScriptFault::Undeclared { item: 3 }, Some(0)),
-        // a condition, and the string after it that is there twice
-        (
-            "among ( 'a' y (delete) 'b' )",
-            ScriptFault::Undeclared { item: 3 },
-            Some(12),
-        ),
-        (
-            "among ( 'a' r (delete) 'b' 'a' )",
-            ScriptFault::RepeatedString { item: 3 },
-            Some(27),
-        ),
-        // a string of an among in the command of another
-        (
-            "among ( 'a' ( 'b' [ among ( 'b' 'c' 'b' () ) ] ) )",
-            ScriptFault::RepeatedString { item: 3 },
-            Some(36),
-        ),
-        // the text has another fault, or none
-        ("( do x )", ScriptFault::Undeclared { item: 4 }, None),
-        ("( do true )", ScriptFault::Undeclared { item: 3 }, None),
-        // a fault with a place of its own
-        ("( do true", ScriptFault::Syntax { place: 9 }, Some(9)),
-    ] {
+    for (before, block, after, fault, want) in BLOCKS {
         let (front, text, back) = (before.as_bytes(), block.as_bytes(), after.as_bytes());
-        assert_eq!(rt;
-            offset_in_block(rt.alloc(), front, text, back, fault)?,
-            want,
-            "{block}"
-        );
+        let offset = offset_in_block(rt.alloc(), front, text, back, *fault)?;
+        assert_eq!(rt; offset, *want, "{before}{block}");
     }
     Ok(())
 }
 
-#[test]
-fn a_fault_outside_the_block_is_at_no_offset(rt: HostRuntime) -> Result<(), Fail> {
-    let block = "true".as_bytes();
-    let fault = ScriptFault::Undeclared { item: 2 };
-    for (before, after) in [
-        ("externals ( stem )\ndefine stem as ( x do ", " )\n"),
-        ("externals ( stem )\ndefine stem as ( do ", " x )\n"),
-    ] {
-        assert_eq!(rt;
-            offset_in_block(
-                rt.alloc(),
-                before.as_bytes(),
-                block,
-                after.as_bytes(),
-                fault
-            )?,
-            None,
-            "{before}"
-        );
-    }
-    // the token right after the block is outside
-    let before = "externals ( stem )\ndefine stem as ( do ";
-    assert_eq!(rt;
-        offset_in_block(
-            rt.alloc(),
-            before.as_bytes(),
-            "true ".as_bytes(),
-            "x )\n".as_bytes(),
-            fault
-        )?,
-        None
-    );
-    Ok(())
+fn part_in<'a>(
+    alloc: Global,
+    text: &'a str,
+    part: Part<'_>,
+) -> Result<Option<&'a [u8]>, AllocError> {
+    Ok(match cut_at_part(alloc, text, part)? {
+        Some(cut) => Some(cut.part),
+        None => None,
+    })
 }
+
+const TEXT: &str =
+    "externals ( stem )\nroutines ( r )\ngroupings ( v r2 )\nbackwardmode (\n  define r as ( among ( 'a' ( among ( 'b' ( ) ) ) ) or true )\n)\ndefine v 'a' + 'e'\ndefine stem as ( do among ( 'define r as' ( ) ) )";
+
+const PARTS: &[(Part, Option<&str>)] = &[
+    (
+        Part::Body("r"),
+        Some("( among ( 'a' ( among ( 'b' ( ) ) ) ) or true )"),
+    ),
+    (
+        Part::Among("r", 1),
+        Some("among ( 'a' ( among ( 'b' ( ) ) ) )"),
+    ),
+    (Part::Among("r", 2), Some("among ( 'b' ( ) )")),
+    (Part::Among("r", 3), None),
+    (Part::Among("r", 0), None),
+    (Part::Among("stem", 1), Some("among ( 'define r as' ( ) )")),
+    (Part::Terms("v"), Some("'a' + 'e'")),
+    (Part::Terms("r"), None),
+    (Part::Body("v"), None),
+    (Part::Body("none"), None),
+];
 
 #[test]
 fn a_text_is_cut_at_a_part(rt: HostRuntime) -> Result<(), Fail> {
-    let text =
-        "externals ( stem )\nroutines ( r )\ngroupings ( v r2 )\nbackwardmode (\n  define r as ( among ( 'a' ( among ( 'b' ( ) ) ) ) or true )\n)\ndefine v 'a' + 'e'\ndefine stem as ( do among ( 'define r as' ( ) ) )";
-    for (part, want) in [
-        (
-            Part::Body("r"),
-            Some("( among ( 'a' ( among ( 'b' ( ) ) ) ) or true )"),
-        ),
-        (
-            Part::Among("r", 1),
-            Some("among ( 'a' ( among ( 'b' ( ) ) ) )"),
-        ),
-        (Part::Among("r", 2), Some("among ( 'b' ( ) )")),
-        (Part::Among("r", 3), None),
-        (Part::Among("r", 0), None),
-        (Part::Among("stem", 1), Some("among ( 'define r as' ( ) )")),
-        (Part::Terms("v"), Some("'a' + 'e'")),
-        (Part::Terms("r"), None),
-        (Part::Body("v"), None),
-        (Part::Body("none"), None),
-    ] {
-        let found = match cut_at_part(rt.alloc(), text, part)? {
-            Some(cut) => Some(cut.part),
-            None => None,
-        };
-        assert_eq!(rt; found, want.map(|part| part.as_bytes()));
+    for (part, want) in PARTS {
+        let cut = part_in(rt.alloc(), TEXT, *part)?;
+        assert_eq!(rt; cut, want.map(|part| part.as_bytes()), "{part:?}");
     }
     Ok(())
 }
 
+const ITEMS: &[&str] = &[
+    "strings ( t )",
+    "integers ( n )",
+    "booleans ( b )",
+    "routines ( s )",
+    "externals ( e )",
+    "groupings ( w )",
+    "define s as true",
+    "backwardmode ( )",
+    "stringescapes {}",
+    "stringdef m 'x'",
+];
+
 #[test]
 fn a_part_ends_before_the_next_item(rt: HostRuntime) -> Result<(), Fail> {
-    for item in [
-        "strings ( t )",
-        "integers ( n )",
-        "booleans ( b )",
-        "routines ( s )",
-        "externals ( e )",
-        "groupings ( w )",
-        "define s as true",
-        "backwardmode ( )",
-        "stringescapes {}",
-        "stringdef m 'x'",
-    ] {
-        let text = format!(in rt.alloc();
+    let alloc = rt.alloc();
+    for item in ITEMS {
+        let text = format!(in alloc;
             "define r as ( next or true ) {item} define v 'a' + 'e' {item}"
         )?;
-        for (part, want) in [
-            (Part::Body("r"), "( next or true )"),
-            (Part::Terms("v"), "'a' + 'e'"),
-        ] {
-            let found = match cut_at_part(rt.alloc(), &text, part)? {
-                Some(cut) => Some(cut.part),
-                None => None,
-            };
-            assert_eq!(rt; found, Some(want.as_bytes()), "{item}");
-        }
+        let body = part_in(alloc, text.as_str(), Part::Body("r"))?;
+        assert_eq!(rt; body, Some(b"( next or true )".as_slice()), "{item}");
+        let terms = part_in(alloc, text.as_str(), Part::Terms("v"))?;
+        assert_eq!(rt; terms, Some(b"'a' + 'e'".as_slice()), "{item}");
     }
     Ok(())
 }

@@ -1,42 +1,25 @@
-//! A whole script over words, with the steps that its runs pay. More rows stand in tests/cases.
+//! A whole script over words, with the steps that its runs pay. More rows are in tests/cases.
 
-use crate::tests::runs::{runs, runs_with};
+use crate::tests::runs::{Case, MOST};
 use sbl_machine::RunFault;
-use std::test::Fail;
 use test_scripts::PLURALS;
 
-#[test]
-fn plural_endings_are_taken_off(rt: HostRuntime) -> Result<(), Fail> {
-    let alloc = rt.alloc();
-    let steps = Err(RunFault::Steps);
-    let script = PLURALS;
-    runs(
-        &rt,
-        alloc,
-        script,
-        &[
-            ("boxes", Ok("box"), 0),
-            ("cakes", Ok("cak"), 0),
-            ("cake", Ok("cak"), 0),
-            ("cats", Ok("cat"), 0),
-            ("s", Ok(""), 16),
-            ("dog", Ok("dog"), 12),
-        ],
-    )?;
-    runs_with(&rt, alloc, 16, script, &[("s", Ok(""), 16)])?;
-    runs_with(&rt, alloc, 15, script, &[("s", steps, 16)])?;
-    runs_with(
-        &rt,
-        alloc,
-        12,
-        script,
-        &[("s", steps, 13), ("dog", Ok("dog"), 12)],
-    )?;
-    runs_with(
-        &rt,
-        alloc,
-        11,
-        script,
-        &[("s", steps, 12), ("dog", steps, 12)],
-    )
-}
+const STEPS: Result<&str, RunFault> = Err(RunFault::Steps);
+
+pub(crate) const STEMS: &[Case] = &[(
+    PLURALS,
+    &[
+        ("boxes", MOST, Ok("box"), 0),
+        ("cakes", MOST, Ok("cak"), 0),
+        ("cake", MOST, Ok("cak"), 0),
+        ("cats", MOST, Ok("cat"), 0),
+        ("s", MOST, Ok(""), 16),
+        ("dog", MOST, Ok("dog"), 12),
+        ("s", 16, Ok(""), 16),
+        ("s", 15, STEPS, 16),
+        ("s", 12, STEPS, 13),
+        ("dog", 12, Ok("dog"), 12),
+        ("s", 11, STEPS, 12),
+        ("dog", 11, STEPS, 12),
+    ],
+)];

@@ -14,56 +14,32 @@ fn table_of<S: AmongSearch>(alloc: Global, mode: Mode, strings: &[&str]) -> Resu
     S::build(alloc, &all, mode)
 }
 
-/// Asks the tables of one search.
-fn asked<S: AmongSearch>(
-    rt: &impl Abort,
-    forwards: S,
-    backwards: S,
-    empty: S,
-    apart: S,
-) -> Result<(), Fail> {
+/// Builds tables of one search, and asks them.
+fn asked<S: AmongSearch>(rt: &impl Abort, alloc: Global) -> Result<(), Fail> {
     let text = ['a', 'b', 'd'];
+    let forwards: S = table_of(alloc, Mode::Forward, &["a", "abc", "ab"])?;
     assert_eq!(rt; forwards.longest(&text, 0, 3), Some(2));
     assert_eq!(rt; forwards.next_shorter(1), Some(2));
     assert_eq!(rt; forwards.next_shorter(2), Some(0));
     assert_eq!(rt; forwards.next_shorter(0), None);
     let word = ['b', 'o', 'x', 'e', 's'];
+    let backwards: S = table_of(alloc, Mode::Backward, &["s", "es"])?;
     assert_eq!(rt; backwards.longest(&word, 5, 0), Some(1));
     assert_eq!(rt; backwards.longest(&word, 5, 4), Some(0));
     assert_eq!(rt; backwards.next_shorter(1), Some(0));
+    let empty: S = table_of(alloc, Mode::Forward, &[""])?;
     assert_eq!(rt; empty.longest(&[], 0, 0), Some(0));
     assert_eq!(rt; empty.next_shorter(0), None);
-    // no string but a front is a shorter one
+    // no string but a prefix is a shorter one
+    let apart: S = table_of(alloc, Mode::Forward, &["a", "b"])?;
     assert_eq!(rt; apart.next_shorter(1), None);
     Ok(())
 }
 
-const FORWARDS: &[&str] = &["a", "abc", "ab"];
-
-const BACKWARDS: &[&str] = &["s", "es"];
-
-const EMPTY: &[&str] = &[""];
-
-const APART: &[&str] = &["a", "b"];
-
 #[test]
-fn a_plain_table_finds_the_longest_and_then_the_next_shorter(rt: HostRuntime) -> Result<(), Fail> {
-    let alloc = rt.alloc();
-    let forwards: PlainTable = table_of(alloc, Mode::Forward, FORWARDS)?;
-    let backwards: PlainTable = table_of(alloc, Mode::Backward, BACKWARDS)?;
-    let empty: PlainTable = table_of(alloc, Mode::Forward, EMPTY)?;
-    let apart: PlainTable = table_of(alloc, Mode::Forward, APART)?;
-    asked(&rt, forwards, backwards, empty, apart)
-}
-
-#[test]
-fn a_linked_table_finds_the_longest_and_then_the_next_shorter(rt: HostRuntime) -> Result<(), Fail> {
-    let alloc = rt.alloc();
-    let forwards: LinkedTable = table_of(alloc, Mode::Forward, FORWARDS)?;
-    let backwards: LinkedTable = table_of(alloc, Mode::Backward, BACKWARDS)?;
-    let empty: LinkedTable = table_of(alloc, Mode::Forward, EMPTY)?;
-    let apart: LinkedTable = table_of(alloc, Mode::Forward, APART)?;
-    asked(&rt, forwards, backwards, empty, apart)
+fn a_table_finds_the_longest_and_then_the_next_shorter(rt: HostRuntime) -> Result<(), Fail> {
+    asked::<PlainTable>(&rt, rt.alloc())?;
+    asked::<LinkedTable>(&rt, rt.alloc())
 }
 
 #[test]

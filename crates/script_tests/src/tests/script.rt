@@ -1,119 +1,160 @@
 //! Tests of parsing scripts: each kind of refusal once, depth, length, and what a script keeps. tests/cases has rows of
 //! single checks.
 
+use sbl_parser::{one_fault, one_part, one_tree};
+use sbl_script::Script;
 use sbl_script::laws::{
     amongs_are_sound, fault_is_first, is_well_declared, names_resolve, one_edit, one_reading,
     substrings_are_paired, well_declared_passes,
 };
-use sbl_script::{Script, ScriptFault};
-use std::alloc::Global;
+use std::alloc::{AllocError, Global};
+use std::fmt::Display;
 use std::process::Abort;
-use test_scripts::PORTER;
+use std::test::Fail;
+use test_scripts::{FRONT, PORTER};
 
-/// Returns the fault, or `None` for a script, which is discarded.
-pub(crate) fn fault_in<E>(made: Result<Script, E>) -> Option<E> {
+/// Returns the fault as text, which is empty for a script. The script is discarded.
+pub(crate) fn fault_in<E: Display + Drop>(
+    alloc: Global,
+    made: Result<Script, E>,
+) -> Result<String, AllocError> {
     match made {
         Ok(script) => {
             script.discard();
-            None
+            Ok(String::new(alloc))
         }
-        Err(fault) => Some(fault),
+        Err(fault) => format!(in alloc; "{fault}"),
     }
 }
 
-/// Returns the fault of a script, or `None` if it is accepted.
-fn fault_of(alloc: Global, text: &str) -> Option<ScriptFault> {
-    fault_in(Script::parse(alloc, text.as_bytes(), "stem"))
+/// The script of a text, with the external `stem`.
+pub(crate) fn script_of(rt: &impl Abort, alloc: Global, text: &str) -> Script {
+    Script::parse(alloc, text.as_bytes(), "stem").expect(rt, "a script")
 }
 
-fn repeated(rt: &impl Abort, alloc: Global, part: &str, count: usize) -> String {
-    let mut text = String::new(alloc);
+/// A text, and then a part so many times.
+pub(crate) fn repeated(
+    alloc: Global,
+    front: &str,
+    part: &str,
+    count: usize,
+) -> Result<String, AllocError> {
+    let mut text = String::from_str(alloc, front)?;
     for _ in 0..count {
-        text.push_str(part).expect(rt, "memory");
+        text.push_str(part)?;
     }
-    text
+    Ok(text)
 }
 
-#[test]
-fn a_script_is_accepted_or_has_its_first_fault(rt: HostRuntime) {
-    for (text, want) in [
-        ("externals ( stem ) define stem as stem", None),
-        ("! \"", Some(ScriptFault::BadCharacter { place: 0 })),
-        (
-            "externals ( ) ) $x 3 size",
-            Some(ScriptFault::OutOfProfile { place: 21 }),
-        ),
-        (
-            "externals ( stem ) define stem as",
-            Some(ScriptFault::Syntax { place: 33 }),
-        ),
-        (
-            "define stem as next externals ( stem )",
-            Some(ScriptFault::Undeclared { item: 1 }),
-        ),
-        ("", Some(ScriptFault::NoExternal)),
-    ] {
-        assert_eq!(rt; fault_of(rt.alloc(), text), want, "{text}");
-    }
-}
+/// A text, an external, and the fault (empty if the script is accepted).
+const TEXTS: &[(&str, &str, &str)] = &[
+    (PORTER, "stem", ""),
+    ("externals ( stem ) define stem as stem", "stem", ""),
+    ("! \"", "stem", "1 BadCharacter at 0"),
+    ("externals ( ) ) $x 3 size", "stem", "20 OutOfProfile at 21"),
+    (
+        "externals ( stem ) define stem as",
+        "stem",
+        "7 Syntax at 33",
+    ),
+    (
+        "define stem as next externals ( stem )",
+        "stem",
+        "10 Undeclared in item 1",
+    ),
+    ("", "stem", "21 NoExternal"),
+    (
+        "externals ( stem ) define stem as next",
+        "",
+        "21 NoExternal",
+    ),
+    (
+        "externals ( stem ) define stem as next",
+        "2x",
+        "21 NoExternal",
+    ),
+    (
+        "externals ( stem ) define stem as next",
+        "next",
+        "21 NoExternal",
+    ),
+    (
+        "externals ( stem ) define stem as next",
+        "Stem",
+        "21 NoExternal",
+    ),
+];
 
 #[test]
-fn texts_of_every_depth_and_length_have_an_answer(rt: HostRuntime) {
+fn a_script_is_accepted_or_has_its_first_fault(rt: HostRuntime) -> Result<(), Fail> {
     let alloc = rt.alloc();
-    for (front, part, count, want) in [
-        (
-            "externals ( stem ) define stem as ",
-            "(",
-            300_000,
-            Some(ScriptFault::TooDeep { place: 98 }),
-        ),
-        ("", " ", 1_048_577, Some(ScriptFault::ScriptTooLong)),
-        ("", " ", 1_048_576, Some(ScriptFault::NoExternal)),
-    ] {
-        let mut text = repeated(&rt, alloc, front, 1);
-        text.push_str(repeated(&rt, alloc, part, count).as_str())
-            .expect(&rt, "memory");
-        assert_eq!(rt; fault_of(alloc, text.as_str()), want, "{count}");
+    for (text, external, want) in TEXTS {
+        let fault = fault_in(alloc, Script::parse(alloc, text.as_bytes(), external))?;
+        assert_eq!(rt; fault.as_str(), *want, "{external}: {text}");
     }
-    assert_eq!(rt;
-        fault_in(Script::parse(alloc, b"\xff", "stem")),
-        Some(ScriptFault::NotUtf8)
-    );
+    let fault = fault_in(alloc, Script::parse(alloc, b"\xff", "stem"))?;
+    assert_eq!(rt; fault.as_str(), "23 NotUtf8");
+    Ok(())
+}
+
+/// A text, a part that follows so many times, and the fault.
+const LONG: &[(&str, &str, usize, &str)] = &[
+    (FRONT, "(", 300_000, "8 TooDeep at 98"),
+    ("", " ", 1_048_577, "24 ScriptTooLong"),
+    ("", " ", 1_048_576, "21 NoExternal"),
+];
+
+#[test]
+fn texts_of_every_depth_and_length_have_an_answer(rt: HostRuntime) -> Result<(), Fail> {
+    let alloc = rt.alloc();
+    for (front, part, count, want) in LONG {
+        let text = repeated(alloc, front, part, *count)?;
+        let fault = fault_in(alloc, Script::parse(alloc, text.as_bytes(), "stem"))?;
+        assert_eq!(rt; fault.as_str(), *want, "{count}");
+    }
+    Ok(())
 }
 
 #[test]
-fn every_front_of_a_script_has_an_answer(rt: HostRuntime) {
+fn every_prefix_of_a_script_has_an_answer(rt: HostRuntime) -> Result<(), Fail> {
     let alloc = rt.alloc();
-    assert_eq!(rt; fault_of(alloc, PORTER), None);
-    let mut front = String::new(alloc);
+    let mut text = String::new(alloc);
     for letter in PORTER.chars() {
-        let fault = fault_of(alloc, front.as_str());
-        assert!(rt; fault != Some(ScriptFault::OutOfMemory), "{front}");
-        front.push(letter).expect(&rt, "memory");
+        let fault = fault_in(alloc, Script::parse(alloc, text.as_bytes(), "stem"))?;
+        assert!(rt; fault.as_str() != "49 OutOfMemory", "{text}");
+        text.push(letter)?;
     }
+    Ok(())
 }
 
 #[test]
 fn a_script_keeps_what_was_read(rt: HostRuntime) {
-    let alloc = rt.alloc();
-    let script = Script::parse(alloc, b"externals ( stem ) define stem as next", "stem").expect(
-        &rt, "accepted",
-    );
+    let script = script_of(&rt, rt.alloc(), "externals ( stem ) define stem as next");
     assert_eq!(rt; script.external(), "stem");
     assert_eq!(rt; script.items().len(), 2);
     is_well_declared(&script);
     assert_eq!(rt; script.body().others.len(), 0);
     script.discard();
-    for external in ["", "2x", "next", "Stem"] {
-        assert_eq!(rt;
-            fault_in(Script::parse(alloc, b"externals ( stem ) define stem as next", external)),
-            Some(ScriptFault::NoExternal)
-        );
-    }
 }
 
 #[test]
-fn the_laws_of_scripts_are_called(_rt: HostRuntime) {
+fn a_script_under_another_external_is_another(rt: HostRuntime) {
+    let alloc = rt.alloc();
+    let text = "externals ( stem other ) define stem as next define other as next";
+    let script = script_of(&rt, alloc, text);
+    for (external, want) in [("stem", true), ("other", false)] {
+        let again = Script::parse(alloc, text.as_bytes(), external).expect(&rt, "a script");
+        assert_eq!(rt; script.is_same(alloc, &again).expect(&rt, "memory"), want);
+        again.discard();
+    }
+    script.discard();
+}
+
+#[test]
+fn the_laws_of_trees_and_scripts_are_called(_rt: HostRuntime) {
+    one_tree();
+    one_part();
+    one_fault();
     one_reading();
     one_edit();
     well_declared_passes();
