@@ -2,4 +2,5 @@
 
 mod devices;
 mod lines;
+mod served;
 mod sessions;

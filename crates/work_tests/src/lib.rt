@@ -1,4 +1,4 @@
-//! Tests of desks. Nothing but tests is in this crate.
+//! Tests of work. Nothing but tests is in this crate.
 #![tactic(auto)]
 
 #[cfg(test)]

@@ -1,4 +1,3 @@
-//! Desks and work, each file by what it tries.
+//! Work over readers and writers that fail.
 
-mod history;
 mod serving;

@@ -15,121 +15,82 @@ fn rows_of(alloc: Global, rows: &str, lists: &str) -> Result<String, AllocError>
     shown_families(alloc, &found)
 }
 
-#[test]
-fn no_families(rt: HostRuntime) -> Result<(), Fail> {
-    let rows = "a=x";
-    assert_eq!(rt; rows_of(rt.alloc(), rows, "")?.as_str(), "pairs,0,0,0,0;");
-    Ok(())
-}
+/// What is tried, the rows, the families, and the rows about them.
+const ROWS: [(&str, &str, &str, &str); 12] = [
+    ("no families", "a=x", "", "pairs,0,0,0,0;"),
+    (
+        "a family has two stems",
+        "a=x b=x c=y",
+        "a b c",
+        "under,a,x,y;pairs,3,2,0,0;",
+    ),
+    (
+        "an empty family is left out",
+        "a=x b=y c=y",
+        "a / / b c",
+        "pairs,1,0,2,0;",
+    ),
+    (
+        "two families share a stem",
+        "a=x b=x c=x d=x",
+        "a b / c d",
+        "over,x,a,c;pairs,2,0,4,4;",
+    ),
+    (
+        "three words and two share a stem",
+        "a=x b=x c=x d=x e=x",
+        "a b c / d e",
+        "over,x,a,d;pairs,4,0,6,6;",
+    ),
+    (
+        "a word without a row and a repeated word are left out",
+        "a=x",
+        "a n a",
+        "pairs,0,0,0,0;",
+    ),
+    (
+        "a word counts in its first family",
+        "a=x b=x c=y",
+        "a b / b c",
+        "pairs,1,0,2,0;",
+    ),
+    (
+        "a refused word is left out",
+        "r!Steps a=y b=x",
+        "r a b",
+        "under,a,x,y;pairs,1,1,0,0;",
+    ),
+    (
+        "words of a shared stem are in the order of the families",
+        "a=x b=x c=x",
+        "c / b / a",
+        "over,x,c,b,a;pairs,0,0,3,3;",
+    ),
+    (
+        "a shared stem has the first word with it",
+        "a=x b=y c=x d=x",
+        "b a / d c",
+        "under,b,x,y;over,x,a,d;pairs,2,1,4,2;",
+    ),
+    (
+        "families are in order and shared stems too",
+        "a=x b=z c=z d=x",
+        "c d / a b",
+        "under,c,x,z;under,a,x,z;over,x,d,a;over,z,c,b;pairs,2,2,4,2;",
+    ),
+    (
+        "ten words",
+        "baea=ba baeabaa=baea baeab=baeab aea=a abb=abb abebe=ab abbe=ab aab=aab aabe=aa aabaa=aa",
+        "/ aab baeabaa aabaa abebe / / aabe abb aea baea baeab abbe / abbe",
+        "under,aab,aa,aab,ab,baea;under,aabe,a,aa,ab,abb,ba,baeab;over,aa,aabaa,aabe;over,ab,abebe,abbe;pairs,21,21,24,2;",
+    ),
+];
 
 #[test]
-fn a_family_has_two_stems(rt: HostRuntime) -> Result<(), Fail> {
-    let rows = "a=x b=x c=y";
-    assert_eq!(rt;
-        rows_of(rt.alloc(), rows, "a b c")?.as_str(),
-        "under,a,x,y;pairs,3,2,0,0;"
-    );
-    Ok(())
-}
-
-#[test]
-fn an_empty_family_is_left_out(rt: HostRuntime) -> Result<(), Fail> {
-    let rows = "a=x b=y c=y";
-    assert_eq!(rt;
-        rows_of(rt.alloc(), rows, "a / / b c")?.as_str(),
-        "pairs,1,0,2,0;"
-    );
-    Ok(())
-}
-
-#[test]
-fn two_families_share_a_stem(rt: HostRuntime) -> Result<(), Fail> {
-    let rows = "a=x b=x c=x d=x";
-    assert_eq!(rt;
-        rows_of(rt.alloc(), rows, "a b / c d")?.as_str(),
-        "over,x,a,c;pairs,2,0,4,4;"
-    );
-    Ok(())
-}
-
-#[test]
-fn three_words_and_two_share_a_stem(rt: HostRuntime) -> Result<(), Fail> {
-    let rows = "a=x b=x c=x d=x e=x";
-    assert_eq!(rt;
-        rows_of(rt.alloc(), rows, "a b c / d e")?.as_str(),
-        "over,x,a,d;pairs,4,0,6,6;"
-    );
-    Ok(())
-}
-
-#[test]
-fn a_word_without_a_row_and_a_repeated_word_are_left_out(rt: HostRuntime) -> Result<(), Fail> {
-    let rows = "a=x";
-    assert_eq!(rt;
-        rows_of(rt.alloc(), rows, "a n a")?.as_str(),
-        "pairs,0,0,0,0;"
-    );
-    Ok(())
-}
-
-#[test]
-fn a_word_counts_in_its_first_family(rt: HostRuntime) -> Result<(), Fail> {
-    let rows = "a=x b=x c=y";
-    assert_eq!(rt;
-        rows_of(rt.alloc(), rows, "a b / b c")?.as_str(),
-        "pairs,1,0,2,0;"
-    );
-    Ok(())
-}
-
-#[test]
-fn a_refused_word_is_left_out(rt: HostRuntime) -> Result<(), Fail> {
-    let rows = "r!Steps a=y b=x";
-    assert_eq!(rt;
-        rows_of(rt.alloc(), rows, "r a b")?.as_str(),
-        "under,a,x,y;pairs,1,1,0,0;"
-    );
-    Ok(())
-}
-
-#[test]
-fn words_of_a_shared_stem_are_in_the_order_of_the_families(rt: HostRuntime) -> Result<(), Fail> {
-    let rows = "a=x b=x c=x";
-    assert_eq!(rt;
-        rows_of(rt.alloc(), rows, "c / b / a")?.as_str(),
-        "over,x,c,b,a;pairs,0,0,3,3;"
-    );
-    Ok(())
-}
-
-#[test]
-fn a_shared_stem_has_the_first_word_with_it(rt: HostRuntime) -> Result<(), Fail> {
-    let rows = "a=x b=y c=x d=x";
-    assert_eq!(rt;
-        rows_of(rt.alloc(), rows, "b a / d c")?.as_str(),
-        "under,b,x,y;over,x,a,d;pairs,2,1,4,2;"
-    );
-    Ok(())
-}
-
-#[test]
-fn families_are_in_order_and_shared_stems_too(rt: HostRuntime) -> Result<(), Fail> {
-    let rows = "a=x b=z c=z d=x";
-    assert_eq!(rt;
-        rows_of(rt.alloc(), rows, "c d / a b")?.as_str(),
-        "under,c,x,z;under,a,x,z;over,x,d,a;over,z,c,b;pairs,2,2,4,2;"
-    );
-    Ok(())
-}
-
-#[test]
-fn ten_words(rt: HostRuntime) -> Result<(), Fail> {
-    let rows =
-        "baea=ba baeabaa=baea baeab=baeab aea=a abb=abb abebe=ab abbe=ab aab=aab aabe=aa aabaa=aa";
-    let families = "/ aab baeabaa aabaa abebe / / aabe abb aea baea baeab abbe / abbe";
-    assert_eq!(rt;
-        rows_of(rt.alloc(), rows, families)?.as_str(),
-        "under,aab,aa,aab,ab,baea;under,aabe,a,aa,ab,abb,ba,baeab;over,aa,aabaa,aabe;over,ab,abebe,abbe;pairs,21,21,24,2;"
-    );
+fn rows_about_families(rt: HostRuntime) -> Result<(), Fail> {
+    for (what, rows, families, text) in ROWS {
+        let shown = rows_of(rt.alloc(), rows, families)?;
+        assert_eq!(rt; shown.as_str(), text, "{what}");
+    }
     Ok(())
 }

@@ -13,25 +13,26 @@ fn rows_of(alloc: Global, rows: &str, n: usize) -> Result<String, AllocError> {
     shown_classes(alloc, &classes)
 }
 
-#[test]
-fn no_rows_have_no_classes(rt: HostRuntime) -> Result<(), Fail> {
-    assert_eq!(rt; rows_of(rt.alloc(), "", 3)?.as_str(), "");
-    Ok(())
-}
+/// Rows with classes of one size and of two sizes.
+const SIX: &str = "a=x e=z d=z b=y c=y f!Steps";
+
+/// The rows, how many classes are wanted, and the classes.
+const ROWS: [(&str, usize, &str); 6] = [
+    ("", 3, ""),
+    // The largest is first, then the stem decides.
+    (SIX, 1, "y,b,c;"),
+    (SIX, 2, "y,b,c;z,d,e;"),
+    (SIX, 3, "y,b,c;z,d,e;x,a;"),
+    (SIX, 99, "y,b,c;z,d,e;x,a;"),
+    // A prefix is before the longer stem.
+    ("a=xy b=x c=", 3, ",c;x,b;xy,a;"),
+];
 
 #[test]
-fn the_largest_is_first_then_the_stem_decides(rt: HostRuntime) -> Result<(), Fail> {
-    let rows = "a=x e=z d=z b=y c=y f!Steps";
-    assert_eq!(rt; rows_of(rt.alloc(), rows, 1)?.as_str(), "y,b,c;");
-    assert_eq!(rt; rows_of(rt.alloc(), rows, 2)?.as_str(), "y,b,c;z,d,e;");
-    assert_eq!(rt; rows_of(rt.alloc(), rows, 3)?.as_str(), "y,b,c;z,d,e;x,a;");
-    assert_eq!(rt; rows_of(rt.alloc(), rows, 99)?.as_str(), "y,b,c;z,d,e;x,a;");
-    Ok(())
-}
-
-#[test]
-fn a_prefix_is_before_the_longer_stem(rt: HostRuntime) -> Result<(), Fail> {
-    let rows = "a=xy b=x c=";
-    assert_eq!(rt; rows_of(rt.alloc(), rows, 3)?.as_str(), ",c;x,b;xy,a;");
+fn the_largest_classes(rt: HostRuntime) -> Result<(), Fail> {
+    for (rows, n, classes) in ROWS {
+        let shown = rows_of(rt.alloc(), rows, n)?;
+        assert_eq!(rt; shown.as_str(), classes, "{n} of {rows}");
+    }
     Ok(())
 }

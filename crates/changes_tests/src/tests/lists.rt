@@ -115,13 +115,22 @@ fn put_words(text: &mut String, words: &[&[char]]) -> Result<(), AllocError> {
     Ok(())
 }
 
+/// Appends a name, and the texts, each after a comma.
+fn put_row(
+    text: &mut String,
+    name: &str,
+    first: &[char],
+    others: &[&[char]],
+) -> Result<(), AllocError> {
+    text.push_str(name)?;
+    put_word(text, first)?;
+    put_words(text, others)
+}
+
 /// Appends the outcome after a comma.
 fn put_outcome(text: &mut String, outcome: &WordOutcome<'_>) -> Result<(), AllocError> {
     match outcome {
-        WordOutcome::Stem(stem) => {
-            text.push_str(",stem")?;
-            put_word(text, stem)
-        }
+        WordOutcome::Stem(stem) => put_row(text, ",stem", stem, &[]),
         WordOutcome::Refused(name) => {
             text.push_str(",refused,")?;
             text.push_str(name)
@@ -132,39 +141,20 @@ fn put_outcome(text: &mut String, outcome: &WordOutcome<'_>) -> Result<(), Alloc
 /// Appends a change as a row.
 fn put_change(text: &mut String, change: &ChangeRow<'_>) -> Result<(), AllocError> {
     match change {
-        ChangeRow::Added(word) => {
-            text.push_str("added")?;
-            put_word(text, word)
-        }
-        ChangeRow::Removed(word) => {
-            text.push_str("removed")?;
-            put_word(text, word)
-        }
+        ChangeRow::Added(word) => put_row(text, "added", word, &[]),
+        ChangeRow::Removed(word) => put_row(text, "removed", word, &[]),
         ChangeRow::Changed {
             word,
             before,
             after,
         } => {
-            text.push_str("changed")?;
-            put_word(text, word)?;
+            put_row(text, "changed", word, &[])?;
             put_outcome(text, before)?;
             put_outcome(text, after)
         }
-        ChangeRow::Split { stem, into } => {
-            text.push_str("split")?;
-            put_word(text, stem)?;
-            put_words(text, into)
-        }
-        ChangeRow::Merged { stem, from } => {
-            text.push_str("merged")?;
-            put_word(text, stem)?;
-            put_words(text, from)
-        }
-        ChangeRow::Renamed { from, to } => {
-            text.push_str("renamed")?;
-            put_word(text, from)?;
-            put_word(text, to)
-        }
+        ChangeRow::Split { stem, into } => put_row(text, "split", stem, into),
+        ChangeRow::Merged { stem, from } => put_row(text, "merged", stem, from),
+        ChangeRow::Renamed { from, to } => put_row(text, "renamed", from, &[*to]),
     }
 }
 
@@ -195,16 +185,8 @@ pub(crate) fn shown_classes(
 /// Appends a row about families.
 fn put_family_row(alloc: Global, text: &mut String, row: &FamilyRow<'_>) -> Result<(), AllocError> {
     match row {
-        FamilyRow::Under { word, stems } => {
-            text.push_str("under")?;
-            put_word(text, word)?;
-            put_words(text, stems)
-        }
-        FamilyRow::Over { stem, words } => {
-            text.push_str("over")?;
-            put_word(text, stem)?;
-            put_words(text, words)
-        }
+        FamilyRow::Under { word, stems } => put_row(text, "under", word, stems),
+        FamilyRow::Over { stem, words } => put_row(text, "over", stem, words),
         FamilyRow::Pairs {
             within,
             apart,

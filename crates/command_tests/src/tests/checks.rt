@@ -15,16 +15,26 @@ fn writer(alloc: Global, fails_at: u64) -> Device<Pieces<Vec<u8>>> {
     Device::new(in_pieces(Vec::new(alloc), 4, fails_at, 0))
 }
 
+/// Returns a writer in memory that takes two bytes at each write and is interrupted so many times before each.
+fn interrupted(alloc: Global, interruptions: u64) -> Device<Pieces<Vec<u8>>> {
+    Device::new(in_pieces(Vec::new(alloc), 2, 0, interruptions))
+}
+
 /// What a check wrote, and how it ended.
-#[derive(Debug, Drop)]
+#[derive(Drop)]
 struct Checked {
     text: Vec<u8>,
     ending: Result<u64, ServeFault>,
 }
 
-fn check_of(alloc: Global, script: &[u8], words: &[u8], expected: &[u8]) -> Result<Checked, Fail> {
-    let script = Script::parse(alloc, script, "stem")?;
-    let mut writer = writer(alloc, 0);
+/// Checks two lists of lines by a script that deletes a first `un` or `re`.
+fn check_of(
+    alloc: Global,
+    mut writer: Device<Pieces<Vec<u8>>>,
+    words: &[u8],
+    expected: &[u8],
+) -> Result<Checked, Fail> {
+    let script = Script::parse(alloc, PREFIXES, "stem")?;
     let ending = check(alloc, &script, words, expected, &mut writer);
     script.discard();
     Ok(Checked {
@@ -34,95 +44,69 @@ fn check_of(alloc: Global, script: &[u8], words: &[u8], expected: &[u8]) -> Resu
 }
 
 /// Two lists of lines, and what a check of them writes and returns.
-type Row<'a> = (&'a [u8], &'a [u8], &'a [u8], Result<u64, ServeFault>);
-
-// Returns whether each check of this script writes its rows and ends as expected.
-fn checks_so(alloc: Global, script: &[u8], rows: &[Row]) -> Result<bool, Fail> {
-    for (words, expected, text, ending) in rows {
-        let checked = check_of(alloc, script, words, expected)?;
-        if checked.ending != *ending || checked.text.as_slice() != *text {
-            return Ok(false);
-        }
-    }
-    Ok(true)
-}
+const ROWS: [(&[u8], &[u8], &[u8], Result<u64, ServeFault>); 4] = [
+    (b"undo\ndo\n", b"do\nda\n", b"2,do,da,do\n", Ok(1)),
+    (b"", b"", b"", Ok(0)),
+    // Empty lines and repeats are words like any other, and a carriage return belongs to the end of a line.
+    (
+        b"\r\n\nundo\nundo\r\nundo",
+        b"\n\nx\ndo\r\ny",
+        b"3,undo,x,do\n5,undo,y,do\n",
+        Ok(2),
+    ),
+    (b"a,b\n", b"\"\n", b"1,\"a,b\",\"\"\"\",\"a,b\"\n", Ok(1)),
+];
 
 #[test]
 fn a_check_writes_a_row_for_each_difference(rt: HostRuntime) -> Result<(), Fail> {
-    let rows: [Row; 4] = [
-        (b"undo\ndo\n", b"do\nda\n", b"2,do,da,do\n", Ok(1)),
-        (b"", b"", b"", Ok(0)),
-        // Empty lines and repeats are words like any other, and a carriage return belongs to the end of a line.
-        (
-            b"\r\n\nundo\nundo\r\nundo",
-            b"\n\nx\ndo\r\ny",
-            b"3,undo,x,do\n5,undo,y,do\n",
-            Ok(2),
-        ),
-        (b"a,b\n", b"\"\n", b"1,\"a,b\",\"\"\"\",\"a,b\"\n", Ok(1)),
+    for (number, (words, expected, text, ending)) in ROWS.iter().enumerate() {
+        let checked = check_of(rt.alloc(), writer(rt.alloc(), 0), words, expected)?;
+        assert!(rt; checked.ending == *ending, "{number}: {:?}", checked.ending);
+        assert!(rt;
+            checked.text.as_slice() == *text,
+            "{number}: {:?}",
+            checked.text
+        );
+    }
+    Ok(())
+}
+
+// A word has at most 255 characters, and a line at most 65,536 bytes. The fault of a word comes before that of its stem.
+#[test]
+fn a_word_and_a_line_of_a_check_have_a_longest_length(rt: HostRuntime) -> Result<(), Fail> {
+    let line = vec![in rt.alloc(); b'a'; 65_537]?;
+    let rows: [(&[u8], &[u8], Result<u64, ServeFault>, usize); 6] = [
+        (&line[..256], b"refused WordTooLong", Ok(1), 256 + 43),
+        (&line[..255], &line[..255], Ok(0), 0),
+        (&line[..65_536], b"a", Ok(1), 65_536 + 25),
+        (b"a", &line, Err(ServeFault::LineTooLong), 0),
+        (b"\xFF", &line, Err(ServeFault::NotText), 0),
+        (&line, b"\xFF", Err(ServeFault::LineTooLong), 0),
     ];
-    assert!(rt; checks_so(rt.alloc(), PREFIXES, &rows)?);
+    for (number, (words, expected, ending, length)) in rows.iter().enumerate() {
+        let checked = check_of(rt.alloc(), writer(rt.alloc(), 0), words, expected)?;
+        assert!(rt; checked.ending == *ending, "{number}: {:?}", checked.ending);
+        assert!(rt;
+            checked.text.len() == *length,
+            "{number}: {}",
+            checked.text.len()
+        );
+    }
     Ok(())
 }
 
+// A check bears a thousand interruptions in a row, and no more.
 #[test]
-fn a_word_of_a_check_has_at_most_255_characters(rt: HostRuntime) -> Result<(), Fail> {
-    let word = vec![in rt.alloc(); b'a'; 256]?;
-    let long = check_of(
-        rt.alloc(),
-        PREFIXES,
-        word.as_slice(),
-        b"refused WordTooLong",
-    )?;
-    assert!(rt; long.ending == Ok(1));
-    assert!(rt; long.text.len() == 256 + 43);
-    let fits = check_of(rt.alloc(), PREFIXES, &word[..255], &word[..255])?;
-    assert!(rt; fits.ending == Ok(0));
-    Ok(())
-}
-
-#[test]
-fn a_line_of_a_check_has_at_most_65536_bytes(rt: HostRuntime) -> Result<(), Fail> {
-    let line = vec![in rt.alloc(); b'a'; 65_537]?;
-    let ended = check_of(rt.alloc(), PREFIXES, b"a", line.as_slice())?;
-    assert!(rt; ended.ending == Err(ServeFault::LineTooLong));
-    let longest = check_of(rt.alloc(), PREFIXES, &line[..65_536], b"a")?;
-    assert!(rt; longest.ending == Ok(1));
-    Ok(())
-}
-
-#[test]
-fn the_fault_of_a_word_comes_before_that_of_its_stem(rt: HostRuntime) -> Result<(), Fail> {
-    let line = vec![in rt.alloc(); b'a'; 65_537]?;
-    let ended = check_of(rt.alloc(), PREFIXES, b"\xFF", line.as_slice())?;
-    assert!(rt; ended.ending == Err(ServeFault::NotText));
-    let ended = check_of(rt.alloc(), PREFIXES, line.as_slice(), b"\xFF")?;
-    assert!(rt; ended.ending == Err(ServeFault::LineTooLong));
-    Ok(())
-}
-
-#[test]
-fn a_check_ends_where_its_writer_fails(rt: HostRuntime) -> Result<(), Fail> {
-    let script = Script::parse(rt.alloc(), PREFIXES, "stem")?;
-    let mut failing = writer(rt.alloc(), 2);
-    let ending = check(rt.alloc(), &script, b"undo\n", b"x\n", &mut failing);
-    script.discard();
-    assert!(rt; ending == Err(ServeFault::Write));
-    assert!(rt; failing.into_inner().inner.as_slice() == b"1,un".as_slice());
-    Ok(())
-}
-
-#[test]
-fn a_check_bears_a_thousand_interruptions_in_a_row(rt: HostRuntime) -> Result<(), Fail> {
-    let script = Script::parse(rt.alloc(), PREFIXES, "stem")?;
-    let mut patient = Device::new(in_pieces(Vec::new(rt.alloc()), 2, 0, 1_000));
-    let ending = check(rt.alloc(), &script, b"undo\n", b"x\n", &mut patient);
-    assert!(rt; ending == Ok(1));
-    assert!(rt; patient.into_inner().inner.as_slice() == b"1,undo,x,do\n".as_slice());
-    let mut weary = Device::new(in_pieces(Vec::new(rt.alloc()), 2, 0, 1_001));
-    let ending = check(rt.alloc(), &script, b"undo\n", b"x\n", &mut weary);
-    script.discard();
-    assert!(rt; ending == Err(ServeFault::Write));
-    assert!(rt; weary.into_inner().inner.is_empty());
+fn a_check_ends_if_its_writer_fails(rt: HostRuntime) -> Result<(), Fail> {
+    let alloc = rt.alloc();
+    let failing = check_of(alloc, writer(alloc, 2), b"undo\n", b"x\n")?;
+    assert!(rt; failing.ending == Err(ServeFault::Write));
+    assert!(rt; failing.text.as_slice() == b"1,un".as_slice());
+    let patient = check_of(alloc, interrupted(alloc, 1_000), b"undo\n", b"x\n")?;
+    assert!(rt; patient.ending == Ok(1));
+    assert!(rt; patient.text.as_slice() == b"1,undo,x,do\n".as_slice());
+    let weary = check_of(alloc, interrupted(alloc, 1_001), b"undo\n", b"x\n")?;
+    assert!(rt; weary.ending == Err(ServeFault::Write));
+    assert!(rt; weary.text.is_empty());
     Ok(())
 }

@@ -14,61 +14,105 @@ fn line_of(alloc: Global, words: &[&str]) -> Result<Vec<String>, Fail> {
     Ok(line)
 }
 
-#[test]
-fn a_command_line_is_a_verb_and_an_external(rt: HostRuntime) -> Result<(), Fail> {
-    let alloc = rt.alloc();
-    let rows: [(&[&str], Verb, &str); 6] = [
-        (&["session"], Verb::Session, "stem"),
-        (&["check", "--external", "go"], Verb::Check, "go"),
-        (&["stem", "--external=go"], Verb::Stem, "go"),
-        (&["stem", "--external="], Verb::Stem, ""),
-        (&["stem", "--external", "-"], Verb::Stem, "-"),
-        (&["session", "--"], Verb::Session, "stem"),
-    ];
-    for (words, verb, external) in rows {
-        let line = line_of(alloc, words)?;
-        let Ok(command_line) = read_command_line(alloc, line.as_slice()) else {
-            assert!(rt; false, "{external}");
-            return Ok(());
-        };
-        assert!(rt; command_line.verb == verb);
-        assert!(rt; command_line.external.as_str() == external);
-    }
-    Ok(())
-}
-
-#[test]
-fn files_and_flags_are_those_of_the_line(rt: HostRuntime) -> Result<(), Fail> {
-    let alloc = rt.alloc();
-    let line = line_of(alloc, &["run", "a", "--strict", "b", "c"])?;
-    let Ok(command_line) = read_command_line(alloc, line.as_slice()) else {
-        assert!(rt; false);
-        return Ok(());
-    };
-    assert!(rt;
-        command_line.verb == Verb::Session && command_line.is_strict && !command_line.shows_places
-    );
-    assert!(rt; names(&command_line.script, "a") && names(&command_line.words, "b"));
-    assert!(rt; names(&command_line.commands, "c") && command_line.stems.is_none());
-    let line = line_of(alloc, &["check", "--places", "a", "-", "c"])?;
-    let Ok(command_line) = read_command_line(alloc, line.as_slice()) else {
-        assert!(rt; false);
-        return Ok(());
-    };
-    assert!(rt;
-        command_line.verb == Verb::Check && !command_line.is_strict && command_line.shows_places
-    );
-    assert!(rt; names(&command_line.words, "-") && names(&command_line.stems, "c"));
-    assert!(rt; command_line.commands.is_none());
-    Ok(())
-}
-
-/// Returns whether this is the name of the file.
+/// Returns whether this is the name of the file; an empty one is no file.
 fn names(file: &Option<String>, name: &str) -> bool {
     match file {
-        Some(file) => file.as_str() == name,
-        None => false,
+        Some(file) => !name.is_empty() && file.as_str() == name,
+        None => name.is_empty(),
     }
+}
+
+/// The words of a command line; its verb, its external, and whether it is strict and shows places; the files of the script, the
+/// words, the commands and the stems.
+type Row<'a> = (&'a [&'a str], Verb, &'a str, bool, bool, [&'a str; 4]);
+
+const ROWS: [Row<'static>; 8] = [
+    (
+        &["session"],
+        Verb::Session,
+        "stem",
+        false,
+        false,
+        ["", "", "", ""],
+    ),
+    (
+        &["check", "--external", "go"],
+        Verb::Check,
+        "go",
+        false,
+        false,
+        ["", "", "", ""],
+    ),
+    (
+        &["stem", "--external=go"],
+        Verb::Stem,
+        "go",
+        false,
+        false,
+        ["", "", "", ""],
+    ),
+    (
+        &["stem", "--external="],
+        Verb::Stem,
+        "",
+        false,
+        false,
+        ["", "", "", ""],
+    ),
+    (
+        &["stem", "--external", "-"],
+        Verb::Stem,
+        "-",
+        false,
+        false,
+        ["", "", "", ""],
+    ),
+    (
+        &["session", "--"],
+        Verb::Session,
+        "stem",
+        false,
+        false,
+        ["", "", "", ""],
+    ),
+    (
+        &["run", "a", "--strict", "b", "c"],
+        Verb::Session,
+        "stem",
+        true,
+        false,
+        ["a", "b", "c", ""],
+    ),
+    (
+        &["check", "--places", "a", "-", "c"],
+        Verb::Check,
+        "stem",
+        false,
+        true,
+        ["a", "-", "", "c"],
+    ),
+];
+
+#[test]
+fn a_command_line_has_a_verb_an_external_files_and_flags(rt: HostRuntime) -> Result<(), Fail> {
+    let alloc = rt.alloc();
+    for (words, verb, external, is_strict, shows_places, files) in ROWS {
+        let line = line_of(alloc, words)?;
+        let Ok(command_line) = read_command_line(alloc, line.as_slice()) else {
+            assert!(rt; false, "{words:?}");
+            return Ok(());
+        };
+        assert!(rt; command_line.verb == verb, "{words:?}");
+        assert!(rt; command_line.external.as_str() == external, "{words:?}");
+        assert!(rt; command_line.is_strict == is_strict, "{words:?}");
+        assert!(rt; command_line.shows_places == shows_places, "{words:?}");
+        let has_files = names(&command_line.script, files[0])
+            && names(&command_line.words, files[1])
+            && names(&command_line.commands, files[2])
+            && names(&command_line.stems, files[3]);
+        assert!(rt; has_files, "{words:?}");
+    }
+    Ok(())
 }
 
 #[test]
@@ -94,7 +138,10 @@ fn other_command_lines_are_refused(rt: HostRuntime) -> Result<(), Fail> {
     ];
     for words in rows {
         let line = line_of(alloc, words)?;
-        assert!(rt; read_command_line(alloc, line.as_slice()).is_err());
+        assert!(rt;
+            read_command_line(alloc, line.as_slice()).is_err(),
+            "{words:?}"
+        );
     }
     Ok(())
 }

@@ -1,61 +1,35 @@
 //! Tests of readers and writers that fail at each of their calls, and of the limit on reads.
 
+use crate::tests::served::{Ended, UN, joined, served};
 use sbl_io::{Device, Lines, ServeFault};
-use sbl_sessions::{LoadFault, load, serve};
+use sbl_sessions::LoadFault;
 use std::alloc::Global;
-use std::hash::RandomState;
 use std::test::Fail;
-use test_devices::{SameBytes, in_pieces};
-
-const SCRIPT: &[u8] =
-    b"externals ( stem )\ndefine stem as ( [ among ( 'un' () 're' () ) ] delete )\n.\n.\n";
+use test_devices::in_pieces;
 
 const COMMANDS: [&[u8]; 3] = [b"add undo\n", b"add redo\n", b"stems\n"];
 
 const REPLIES: [&[u8]; 3] = [b"ok\n", b"ok\n", b"undo,stem,do\nredo,stem,do\n"];
 
-/// What a session wrote, and how it ended.
-#[derive(Debug, Drop)]
-struct Ended {
-    text: Vec<u8>,
-    ending: Result<(), LoadFault>,
-}
-
-// Returns the parts one after another, with `first` before them.
-fn joined(alloc: Global, first: &[u8], parts: &[&[u8]]) -> Result<Vec<u8>, Fail> {
-    let mut text = Vec::from_slice(alloc, first)?;
-    for part in parts {
-        text.extend_from_slice(part)?;
-    }
-    Ok(text)
+// Returns the input of the session.
+fn input_of(alloc: Global) -> Result<Vec<u8>, Fail> {
+    joined(alloc, &[UN, b".\n", COMMANDS[0], COMMANDS[1], COMMANDS[2]])
 }
 
 // Runs the session by reads and writes of one byte. It is read at most `most` times. The reader fails at read `read` and
 // the writer at write `write`, both counted from 1 (0 for never).
 fn session(alloc: Global, most: u64, read: u64, write: u64) -> Result<Ended, Fail> {
-    let input = joined(alloc, SCRIPT, COMMANDS.as_slice())?;
-    let mut writer = Device::new(in_pieces(Vec::new(alloc), 1, write, 0));
+    let input = input_of(alloc)?;
     let reader = Device::new(in_pieces(input.as_slice(), 1, read, 0));
-    let mut lines = Lines::with_reads(alloc, reader, most)?;
-    let keys = RandomState::new(&SameBytes)?;
-    let ending = match load(&mut lines, keys, "stem") {
-        Ok(mut bench) => {
-            let served = serve(&mut bench, &mut lines, &mut writer);
-            bench.leak();
-            served.map_err(LoadFault::Input)
-        }
-        Err(fault) => Err(fault),
-    };
-    Ok(Ended {
-        text: writer.into_inner().inner,
-        ending,
-    })
+    let lines = Lines::with_reads(alloc, reader, most)?;
+    served(lines, Device::new(in_pieces(Vec::new(alloc), 1, write, 0)))
 }
 
 // Returns the replies to the commands that this many bytes of the input hold with their line feeds.
 fn replies_to(alloc: Global, bytes: u64) -> Result<Vec<u8>, Fail> {
     let mut text = Vec::new(alloc);
-    let mut end = SCRIPT.len() as u64;
+    // (the line that ends the words follows the script)
+    let mut end = UN.len() as u64 + 2;
     for (command, reply) in COMMANDS.iter().zip(REPLIES.iter()) {
         end = end.saturating_add(command.len() as u64);
         if end <= bytes {
@@ -67,7 +41,7 @@ fn replies_to(alloc: Global, bytes: u64) -> Result<Vec<u8>, Fail> {
 
 #[test]
 fn a_reader_may_fail_at_each_of_its_reads(rt: HostRuntime) -> Result<(), Fail> {
-    let input = joined(rt.alloc(), SCRIPT, COMMANDS.as_slice())?;
+    let input = input_of(rt.alloc())?;
     for bytes in 0..input.len() as u64 + 1 {
         let ended = session(rt.alloc(), u64::MAX, bytes + 1, 0)?;
         let text = replies_to(rt.alloc(), bytes)?;
@@ -86,7 +60,7 @@ fn a_reader_may_fail_at_each_of_its_reads(rt: HostRuntime) -> Result<(), Fail> {
 
 #[test]
 fn a_writer_may_fail_after_each_of_its_bytes(rt: HostRuntime) -> Result<(), Fail> {
-    let replies = joined(rt.alloc(), b"", REPLIES.as_slice())?;
+    let replies = joined(rt.alloc(), REPLIES.as_slice())?;
     for bytes in 0..replies.len() {
         let ended = session(rt.alloc(), u64::MAX, 0, bytes as u64 + 1)?;
         assert!(rt;
@@ -104,7 +78,7 @@ fn a_writer_may_fail_after_each_of_its_bytes(rt: HostRuntime) -> Result<(), Fail
 
 #[test]
 fn lines_stop_at_their_limit_on_reads(rt: HostRuntime) -> Result<(), Fail> {
-    let input = joined(rt.alloc(), SCRIPT, COMMANDS.as_slice())?;
+    let input = input_of(rt.alloc())?;
     // (one more read than bytes finds the end)
     for (most, ending) in [
         (10, Err(LoadFault::Input(ServeFault::Read))),

@@ -2,6 +2,7 @@
 
 use sbl_io::{Device, Lines};
 use sbl_work::{Paths, work};
+use std::alloc::Global;
 use std::fs;
 use std::hash::RandomState;
 use std::test::Fail;
@@ -20,7 +21,7 @@ const AT_TERMINAL: &[u8] = b"> ok\n> undo,stem,do\n> pairs,0,0,0,0\n> 1\n> ";
 const IN_ROWS: &[u8] = b"ok\nundo,stem,do\npairs,0,0,0,0\n1\n";
 
 /// What work wrote, its status, and the next line that it left in its input.
-#[derive(Debug, Drop)]
+#[derive(Drop)]
 struct Ended {
     text: Vec<u8>,
     told: Vec<u8>,
@@ -39,16 +40,16 @@ fn worked(
     write: u64,
 ) -> Result<Ended, Fail> {
     let alloc = rt.alloc();
+    fs::write(rt, file, SCRIPT.as_bytes())?;
+    let keys = RandomState::new(&SameBytes)?;
     let paths = Paths {
         script: String::from_str(alloc, file)?,
         words: None,
         external: String::from_str(alloc, "stem")?,
     };
-    let keys = RandomState::new(&SameBytes)?;
-    let mut lines = Lines::new(alloc, Device::new(in_pieces(input, 1, read, 0)))?;
     let mut writer = Device::new(in_pieces(Vec::new(alloc), 1, write, 0));
     let mut errors = Device::new(in_pieces(Vec::new(alloc), 1, 0, 0));
-    fs::write(rt, file, SCRIPT.as_bytes())?;
+    let mut lines = Lines::new(alloc, Device::new(in_pieces(input, 1, read, 0)))?;
     let status = work(
         rt,
         keys,
@@ -71,77 +72,113 @@ fn worked(
     })
 }
 
-#[test]
-fn a_prompt_stands_before_each_line(rt: HostRuntime) -> Result<(), Fail> {
-    let ended = worked(&rt, "work_tests_prompt.sbl", true, INPUT, 0, 0)?;
-    assert_eq!(rt; ended.text.as_slice(), AT_TERMINAL);
-    assert_eq!(rt; ended.told.as_slice(), b"".as_slice());
-    assert_eq!(rt; ended.status, 0);
-    assert_eq!(rt; ended.rest.as_slice(), b"stems".as_slice());
-    Ok(())
+/// What is tried, whether there are prompts, the input, and the read that fails; then what is written, the line of a fault, the
+/// status, and the next line that is left.
+type Row<'a> = (
+    &'a str,
+    bool,
+    &'a [u8],
+    u64,
+    &'a [u8],
+    &'a [u8],
+    u8,
+    &'a [u8],
+);
+
+/// Returns an input with a comment of this length between two commands.
+fn with_comment(alloc: Global, length: usize) -> Result<Vec<u8>, Fail> {
+    let mut input = Vec::from_slice(alloc, b"add undo\n#")?;
+    for _ in 1..length {
+        input.push(b'a')?;
+    }
+    input.extend_from_slice(b"\nruns\n")?;
+    Ok(input)
 }
 
 #[test]
-fn rows_have_no_prompt(rt: HostRuntime) -> Result<(), Fail> {
-    let ended = worked(&rt, "work_tests_rows.sbl", false, INPUT, 0, 0)?;
-    assert_eq!(rt; ended.text.as_slice(), IN_ROWS);
-    assert_eq!(rt; ended.status, 0);
-    Ok(())
-}
-
-// The end of input ends the work as `quit` does.
-#[test]
-fn the_input_may_end(rt: HostRuntime) -> Result<(), Fail> {
-    let ended = worked(&rt, "work_tests_end.sbl", true, b"add undo\nstems", 0, 0)?;
-    assert_eq!(rt;
-        ended.text.as_slice(),
-        b"> ok\n> undo,stem,do\n> ".as_slice()
-    );
-    assert_eq!(rt; ended.status, 0);
-    Ok(())
-}
-
-#[test]
-fn a_block_without_end_has_no_reply(rt: HostRuntime) -> Result<(), Fail> {
-    let ended = worked(
-        &rt,
-        "work_tests_block.sbl",
-        true,
-        b"add undo\nfamilies\nundo\nstems\n",
-        0,
-        0,
-    )?;
-    assert_eq!(rt; ended.text.as_slice(), b"> ok\n> ".as_slice());
-    assert_eq!(rt; ended.told.as_slice(), b"snowbench: 73 Cut\n".as_slice());
-    assert_eq!(rt; ended.status, 1);
-    Ok(())
-}
-
-// The whole requests that were read have their replies.
-#[test]
-fn the_reader_may_fail(rt: HostRuntime) -> Result<(), Fail> {
-    let ended = worked(&rt, "work_tests_reader.sbl", false, INPUT, 20, 0)?;
-    assert_eq!(rt; ended.text.as_slice(), b"ok\nundo,stem,do\n".as_slice());
-    assert_eq!(rt; ended.status, 1);
-    Ok(())
-}
-
-// A comment has no reply, if it is no longer than a line may be.
-#[test]
-fn a_line_that_is_too_long_has_no_reply(rt: HostRuntime) -> Result<(), Fail> {
-    for (length, text, told, status) in [
-        (65_536, "ok\n1\n", "", 0),
-        (65_537, "ok\n", "snowbench: 72 LineTooLong\n", 1),
-    ] {
-        let mut input = Vec::from_slice(rt.alloc(), b"add undo\n#")?;
-        for _ in 1..length {
-            input.push(b'a')?;
-        }
-        input.extend_from_slice(b"\nruns\n")?;
-        let ended = worked(&rt, "work_tests_long.sbl", false, &input, 0, 0)?;
-        assert_eq!(rt; ended.text.as_slice(), text.as_bytes());
-        assert_eq!(rt; ended.told.as_slice(), told.as_bytes());
-        assert_eq!(rt; ended.status, status);
+fn work_replies_to_its_input_and_ends(rt: HostRuntime) -> Result<(), Fail> {
+    let fits = with_comment(rt.alloc(), 65_536)?;
+    let too_long = with_comment(rt.alloc(), 65_537)?;
+    let rows: [Row; 7] = [
+        (
+            "a prompt is before each line",
+            true,
+            INPUT,
+            0,
+            AT_TERMINAL,
+            b"",
+            0,
+            b"stems",
+        ),
+        (
+            "rows have no prompt",
+            false,
+            INPUT,
+            0,
+            IN_ROWS,
+            b"",
+            0,
+            b"stems",
+        ),
+        // As `quit` does.
+        (
+            "the end of input ends the work",
+            true,
+            b"add undo\nstems",
+            0,
+            b"> ok\n> undo,stem,do\n> ",
+            b"",
+            0,
+            b"",
+        ),
+        (
+            "a block without end has no reply",
+            true,
+            b"add undo\nfamilies\nundo\nstems\n",
+            0,
+            b"> ok\n> ",
+            b"snowbench: 73 Cut\n",
+            1,
+            b"",
+        ),
+        // The whole requests that were read have their replies.
+        (
+            "the reader fails",
+            false,
+            INPUT,
+            20,
+            b"ok\nundo,stem,do\n",
+            b"snowbench: 70 Read\n",
+            1,
+            b"",
+        ),
+        (
+            "a comment has no reply",
+            false,
+            &fits,
+            0,
+            b"ok\n1\n",
+            b"",
+            0,
+            b"",
+        ),
+        (
+            "a line that is too long has no reply",
+            false,
+            &too_long,
+            0,
+            b"ok\n",
+            b"snowbench: 72 LineTooLong\n",
+            1,
+            b"",
+        ),
+    ];
+    for (what, prompts, input, read, text, told, status, rest) in rows {
+        let ended = worked(&rt, "work_tests_rows.sbl", prompts, input, read, 0)?;
+        assert!(rt; ended.text.as_slice() == text, "{what}: {:?}", ended.text);
+        assert!(rt; ended.told.as_slice() == told, "{what}: {:?}", ended.told);
+        assert!(rt; ended.status == status, "{what}");
+        assert!(rt; ended.rest.as_slice() == rest, "{what}: {:?}", ended.rest);
     }
     Ok(())
 }
@@ -150,14 +187,8 @@ fn a_line_that_is_too_long_has_no_reply(rt: HostRuntime) -> Result<(), Fail> {
 #[test]
 fn the_writer_may_fail_at_each_byte(rt: HostRuntime) -> Result<(), Fail> {
     for bytes in 0..AT_TERMINAL.len() {
-        let ended = worked(
-            &rt,
-            "work_tests_writer.sbl",
-            true,
-            INPUT,
-            0,
-            bytes as u64 + 1,
-        )?;
+        let write = bytes as u64 + 1;
+        let ended = worked(&rt, "work_tests_writer.sbl", true, INPUT, 0, write)?;
         assert!(rt; ended.text.as_slice() == &AT_TERMINAL[..bytes], "{bytes}");
         assert!(rt; ended.status == 1, "{bytes}");
     }
