@@ -2,12 +2,16 @@
 use Rattle.std.proofs.Common.{◌≡◌, ℕ, ◌+◌, ◌-◌, ◌<◌, ◌≤◌, zero, suc, Bool, true, false, List, [], ◌∷◌, Option, Some, None, Result, Err, refl, sym, ap, ◌∙◌, arith, rules, length, get_or, Vec, Box, Global}
 use Rattle.std.specs.Prelude.{slice_get, drop}
 use Rattle.std.proofs.lemmas.List.{drop_more}
+use Rattle.sbl_char_class.specs.Terms.{class_at}
+use Rattle.sbl_program.specs.declared.action.Action.{Action}
+use Rattle.sbl_program.specs.declared.action.Action.TheVariants.{Grouping, NonGrouping}
 use Rattle.sbl_program.specs.declared.action.Arithmetic.{Arithmetic}
+use Rattle.sbl_interpreter.specs.Actions.{test_grouping}
 use Rattle.sbl_interpreter.specs.declared.fault.RunFault.{RunFault}
 use Rattle.sbl_interpreter.specs.declared.halt.Halt.{Halt}
 use Rattle.sbl_program.specs.declared.node.Candidate.{Candidate}
 use Rattle.sbl_program.specs.declared.node.Node.{Node}
-use Rattle.sbl_program.specs.declared.node.Node.TheVariants.{Not, Test, Try, Do, Fail, Backwards, Goto, GoPast, SetLimit, Repeat, Loop, AtLeast, Search, Among, Sequence}
+use Rattle.sbl_program.specs.declared.node.Node.TheVariants.{Act, Not, Test, Try, Do, Fail, Backwards, Goto, GoPast, SetLimit, Repeat, Loop, AtLeast, Search, Among, Sequence}
 use Rattle.sbl_interpreter.specs.declared.state.Limits.{Limits}
 use Rattle.sbl_program.specs.declared.node.Node.TheFolds.{fold_out-Node}
 use Rattle.sbl_program.specs.declared.node.Node.TheViews.{the_lemmas}
@@ -17,9 +21,9 @@ use Rattle.sbl_program.specs.Listed.{Listed}
 use Rattle.sbl_among_search.specs.Fitting.{first}
 use Rattle.sbl_interpreter.specs.Moves.{next}
 use Rattle.sbl_interpreter.specs.Numbers.{value, given}
-use Rattle.sbl_program.specs.ProgramOf.{view_node, view_nodes, view_number}
+use Rattle.sbl_program.specs.ProgramOf.{view_action, view_node, view_nodes, view_number}
 use Rattle.sbl_program.specs.Program as programs
-use Rattle.sbl_interpreter.specs.Run.{runs_paid, turns, times, count_of, seeks, found, backwards_from, backwards_end, calls, runs, all_run, group_runs, nth_runs, leave, back_in, enter, body_does, limits, limited, limit_here, limit_back}
+use Rattle.sbl_interpreter.specs.Run.{paid, runs_paid, turns, times, count_of, seeks, found, backwards_from, backwards_end, calls, runs, all_run, group_runs, nth_runs, leave, back_in, enter, body_does, limits, limited, limit_here, limit_back}
 use Rattle.sbl_interpreter.specs.Search.{choice, search_all, tries, try_one}
 use Rattle.sbl_interpreter.specs.State.{State, Ending, Doing, Signals, Stops, after, then_on, saved_cursor, put_back}
 use Rattle.sbl_ast.specs.declared.mode.Mode.{Mode}
@@ -176,6 +180,16 @@ turn_is T p levels cs i x m s l e = ap (λ ns. all_run p levels (view_nodes T ns
 pub time_stops : (l : ℕ) (c : Doing) (m : Mode) (s new : State) (fault : RunFault) → 0 < l → c m s ≡ Stops fault new → times l c m s ≡ Stops fault new
 time_stops zero c m s new fault l e = absurd (omega arith)
 time_stops (suc k) c m s new fault l e = ap (λ r. after r (times k c m) (Signals false)) e
+
+view_act : (T : ℕ → Listed) (a : Action) → view_node T (Act a) ≡ programs.act (view_action a)
+view_act T a = first_of (search (rules, the_lemmas), search (rules, the_lemmas, fold_out-Node))
+
+-- a command that is the test of a grouping
+pub grouping_does : (T : ℕ → Listed) (p : programs.Program) (levels g : ℕ) → runs p levels (view_node T (Act (Grouping g))) ≡ paid (test_grouping true (class_at p.groupings g) g)
+grouping_does T p levels g = ap (runs p levels) (view_act T (Grouping g))
+
+pub non_does : (T : ℕ → Listed) (p : programs.Program) (levels g : ℕ) → runs p levels (view_node T (Act (NonGrouping g))) ≡ paid (test_grouping false (class_at p.groupings g) g)
+non_does T p levels g = ap (runs p levels) (view_act T (NonGrouping g))
 
 view_not : (T : ℕ → Listed) (inner : Box Node Global) → view_node T (Not inner) ≡ programs.not (view_node T inner.value)
 view_not T inner = first_of (search (rules, the_lemmas), search (rules, the_lemmas, fold_out-Node))

@@ -5,14 +5,18 @@ use Rattle.sbl_interpreter.specs.Numbers.{value, natural, given, assign, compare
 use Rattle.sbl_program.specs.Program as programs
 use Rattle.sbl_char_class.specs.Terms.{class_at}
 use Rattle.sbl_interpreter.specs.Slices.{left_bracket, right_bracket, replace, keep, insert, attach}
-use Rattle.sbl_interpreter.specs.State.{State, Ending, Signals, to_limit}
+use Rattle.sbl_interpreter.specs.State.{State, Ending, Signals, Doing, to_limit}
 use Rattle.sbl_ast.specs.declared.mode.Mode.{Mode}
+
+-- the test of the grouping with this number and this class touches it
+abbrev pub test_grouping : Bool → (ℕ → Bool) → ℕ → Doing
+test_grouping wanted class g m s = one_of wanted class m (touch_grouping g s)
 
 -- `classes` has the classes of the groupings
 abbrev pub acts : List (ℕ → Bool) → programs.Action → Mode → State → Ending
 acts classes (programs.match t) m s = match (characters t s) m s
-acts classes (programs.grouping g) m s = one_of true (class_at classes g) m (touch_grouping g s)
-acts classes (programs.non g) m s = one_of false (class_at classes g) m (touch_grouping g s)
+acts classes (programs.grouping g) m s = test_grouping true (class_at classes g) g m s
+acts classes (programs.non g) m s = test_grouping false (class_at classes g) g m s
 acts classes programs.next m s = next m s
 acts classes (programs.hop a) m s = given (value a m s) s (λ z. hop (natural z) m s)
 acts classes programs.tolimit m s = to_limit m s

@@ -15,7 +15,7 @@ use crate::state::numbers::count_of;
 use crate::state::{SavedCursor, State};
 use crate::table::Tables;
 use sbl_ast::{Joiner, Mode};
-use sbl_program::{Arithmetic, Candidate, JoinedNode, Node, Program};
+use sbl_program::{Action, Arithmetic, Candidate, JoinedNode, Node, Program};
 
 /// The fixed part of the interpreter. A call and `backwards` run their commands with a runner of their own.
 #[derive_where(Clone, Copy)]
@@ -269,9 +269,29 @@ impl<'a, T: Tables> Runner<'a, T> {
     }
 
     /// Tries a command at the cursor and further on, up to its first t. The cursor stays after the match, or goes
-    /// before it.
+    /// before it. A grouping is tried without a call of `run_command` for each character.
     #[cycle(run)]
     fn run_seek(&self, past: bool, inner: &Node, state: &mut State) -> Result<bool, Halt>
+        ensures follows { Follows result state.new (seeks (suc state.old.steps) past (runs (program_of (T.listed self.now.tables.now) self.now.program.now) self.now.levels (view_node (T.listed self.now.tables.now) inner.now)) self.now.mode state.old) }
+        ensures no_more { IfOk result (λ _. state.new.steps ≤ state.old.steps) }
+    {
+        match inner {
+            Node::Act(action) => match action {
+                Action::Grouping(number) => {
+                    state.seek_one(past, self.mode, &self.program.groupings, *number, true)
+                }
+                Action::NonGrouping(number) => {
+                    state.seek_one(past, self.mode, &self.program.groupings, *number, false)
+                }
+                _ => self.run_tries(past, inner, state),
+            },
+            _ => self.run_tries(past, inner, state),
+        }
+    }
+
+    /// Does the same for each command, by `run_command`.
+    #[cycle(run)]
+    fn run_tries(&self, past: bool, inner: &Node, state: &mut State) -> Result<bool, Halt>
         ensures follows { Follows result state.new (seeks (suc state.old.steps) past (runs (program_of (T.listed self.now.tables.now) self.now.program.now) self.now.levels (view_node (T.listed self.now.tables.now) inner.now)) self.now.mode state.old) }
         ensures no_more { IfOk result (λ _. state.new.steps ≤ state.old.steps) }
     {

@@ -15,6 +15,7 @@ mod actions;
 mod control;
 mod moves;
 pub mod numbers;
+mod seeking;
 mod slices;
 mod variables;
 

@@ -16,7 +16,7 @@ use sbl_char_class::CharacterClass;
 use sbl_program::{Action, Arithmetic};
 
 impl State {
-    /// Does a command as `act` does. `[` and `]` are done here, without another call.
+    /// Does a command as `act` does. The commands that are most of a run are done here, without a call of `act`.
     #[inline(always)]
     pub(crate) fn act_here(
         &mut self,
@@ -36,6 +36,8 @@ impl State {
                 self.right_bracket(mode);
                 Ok(true)
             }
+            Action::Match(term) => Ok(self.take_term(mode, term)),
+            Action::Grouping(number) => self.take_grouping(mode, groupings, *number, true),
             _ => self.act(groupings, mode, action),
         }
     }
@@ -57,14 +59,8 @@ impl State {
     {
         match action {
             Action::Match(term) => Ok(self.take_term(mode, term)),
-            Action::Grouping(number) => {
-                self.touch_grouping(*number)?;
-                Ok(self.take_one(mode, groupings, *number, true))
-            }
-            Action::NonGrouping(number) => {
-                self.touch_grouping(*number)?;
-                Ok(self.take_one(mode, groupings, *number, false))
-            }
+            Action::Grouping(number) => self.take_grouping(mode, groupings, *number, true),
+            Action::NonGrouping(number) => self.take_grouping(mode, groupings, *number, false),
             Action::Next => Ok(self.take_next(mode)),
             Action::Hop(expression) => self.hop_by(mode, expression),
             Action::ToLimit => {

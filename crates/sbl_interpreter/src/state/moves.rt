@@ -68,6 +68,7 @@ impl State {
 
     /// Moves over one character that is in the class with this number, or over one that is not, as `wanted` says, and
     /// returns whether there is one. A class that does not exist has no characters.
+    #[inline(always)]
     pub fn take_one(
         &mut self,
         mode: Mode,
@@ -86,6 +87,7 @@ impl State {
     }
 
     /// `next`: moves over one character, and returns whether there is one.
+    #[inline(always)]
     pub fn take_next(&mut self, mode: Mode) -> bool
         ensures leads { next mode self.old ≡ Signals result self.new }
         ensures same_steps { self.new.steps ≡ self.old.steps }

@@ -136,8 +136,8 @@ run_search-returns-in-Err-clause-follows = loops.run_search-returns-in-Err-claus
 pub run_search-returns-in-Ok-true-clause-follows : goal.run_search-returns-in-Ok-true-clause-follows
 run_search-returns-in-Ok-true-clause-follows = loops.run_search-returns-in-Ok-true-clause-follows
 
-pub run_seek-loop-state-preserved : goal.run_seek-loop-state-preserved
-run_seek-loop-state-preserved = loops.run_seek-loop-state-preserved
+pub run_tries-loop-state-preserved : goal.run_tries-loop-state-preserved
+run_tries-loop-state-preserved = loops.run_tries-loop-state-preserved
 
 pub run_turns-loop-state-preserved : goal.run_turns-loop-state-preserved
 run_turns-loop-state-preserved = loops.run_turns-loop-state-preserved
@@ -177,3 +177,9 @@ run_row-loop-joined-preserved = loops.run_row-loop-joined-preserved
 
 pub run_row-returns-clause-follows : goal.run_row-returns-clause-follows
 run_row-returns-clause-follows = loops.run_row-returns-clause-follows
+
+pub run_seek-returns-in-Grouping-clause-follows : goal.run_seek-returns-in-Grouping-clause-follows
+run_seek-returns-in-Grouping-clause-follows = loops.run_seek-returns-in-Grouping-clause-follows
+
+pub run_seek-returns-in-NonGrouping-clause-follows : goal.run_seek-returns-in-NonGrouping-clause-follows
+run_seek-returns-in-NonGrouping-clause-follows = loops.run_seek-returns-in-NonGrouping-clause-follows

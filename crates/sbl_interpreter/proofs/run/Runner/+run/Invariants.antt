@@ -49,7 +49,10 @@ abbrev pub decreases-run_times : goal.decreases-run_times
 decreases-run_times g l = 5 * l.state.now.steps + 1
 
 abbrev pub decreases-run_seek : goal.decreases-run_seek
-decreases-run_seek g l = 5 * l.state.now.steps + 1
+decreases-run_seek g l = 5 * l.state.now.steps + 2
+
+abbrev pub decreases-run_tries : goal.decreases-run_tries
+decreases-run_tries g l = 5 * l.state.now.steps + 1
 
 abbrev pub decreases-run_call : goal.decreases-run_call
 decreases-run_call g l = 5 * l.state.now.steps + 1
@@ -98,14 +101,14 @@ abbrev pub decreases-run_times-loop-left : goal.decreases-run_times-loop-left
 decreases-run_times-loop-left g l = l.left
 
 -- the same of the tries of `goto` and `gopast`
-abbrev pub invariant-run_seek-loop-state : goal.invariant-run_seek-loop-state
-invariant-run_seek-loop-state g l =
+abbrev pub invariant-run_tries-loop-state : goal.invariant-run_tries-loop-state
+invariant-run_tries-loop-state g l =
     let T = g.T.Tables.listed l.self.tables.now in
     let c = runs (program_of T l.self.program.now) l.self.levels (view_node T l.inner) in
     (n : ℕ) × (l.state.steps ≤ n) × (seeks (suc n) l.past c l.self.mode l.state ≡ seeks (suc l.initial.state.steps) l.past c l.self.mode l.initial.state) × (l.state.steps ≤ l.initial.state.steps)
 
-abbrev pub decreases-run_seek-loop-state : goal.decreases-run_seek-loop-state
-decreases-run_seek-loop-state g l = l.state.steps
+abbrev pub decreases-run_tries-loop-state : goal.decreases-run_tries-loop-state
+decreases-run_tries-loop-state g l = l.state.steps
 
 -- the strings that are left do from here what all of them do from the start
 abbrev pub invariant-run_search-loop-place : goal.invariant-run_search-loop-place

@@ -1,17 +1,22 @@
 -- What commands call: rows, turns, seeks, searches, amongs and calls.
 use Rattle.std.proofs.Common.{◌≡◌, ◌+◌, drop, map, suc, true, false, Some, Ok, Err, option_map, refl, length, get_or, ◌<◌, [], ◌∷◌, ◌++◌, ◌≤◌, sym, ap, ◌∙◌, arith, rules, append_assoc, Bor}
 use Rattle.std.specs.Prelude.{slice_get, ◌-◌}
+use Rattle.sbl_char_class.specs.CharacterClasses.{members}
+use Rattle.sbl_char_class.specs.Terms.{class_at}
+use Rattle.sbl_interpreter.specs.Actions.{test_grouping}
 use Rattle.sbl_interpreter.specs.Kept.{Follows}
 use Rattle.sbl_interpreter.specs.Moves.{next}
-use Rattle.sbl_interpreter.proofs.Arms.{by_fault, stops_at, turn_is, time_stops, follows_at, one_time, nth_is, nth_past, one_turn, one_try, one_more, halted, called, leave_signals, leave_halts}
+use Rattle.sbl_interpreter.proofs.Arms.{by_fault, stops_at, turn_is, time_stops, follows_at, one_time, nth_is, nth_past, one_turn, one_try, one_more, halted, called, leave_signals, leave_halts, grouping_does, non_does}
 use Rattle.sbl_interpreter.proofs.Rows.{after_signal, others_stop, part_is}
 use Rattle.sbl_interpreter.specs.Rows.{joined_runs, others_run, pays, row_runs}
 use Rattle.std.proofs.lemmas.List.{drop_all, length-map}
-use Rattle.sbl_interpreter.specs.State.{State, Signals, after, then_on, saved_cursor, put_back}
+use Rattle.sbl_interpreter.specs.State.{State, Doing, Signals, after, then_on, saved_cursor, put_back}
+use Rattle.sbl_program.specs.declared.action.Action.TheVariants.{Grouping, NonGrouping}
 use Rattle.sbl_program.specs.declared.node.Node.{Node}
+use Rattle.sbl_program.specs.declared.node.Node.TheVariants.{Act}
 use Rattle.sbl_program.specs.declared.node.Routine.{Routine}
 use Rattle.sbl_program.specs.ProgramOf.{program_of, view_joined, view_node, view_nodes, view_number, view_routine}
-use Rattle.sbl_interpreter.specs.Run.{runs, all_run, group_runs, nth_runs, calls, turns, times, seeks, count_of, back_in, enter}
+use Rattle.sbl_interpreter.specs.Run.{paid, runs, all_run, group_runs, nth_runs, calls, turns, times, seeks, count_of, back_in, enter}
 use Rattle.sbl_interpreter.specs.Numbers.{value, given}
 use Rattle.sbl_interpreter.specs.Search.{tries, try_one, bound_in, choice}
 use Rattle.sbl_interpreter.specs.Listing.{fits_at}
@@ -81,8 +86,8 @@ run_search-returns-in-Ok-true-clause-follows g t c =
     let b : c.in-Ok-true.field-0 ≡ true = search rules in
     sym (sym o.2 ∙ inv.4) ∙ (rw b at (c.in-Ok-true.ensures.tried s0 follow c.saved_cursor-from.ensures.value))
 
-pub run_seek-loop-state-preserved : goal.run_seek-loop-state-preserved
-run_seek-loop-state-preserved g t c =
+pub run_tries-loop-state-preserved : goal.run_tries-loop-state-preserved
+run_tries-loop-state-preserved g t c =
     let inv = c.loop-state.invariant in
     let T = g.T.Tables.listed c.args.self.now.tables.now in
     let D = runs (program_of T c.args.self.now.program.now) c.args.self.now.levels (view_node T c.args.inner.now) in
@@ -340,3 +345,29 @@ run_row-returns-clause-follows g t c =
     let inv = c.loop-joined.invariant in
     let none : drop i xs ≡ [] = drop_all i xs (omega arith) in
     sym inv.0 ∙ ap (λ ys. others_run P c.args.self.now.levels c.args.self.now.mode c.saved_cursor-from.result (map (view_joined T) ys) (Signals c.loop-joined.signal c.loop-joined.state)) none
+
+pub run_seek-returns-in-Grouping-clause-follows : goal.run_seek-returns-in-Grouping-clause-follows
+run_seek-returns-in-Grouping-clause-follows g t c =
+    let T = g.T.Tables.listed c.args.self.now.tables.now in
+    let P = program_of T c.args.self.now.program.now in
+    let levels = c.args.self.now.levels in
+    let m = c.args.self.now.mode in
+    let q = c.args.state.now in
+    let n = c.in-Grouping.number in
+    let seek = λ (d : Doing). seeks (suc q.steps) c.args.past d m q in
+    let p = ap (λ x. seek (runs P levels (view_node T x))) c.in-Act.is ∙ ap (λ x. seek (runs P levels (view_node T (Act x)))) c.in-Grouping.is ∙ ap seek (grouping_does T P levels n) in
+    let k = ap (λ cs. seek (paid (test_grouping true (class_at (map members cs) n) n))) (sym c.deref.ensures.value) in
+    follows_at c.seek_one.result c.seek_one.new.self _ _ (p ∙ k) c.seek_one.ensures.follows
+
+pub run_seek-returns-in-NonGrouping-clause-follows : goal.run_seek-returns-in-NonGrouping-clause-follows
+run_seek-returns-in-NonGrouping-clause-follows g t c =
+    let T = g.T.Tables.listed c.args.self.now.tables.now in
+    let P = program_of T c.args.self.now.program.now in
+    let levels = c.args.self.now.levels in
+    let m = c.args.self.now.mode in
+    let q = c.args.state.now in
+    let n = c.in-NonGrouping.number in
+    let seek = λ (d : Doing). seeks (suc q.steps) c.args.past d m q in
+    let p = ap (λ x. seek (runs P levels (view_node T x))) c.in-Act.is ∙ ap (λ x. seek (runs P levels (view_node T (Act x)))) c.in-NonGrouping.is ∙ ap seek (non_does T P levels n) in
+    let k = ap (λ cs. seek (paid (test_grouping false (class_at (map members cs) n) n))) (sym c.deref-in-NonGrouping.ensures.value) in
+    follows_at c.seek_one-in-NonGrouping.result c.seek_one-in-NonGrouping.new.self _ _ (p ∙ k) c.seek_one-in-NonGrouping.ensures.follows
