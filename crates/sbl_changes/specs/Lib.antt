@@ -11,6 +11,7 @@ pub mod FamiliesAreSound
 pub mod LargestAreSound
 -- what the functions inside the crate promise each other: nothing in these need be believed
 pub mod Known
+pub mod Sides
 pub mod Grouping
 pub mod Ranking
 pub mod Counting

@@ -46,6 +46,15 @@ pub enum ChangeRow<'a> {
     },
 }
 
+/// One of the two lists of rows.
+#[derive(Clone, Copy, Debug)]
+pub(crate) enum Side {
+    /// The first list.
+    First,
+    /// The second list.
+    Second,
+}
+
 /// Appends the change, if there is one. Returns `AllocError` if an allocation fails.
 pub(crate) fn push_some<'a>(
     changes: &mut Vec<ChangeRow<'a>>,

@@ -9,37 +9,30 @@ ghost use Rattle.sbl_changes.specs.Changes.{view_change, view_changes};
 ghost use Rattle.sbl_changes.specs.Classes.{Class};
 ghost use Rattle.sbl_changes.specs.Grouping.{view_class, view_classes};
 ghost use Rattle.sbl_changes.specs.Known.{has_text};
+ghost use Rattle.sbl_changes.specs.Sides as sides;
 
-use crate::change::{ChangeRow, push_some};
+use crate::change::{ChangeRow, Side, push_some};
 use crate::classes::StemClass;
 use std::alloc::{AllocError, Global};
 use std::collections::BTreeSet;
 
-/// Returns that the class is split, if its words have two stems or more. Returns `AllocError` if an allocation fails.
-fn split<'a>(alloc: Global, class: &StemClass<'a>) -> Result<Option<ChangeRow<'a>>, AllocError>
-    ensures { IfOk result (λ change. option_map view_change change ≡ spec.split (view_class class.now) (view_class class.now).members) }
+/// Returns that the class of one list is split or merged, if its words have two stems or more in the other list. Returns `AllocError`
+/// if an allocation fails.
+fn several<'a>(
+    alloc: Global,
+    side: Side,
+    class: &StemClass<'a>,
+) -> Result<Option<ChangeRow<'a>>, AllocError>
+    ensures { IfOk result (λ change. option_map view_change change ≡ sides.several side (view_class class.now) (view_class class.now).members) }
 {
     if class.members.len() < 2 {
         return Ok(None);
     }
-    let into = Vec::from_slice(alloc, class.members.as_slice())?;
-    Ok(Some(ChangeRow::Split {
-        stem: class.stem,
-        into,
-    }))
-}
-
-/// Returns that the class is merged, if its words had two stems or more. Returns `AllocError` if an allocation fails.
-fn merged<'a>(alloc: Global, class: &StemClass<'a>) -> Result<Option<ChangeRow<'a>>, AllocError>
-    ensures { IfOk result (λ change. option_map view_change change ≡ spec.merged (view_class class.now) (view_class class.now).members) }
-{
-    if class.members.len() <= 1 {
-        return Ok(None);
-    }
-    let from = Vec::from_slice(alloc, class.members.as_slice())?;
-    Ok(Some(ChangeRow::Merged {
-        stem: class.stem,
-        from,
+    let stem = class.stem;
+    let stems = Vec::from_slice(alloc, class.members.as_slice())?;
+    Ok(Some(match side {
+        Side::First => ChangeRow::Split { stem, into: stems },
+        Side::Second => ChangeRow::Merged { stem, from: stems },
     }))
 }
 
@@ -59,30 +52,18 @@ fn renamed<'a>(from_one: &BTreeSet<&'a [char]>, class: &StemClass<'a>) -> Option
     }
 }
 
-/// Appends the split classes. Returns `AllocError` if an allocation fails.
-pub(crate) fn push_split<'a>(
+/// Appends the classes of one list whose words have two stems or more in the other: they are split if it is the first list, and
+/// merged if it is the second. Returns `AllocError` if an allocation fails.
+pub(crate) fn push_several<'a>(
     alloc: Global,
     changes: &mut Vec<ChangeRow<'a>>,
-    before: &[StemClass<'a>],
+    side: Side,
+    classes: &[StemClass<'a>],
 ) -> Result<(), AllocError>
-    ensures { OnOk result (view_changes changes.new.items ≡ view_changes changes.old.items ++ filter_map (λ c. spec.split c c.members) (view_classes before.now)) }
+    ensures { OnOk result (view_changes changes.new.items ≡ view_changes changes.old.items ++ filter_map (λ c. sides.several side c c.members) (view_classes classes.now)) }
 {
-    for class in before {
-        push_some(changes, split(alloc, class)?)?;
-    }
-    Ok(())
-}
-
-/// Appends the merged classes. Returns `AllocError` if an allocation fails.
-pub(crate) fn push_merged<'a>(
-    alloc: Global,
-    changes: &mut Vec<ChangeRow<'a>>,
-    now: &[StemClass<'a>],
-) -> Result<(), AllocError>
-    ensures { OnOk result (view_changes changes.new.items ≡ view_changes changes.old.items ++ filter_map (λ c. spec.merged c c.members) (view_classes now.now)) }
-{
-    for class in now {
-        push_some(changes, merged(alloc, class)?)?;
+    for class in classes {
+        push_some(changes, several(alloc, side, class)?)?;
     }
     Ok(())
 }

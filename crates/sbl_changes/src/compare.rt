@@ -4,12 +4,12 @@ ghost use Rattle.std.specs.Prelude.{◌≡◌, IfOk};
 ghost use Rattle.sbl_changes.specs.Changes.{changes_of, view_changes};
 ghost use Rattle.sbl_changes.specs.Rows.{view_rows};
 
-use crate::change::ChangeRow;
-use crate::class_changes::{push_merged, push_renamed, push_split};
+use crate::change::{ChangeRow, Side};
+use crate::class_changes::{push_renamed, push_several};
 use crate::classes::classes_of;
 use crate::moves::{moves_of, turned};
 use crate::rows::{WordRow, outcomes_of};
-use crate::words::{push_added, push_changed, push_removed};
+use crate::words::{push_changed, push_lone};
 use std::alloc::{AllocError, Global};
 
 /// Returns what two lists of rows have different: the words that are only in the second list, in its order; those that are only in
@@ -27,15 +27,15 @@ pub fn changes<'a>(
     let known_before = outcomes_of(alloc, before)?;
     let known_after = outcomes_of(alloc, after)?;
     let mut changes = Vec::new(alloc);
-    push_added(&mut changes, &known_before, after)?;
-    push_removed(&mut changes, &known_after, before)?;
+    push_lone(&mut changes, Side::Second, after, &known_before)?;
+    push_lone(&mut changes, Side::First, before, &known_after)?;
     push_changed(&mut changes, &known_before, after)?;
     let moves = moves_of(alloc, &known_before, after)?;
     let back = turned(alloc, &moves)?;
     let old = classes_of(alloc, &moves)?;
     let new = classes_of(alloc, &back)?;
-    push_split(alloc, &mut changes, &old)?;
-    push_merged(alloc, &mut changes, &new)?;
+    push_several(alloc, &mut changes, Side::First, &old)?;
+    push_several(alloc, &mut changes, Side::Second, &new)?;
     push_renamed(alloc, &mut changes, &old, &new)?;
     Ok(changes)
 }

@@ -7,28 +7,20 @@ ghost use Rattle.sbl_changes.specs.Changes as spec;
 ghost use Rattle.sbl_changes.specs.Changes.{view_change, view_changes};
 ghost use Rattle.sbl_changes.specs.Known.{known};
 ghost use Rattle.sbl_changes.specs.Rows.{view_row, view_rows};
+ghost use Rattle.sbl_changes.specs.Sides as sides;
 
-use crate::change::{ChangeRow, push_some};
+use crate::change::{ChangeRow, Side, push_some};
 use crate::rows::{Outcomes, WordRow, is_same, outcome_of};
 use std::alloc::AllocError;
 
-/// Returns that the word is added, if it has no row before.
-fn added<'a>(before: &Outcomes<'a>, row: &WordRow<'a>) -> Option<ChangeRow<'a>>
-    ensures { option_map view_change result ≡ spec.added (known before.now row.now.word.now) (view_row row.now) }
+/// Returns that the word of one list is added or removed, if it has no row in the other list.
+fn lone<'a>(side: Side, other: &Outcomes<'a>, row: &WordRow<'a>) -> Option<ChangeRow<'a>>
+    ensures { option_map view_change result ≡ sides.lone side (known other.now row.now.word.now) (view_row row.now) }
 {
-    match outcome_of(before, row.word) {
-        None => Some(ChangeRow::Added(row.word)),
-        Some(_) => None,
-    }
-}
-
-/// Returns that the word is removed, if it has no row after.
-fn removed<'a>(after: &Outcomes<'a>, row: &WordRow<'a>) -> Option<ChangeRow<'a>>
-    ensures { option_map view_change result ≡ spec.removed (known after.now row.now.word.now) (view_row row.now) }
-{
-    match outcome_of(after, row.word) {
-        None => Some(ChangeRow::Removed(row.word)),
-        Some(_) => None,
+    match (outcome_of(other, row.word), side) {
+        (None, Side::First) => Some(ChangeRow::Removed(row.word)),
+        (None, Side::Second) => Some(ChangeRow::Added(row.word)),
+        (Some(_), _) => None,
     }
 }
 
@@ -48,30 +40,18 @@ fn changed<'a>(before: &Outcomes<'a>, row: &WordRow<'a>) -> Option<ChangeRow<'a>
     }
 }
 
-/// Appends the added words. Returns `AllocError` if an allocation fails.
-pub(crate) fn push_added<'a>(
+/// Appends the words of one list that have no row in the other: they are added if it is the second list, and removed if it is the
+/// first. Returns `AllocError` if an allocation fails.
+pub(crate) fn push_lone<'a>(
     changes: &mut Vec<ChangeRow<'a>>,
-    before: &Outcomes<'a>,
-    after: &[WordRow<'a>],
+    side: Side,
+    rows: &[WordRow<'a>],
+    other: &Outcomes<'a>,
 ) -> Result<(), AllocError>
-    ensures { OnOk result (view_changes changes.new.items ≡ view_changes changes.old.items ++ filter_map (λ r. spec.added (known before.now r.word) r) (view_rows after.now)) }
+    ensures { OnOk result (view_changes changes.new.items ≡ view_changes changes.old.items ++ filter_map (λ r. sides.lone side (known other.now r.word) r) (view_rows rows.now)) }
 {
-    for row in after {
-        push_some(changes, added(before, row))?;
-    }
-    Ok(())
-}
-
-/// Appends the removed words. Returns `AllocError` if an allocation fails.
-pub(crate) fn push_removed<'a>(
-    changes: &mut Vec<ChangeRow<'a>>,
-    after: &Outcomes<'a>,
-    before: &[WordRow<'a>],
-) -> Result<(), AllocError>
-    ensures { OnOk result (view_changes changes.new.items ≡ view_changes changes.old.items ++ filter_map (λ r. spec.removed (known after.now r.word) r) (view_rows before.now)) }
-{
-    for row in before {
-        push_some(changes, removed(after, row))?;
+    for row in rows {
+        push_some(changes, lone(side, other, row))?;
     }
     Ok(())
 }

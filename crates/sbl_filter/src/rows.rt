@@ -19,7 +19,8 @@ use sbl_io::set_text;
 use sbl_machine::{DEFAULT_LIMIT, Machine, Meter, Outcome, Table, Traced};
 use std::alloc::{AllocError, Global};
 
-/// What makes the text of one row after another. It allocates for a row only if it needs more room than for those before.
+/// What makes the text of one row after another. It keeps its buffers from row to row. The run of a word and the text of its row
+/// still allocate.
 #[derive(Drop)]
 pub(crate) struct RowWriter {
     /// The writer of the lines.

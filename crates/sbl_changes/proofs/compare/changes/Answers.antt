@@ -30,8 +30,8 @@ returns c =
     let old-6 : view_classes c.deref-6.result.now ≡ classes_of moves = ap view_classes c.deref-6.ensures.value ∙ old in
     let new-7 : view_classes c.deref-7.result.now ≡ classes_of (turned moves) = ap view_classes c.deref-7.ensures.value ∙ new in
     six _ _ _ _ _ _ _ _ _ _ _ _ _ (ap view_changes c.new-changes.ensures.items)
-    c.in_ok-push_added.ensures c.in_ok-push_removed.ensures c.in_ok-push_changed.ensures
-    c.in_ok-push_split.ensures c.in_ok-push_merged.ensures c.in_ok-push_renamed.ensures
+    c.in_ok-push_lone.ensures c.in_ok-push_lone-2.ensures c.in_ok-push_changed.ensures
+    c.in_ok-push_several.ensures c.in_ok-push_several-2.ensures c.in_ok-push_renamed.ensures
     ∙ (λ i.
     ((filter_map (λ (r : Row). spec.added (was i r.word) r) after
     ++ filter_map (λ (r : Row). spec.removed (is i r.word) r) before)
