@@ -35,13 +35,7 @@ fn run_lines<R: Source + Drop>(
     let mut errors = Device::new(said);
     let status = run(command_line, keys, lines, &mut writer, &mut errors);
     let output = writer.into_inner();
-    Ok(RunResult {
-        status,
-        said: errors.into_inner(),
-        rows: output.lines(),
-        has_refusal: output.has_refusal(),
-        is_closed: output.is_closed(),
-    })
+    Ok(RunResult::new(status, errors.into_inner(), &output))
 }
 
 /// Runs a session over a reader, and shows the place of each block that is refused. `input` is the name of the text in which the
@@ -69,13 +63,7 @@ fn run_watched<'x, R: Read + Drop>(
     let mut errors = Device::new(said);
     let status = run(command_line, keys, &mut lines, &mut writer, &mut errors);
     let output = writer.into_inner().into_inner();
-    Ok(RunResult {
-        status,
-        said: errors.into_inner(),
-        rows: output.lines(),
-        has_refusal: output.has_refusal(),
-        is_closed: output.is_closed(),
-    })
+    Ok(RunResult::new(status, errors.into_inner(), &output))
 }
 
 /// Returns the end of a run for which the system gives no random numbers.
