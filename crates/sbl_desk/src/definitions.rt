@@ -116,15 +116,9 @@ fn defines(plain: &Plain, name: &str) -> bool
     ensures { result ≡ spec.defines_name name.now (view_plain plain.now) }
 {
     match plain {
-        Plain::Routine {
-            name: defined,
-            body: _,
-        } => name == defined.as_str(),
-        Plain::Grouping {
-            name: defined,
-            first: _,
-            others: _,
-        } => name == defined.as_str(),
+        Plain::Routine { name: defined, .. } | Plain::Grouping { name: defined, .. } => {
+            name == defined.as_str()
+        }
         _ => false,
     }
 }
