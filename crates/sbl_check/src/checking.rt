@@ -41,11 +41,7 @@ fn run_word(
     let Ok(traced) = machine.trace(alloc, meter, characters.as_slice(), DEFAULT_LIMIT) else {
         return Err(AllocError);
     };
-    let Traced {
-        outcome,
-        touches: _,
-        used: _,
-    } = traced;
+    let Traced { outcome, .. } = traced;
     match outcome {
         Outcome::Stem(stem) => Ok(Got::Stem(text_of(alloc, &stem)?)),
         Outcome::Refused(fault) => Ok(Got::Refused(fault.name())),

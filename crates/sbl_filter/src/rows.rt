@@ -89,11 +89,7 @@ pub(crate) fn row_text(
     let Ok(traced) = machine.trace(alloc, meter, characters, DEFAULT_LIMIT) else {
         return Err(AllocError);
     };
-    let Traced {
-        outcome,
-        touches: _,
-        used: _,
-    } = traced;
+    let Traced { outcome, .. } = traced;
     rows.csv_record.clear();
     fill_record(word, &outcome, &mut rows.text, &mut rows.csv_record)?;
     next_line(alloc, &mut rows.lines, &rows.csv_record)
