@@ -15,7 +15,7 @@ const WORDS: [&[u8]; 4] = [b"undo\n", b"\n", b"redo\n", b"x\n"];
 const ROWS: [&[u8]; 4] = [b"undo,stem,do\n", b"", b"redo,stem,do\n", b"x,stem,x\n"];
 
 /// What a filter wrote, and how it ended.
-#[derive(Debug, Drop)]
+#[derive(Drop)]
 struct Ended {
     text: Vec<u8>,
     ending: Result<(), LoadFault>,

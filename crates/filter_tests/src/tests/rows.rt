@@ -15,7 +15,7 @@ const UN: &[u8] =
 const LOOP: &[u8] = b"externals ( stem ) define stem as ( 'a' repeat true )\n.\n";
 
 /// What a filter wrote, how it ended, and the line after what it has read.
-#[derive(Debug, Drop)]
+#[derive(Drop)]
 struct Ended {
     text: Vec<u8>,
     ending: Result<(), LoadFault>,
@@ -40,116 +40,143 @@ fn filtered(alloc: Global, script: &[u8], rest: &[u8]) -> Result<Ended, Fail> {
     })
 }
 
+/// A script and words; what a filter writes for them, how it ends, and the line after what it has read.
+type Row<'a> = (
+    &'a [u8],
+    &'a [u8],
+    &'a [u8],
+    Result<(), LoadFault>,
+    &'a [u8],
+);
+
+const ROWS: [Row<'static>; 13] = [
+    (UN, b"", b"", Ok(()), b""),
+    (
+        UN,
+        b"undo\nredo",
+        b"undo,stem,do\nredo,stem,do\n",
+        Ok(()),
+        b"",
+    ),
+    // An empty line has no row, and a word that is there again has one.
+    (
+        UN,
+        b"\nundo\r\n\r\n\nundo\n\n",
+        b"undo,stem,do\nundo,stem,do\n",
+        Ok(()),
+        b"",
+    ),
+    // A line `.` ends the words.
+    (UN, b"undo\n.\nredo\n", b"undo,stem,do\n", Ok(()), b"redo"),
+    (UN, b".\r\nundo\n", b"", Ok(()), b"undo"),
+    (
+        UN,
+        b" x\nx \n..\na,b\n\"\n",
+        b" x,stem, x\nx ,stem,x \n..,stem,..\n\"a,b\",stem,\"a,b\"\n\"\"\"\",stem,\"\"\"\"\n",
+        Ok(()),
+        b"",
+    ),
+    (
+        LOOP,
+        b"b\na\nb\n",
+        b"b,stem,b\na,refused,Steps\nb,stem,b\n",
+        Ok(()),
+        b"",
+    ),
+    // A filter ends at the first fault.
+    (
+        UN,
+        b"undo\n\xff\nredo\n",
+        b"undo,stem,do\n",
+        Err(LoadFault::Input(ServeFault::NotText)),
+        b"redo",
+    ),
+    (
+        b"externals ( stem )\n",
+        b"",
+        b"",
+        Err(LoadFault::Input(ServeFault::Cut)),
+        b"",
+    ),
+    (
+        b"\xff\n.\n",
+        b"undo\n",
+        b"",
+        Err(LoadFault::Script(ScriptFault::NotUtf8)),
+        b"undo",
+    ),
+    (
+        b"externals ( stem ) define stem as 'ab\n.\n",
+        b"undo\n",
+        b"",
+        Err(LoadFault::Script(ScriptFault::UnclosedString { place: 34 })),
+        b"undo",
+    ),
+    (
+        b"externals ( other ) define other as true\n.\n",
+        b"undo\n",
+        b"",
+        Err(LoadFault::Script(ScriptFault::NoExternal)),
+        b"undo",
+    ),
+    (b"", b"", b"", Err(LoadFault::Input(ServeFault::Cut)), b""),
+];
+
 #[test]
-fn a_filter_writes_a_row_for_each_word(rt: HostRuntime) -> Result<(), Fail> {
-    let rows: [(&[u8], &[u8], &[u8], &[u8]); 7] = [
-        (UN, b"", b"", b""),
-        (UN, b"undo\nredo", b"undo,stem,do\nredo,stem,do\n", b""),
-        // An empty line has no row, and a word that is there again has one.
-        (
-            UN,
-            b"\nundo\r\n\r\n\nundo\n\n",
-            b"undo,stem,do\nundo,stem,do\n",
-            b"",
-        ),
-        // A line `.` ends the words.
-        (UN, b"undo\n.\nredo\n", b"undo,stem,do\n", b"redo"),
-        (UN, b".\r\nundo\n", b"", b"undo"),
-        (
-            UN,
-            b" x\nx \n..\na,b\n\"\n",
-            b" x,stem, x\nx ,stem,x \n..,stem,..\n\"a,b\",stem,\"a,b\"\n\"\"\"\",stem,\"\"\"\"\n",
-            b"",
-        ),
-        (
-            LOOP,
-            b"b\na\nb\n",
-            b"b,stem,b\na,refused,Steps\nb,stem,b\n",
-            b"",
-        ),
-    ];
-    for (script, rest, text, next) in rows {
+fn a_filter_writes_a_row_for_each_word_up_to_a_fault(rt: HostRuntime) -> Result<(), Fail> {
+    for (number, (script, rest, text, ending, next)) in ROWS.iter().enumerate() {
         let ended = filtered(rt.alloc(), script, rest)?;
-        assert!(rt; ended.ending == Ok(()));
-        assert!(rt; ended.text.as_slice() == text, "{:?}", ended.text);
-        assert!(rt; ended.next.as_slice() == next, "{:?}", ended.next);
+        assert!(rt; ended.ending == *ending, "{number}: {:?}", ended.ending);
+        assert!(rt;
+            ended.text.as_slice() == *text,
+            "{number}: {:?}",
+            ended.text
+        );
+        assert!(rt;
+            ended.next.as_slice() == *next,
+            "{number}: {:?}",
+            ended.next
+        );
     }
     Ok(())
 }
 
+// A word has at most 255 characters, and a line at most 65,536 bytes.
 #[test]
-fn a_filter_ends_at_the_first_fault(rt: HostRuntime) -> Result<(), Fail> {
-    let rows: [(&[u8], &[u8], &[u8], LoadFault, &[u8]); 6] = [
+fn a_word_and_a_line_have_a_longest_length(rt: HostRuntime) -> Result<(), Fail> {
+    let rows: [(usize, &[u8], Result<(), LoadFault>, usize, &[u8]); 4] = [
+        (255, b"", Ok(()), 13 + 255 + 6 + 255 + 1, b""),
         (
-            UN,
-            b"undo\n\xff\nredo\n",
-            b"undo,stem,do\n",
-            LoadFault::Input(ServeFault::NotText),
+            256,
+            b"\nredo\n",
+            Err(LoadFault::Open(EditFault::WordTooLong)),
+            13,
             b"redo",
         ),
         (
-            b"externals ( stem )\n",
+            65_536,
             b"",
-            b"",
-            LoadFault::Input(ServeFault::Cut),
+            Err(LoadFault::Open(EditFault::WordTooLong)),
+            13,
             b"",
         ),
         (
-            b"\xff\n.\n",
-            b"undo\n",
+            65_537,
             b"",
-            LoadFault::Script(ScriptFault::NotUtf8),
-            b"undo",
-        ),
-        (
-            b"externals ( stem ) define stem as 'ab\n.\n",
-            b"undo\n",
+            Err(LoadFault::Input(ServeFault::LineTooLong)),
+            13,
             b"",
-            LoadFault::Script(ScriptFault::UnclosedString { place: 34 }),
-            b"undo",
         ),
-        (
-            b"externals ( other ) define other as true\n.\n",
-            b"undo\n",
-            b"",
-            LoadFault::Script(ScriptFault::NoExternal),
-            b"undo",
-        ),
-        (b"", b"", b"", LoadFault::Input(ServeFault::Cut), b""),
     ];
-    for (script, rest, text, fault, next) in rows {
-        let ended = filtered(rt.alloc(), script, rest)?;
-        assert!(rt; ended.ending == Err(fault));
-        assert!(rt; ended.text.as_slice() == text, "{:?}", ended.text);
-        assert!(rt; ended.next.as_slice() == next, "{:?}", ended.next);
+    for (length, rest, ending, written, next) in rows {
+        let mut words = Vec::from_slice(rt.alloc(), b"undo\n")?;
+        words.extend_from_slice(vec![in rt.alloc(); b'a'; length]?.as_slice())?;
+        words.extend_from_slice(rest)?;
+        let ended = filtered(rt.alloc(), UN, words.as_slice())?;
+        assert!(rt; ended.ending == ending, "{length}: {:?}", ended.ending);
+        assert!(rt; ended.text.starts_with(b"undo,stem,do\n"), "{length}");
+        assert!(rt; ended.text.len() == written, "{length}");
+        assert!(rt; ended.next.as_slice() == next, "{length}");
     }
-    Ok(())
-}
-
-#[test]
-fn a_word_has_at_most_255_characters(rt: HostRuntime) -> Result<(), Fail> {
-    let mut rest = Vec::from_slice(rt.alloc(), b"undo\n")?;
-    rest.extend_from_slice(vec![in rt.alloc(); b'a'; 255]?.as_slice())?;
-    let fits = filtered(rt.alloc(), UN, rest.as_slice())?;
-    assert!(rt; fits.ending == Ok(()));
-    assert!(rt; fits.text.len() == 13 + 255 + 6 + 255 + 1);
-    rest.extend_from_slice(b"a\nredo\n")?;
-    let long = filtered(rt.alloc(), UN, rest.as_slice())?;
-    assert!(rt; long.ending == Err(LoadFault::Open(EditFault::WordTooLong)));
-    assert!(rt; long.text.as_slice() == b"undo,stem,do\n".as_slice());
-    assert!(rt; long.next.as_slice() == b"redo".as_slice());
-    Ok(())
-}
-
-#[test]
-fn a_line_has_at_most_65536_bytes(rt: HostRuntime) -> Result<(), Fail> {
-    let mut rest = Vec::from_slice(rt.alloc(), b"undo\n")?;
-    rest.extend_from_slice(vec![in rt.alloc(); b'a'; 65_536]?.as_slice())?;
-    let fits = filtered(rt.alloc(), UN, rest.as_slice())?;
-    assert!(rt; fits.ending == Err(LoadFault::Open(EditFault::WordTooLong)));
-    rest.extend_from_slice(b"a")?;
-    let long = filtered(rt.alloc(), UN, rest.as_slice())?;
-    assert!(rt; long.ending == Err(LoadFault::Input(ServeFault::LineTooLong)));
-    assert!(rt; long.text.as_slice() == b"undo,stem,do\n".as_slice());
     Ok(())
 }
