@@ -8,6 +8,8 @@ BLANK = re.compile("[%s]+" % WHITE)
 SKIPPED = re.compile("%s|%s" % (BLANK.pattern, COMMENT.pattern), re.S)
 # After these words comes no ordinary token: two insert characters, the name of a macro.
 DIRECTIVES = ("stringescapes", "stringdef")
+# What may be before the literal of a macro.
+BASES = {"hex": 16, "decimal": 10}
 PLAIN = re.compile(r"[A-Za-z][A-Za-z0-9_]*|[0-9]+|<-|<\+|->|=>|[=!<>+\-*/]=|.", re.S)
 
 
@@ -90,6 +92,43 @@ def definition(text, canonical):
             found = tokens[i : i + len(meant)]
             return Definition(text, found) if [one.value() for one in found] == [one.value() for one in meant] else None
     return None
+
+
+def values_of(tokens):
+    """Returns the characters of each literal of a script but those of its macros, by its token. What it does not expect is an IndexError or a
+    ValueError."""
+    values, macros, escapes, at = {}, {}, "", 0
+    while at < len(tokens):
+        token = tokens[at]
+        if token.text == "stringescapes":
+            at += 1
+            escapes = tokens[at].text
+        elif token.text == "stringdef":
+            name, base = tokens[at + 1].text, BASES.get(tokens[at + 2].text)
+            at += 3 if base else 2
+            value = spelled(tokens[at].text, escapes, macros)
+            macros[name] = "".join(chr(int(number, base)) for number in value.split()) if base else value
+        elif token.text.startswith("'"):
+            values[token] = spelled(token.text, escapes, macros)
+        at += 1
+    return values
+
+
+def spelled(literal, escapes, macros):
+    """Returns the characters of a literal, with those of its insertions."""
+
+    def inserted(insertion):
+        name = insertion[1]
+        if not name.strip(WHITE):
+            return ""
+        if name in macros:
+            return macros[name]
+        return name if name in ("'", escapes[0]) else chr(int(name.removeprefix("U+"), 16))
+
+    if not escapes:
+        return literal[1:-1]
+    begin, end = map(re.escape, escapes)
+    return re.sub("%s([^%s]*)%s" % (begin, end, end), inserted, literal[1:-1])
 
 
 def escapes_at(tokens):
