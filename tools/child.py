@@ -52,7 +52,8 @@ class Child:
     def start(self, names, files=()):
         pipe = subprocess.PIPE
         words = [*self.command, *(["--", *names] if names else [])]
-        self.process = subprocess.Popen(words, stdin=pipe, stdout=pipe, stderr=pipe, pass_fds=(*files, self.paper[1]))
+        given = [int(name.removeprefix("/dev/fd/")) for name in names if re.fullmatch(r"/dev/fd/\d+", name) and os.path.exists(name)]
+        self.process = subprocess.Popen(words, stdin=pipe, stdout=pipe, stderr=pipe, pass_fds={*files, *given, self.paper[1]})
         os.set_blocking(self.process.stderr.fileno(), False)
 
     def said(self):

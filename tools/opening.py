@@ -35,6 +35,7 @@ class Opening:
         """Writes how many words and classes there are, and warnings. Returns `ok`; or `waits` if a file has a fault; or `ended`. Then the
         start can be asked for again: `is_save_enough` says that a save does so."""
         desk, is_new = self.desk, True
+        desk.status = None
         if self.is_waiting:
             is_new = desk.read_anew()
         if not looks_swapped(desk.script, desk.words):
@@ -50,11 +51,10 @@ class Opening:
     def break_off(self, is_save_enough):
         """Ends the program after Ctrl-C."""
         self.desk.child.stop()
+        self.desk.status = INTERRUPTED
         if self.is_waiting:
             say(["It was broken off. " + how_to_go_on(self.desk.script, is_save_enough)])
-            return "waits"
-        self.desk.status = INTERRUPTED
-        return "ended"
+        return "waits" if self.is_waiting else "ended"
 
     def wait(self, is_save_enough, is_new):
         """Shows why the program has ended. If a file has a fault that its author can correct there, the desk waits, and says how to go on."""
@@ -112,6 +112,8 @@ def looks_swapped(script, words):
 
 
 def holds(path, text):
+    if not os.path.isfile(path):
+        return False
     try:
         with open(path, "rb") as file:
             return text in file.read(1048576)

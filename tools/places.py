@@ -1,11 +1,15 @@
 """Where a token of the script in force is: in the script's file, or in a text that was typed at the prompt."""
+from functools import lru_cache
+
 from grammar import Grammar
 from plain import named
-from source import decoded, definition, escapes_at, place_of, tokens_of
+from source import Source, decoded, escapes_at, place_of, tokens_of
 from warn import read
 
 # A definition of a routine begins with these: define, its name, as.
 HEAD = 3
+# How many texts are kept with their tokens.
+MOST = 4
 
 
 class Places:
@@ -15,13 +19,12 @@ class Places:
         self.desk = desk
 
     def look(self, grammar, text):
-        """Notes the script in force: its grammar and its text."""
-        self.grammar, file = grammar, decoded(read(self.desk.script))
-        self.there = {routine.name: definition(file, text[routine.tokens[0].start : routine.tokens[-1].end]) for routine in grammar.routines}
+        """Notes the script in force: its grammar and its text; and what the file has of its routines as far as that is known."""
+        self.grammar, self.text, self.file, self.there = grammar, text, Source(decoded(read(self.desk.script))), {}
 
     def of(self, routine, token):
         """Returns the place of a token of a routine."""
-        index, there = routine.tokens.index(token), self.there[routine.name]
+        index, there = routine.tokens.index(token), self.definition(routine)
         if there:
             return self.in_file(there.text, there.tokens[index])
         numbers = []
@@ -34,17 +37,24 @@ class Places:
             numbers.append(edit.number())
         return self.as_read(routine, index, numbers)
 
+    def definition(self, routine):
+        """Returns the definition of a routine in the file if it is the same as the one in force."""
+        if routine.name not in self.there:
+            begin, end = routine.tokens[0].start, routine.tokens[-1].end
+            self.there[routine.name] = self.file.definition(routine.name, self.text[begin:end])
+        return self.there[routine.name]
+
     def tokens_typed(self, edit, routine, block):
         """Returns the tokens of a block that are in the place of a part of a routine, or of the routine if the block is a whole script."""
         if edit.word == "replace":
-            return tokens_of_routine(block, routine.name)
+            return tokens_of_routines(block).get(routine.name, [])
         tokens = tokens_of(block, escapes_at(self.grammar.tokens[: self.grammar.tokens.index(routine.tokens[0])]))
         return tokens[HEAD:] if tokens[0].text == "define" else tokens
 
     def as_read(self, routine, index, numbers):
         """Returns the place of a token in the file as it was read, if the script has its definition from there but for amongs that were typed."""
         text = decoded(self.desk.files.seen)
-        token = counterpart(routine.tokens, tokens_of_routine(text, routine.name), index, numbers)
+        token = counterpart(routine.tokens, tokens_of_routines(text).get(routine.name, []), index, numbers)
         if not token:
             return "not in %s" % named(self.desk.script)
         is_same = read(self.desk.script) == self.desk.files.seen
@@ -71,12 +81,13 @@ def typed_place(edit, block, token):
     return "typed at the prompt, line %d of %s" % (place_of(block, token.start)[0], edit.command)
 
 
-def tokens_of_routine(text, name):
-    """Returns the tokens of the definition of a routine in a text, if it has one."""
+@lru_cache(MOST)
+def tokens_of_routines(text):
+    """Returns the tokens of the definition of each routine in the text of a script, by its name."""
     try:
-        return next((routine.tokens for routine in Grammar(text).routines if routine.name == name), [])
+        return {routine.name: routine.tokens for routine in Grammar(text).routines}
     except (IndexError, ValueError, RecursionError):
-        return []
+        return {}
 
 
 def part_of(tokens, edit):

@@ -82,16 +82,25 @@ class Definition:
         return [line.rstrip("\r") for line in self.text[start:end].split("\n")]
 
 
+class Source:
+    """The text of a script, and its tokens."""
+
+    def __init__(self, text):
+        self.text, self.tokens = text, tokens_of(text)
+
+    def definition(self, name, other):
+        """Returns the definition of a name if it has the tokens of another text, or nothing."""
+        for i, token in enumerate(self.tokens[:-1]):
+            if token.text == "define" and self.tokens[i + 1].text == name:
+                meant = tokens_of(other, escapes_at(self.tokens[:i]))
+                found = self.tokens[i : i + len(meant)]
+                return Definition(self.text, found) if [one.value() for one in found] == [one.value() for one in meant] else None
+        return None
+
+
 def definition(text, canonical):
     """Returns the definition in a text that has the tokens of a canonical one, which is a line; or nothing if the text has another one."""
-    name = canonical.split()[1]
-    tokens = tokens_of(text)
-    for i, token in enumerate(tokens[:-1]):
-        if token.text == "define" and tokens[i + 1].text == name:
-            meant = tokens_of(canonical, escapes_at(tokens[:i]))
-            found = tokens[i : i + len(meant)]
-            return Definition(text, found) if [one.value() for one in found] == [one.value() for one in meant] else None
-    return None
+    return Source(text).definition(canonical.split()[1], canonical)
 
 
 def values_of(tokens):
