@@ -41,7 +41,7 @@ class Changes:
         return row[1::2] if row[0] == "changed" else row[1:]
 
 
-def added_in(answer):
+def added_words(answer):
     """Returns the words that rows of `changes` have as added."""
     return {row[1] for row in rows_of(answer) if row[0] == "added"}
 

@@ -46,14 +46,14 @@ class Child:
         """Starts the program over the files. Its first bytes of them are those that they have now."""
         self.first = [read(path) for path in self.paths]
         # The text of the script that was read last, also if it was refused.
-        self.read_last = self.first[0] if self.first else None
+        self.last_script = self.first[0] if self.first else None
         self.start(self.paths)
 
     def start(self, names, files=()):
         pipe = subprocess.PIPE
         words = [*self.command, *(["--", *names] if names else [])]
-        given = [int(name.removeprefix("/dev/fd/")) for name in names if re.fullmatch(r"/dev/fd/\d+", name) and os.path.exists(name)]
-        self.process = subprocess.Popen(words, stdin=pipe, stdout=pipe, stderr=pipe, pass_fds={*files, *given, self.paper[1]})
+        pipes = [int(name.removeprefix("/dev/fd/")) for name in names if re.fullmatch(r"/dev/fd/\d+", name) and os.path.exists(name)]
+        self.process = subprocess.Popen(words, stdin=pipe, stdout=pipe, stderr=pipe, pass_fds={*files, *pipes, self.paper[1]})
         os.set_blocking(self.process.stderr.fileno(), False)
 
     def said(self):
@@ -63,7 +63,7 @@ class Child:
             # (a program that was started anew reads the script by another name)
             said = re.sub(r"^/dev/fd/\d+(?=:\d+:\d+: |: )", lambda name: self.script, said, flags=re.M)
         lines = said.splitlines()
-        return without_mark(lines, self.script, self.read_last) if (self.read_last or b"").startswith(BOM) else lines
+        return without_mark(lines, self.script, self.last_script) if (self.last_script or b"").startswith(BOM) else lines
 
     def query(self, lines):
         """Sends lines to the program, and returns the lines of its answer, or nothing if it has ended."""
@@ -115,7 +115,7 @@ class Child:
                 return ["no 57 NoFile"]
             fill(self.copy, text)
         if lines[0] == "reload":
-            self.read_last = text
+            self.last_script = text
         if not self.send(lines):
             return None
         if self.is_broken_off(say, LONG, BREAKS_OFF, self.terminal is not None and None not in self.first):

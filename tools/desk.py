@@ -14,7 +14,7 @@ import sys
 
 from added import Added
 from advice import Advice
-from changes import Changes, added_in, lay_out_largest, lay_out_stats
+from changes import Changes, added_words, lay_out_largest, lay_out_stats
 from child import Child
 from conditions import Conditions
 from files import Files
@@ -45,7 +45,7 @@ class Desk:
         # The warnings that were given; the status at the end if it is not the program's.
         self.warned, self.status = [], None
         # What the program said last, before it ended.
-        self.last_said = []
+        self.last_message = []
         self.files, self.added = Files(script, words), Added(script, words)
         self.child = Child(program, options, script, words)
         self.advice = Advice(self)
@@ -137,7 +137,7 @@ class Desk:
 
     def changes_now(self, answer):
         """Returns the changes since the mark, whose rows are given."""
-        added = added_in(answer or [])
+        added = added_words(answer or [])
         rows = rows_of(self.query(["stems"]) or []) if added else []
         return Changes(answer, {row[0]: row[1:] for row in rows if row[0] in added})
 
@@ -297,8 +297,8 @@ class Desk:
     def end(self):
         """Says why the program has ended."""
         self.child.process.wait()
-        self.last_said = self.child.said()
-        say_program(self.last_said)
+        self.last_message = self.child.said()
+        say_program(self.last_message)
         return "ended"
 
 

@@ -60,7 +60,7 @@ class Opening:
         """Shows why the program has ended. If a file has a fault that its author can correct there, the desk waits, and says how to go on."""
         desk = self.desk
         desk.end()
-        fault = FAULT.match(desk.last_said[0]) if desk.last_said else None
+        fault = FAULT.match(desk.last_message[0]) if desk.last_message else None
         code = int(fault[1]) if fault else 0
         if 0 < code < LEAST and looks_swapped(desk.script, desk.words):
             say(["%s looks like a script. The script comes first: ./snowbench work SCRIPT WORDS" % named(desk.words)])
@@ -71,7 +71,7 @@ class Opening:
         self.is_waiting = True
         say([OF_WORDS[code].replace("FILE", named(path))] if OF_WORDS.get(code) else [])
         say([] if is_new else [unchanged(desk.child.paths)])
-        say([how_to_go_on(path, is_save_enough, any("use --external" in line for line in desk.last_said))])
+        say([how_to_go_on(path, is_save_enough, any("use --external" in line for line in desk.last_message))])
         # (its line numbers may be others when the file is read again)
         if path == desk.words:
             desk.warned = []

@@ -115,18 +115,18 @@ def values_of(tokens):
         elif token.text == "stringdef":
             name, base = tokens[at + 1].text, BASES.get(tokens[at + 2].text)
             at += 3 if base else 2
-            value = spelled(tokens[at].text, escapes, macros)
+            value = characters_of(tokens[at].text, escapes, macros)
             macros[name] = "".join(chr(int(number, base)) for number in value.split()) if base else value
         elif token.text.startswith("'"):
-            values[token] = spelled(token.text, escapes, macros)
+            values[token] = characters_of(token.text, escapes, macros)
         at += 1
     return values
 
 
-def spelled(literal, escapes, macros):
+def characters_of(literal, escapes, macros):
     """Returns the characters of a literal, with those of its insertions."""
 
-    def inserted(insertion):
+    def value_of(insertion):
         name = insertion[1]
         if not name.strip(WHITE):
             return ""
@@ -137,7 +137,7 @@ def spelled(literal, escapes, macros):
     if not escapes:
         return literal[1:-1]
     begin, end = map(re.escape, escapes)
-    return re.sub("%s([^%s]*)%s" % (begin, end, end), inserted, literal[1:-1])
+    return re.sub("%s([^%s]*)%s" % (begin, end, end), value_of, literal[1:-1])
 
 
 def escapes_at(tokens):
