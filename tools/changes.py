@@ -8,11 +8,42 @@ from rows import rows_of
 MOST = 20
 
 
-def since_mark(before, now):
-    """Returns the line above the changes after an edit if there were some before it."""
-    if not before or not now:
-        return []
-    return ["This edit changed no word and no class. Since the mark:" if now == before else "Since the mark:"]
+class Changes:
+    """The rows of `changes`, and the outcomes of the words that were added since the mark, which these rows lack: by each word `stem` or
+    `refused`, and the stem or the name."""
+
+    def __init__(self, answer, outcomes):
+        self.answer, self.outcomes = answer, outcomes
+
+    def since_mark(self, before):
+        """Returns the line above these changes after an edit if there were some before it."""
+        if not before.answer or not self.answer:
+            return []
+        is_same = (self.answer, self.outcomes) == (before.answer, before.outcomes)
+        return ["This edit changed no word and no class. Since the mark:" if is_same else "Since the mark:"]
+
+    def lay_out(self, is_edit=False):
+        """Lays out all rows; after an edit the first ones of each kind."""
+        return lay_out_rows(rows_of(self.answer), self.outcomes, is_edit)
+
+    def lay_out_part(self, text):
+        """Lays out those rows that have a text in a word or a stem."""
+        rows = rows_of(self.answer)
+        part = [row for row in rows if any(text in name for name in self.names_in(row))]
+        if rows and not part:
+            return ['no change has %s: "changes" shows all' % named(text)]
+        return ["Only what has %s:" % named(text)] * bool(part) + lay_out_rows(part, self.outcomes, is_part=True)
+
+    def names_in(self, row):
+        """Returns the words and stems in a row."""
+        if row[0] == "added":
+            return [row[1], *self.outcomes.get(row[1], ())[1:]]
+        return row[1::2] if row[0] == "changed" else row[1:]
+
+
+def added_words(answer):
+    """Returns the words that rows of `changes` have as added."""
+    return {row[1] for row in rows_of(answer) if row[0] == "added"}
 
 
 def outcome(kind, text):
@@ -38,20 +69,8 @@ def shown(rows, is_edit, lay_out):
     return [lay_out(row) for row in rows[:most]] + more
 
 
-def lay_out_changes(answer, is_edit=False):
-    return lay_out_rows(rows_of(answer), is_edit)
-
-
-def lay_out_part(rows, text):
-    """Lays out those rows of `changes` that have a text in a word or a stem."""
-    part = [row for row in rows if any(text in name for name in names_in(row))]
-    if rows and not part:
-        return ['no change has %s: "changes" shows all' % named(text)]
-    return ["Only what has %s:" % named(text)] * bool(part) + lay_out_rows(part, is_part=True)
-
-
-def lay_out_rows(rows, is_edit=False, is_part=False):
-    """Lays out rows of `changes`, all or a part: words with their stems before and after, then classes."""
+def lay_out_rows(rows, outcomes, is_edit=False, is_part=False):
+    """Lays out rows of `changes`, all or a part: words that were added with their stems, words with their stems before and after, then classes."""
     kinds = {kind: [] for kind in ("added", "removed", "changed", "split", "merged", "renamed")}
     for row in rows:
         kinds[row[0]].append(row[1:])
@@ -59,8 +78,8 @@ def lay_out_rows(rows, is_edit=False, is_part=False):
         return ["no word and no class differs from the mark"]
     changed, lines = kinds["changed"], []
     for kind in ("added", "removed"):
-        if kinds[kind]:
-            lines += [counted(len(kinds[kind]), "word", "words") + " " + kind] + shown(kinds[kind], is_edit, lambda row: "  " + named(row[0]))
+        lines += [counted(len(kinds[kind]), "word", "words") + " " + kind] if kinds[kind] else []
+        lines += shown(kinds[kind], is_edit, lambda row: "  " + named(row[0]) + (" -> " + outcome(*outcomes[row[0]]) if row[0] in outcomes else ""))
     column = min(24, max([len(row[0]) for row in changed], default=0))
     kept = all(row[1] == row[3] == "stem" for row in changed)
     if changed:
@@ -75,11 +94,6 @@ def lay_out_rows(rows, is_edit=False, is_part=False):
     return lines + shown(kinds["renamed"], is_edit, lambda row: "  renamed  %s -> %s" % (stem(row[0]), stem(row[1])))
 
 
-def names_in(row):
-    """Returns the words and stems in a row of `changes`."""
-    return row[1::2] if row[0] == "changed" else row[1:]
-
-
 def lay_out_largest(answer):
     """Lays out classes with their sizes."""
     rows = rows_of(answer)
@@ -89,6 +103,3 @@ def lay_out_largest(answer):
 
 def lay_out_stats(answer):
     return ["%-10s %s" % tuple(row) for row in csv.reader(answer)]
-
-
-LAYOUTS = {"changes": lay_out_changes, "stats": lay_out_stats}

@@ -10,7 +10,8 @@ import subprocess
 import sys
 import termios
 
-from warn import read
+from faults import without_mark
+from warn import BOM, read
 
 # The accepted commands that change what the program has.
 KEPT = "add remove mark limit reload undo redo routine among grouping replace".split()
@@ -18,16 +19,17 @@ KEPT = "add remove mark limit reload undo redo routine among grouping replace".s
 PATIENCE = 2
 INTERRUPT = b"\x03"
 LONG = 'This takes long. %sIf the script loops, "limit 1000" lets each run end sooner.'
+# What Ctrl-C does during a command.
+BREAKS_OFF = "Ctrl-C breaks it off. "
 LONG_START = "This takes long. %sIt may be that the script loops."
 
 
 class Child:
     def __init__(self, program, options, script, words):
-        self.script = script
+        self.script, self.paths = script, [path for path in (script, words) if path]
         self.command = [program, "work", "--text", *options]
         self.mark = "end of answer %d-%s" % (os.getpid(), os.urandom(8).hex())
-        # The bytes of the files at the start, and the accepted commands, each with the bytes that `reload` read.
-        self.first = [read(path) for path in (script, words) if path]
+        # The accepted commands, each with the bytes that `reload` read.
         self.accepted = []
         # The script of a program that was started anew.
         self.copy = None
@@ -38,12 +40,20 @@ class Child:
         # The program saves the text of the script in force into it.
         self.paper = os.pipe()
         os.set_blocking(self.paper[0], False)
-        self.start([name for name in (script, words) if name])
+        self.open()
+
+    def open(self):
+        """Starts the program over the files. Its first bytes of them are those that they have now."""
+        self.first = [read(path) for path in self.paths]
+        # The text of the script that was read last, also if it was refused.
+        self.last_script = self.first[0] if self.first else None
+        self.start(self.paths)
 
     def start(self, names, files=()):
         pipe = subprocess.PIPE
         words = [*self.command, *(["--", *names] if names else [])]
-        self.process = subprocess.Popen(words, stdin=pipe, stdout=pipe, stderr=pipe, pass_fds=(*files, self.paper[1]))
+        pipes = [int(name.removeprefix("/dev/fd/")) for name in names if re.fullmatch(r"/dev/fd/\d+", name) and os.path.exists(name)]
+        self.process = subprocess.Popen(words, stdin=pipe, stdout=pipe, stderr=pipe, pass_fds={*files, *pipes, self.paper[1]})
         os.set_blocking(self.process.stderr.fileno(), False)
 
     def said(self):
@@ -52,7 +62,8 @@ class Child:
         if self.copy is not None:
             # (a program that was started anew reads the script by another name)
             said = re.sub(r"^/dev/fd/\d+(?=:\d+:\d+: |: )", lambda name: self.script, said, flags=re.M)
-        return said.splitlines()
+        lines = said.splitlines()
+        return without_mark(lines, self.script, self.last_script) if (self.last_script or b"").startswith(BOM) else lines
 
     def query(self, lines):
         """Sends lines to the program, and returns the lines of its answer, or nothing if it has ended."""
@@ -103,9 +114,11 @@ class Child:
             if text is None:
                 return ["no 57 NoFile"]
             fill(self.copy, text)
+        if lines[0] == "reload":
+            self.last_script = text
         if not self.send(lines):
             return None
-        if self.is_broken_off(say, LONG, "Ctrl-C breaks it off. ", self.terminal is not None and None not in self.first):
+        if self.is_broken_off(say, LONG, BREAKS_OFF, self.terminal is not None and None not in self.first):
             self.drop_keys()
             return False
         answer = self.answer()
@@ -113,11 +126,11 @@ class Child:
             self.accepted.append((lines, text))
         return answer
 
-    def begin(self, say):
-        """Asks for `stats` at the start. Otherwise as `run`."""
+    def begin(self, say, keys_do):
+        """Asks for `stats` at the start; `keys_do` says what Ctrl-C does then. Otherwise as `run`."""
         if not self.send(["stats"]):
             return None
-        return False if self.is_broken_off(say, LONG_START, "Ctrl-C ends it. ", self.terminal is not None) else self.answer()
+        return False if self.is_broken_off(say, LONG_START, keys_do, self.terminal is not None) else self.answer()
 
     def is_broken_off(self, say, sentence, keys_do, can_break):
         """Waits for the first line of an answer. Returns whether Ctrl-C came before it."""

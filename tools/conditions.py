@@ -8,8 +8,8 @@ from child import fill
 from grammar import Grammar
 from plain import named
 from rows import rows_of
-from source import decoded, definition, place_of
-from warn import read
+from places import Places
+from source import decoded, values_of
 
 # How many letters of a row of commands are shown at most.
 LONGEST = 60
@@ -103,35 +103,33 @@ class Conditions:
 
     def __init__(self, desk):
         self.desk = desk
-        # The script of the last run: its text, its tests, and by their names its routines and what the script's file has of them.
-        self.text, self.tests, self.routines, self.there = "", [], {}, {}
+        # The script of the last run: its tests, its routines by their names, and the characters of its literals by their tokens.
+        self.tests, self.routines, self.values, self.places = [], {}, {}, Places(desk)
 
     def asked(self, word, rows, steps):
         """Returns how many rows of the events of a run, which has so many steps, are known with their tests, and these tests, as `split`."""
+        self.routines, self.values = {}, {}
         try:
-            self.text = decoded(self.desk.child.text())
-            grammar = Grammar(self.text)
-            self.note(grammar.routines)
+            text = decoded(self.desk.child.text())
+            grammar = Grammar(text)
+            self.routines = {routine.name: routine for routine in grammar.routines}
+            self.values = values_of(grammar.tokens)
+            self.places.look(grammar, text)
             prefix = free_prefix(grammar.tokens)
-            copy, self.tests = with_routines(grammar, self.text, prefix)
+            copy, self.tests = with_routines(grammar, text, prefix)
             kept, asked = split(events_of(self.desk.child.command, copy, word, limit_of(rows, steps)) or [], prefix)
         except (IndexError, ValueError, RecursionError, OSError):
             return 0, {}
         return agreed(rows, kept), asked
 
-    def note(self, routines):
-        file = decoded(read(self.desk.script))
-        self.routines = {routine.name: routine for routine in routines}
-        self.there = {routine.name: definition(file, self.text[routine.tokens[0].start : routine.tokens[-1].end]) for routine in routines}
-
     def taken(self, row):
-        """Returns the place of the string that an among took; that of the among if the string is spelled otherwise."""
+        """Returns the place of the string that an among took."""
         _, _, name, k, string = row
         routine = self.routines.get(name)
         if not routine or len(routine.amongs) < int(k):
             return ""
         among, *strings = routine.amongs[int(k) - 1]
-        return self.place(routine, next((token for token in strings if token.text == "'%s'" % string), among))
+        return self.places.of(routine, next((token for token in strings if self.values.get(token) == string), among))
 
     def notes(self, word, rows, steps):
         """Returns, by the numbers of the rows of events in which a routine returns f, the test that was false, if it has no name: the text of
@@ -143,7 +141,7 @@ class Conditions:
             routine, test = self.tests[number]
             if rows[i][0] == "return" and rows[i][3] == "f" and routine.is_plain and is_true == bool(test.command):
                 tokens = shortest(test)
-                notes[i] = shown(tokens), self.place(routine, tokens[0])
+                notes[i] = shown(tokens), self.places.of(routine, tokens[0])
         return notes | {i: self.taken(row) for i, row in enumerate(rows) if row[0] == "taken"}
 
     def lay_out(self, word, rows, steps):
@@ -170,15 +168,7 @@ class Conditions:
     def line(self, number, is_true, count):
         routine, test = self.tests[number]
         times = "" if count == 1 else " %d times" % count
-        return "%s is %s%s   %s" % (shown(test.tokens), "true" if is_true else "false", times, self.place(routine, test.tokens[0]))
-
-    def place(self, routine, token):
-        """Returns the place of a token of a routine in the script's file, or nothing if the file does not have its definition."""
-        there = self.there.get(routine.name)
-        if not there:
-            return ""
-        at = there.tokens[routine.tokens.index(token)].start
-        return "%s:%d:%d" % (named(self.desk.script), *place_of(there.text, at))
+        return "%s is %s%s   %s" % (shown(test.tokens), "true" if is_true else "false", times, self.places.of(routine, test.tokens[0]))
 
 
 def free_prefix(tokens):

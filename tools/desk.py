@@ -2,23 +2,24 @@
 """The verb `work` at a terminal. It runs between the line editing of tools/work and the program: it passes commands on, lays out rows for
 people, and says what to do if a command is refused.
 usage: desk.py PROGRAM SCRIPT WORDS OPTION..   (WORDS may be empty; the options are those of the program, --external among them)
-It reads requests on standard input: a number N, the kind of request, and N lines, each ended by a zero byte. `start` begins, `ask` is a
-command with its block, `edit` the same with the changes that it makes, `peek` the first line of a block that comes later, and `quit` asks whether to end.
-`saved` asks whether the script was saved since it was read, and `watch` has the parent get SIGWINCH each time that it is.
-For each request it writes `ok`, `refused` or `ended` as a line on descriptor 3.
+It reads requests on standard input: a number N, the kind of request, and N lines, each ended by a zero byte. `start` begins, with a line
+`--watch` if a save is enough to begin again. `ask` is a command with its block, `edit` the same with the changes that it makes, `peek` the
+first line of a block that comes later, and `quit` asks whether to end. `saved` asks whether a file that is to be read again was saved since
+it was read, and `watch` has the parent get SIGWINCH each time that one is.
+For each request it writes `ok`, `refused` or `ended` as a line on descriptor 3; for `start` also `waits`, if a file has a fault.
 """
-import csv
 import os
 import re
 import sys
 
 from added import Added
 from advice import Advice
-from changes import LAYOUTS, counted, lay_out_changes, lay_out_largest, lay_out_part, since_mark
+from changes import Changes, added_words, lay_out_largest, lay_out_stats
 from child import Child
 from conditions import Conditions
 from files import Files
-from history import EDITS, TYPED, History, aside_sentence, digest
+from history import EDITS, TYPED, aside_sentence, digest
+from opening import Opening
 from plain import named
 from rows import rows_of
 from screen import say, say_program, write
@@ -36,8 +37,6 @@ EMPTY = {
 }
 # The most bytes of a line.
 LONGEST = 65536
-# The status after Ctrl-C at the start.
-INTERRUPTED = 130
 
 
 class Desk:
@@ -45,15 +44,30 @@ class Desk:
         self.program, self.script, self.words, self.options = program, script, words, options
         # The warnings that were given; the status at the end if it is not the program's.
         self.warned, self.status = [], None
+        # What the program said last, before it ended.
+        self.last_message = []
         self.files, self.added = Files(script, words), Added(script, words)
         self.child = Child(program, options, script, words)
         self.advice = Advice(self)
         self.shows, self.conditions = Shows(self), Conditions(self)
+        self.opening = Opening(self)
         self.history = None
         # A save or an end that was refused, and is accepted if it is asked for again.
         self.doubted = None
-        # The rows of `changes` that were shown last since the mark.
-        self.changes = []
+        # The changes since the mark; nothing if a word was added or removed after they were looked at.
+        self.changes = Changes([], {})
+
+    def read_anew(self):
+        """Has the program begin anew over the files as they are now, after one of them had a fault. Returns whether one has other bytes."""
+        before = self.child.first
+        self.files, self.added = Files(self.script, self.words), Added(self.script, self.words)
+        self.child.stop()
+        self.child.open()
+        return None in before or self.child.first != before
+
+    def is_saved(self):
+        """Returns whether a file that is to be read again was saved: the script, or each file while the desk waits for one without its fault."""
+        return self.files.is_saved() or (self.opening.is_waiting and self.files.has_other_words())
 
     def query(self, lines):
         return self.child.query(lines)
@@ -82,6 +96,8 @@ class Desk:
         former = read(argument) if word == "save" else None
         typed, text = self.before_reload() if word == "reload" else ({}, None)
         replaced = self.definition(argument.partition(" ")[0]) if word in TYPED else None
+        if is_edit and self.changes is None:
+            self.changes = self.changes_now(self.query(["changes"]))
         is_own = word == "save" and self.files.has_crlf()
         answer = self.files.write_crlf(argument, self.child.text()) if is_own else self.child.run(lines, say, text)
         if answer is None:
@@ -102,21 +118,28 @@ class Desk:
             self.history.note_saved(argument)
         if word in ("add", "remove"):
             self.added.note(word, argument)
-        if word in ("mark", "changes"):
-            self.changes = answer if word == "changes" else []
-        return self.show_edit(lines[0], typed, replaced, is_edit) if word in EDITS else "ok"
+            self.changes = None
+        if word == "mark":
+            self.changes = Changes([], {})
+        return self.show_edit(lines, typed, replaced, is_edit) if word in EDITS else "ok"
 
-    def show_edit(self, command, typed, replaced, is_edit):
+    def show_edit(self, lines, typed, replaced, is_edit):
         """Notes an accepted edit of the script or the limit, and shows the changes."""
         script, changes = self.child.query_each(["script"], ["changes"])
         if script is not None:
-            self.note_edit(command, typed, replaced, script)
+            self.note_edit(lines, typed, replaced, script)
         if changes is None:
             return self.end()
         if is_edit:
-            write(since_mark(self.changes, changes) + lay_out_changes(changes, is_edit))
-            self.changes = changes
+            before, self.changes = self.changes, self.changes_now(changes)
+            write(self.changes.since_mark(before) + self.changes.lay_out(is_edit))
         return "ok"
+
+    def changes_now(self, answer):
+        """Returns the changes since the mark, whose rows are given."""
+        added = added_words(answer or [])
+        rows = rows_of(self.query(["stems"]) or []) if added else []
+        return Changes(answer, {row[0]: row[1:] for row in rows if row[0] in added})
 
     def refuse(self, answer, code, lines, former):
         """Shows a refusal and what to do. `former` is what the file of `save` had before."""
@@ -131,14 +154,18 @@ class Desk:
         answer = self.query(["changes"])
         if answer is None:
             return self.end()
-        write(lay_out_part(rows_of(answer), text))
+        self.changes = self.changes_now(answer)
+        write(self.changes.lay_out_part(text))
         return "ok"
 
     def lay_out(self, command, answer):
         if not answer and command in EMPTY:
             return [EMPTY[command]]
-        if command in LAYOUTS:
-            return LAYOUTS[command](answer)
+        if command == "changes":
+            self.changes = self.changes_now(answer)
+            return self.changes.lay_out()
+        if command == "stats":
+            return lay_out_stats(answer)
         if command.startswith("largest "):
             return lay_out_largest(answer)
         if command == "script":
@@ -242,10 +269,10 @@ class Desk:
         """Returns the definition of a part; the whole script has no name."""
         return self.query(["show " + name if name else "script"])
 
-    def note_edit(self, command, typed, replaced, script):
+    def note_edit(self, lines, typed, replaced, script):
         """Notes an accepted edit, and says which one was undone or redone, or which typed parts are put aside."""
-        before, is_reload = self.history.script, command == "reload"
-        is_new, edit = self.history.note(command, script, replaced)
+        before, command, is_reload = self.history.script, lines[0], lines[0] == "reload"
+        is_new, edit = self.history.note(command, lines[1:-1], script, replaced)
         if edit:
             write(["%s: %s" % ("undid" if command == "undo" else "redid", edit.command)])
             if command == "undo" and self.history.in_file != self.history.script and (edit.word == "reload" or self.history.script_file in edit.files):
@@ -261,33 +288,6 @@ class Desk:
             say([] if is_new or before != self.history.script else ["%s has not changed since it was read." % named(self.script)])
             self.warn([self.script])
 
-    def start(self):
-        """Writes how many words and classes there are, and warnings."""
-        if not looks_swapped(self.script, self.words):
-            self.warn([self.script, self.words])
-        answer = self.child.begin(say)
-        if answer is False:
-            self.child.stop()
-            self.status = INTERRUPTED
-            return "ended"
-        if answer is None:
-            return self.end()
-        figures = dict(csv.reader(answer))
-        size = counted(int(figures["words"]), "word", "words"), counted(int(figures["classes"]), "class", "classes")
-        print("%s, %s, %s refused" % (*size, figures["refused"]), flush=True)
-        if figures["refused"] != "0":
-            self.explain_refused()
-        if figures["words"] == "0" and not self.words:
-            say(["To see stems: add WORD, or start with a file of words: ./snowbench work SCRIPT WORDS"])
-        self.history = History(self.script, self.query(["script"]) or [])
-        return "ok"
-
-    def explain_refused(self):
-        rows = [row for row in rows_of(self.query(["stems"])) if row[1:2] == ["refused"]]
-        word, name = rows[0][0], rows[0][2]
-        loops = ": the script loops on it, or needs more than 100,000 steps" if name == "Steps" else ""
-        say(['The first refused word is %s (%s%s). "tests %s" shows the tests of its run, "trace %s" its routines.' % (named(word), name, loops, named(word), named(word))])
-
     def warn(self, paths):
         for line in warnings_on(paths[0], paths[1] if len(paths) > 1 else ""):
             if line not in self.warned:
@@ -297,24 +297,9 @@ class Desk:
     def end(self):
         """Says why the program has ended."""
         self.child.process.wait()
-        said = self.child.said()
-        say_program(said)
-        fault = re.match(r"snowbench: (\d+) \w+", said[0]) if said else None
-        if fault and int(fault[1]) < 25 and looks_swapped(self.script, self.words):
-            say(["%s looks like a script. The script comes first: ./snowbench work SCRIPT WORDS" % named(self.words)])
+        self.last_message = self.child.said()
+        say_program(self.last_message)
         return "ended"
-
-
-def looks_swapped(script, words):
-    return bool(words) and holds(words, b"externals") and not holds(script, b"externals")
-
-
-def holds(path, text):
-    try:
-        with open(path, "rb") as file:
-            return text in file.read(1048576)
-    except OSError:
-        return False
 
 
 def requests():
@@ -339,15 +324,15 @@ def requests():
 def reply(desk, kind, lines):
     """Returns what is written for a request."""
     if kind == "start":
-        return desk.start()
+        return desk.opening.start(lines == ["--watch"])
     if kind == "peek":
         return desk.peek(lines[0])
     if kind == "quit":
         return desk.quit()
     if kind == "saved":
-        return "ok" if desk.files.is_saved() else "refused"
+        return "ok" if desk.is_saved() else "refused"
     if kind == "watch":
-        watch(desk.script, os.getppid(), desk.files.state)
+        watch(desk.child.paths, os.getppid(), desk.files.states())
         return "ok"
     return desk.ask(lines, kind == "edit")
 

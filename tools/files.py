@@ -14,6 +14,7 @@ class Files:
         self.script, self.words, self.written, self.seen = script, words, {}, read(script)
         # What `reload` read last, if it was refused.
         self.refused = None
+        self.state_of_words = state_of(words) if words else None
         self.look()
 
     def look(self):
@@ -23,6 +24,14 @@ class Files:
     def is_saved(self):
         """Returns whether the script's file is another one than when it was read or written here."""
         return state_of(self.script) not in (None, self.state)
+
+    def has_other_words(self):
+        """Returns whether the file of words is another one than at the start."""
+        return bool(self.words) and state_of(self.words) not in (None, self.state_of_words)
+
+    def states(self):
+        """Returns the states of the script's file and, if there is one, of the file of words when they were read."""
+        return [self.state, self.state_of_words] if self.words else [self.state]
 
     def is_script(self, path):
         return is_same(path, self.script)

@@ -12,16 +12,20 @@ EDITS = TYPED + "limit reload undo redo".split()
 
 
 class Edit:
-    """An accepted edit: its command, the script and the limit before and after, the definition that a typed part replaced, and the files
-    that were written with it."""
+    """An accepted edit: its command and the lines of its block, the script and the limit before and after, the definition that a typed part
+    replaced, and the files that were written with it."""
 
-    def __init__(self, command, before, after, former):
-        self.command, self.before, self.after, self.former, self.files = command, before, after, former, set()
+    def __init__(self, command, block, before, after, former):
+        self.command, self.block, self.before, self.after, self.former, self.files = command, block, before, after, former, set()
         self.word, _, self.argument = command.partition(" ")
 
     def name(self):
         """Returns the name of the part that was typed, or nothing for a whole script."""
         return self.argument.partition(" ")[0]
+
+    def number(self):
+        """Returns the number of the among that was typed, or 1."""
+        return int(self.argument.partition(" ")[2]) if self.word == "among" else 1
 
 
 class History:
@@ -38,9 +42,9 @@ class History:
         # The script that the file had when it was read or written last.
         self.in_file = self.script
 
-    def note(self, command, lines, former=None):
-        """Notes an accepted command of EDITS, after which the script has these lines. Returns whether it is a new edit, and the edit that
-        it undid or redid."""
+    def note(self, command, block, lines, former=None):
+        """Notes an accepted command of EDITS with its block, after which the script has these lines. Returns whether it is a new edit, and the
+        edit that it undid or redid."""
         before, word = (self.script, self.limit), command.partition(" ")[0]
         self.script = digest(lines)
         if word in ("undo", "redo"):
@@ -49,7 +53,7 @@ class History:
             self.limit = command.partition(" ")[2].lstrip("0")
         after = (self.script, self.limit)
         if after != before:
-            self.remember(Edit(command, before, after, former))
+            self.remember(Edit(command, block, before, after, former))
         return after != before, None
 
     def remember(self, edit):

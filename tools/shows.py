@@ -1,5 +1,6 @@
 """Shows a definition, or the whole script, as its author wrote it: `show` and `script` at a terminal."""
 from layout import laid_out
+from places import edits_of
 from plain import named
 from source import decoded, definition, escapes_at, tokens_of
 from warn import read
@@ -21,8 +22,8 @@ class Shows:
                 return ["%s:%d%s" % (named(path), there.line(), note), *there.lines()]
         text = self.desk.child.text()
         there = text is not None and definition(decoded(text), canonical)
-        is_typed = name in [edit.name() for edit in self.desk.history.typed()]
-        where = "%snot in %s:" % ("as you typed it, " if is_typed else "", named(path))
+        commands = list(dict.fromkeys(edit.command for edit in edits_of(self.desk.history, name)))
+        where = "%snot in %s:" % ("typed at the prompt (%s), " % ", ".join(commands) if commands else "", named(path))
         if there and not self.is_canonical(text):
             return [where, *there.lines()]
         return [where, *laid_out(canonical, self.escapes(canonical))]

@@ -8,6 +8,8 @@ BLANK = re.compile("[%s]+" % WHITE)
 SKIPPED = re.compile("%s|%s" % (BLANK.pattern, COMMENT.pattern), re.S)
 # After these words comes no ordinary token: two insert characters, the name of a macro.
 DIRECTIVES = ("stringescapes", "stringdef")
+# What may be before the literal of a macro.
+BASES = {"hex": 16, "decimal": 10}
 PLAIN = re.compile(r"[A-Za-z][A-Za-z0-9_]*|[0-9]+|<-|<\+|->|=>|[=!<>+\-*/]=|.", re.S)
 
 
@@ -80,16 +82,62 @@ class Definition:
         return [line.rstrip("\r") for line in self.text[start:end].split("\n")]
 
 
+class Source:
+    """The text of a script, and its tokens."""
+
+    def __init__(self, text):
+        self.text, self.tokens = text, tokens_of(text)
+
+    def definition(self, name, other):
+        """Returns the definition of a name if it has the tokens of another text, or nothing."""
+        for i, token in enumerate(self.tokens[:-1]):
+            if token.text == "define" and self.tokens[i + 1].text == name:
+                meant = tokens_of(other, escapes_at(self.tokens[:i]))
+                found = self.tokens[i : i + len(meant)]
+                return Definition(self.text, found) if [one.value() for one in found] == [one.value() for one in meant] else None
+        return None
+
+
 def definition(text, canonical):
     """Returns the definition in a text that has the tokens of a canonical one, which is a line; or nothing if the text has another one."""
-    name = canonical.split()[1]
-    tokens = tokens_of(text)
-    for i, token in enumerate(tokens[:-1]):
-        if token.text == "define" and tokens[i + 1].text == name:
-            meant = tokens_of(canonical, escapes_at(tokens[:i]))
-            found = tokens[i : i + len(meant)]
-            return Definition(text, found) if [one.value() for one in found] == [one.value() for one in meant] else None
-    return None
+    return Source(text).definition(canonical.split()[1], canonical)
+
+
+def values_of(tokens):
+    """Returns the characters of each literal of a script but those of its macros, by its token. What it does not expect is an IndexError or a
+    ValueError."""
+    values, macros, escapes, at = {}, {}, "", 0
+    while at < len(tokens):
+        token = tokens[at]
+        if token.text == "stringescapes":
+            at += 1
+            escapes = tokens[at].text
+        elif token.text == "stringdef":
+            name, base = tokens[at + 1].text, BASES.get(tokens[at + 2].text)
+            at += 3 if base else 2
+            value = characters_of(tokens[at].text, escapes, macros)
+            macros[name] = "".join(chr(int(number, base)) for number in value.split()) if base else value
+        elif token.text.startswith("'"):
+            values[token] = characters_of(token.text, escapes, macros)
+        at += 1
+    return values
+
+
+def characters_of(literal, escapes, macros):
+    """Returns the characters of a literal, with those of its insertions."""
+
+    def value_of(insertion):
+        name = insertion[1]
+        if not name.strip(WHITE):
+            return ""
+        if name in macros:
+            return macros[name]
+        return name if name in ("'", escapes[0]) else chr(int(name.removeprefix("U+"), 16))
+
+    if not escapes:
+        return literal[1:-1]
+    begin, end = map(re.escape, escapes)
+    return re.sub("%s([^%s]*)%s" % (begin, end, end), value_of, literal[1:-1])
 
 
 def escapes_at(tokens):

@@ -1,4 +1,4 @@
-"""Sees when the script is saved, and has the line editing of tools/work read it."""
+"""Sees when a file is saved, and has the line editing of tools/work read it."""
 import os
 import signal
 import threading
@@ -6,22 +6,23 @@ import time
 
 from files import state_of
 
-# How often the file is looked at, in seconds. A save that is still being written differs at the next look.
+# How often the files are looked at, in seconds. A save that is still being written differs at the next look.
 PERIOD = 0.02
 
 
-def watch(path, parent, told):
-    """Looks at a file, whose state `told` is known, and sends SIGWINCH to the parent each time that it was saved. During `read -e` bash runs a trap
+def watch(paths, parent, told):
+    """Looks at files, whose states `told` are known, and sends SIGWINCH to the parent each time that one was saved. During `read -e` bash runs a trap
     at once, each time, only for a signal that readline handles itself, as WINCH."""
-    threading.Thread(target=look, args=(path, parent, told), daemon=True).start()
+    threading.Thread(target=look, args=(paths, parent, told), daemon=True).start()
 
 
-def look(path, parent, told):
+def look(paths, parent, told):
     before = told
     while os.getppid() == parent:
         time.sleep(PERIOD)
-        now = state_of(path)
-        if now is not None and now == before and now != told:
+        # (an editor may take a file away for a moment)
+        now = [state_of(path) or former for path, former in zip(paths, told)]
+        if now == before and now != told:
             os.kill(parent, signal.SIGWINCH)
             told = now
         before = now
