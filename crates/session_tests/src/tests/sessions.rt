@@ -131,6 +131,7 @@ fn a_session_replies_to_its_lines_up_to_a_fault(rt: HostRuntime) -> Result<(), F
 fn lines_words_and_scripts_have_a_longest_length(rt: HostRuntime) -> Result<(), Fail> {
     let alloc = rt.alloc();
     let long = vec![in alloc; b'a'; 65_537]?;
+    let word = vec![in alloc; b'a'; 256]?;
     let script = vec![in alloc; b'\n'; 1_048_577]?;
     // The second is inside a block, and so is the third, whose command is bad.
     let line = joined(alloc, &[b".\nadd undo\n", &long])?;
@@ -149,12 +150,7 @@ fn lines_words_and_scripts_have_a_longest_length(rt: HostRuntime) -> Result<(), 
             b"",
             Err(LoadFault::Script(ScriptFault::EmptyAmong { item: 2 })),
         ),
-        (
-            UN,
-            &long[..256],
-            b"",
-            Err(LoadFault::Open(EditFault::WordTooLong)),
-        ),
+        (UN, &word, b"", Err(LoadFault::Open(EditFault::WordTooLong))),
         (
             &script,
             b".\n",
