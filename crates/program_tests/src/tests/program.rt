@@ -60,7 +60,7 @@ const PREFIXES: &[u8] =
 /// Deletes a first `un`.
 const UN: &[u8] = b"externals ( stem )\ndefine stem as ( [ 'un' ] delete )\n.\n";
 
-/// Has two externals, of which only `go` changes a word.
+/// Has two externals. Only `go` changes a word.
 const TWO: &[u8] = b"externals ( go stem ) define go as insert 'b' define stem as next\n.\n";
 
 /// A subcommand and its external; the script, and what follows it; the expected status, text and line of a fault.
