@@ -10,19 +10,19 @@ from files import state_of
 PERIOD = 0.02
 
 
-def watch(paths, parent, told):
-    """Looks at files, whose states `told` are known, and sends SIGWINCH to the parent each time that one was saved. During `read -e` bash runs a trap
+def watch(paths, parent, states):
+    """Looks at files, whose states `states` are known, and sends SIGWINCH to the parent each time that one was saved. During `read -e` bash runs a trap
     at once, each time, only for a signal that readline handles itself, as WINCH."""
-    threading.Thread(target=look, args=(paths, parent, told), daemon=True).start()
+    threading.Thread(target=look, args=(paths, parent, states), daemon=True).start()
 
 
-def look(paths, parent, told):
-    before = told
+def look(paths, parent, states):
+    before = states
     while os.getppid() == parent:
         time.sleep(PERIOD)
         # (an editor may take a file away for a moment)
-        now = [state_of(path) or former for path, former in zip(paths, told)]
-        if now == before and now != told:
+        now = [state_of(path) or former for path, former in zip(paths, states)]
+        if now == before and now != states:
             os.kill(parent, signal.SIGWINCH)
-            told = now
+            states = now
         before = now
