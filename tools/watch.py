@@ -11,8 +11,8 @@ PERIOD = 0.02
 
 
 def watch(paths, parent, states):
-    """Looks at files, whose states `states` are known, and sends SIGWINCH to the parent each time that one was saved. During `read -e` bash runs a trap
-    at once, each time, only for a signal that readline handles itself, as WINCH."""
+    """Looks at files that had these states, and sends SIGWINCH to the parent each time that one was saved. During `read -e` bash runs a trap at
+    once, each time, only for a signal that readline handles itself, as WINCH."""
     threading.Thread(target=look, args=(paths, parent, states), daemon=True).start()
 
 
