@@ -1,8 +1,11 @@
 -- The state of the lexer that earlier tokens have set.
+use denote.Enum.Bare.{sameb}
+use Rattle.std.specs.Option.{option_map_or}
 use Rattle.std.specs.Str.{chars}
 use Rattle.std.specs.Prelude.{ℕ, nat_le, if◌then◌else◌, List, length, Option, Some, None, option_and_then}
 use Rattle.sbl_text.specs.declared.pieces.Wanted.{Wanted}
 use Rattle.sbl_text.specs.declared.pieces.Wanted.TheVariants as wanted
+use Rattle.sbl_text.specs.contracts.directives.Coding as codings
 use Rattle.sbl_text.specs.declared.directives.Coding.{Coding}
 use Rattle.sbl_text.specs.declared.directives.Coding.TheVariants as coding
 use Rattle.sbl_token.specs.declared.words.Word.{Word}
@@ -47,17 +50,11 @@ abbrev pub coded : Coding → List ℕ → Option (List ℕ)
 coded k v = option_and_then (λ w. if nat_le (length w) max_macro then Some w else None) (decoded k v)
 
 abbrev pub value_for : Option Defining → List ℕ → Option (List ℕ)
-value_for None v = Some v
-value_for (Some d) v = coded d.coding v
-
-abbrev pub recoded_by : List ℕ → Coding → Coding → Option Defining
-recoded_by n coding.Plain k = Some (record { name = n; coding = k })
-recoded_by n _ k = None
+value_for d v = option_map_or (λ m. coded m.coding v) d (Some v)
 
 -- after `hex` or `decimal`, which come before the literal
 abbrev pub recoded : Option Defining → Coding → Option Defining
-recoded None k = None
-recoded (Some d) k = recoded_by d.name d.coding k
+recoded d k = option_and_then (λ m. if sameb codings.the_type m.coding coding.Plain then Some (record { name = m.name; coding = k }) else None) d
 
 abbrev pub after_word : Directives → Word → Directives
 after_word s reserved.StringEscapes = record { escapes = s.escapes; wanted = wanted.Inserts; defining = None }

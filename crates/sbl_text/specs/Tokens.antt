@@ -1,5 +1,5 @@
 -- The tokens of a text, and its first fault.
-use Rattle.std.specs.Prelude.{◌≡◌, ◌⊎◌, ℕ, ◌<◌, ◌≤◌, ◌+◌, ◌-◌, ◌*◌, Bool, true, false, ◌&&◌, ◌==◌, if◌then◌else◌, List, [], ◌∷◌, ◌++◌, encode_utf8_all, filter_map, Option, Some, None, MatchOption, option_map, Result, Ok, Err}
+use Rattle.std.specs.Prelude.{◌≡◌, ◌⊎◌, ℕ, ◌<◌, ◌≤◌, ◌+◌, ◌-◌, ◌*◌, Bool, true, false, ◌&&◌, ◌==◌, if◌then◌else◌, List, [], ◌∷◌, ◌++◌, encode_utf8_all, filter_map, drop, Option, Some, None, MatchOption, option_map, Result, Ok, Err}
 use Rattle.std.specs.List.{cons_option}
 use Rattle.std.specs.Option.{option_map_or}
 use Rattle.sbl_token.specs.declared.signs.Sign.{Sign}
@@ -115,10 +115,9 @@ pair_fault [] place = fault.BadCharacter place
 pair_fault (c ∷ cs) place = if c == quote then fault.BadCharacter place else fault.BadCharacter (place + byte_length (c ∷ []))
 
 abbrev pub token_fault : List ℕ → ℕ → ScriptFault
-token_fault [] place = fault.BadCharacter place
-token_fault (c ∷ cs) place =
-    if c == quote then fault.UnclosedString place
-    else (if c == slash && begins_with star cs then fault.UnclosedComment place else fault.BadCharacter place)
+token_fault text place =
+    if begins_with quote text then fault.UnclosedString place
+    else (if begins_with slash text && begins_with star (drop 1 text) then fault.UnclosedComment place else fault.BadCharacter place)
 
 -- the fault if there is no piece
 abbrev pub fault_at : Wanted → List ℕ → ℕ → ScriptFault
