@@ -1,4 +1,5 @@
 -- definitions that public contracts depend on
+pub mod Folds
 pub mod Terminal
 pub mod Tree
 pub mod Source

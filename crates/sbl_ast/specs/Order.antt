@@ -11,16 +11,16 @@ pub record ItemInMode : Type 0 where
   pub mode : Mode
   pub plain : Plain
 
--- items of this mode
-abbrev pub in_mode : Mode → List Plain → List ItemInMode
-in_mode m xs = map (λ (x : Plain). record { mode = m; plain = x }) xs
-
 -- the items in text order; a `backwardmode` is replaced by its items
 abbrev pub in_order : List Item → List ItemInMode
 in_order [] = []
 in_order (plain x ∷ is) = (record { mode = Forward; plain = x }) ∷ in_order is
-in_order (backward xs ∷ is) = in_mode Backward xs ++ in_order is
+in_order (backward xs ∷ is) = map (λ (x : Plain). record { mode = Backward; plain = x }) xs ++ in_order is
 
 -- an item without memory addresses
 abbrev pub view_in_mode : declared.ItemInMode → ItemInMode
 view_in_mode x = record { mode = x.mode; plain = view_plain x.plain.now }
+
+-- items of this mode; only functions inside the crate use it
+abbrev pub in_mode : Mode → List Plain → List ItemInMode
+in_mode m xs = map (λ (x : Plain). record { mode = m; plain = x }) xs

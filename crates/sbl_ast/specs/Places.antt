@@ -1,6 +1,7 @@
 -- The tokens of a tree, each with its nesting depth, followed by the rest.
-use Rattle.std.specs.Prelude.{ℕ, true, false, ◌+◌, ◌≤◌, List, [], ◌∷◌, map, Option, Some, None}
-use Rattle.std.specs.List.{AllByRecursion}
+use Rattle.std.specs.Prelude.{ℕ, true, false, ◌+◌, ◌≤◌, List, [], ◌∷◌, map, Option, option_map}
+use Rattle.std.specs.List.{AllByRecursion, cons_option}
+use Rattle.sbl_ast.specs.Folds.{foldr}
 use Rattle.sbl_ast.specs.declared.tree.Base.{Base}
 use Rattle.sbl_ast.specs.declared.tree.Additive.TheVariants as additives
 use Rattle.sbl_ast.specs.Terminal.{Terminal}
@@ -44,12 +45,10 @@ abbrev mutual
   placed_factor (length_of a) d rest = (t.len_of, d) ∷ (argument_terminal a, d) ∷ rest
 
 abbrev pub placed_entry : Entry → ℕ → List AtDepth → List AtDepth
-placed_entry (entry q None) d rest = (t.literal q, d) ∷ rest
-placed_entry (entry q (Some n)) d rest = (t.literal q, d) ∷ (t.name n, d) ∷ rest
+placed_entry (entry q condition) d rest = (t.literal q, d) ∷ cons_option (option_map (λ n. (t.name n, d)) condition) rest
 
 abbrev pub placed_entries : List Entry → ℕ → List AtDepth → List AtDepth
-placed_entries [] d rest = rest
-placed_entries (e ∷ es) d rest = placed_entry e d (placed_entries es d rest)
+placed_entries es d rest = foldr (λ e r. placed_entry e d r) rest es
 
 -- a command inside a command is one level deeper, and so are the parentheses of a group or a starter; a row adds no
 -- level
@@ -89,40 +88,38 @@ abbrev mutual
   placed_groups (group e es rs gs) d rest =
       placed_entry e d (placed_entries es d ((t.open_, d + 1) ∷ placed_rows rs (d + 1 + 1) ((t.close_, d + 1) ∷ placed_groups gs d rest)))
 
-abbrev pub placed_names : List (List ℕ) → List AtDepth → List AtDepth
-placed_names [] rest = rest
-placed_names (n ∷ ns) rest = (t.name n, 0) ∷ placed_names ns rest
-
-abbrev pub placed_base : Option Base → List AtDepth → List AtDepth
-placed_base None rest = rest
-placed_base (Some b) rest = (t.base b, 0) ∷ rest
-
 abbrev pub placed_terms : List Term → List AtDepth → List AtDepth
 placed_terms [] rest = rest
 placed_terms (term o a ∷ ts) rest = (t.additive o, 0) ∷ (argument_terminal a, 0) ∷ placed_terms ts rest
 
 -- the body of a routine is at depth 1, everything else in an item at depth 0
 abbrev pub placed_plain : Plain → List AtDepth → List AtDepth
-placed_plain (declaration k ns) rest = (t.declares k, 0) ∷ (t.open_, 0) ∷ placed_names ns ((t.close_, 0) ∷ rest)
+placed_plain (declaration k ns) rest = (t.declares k, 0) ∷ (t.open_, 0) ∷ foldr (λ n r. (t.name n, 0) ∷ r) ((t.close_, 0) ∷ rest) ns
 placed_plain (escapes a b) rest = (t.string_escapes, 0) ∷ (t.inserts a b, 0) ∷ rest
-placed_plain (macro n b q) rest = (t.string_def, 0) ∷ (t.macro_name n, 0) ∷ placed_base b ((t.literal q, 0) ∷ rest)
+placed_plain (macro n b q) rest = (t.string_def, 0) ∷ (t.macro_name n, 0) ∷ cons_option (option_map (λ x. (t.base x, 0)) b) ((t.literal q, 0) ∷ rest)
 placed_plain (routine n c os) rest = (t.define, 0) ∷ (t.name n, 0) ∷ (t.as_, 0) ∷ placed c 1 (placed_others os 1 rest)
 placed_plain (grouping n a ts) rest = (t.define, 0) ∷ (t.name n, 0) ∷ (argument_terminal a, 0) ∷ placed_terms ts rest
 
-abbrev pub placed_plains : List Plain → List AtDepth → List AtDepth
-placed_plains [] rest = rest
-placed_plains (p ∷ ps) rest = placed_plain p (placed_plains ps rest)
-
 abbrev pub placed_item : Item → List AtDepth → List AtDepth
 placed_item (plain p) rest = placed_plain p rest
-placed_item (backward ps) rest = (t.backward_mode, 0) ∷ (t.open_, 0) ∷ placed_plains ps ((t.close_, 0) ∷ rest)
-
-abbrev pub placed_items : List Item → List AtDepth → List AtDepth
-placed_items [] rest = rest
-placed_items (i ∷ is) rest = placed_item i (placed_items is rest)
+placed_item (backward ps) rest = (t.backward_mode, 0) ∷ (t.open_, 0) ∷ foldr placed_plain ((t.close_, 0) ∷ rest) ps
 
 abbrev pub places : List Item → List AtDepth
-places items = placed_items items []
+places items = foldr placed_item [] items
 
 abbrev pub tokens : List AtDepth → List Terminal
 tokens ps = map (λ p. p.0) ps
+
+-- ---- names for parts of these definitions, which only proofs use
+
+abbrev pub placed_names : List (List ℕ) → List AtDepth → List AtDepth
+placed_names ns rest = foldr (λ n r. (t.name n, 0) ∷ r) rest ns
+
+abbrev pub placed_base : Option Base → List AtDepth → List AtDepth
+placed_base b rest = cons_option (option_map (λ x. (t.base x, 0)) b) rest
+
+abbrev pub placed_plains : List Plain → List AtDepth → List AtDepth
+placed_plains ps rest = foldr placed_plain rest ps
+
+abbrev pub placed_items : List Item → List AtDepth → List AtDepth
+placed_items is rest = foldr placed_item rest is

@@ -1,5 +1,7 @@
 -- A tree without memory addresses.
-use Rattle.std.specs.Prelude.{ℕ, List, [], ◌∷◌, map, Option, Some, None, String, string_bytes}
+use Rattle.std.specs.Prelude.{ℕ, List, map, Option, option_map, String, string_bytes}
+use Rattle.std.specs.Option.{option_map_or}
+use Rattle.sbl_ast.specs.Folds.{foldr}
 use Rattle.std.specs.Global.{Global, Vec}
 use Rattle.sbl_ast.specs.declared.tree.Literal.{Literal}
 use Rattle.sbl_ast.specs.declared.tree.Argument.{Argument}
@@ -45,20 +47,12 @@ AddedView = Additive × trees.Product
 abbrev pub ScaledView : Type 0
 ScaledView = Multiplicative × trees.Factor
 
-abbrev pub sums_of : List AddedView → trees.Sums
-sums_of [] = trees.no_sums
-sums_of (s ∷ ss) = trees.sum s.0 s.1 (sums_of ss)
-
-abbrev pub scales_of : List ScaledView → trees.Scales
-scales_of [] = trees.no_scales
-scales_of (s ∷ ss) = trees.scale s.0 s.1 (scales_of ss)
-
 -- one level, with the view of each child
 abbrev pub added_step : Added-F trees.Factor AddedView trees.Expression trees.Product ScaledView → AddedView
 added_step a = (a.operator, a.product)
 
 abbrev pub expression_step : Expression-F trees.Factor AddedView trees.Expression trees.Product ScaledView → trees.Expression
-expression_step e = trees.expression e.first (sums_of e.others.items)
+expression_step e = trees.expression e.first (foldr (λ s. trees.sum s.0 s.1) trees.no_sums e.others.items)
 
 abbrev pub factor_step : Factor-F trees.Factor AddedView trees.Expression trees.Product ScaledView → trees.Factor
 factor_step (Factor-F.Minus f) = trees.negated f.value
@@ -69,7 +63,7 @@ factor_step (Factor-F.Constant c) = trees.fixed c
 factor_step (Factor-F.LenOf a) = trees.length_of (view_argument a)
 
 abbrev pub product_step : Product-F trees.Factor AddedView trees.Expression trees.Product ScaledView → trees.Product
-product_step p = trees.product p.first (scales_of p.others.items)
+product_step p = trees.product p.first (foldr (λ s. trees.scale s.0 s.1) trees.no_scales p.others.items)
 
 abbrev pub scaled_step : Scaled-F trees.Factor AddedView trees.Expression trees.Product ScaledView → ScaledView
 scaled_step s = (s.operator, s.factor)
@@ -90,19 +84,15 @@ abbrev pub view_scaled : Scaled → ScaledView
 view_scaled = fold-Scaled trees.Factor AddedView trees.Expression trees.Product ScaledView factor_step added_step expression_step product_step scaled_step
 
 abbrev pub view_sums : List Added → trees.Sums
-view_sums ss = sums_of (map view_added ss)
+view_sums ss = foldr (λ s. trees.sum s.0 s.1) trees.no_sums (map view_added ss)
 
 abbrev pub view_scales : List Scaled → trees.Scales
-view_scales ss = scales_of (map view_scaled ss)
+view_scales ss = foldr (λ s. trees.scale s.0 s.1) trees.no_scales (map view_scaled ss)
 
 -- ---- commands
 
-abbrev pub view_name : Option (String Global) → Option (List ℕ)
-view_name None = None
-view_name (Some n) = Some (string_bytes n)
-
 abbrev pub view_entry : Entry → trees.Entry
-view_entry e = trees.entry (view_literal e.string) (view_name e.condition)
+view_entry e = trees.entry (view_literal e.string) (option_map string_bytes e.condition)
 
 -- an among, a row, a joined command and a group, before they become part of a tree
 abbrev pub AmongView : Type 0
@@ -120,23 +110,12 @@ pub record GroupView : Type 0 where
   pub rows : trees.Rows
 
 abbrev pub rows_of : List RowView → trees.Rows
-rows_of [] = trees.no_rows
-rows_of (r ∷ rs) = trees.row r.0 r.1 (rows_of rs)
-
-abbrev pub others_of : List JoinedView → trees.Others
-others_of [] = trees.no_others
-others_of (o ∷ os) = trees.joined o.0 o.1 (others_of os)
-
-abbrev pub groups_of : List GroupView → List trees.Entry → trees.Groups
-groups_of [] es = trees.bare es
-groups_of (g ∷ gs) es = trees.group g.first g.others g.rows (groups_of gs es)
-
-abbrev pub starter_of : Option (Vec RowView) → trees.Starter
-starter_of None = trees.no_starter
-starter_of (Some rs) = trees.starter (rows_of rs.items)
+rows_of rs = foldr (λ r. trees.row r.0 r.1) trees.no_rows rs
 
 abbrev pub among_step : Among-F trees.Command AmongView GroupView JoinedView RowView → AmongView
-among_step a = (starter_of a.starter, groups_of a.groups.items (map view_entry a.bare.items))
+among_step a =
+    let groups = foldr (λ g. trees.group g.first g.others g.rows) (trees.bare (map view_entry a.bare.items)) a.groups.items in
+    (option_map_or (λ rs. trees.starter (rows_of rs.items)) a.starter trees.no_starter, groups)
 
 abbrev pub command_step : Command-F trees.Command AmongView GroupView JoinedView RowView → trees.Command
 command_step (Command-F.Bracket rs) = trees.bracket (rows_of rs.items)
@@ -162,7 +141,7 @@ abbrev pub joined_step : Joined-F trees.Command AmongView GroupView JoinedView R
 joined_step o = (o.joiner, o.command)
 
 abbrev pub row_step : RowOfCommands-F trees.Command AmongView GroupView JoinedView RowView → RowView
-row_step r = (r.first, others_of r.others.items)
+row_step r = (r.first, foldr (λ o. trees.joined o.0 o.1) trees.no_others r.others.items)
 
 abbrev pub view_among : Among → AmongView
 view_among = fold-Among trees.Command AmongView GroupView JoinedView RowView command_step among_step group_step joined_step row_step
@@ -184,14 +163,13 @@ abbrev pub view_rows : List Row → trees.Rows
 view_rows rs = rows_of (map view_row rs)
 
 abbrev pub view_others : List Joined → trees.Others
-view_others os = others_of (map view_joined os)
+view_others os = foldr (λ o. trees.joined o.0 o.1) trees.no_others (map view_joined os)
 
 abbrev pub view_groups : List Group → List trees.Entry → trees.Groups
-view_groups gs es = groups_of (map view_group gs) es
+view_groups gs es = foldr (λ g. trees.group g.first g.others g.rows) (trees.bare es) (map view_group gs)
 
 abbrev pub view_starter : Option (Vec Row) → trees.Starter
-view_starter None = trees.no_starter
-view_starter (Some rs) = trees.starter (view_rows rs.items)
+view_starter s = option_map_or (λ rs. trees.starter (view_rows rs.items)) s trees.no_starter
 
 -- ---- items
 
@@ -211,3 +189,23 @@ view_item (items.BackwardMode ps) = trees.backward (map view_plain ps.items)
 
 abbrev pub view_items : List Item → List trees.Item
 view_items is = map view_item is
+
+-- ---- names for parts of these definitions, which only proofs use
+
+abbrev pub sums_of : List AddedView → trees.Sums
+sums_of ss = foldr (λ s. trees.sum s.0 s.1) trees.no_sums ss
+
+abbrev pub scales_of : List ScaledView → trees.Scales
+scales_of ss = foldr (λ s. trees.scale s.0 s.1) trees.no_scales ss
+
+abbrev pub view_name : Option (String Global) → Option (List ℕ)
+view_name n = option_map string_bytes n
+
+abbrev pub others_of : List JoinedView → trees.Others
+others_of os = foldr (λ o. trees.joined o.0 o.1) trees.no_others os
+
+abbrev pub groups_of : List GroupView → List trees.Entry → trees.Groups
+groups_of gs es = foldr (λ g. trees.group g.first g.others g.rows) (trees.bare es) gs
+
+abbrev pub starter_of : Option (Vec RowView) → trees.Starter
+starter_of s = option_map_or (λ rs. trees.starter (rows_of rs.items)) s trees.no_starter

@@ -11,7 +11,7 @@ use Rattle.sbl_ast.specs.Terminal as t
 use Rattle.sbl_ast.specs.Tree.{Expression, expression, Sums, no_sums, sum, Product, product, Scales, no_scales, scale, Factor, negated, bracketed, numeral, variable, fixed, length_of, Entry, entry, Command, bracket, simple_, literal_, name_, non_, prefixed, counted, move_, named, splice_, setlimit_, assign_, compare_, compare_values_, among_, Rows, no_rows, row, Others, no_others, joined, Starter, no_starter, starter, Groups, bare, group, Term, term, Plain, declaration, escapes, macro, routine, grouping, Item, plain, backward, argument_terminal, spelled_expression, spelled_sums, spelled_product, spelled_scales, spelled_factor, spelled_entry, spelled_entries, spelled, spelled_rows, spelled_others, spelled_starter, spelled_groups, spelled_names, spelled_base, spelled_terms, spelled_plain, spelled_plains, spelled_item, spelled_items, written}
 use Rattle.sbl_ast.specs.Places.{AtDepth, placed_expression, placed_sums, placed_product, placed_scales, placed_factor, placed_entry, placed_entries, placed, placed_rows, placed_others, placed_starter, placed_groups, placed_names, placed_base, placed_terms, placed_plain, placed_plains, placed_item, placed_items, places, tokens, max_depth}
 use Rattle.sbl_parser.specs.Steps.{Stack, Step, goes, stuck, unassigned, is_done, step, Fault, syntax, too_deep, no_operator, fault, after_step}
-use Rattle.sbl_parser.specs.Reading.{IsFront, IsTooDeep, HasNoneTooDeep, IsReadAs, CannotFollow, LacksOperator, StopsAt, IsSyntaxAt, IsTooDeepAt, IsOutOfProfileAt}
+use Rattle.sbl_parser.specs.Reading.{IsFront, IsTooDeep, HasNoneTooDeep, IsReadAs, CannotFollow, StopsAt, IsSyntaxAt, IsTooDeepAt, IsOutOfProfileAt}
 use Rattle.sbl_ast.specs.Texts.{Text, TreeOf, places_in, tokens_of}
 use Rattle.sbl_parser.specs.Fronts.{first_stack}
 use Rattle.sbl_ast.specs.Texts as texts
@@ -305,9 +305,10 @@ is_read w all tree e h =
     let same : places_in w tree ≡ p.0 = m.5 ∙ ap (λ (r : List AtDepth). p.0 ++ r) (no_tokens m.1 m.4) ∙ append-nil p.0 in
     (sym e, subst (λ (r : List AtDepth). Shallow r) (sym same) p.2)
 
-lacks_none : (w : Text) (ps : List AtDepth) (place : List Terminal) → Runs ps (first_stack w) (λ end. Stuck end place) → LacksOperator (tokens ps) place → ⊥
-lacks_none w ps [] h o = o
-lacks_none w ps (x ∷ more) h o = wants o.0 o.1 ps (first_stack w) x o.2 h
+lacks_none : (w : Text) (ps : List AtDepth) (place : List Terminal) → Runs ps (first_stack w) (λ end. Stuck end place)
+    → (f : List Terminal) (n : List ℕ) → tokens ps ≡ f ++ t.dollar ∷ t.name n ∷ [] → place ≡ []
+lacks_none w ps [] h f n e = refl
+lacks_none w ps (x ∷ more) h f n e = absurd (wants f n ps (first_stack w) x e h)
 
 pub is_syntax : (w : Text) (all place : List Terminal) → fault all (first_stack w) ≡ Some (syntax place) → IsSyntaxAt w all place
 is_syntax w all place e =

@@ -5,7 +5,7 @@ use Rattle.sbl_ast.specs.Terminal.{Terminal}
 use Rattle.sbl_ast.specs.Terminal as t
 use Rattle.sbl_ast.specs.Texts.{Text, TreeOf, places_in, tokens_of}
 use Rattle.sbl_ast.specs.Places.{AtDepth, tokens}
-use Rattle.sbl_parser.specs.Reading.{IsFront, IsTooDeep, HasNoneTooDeep, IsReadAs, CannotFollow, LacksOperator, StopsAt, IsSyntaxAt, IsTooDeepAt, IsOutOfProfileAt}
+use Rattle.sbl_parser.specs.Reading.{IsFront, IsTooDeep, HasNoneTooDeep, IsReadAs, CannotFollow, StopsAt, IsSyntaxAt, IsTooDeepAt, IsOutOfProfileAt}
 use Rattle.sbl_parser.specs.Laws.{Wrong, syntax, too_deep, out_of_profile, IsWrongAt}
 use Rattle.sbl_parser.proofs.Runs.{IsDone, text_runs}
 use Rattle.sbl_parser.proofs.Faults.{none_too_deep}
@@ -120,14 +120,11 @@ two_syntax k all r s h g = (both_stop k h.before r g.before s (sym h.parts ∙ g
 syntax_deep : (k : Text) (all r s : Ts) → IsSyntaxAt k all r → IsTooDeepAt k all s → ⊥
 syntax_deep k all r s h g = stops_at_deep k h.before r g.before g.first g.more (sym h.parts ∙ deep_parts k all s g) h.stops g.deep
 
-wants_one : (p r f : Ts) (n : List ℕ) (x : Terminal) (more : Ts) → r ≡ x ∷ more → p ≡ f ++ subject n → LacksOperator p r
-wants_one p [] f n x more e same = absurd cc
-wants_one p (y ∷ r) f n x more e same = (f, n, same)
-
 syntax_profile : (k : Text) (all r s : Ts) → IsSyntaxAt k all r → IsOutOfProfileAt k all s → ⊥
 syntax_profile k all r s h g =
     let same = both_stop k h.before r (g.before ++ subject g.subject) (g.bad ∷ g.more) (sym h.parts ∙ profile_parts k all s g) h.stops g.stops in
-    h.other (wants_one h.before r g.before g.subject g.bad g.more same.1 same.0)
+    let none : r ≡ [] = h.other g.before g.subject same.0 in
+    let some : r ≡ g.bad ∷ g.more = same.1 in absurd (cc (sym none ∙ some))
 
 two_deep : (k : Text) (all r s : Ts) → IsTooDeepAt k all r → IsTooDeepAt k all s → r ≡ s
 two_deep k all r s h g = h.is ∙ both_deep k h.before h.first h.more g.before g.first g.more (sym (deep_parts k all r h) ∙ deep_parts k all s g) h.shallow h.deep g.shallow g.deep ∙ sym g.is

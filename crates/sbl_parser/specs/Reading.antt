@@ -26,26 +26,18 @@ abbrev pub CannotFollow : Text → List Terminal → List Terminal → Type 0
 CannotFollow t before [] = (tree : TreeOf t) → tokens_of t tree ≡ before → ⊥
 CannotFollow t before (x ∷ more) = IsFront t (before ++ x ∷ []) → ⊥
 
--- these tokens end with `$` and a name
-abbrev pub WantsOperator : List Terminal → Type 0
-WantsOperator before = (front : List Terminal) × (n : List ℕ) × (before ≡ front ++ dollar ∷ name n ∷ [])
-
--- there is a token where an operator is expected
-abbrev pub LacksOperator : List Terminal → List Terminal → Type 0
-LacksOperator before [] = ⊥
-LacksOperator before (x ∷ more) = WantsOperator before
-
 -- the tokens before are a prefix of a tree and not too deep, and the rest cannot follow
 pub record StopsAt (t : Text) (before rest : List Terminal) : Type 0 where
   pub front : IsFront t before
   pub shallow : HasNoneTooDeep t before
   pub stops : CannotFollow t before rest
 
+-- after `$` and a name the tokens end: if there were more, an operator would be missing
 pub record IsSyntaxAt (t : Text) (all rest : List Terminal) : Type 0 where
   pub before : List Terminal
   pub parts : all ≡ before ++ rest
   pub stops : StopsAt t before rest
-  pub other : LacksOperator before rest → ⊥
+  pub other : (front : List Terminal) (n : List ℕ) → before ≡ front ++ dollar ∷ name n ∷ [] → rest ≡ []
 
 pub record IsTooDeepAt (t : Text) (all rest : List Terminal) : Type 0 where
   pub before : List Terminal

@@ -138,14 +138,12 @@ pub fn among(alloc: Global, tokens: &[Token<'_>], at: usize, depth: u8) -> Parse
     let (starter, rest) = starter(alloc, tokens, inside, depth)?;
     let ((groups, bare), rest) = groups(alloc, tokens, rest, depth)?;
     let rest = close(tokens, rest, depth)?;
-    Ok((
-        Among {
-            starter,
-            groups,
-            bare,
-        },
-        rest,
-    ))
+    let among = Among {
+        starter,
+        groups,
+        bare,
+    };
+    Ok((among, rest))
 }
 
 /// Parses the starter of an `among` (the commands in parentheses before the first string), if there is one. Its

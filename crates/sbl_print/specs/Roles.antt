@@ -3,10 +3,8 @@ use Rattle.std.specs.Prelude.{ℕ, Bool, true, false, List, [], ◌∷◌, ◌++
 use Rattle.std.specs.Fmt.{decimal}
 use Rattle.std.specs.List.{filter, flat_map}
 use denote.Enum.Bare.{sameb}
-use Rattle.sbl_token.specs.declared.signs.Sign.{Sign}
-use Rattle.sbl_token.specs.declared.signs.Sign.TheVariants as sign
-use Rattle.sbl_token.specs.Signs.{sign_text}
-use Rattle.sbl_token.specs.Words.{word_text, words}
+use Rattle.sbl_token.specs.Signs.{signs}
+use Rattle.sbl_token.specs.Words.{words}
 use Rattle.sbl_text.specs.Classes.{quote}
 use Rattle.sbl_ast.specs.contracts.tree.DeclarationKind as declarations
 use Rattle.sbl_ast.specs.contracts.tree.Base as bases
@@ -24,14 +22,6 @@ use Rattle.sbl_ast.specs.contracts.tree.Comparison as comparisons
 use Rattle.sbl_ast.specs.contracts.tree.Constant as constants
 use Rattle.sbl_ast.specs.Terminal.{Terminal, word_terminal, sign_terminal}
 use Rattle.sbl_ast.specs.Terminal as t
-
--- all signs
-abbrev pub signs : List Sign
-signs =
-    sign.Open ∷ sign.Close ∷ sign.LeftBracket ∷ sign.RightBracket ∷ sign.Dollar ∷ sign.Plus ∷ sign.Minus ∷ sign.Star ∷
-    sign.Slash ∷ sign.Equals ∷ sign.Question ∷ sign.Less ∷ sign.Greater ∷ sign.Same ∷ sign.Differs ∷ sign.AtMost ∷
-    sign.AtLeast ∷ sign.LessMinus ∷ sign.LessPlus ∷ sign.Arrow ∷ sign.PlusEquals ∷ sign.MinusEquals ∷ sign.StarEquals ∷ sign.SlashEquals ∷
-    sign.EqualsGreater ∷ []
 
 -- whether two roles of words and signs are the same
 abbrev pub same_role : Terminal → Terminal → Bool
@@ -79,4 +69,5 @@ role_text (t.literal q) = quote ∷ (q.spelling ++ quote ∷ [])
 role_text (t.inserts a b) = encode_utf8_all (a ∷ b ∷ [])
 role_text (t.macro_name n) = n
 role_text x =
-    flat_map word_text (filter (λ w. same_role (word_terminal w) x) words) ++ flat_map sign_text (filter (λ g. same_role (sign_terminal g) x) signs)
+    flat_map (λ p. p.1) (filter (λ p. same_role (word_terminal p.0) x) words)
+    ++ flat_map (λ p. p.1) (filter (λ p. same_role (sign_terminal p.0) x) signs)

@@ -10,175 +10,124 @@ use sbl_ast::{
 };
 use sbl_token::{Sign, Word};
 
+/// The text of a variant: of the word or sign with its name, or of the one that follows it after a `;`.
+macro_rules! text {
+    ($value:ident: $kind:ident $(, $token:ident { $($name:ident)+ })* $(; $($variant:ident => $other:expr),+)?) => {
+        match $value {
+            $($($kind::$name => $token::$name.text(),)+)*
+            $($($kind::$variant => $other.text(),)+)?
+        }
+    };
+}
+
 /// Returns the text of the word of a declaration.
 pub fn declaration_text(kind: DeclarationKind) -> &'static str
     ensures { result.now ≡ token_text (t.declares kind) }
 {
-    match kind {
-        DeclarationKind::Strings => Word::Strings.text(),
-        DeclarationKind::Integers => Word::Integers.text(),
-        DeclarationKind::Booleans => Word::Booleans.text(),
-        DeclarationKind::Routines => Word::Routines.text(),
-        DeclarationKind::Externals => Word::Externals.text(),
-        DeclarationKind::Groupings => Word::Groupings.text(),
-    }
+    text!(
+        kind: DeclarationKind,
+        Word { Strings Integers Booleans Routines Externals Groupings }
+    )
 }
 
 /// Returns the text `hex` or `decimal`.
 pub fn base_text(base: Base) -> &'static str
     ensures { result.now ≡ token_text (t.base base) }
 {
-    match base {
-        Base::Hex => Word::Hex.text(),
-        Base::Decimal => Word::Decimal.text(),
-    }
+    text!(base: Base, Word { Hex Decimal })
 }
 
 /// Returns the text `or` or `and`.
 pub fn joiner_text(joiner: Joiner) -> &'static str
     ensures { result.now ≡ token_text (t.joiner joiner) }
 {
-    match joiner {
-        Joiner::Or => Word::Or.text(),
-        Joiner::And => Word::And.text(),
-    }
+    text!(joiner: Joiner, Word { Or And })
 }
 
 /// Returns the text of a command of one token.
 pub fn simple_text(simple: Simple) -> &'static str
     ensures { result.now ≡ token_text (t.simple simple) }
 {
-    match simple {
-        Simple::LeftBracket => Sign::LeftBracket.text(),
-        Simple::RightBracket => Sign::RightBracket.text(),
-        Simple::Substring => Word::Substring.text(),
-        Simple::Next => Word::Next.text(),
-        Simple::ToLimit => Word::ToLimit.text(),
-        Simple::AtLimit => Word::AtLimit.text(),
-        Simple::Delete => Word::Delete.text(),
-        Simple::True => Word::True.text(),
-        Simple::False => Word::False.text(),
-    }
+    text!(
+        simple: Simple,
+        Sign { LeftBracket RightBracket },
+        Word { Substring Next ToLimit AtLimit Delete True False }
+    )
 }
 
 /// Returns the text of a word before a command.
 pub fn prefix_text(prefix: Prefix) -> &'static str
     ensures { result.now ≡ token_text (t.prefix prefix) }
 {
-    match prefix {
-        Prefix::Not => Word::Not.text(),
-        Prefix::Test => Word::Test.text(),
-        Prefix::Try => Word::Try.text(),
-        Prefix::Do => Word::Do.text(),
-        Prefix::Fail => Word::Fail.text(),
-        Prefix::Repeat => Word::Repeat.text(),
-        Prefix::GoTo => Word::GoTo.text(),
-        Prefix::GoPast => Word::GoPast.text(),
-        Prefix::Backwards => Word::Backwards.text(),
-    }
+    text!(prefix: Prefix, Word { Not Test Try Do Fail Repeat GoTo GoPast Backwards })
 }
 
 /// Returns the text `loop` or `atleast`.
 pub fn count_text(count: Count) -> &'static str
     ensures { result.now ≡ token_text (t.count count) }
 {
-    match count {
-        Count::Loop => Word::Loop.text(),
-        Count::AtLeast => Word::AtLeast.text(),
-    }
+    text!(count: Count, Word { Loop AtLeast })
 }
 
 /// Returns the text `hop`, `atmark` or `tomark`.
 pub fn move_text(word: Move) -> &'static str
     ensures { result.now ≡ token_text (t.move word) }
 {
-    match word {
-        Move::Hop => Word::Hop.text(),
-        Move::AtMark => Word::AtMark.text(),
-        Move::ToMark => Word::ToMark.text(),
-    }
+    text!(word: Move, Word { Hop AtMark ToMark })
 }
 
 /// Returns the text of a word or sign before the name of a variable.
 pub fn naming_text(word: Naming) -> &'static str
     ensures { result.now ≡ token_text (t.naming word) }
 {
-    match word {
-        Naming::SetMark => Word::SetMark.text(),
-        Naming::Set => Word::Set.text(),
-        Naming::Unset => Word::Unset.text(),
-        Naming::Arrow => Sign::Arrow.text(),
-    }
+    text!(word: Naming, Word { SetMark Set Unset }, Sign { Arrow })
 }
 
 /// Returns the text of a word or sign before a string.
 pub fn splice_text(word: Splice) -> &'static str
     ensures { result.now ≡ token_text (t.edit word) }
 {
-    match word {
-        Splice::Replace => Sign::LessMinus.text(),
-        Splice::InsertSign => Sign::LessPlus.text(),
-        Splice::Insert => Word::Insert.text(),
-        Splice::Attach => Word::Attach.text(),
-    }
+    text!(
+        word: Splice, Word { Insert Attach };
+        Replace => Sign::LessMinus, InsertSign => Sign::LessPlus
+    )
 }
 
 /// Returns the text of a sign between two terms.
 pub fn additive_text(sign: Additive) -> &'static str
     ensures { result.now ≡ token_text (t.additive sign) }
 {
-    match sign {
-        Additive::Plus => Sign::Plus.text(),
-        Additive::Minus => Sign::Minus.text(),
-    }
+    text!(sign: Additive, Sign { Plus Minus })
 }
 
 /// Returns the text of a sign between two factors.
 pub fn multiplicative_text(sign: Multiplicative) -> &'static str
     ensures { result.now ≡ token_text (t.multiplicative sign) }
 {
-    match sign {
-        Multiplicative::Times => Sign::Star.text(),
-        Multiplicative::Over => Sign::Slash.text(),
-    }
+    text!(sign: Multiplicative; Times => Sign::Star, Over => Sign::Slash)
 }
 
 /// Returns the text of a sign that assigns a value to an integer.
 pub fn assignment_text(sign: Assignment) -> &'static str
     ensures { result.now ≡ token_text (t.assigns sign) }
 {
-    match sign {
-        Assignment::Equals => Sign::Equals.text(),
-        Assignment::Plus => Sign::PlusEquals.text(),
-        Assignment::Minus => Sign::MinusEquals.text(),
-        Assignment::Times => Sign::StarEquals.text(),
-        Assignment::Over => Sign::SlashEquals.text(),
-    }
+    text!(
+        sign: Assignment, Sign { Equals };
+        Plus => Sign::PlusEquals, Minus => Sign::MinusEquals,
+        Times => Sign::StarEquals, Over => Sign::SlashEquals
+    )
 }
 
 /// Returns the text of a sign that compares two numbers.
 pub fn comparison_text(sign: Comparison) -> &'static str
     ensures { result.now ≡ token_text (t.compares sign) }
 {
-    match sign {
-        Comparison::Same => Sign::Same.text(),
-        Comparison::Differs => Sign::Differs.text(),
-        Comparison::Less => Sign::Less.text(),
-        Comparison::AtMost => Sign::AtMost.text(),
-        Comparison::Greater => Sign::Greater.text(),
-        Comparison::AtLeast => Sign::AtLeast.text(),
-    }
+    text!(sign: Comparison, Sign { Same Differs Less AtMost Greater AtLeast })
 }
 
 /// Returns the text of a word for a number.
 pub fn constant_text(constant: Constant) -> &'static str
     ensures { result.now ≡ token_text (t.constant constant) }
 {
-    match constant {
-        Constant::MaxInt => Word::MaxInt.text(),
-        Constant::MinInt => Word::MinInt.text(),
-        Constant::Cursor => Word::Cursor.text(),
-        Constant::Limit => Word::Limit.text(),
-        Constant::Len => Word::Len.text(),
-    }
+    text!(constant: Constant, Word { MaxInt MinInt Cursor Limit Len })
 }

@@ -2,6 +2,7 @@
 use Rattle.std.proofs.Common.{◌≡◌, ℕ, suc, ◌+◌, ◌*◌, ◌≤◌, Bool, true, false, List, [], ◌∷◌, ◌++◌, length, Option, Some, None, Result, Ok, Err, refl, sym, ap, subst, ◌∙◌, arith, ◌⊎◌, inl, inr, length-append}
 use Rattle.std.specs.Prelude.{if◌then◌else◌, nat_le, encode_utf8_all}
 use Rattle.std.specs.List.{list_all}
+use Rattle.std.specs.Option.{option_or}
 use Rattle.std.specs.Str.{bytes_eq}
 use Rattle.std.proofs.lemmas.Bool.Decides.{nat_tests}
 use Rattle.sbl_token.specs.declared.words.Word.{Word}
@@ -12,7 +13,7 @@ use Rattle.sbl_text.specs.declared.pieces.Shape.{Shape}
 use Rattle.sbl_text.specs.declared.pieces.Shape.TheVariants as shape
 use Rattle.sbl_text.specs.declared.directives.Coding.{Coding}
 use Rattle.sbl_text.specs.Classes.{is_white, quote}
-use Rattle.sbl_text.specs.Escapes.{InForce, Definition, find, first_some}
+use Rattle.sbl_text.specs.Escapes.{InForce, Definition, find}
 use Rattle.sbl_text.specs.Literals.{Refusal, character_named, alone, value_or_character, inserted, IsPart, Part, AreParts, values}
 use Rattle.sbl_text.specs.Directives.{Directives, Defining, max_macro, if_short, decoded, coded, defined_as, defined_by, after_word, after}
 use Rattle.sbl_text.specs.Tokens.{word_or_name, Told, MaySay, Piece, after_piece, AreCut, and_more, said, AreTokensFrom}
@@ -30,7 +31,7 @@ find_short : (ds : List Definition) (q v : List ℕ) → AreShort ds → find ds
 find_short [] q v h e = absurd (none_is_not v e)
 find_short (d ∷ ds) q v h e = by (find ds q) (bytes_eq d.name q) (find_short ds q v h.1) e
   where
-    by : (o : Option (List ℕ)) (b : Bool) → (o ≡ Some v → length v ≤ 64) → first_some o (if b then Some d.value else None) ≡ Some v → length v ≤ 64
+    by : (o : Option (List ℕ)) (b : Bool) → (o ≡ Some v → length v ≤ 64) → option_or o (if b then Some d.value else None) ≡ Some v → length v ≤ 64
     by (Some w) b f k = f k
     by None true f k = subst (λ (x : List ℕ). length x ≤ 64) (some_same d.value v k) h.0
     by None false f k = absurd (none_is_not v k)

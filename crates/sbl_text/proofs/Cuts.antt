@@ -8,7 +8,8 @@ use Rattle.sbl_text.specs.declared.escapes.Inserts.{Inserts}
 use Rattle.sbl_text.specs.Skip.{past}
 use Rattle.sbl_token.specs.SignCuts.{sign_of, sign_front, or_one, one, two}
 use Rattle.sbl_text.specs.Escapes.{opens, closes}
-use Rattle.sbl_text.specs.Pieces.{is_inner, starts_slash, has_end}
+use Rattle.sbl_text.specs.Classes.{slash, begins_with}
+use Rattle.sbl_text.specs.Pieces.{is_inner, has_end}
 use Rattle.sbl_text.specs.Scan.{past_literal, past_block}
 
 pub and_left : (a b : Bool) → a && b ≡ true → a ≡ true
@@ -120,11 +121,11 @@ literal_ends e false (c ∷ cs) more h = ends_at e c cs more (c == 39) (c == 10)
 abbrev Block : List ℕ → List ℕ → Type 0
 Block text rest = (x : List ℕ) × (text ≡ x ++ 42 ∷ 47 ∷ rest) × (has_end x ≡ false)
 
-slash_first : (cs : List ℕ) → starts_slash cs ≡ true → cs ≡ 47 ∷ drop 1 cs
+slash_first : (cs : List ℕ) → begins_with slash cs ≡ true → cs ≡ 47 ∷ drop 1 cs
 slash_first [] h = absurd (cc)
 slash_first (c ∷ cs) h = let s = same_number c 47 h in cc
 
-slash_same : (x t : List ℕ) → starts_slash (x ++ 42 ∷ t) ≡ starts_slash x
+slash_same : (x t : List ℕ) → begins_with slash (x ++ 42 ∷ t) ≡ begins_with slash x
 slash_same [] t = refl
 slash_same (c ∷ x) t = refl
 
@@ -132,18 +133,18 @@ pub and_false : (b : Bool) → b && false ≡ false
 and_false true = refl
 and_false false = refl
 
-block_at : (c : ℕ) (cs rest : List ℕ) (b : Bool) → (c == 42 && starts_slash cs) ≡ b → (past_block cs ≡ Some rest → Block cs rest)
+block_at : (c : ℕ) (cs rest : List ℕ) (b : Bool) → (c == 42 && begins_with slash cs) ≡ b → (past_block cs ≡ Some rest → Block cs rest)
     → (if b then Some (drop 1 cs) else past_block cs) ≡ Some rest → Block (c ∷ cs) rest
 block_at c cs rest true i more h =
-    let s = same_number c 42 (and_left (c == 42) (starts_slash cs) i) in let t = slash_first cs (and_right (c == 42) (starts_slash cs) i) in ([], cc, refl)
+    let s = same_number c 42 (and_left (c == 42) (begins_with slash cs) i) in let t = slash_first cs (and_right (c == 42) (begins_with slash cs) i) in ([], cc, refl)
 block_at c cs rest false i more h =
     let r = more h in
-    let k : starts_slash cs ≡ starts_slash r.0 = ap starts_slash r.1 ∙ slash_same r.0 (47 ∷ rest) in
+    let k : begins_with slash cs ≡ begins_with slash r.0 = ap (begins_with slash) r.1 ∙ slash_same r.0 (47 ∷ rest) in
     (c ∷ r.0, ap (λ (t : List ℕ). c ∷ t) r.1, rw (sym (ap (λ (b : Bool). c == 42 && b) k) ∙ i) r.2)
 
 pub block_parts : (text rest : List ℕ) → past_block text ≡ Some rest → Block text rest
 block_parts [] rest h = absurd (cc)
-block_parts (c ∷ cs) rest h = block_at c cs rest (c == 42 && starts_slash cs) refl (block_parts cs rest) h
+block_parts (c ∷ cs) rest h = block_at c cs rest (c == 42 && begins_with slash cs) refl (block_parts cs rest) h
 
 pub or_left : (a b : Bool) → a || b ≡ false → a ≡ false
 or_left true b h = absurd (cc)
@@ -161,6 +162,6 @@ ends_block x more false h k = k
 pub block_ends : (x more : List ℕ) → has_end x ≡ false → past_block (x ++ 42 ∷ 47 ∷ more) ≡ Some more
 block_ends [] more h = refl
 block_ends (c ∷ x) more h =
-    ends_block x more (c == 42 && starts_slash (x ++ 42 ∷ 47 ∷ more))
-    (ap (λ (b : Bool). c == 42 && b) (slash_same x (47 ∷ more)) ∙ or_left (c == 42 && starts_slash x) (has_end x) h)
-    (block_ends x more (or_right (c == 42 && starts_slash x) (has_end x) h))
+    ends_block x more (c == 42 && begins_with slash (x ++ 42 ∷ 47 ∷ more))
+    (ap (λ (b : Bool). c == 42 && b) (slash_same x (47 ∷ more)) ∙ or_left (c == 42 && begins_with slash x) (has_end x) h)
+    (block_ends x more (or_right (c == 42 && begins_with slash x) (has_end x) h))

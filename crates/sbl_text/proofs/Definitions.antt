@@ -8,11 +8,12 @@ use Rattle.std.specs.Cmp.{eq_by_cmp_equiv}
 use Rattle.std.specs.Cmp.Lexicographic.{slice_cmp, nat_list_cmp_total, nat_list_eq_equiv}
 use Rattle.std.specs.Map.{lookup, IsKeyTest, AreApart, KeepsOthers}
 use Rattle.std.specs.BTreeMap.{BTreeMap, UpdatesBy}
+use Rattle.std.specs.Option.{option_or}
 use Rattle.std.specs.Str.{bytes_eq}
 use Rattle.std.proofs.lemmas.Map.Text.{is_eq-slice_cmp}
 use Rattle.std.proofs.lemmas.Slice.Eq.{bytes_eq-Decides}
 use Rattle.sbl_text.specs.declared.escapes.Inserts.{Inserts}
-use Rattle.sbl_text.specs.Escapes.{InForce, Definition, with_macro, find, first_some}
+use Rattle.sbl_text.specs.Escapes.{InForce, Definition, with_macro, find}
 use Rattle.sbl_text.specs.Latest.{at_name, IsLatest}
 use Rattle.sbl_text.proofs.Lists.{map_append}
 
@@ -43,9 +44,9 @@ find_more (e ∷ ds) d q = more (bytes_eq d.name q) (find_more ds d q)
     last : Option (List ℕ)
     last = if bytes_eq e.name q then Some e.value else None
 
-    more : (b : Bool) → find (ds ++ d ∷ []) q ≡ (if b then Some d.value else find ds q) → first_some (find (ds ++ d ∷ []) q) last ≡ (if b then Some d.value else first_some (find ds q) last)
-    more true h = ap (λ (o : Option (List ℕ)). first_some o last) h
-    more false h = ap (λ (o : Option (List ℕ)). first_some o last) h
+    more : (b : Bool) → find (ds ++ d ∷ []) q ≡ (if b then Some d.value else find ds q) → option_or (find (ds ++ d ∷ []) q) last ≡ (if b then Some d.value else option_or (find ds q) last)
+    more true h = ap (λ (o : Option (List ℕ)). option_or o last) h
+    more false h = ap (λ (o : Option (List ℕ)). option_or o last) h
 
 get_more : (ds : List Definition) (d e : Definition) (i : ℕ) → slice_get ds i ≡ Some e → slice_get (ds ++ d ∷ []) i ≡ Some e
 get_more [] d e i h = absurd cc

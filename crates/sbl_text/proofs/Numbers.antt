@@ -1,13 +1,13 @@
 -- Codes of characters, and numbers between white space.
 use Rattle.std.proofs.Common.{◌≡◌, ℕ, ◌+◌, ◌*◌, ◌<◌, ◌≤◌, Bool, true, false, List, [], ◌∷◌, ◌++◌, length, take, drop, get_or, Option, Some, None, refl, sym, ap, ◌∙◌, arith, append_assoc}
-use Rattle.std.specs.Prelude.{◌&&◌, nat_lt, nat_le, if◌then◌else◌, unwrap_or}
-use Rattle.std.specs.List.{list_all, position, position_or_len}
+use Rattle.std.specs.Prelude.{◌&&◌, nat_lt, nat_le, if◌then◌else◌, unwrap_or, filter, option_map, option_and_then}
+use Rattle.std.specs.List.{list_all, position, position_or_len, slice_split}
 use Rattle.std.specs.Char.{digit_value}
 use Rattle.std.proofs.lemmas.Bool.Decides.{nat_tests}
 use Rattle.std.proofs.lemmas.List.{length-append}
 use Rattle.std.proofs.Math.Seq.{take-append_seam, drop-append_seam}
 use Rattle.sbl_text.specs.Classes.{is_white}
-use Rattle.sbl_text.specs.Codes.{value_in, is_scalar, write_scalar, code_of, runs, kept, numbers_in, both, all_codes}
+use Rattle.sbl_text.specs.Codes.{value_in, is_scalar, write_scalar, code_of, numbers_in, all_codes}
 use Rattle.sbl_text.proofs.Cuts.{and_false}
 use Rattle.sbl_text.proofs.Lists.{append_nil}
 
@@ -42,6 +42,12 @@ too_large_code base most v d r (x ∷ xs) ds b l i j k h =
 
 -- ---- numbers
 
+abbrev runs : List ℕ → List (List ℕ)
+runs cs = slice_split is_white cs
+
+abbrev kept : List (List ℕ) → List (List ℕ)
+kept rs = filter (λ r. nat_lt 0 (length r)) rs
+
 abbrev RunOf : List ℕ → Type 0
 RunOf cs = (w : List ℕ) × (rest : List ℕ) × (rs : List (List ℕ)) × (cs ≡ w ++ rest) × (length w ≡ position_or_len is_white cs) × (runs rest ≡ [] ∷ rs) × (runs cs ≡ w ∷ rs)
 
@@ -75,7 +81,7 @@ run_found cs n is =
   where
     keeps : (w : List ℕ) (rs : List (List ℕ)) → (length w ≡ 0 → ⊥) → kept (w ∷ rs) ≡ w ∷ kept rs
     keeps [] rs h = absurd (h refl)
-    keeps (c ∷ w) rs h = refl
+    keeps (c ∷ w) rs h = let some : nat_lt 0 (length (c ∷ w)) ≡ true = grind (arith, nat_tests) in rw some refl
 
 pub white_first : (cs : List ℕ) (n : ℕ) → n ≡ unwrap_or (position is_white cs) (length cs) → n ≡ 0 → 0 < length cs → numbers_in cs ≡ numbers_in (drop 1 cs)
 white_first [] n is z l = absurd (omega arith)
@@ -86,6 +92,9 @@ white_first (c ∷ cs) n is z l = at (is_white c) refl
     at false h = absurd (let e : n ≡ 1 + position_or_len is_white cs = is ∙ end_is (c ∷ cs) ∙ rw h refl in omega (arith, e, z))
 
 -- ---- many codes
+
+abbrev both : Option ℕ → Option (List ℕ) → Option (List ℕ)
+both o p = option_and_then (λ c. option_map (λ cs. c ∷ cs) p) o
 
 abbrev pub with_front : List ℕ → Option (List ℕ) → Option (List ℕ)
 with_front xs None = None

@@ -1,8 +1,8 @@
 -- Lexemes that are written apart are read again.
-use Rattle.std.proofs.Common.{◌≡◌, ℕ, ◌+◌, ◌-◌, ◌*◌, ◌/◌, ◌%◌, ◌<◌, ◌≤◌, ◌^◌, Bool, true, false, List, [], ◌∷◌, ◌++◌, length, Option, Some, None, refl, sym, ap, subst, ◌∙◌, arith, append_assoc, length-append}
-use Rattle.std.specs.Prelude.{not, ◌||◌, ◌==◌, if◌then◌else◌, encode_utf8_all}
+use Rattle.std.proofs.Common.{◌≡◌, ℕ, ◌+◌, ◌-◌, ◌*◌, ◌/◌, ◌%◌, ◌<◌, ◌≤◌, ◌^◌, Bool, true, false, List, [], ◌∷◌, ◌++◌, length, Option, Some, None, refl, sym, ap, subst, ◌∙◌, arith, rules, append_assoc, length-append}
+use Rattle.std.specs.Prelude.{not, ◌||◌, ◌==◌, if◌then◌else◌, encode_utf8_all, find, option_map}
 use Rattle.std.specs.Str.{chars, IsUtf8, bytes_eq, all_scalars}
-use Rattle.std.specs.List.{list_all}
+use Rattle.std.specs.List.{list_all, AllByRecursion}
 use Rattle.std.specs.Fmt.{decimal}
 use Rattle.std.proofs.lemmas.Bool.Decides.{nat_tests}
 use Rattle.std.proofs.lemmas.Fmt.{decimal_by_steps, IsAscii-decimal}
@@ -19,7 +19,7 @@ use Rattle.sbl_text.specs.declared.pieces.Wanted.{Wanted}
 use Rattle.sbl_text.specs.declared.pieces.Wanted.TheVariants as wanted
 use Rattle.sbl_text.specs.declared.escapes.Inserts.{Inserts}
 use Rattle.sbl_text.specs.Classes.{is_white, is_digit, is_word}
-use Rattle.sbl_token.specs.Words.{word_text, words, word_of, found_in}
+use Rattle.sbl_token.specs.Words.{word_text, words, word_of}
 use Rattle.sbl_token.specs.Signs.{sign_text}
 use Rattle.sbl_token.specs.SignCuts.{two, sign_of}
 use Rattle.sbl_text.specs.Pieces.{Has, may_come, setting, Stands, IsPiece, BeginsComment, is_gap}
@@ -34,17 +34,18 @@ use Rattle.sbl_text.proofs.Whole.{no_eq, if_same, LeavesCut, longest, cut_is}
 
 -- ---- a text says what it is written as
 
-word_found : (ws : List Word) (t : List ℕ) (w : Word) → found_in ws t ≡ Some w → word_text w ≡ t
-word_found [] t w h = absurd cc
-word_found (v ∷ ws) t w h = at (bytes_eq (word_text v) t) refl (word_found ws t w) h
+word_found : (ps : List (Word × List ℕ)) (t : List ℕ) (w : Word) → AllByRecursion (λ p. word_text p.0 ≡ p.1) ps → option_map (λ p. p.0) (find (λ p. bytes_eq p.1 t) ps) ≡ Some w → word_text w ≡ t
+word_found [] t w a h = absurd cc
+word_found (p ∷ ps) t w a h = at (bytes_eq p.1 t) refl (word_found ps t w a.1) h
   where
-    at : (b : Bool) → bytes_eq (word_text v) t ≡ b → (found_in ws t ≡ Some w → word_text w ≡ t) → (if b then Some v else found_in ws t) ≡ Some w → word_text w ≡ t
-    at true i more k = let e : v ≡ w = cc in sym (ap word_text e) ∙ (bytes_eq-Decides (word_text v) t).0 i
+    at : (b : Bool) → bytes_eq p.1 t ≡ b → (option_map (λ p. p.0) (find (λ p. bytes_eq p.1 t) ps) ≡ Some w → word_text w ≡ t)
+        → option_map (λ p. p.0) (if b then Some p else find (λ p. bytes_eq p.1 t) ps) ≡ Some w → word_text w ≡ t
+    at true i more k = let e : p.0 ≡ w = cc in sym (ap word_text e) ∙ a.0 ∙ (bytes_eq-Decides p.1 t).0 i
     at false i more k = more k
 
 word_is : (t : List ℕ) (w : Word) → word_of t ≡ Some w → word_text w ≡ t
 unfolding word_of
-word_is t w h = word_found words t w h
+word_is t w h = word_found words t w (search rules) h
 
 one_byte : (a : ℕ) → a < 128 → encode_utf8_all (a ∷ []) ≡ a ∷ []
 one_byte a h = ap (λ (t : List ℕ). t ++ []) (encode_ascii a h)

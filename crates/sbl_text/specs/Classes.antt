@@ -1,5 +1,5 @@
 -- Classes of characters.
-use Rattle.std.specs.Prelude.{ℕ, Bool, ◌&&◌, ◌||◌, ◌==◌, nat_le}
+use Rattle.std.specs.Prelude.{ℕ, Bool, false, ◌&&◌, ◌||◌, ◌==◌, nat_le, List, [], ◌∷◌}
 
 -- the characters that begin and end literals, comments and lines
 abbrev pub quote : ℕ
@@ -25,3 +25,8 @@ is_digit c = nat_le 48 c && nat_le c 57
 
 abbrev pub is_word : ℕ → Bool
 is_word c = is_letter c || (is_digit c || c == 95)
+
+-- the text begins with this character
+abbrev pub begins_with : ℕ → List ℕ → Bool
+begins_with c [] = false
+begins_with c (d ∷ ds) = d == c

@@ -1,6 +1,6 @@
 -- Characters written as numbers.
-use Rattle.std.specs.Prelude.{ℕ, ◌+◌, ◌*◌, Bool, true, false, ◌&&◌, ◌||◌, nat_le, nat_lt, if◌then◌else◌, List, [], ◌∷◌, length, Option, Some, None}
-use Rattle.std.specs.List.{list_all}
+use Rattle.std.specs.Prelude.{ℕ, ◌+◌, ◌*◌, Bool, true, false, ◌&&◌, ◌||◌, nat_le, nat_lt, if◌then◌else◌, List, [], ◌∷◌, length, filter, Option, Some, None, option_map, option_and_then}
+use Rattle.std.specs.List.{list_all, slice_split}
 use Rattle.std.specs.Char.{digit_value}
 use Rattle.sbl_text.specs.Classes.{is_white}
 
@@ -24,31 +24,14 @@ code_of base most ds =
 
 -- ---- numbers separated by white space
 
-abbrev pub put_first : ℕ → List (List ℕ) → List (List ℕ)
-put_first c [] = (c ∷ []) ∷ []
-put_first c (r ∷ rs) = (c ∷ r) ∷ rs
-
--- the text split at each white space character; some parts may be empty
-abbrev pub runs : List ℕ → List (List ℕ)
-runs [] = [] ∷ []
-runs (c ∷ cs) = if is_white c then [] ∷ runs cs else put_first c (runs cs)
-
-abbrev pub kept : List (List ℕ) → List (List ℕ)
-kept [] = []
-kept ([] ∷ rs) = kept rs
-kept ((c ∷ r) ∷ rs) = (c ∷ r) ∷ kept rs
-
--- the numbers that are separated by white space
+-- the texts between white space
 abbrev pub numbers_in : List ℕ → List (List ℕ)
-numbers_in cs = kept (runs cs)
+numbers_in cs = filter (λ r. nat_lt 0 (length r)) (slice_split is_white cs)
 
-abbrev pub both : Option ℕ → Option (List ℕ) → Option (List ℕ)
-both (Some c) (Some cs) = Some (c ∷ cs)
-both _ _ = None
-
+-- the characters that these texts write, if each writes one
 abbrev pub all_codes : ℕ → ℕ → List (List ℕ) → Option (List ℕ)
 all_codes base most [] = Some []
-all_codes base most (ds ∷ more) = both (code_of base most ds) (all_codes base most more)
+all_codes base most (ds ∷ more) = option_and_then (λ c. option_map (λ cs. c ∷ cs) (all_codes base most more)) (code_of base most ds)
 
 -- the most digits of a hexadecimal code, and of a decimal one
 abbrev pub max_hex_digits : ℕ

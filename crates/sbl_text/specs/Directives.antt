@@ -1,16 +1,19 @@
 -- The state of the lexer that earlier tokens have set.
+use denote.Enum.Bare.{sameb}
+use Rattle.std.specs.Option.{option_map_or}
 use Rattle.std.specs.Str.{chars}
-use Rattle.std.specs.Prelude.{ℕ, true, false, nat_le, if◌then◌else◌, List, length, Option, Some, None}
+use Rattle.std.specs.Prelude.{ℕ, nat_le, if◌then◌else◌, List, length, Option, Some, None, option_and_then}
 use Rattle.sbl_text.specs.declared.pieces.Wanted.{Wanted}
 use Rattle.sbl_text.specs.declared.pieces.Wanted.TheVariants as wanted
+use Rattle.sbl_text.specs.contracts.directives.Coding as codings
 use Rattle.sbl_text.specs.declared.directives.Coding.{Coding}
 use Rattle.sbl_text.specs.declared.directives.Coding.TheVariants as coding
 use Rattle.sbl_token.specs.declared.words.Word.{Word}
 use Rattle.sbl_token.specs.declared.words.Word.TheVariants as reserved
-use Rattle.sbl_text.specs.Codes.{codes_of}
+use Rattle.sbl_text.specs.Codes.{numbers_in, all_codes, max_hex_digits, max_decimal_digits}
 use Rattle.sbl_text.specs.Escapes.{InForce, nothing_set, with_inserts, with_macro}
 use Rattle.sbl_token.specs.Lexemes.{Lexeme, word, literal, inserts, macro_name}
-use Rattle.sbl_text.specs.Pieces.{Setting, setting}
+use Rattle.sbl_text.specs.Pieces.{Setting}
 
 -- a macro whose value has not been read yet
 pub record Defining : Type 0 where
@@ -24,7 +27,7 @@ pub record Directives : Type 0 where
   pub defining : Option Defining
 
 abbrev pub setting_of : Directives → Setting
-setting_of s = setting s.escapes.inserts s.wanted
+setting_of s = record { inserts = s.escapes.inserts; wanted = s.wanted }
 
 abbrev pub start_under : InForce → Directives
 start_under e = record { escapes = e; wanted = wanted.Token; defining = None }
@@ -35,43 +38,30 @@ start = start_under nothing_set
 -- the characters that a literal writes, as they are or as codes
 abbrev pub decoded : Coding → List ℕ → Option (List ℕ)
 decoded coding.Plain v = Some v
-decoded coding.Hex v = codes_of true v
-decoded coding.Decimal v = codes_of false v
+decoded coding.Hex v = all_codes 16 max_hex_digits (numbers_in v)
+decoded coding.Decimal v = all_codes 10 max_decimal_digits (numbers_in v)
 
 -- the most characters of a macro
 abbrev pub max_macro : ℕ
 max_macro = 64
 
-abbrev pub if_short : Option (List ℕ) → Option (List ℕ)
-if_short None = None
-if_short (Some v) = if nat_le (length v) max_macro then Some v else None
-
 -- The value that a literal gives to a macro. Longer ones are refused, so that few insertions never give many characters.
 abbrev pub coded : Coding → List ℕ → Option (List ℕ)
-coded k v = if_short (decoded k v)
+coded k v = option_and_then (λ w. if nat_le (length w) max_macro then Some w else None) (decoded k v)
 
 abbrev pub value_for : Option Defining → List ℕ → Option (List ℕ)
-value_for None v = Some v
-value_for (Some d) v = coded d.coding v
-
-abbrev pub recoded_by : List ℕ → Coding → Coding → Option Defining
-recoded_by n coding.Plain k = Some (record { name = n; coding = k })
-recoded_by n _ k = None
+value_for d v = option_map_or (λ m. coded m.coding v) d (Some v)
 
 -- after `hex` or `decimal`, which come before the literal
 abbrev pub recoded : Option Defining → Coding → Option Defining
-recoded None k = None
-recoded (Some d) k = recoded_by d.name d.coding k
-
-abbrev pub settled : InForce → Directives
-settled e = record { escapes = e; wanted = wanted.Token; defining = None }
+recoded d k = option_and_then (λ m. if sameb codings.the_type m.coding coding.Plain then Some (record { name = m.name; coding = k }) else None) d
 
 abbrev pub after_word : Directives → Word → Directives
 after_word s reserved.StringEscapes = record { escapes = s.escapes; wanted = wanted.Inserts; defining = None }
 after_word s reserved.StringDef = record { escapes = s.escapes; wanted = wanted.MacroName; defining = None }
 after_word s reserved.Hex = record { escapes = s.escapes; wanted = wanted.Token; defining = recoded s.defining coding.Hex }
 after_word s reserved.Decimal = record { escapes = s.escapes; wanted = wanted.Token; defining = recoded s.defining coding.Decimal }
-after_word s _ = settled s.escapes
+after_word s _ = start_under s.escapes
 
 abbrev pub defined_as : InForce → List ℕ → Option (List ℕ) → InForce
 defined_as e n None = e
@@ -84,7 +74,16 @@ defined_by e (Some d) v = defined_as e d.name (coded d.coding v)
 -- the state after a token: some words require insert characters or a macro's name next; a literal may define a macro
 abbrev pub after : Directives → Lexeme → Directives
 after s (word w) = after_word s w
-after s (literal spelling v) = settled (defined_by s.escapes s.defining v)
-after s (inserts a b) = settled (with_inserts s.escapes a b)
+after s (literal spelling v) = start_under (defined_by s.escapes s.defining v)
+after s (inserts a b) = start_under (with_inserts s.escapes a b)
 after s (macro_name n) = record { escapes = s.escapes; wanted = wanted.Token; defining = Some (record { name = chars n; coding = coding.Plain }) }
-after s _ = settled s.escapes
+after s _ = start_under s.escapes
+
+-- ---- names for parts of these definitions, which no other definition uses
+
+abbrev pub if_short : Option (List ℕ) → Option (List ℕ)
+if_short o = option_and_then (λ w. if nat_le (length w) max_macro then Some w else None) o
+
+-- the state after most tokens
+abbrev pub settled : InForce → Directives
+settled e = start_under e

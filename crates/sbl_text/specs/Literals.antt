@@ -1,6 +1,8 @@
 -- The characters that the spelling of a literal means.
-use Rattle.std.specs.Prelude.{◌≡◌, ◌⊎◌, ℕ, ◌+◌, Bool, true, false, not, ◌&&◌, ◌||◌, ◌==◌, if◌then◌else◌, List, [], ◌∷◌, ◌++◌, length, encode_utf8_all, Option, Some, None, Result, Ok, Err}
+use Rattle.std.specs.Prelude.{◌≡◌, ◌⊎◌, ℕ, ◌+◌, Bool, true, false, not, ◌&&◌, ◌||◌, ◌==◌, if◌then◌else◌, List, [], ◌∷◌, ◌++◌, length, encode_utf8_all, flat_map, Option, ok_or, Result, Ok, Err}
 use Rattle.std.specs.List.{list_all}
+use Rattle.std.specs.Option.{option_map_or}
+use Rattle.std.specs.Result.{result_map_both}
 use Rattle.sbl_text.specs.declared.escapes.Inserts.{Inserts}
 use Rattle.sbl_text.specs.declared.fault.ScriptFault.{ScriptFault}
 use Rattle.sbl_text.specs.declared.fault.ScriptFault.TheVariants as fault
@@ -18,28 +20,17 @@ byte_length text = length (encode_utf8_all text)
 abbrev pub Refusal : Type 0
 Refusal = ℕ → ScriptFault
 
-abbrev pub code_or_fault : Option ℕ → Result ℕ Refusal
-code_or_fault None = Err fault.BadCode
-code_or_fault (Some c) = Ok c
-
 -- a quote, the opening insert character, or `U+` and 1 to 6 hexadecimal digits
 abbrev pub character_named : Option Inserts → List ℕ → Result ℕ Refusal
 character_named e [] = Err fault.UnknownEscape
 character_named e (c ∷ []) = if c == quote || opens e c then Ok c else Err fault.UnknownEscape
-character_named e (c ∷ d ∷ cs) = if c == 85 && d == 43 then code_or_fault (code_of 16 max_hex_digits cs) else Err fault.UnknownEscape
-
-abbrev pub alone : Result ℕ Refusal → Result (List ℕ) Refusal
-alone (Ok c) = Ok (c ∷ [])
-alone (Err g) = Err g
-
-abbrev pub value_or_character : Option (List ℕ) → Result ℕ Refusal → Result (List ℕ) Refusal
-value_or_character (Some v) c = Ok v
-value_or_character None c = alone c
+character_named e (c ∷ d ∷ cs) = if c == 85 && d == 43 then ok_or (code_of 16 max_hex_digits cs) fault.BadCode else Err fault.UnknownEscape
 
 -- The value of an insertion: nothing for white space, the value of a macro, otherwise the character that is named.
 abbrev pub inserted : InForce → List ℕ → Result (List ℕ) Refusal
 inserted e name =
-    if list_all is_white name then Ok [] else value_or_character (find e.macros name) (character_named e.inserts name)
+    if list_all is_white name then Ok []
+    else option_map_or Ok (find e.macros name) (result_map_both (λ c. c ∷ []) (λ f. f) (character_named e.inserts name))
 
 -- ---- parts of a spelling
 
@@ -64,13 +55,9 @@ abbrev pub AreParts : InForce → List ℕ → List Part → List ℕ → Type 0
 AreParts e text [] rest = text ≡ rest
 AreParts e text (p ∷ ps) rest = (behind : List ℕ) × (text ≡ p.text ++ behind) × IsPart e p × AreParts e behind ps rest
 
-abbrev pub values : List Part → List ℕ
-values [] = []
-values (p ∷ ps) = p.value ++ values ps
-
 -- the spelling means these characters
 abbrev pub Means : InForce → List ℕ → List ℕ → Type 0
-Means e spelling v = (ps : List Part) × AreParts e spelling ps [] × (v ≡ values ps)
+Means e spelling v = (ps : List Part) × AreParts e spelling ps [] × (v ≡ flat_map (λ p. p.value) ps)
 
 -- a quote that ends the literal too early, or an insertion that has no value
 abbrev pub IsWrong : InForce → List ℕ → ℕ → ScriptFault → Type 0
@@ -94,3 +81,17 @@ abbrev pub IsLiteral : InForce → List ℕ → Result (List ℕ) ScriptFault �
 IsLiteral e spelling (Ok v) = (is_closed e.inserts false spelling ≡ true) × Means e spelling v
 IsLiteral e spelling (Err f) =
     ((is_closed e.inserts false spelling ≡ false) × (f ≡ fault.UnclosedString 0)) ⊎ ((is_closed e.inserts false spelling ≡ true) × FirstWrong e spelling 0 f)
+
+-- ---- names for parts of these definitions, which only proofs use
+
+abbrev pub code_or_fault : Option ℕ → Result ℕ Refusal
+code_or_fault o = ok_or o fault.BadCode
+
+abbrev pub alone : Result ℕ Refusal → Result (List ℕ) Refusal
+alone r = result_map_both (λ c. c ∷ []) (λ f. f) r
+
+abbrev pub value_or_character : Option (List ℕ) → Result ℕ Refusal → Result (List ℕ) Refusal
+value_or_character o r = option_map_or Ok o (alone r)
+
+abbrev pub values : List Part → List ℕ
+values ps = flat_map (λ p. p.value) ps

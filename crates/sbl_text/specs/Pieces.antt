@@ -1,11 +1,13 @@
 -- The pieces of a text: a piece is one token, one comment or one white space character.
 use Rattle.std.specs.Prelude.{◌≡◌, ℕ, ◌≤◌, Bool, true, false, not, ◌&&◌, ◌||◌, ◌==◌, if◌then◌else◌, List, [], ◌∷◌, ◌++◌, length, Option}
-use Rattle.std.specs.List.{list_all}
+use Rattle.std.specs.List.{list_all, list_any}
+use denote.Enum.Bare.{sameb}
 use Rattle.sbl_token.specs.declared.signs.Sign.{Sign}
+use Rattle.sbl_text.specs.contracts.pieces.Shape as shapes
 use Rattle.sbl_text.specs.declared.pieces.Shape.{Shape}
 use Rattle.sbl_text.specs.declared.pieces.Shape.TheVariants as shape
 use Rattle.sbl_text.specs.declared.escapes.Inserts.{Inserts}
-use Rattle.sbl_text.specs.Classes.{is_white, is_letter, is_digit, is_word, line_feed, quote, slash, star}
+use Rattle.sbl_text.specs.Classes.{is_white, is_letter, is_digit, is_word, line_feed, quote, slash, star, begins_with}
 use Rattle.sbl_text.specs.declared.pieces.Wanted.{Wanted}
 use Rattle.sbl_text.specs.declared.pieces.Wanted.TheVariants as wanted
 use Rattle.sbl_token.specs.Signs.{sign_text}
@@ -18,14 +20,13 @@ is_inner e true (c ∷ cs) = is_inner e (not (closes e c)) cs
 is_inner e false (c ∷ cs) =
     if c == quote || c == line_feed then false else is_inner e (opens e c) cs
 
--- the text begins with `/`; `has_end`: the text contains `*/`
-abbrev pub starts_slash : List ℕ → Bool
-starts_slash [] = false
-starts_slash (c ∷ cs) = c == slash
-
+-- the text contains `*/`
 abbrev pub has_end : List ℕ → Bool
 has_end [] = false
-has_end (c ∷ cs) = (c == star && starts_slash cs) || has_end cs
+has_end (c ∷ cs) = (c == star && begins_with slash cs) || has_end cs
+
+abbrev pub is_one_of : List Shape → Shape → Bool
+is_one_of ks k = list_any (sameb shapes.the_type k) ks
 
 -- the texts of each shape
 abbrev pub Has : Option Inserts → Shape → List ℕ → Type 0
@@ -41,15 +42,9 @@ Has e shape.MacroName x = (c : ℕ) × (cs : List ℕ) × (x ≡ c ∷ cs) × (i
 
 -- the shapes that may come: after a word that requires insert characters or a macro's name, only those and white space
 abbrev pub may_come : Wanted → Shape → Bool
-may_come wanted.Inserts shape.Blank = true
-may_come wanted.Inserts shape.Inserts = true
-may_come wanted.Inserts _ = false
-may_come wanted.MacroName shape.Blank = true
-may_come wanted.MacroName shape.MacroName = true
-may_come wanted.MacroName _ = false
-may_come wanted.Token shape.Inserts = false
-may_come wanted.Token shape.MacroName = false
-may_come wanted.Token _ = true
+may_come wanted.Inserts k = is_one_of (shape.Blank ∷ shape.Inserts ∷ []) k
+may_come wanted.MacroName k = is_one_of (shape.Blank ∷ shape.MacroName ∷ []) k
+may_come wanted.Token k = not (is_one_of (shape.Inserts ∷ shape.MacroName ∷ []) k)
 
 -- the insert characters in force, and what may come
 pub record Setting : Type 0 where
@@ -79,10 +74,7 @@ NoPiece e text = (j : Shape) (y more : List ℕ) → text ≡ y ++ more → Stan
 
 -- white space and comments
 abbrev pub is_gap : Shape → Bool
-is_gap shape.Blank = true
-is_gap shape.LineComment = true
-is_gap shape.BlockComment = true
-is_gap _ = false
+is_gap k = is_one_of (shape.Blank ∷ shape.LineComment ∷ shape.BlockComment ∷ []) k
 
 pub record Gap : Type 0 where
   pub shape : Shape

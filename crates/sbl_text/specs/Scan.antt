@@ -8,11 +8,11 @@ use Rattle.sbl_text.specs.declared.pieces.Wanted.TheVariants as wanted
 use Rattle.sbl_text.specs.declared.pieces.Start.{Start}
 use Rattle.sbl_text.specs.declared.pieces.Start.TheVariants as start
 use Rattle.sbl_text.specs.declared.escapes.Inserts.{Inserts}
-use Rattle.sbl_text.specs.Classes.{is_white, is_letter, is_digit, is_word, line_feed, quote, slash, star}
+use Rattle.sbl_text.specs.Classes.{is_white, is_letter, is_digit, is_word, line_feed, quote, slash, star, begins_with}
 use Rattle.sbl_text.specs.Skip.{past}
 use Rattle.sbl_token.specs.SignCuts.{sign_front}
 use Rattle.sbl_text.specs.Escapes.{opens, closes}
-use Rattle.sbl_text.specs.Pieces.{starts_slash, Setting, IsPiece, NoPiece}
+use Rattle.sbl_text.specs.Pieces.{Setting, IsPiece, NoPiece}
 
 abbrev pub start_of : ℕ → Start
 start_of c =
@@ -29,7 +29,7 @@ past_literal e false (c ∷ cs) =
 -- the text after the `*/`
 abbrev pub past_block : List ℕ → Option (List ℕ)
 past_block [] = None
-past_block (c ∷ cs) = if c == star && starts_slash cs then Some (drop 1 cs) else past_block cs
+past_block (c ∷ cs) = if c == star && begins_with slash cs then Some (drop 1 cs) else past_block cs
 
 -- the shape of a piece, and the text after it
 abbrev pub Cut : Type 0

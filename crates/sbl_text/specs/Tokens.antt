@@ -1,5 +1,7 @@
 -- The tokens of a text, and its first fault.
-use Rattle.std.specs.Prelude.{◌≡◌, ◌⊎◌, ℕ, ◌<◌, ◌≤◌, ◌+◌, ◌-◌, ◌*◌, Bool, true, false, ◌&&◌, ◌==◌, if◌then◌else◌, List, [], ◌∷◌, ◌++◌, encode_utf8_all, Option, Some, None, Result, Ok, Err}
+use Rattle.std.specs.Prelude.{◌≡◌, ◌⊎◌, ℕ, ◌<◌, ◌≤◌, ◌+◌, ◌-◌, ◌*◌, Bool, true, false, ◌&&◌, ◌==◌, if◌then◌else◌, List, [], ◌∷◌, ◌++◌, encode_utf8_all, filter_map, drop, Option, Some, None, MatchOption, option_map, Result, Ok, Err}
+use Rattle.std.specs.List.{cons_option}
+use Rattle.std.specs.Option.{option_map_or}
 use Rattle.sbl_token.specs.declared.signs.Sign.{Sign}
 use Rattle.sbl_token.specs.declared.words.Word.{Word}
 use Rattle.sbl_text.specs.declared.pieces.Shape.{Shape}
@@ -15,7 +17,7 @@ use Rattle.sbl_text.specs.Pieces.{IsPiece, NoPiece, AfterGaps, is_gap}
 use Rattle.sbl_text.specs.Directives.{Directives, start, setting_of, value_for, after}
 use Rattle.sbl_text.specs.Literals.{byte_length, Means, FirstWrong}
 use Rattle.sbl_token.specs.Lexemes.{Lexeme, word, sign, name, number, literal, inserts, macro_name, lexeme_of, SaysFitting}
-use Rattle.sbl_text.specs.Classes.{quote, slash, star}
+use Rattle.sbl_text.specs.Classes.{quote, slash, star, begins_with}
 
 -- the number that the digits write, after digits that write n
 abbrev pub digits_value : ℕ → List ℕ → ℕ
@@ -25,13 +27,9 @@ digits_value n (c ∷ cs) = digits_value (n * 10 + (c - 48)) cs
 abbrev pub number_of : List ℕ → ℕ
 number_of text = digits_value 0 text
 
-abbrev pub word_or_name : Option Word → List ℕ → Lexeme
-word_or_name None text = name text
-word_or_name (Some w) text = word w
-
 -- the lexeme that a text of this shape means; white space and comments mean none
 abbrev pub Told : Directives → Shape → List ℕ → Lexeme → Type 0
-Told s shape.Word x l = l ≡ word_or_name (word_of (encode_utf8_all x)) (encode_utf8_all x)
+Told s shape.Word x l = l ≡ option_map_or word (word_of (encode_utf8_all x)) (name (encode_utf8_all x))
 Told s shape.Number x l = (number_of x ≤ 2147483647) × (l ≡ number (number_of x))
 Told s shape.Sign x l = (g : Sign) × (x ≡ sign_text g) × (l ≡ sign g)
 Told s shape.Literal x l = (inner : List ℕ) × (v : List ℕ) × (x ≡ quote ∷ (inner ++ quote ∷ [])) × Means s.escapes inner v × (l ≡ literal (encode_utf8_all inner) v)
@@ -60,29 +58,17 @@ pub record Piece : Type 0 where
   pub text : List ℕ
   pub lexeme : Option Lexeme
 
-abbrev pub MaySay : Directives → Shape → List ℕ → Option Lexeme → Type 0
-MaySay s k x None = is_gap k ≡ true
-MaySay s k x (Some l) = Says s k x l
-
-abbrev pub after_piece : Directives → Option Lexeme → Directives
-after_piece s None = s
-after_piece s (Some l) = after s l
-
 -- The text begins with these pieces, one after another, each the longest in the state after those before it. s is the
 -- state before them, t the state after them.
 abbrev pub AreCut : Directives → List ℕ → List Piece → Directives → List ℕ → Type 0
 AreCut s text [] t rest = (text ≡ rest) × (s ≡ t)
 AreCut s text (p ∷ ps) t rest =
-    (behind : List ℕ) × (text ≡ p.text ++ behind) × IsPiece (setting_of s) p.shape p.text behind × MaySay s p.shape p.text p.lexeme × AreCut (after_piece s p.lexeme) behind ps t rest
-
-abbrev pub and_more : Option Lexeme → List Lexeme → List Lexeme
-and_more None ls = ls
-and_more (Some l) ls = l ∷ ls
+    (behind : List ℕ) × (text ≡ p.text ++ behind) × IsPiece (setting_of s) p.shape p.text behind
+    × MatchOption p.lexeme (is_gap p.shape ≡ true) (Says s p.shape p.text) × AreCut (option_map_or (after s) p.lexeme s) behind ps t rest
 
 -- the lexemes of the pieces, in order
 abbrev pub said : List Piece → List Lexeme
-said [] = []
-said (p ∷ ps) = and_more p.lexeme (said ps)
+said ps = filter_map (λ p. p.lexeme) ps
 
 -- the text may end here: no insert characters are expected
 abbrev pub MayEnd : Directives → Type 0
@@ -107,14 +93,12 @@ pub record Placed : Type 0 where
 abbrev pub placed_of : Token → Placed
 placed_of t = record { lexeme = lexeme_of t; text = t.text.now; start = t.start; end = t.end }
 
-abbrev pub put_placed : ℕ → List ℕ → Option Lexeme → List Placed → List Placed
-put_placed place x None ts = ts
-put_placed place x (Some l) ts = record { lexeme = l; text = encode_utf8_all x; start = place; end = place + byte_length x } ∷ ts
-
 -- the tokens among the pieces, starting at this byte offset
 abbrev pub placed_from : ℕ → List Piece → List Placed
 placed_from place [] = []
-placed_from place (p ∷ ps) = put_placed place p.text p.lexeme (placed_from (place + byte_length p.text) ps)
+placed_from place (p ∷ ps) =
+    cons_option (option_map (λ l. record { lexeme = l; text = encode_utf8_all p.text; start = place; end = place + byte_length p.text }) p.lexeme)
+    (placed_from (place + byte_length p.text) ps)
 
 -- the tokens of a text with their positions
 abbrev pub ArePlacedFrom : Directives → List ℕ → List Placed → Type 0
@@ -125,20 +109,15 @@ ArePlaced text ts = ArePlacedFrom start text ts
 
 -- ---- faults
 
-abbrev pub starts_star : List ℕ → Bool
-starts_star [] = false
-starts_star (c ∷ cs) = c == star
-
 -- if two insert characters are expected: the fault is at a quote, or after the first character
 abbrev pub pair_fault : List ℕ → ℕ → ScriptFault
 pair_fault [] place = fault.BadCharacter place
 pair_fault (c ∷ cs) place = if c == quote then fault.BadCharacter place else fault.BadCharacter (place + byte_length (c ∷ []))
 
 abbrev pub token_fault : List ℕ → ℕ → ScriptFault
-token_fault [] place = fault.BadCharacter place
-token_fault (c ∷ cs) place =
-    if c == quote then fault.UnclosedString place
-    else (if c == slash && starts_star cs then fault.UnclosedComment place else fault.BadCharacter place)
+token_fault text place =
+    if begins_with quote text then fault.UnclosedString place
+    else (if begins_with slash text && begins_with star (drop 1 text) then fault.UnclosedComment place else fault.BadCharacter place)
 
 -- the fault if there is no piece
 abbrev pub fault_at : Wanted → List ℕ → ℕ → ScriptFault
@@ -226,3 +205,24 @@ IsAnswer (Some f) r t result = (result ≡ Err f) × (t ≡ r)
 -- What the next call returns: the fault that was returned before, with nothing changed; or what comes next in the text.
 abbrev pub IsNext : Reading → Reading → Result (Option Token) ScriptFault → Type 0
 IsNext r t result = IsAnswer r.fault r t result
+
+-- ---- names for parts of these definitions, which only proofs use
+
+abbrev pub word_or_name : Option Word → List ℕ → Lexeme
+word_or_name o text = option_map_or word o (name text)
+
+abbrev pub MaySay : Directives → Shape → List ℕ → Option Lexeme → Type 0
+MaySay s k x o = MatchOption o (is_gap k ≡ true) (Says s k x)
+
+abbrev pub after_piece : Directives → Option Lexeme → Directives
+after_piece s o = option_map_or (after s) o s
+
+abbrev pub and_more : Option Lexeme → List Lexeme → List Lexeme
+and_more o ls = cons_option o ls
+
+abbrev pub put_placed : ℕ → List ℕ → Option Lexeme → List Placed → List Placed
+put_placed place x o ts =
+    cons_option (option_map (λ l. record { lexeme = l; text = encode_utf8_all x; start = place; end = place + byte_length x }) o) ts
+
+abbrev pub starts_star : List ℕ → Bool
+starts_star text = begins_with star text

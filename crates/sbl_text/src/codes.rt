@@ -12,6 +12,9 @@ use std::alloc::Global;
 /// The largest code point.
 const LARGEST: u32 = 0x10FFFF;
 
+/// What a text means: characters, or a fault.
+pub type Characters = Result<Vec<char>, ScriptFault>;
+
 /// The most digits of a hexadecimal code.
 pub(crate) const MAX_HEX_DIGITS: usize = 6;
 
@@ -61,13 +64,7 @@ fn split_run(chars: &[char]) -> (&[char], &[char])
 
 /// Reads numbers that are separated by white space and returns the characters with these code points. Returns `BadCode`
 /// at `place` if anything else is found, and `OutOfMemory` if an allocation fails.
-pub fn codes(
-    alloc: Global,
-    base: u32,
-    most: usize,
-    mut chars: &[char],
-    place: usize,
-) -> Result<Vec<char>, ScriptFault>
+pub fn codes(alloc: Global, base: u32, most: usize, mut chars: &[char], place: usize) -> Characters
     requires low { 2 ≤ base }
     requires high { base ≤ 16 }
     ensures { MatchResult result (λ v. spec.all_codes base most (spec.numbers_in chars.entry.now) ≡ Some v.items) (λ f. (f ≡ ScriptFault.OutOfMemory) ⊎ ((spec.all_codes base most (spec.numbers_in chars.entry.now) ≡ None) × (f ≡ ScriptFault.BadCode place))) }
@@ -93,7 +90,7 @@ pub fn codes(
 ///
 /// Returns `BadCode` at 0 if anything else is found (Snowball manual, "stringdef"; the limits are our own choice), and
 /// `OutOfMemory` if an allocation fails.
-pub fn read_codes(alloc: Global, hex: bool, chars: &[char]) -> Result<Vec<char>, ScriptFault>
+pub fn read_codes(alloc: Global, hex: bool, chars: &[char]) -> Characters
     ensures { MatchResult result (λ v. spec.codes_of hex chars.now ≡ Some v.items) (λ f. (f ≡ ScriptFault.OutOfMemory) ⊎ ((spec.codes_of hex chars.now ≡ None) × (f ≡ ScriptFault.BadCode 0))) }
 {
     if hex {

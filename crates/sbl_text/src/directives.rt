@@ -6,7 +6,7 @@ ghost use Rattle.sbl_token.specs.Lexemes.{characters_in, inserts_in};
 ghost use Rattle.sbl_text.specs.Escapes.{with_inserts};
 ghost use Rattle.sbl_text.specs.Directives as spec;
 
-use crate::codes::{MAX_DECIMAL_DIGITS, MAX_HEX_DIGITS, codes};
+use crate::codes::{Characters, MAX_DECIMAL_DIGITS, MAX_HEX_DIGITS, codes};
 use crate::escapes::Escapes;
 use crate::fault::ScriptFault;
 use crate::pieces::Wanted;
@@ -64,12 +64,7 @@ fn recoded<'a>(defining: Option<Defining<'a>>, coding: Coding) -> Option<Definin
 }
 
 /// Returns the characters that a literal writes.
-fn decoded(
-    alloc: Global,
-    coding: Coding,
-    characters: &[char],
-    place: usize,
-) -> Result<Vec<char>, ScriptFault>
+fn decoded(alloc: Global, coding: Coding, characters: &[char], place: usize) -> Characters
     ensures { MatchResult result (λ v. spec.decoded coding characters.now ≡ Some v.items) (λ f. (f ≡ ScriptFault.OutOfMemory) ⊎ ((spec.decoded coding characters.now ≡ None) × (f ≡ ScriptFault.BadCode place))) }
 {
     match coding {
@@ -88,12 +83,7 @@ fn decoded(
 /// Returns `BadCode` at `place` if there is anything but codes, or if the value has more than 64 characters, and
 /// `OutOfMemory` if an allocation fails.
 #[tactic(auto, using(crate::proofs::Short::short_is_kept, crate::proofs::Short::long_is_refused, crate::proofs::Short::none_is_refused))]
-pub fn macro_value(
-    alloc: Global,
-    coding: Coding,
-    characters: &[char],
-    place: usize,
-) -> Result<Vec<char>, ScriptFault>
+pub fn macro_value(alloc: Global, coding: Coding, characters: &[char], place: usize) -> Characters
     ensures { MatchResult result (λ v. spec.coded coding characters.now ≡ Some v.items) (λ f. (f ≡ ScriptFault.OutOfMemory) ⊎ ((spec.coded coding characters.now ≡ None) × (f ≡ ScriptFault.BadCode place))) }
 {
     let value = decoded(alloc, coding, characters, place)?;

@@ -80,15 +80,6 @@ fn past_literal(inserts: Option<Inserts>, mut text: &str) -> Option<&str>
     None
 }
 
-fn starts_slash(text: &str) -> bool
-    ensures { result ≡ pieces.starts_slash (chars text.now) }
-{
-    match split_first(text) {
-        Some((c, _)) => c == '/',
-        None => false,
-    }
-}
-
 fn past_block(mut text: &str) -> Option<&str>
     ensures value { MatchOption result (spec.past_block (chars text.entry.now) ≡ None) (λ r. spec.past_block (chars text.entry.now) ≡ Some (chars r.now)) }
     ensures within { IfSome result (λ r. length r.now < length text.entry.now) }

@@ -3,3 +3,5 @@ pub mod Words
 pub mod Signs
 pub mod SignCuts
 pub mod Lexemes
+-- what the functions inside the crate promise each other; no public contract depends on these
+pub mod Lookup

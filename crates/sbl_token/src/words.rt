@@ -1,6 +1,7 @@
 //! The reserved words.
 
 ghost use Rattle.std.specs.Prelude.{◌≡◌};
+ghost use Rattle.sbl_token.specs.Lookup.{found_in};
 ghost use Rattle.sbl_token.specs.Words as spec;
 
 /// A reserved word (Snowball manual, "The language"). A name is never a reserved word (our own choice).
@@ -243,7 +244,7 @@ impl Word {
 }
 
 fn lookup(mut words: &[Word], text: &str) -> Option<Word>
-    ensures { result ≡ spec.found_in words.entry.now text.now }
+    ensures { result ≡ found_in words.entry.now text.now }
 {
     while let [word, rest @ ..] = words {
         if word.text() == text {

@@ -1,5 +1,5 @@
 use Rattle.std.proofs.Common.{◌≡◌, length}
-use Rattle.sbl_token.specs.Words.{found_in}
+use Rattle.sbl_token.specs.Lookup.{found_in}
 use Rattle.sbl_token.proofs.words.lookup.Given as goal
 
 abbrev pub invariant-loop-words : goal.invariant-loop-words

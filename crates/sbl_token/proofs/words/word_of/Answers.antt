@@ -1,8 +1,8 @@
-use Rattle.std.proofs.Common.{rules, arith}
-use Rattle.std.proofs.lemmas.Grind.{common_steps}
-use Rattle.sbl_token.specs.Words.{word_of}
+use Rattle.std.proofs.Common.{rules, ◌∙◌}
+use Rattle.sbl_token.specs.Words.{word_of, words}
+use Rattle.sbl_token.proofs.Tables.{lookup_is}
 use Rattle.sbl_token.proofs.words.word_of.Goals as goal
 
 pub returns : goal.returns
 unfolding word_of
-returns c = first_of (search rules, grind (arith, common_steps))
+returns c = c.lookup.ensures ∙ lookup_is words c.args.text.now (search rules)
