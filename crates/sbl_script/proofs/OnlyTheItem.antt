@@ -9,13 +9,14 @@ use Rattle.sbl_text.specs.Tokens.{Placed}
 use Rattle.sbl_ast.specs.Order.{in_order}
 use Rattle.sbl_ast.specs.Tree.{Plain, declaration, escapes, macro, routine, grouping, Item}
 use Rattle.sbl_ast.specs.Texts.{TreeOf}
+use Rattle.sbl_ast.specs.declared.tree.DeclarationKind.TheVariants as declared_kinds
 use Rattle.sbl_amongs.specs.Amongs.{Held, amongs_of_body, nth_held, put_in_body}
 use Rattle.sbl_resolver.specs.declared.occurrences.Site.{Site}
 use Rattle.sbl_resolver.specs.Occurrences.{Occurrence, Notice, declares, defines_routine, defines_grouping, uses, substring, among, string, backwards, region_end, noted_items, occurrences_of}
 use Rattle.sbl_script.specs.declared.edit_fault.ScriptEditFault.{ScriptEditFault}
 use Rattle.sbl_script.specs.Parsed.{Source}
 use Rattle.sbl_resolver.specs.Bodies.{body_in}
-use Rattle.sbl_resolver.specs.Checks.{declared_as, kind_of, defined_at, definition_of, waits_after, is_awaited, is_text, is_text_of, has_text, is_external, has_external, fault_at, fault_of, WellDeclared}
+use Rattle.sbl_resolver.specs.Checks.{declared_as, kind_of, defined_at, definition_of, waits_after, is_awaited, is_text, is_text_of, has_text, is_some_and, is_kind, has_external, fault_at, fault_of, WellDeclared}
 use Rattle.sbl_resolver.specs.Laws.{EachPasses, IsFirst}
 use Rattle.sbl_script.specs.declared.edits.DefinitionKind.{DefinitionKind}
 use Rattle.sbl_script.specs.declared.edits.DefinitionKind.TheVariants as kinds
@@ -339,8 +340,8 @@ module _ (items : List Item) (external : List ℕ) (d : DefinitionKind) (n : Lis
 
       kept : has_external edited external (occurrences_of edited) ≡ true
       kept =
-          ap (λ o. is_external o && is_some (body_in external edited)) (ap (kind_of external) new_is ∙ kinds_same front mine other rest (1 + length q.before) closed two later external rest ∙ sym (ap (kind_of external) old_is))
-          ∙ ap (λ c. is_external (kind_of external (occurrences_of items)) && c) (still_defined d n y same items external) ∙ fine.1
+          ap (λ o. is_some_and (is_kind declared_kinds.Externals) o && is_some (body_in external edited)) (ap (kind_of external) new_is ∙ kinds_same front mine other rest (1 + length q.before) closed two later external rest ∙ sym (ap (kind_of external) old_is))
+          ∙ ap (λ c. is_some_and (is_kind declared_kinds.Externals) (kind_of external (occurrences_of items)) && c) (still_defined d n y same items external) ∙ fine.1
 
       at : IsFirst (occurrences_of edited) f ⊎ (EachPasses (occurrences_of edited) × (has_external edited external (occurrences_of edited) ≡ false) × (f ≡ fault.NoExternal)) → item_of f ≡ Some (1 + length q.before)
       at (inl h) = in_item front mine other rest (1 + length q.before) closed two later (subst EachPasses old_is fine.0) f (subst (λ l. IsFirst l f) new_is h)
