@@ -12,7 +12,7 @@ use Rattle.sbl_ast.specs.declared.tree.DeclarationKind.TheVariants as kinds
 use Rattle.sbl_ast.specs.Tree.{Argument, written_out, by_name, Term, term, Plain, declaration, escapes, macro, routine, grouping, Item}
 use Rattle.sbl_resolver.specs.declared.occurrences.Site.{Site}
 use Rattle.sbl_resolver.specs.declared.occurrences.Use.TheVariants as use_as
-use Rattle.sbl_resolver.specs.Occurrences.{Occurrence, put, uses, defines_routine, defines_grouping, noted_term, noted_terms, noted_plain, noted_items, occurrences_of}
+use Rattle.sbl_resolver.specs.Occurrences.{Occurrence, put, uses, defines_routine, defines_grouping, noted_terms, noted_plain, noted_items, occurrences_of, noted_name}
 use Rattle.sbl_resolver.specs.Checks.{kind_of, defined_at, definition_of, is_some_and, is_routine, is_grouping, is_earlier}
 use Rattle.sbl_resolver.proofs.Extends.{Extends, then_, items_more, put_more}
 use Rattle.sbl_compiler.specs.Items.{known_in, names_by, is_among}
@@ -205,7 +205,7 @@ module _ (all : List Occurrence) (passing : Passing all) where
         (kind_kept is_grouping n s all (kind_of n s) refl (then_ (put_more (uses use_as.Term n) p s) e) allowed)
         (not_false (is_earlier p.item (definition_of n all)) (test_fails (not (is_earlier p.item (definition_of n all))) (fault.Undefined p.item) _ behind_kind))
 
-    term_known : (a : Argument) (m : Mode) (s : List Occurrence) → Extends (noted_term a (record { item = 1 + length bs; mode = m }) s) all → IsKnown (known_in bs kinds.Groupings) a
+    term_known : (a : Argument) (m : Mode) (s : List Occurrence) → Extends (noted_name use_as.Term a (record { item = 1 + length bs; mode = m }) s) all → IsKnown (known_in bs kinds.Groupings) a
     term_known (written_out q) m s e = tt
     term_known (by_name n) m s e = name_known m s n e
 
@@ -213,7 +213,7 @@ module _ (all : List Occurrence) (passing : Passing all) where
     terms_known [] m s e = tt
     terms_known (term o a ∷ ts) m s e =
         let p : Site = record { item = 1 + length bs; mode = m } in
-        (term_known a m s (then_ (terms_extend ts p (noted_term a p s)) e), terms_known ts m (noted_term a p s) e)
+        (term_known a m s (then_ (terms_extend ts p (noted_name use_as.Term a p s)) e), terms_known ts m (noted_name use_as.Term a p s) e)
 
 -- the names of a grouping's definition: none of the groupings before has its own, and those of its terms are all among them
 pub record AreNames (bs : List ItemInMode) (n : List ℕ) (a : Argument) (ts : List Term) : Type 0 where
@@ -236,6 +236,6 @@ names_are items passing bs after m n a ts parts =
     let behind_kind = rest_fails (not (is_some_and is_grouping (kind_of n s))) (fault.WrongKind p.item) _ declared in
     record {
       once = not_in all passing bs (x ∷ after) split n (test_fails (is_earlier p.item (definition_of n all)) (fault.DefinedTwice p.item) _ behind_kind);
-      first = term_known all passing bs (x ∷ after) split a m t (then_ (terms_extend ts p (noted_term a p t)) more);
-      others = terms_known all passing bs (x ∷ after) split ts m (noted_term a p t) more;
+      first = term_known all passing bs (x ∷ after) split a m t (then_ (terms_extend ts p (noted_name use_as.Term a p t)) more);
+      others = terms_known all passing bs (x ∷ after) split ts m (noted_name use_as.Term a p t) more;
     }

@@ -14,7 +14,8 @@ use Rattle.sbl_ast.specs.Tree.{Argument, written_out, by_name, Command, Others, 
 use Rattle.sbl_resolver.specs.declared.occurrences.Site.{Site}
 use Rattle.sbl_resolver.specs.declared.occurrences.Use.{Use}
 use Rattle.sbl_resolver.specs.declared.occurrences.Use.TheVariants as use_as
-use Rattle.sbl_resolver.specs.Occurrences.{Occurrence, Notice, put, uses, region_end, declares, defines_routine, defines_grouping, noted, noted_others, noted_names, noted_term, noted_terms, noted_plain, noted_items, occurrences_of}
+use Rattle.sbl_resolver.specs.Occurrences.{Occurrence, Notice, put, uses, region_end, declares, defines_routine, defines_grouping, noted, noted_others, noted_terms, noted_plain, noted_items, occurrences_of, noted_name}
+use Rattle.sbl_resolver.specs.OccurrenceView.{noted_names}
 use Rattle.sbl_resolver.specs.Checks.{kind_of, defined_at, definition_of, may_be, is_some_and, is_kind, is_routine, is_grouping, is_mode, needs_definition, fault_at}
 use Rattle.sbl_resolver.specs.Laws.{EachPasses, NamesResolve, Resolves, WellDeclaredPasses}
 use Rattle.sbl_resolver.proofs.Extends.{Extends, same, then_, items_more, put_more, command_more, others_more}
@@ -149,13 +150,13 @@ grouping_kind all s r p passing e =
     kind_kept is_grouping r s all (kind_of r s) refl (then_ (put_more (defines_grouping r) p s) e)
     (not_false (is_some_and is_grouping (kind_of r s)) (test_fails (not (is_some_and is_grouping (kind_of r s))) (fault.WrongKind p.item) _ (rest_fails (not (is_some (kind_of r s))) (fault.Undeclared p.item) _ h)))
 
-pub term_extends : (a : Argument) (p : Site) (s : List Occurrence) → Extends s (noted_term a p s)
+pub term_extends : (a : Argument) (p : Site) (s : List Occurrence) → Extends s (noted_name use_as.Term a p s)
 term_extends (written_out q) p s = same s
 term_extends (by_name n) p s = put_more (uses use_as.Term n) p s
 
 pub terms_extend : (ts : List Term) (p : Site) (s : List Occurrence) → Extends s (noted_terms ts p s)
 terms_extend [] p s = same s
-terms_extend (term o a ∷ ts) p s = then_ (term_extends a p s) (terms_extend ts p (noted_term a p s))
+terms_extend (term o a ∷ ts) p s = then_ (term_extends a p s) (terms_extend ts p (noted_name use_as.Term a p s))
 
 pub plain_after : (n : List ℕ) (c : Command) (os : Others) (p : Site) (s : List Occurrence) → Extends (put (defines_routine n) p s) (noted_plain (routine n c os) p s)
 plain_after n c os p s =
@@ -164,7 +165,7 @@ plain_after n c os p s =
     then_ (command_more c p a) (then_ (others_more os p b) (put_more region_end p (noted_others os p b)))
 
 pub grouping_after : (n : List ℕ) (a : Argument) (ts : List Term) (p : Site) (s : List Occurrence) → Extends (put (defines_grouping n) p s) (noted_plain (grouping n a ts) p s)
-grouping_after n a ts p s = let b = put (defines_grouping n) p s in then_ (term_extends a p b) (terms_extend ts p (noted_term a p b))
+grouping_after n a ts p s = let b = put (defines_grouping n) p s in then_ (term_extends a p b) (terms_extend ts p (noted_name use_as.Term a p b))
 
 -- what a name is defined as
 abbrev Defined : List Occurrence → List ItemInMode → List ℕ → Mode → Type 0

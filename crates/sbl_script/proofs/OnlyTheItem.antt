@@ -15,12 +15,14 @@ use Rattle.sbl_resolver.specs.declared.occurrences.Site.{Site}
 use Rattle.sbl_resolver.specs.Occurrences.{Occurrence, Notice, declares, defines_routine, defines_grouping, uses, substring, among, string, backwards, region_end, noted_items, occurrences_of}
 use Rattle.sbl_script.specs.declared.edit_fault.ScriptEditFault.{ScriptEditFault}
 use Rattle.sbl_script.specs.Parsed.{Source}
+use Rattle.sbl_script.specs.Reading.{IsCheckFault}
 use Rattle.sbl_resolver.specs.Bodies.{body_in}
 use Rattle.sbl_resolver.specs.Checks.{declared_as, kind_of, defined_at, definition_of, waits_after, is_awaited, is_text, is_text_of, has_text, is_some_and, is_kind, has_external, fault_at, fault_of, WellDeclared}
 use Rattle.sbl_resolver.specs.Laws.{EachPasses, IsFirst}
 use Rattle.sbl_script.specs.declared.edits.DefinitionKind.{DefinitionKind}
 use Rattle.sbl_script.specs.declared.edits.DefinitionKind.TheVariants as kinds
-use Rattle.sbl_script.specs.Edits.{ScriptEdit, body, terms, Home, changes, defines, first_of, home, home_in, home_of_among, home_of_body, home_of_held, home_of_terms, items_with, IsFaultAt, IsCheckFaultWith}
+use Rattle.sbl_script.specs.Edits.{ScriptEdit, body, terms, Home, changes, defines, first_of, home, home_in, home_of_among, items_with}
+use Rattle.sbl_script.specs.Homes.{home_of_body, home_of_held, home_of_terms, IsFaultAt}
 use Rattle.sbl_script.specs.Edits as script
 use Rattle.sbl_script.specs.OnlyTheItem.{item_of, number_of, OnlyTheItem, ExternalStays}
 use Rattle.sbl_resolver.proofs.FirstFault as first
@@ -399,7 +401,7 @@ place_of items (terms n) h (Some (macro m b q)) at is = absurd cc
 place_of items (terms n) h (Some (routine m c os)) at is = absurd cc
 
 -- a check that fails tells the item
-check_tells : (s : Source) (e : ScriptEdit) (h : Home) (ts : List Placed) (f : ScriptFault) → WellDeclared s.items s.external → home s.items e ≡ Ok h → IsCheckFaultWith s h ts f →
+check_tells : (s : Source) (e : ScriptEdit) (h : Home) (ts : List Placed) (f : ScriptFault) → WellDeclared s.items s.external → home s.items e ≡ Ok h → IsCheckFault h.text h.around s.external ts f →
     (i : ℕ) × (item_of f ≡ Some i) × (number_of (changes e) s.items ≡ Some i)
 check_tells s e h ts f well there bad =
     let r = place_of s.items e h (first_of (changes e) s.items) refl there bad.tree in
