@@ -17,7 +17,8 @@ use Rattle.sbl_ast.specs.declared.mode.Mode.TheVariants.{Backward}
 use Rattle.sbl_ast.specs.declared.tree.DeclarationKind.{DeclarationKind}
 use Rattle.sbl_ast.specs.declared.tree.DeclarationKind.TheVariants as kinds
 use Rattle.sbl_script.specs.declared.edits.DefinitionKind.TheVariants as defined
-use Rattle.sbl_script.specs.Edits.{ScriptEdit, body, among, terms, changes, defines, first_in, first_of, plain_if, plains_with, items_with, Home, home_in, home_of_body, home_of_among, home_of_held, home_of_terms, IsSubstituted}
+use Rattle.sbl_script.specs.Edits.{ScriptEdit, body, among, terms, changes, defines, first_in, first_of, plain_if, plains_with, items_with, Home, home_in, home_of_among, IsSubstituted}
+use Rattle.sbl_script.specs.Homes.{home_of_body, home_of_held, home_of_terms}
 use Rattle.sbl_script.proofs.Found.{grouping_found, routine_found, some_plain}
 use Rattle.sbl_ast.specs.Source.{Source}
 use Rattle.sbl_machine.specs.BuiltFrom.{affected, affected_by, built_from, meets, meets_one}

@@ -12,8 +12,8 @@ use Rattle.sbl_ast.specs.declared.tree.DeclarationKind.TheVariants as kinds
 use Rattle.sbl_ast.specs.Tree.{Argument, written_out, by_name, Term, term, Plain, declaration, escapes, macro, routine, grouping, Item}
 use Rattle.sbl_resolver.specs.declared.occurrences.Site.{Site}
 use Rattle.sbl_resolver.specs.declared.occurrences.Use.TheVariants as use_as
-use Rattle.sbl_resolver.specs.Occurrences.{Occurrence, put, uses, defines_routine, defines_grouping, noted_term, noted_terms, noted_plain, noted_items, occurrences_of}
-use Rattle.sbl_resolver.specs.Checks.{kind_of, defined_at, definition_of, is_kind, is_routine, is_grouping, is_earlier}
+use Rattle.sbl_resolver.specs.Occurrences.{Occurrence, put, uses, defines_routine, defines_grouping, noted_terms, noted_plain, noted_items, occurrences_of, noted_name}
+use Rattle.sbl_resolver.specs.Checks.{kind_of, defined_at, definition_of, is_some_and, is_routine, is_grouping, is_earlier}
 use Rattle.sbl_resolver.proofs.Extends.{Extends, then_, items_more, put_more}
 use Rattle.sbl_semantics.specs.Items.{known_in, names_by, is_among}
 use Rattle.sbl_machine.proofs.Noticed.{look, look_kept, kinds_at, site_is, sites_quiet, routine_still, grouping_still}
@@ -107,7 +107,7 @@ defined_in (x ∷ xs) i s n h e = at (place_behind x.plain (place_of i x) s n e)
 
 -- ---- names in a script that passes
 
-not_both : (k : Option DeclarationKind) → is_kind is_routine k ≡ true → is_kind is_grouping k ≡ true → ⊥
+not_both : (k : Option DeclarationKind) → is_some_and is_routine k ≡ true → is_some_and is_grouping k ≡ true → ⊥
 not_both None r g = cc
 not_both (Some kinds.Strings) r g = cc
 not_both (Some kinds.Integers) r g = cc
@@ -127,7 +127,7 @@ AreKnown ns (term o a ∷ ts) = IsKnown ns a × AreKnown ns ts
 
 module _ (all : List Occurrence) (passing : Passing all) where
   abbrev is_grouping_name : List ℕ → Type 0
-  is_grouping_name n = is_kind is_grouping (look (kinds_at n) all) ≡ true
+  is_grouping_name n = is_some_and is_grouping (look (kinds_at n) all) ≡ true
 
   -- what some items define is a grouping of theirs, if its name is a grouping's
   grouping_in : (xs : List ItemInMode) (i : ℕ) (s : List Occurrence) (n : List ℕ) (d : Site) → is_grouping_name n → Extends (noted_items xs i s) all → site_in n s ≡ None → site_in n (noted_items xs i s) ≡ Some d → is_among (known_in xs kinds.Groupings) n ≡ true
@@ -143,7 +143,7 @@ module _ (all : List Occurrence) (passing : Passing all) where
           pick : (b : Bool) → bytes_eq n r ≡ b → is_among (known_in xs kinds.Groupings) n ≡ true
           pick true k =
               absurd (not_both (look (kinds_at n) all)
-              (ap (λ z. is_kind is_routine (look (kinds_at z) all)) ((bytes_eq-Decides n r).0 k) ∙ routine_kind all s r (place_of i x) passing (then_ (plain_after r c os (place_of i x) s) ext)) g)
+              (ap (λ z. is_some_and is_routine (look (kinds_at z) all)) ((bytes_eq-Decides n r).0 k) ∙ routine_kind all s r (place_of i x) passing (then_ (plain_after r c os (place_of i x) s) ext)) g)
           pick false k =
               rest (routine_still (defined_at n) (sites_quiet n) r c os (place_of i x) s ∙ site_put n (defines_routine r) (place_of i x) s None e (ap (λ b. cond b (Some (place_of i x)) None) k))
       at (grouping r a ts) ext rest = pick (bytes_eq n r) refl
@@ -199,13 +199,13 @@ module _ (all : List Occurrence) (passing : Passing all) where
         let mark : Occurrence = record { site = p; notice = uses use_as.Term n } in
         let h = (at_mark all s mark passing e).1 in
         let declared = rest_fails (not (is_some (kind_of n s))) (fault.Undeclared p.item) _ h in
-        let allowed = not_false (is_kind is_grouping (kind_of n s)) (test_fails (not (is_kind is_grouping (kind_of n s))) (fault.WrongKind p.item) _ declared) in
-        let behind_kind = rest_fails (not (is_kind is_grouping (kind_of n s))) (fault.WrongKind p.item) _ declared in
+        let allowed = not_false (is_some_and is_grouping (kind_of n s)) (test_fails (not (is_some_and is_grouping (kind_of n s))) (fault.WrongKind p.item) _ declared) in
+        let behind_kind = rest_fails (not (is_some_and is_grouping (kind_of n s))) (fault.WrongKind p.item) _ declared in
         earlier_in n
         (kind_kept is_grouping n s all (kind_of n s) refl (then_ (put_more (uses use_as.Term n) p s) e) allowed)
         (not_false (is_earlier p.item (definition_of n all)) (test_fails (not (is_earlier p.item (definition_of n all))) (fault.Undefined p.item) _ behind_kind))
 
-    term_known : (a : Argument) (m : Mode) (s : List Occurrence) → Extends (noted_term a (record { item = 1 + length bs; mode = m }) s) all → IsKnown (known_in bs kinds.Groupings) a
+    term_known : (a : Argument) (m : Mode) (s : List Occurrence) → Extends (noted_name use_as.Term a (record { item = 1 + length bs; mode = m }) s) all → IsKnown (known_in bs kinds.Groupings) a
     term_known (written_out q) m s e = tt
     term_known (by_name n) m s e = name_known m s n e
 
@@ -213,7 +213,7 @@ module _ (all : List Occurrence) (passing : Passing all) where
     terms_known [] m s e = tt
     terms_known (term o a ∷ ts) m s e =
         let p : Site = record { item = 1 + length bs; mode = m } in
-        (term_known a m s (then_ (terms_extend ts p (noted_term a p s)) e), terms_known ts m (noted_term a p s) e)
+        (term_known a m s (then_ (terms_extend ts p (noted_name use_as.Term a p s)) e), terms_known ts m (noted_name use_as.Term a p s) e)
 
 -- the names of a grouping's definition: none of the groupings before has its own, and those of its terms are all among them
 pub record AreNames (bs : List ItemInMode) (n : List ℕ) (a : Argument) (ts : List Term) : Type 0 where
@@ -233,9 +233,9 @@ names_are items passing bs after m n a ts parts =
     let mark : Occurrence = record { site = p; notice = defines_grouping n } in
     let h = (at_mark all s mark passing (then_ (grouping_after n a ts p s) more)).1 in
     let declared = rest_fails (not (is_some (kind_of n s))) (fault.Undeclared p.item) _ h in
-    let behind_kind = rest_fails (not (is_kind is_grouping (kind_of n s))) (fault.WrongKind p.item) _ declared in
+    let behind_kind = rest_fails (not (is_some_and is_grouping (kind_of n s))) (fault.WrongKind p.item) _ declared in
     record {
       once = not_in all passing bs (x ∷ after) split n (test_fails (is_earlier p.item (definition_of n all)) (fault.DefinedTwice p.item) _ behind_kind);
-      first = term_known all passing bs (x ∷ after) split a m t (then_ (terms_extend ts p (noted_term a p t)) more);
-      others = terms_known all passing bs (x ∷ after) split ts m (noted_term a p t) more;
+      first = term_known all passing bs (x ∷ after) split a m t (then_ (terms_extend ts p (noted_name use_as.Term a p t)) more);
+      others = terms_known all passing bs (x ∷ after) split ts m (noted_name use_as.Term a p t) more;
     }

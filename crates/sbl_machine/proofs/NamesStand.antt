@@ -14,11 +14,13 @@ use Rattle.sbl_ast.specs.Tree.{Argument, written_out, by_name, Command, Others, 
 use Rattle.sbl_resolver.specs.declared.occurrences.Site.{Site}
 use Rattle.sbl_resolver.specs.declared.occurrences.Use.{Use}
 use Rattle.sbl_resolver.specs.declared.occurrences.Use.TheVariants as use_as
-use Rattle.sbl_resolver.specs.Occurrences.{Occurrence, Notice, put, uses, region_end, declares, defines_routine, defines_grouping, noted, noted_others, noted_names, noted_term, noted_terms, noted_plain, noted_items, occurrences_of}
-use Rattle.sbl_resolver.specs.Checks.{kind_of, defined_at, definition_of, may_be, is_kind, is_routine, is_grouping, is_boolean, is_integer, is_string, is_mode, needs_definition, fault_at}
+use Rattle.sbl_resolver.specs.Occurrences.{Occurrence, Notice, put, uses, region_end, declares, defines_routine, defines_grouping, noted, noted_others, noted_terms, noted_plain, noted_items, occurrences_of, noted_name}
+use Rattle.sbl_resolver.specs.OccurrenceView.{noted_names}
+use Rattle.sbl_resolver.specs.Checks.{kind_of, defined_at, definition_of, may_be, is_some_and, is_kind, is_routine, is_grouping, is_mode, needs_definition, fault_at}
 use Rattle.sbl_resolver.specs.Laws.{EachPasses, NamesResolve, Resolves, WellDeclaredPasses}
 use Rattle.sbl_resolver.proofs.Extends.{Extends, same, then_, items_more, put_more, command_more, others_more}
 use Rattle.sbl_semantics.specs.Items.{Body, body_named, is_among, known_in, names_by}
+use Rattle.sbl_machine.proofs.SameParts as parts
 use Rattle.sbl_machine.specs.NamesStand.{HasBody, StandsFor, NamesStand}
 use Rattle.sbl_machine.proofs.Noticed.{look, or_none, look_put, look_kept, kinds_at, kind_is, site_is, routine_still, grouping_still, kinds_quiet, sites_quiet}
 
@@ -130,31 +132,31 @@ pub at_mark : (all s : List Occurrence) (m : Occurrence) → Passing all → Ext
 at_mark all s m passing e = (e.more, passing.each s e.more m (e.is ∙ append_assoc s (m ∷ []) e.more))
 
 -- the kind of a name that is defined fits its definition
-pub kind_kept : (test : DeclarationKind → Bool) (r : List ℕ) (s all : List Occurrence) (o : Option DeclarationKind) → kind_of r s ≡ o → Extends s all → is_kind test o ≡ true → is_kind test (look (kinds_at r) all) ≡ true
+pub kind_kept : (test : DeclarationKind → Bool) (r : List ℕ) (s all : List Occurrence) (o : Option DeclarationKind) → kind_of r s ≡ o → Extends s all → is_some_and test o ≡ true → is_some_and test (look (kinds_at r) all) ≡ true
 kind_kept test r s all None h e t = absurd cc
-kind_kept test r s all (Some k) h e t = ap (is_kind test) (look_kept (kinds_at r) s all k e (sym (kind_is r s) ∙ h)) ∙ t
+kind_kept test r s all (Some k) h e t = ap (is_some_and test) (look_kept (kinds_at r) s all k e (sym (kind_is r s) ∙ h)) ∙ t
 
-pub routine_kind : (all s : List Occurrence) (r : List ℕ) (p : Site) → Passing all → Extends (put (defines_routine r) p s) all → is_kind is_routine (look (kinds_at r) all) ≡ true
+pub routine_kind : (all s : List Occurrence) (r : List ℕ) (p : Site) → Passing all → Extends (put (defines_routine r) p s) all → is_some_and is_routine (look (kinds_at r) all) ≡ true
 routine_kind all s r p passing e =
     let mark : Occurrence = record { site = p; notice = defines_routine r } in
     let h = (at_mark all s mark passing e).1 in
     kind_kept is_routine r s all (kind_of r s) refl (then_ (put_more (defines_routine r) p s) e)
-    (not_false (is_kind is_routine (kind_of r s)) (test_fails (not (is_kind is_routine (kind_of r s))) (fault.WrongKind p.item) _ (rest_fails (not (is_some (kind_of r s))) (fault.Undeclared p.item) _ h)))
+    (not_false (is_some_and is_routine (kind_of r s)) (test_fails (not (is_some_and is_routine (kind_of r s))) (fault.WrongKind p.item) _ (rest_fails (not (is_some (kind_of r s))) (fault.Undeclared p.item) _ h)))
 
-grouping_kind : (all s : List Occurrence) (r : List ℕ) (p : Site) → Passing all → Extends (put (defines_grouping r) p s) all → is_kind is_grouping (look (kinds_at r) all) ≡ true
+grouping_kind : (all s : List Occurrence) (r : List ℕ) (p : Site) → Passing all → Extends (put (defines_grouping r) p s) all → is_some_and is_grouping (look (kinds_at r) all) ≡ true
 grouping_kind all s r p passing e =
     let mark : Occurrence = record { site = p; notice = defines_grouping r } in
     let h = (at_mark all s mark passing e).1 in
     kind_kept is_grouping r s all (kind_of r s) refl (then_ (put_more (defines_grouping r) p s) e)
-    (not_false (is_kind is_grouping (kind_of r s)) (test_fails (not (is_kind is_grouping (kind_of r s))) (fault.WrongKind p.item) _ (rest_fails (not (is_some (kind_of r s))) (fault.Undeclared p.item) _ h)))
+    (not_false (is_some_and is_grouping (kind_of r s)) (test_fails (not (is_some_and is_grouping (kind_of r s))) (fault.WrongKind p.item) _ (rest_fails (not (is_some (kind_of r s))) (fault.Undeclared p.item) _ h)))
 
-pub term_extends : (a : Argument) (p : Site) (s : List Occurrence) → Extends s (noted_term a p s)
+pub term_extends : (a : Argument) (p : Site) (s : List Occurrence) → Extends s (noted_name use_as.Term a p s)
 term_extends (written_out q) p s = same s
 term_extends (by_name n) p s = put_more (uses use_as.Term n) p s
 
 pub terms_extend : (ts : List Term) (p : Site) (s : List Occurrence) → Extends s (noted_terms ts p s)
 terms_extend [] p s = same s
-terms_extend (term o a ∷ ts) p s = then_ (term_extends a p s) (terms_extend ts p (noted_term a p s))
+terms_extend (term o a ∷ ts) p s = then_ (term_extends a p s) (terms_extend ts p (noted_name use_as.Term a p s))
 
 pub plain_after : (n : List ℕ) (c : Command) (os : Others) (p : Site) (s : List Occurrence) → Extends (put (defines_routine n) p s) (noted_plain (routine n c os) p s)
 plain_after n c os p s =
@@ -163,11 +165,11 @@ plain_after n c os p s =
     then_ (command_more c p a) (then_ (others_more os p b) (put_more region_end p (noted_others os p b)))
 
 pub grouping_after : (n : List ℕ) (a : Argument) (ts : List Term) (p : Site) (s : List Occurrence) → Extends (put (defines_grouping n) p s) (noted_plain (grouping n a ts) p s)
-grouping_after n a ts p s = let b = put (defines_grouping n) p s in then_ (term_extends a p b) (terms_extend ts p (noted_term a p b))
+grouping_after n a ts p s = let b = put (defines_grouping n) p s in then_ (term_extends a p b) (terms_extend ts p (noted_name use_as.Term a p b))
 
 -- what a name is defined as
 abbrev Defined : List Occurrence → List ItemInMode → List ℕ → Mode → Type 0
-Defined all items n m = ((is_kind is_routine (look (kinds_at n) all) ≡ true) × HasBody items n m) ⊎ ((is_kind is_grouping (look (kinds_at n) all) ≡ true) × (is_among (known_in items kinds.Groupings) n ≡ true))
+Defined all items n m = ((is_some_and is_routine (look (kinds_at n) all) ≡ true) × HasBody items n m) ⊎ ((is_some_and is_grouping (look (kinds_at n) all) ≡ true) × (is_among (known_in items kinds.Groupings) n ≡ true))
 
 -- an item that does not define the name
 passed_over : (all : List Occurrence) (x : ItemInMode) (xs : List ItemInMode) (n : List ℕ) (m : Mode) → body_named (x ∷ xs) n ≡ body_named xs n → (is_among (known_in xs kinds.Groupings) n ≡ true → is_among (known_in (x ∷ xs) kinds.Groupings) n ≡ true) → Defined all xs n m → Defined all (x ∷ xs) n m
@@ -212,7 +214,7 @@ module _ (all : List Occurrence) (passing : Passing all) (n : List ℕ) (d : Sit
       at true h =
           let first : Extends (put (defines_routine r) p s) all = then_ (plain_after r c os p s) more in
           inl (
-            ap (λ z. is_kind is_routine (look (kinds_at z) all)) ((bytes_eq-Decides n r).0 h) ∙ routine_kind all s r p passing first,
+            ap (λ z. is_some_and is_routine (look (kinds_at z) all)) ((bytes_eq-Decides n r).0 h) ∙ routine_kind all s r p passing first,
             (
               b,
               ap (λ k. cond k (Some b) (body_named xs n)) (flip n r h),
@@ -235,7 +237,7 @@ module _ (all : List Occurrence) (passing : Passing all) (n : List ℕ) (d : Sit
       at : (k : Bool) → bytes_eq n r ≡ k → Goal (record { mode = p.mode; plain = grouping r a ts }) xs
       at true h =
           inr (
-            ap (λ z. is_kind is_grouping (look (kinds_at z) all)) ((bytes_eq-Decides n r).0 h) ∙ grouping_kind all s r p passing (then_ (grouping_after r a ts p s) more),
+            ap (λ z. is_some_and is_grouping (look (kinds_at z) all)) ((bytes_eq-Decides n r).0 h) ∙ grouping_kind all s r p passing (then_ (grouping_after r a ts p s) more),
             ap (λ k. cond k true (is_among (known_in xs kinds.Groupings) n)) (flip n r h),
           )
       at false h =
@@ -301,8 +303,8 @@ module _ (items : List Item) (passing : Passing (occurrences_of items)) (u : Use
   never_both kinds.Externals h g = cc
   never_both kinds.Groupings h g = cc
 
-  tested : (test : DeclarationKind → Bool) → is_kind test (look (kinds_at n) all) ≡ true → test r.kind ≡ true
-  tested test h = sym (ap (is_kind test) kind_there) ∙ h
+  tested : (test : DeclarationKind → Bool) → is_some_and test (look (kinds_at n) all) ≡ true → test r.kind ≡ true
+  tested test h = sym (ap (is_some_and test) kind_there) ∙ h
 
   body_there : is_routine r.kind ≡ true → HasBody ours n m
   body_there k = at (r.defined (needs k))
@@ -327,31 +329,7 @@ module _ (items : List Item) (passing : Passing (occurrences_of items)) (u : Use
           pick (inl h) = absurd (never_both r.kind (tested is_routine h.0) k)
           pick (inr h) = h.1
 
-  a_string : (k : DeclarationKind) → is_string k ≡ true → k ≡ kinds.Strings
-  a_string kinds.Strings h = refl
-  a_string kinds.Integers h = absurd cc
-  a_string kinds.Booleans h = absurd cc
-  a_string kinds.Routines h = absurd cc
-  a_string kinds.Externals h = absurd cc
-  a_string kinds.Groupings h = absurd cc
-
-  an_integer : (k : DeclarationKind) → is_integer k ≡ true → k ≡ kinds.Integers
-  an_integer kinds.Strings h = absurd cc
-  an_integer kinds.Integers h = refl
-  an_integer kinds.Booleans h = absurd cc
-  an_integer kinds.Routines h = absurd cc
-  an_integer kinds.Externals h = absurd cc
-  an_integer kinds.Groupings h = absurd cc
-
-  a_boolean : (k : DeclarationKind) → is_boolean k ≡ true → k ≡ kinds.Booleans
-  a_boolean kinds.Strings h = absurd cc
-  a_boolean kinds.Integers h = absurd cc
-  a_boolean kinds.Booleans h = refl
-  a_boolean kinds.Routines h = absurd cc
-  a_boolean kinds.Externals h = absurd cc
-  a_boolean kinds.Groupings h = absurd cc
-
-  a_command : (k : DeclarationKind) → r.kind ≡ k → not (is_integer k) ≡ true → StandsFor ours use_as.Command n m
+  a_command : (k : DeclarationKind) → r.kind ≡ k → not (is_kind k kinds.Integers) ≡ true → StandsFor ours use_as.Command n m
   a_command kinds.Strings e h = inl (string_there e)
   a_command kinds.Integers e h = absurd cc
   a_command kinds.Booleans e h = inr (inl (boolean_there e))
@@ -364,9 +342,9 @@ module _ (items : List Item) (passing : Passing (occurrences_of items)) (u : Use
   stands use_as.Condition h = body_there h
   stands use_as.Excluded h = grouping_there h
   stands use_as.Term h = grouping_there h
-  stands use_as.Boolean h = boolean_there (a_boolean r.kind h)
-  stands use_as.Integer h = integer_there (an_integer r.kind h)
-  stands use_as.String h = string_there (a_string r.kind h)
+  stands use_as.Boolean h = boolean_there (parts.kind_is r.kind kinds.Booleans h)
+  stands use_as.Integer h = integer_there (parts.kind_is r.kind kinds.Integers h)
+  stands use_as.String h = string_there (parts.kind_is r.kind kinds.Strings h)
 
 pub names_stand : NamesResolve → WellDeclaredPasses → NamesStand
 names_stand resolve passes script well before after p u n parts =

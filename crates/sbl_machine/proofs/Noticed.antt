@@ -9,7 +9,7 @@ use Rattle.sbl_ast.specs.declared.tree.Simple.TheVariants as simples
 use Rattle.sbl_ast.specs.Tree.{Argument, written_out, by_name, Expression, expression, Sums, no_sums, sum, Product, product, Scales, no_scales, scale, Factor, negated, bracketed, numeral, variable, fixed, length_of, Entry, entry, Command, bracket, simple_, literal_, name_, non_, prefixed, counted, move_, named, splice_, setlimit_, assign_, compare_, compare_values_, among_, Rows, no_rows, row, Others, no_others, joined, Starter, no_starter, starter, Groups, bare, group, Term, term, routine, grouping}
 use Rattle.sbl_resolver.specs.declared.occurrences.Site.{Site}
 use Rattle.sbl_resolver.specs.declared.occurrences.Use.TheVariants as use_as
-use Rattle.sbl_resolver.specs.Occurrences.{Occurrence, Notice, put, uses, substring, among, string, backwards, region_end, declares, defines_routine, defines_grouping, amongs_in, noted_string, noted_expression, noted_sums, noted_product, noted_scales, noted_factor, noted_simple, noted_prefix, site_behind, use_of, noted_condition, noted_entry, noted_entries, has_starter, is_empty, noted, noted_rows, noted_others, noted_starter, noted_groups, noted_term, noted_terms, noted_plain}
+use Rattle.sbl_resolver.specs.Occurrences.{Occurrence, Notice, put, uses, substring, among, string, backwards, region_end, declares, defines_routine, defines_grouping, amongs_in, noted_expression, noted_sums, noted_product, noted_scales, noted_factor, noted_simple, noted_prefix, site_behind, use_of, noted_condition, noted_entry, noted_entries, has_starter, is_empty, noted, noted_rows, noted_others, noted_starter, noted_groups, noted_terms, noted_plain, noted_name}
 use Rattle.sbl_resolver.specs.Checks.{declared_as, kind_of, defined_at, definition_of}
 use Rattle.sbl_resolver.proofs.Extends.{Extends}
 
@@ -64,7 +64,7 @@ module _ {X : Type 0} (f : Occurrence → Option X) (quiet : (n : Notice) (p : S
   put_still : (n : Notice) (p : Site) (s : List Occurrence) → is_quiet n ≡ true → Still s (put n p s)
   put_still n p s q = look_put f n p s ∙ ap (option_or (look f s)) (quiet n p q) ∙ or_none (look f s)
 
-  string_still : (a : Argument) (p : Site) (s : List Occurrence) → Still s (noted_string a p s)
+  string_still : (a : Argument) (p : Site) (s : List Occurrence) → Still s (noted_name use_as.String a p s)
   string_still (written_out q) p s = refl
   string_still (by_name n) p s = put_still (uses use_as.String n) p s refl
 
@@ -164,13 +164,13 @@ module _ {X : Type 0} (f : Occurrence → Option X) (quiet : (n : Notice) (p : S
         let c = noted_rows rs p b in
         groups_still gs o p (put region_end p c) ∙ put_still region_end p c refl ∙ rows_still rs p b ∙ entries_still es o p a ∙ entry_still e o p s
 
-  term_still : (a : Argument) (p : Site) (s : List Occurrence) → Still s (noted_term a p s)
+  term_still : (a : Argument) (p : Site) (s : List Occurrence) → Still s (noted_name use_as.Term a p s)
   term_still (written_out q) p s = refl
   term_still (by_name n) p s = put_still (uses use_as.Term n) p s refl
 
   terms_still : (ts : List Term) (p : Site) (s : List Occurrence) → Still s (noted_terms ts p s)
   terms_still [] p s = refl
-  terms_still (term o a ∷ ts) p s = terms_still ts p (noted_term a p s) ∙ term_still a p s
+  terms_still (term o a ∷ ts) p s = terms_still ts p (noted_name use_as.Term a p s) ∙ term_still a p s
 
   -- behind its first occurrence
   pub routine_still : (n : List ℕ) (c : Command) (os : Others) (p : Site) (s : List Occurrence) → Still (put (defines_routine n) p s) (noted_plain (routine n c os) p s)
@@ -179,7 +179,7 @@ module _ {X : Type 0} (f : Occurrence → Option X) (quiet : (n : Notice) (p : S
       put_still region_end p (noted_others os p (noted c p a)) refl ∙ others_still os p (noted c p a) ∙ command_still c p a
 
   pub grouping_still : (n : List ℕ) (a : Argument) (ts : List Term) (p : Site) (s : List Occurrence) → Still (put (defines_grouping n) p s) (noted_plain (grouping n a ts) p s)
-  grouping_still n a ts p s = let b = put (defines_grouping n) p s in terms_still ts p (noted_term a p b) ∙ term_still a p b
+  grouping_still n a ts p s = let b = put (defines_grouping n) p s in terms_still ts p (noted_name use_as.Term a p b) ∙ term_still a p b
 
 pub kinds_quiet : (n : List ℕ) (x : Notice) (p : Site) → is_quiet x ≡ true → kinds_at n (record { site = p; notice = x }) ≡ None
 kinds_quiet n (declares k x) p e = absurd cc

@@ -70,19 +70,19 @@ pub fault_at_is_fault : FaultIsFirst → WellDeclaredPasses → FaultAtIsFault
 fault_at_is_fault first passes bytes external f t h =
     let i = h.first.first in (
       fault_of_token (occurrences_of h.items) i.before i.after i.occurrence f i.fault,
-      inr (inr (h.placed, h.tokens, h.offered, record { items = h.items; tree = h.tree; is = is_fault first passes h.items external f i })),
+      inr (inr (h.placed, h.tokens, h.offered, record { tree = h.items; read = h.tree; is = is_fault first passes h.items external f i })),
     )
 
 never : {X : Type 0} (f : ScriptFault) → is_of_token f ≡ true → is_of_token f ≡ false → X
 never f h e = absurd cc
 
-fault_of_check : PlacesAreWritten → FaultIsFirst → (bytes external : List ℕ) (ts : List Placed) (f : ScriptFault) → is_of_token f ≡ true → HasTokens start bytes ts → first_left_out ts ≡ None → IsCheckFault ts external f
+fault_of_check : PlacesAreWritten → FaultIsFirst → (bytes external : List ℕ) (ts : List Placed) (f : ScriptFault) → is_of_token f ≡ true → HasTokens start bytes ts → first_left_out ts ≡ None → IsCheckFault script (λ items. items) external ts f
     → (t : SubjectToken) × IsFaultAt bytes f t
-fault_of_check written first bytes external ts f of_token tokens offered h = elim (first h.items external f h.is) [
+fault_of_check written first bytes external ts f of_token tokens offered h = elim (first h.tree external f h.is) [
   | inl j ↦
-      let a = after_first (occurrences_of h.items) f j in
-      let t = has_token written ts h.items a.0 f h.tree a.1 in
-      (t.0, record { placed = ts; tokens = tokens; offered = offered; items = h.items; tree = h.tree; number = a.0; first = a.1; token = t.1 })
+      let a = after_first (occurrences_of h.tree) f j in
+      let t = has_token written ts h.tree a.0 f h.read a.1 in
+      (t.0, record { placed = ts; tokens = tokens; offered = offered; items = h.tree; tree = h.read; number = a.0; first = a.1; token = t.1 })
   | inr x ↦ never f of_token (ap is_of_token x.2)
 ]
 

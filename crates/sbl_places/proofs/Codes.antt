@@ -1,5 +1,5 @@
 -- Which faults are those of a check at a token.
-use Rattle.std.proofs.Common.{◌≡◌, ◌⊎◌, ℕ, ◌+◌, Bool, true, false, ◌&&◌, ◌||◌, ◌==◌, List, [], ◌∷◌, Option, Some, None, Result, Ok, Err, refl, sym, ap, subst, ◌∙◌, inl, inr, if◌then◌else◌}
+use Rattle.std.proofs.Common.{◌≡◌, ◌⊎◌, ℕ, ◌+◌, Bool, true, false, not, ◌&&◌, ◌||◌, ◌==◌, List, [], ◌∷◌, Option, Some, None, is_some, Result, Ok, Err, refl, sym, ap, subst, ◌∙◌, inl, inr, if◌then◌else◌}
 use Rattle.std.specs.List.{list_all}
 use Rattle.sbl_text.specs.declared.escapes.Inserts.{Inserts}
 use Rattle.sbl_text.specs.declared.fault.ScriptFault.{ScriptFault}
@@ -16,7 +16,11 @@ use Rattle.sbl_text.specs.Literals.{Refusal, byte_length, code_or_fault, charact
 use Rattle.sbl_text.specs.Tokens.{Placed, starts_star, pair_fault, token_fault, fault_at, IsRefused, IsFirstFaultFrom}
 use Rattle.sbl_ast.specs.Texts.{Text}
 use Rattle.sbl_parser.specs.Reading.{IsSyntaxAt, IsTooDeepAt, IsOutOfProfileAt}
-use Rattle.sbl_resolver.specs.Occurrences.{Occurrence}
+use Rattle.sbl_ast.specs.declared.mode.Mode.TheVariants.{Backward}
+use Rattle.sbl_ast.specs.declared.tree.DeclarationKind.{DeclarationKind}
+use Rattle.sbl_resolver.specs.declared.occurrences.Site.{Site}
+use Rattle.sbl_resolver.specs.declared.occurrences.Use.{Use}
+use Rattle.sbl_resolver.specs.Occurrences.{Occurrence, Notice, declares, defines_routine, defines_grouping, uses, substring, among, string, backwards, region_end}
 use Rattle.sbl_resolver.specs.Checks as checks
 use Rattle.sbl_script.specs.Reading.{IsTextFault, IsUnread, place_of, terminals}
 use Rattle.sbl_places.specs.FaultPlaces.{is_of_token}
@@ -27,22 +31,38 @@ one : (b : Bool) (x : ScriptFault) (rest : Option ScriptFault) (f : ScriptFault)
 one true x rest f h more e = let same : x ≡ f = cc in ap is_of_token (sym same) ∙ h
 one false x rest f h more e = more e
 
+none : (f : ScriptFault) → None ≡ Some f → is_of_token f ≡ true
+none f e = absurd cc
+
+of_definition : (i : ℕ) (is_allowed : DeclarationKind → Bool) (k : Option DeclarationKind) (d : Option Site) (f : ScriptFault) → checks.fault_of_definition i is_allowed k d ≡ Some f → is_of_token f ≡ true
+of_definition i is_allowed k d f =
+    one (not (is_some k)) (fault.Undeclared i) _ f refl (
+    one (not (checks.is_some_and is_allowed k)) (fault.WrongKind i) _ f refl (
+    one (checks.is_earlier i d) (fault.DefinedTwice i) None f refl (
+    none f)))
+
+of_use : (p : Site) (u : Use) (k : Option DeclarationKind) (d : Option Site) (f : ScriptFault) → checks.fault_of_use p u k d ≡ Some f → is_of_token f ≡ true
+of_use p u k d f =
+    one (not (is_some k)) (fault.Undeclared p.item) _ f refl (
+    one (not (checks.is_some_and (checks.may_be u) k)) (fault.WrongKind p.item) _ f refl (
+    one (checks.lacks_definition u p.item k d) (fault.Undefined p.item) _ f refl (
+    one (checks.is_some_and checks.is_routine k && checks.is_in_other p.mode d) (fault.WrongMode p.item) None f refl (
+    none f))))
+
+of_notice : (all before after : List Occurrence) (p : Site) (n : Notice) (f : ScriptFault) → checks.fault_at all before (record { site = p; notice = n }) after ≡ Some f → is_of_token f ≡ true
+of_notice all before after p (declares k n) f = one (is_some (checks.kind_of n before)) (fault.DeclaredTwice p.item) None f refl (none f)
+of_notice all before after p (defines_routine n) f = of_definition p.item checks.is_routine (checks.kind_of n before) (checks.definition_of n all) f
+of_notice all before after p (defines_grouping n) f = of_definition p.item checks.is_grouping (checks.kind_of n before) (checks.definition_of n all) f
+of_notice all before after p (uses u n) f = of_use p u (checks.kind_of n before) (checks.definition_of n all) f
+of_notice all before after p substring f = one (not (checks.is_followed p.mode after)) (fault.Substring p.item) None f refl (none f)
+of_notice all before after p (among has_starter is_empty) f =
+    one (has_starter && checks.is_awaited before false) (fault.Starter p.item) _ f refl (one is_empty (fault.EmptyAmong p.item) None f refl (none f))
+of_notice all before after p (string k t) f = one (checks.has_text p.item k t before) (fault.RepeatedString p.item) None f refl (none f)
+of_notice all before after p backwards f = one (checks.is_mode Backward p.mode) (fault.NestedBackwards p.item) None f refl (none f)
+of_notice all before after p region_end f = none f
+
 pub fault_of_token : (all before after : List Occurrence) (m : Occurrence) (f : ScriptFault) → checks.fault_at all before m after ≡ Some f → is_of_token f ≡ true
-fault_of_token all before after m f e =
-    one (checks.is_declared_twice before m.notice) (fault.DeclaredTwice m.site.item) _ f refl (
-    one (checks.is_undeclared before m.notice) (fault.Undeclared m.site.item) _ f refl (
-    one (checks.is_wrong_kind before m.notice) (fault.WrongKind m.site.item) _ f refl (
-    one (checks.is_defined_twice all m.site.item m.notice) (fault.DefinedTwice m.site.item) _ f refl (
-    one (checks.is_undefined all before m.site.item m.notice) (fault.Undefined m.site.item) _ f refl (
-    one (checks.is_wrong_mode all before m.site.mode m.notice) (fault.WrongMode m.site.item) _ f refl (
-    one (checks.is_unpaired m.site.mode m.notice after) (fault.Substring m.site.item) _ f refl (
-    one (checks.is_started_twice before m.notice) (fault.Starter m.site.item) _ f refl (
-    one (checks.is_repeated before m.site.item m.notice) (fault.RepeatedString m.site.item) _ f refl (
-    one (checks.is_empty_among m.notice) (fault.EmptyAmong m.site.item) _ f refl (
-    one (checks.is_nested m.site.mode m.notice) (fault.NestedBackwards m.site.item) None f refl (
-    none f))))))))))) e where
-      none : (g : ScriptFault) → None ≡ Some g → is_of_token g ≡ true
-      none g h = absurd cc
+fault_of_token all before after m f = of_notice all before after m.site m.notice f
 
 -- ---- the faults of an insertion
 

@@ -13,7 +13,8 @@ use Rattle.sbl_ast.specs.Tree.{Argument, written_out, by_name, Expression, expre
 use Rattle.sbl_ast.specs.Order.{ItemInMode, in_mode, in_order}
 use Rattle.sbl_resolver.specs.declared.occurrences.Use.TheVariants as use_as
 use Rattle.sbl_resolver.specs.declared.occurrences.Site.{Site}
-use Rattle.sbl_resolver.specs.Occurrences.{Occurrence, Notice, put, uses, substring, among, string, backwards, region_end, declares, defines_routine, defines_grouping, amongs_in, noted_string, noted_expression, noted_sums, noted_product, noted_scales, noted_factor, noted_simple, noted_prefix, site_behind, use_of, noted_entry, noted_entries, has_starter, is_empty, noted, noted_rows, noted_others, noted_starter, noted_groups, noted_names, noted_term, noted_terms, noted_plain, noted_items, occurrences_of}
+use Rattle.sbl_resolver.specs.Occurrences.{Occurrence, Notice, put, uses, substring, among, string, backwards, region_end, declares, defines_routine, defines_grouping, amongs_in, noted_expression, noted_sums, noted_product, noted_scales, noted_factor, noted_simple, noted_prefix, site_behind, use_of, noted_entry, noted_entries, has_starter, is_empty, noted, noted_rows, noted_others, noted_starter, noted_groups, noted_terms, noted_plain, noted_items, occurrences_of, noted_name}
+use Rattle.sbl_resolver.specs.OccurrenceView.{noted_names}
 use Rattle.sbl_resolver.specs.Subjects.{Subject, subject_of, subjects_of, and_more}
 use Rattle.sbl_places.specs.SubjectTokens.{SubjectToken, subject_in, string_if, is_among, is_in_among, open_after, subject_tokens, subject_tokens_after, subjects}
 use Rattle.sbl_places.specs.SubjectTokens as tokens
@@ -62,7 +63,7 @@ quiet q s o rest h = ap (λ (b : Bool). subjects_of s ++ and_more (string_if b q
 
 -- ---- arithmetic
 
-string_agree : (a : Argument) (p : Site) (s : List Occurrence) (o : List Bool) (rest : List Terminal) → is_in_among o ≡ false → subjects_of (noted_string a p s) ++ at o rest ≡ subjects_of s ++ at o (argument_terminal a ∷ rest)
+string_agree : (a : Argument) (p : Site) (s : List Occurrence) (o : List Bool) (rest : List Terminal) → is_in_among o ≡ false → subjects_of (noted_name use_as.String a p s) ++ at o rest ≡ subjects_of s ++ at o (argument_terminal a ∷ rest)
 string_agree (written_out q) p s o rest h = quiet q s o rest h
 string_agree (by_name n) p s o rest h = one (uses use_as.String n) p s (at o rest)
 
@@ -183,13 +184,13 @@ names_agree : (k : DeclarationKind) (ns : List (List ℕ)) (p : Site) (s : List 
 names_agree k [] p s o rest = refl
 names_agree k (n ∷ ns) p s o rest = names_agree k ns p (put (declares k n) p s) o rest ∙ one (declares k n) p s (at o (spelled_names ns rest))
 
-term_agree : (a : Argument) (p : Site) (s : List Occurrence) (o : List Bool) (rest : List Terminal) → is_in_among o ≡ false → subjects_of (noted_term a p s) ++ at o rest ≡ subjects_of s ++ at o (argument_terminal a ∷ rest)
+term_agree : (a : Argument) (p : Site) (s : List Occurrence) (o : List Bool) (rest : List Terminal) → is_in_among o ≡ false → subjects_of (noted_name use_as.Term a p s) ++ at o rest ≡ subjects_of s ++ at o (argument_terminal a ∷ rest)
 term_agree (written_out q) p s o rest h = quiet q s o rest h
 term_agree (by_name n) p s o rest h = one (uses use_as.Term n) p s (at o rest)
 
 terms_agree : (ts : List Term) (p : Site) (s : List Occurrence) (o : List Bool) (rest : List Terminal) → is_in_among o ≡ false → subjects_of (noted_terms ts p s) ++ at o rest ≡ subjects_of s ++ at o (spelled_terms ts rest)
 terms_agree [] p s o rest h = refl
-terms_agree (term d a ∷ ts) p s o rest h = terms_agree ts p (noted_term a p s) o rest h ∙ term_agree a p s o (spelled_terms ts rest) h
+terms_agree (term d a ∷ ts) p s o rest h = terms_agree ts p (noted_name use_as.Term a p s) o rest h ∙ term_agree a p s o (spelled_terms ts rest) h
 
 plain_agree : (x : Plain) (p : Site) (s : List Occurrence) (o : List Bool) (rest : List Terminal) → is_in_among o ≡ false → subjects_of (noted_plain x p s) ++ at o rest ≡ subjects_of s ++ at o (spelled_plain x rest)
 plain_agree (declaration k ns) p s o rest h = names_agree k ns p s (false ∷ o) (t.close_ ∷ rest)
@@ -204,7 +205,7 @@ plain_agree (routine n c os) p s o rest h =
     ∙ one (defines_routine n) p s (at o (t.as_ ∷ spelled c (spelled_others os rest)))
 plain_agree (grouping n a ts) p s o rest h =
     let b = put (defines_grouping n) p s in
-    terms_agree ts p (noted_term a p b) o rest h
+    terms_agree ts p (noted_name use_as.Term a p b) o rest h
     ∙ term_agree a p b o (spelled_terms ts rest) h
     ∙ one (defines_grouping n) p s (at o (argument_terminal a ∷ spelled_terms ts rest))
 

@@ -5,43 +5,23 @@ ghost use Rattle.sbl_places.specs.FaultKinds as spec;
 
 use sbl_text::ScriptFault;
 
-/// Returns the number of a fault that is at a token, and 0 for another fault. Does not allocate.
-fn kind_of(fault: ScriptFault) -> usize
-    ensures { result ≡ spec.kind_of fault }
+/// Returns the number and the item of a fault that is at a token, and 0 and 0 for another fault. Does not allocate.
+fn kind_and_item(fault: ScriptFault) -> (usize, usize)
+    ensures { result ≡ (spec.kind_of fault, spec.item_of fault) }
 {
     match fault {
-        ScriptFault::DeclaredTwice { .. } => 9,
-        ScriptFault::Undeclared { .. } => 10,
-        ScriptFault::WrongKind { .. } => 11,
-        ScriptFault::DefinedTwice { .. } => 12,
-        ScriptFault::Undefined { .. } => 13,
-        ScriptFault::WrongMode { .. } => 14,
-        ScriptFault::Substring { .. } => 15,
-        ScriptFault::Starter { .. } => 16,
-        ScriptFault::RepeatedString { .. } => 17,
-        ScriptFault::EmptyAmong { .. } => 18,
-        ScriptFault::NestedBackwards { .. } => 19,
-        _ => 0,
-    }
-}
-
-/// Returns the item of a fault that is at a token, and 0 for another fault. Does not allocate.
-fn item_of(fault: ScriptFault) -> usize
-    ensures { result ≡ spec.item_of fault }
-{
-    match fault {
-        ScriptFault::DeclaredTwice { item }
-        | ScriptFault::Undeclared { item }
-        | ScriptFault::WrongKind { item }
-        | ScriptFault::DefinedTwice { item }
-        | ScriptFault::Undefined { item }
-        | ScriptFault::WrongMode { item }
-        | ScriptFault::Substring { item }
-        | ScriptFault::Starter { item }
-        | ScriptFault::RepeatedString { item }
-        | ScriptFault::EmptyAmong { item }
-        | ScriptFault::NestedBackwards { item } => item,
-        _ => 0,
+        ScriptFault::DeclaredTwice { item } => (9, item),
+        ScriptFault::Undeclared { item } => (10, item),
+        ScriptFault::WrongKind { item } => (11, item),
+        ScriptFault::DefinedTwice { item } => (12, item),
+        ScriptFault::Undefined { item } => (13, item),
+        ScriptFault::WrongMode { item } => (14, item),
+        ScriptFault::Substring { item } => (15, item),
+        ScriptFault::Starter { item } => (16, item),
+        ScriptFault::RepeatedString { item } => (17, item),
+        ScriptFault::EmptyAmong { item } => (18, item),
+        ScriptFault::NestedBackwards { item } => (19, item),
+        _ => (0, 0),
     }
 }
 
@@ -49,5 +29,7 @@ fn item_of(fault: ScriptFault) -> usize
 pub(crate) fn is_same(a: ScriptFault, b: ScriptFault) -> bool
     ensures { result ≡ spec.is_same a b }
 {
-    kind_of(a) == kind_of(b) && item_of(a) == item_of(b)
+    let (kind, item) = kind_and_item(a);
+    let (other_kind, other_item) = kind_and_item(b);
+    kind == other_kind && item == other_item
 }

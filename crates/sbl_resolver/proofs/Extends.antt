@@ -8,7 +8,8 @@ use Rattle.sbl_ast.specs.declared.tree.Prefix.TheVariants as prefixes
 use Rattle.sbl_ast.specs.Tree.{Argument, written_out, by_name, Expression, expression, Sums, no_sums, sum, Product, product, Scales, no_scales, scale, Factor, negated, bracketed, numeral, variable, fixed, length_of, Entry, entry, Command, bracket, simple_, literal_, name_, non_, prefixed, counted, move_, named, splice_, setlimit_, assign_, compare_, compare_values_, among_, Rows, no_rows, row, Others, no_others, joined, Starter, no_starter, starter, Groups, bare, group, Term, term, Plain, declaration, escapes, macro, routine, grouping}
 use Rattle.sbl_resolver.specs.declared.occurrences.Use.TheVariants as use_as
 use Rattle.sbl_resolver.specs.declared.occurrences.Site.{Site}
-use Rattle.sbl_resolver.specs.Occurrences.{Occurrence, Notice, put, uses, substring, among, string, backwards, region_end, declares, defines_routine, defines_grouping, amongs_in, noted_string, noted_expression, noted_sums, noted_product, noted_scales, noted_factor, noted_simple, noted_prefix, site_behind, use_of, noted_condition, noted_entry, noted_entries, has_starter, is_empty, noted, noted_rows, noted_others, noted_starter, noted_groups, noted_names, noted_term, noted_terms, noted_plain, noted_items}
+use Rattle.sbl_resolver.specs.Occurrences.{Occurrence, Notice, put, uses, substring, among, string, backwards, region_end, declares, defines_routine, defines_grouping, amongs_in, noted_expression, noted_sums, noted_product, noted_scales, noted_factor, noted_simple, noted_prefix, site_behind, use_of, noted_condition, noted_entry, noted_entries, has_starter, is_empty, noted, noted_rows, noted_others, noted_starter, noted_groups, noted_terms, noted_plain, noted_items, noted_name}
+use Rattle.sbl_resolver.specs.OccurrenceView.{noted_names}
 use Rattle.sbl_ast.specs.Order.{ItemInMode}
 
 -- the second list is the first, and then more
@@ -25,7 +26,7 @@ then_ {a} {b} {c} h k = record { more = h.more ++ k.more; is = k.is ∙ ap (λ (
 pub put_more : (n : Notice) (p : Site) (s : List Occurrence) → Extends s (put n p s)
 put_more n p s = record { more = (record { site = p; notice = n }) ∷ []; is = refl }
 
-string_more : (a : Argument) (p : Site) (s : List Occurrence) → Extends s (noted_string a p s)
+string_more : (a : Argument) (p : Site) (s : List Occurrence) → Extends s (noted_name use_as.String a p s)
 string_more (written_out q) p s = same s
 string_more (by_name n) p s = put_more (uses use_as.String n) p s
 
@@ -129,13 +130,13 @@ names_more : (k : DeclarationKind) (ns : List (List ℕ)) (p : Site) (s : List O
 names_more k [] p s = same s
 names_more k (n ∷ ns) p s = then_ (put_more (declares k n) p s) (names_more k ns p (put (declares k n) p s))
 
-term_more : (a : Argument) (p : Site) (s : List Occurrence) → Extends s (noted_term a p s)
+term_more : (a : Argument) (p : Site) (s : List Occurrence) → Extends s (noted_name use_as.Term a p s)
 term_more (written_out q) p s = same s
 term_more (by_name n) p s = put_more (uses use_as.Term n) p s
 
 terms_more : (ts : List Term) (p : Site) (s : List Occurrence) → Extends s (noted_terms ts p s)
 terms_more [] p s = same s
-terms_more (term o a ∷ ts) p s = then_ (term_more a p s) (terms_more ts p (noted_term a p s))
+terms_more (term o a ∷ ts) p s = then_ (term_more a p s) (terms_more ts p (noted_name use_as.Term a p s))
 
 pub plain_more : (x : Plain) (p : Site) (s : List Occurrence) → Extends s (noted_plain x p s)
 plain_more (declaration k ns) p s = names_more k ns p s
@@ -147,7 +148,7 @@ plain_more (routine n c os) p s =
     then_ (put_more (defines_routine n) p s) (then_ (command_more c p a) (then_ (others_more os p b) (put_more region_end p (noted_others os p b))))
 plain_more (grouping n a ts) p s =
     let b = put (defines_grouping n) p s in
-    then_ (put_more (defines_grouping n) p s) (then_ (term_more a p b) (terms_more ts p (noted_term a p b)))
+    then_ (put_more (defines_grouping n) p s) (then_ (term_more a p b) (terms_more ts p (noted_name use_as.Term a p b)))
 
 pub items_more : (xs : List ItemInMode) (n : ℕ) (s : List Occurrence) → Extends s (noted_items xs n s)
 items_more [] n s = same s

@@ -5,7 +5,7 @@ use Rattle.sbl_text.specs.declared.fault.ScriptFault.{ScriptFault}
 use Rattle.sbl_text.specs.declared.fault.ScriptFault.TheVariants as fault
 use Rattle.sbl_ast.specs.Tree.{Item}
 use Rattle.sbl_resolver.specs.Occurrences.{Occurrence, occurrences_of}
-use Rattle.sbl_resolver.specs.Checks.{fault_at, fault_behind, fault_of_external, has_external}
+use Rattle.sbl_resolver.specs.Checks.{fault_at, fault_behind, has_external}
 use Rattle.sbl_resolver.specs.Laws.{EachPasses, IsFirst, WellDeclaredPasses, FaultIsFirst}
 
 none_first : {X : Type 0} (a b : Option X) → option_or a b ≡ None → a ≡ None
@@ -86,6 +86,9 @@ first all done (m ∷ after) f e = go (fault_at all done m after) refl e (first 
 
 pub each : (all : List Occurrence) → fault_behind all [] all ≡ None → EachPasses all
 each all e = λ before after m parts. passes all [] all e before after m parts
+
+abbrev fault_of_external : List Item → List ℕ → List Occurrence → Option ScriptFault
+fault_of_external items external all = cond (has_external items external all) None (Some fault.NoExternal)
 
 external_is : (items : List Item) (external : List ℕ) (all : List Occurrence) → fault_of_external items external all ≡ None → has_external items external all ≡ true
 external_is items external all e = go (has_external items external all) e where

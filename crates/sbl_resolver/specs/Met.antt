@@ -1,5 +1,5 @@
 -- What the checks remember of the occurrences so far.
-use Rattle.std.specs.Prelude.{◌≡◌, ℕ, Bool, false, List, Option, Some, None, Result, Ok, Err, ◌⊎◌, ◌||◌}
+use Rattle.std.specs.Prelude.{◌≡◌, ℕ, Bool, true, false, List, Option, Some, None, Result, Ok, Err, ◌⊎◌, ◌||◌}
 use Rattle.std.specs.Ordering.{nat_cmp, ordering_then}
 use Rattle.std.specs.Cmp.Lexicographic.{slice_cmp}
 use Rattle.std.specs.Option.{option_or}
@@ -8,10 +8,11 @@ use Rattle.std.specs.BTreeSet.{BTreeSet, contains_by}
 use denote.Ref.{Bor}
 use Rattle.sbl_text.specs.declared.fault.ScriptFault.{ScriptFault}
 use Rattle.sbl_text.specs.declared.fault.ScriptFault.TheVariants as fault
+use Rattle.sbl_ast.specs.declared.tree.DeclarationKind.{DeclarationKind}
 use Rattle.sbl_resolver.specs.declared.occurrences.Site.{Site}
 use Rattle.sbl_resolver.specs.declared.checks.Met.{Met}
 use Rattle.sbl_resolver.specs.Occurrences.{Occurrence}
-use Rattle.sbl_resolver.specs.Checks.{kind_of, definition_of, has_text, is_awaited, declared_as, is_text_of, waits_after}
+use Rattle.sbl_resolver.specs.Checks.{kind_of, definition_of, has_text, is_awaited, declared_as, is_text_of, waits_after, is_routine, is_grouping}
 
 -- the value of a map at a name
 abbrev pub at_name : {X : Type 0} → BTreeMap (Bor (List ℕ)) X → List ℕ → Option X
@@ -36,6 +37,11 @@ pub record Notes (old new : Met) (m : Occurrence) : Type 0 where
   pub kinds : (n : List ℕ) → at_name new.kinds n ≡ option_or (at_name old.kinds n) (declared_as n m.notice)
   pub strings : (item k : ℕ) (text : List ℕ) → has_string new.strings item k text ≡ (has_string old.strings item k text || is_text_of item k text m)
   pub waits : new.waits ≡ waits_after m.notice old.waits
+
+-- whether a name of a kind can be defined as a grouping, or as a routine
+abbrev pub may_define_as : Bool → DeclarationKind → Bool
+may_define_as true = is_grouping
+may_define_as false = is_routine
 
 -- the result is this fault, or `OutOfMemory`
 abbrev pub Finds : {X : Type 0} → Result X ScriptFault → Option ScriptFault → Type 0

@@ -1,8 +1,11 @@
--- An occurrence without memory addresses.
-use Rattle.std.specs.Prelude.{List, map}
+-- An occurrence without memory addresses, and the occurrences of the names of a declaration.
+use Rattle.std.specs.Prelude.{ℕ, List, map}
+use Rattle.std.specs.List.{fold}
+use Rattle.sbl_ast.specs.declared.tree.DeclarationKind.{DeclarationKind}
 use Rattle.sbl_resolver.specs.declared.occurrences.Notice.{Notice}
 use Rattle.sbl_resolver.specs.declared.occurrences.Notice.TheVariants as notices
 use Rattle.sbl_resolver.specs.declared.occurrences.Occurrence.{Occurrence}
+use Rattle.sbl_resolver.specs.declared.occurrences.Site.{Site}
 use Rattle.sbl_resolver.specs.Occurrences as spec
 
 abbrev pub view_notice : Notice → spec.Notice
@@ -21,3 +24,6 @@ view_occurrence m = record { site = m.site; notice = view_notice m.notice }
 
 abbrev pub view_occurrences : List Occurrence → List spec.Occurrence
 view_occurrences ms = map view_occurrence ms
+
+abbrev pub noted_names : DeclarationKind → List (List ℕ) → Site → List spec.Occurrence → List spec.Occurrence
+noted_names k ns p sofar = fold (λ s n. spec.put (spec.declares k n) p s) sofar ns

@@ -1,5 +1,6 @@
 -- What the checks look at: the occurrences of a script, in text order.
 use Rattle.std.specs.Prelude.{ℕ, ◌+◌, Bool, true, false, List, [], ◌∷◌, ◌++◌, Option, Some, None}
+use Rattle.std.specs.List.{fold}
 use Rattle.sbl_ast.specs.declared.tree.DeclarationKind.{DeclarationKind}
 use Rattle.sbl_ast.specs.declared.tree.Simple.{Simple}
 use Rattle.sbl_ast.specs.declared.tree.Simple.TheVariants as simples
@@ -49,10 +50,10 @@ amongs_in (m ∷ ms) k = amongs_in ms (amongs_after m.notice k)
 
 -- ---- names of strings and integers
 
--- a string that is a name
-abbrev pub noted_string : Argument → Site → List Occurrence → List Occurrence
-noted_string (written_out q) p sofar = sofar
-noted_string (by_name n) p sofar = put (uses use_as.String n) p sofar
+-- a name, where a literal could be
+abbrev pub noted_name : Use → Argument → Site → List Occurrence → List Occurrence
+noted_name u (written_out q) p sofar = sofar
+noted_name u (by_name n) p sofar = put (uses u n) p sofar
 
 abbrev mutual
   pub noted_expression : Expression → Site → List Occurrence → List Occurrence
@@ -75,7 +76,7 @@ abbrev mutual
   noted_factor (numeral n) p sofar = sofar
   noted_factor (variable n) p sofar = put (uses use_as.Integer n) p sofar
   noted_factor (fixed c) p sofar = sofar
-  noted_factor (length_of a) p sofar = noted_string a p sofar
+  noted_factor (length_of a) p sofar = noted_name use_as.String a p sofar
 
 -- ---- commands
 
@@ -107,8 +108,7 @@ abbrev pub noted_entry : Entry → ℕ → Site → List Occurrence → List Occ
 noted_entry (entry q c) k p sofar = noted_condition c p (put (string k q.value) p sofar)
 
 abbrev pub noted_entries : List Entry → ℕ → Site → List Occurrence → List Occurrence
-noted_entries [] k p sofar = sofar
-noted_entries (e ∷ es) k p sofar = noted_entries es k p (noted_entry e k p sofar)
+noted_entries es k p sofar = fold (λ s e. noted_entry e k p s) sofar es
 
 abbrev pub has_starter : Starter → Bool
 has_starter no_starter = false
@@ -129,7 +129,7 @@ abbrev mutual
   noted (counted n e c) p sofar = noted c p (noted_expression e p sofar)
   noted (move_ m e) p sofar = noted_expression e p sofar
   noted (named x n) p sofar = put (uses (use_of x) n) p sofar
-  noted (splice_ x a) p sofar = noted_string a p sofar
+  noted (splice_ x a) p sofar = noted_name use_as.String a p sofar
   noted (setlimit_ b c) p sofar = noted c p (noted b p sofar)
   noted (assign_ n o e) p sofar = noted_expression e p (put (uses use_as.Integer n) p sofar)
   noted (compare_ n o e) p sofar = noted_expression e p (put (uses use_as.Integer n) p sofar)
@@ -154,24 +154,16 @@ abbrev mutual
 
 -- ---- items
 
-abbrev pub noted_names : DeclarationKind → List (List ℕ) → Site → List Occurrence → List Occurrence
-noted_names k [] p sofar = sofar
-noted_names k (n ∷ ns) p sofar = noted_names k ns p (put (declares k n) p sofar)
-
-abbrev pub noted_term : Argument → Site → List Occurrence → List Occurrence
-noted_term (written_out q) p sofar = sofar
-noted_term (by_name n) p sofar = put (uses use_as.Term n) p sofar
-
 abbrev pub noted_terms : List Term → Site → List Occurrence → List Occurrence
 noted_terms [] p sofar = sofar
-noted_terms (term o a ∷ ts) p sofar = noted_terms ts p (noted_term a p sofar)
+noted_terms (term o a ∷ ts) p sofar = noted_terms ts p (noted_name use_as.Term a p sofar)
 
 abbrev pub noted_plain : Plain → Site → List Occurrence → List Occurrence
-noted_plain (declaration k ns) p sofar = noted_names k ns p sofar
+noted_plain (declaration k ns) p sofar = fold (λ s n. put (declares k n) p s) sofar ns
 noted_plain (escapes a b) p sofar = sofar
 noted_plain (macro n b q) p sofar = sofar
 noted_plain (routine n c os) p sofar = put region_end p (noted_others os p (noted c p (put (defines_routine n) p sofar)))
-noted_plain (grouping n a ts) p sofar = noted_terms ts p (noted_term a p (put (defines_grouping n) p sofar))
+noted_plain (grouping n a ts) p sofar = noted_terms ts p (noted_name use_as.Term a p (put (defines_grouping n) p sofar))
 
 -- the occurrences of these items; n is the number of the first one
 abbrev pub noted_items : List ItemInMode → ℕ → List Occurrence → List Occurrence

@@ -7,7 +7,7 @@ ghost use Rattle.sbl_resolver.specs.OccurrenceView.{view_notice, view_occurrence
 ghost use Rattle.sbl_resolver.specs.Laws.{EachPasses};
 ghost use Rattle.sbl_resolver.specs.Subjects.{subject_of, IsFirstAfter};
 ghost use Rattle.sbl_resolver.specs.Numbered.{first_from, one_more};
-ghost use Rattle.sbl_resolver.specs.Met.{at_name, has_string, HasPlaces, HasMet, Notes, Finds};
+ghost use Rattle.sbl_resolver.specs.Met.{at_name, has_string, HasPlaces, HasMet, Notes, Finds, may_define_as};
 ghost use Rattle.std.specs.Option.{option_or};
 ghost use Rattle.sbl_ast.specs.View.{view_items};
 ghost use Rattle.std.specs.Str.{bytes_eq};
@@ -23,13 +23,13 @@ use std::collections::{BTreeMap, BTreeSet};
 fn is_routine(kind: DeclarationKind) -> bool
     ensures { result ≡ spec.is_routine kind }
 {
-    matches!(kind, DeclarationKind::Routines | DeclarationKind::Externals)
+    kind == DeclarationKind::Routines || kind == DeclarationKind::Externals
 }
 
 fn is_grouping(kind: DeclarationKind) -> bool
     ensures { result ≡ spec.is_grouping kind }
 {
-    matches!(kind, DeclarationKind::Groupings)
+    kind == DeclarationKind::Groupings
 }
 
 /// Returns whether a name of this kind is allowed in this use.
@@ -37,21 +37,12 @@ fn may_be(how: Use, kind: DeclarationKind) -> bool
     ensures { result ≡ spec.may_be how kind }
 {
     match how {
-        Use::Command => !matches!(kind, DeclarationKind::Integers),
+        Use::Command => kind != DeclarationKind::Integers,
         Use::Condition => is_routine(kind),
         Use::Excluded | Use::Term => is_grouping(kind),
-        Use::Boolean => matches!(kind, DeclarationKind::Booleans),
-        Use::Integer => matches!(kind, DeclarationKind::Integers),
-        Use::String => matches!(kind, DeclarationKind::Strings),
-    }
-}
-
-fn is_mode(wanted: Mode, mode: Mode) -> bool
-    ensures { result ≡ spec.is_mode wanted mode }
-{
-    match wanted {
-        Mode::Forward => matches!(mode, Mode::Forward),
-        Mode::Backward => matches!(mode, Mode::Backward),
+        Use::Boolean => kind == DeclarationKind::Booleans,
+        Use::Integer => kind == DeclarationKind::Integers,
+        Use::String => kind == DeclarationKind::Strings,
     }
 }
 
@@ -71,7 +62,7 @@ fn is_in_other(mode: Mode, definition: Option<Site>) -> bool
 {
     match definition {
         None => false,
-        Some(site) => !is_mode(mode, site.mode),
+        Some(site) => mode != site.mode,
     }
 }
 
@@ -87,7 +78,7 @@ fn lacks_definition(how: Use, item: usize, kind: DeclarationKind, definition: Op
 
 /// Returns whether a name of this kind can be defined as a grouping or as a routine.
 fn may_define(wants_grouping: bool, kind: DeclarationKind) -> bool
-    ensures { result ≡ spec.may_define wants_grouping kind }
+    ensures { result ≡ may_define_as wants_grouping kind }
 {
     if wants_grouping {
         is_grouping(kind)
@@ -103,7 +94,7 @@ fn fault_of_definition(
     kind: Option<DeclarationKind>,
     definition: Option<Site>,
 ) -> Option<ScriptFault>
-    ensures { result ≡ spec.fault_of_definition item wants_grouping kind definition }
+    ensures { result ≡ spec.fault_of_definition item (may_define_as wants_grouping) kind definition }
 {
     let Some(kind) = kind else {
         return Some(ScriptFault::Undeclared { item });
@@ -168,7 +159,7 @@ fn is_followed(mode: Mode, occurrences: &[Occurrence]) -> bool
             Notice::Among {
                 has_starter: _,
                 is_empty: _,
-            } => return is_mode(mode, occurrence.site.mode),
+            } => return mode == occurrence.site.mode,
             Notice::Substring | Notice::RegionEnd => return false,
             _ => {}
         }
@@ -247,7 +238,7 @@ fn fault_at<'a>(
             ScriptFault::RepeatedString { item },
         ),
         Notice::Backwards => fault_if(
-            is_mode(Mode::Backward, site.mode),
+            site.mode == Mode::Backward,
             ScriptFault::NestedBackwards { item },
         ),
         Notice::RegionEnd => None,
@@ -443,7 +434,7 @@ fn check_external(
     kind: Option<DeclarationKind>,
     body: Option<&RowOfCommands>,
 ) -> Result<(), ScriptFault>
-    ensures { Finds result (if spec.is_external kind && is_some body.entry then None else Some ScriptFault.NoExternal) }
+    ensures { Finds result (if spec.is_some_and (spec.is_kind DeclarationKind.Externals) kind && is_some body.entry then None else Some ScriptFault.NoExternal) }
 {
     match kind {
         Some(DeclarationKind::Externals) if body.is_some() => Ok(()),

@@ -5,7 +5,7 @@ ghost use Rattle.sbl_ast.specs.View.{view_argument, view_expression, view_factor
 ghost use Rattle.sbl_ast.specs.Order.{view_in_mode};
 ghost use Rattle.sbl_ast.specs.Tree as trees;
 ghost use Rattle.sbl_resolver.specs.Occurrences as spec;
-ghost use Rattle.sbl_resolver.specs.OccurrenceView.{view_notice, view_occurrences};
+ghost use Rattle.sbl_resolver.specs.OccurrenceView.{noted_names, view_notice, view_occurrences};
 
 use crate::occurrences::{Notice, Occurrence, Site, Use};
 use crate::sofar::SoFar;
@@ -16,17 +16,18 @@ use sbl_ast::{
 };
 use std::alloc::{AllocError, Global};
 
-/// Appends the occurrences of a string that may be a name.
-fn note_string<'a>(
-    string: &'a Argument,
+/// Appends the occurrence of a name, where a literal could be.
+fn note_name<'a>(
+    how: Use,
+    argument: &'a Argument,
     site: Site,
     occurrences: &mut SoFar<'a>,
 ) -> Result<(), AllocError>
-    ensures { OnOk result (view_occurrences occurrences.new ≡ spec.noted_string (view_argument string.now) site (view_occurrences occurrences.old)) }
+    ensures { OnOk result (view_occurrences occurrences.new ≡ spec.noted_name how (view_argument argument.now) site (view_occurrences occurrences.old)) }
 {
-    match string {
+    match argument {
         Argument::Literal(_) => Ok(()),
-        Argument::Name(name) => occurrences.put(Notice::Uses(Use::String, name.as_str()), site),
+        Argument::Name(name) => occurrences.put(Notice::Uses(how, name.as_str()), site),
     }
 }
 
@@ -95,7 +96,7 @@ fn note_factor<'a>(
         Factor::Minus(inner) => note_factor(inner, site, occurrences),
         Factor::Bracket(inner) => note_expression(inner, site, occurrences),
         Factor::Name(name) => occurrences.put(Notice::Uses(Use::Integer, name.as_str()), site),
-        Factor::LenOf(string) => note_string(string, site, occurrences),
+        Factor::LenOf(string) => note_name(Use::String, string, site, occurrences),
         Factor::Number(_) | Factor::Constant(_) => Ok(()),
     }
 }
@@ -219,7 +220,7 @@ fn note_command<'a>(
             Notice::Uses(use_of(*naming), name.as_str()),
             site,
         ),
-        Command::Splice(_, string) => note_string(string, site, occurrences),
+        Command::Splice(_, string) => note_name(Use::String, string, site, occurrences),
         Command::SetLimit(first, second) => {
             note_command(first, site, occurrences)?;
             note_command(second, site, occurrences)
@@ -324,25 +325,12 @@ fn note_names<'a>(
     site: Site,
     occurrences: &mut SoFar<'a>,
 ) -> Result<(), AllocError>
-    ensures { OnOk result (view_occurrences occurrences.new ≡ spec.noted_names kind (map string_bytes names.now.items) site (view_occurrences occurrences.old)) }
+    ensures { OnOk result (view_occurrences occurrences.new ≡ noted_names kind (map string_bytes names.now.items) site (view_occurrences occurrences.old)) }
 {
     for name in names {
         occurrences.put(Notice::Declares(kind, name.as_str()), site)?;
     }
     Ok(())
-}
-
-fn note_term<'a>(
-    argument: &'a Argument,
-    site: Site,
-    occurrences: &mut SoFar<'a>,
-) -> Result<(), AllocError>
-    ensures { OnOk result (view_occurrences occurrences.new ≡ spec.noted_term (view_argument argument.now) site (view_occurrences occurrences.old)) }
-{
-    match argument {
-        Argument::Literal(_) => Ok(()),
-        Argument::Name(name) => occurrences.put(Notice::Uses(Use::Term, name.as_str()), site),
-    }
 }
 
 fn note_terms<'a>(
@@ -353,7 +341,7 @@ fn note_terms<'a>(
     ensures { OnOk result (view_occurrences occurrences.new ≡ spec.noted_terms (map view_term terms.now.items) site (view_occurrences occurrences.old)) }
 {
     for term in terms {
-        note_term(&term.argument, site, occurrences)?;
+        note_name(Use::Term, &term.argument, site, occurrences)?;
     }
     Ok(())
 }
@@ -384,7 +372,7 @@ fn note_plain<'a>(
             others,
         } => {
             occurrences.put(Notice::DefinesGrouping(name.as_str()), site)?;
-            note_term(first, site, occurrences)?;
+            note_name(Use::Term, first, site, occurrences)?;
             note_terms(others, site, occurrences)
         }
     }

@@ -18,7 +18,8 @@ use Rattle.sbl_ast.specs.Source.{Source}
 use Rattle.sbl_resolver.specs.Checks.{WellDeclared, fault_of}
 use Rattle.sbl_script.specs.Reading.{HasTokens, IsTextFault, IsUnread, first_left_out, max_script, terminals}
 use Rattle.sbl_script.specs.Refusals.{Refuses}
-use Rattle.sbl_script.specs.Edits.{ScriptEdit, body, among, terms, Home, IsEditFault, IsFaultAt, IsSubstituted, defines, first_of, home, home_in, home_of_among, home_of_body, home_of_held, home_of_terms}
+use Rattle.sbl_script.specs.Edits.{ScriptEdit, body, among, terms, Home, IsEditFault, IsSubstituted, defines, first_of, home, home_in, home_of_among}
+use Rattle.sbl_script.specs.Homes.{IsFaultAt, home_of_body, home_of_held, home_of_terms}
 
 pub tokens_there : (e f : InForce) (text bytes : List ℕ) (ts : List Placed) → e ≡ f → text ≡ bytes → length bytes ≤ max_script → IsUtf8 bytes → ArePlacedFrom (start_under e) (chars text) ts → HasTokens (start_under f) bytes ts
 tokens_there e f text bytes ts same is short utf8 cut = record {

@@ -16,3 +16,4 @@ pub mod OnlyTheItem
 pub mod Offered
 pub mod Printed
 pub mod Compared
+pub mod ItemSteps

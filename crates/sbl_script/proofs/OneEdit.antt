@@ -10,36 +10,9 @@ use Rattle.sbl_script.specs.declared.edit_fault.ScriptEditFault.TheVariants as e
 use Rattle.sbl_ast.specs.Source.{Source}
 use Rattle.sbl_resolver.specs.Checks.{fault_of}
 use Rattle.sbl_script.specs.Reading.{IsUnread, terminals}
-use Rattle.sbl_script.specs.Edits.{ScriptEdit, Home, IsEdited, IsSubstituted, IsFaultAt, IsCheckFaultWith, IsEditFault, home}
-use Rattle.sbl_script.proofs.OneReading.{Known, placed_one, text_is_one, no_text_fault, unread_is_one, no_unread, some_one, some_none, same_source}
-
-tree_one : Known → (w : Text) (ts : List Placed) (x y : TreeOf w) → IsReadAs w (terminals ts) x → IsReadAs w (terminals ts) y → x ≡ y
-tree_one k w ts x y h g = k.tree w x y (h.0 ∙ sym g.0)
-
--- ---- at one home
-
-check_is_one : Known → (s : Source) (h : Home) (ts : List Placed) (f g : ScriptFault) → IsCheckFaultWith s h ts f → IsCheckFaultWith s h ts g → f ≡ g
-check_is_one k s h ts f g a b =
-    some_one f g (sym a.is ∙ ap (λ (x : TreeOf h.text). fault_of (h.around x) s.external) (tree_one k h.text ts a.tree b.tree a.read b.read) ∙ b.is)
-
-fault_is_one : Known → (s : Source) (h : Home) (text : List ℕ) (f g : ScriptFault) → IsFaultAt s h text f → IsFaultAt s h text g → f ≡ g
-fault_is_one k s h text f g (inl a) (inl b) = text_is_one k h.state text f g a b
-fault_is_one k s h text f g (inl a) (inr (inl b)) = absurd (no_text_fault k h.state text b.0 f b.1 a)
-fault_is_one k s h text f g (inl a) (inr (inr b)) = absurd (no_text_fault k h.state text b.0 f b.1 a)
-fault_is_one k s h text f g (inr (inl a)) (inl b) = absurd (no_text_fault k h.state text a.0 g a.1 b)
-fault_is_one k s h text f g (inr (inr a)) (inl b) = absurd (no_text_fault k h.state text a.0 g a.1 b)
-fault_is_one k s h text f g (inr (inl a)) (inr (inl b)) =
-    let same = placed_one k h.state text a.0 b.0 a.1 b.1 in
-    unread_is_one k h.text b.0 (length text) f g (subst (λ (ts : List Placed). IsUnread h.text ts (length text) f) same a.2) b.2
-fault_is_one k s h text f g (inr (inl a)) (inr (inr b)) =
-    let same = placed_one k h.state text a.0 b.0 a.1 b.1 in
-    absurd (no_unread k h.text b.0 (length text) f b.3.tree b.2 b.3.read (subst (λ (ts : List Placed). IsUnread h.text ts (length text) f) same a.2))
-fault_is_one k s h text f g (inr (inr a)) (inr (inl b)) =
-    let same = placed_one k h.state text b.0 a.0 b.1 a.1 in
-    absurd (no_unread k h.text a.0 (length text) g a.3.tree a.2 a.3.read (subst (λ (ts : List Placed). IsUnread h.text ts (length text) g) same b.2))
-fault_is_one k s h text f g (inr (inr a)) (inr (inr b)) =
-    let same = placed_one k h.state text a.0 b.0 a.1 b.1 in
-    check_is_one k s h b.0 f g (subst (λ (ts : List Placed). IsCheckFaultWith s h ts f) same a.3) b.3
+use Rattle.sbl_script.specs.Edits.{ScriptEdit, Home, IsEdited, IsSubstituted, IsEditFault, home}
+use Rattle.sbl_script.specs.Homes.{IsFaultAt}
+use Rattle.sbl_script.proofs.OneReading.{Known, tree_one, fault_is_one, placed_one, text_is_one, no_text_fault, unread_is_one, no_unread, some_one, some_none, same_source}
 
 -- the tree and the script are one
 substituted_tree : Known → (s : Source) (h : Home) (text : List ℕ) (m n : Bool) (t u : Source) (a : IsSubstituted s h text m t) (b : IsSubstituted s h text n u) → a.tree ≡ b.tree
@@ -118,7 +91,7 @@ edit_fault_is_one k s e text (edits.Script f) edits.NoAmong a b = absurd (ok_or_
 edit_fault_is_one k s e text (edits.Script f) edits.AmongCount a b = absurd (count_or_fault k s e text f b a)
 edit_fault_is_one k s e text (edits.Script f) (edits.Script g) a b =
     let same = ok_one (home s.items e) a.0 b.0 a.1 b.1 in
-    ap edits.Script (fault_is_one k s a.0 text f g a.2 (subst (λ (z : Home). IsFaultAt s z text g) same b.2))
+    ap edits.Script (fault_is_one k a.0.text a.0.state a.0.around s.external text f g a.2 (subst (λ (z : Home). IsFaultAt s z text g) same b.2))
 edit_fault_is_one k s e text edits.OutOfMemory g a b = absurd a
 edit_fault_is_one k s e text edits.NoRoutine edits.OutOfMemory a b = absurd b
 edit_fault_is_one k s e text edits.NoGrouping edits.OutOfMemory a b = absurd b

@@ -15,7 +15,7 @@ use Rattle.sbl_parser.specs.Reading.{IsReadAs, IsSyntaxAt, IsTooDeepAt, IsOutOfP
 use Rattle.sbl_parser.specs.Laws as grammar
 use Rattle.sbl_ast.specs.Source.{Source}
 use Rattle.sbl_resolver.specs.Checks.{fault_of}
-use Rattle.sbl_script.specs.Reading.{HasTokens, IsScriptOf, IsTextFault, IsGrammarFault, IsCheckFault, IsUnread, IsFaultOf, first_left_out, place_of, terminals}
+use Rattle.sbl_script.specs.Reading.{HasTokens, IsScriptOf, IsTextFault, IsGrammarFault, IsCheckFault, IsUnread, IsFaultIn, IsFaultOf, first_left_out, place_of, terminals}
 
 -- what is known of tokens and of trees
 pub record Known : Type 0 where
@@ -116,33 +116,34 @@ no_unread k w ts end f tree offered h (inr a) = no_grammar_fault k w ts end f tr
 
 -- ---- the checks
 
-tree_one : Known → (ts : List Placed) (t u : List Item) → IsReadAs script (terminals ts) t → IsReadAs script (terminals ts) u → t ≡ u
-tree_one k ts t u h g = k.tree script t u (h.0 ∙ sym g.0)
-
-check_is_one : Known → (ts : List Placed) (external : List ℕ) (f g : ScriptFault) → IsCheckFault ts external f → IsCheckFault ts external g → f ≡ g
-check_is_one k ts external f g h j =
-    some_one f g (sym h.is ∙ ap (λ (items : List Item). fault_of items external) (tree_one k ts h.items j.items h.tree j.tree) ∙ j.is)
+pub tree_one : Known → (w : Text) (ts : List Placed) (x y : TreeOf w) → IsReadAs w (terminals ts) x → IsReadAs w (terminals ts) y → x ≡ y
+tree_one k w ts x y h g = k.tree w x y (h.0 ∙ sym g.0)
 
 -- ---- the laws
 
-pub fault_is_one : Known → (bytes external : List ℕ) (f g : ScriptFault) → IsFaultOf bytes external f → IsFaultOf bytes external g → f ≡ g
-fault_is_one k bytes external f g (inl a) (inl b) = text_is_one k start bytes f g a b
-fault_is_one k bytes external f g (inl a) (inr (inl b)) = absurd (no_text_fault k start bytes b.0 f b.1 a)
-fault_is_one k bytes external f g (inl a) (inr (inr b)) = absurd (no_text_fault k start bytes b.0 f b.1 a)
-fault_is_one k bytes external f g (inr (inl a)) (inl b) = absurd (no_text_fault k start bytes a.0 g a.1 b)
-fault_is_one k bytes external f g (inr (inr a)) (inl b) = absurd (no_text_fault k start bytes a.0 g a.1 b)
-fault_is_one k bytes external f g (inr (inl a)) (inr (inl b)) =
-    let same = placed_one k start bytes a.0 b.0 a.1 b.1 in
-    unread_is_one k script b.0 (length bytes) f g (subst (λ (ts : List Placed). IsUnread script ts (length bytes) f) same a.2) b.2
-fault_is_one k bytes external f g (inr (inl a)) (inr (inr b)) =
-    let same = placed_one k start bytes a.0 b.0 a.1 b.1 in
-    absurd (no_unread k script b.0 (length bytes) f b.3.items b.2 b.3.tree (subst (λ (ts : List Placed). IsUnread script ts (length bytes) f) same a.2))
-fault_is_one k bytes external f g (inr (inr a)) (inr (inl b)) =
-    let same = placed_one k start bytes b.0 a.0 b.1 a.1 in
-    absurd (no_unread k script a.0 (length bytes) g a.3.items a.2 a.3.tree (subst (λ (ts : List Placed). IsUnread script ts (length bytes) g) same b.2))
-fault_is_one k bytes external f g (inr (inr a)) (inr (inr b)) =
-    let same = placed_one k start bytes a.0 b.0 a.1 b.1 in
-    check_is_one k b.0 external f g (subst (λ (ts : List Placed). IsCheckFault ts external f) same a.3) b.3
+-- a text has one fault
+module _ (k : Known) (w : Text) (s : Directives) (around : TreeOf w → List Item) (external text : List ℕ) (f g : ScriptFault) where
+  check_is_one : (ts : List Placed) → IsCheckFault w around external ts f → IsCheckFault w around external ts g → f ≡ g
+  check_is_one ts a b = some_one f g (sym a.is ∙ ap (λ (x : TreeOf w). fault_of (around x) external) (tree_one k w ts a.tree b.tree a.read b.read) ∙ b.is)
+
+  pub fault_is_one : IsFaultIn w s around external text f → IsFaultIn w s around external text g → f ≡ g
+  fault_is_one (inl a) (inl b) = text_is_one k s text f g a b
+  fault_is_one (inl a) (inr (inl b)) = absurd (no_text_fault k s text b.0 f b.1 a)
+  fault_is_one (inl a) (inr (inr b)) = absurd (no_text_fault k s text b.0 f b.1 a)
+  fault_is_one (inr (inl a)) (inl b) = absurd (no_text_fault k s text a.0 g a.1 b)
+  fault_is_one (inr (inr a)) (inl b) = absurd (no_text_fault k s text a.0 g a.1 b)
+  fault_is_one (inr (inl a)) (inr (inl b)) =
+      let same = placed_one k s text a.0 b.0 a.1 b.1 in
+      unread_is_one k w b.0 (length text) f g (subst (λ (ts : List Placed). IsUnread w ts (length text) f) same a.2) b.2
+  fault_is_one (inr (inl a)) (inr (inr b)) =
+      let same = placed_one k s text a.0 b.0 a.1 b.1 in
+      absurd (no_unread k w b.0 (length text) f b.3.tree b.2 b.3.read (subst (λ (ts : List Placed). IsUnread w ts (length text) f) same a.2))
+  fault_is_one (inr (inr a)) (inr (inl b)) =
+      let same = placed_one k s text b.0 a.0 b.1 a.1 in
+      absurd (no_unread k w a.0 (length text) g a.3.tree a.2 a.3.read (subst (λ (ts : List Placed). IsUnread w ts (length text) g) same b.2))
+  fault_is_one (inr (inr a)) (inr (inr b)) =
+      let same = placed_one k s text a.0 b.0 a.1 b.1 in
+      check_is_one b.0 (subst (λ (ts : List Placed). IsCheckFault w around external ts f) same a.3) b.3
 
 pub same_source : (s t : Source) → s.items ≡ t.items → s.external ≡ t.external → s ≡ t
 same_source s t a b = ap (λ (i : List Item). with_external i s.external) a ∙ ap (λ (e : List ℕ). with_external t.items e) b where
@@ -153,7 +154,7 @@ pub script_is_one : Known → (bytes external : List ℕ) (s t : Source) → IsS
 script_is_one k bytes external s t h g =
     let same = placed_one k start bytes h.placed g.placed h.tokens g.tokens in
     let tree = subst (λ (ts : List Placed). IsReadAs script (terminals ts) s.items) same h.tree in
-    same_source s t (tree_one k g.placed s.items t.items tree g.tree) (h.external_is ∙ sym g.external_is)
+    same_source s t (tree_one k script g.placed s.items t.items tree g.tree) (h.external_is ∙ sym g.external_is)
 
 pub script_or_fault : Known → (bytes external : List ℕ) (s : Source) (f : ScriptFault) → IsScriptOf bytes external s → IsFaultOf bytes external f → ⊥
 script_or_fault k bytes external s f h (inl a) = no_text_fault k start bytes h.placed f h.tokens a
@@ -163,6 +164,6 @@ script_or_fault k bytes external s f h (inr (inl a)) =
 script_or_fault k bytes external s f h (inr (inr a)) =
     let same = placed_one k start bytes h.placed a.0 h.tokens a.1 in
     let tree = subst (λ (ts : List Placed). IsReadAs script (terminals ts) s.items) same h.tree in
-    let items : s.items ≡ a.3.items = tree_one k a.0 s.items a.3.items tree a.3.tree in
-    let named : fault_of s.items s.external ≡ fault_of a.3.items external = ap (λ (is : List Item). fault_of is s.external) items ∙ ap (λ (e : List ℕ). fault_of a.3.items e) h.external_is in
+    let items : s.items ≡ a.3.tree = tree_one k script a.0 s.items a.3.tree tree a.3.read in
+    let named : fault_of s.items s.external ≡ fault_of a.3.tree external = ap (λ (is : List Item). fault_of is s.external) items ∙ ap (λ (e : List ℕ). fault_of a.3.tree e) h.external_is in
     some_none f (fault_of s.items s.external) h.well_declared (named ∙ a.3.is)

@@ -9,17 +9,20 @@ use Rattle.sbl_text.specs.Tokens.{Placed}
 use Rattle.sbl_ast.specs.Order.{in_order}
 use Rattle.sbl_ast.specs.Tree.{Plain, declaration, escapes, macro, routine, grouping, Item}
 use Rattle.sbl_ast.specs.Texts.{TreeOf}
+use Rattle.sbl_ast.specs.declared.tree.DeclarationKind.TheVariants as declared_kinds
 use Rattle.sbl_amongs.specs.Amongs.{Held, amongs_of_body, nth_held, put_in_body}
 use Rattle.sbl_resolver.specs.declared.occurrences.Site.{Site}
 use Rattle.sbl_resolver.specs.Occurrences.{Occurrence, Notice, declares, defines_routine, defines_grouping, uses, substring, among, string, backwards, region_end, noted_items, occurrences_of}
 use Rattle.sbl_script.specs.declared.edit_fault.ScriptEditFault.{ScriptEditFault}
 use Rattle.sbl_ast.specs.Source.{Source}
+use Rattle.sbl_script.specs.Reading.{IsCheckFault}
 use Rattle.sbl_resolver.specs.Bodies.{body_in}
-use Rattle.sbl_resolver.specs.Checks.{declared_as, kind_of, defined_at, definition_of, waits_after, is_awaited, is_text, is_text_of, has_text, is_external, has_external, fault_at, fault_of, WellDeclared}
+use Rattle.sbl_resolver.specs.Checks.{declared_as, kind_of, defined_at, definition_of, waits_after, is_awaited, is_text, is_text_of, has_text, is_some_and, is_kind, has_external, fault_at, fault_of, WellDeclared}
 use Rattle.sbl_resolver.specs.Laws.{EachPasses, IsFirst}
 use Rattle.sbl_script.specs.declared.edits.DefinitionKind.{DefinitionKind}
 use Rattle.sbl_script.specs.declared.edits.DefinitionKind.TheVariants as kinds
-use Rattle.sbl_script.specs.Edits.{ScriptEdit, body, terms, Home, changes, defines, first_of, home, home_in, home_of_among, home_of_body, home_of_held, home_of_terms, items_with, IsFaultAt, IsCheckFaultWith}
+use Rattle.sbl_script.specs.Edits.{ScriptEdit, body, terms, Home, changes, defines, first_of, home, home_in, home_of_among, items_with}
+use Rattle.sbl_script.specs.Homes.{home_of_body, home_of_held, home_of_terms, IsFaultAt}
 use Rattle.sbl_script.specs.Edits as script
 use Rattle.sbl_script.specs.OnlyTheItem.{item_of, number_of, OnlyTheItem, ExternalStays}
 use Rattle.sbl_resolver.proofs.FirstFault as first
@@ -339,8 +342,8 @@ module _ (items : List Item) (external : List ℕ) (d : DefinitionKind) (n : Lis
 
       kept : has_external edited external (occurrences_of edited) ≡ true
       kept =
-          ap (λ o. is_external o && is_some (body_in external edited)) (ap (kind_of external) new_is ∙ kinds_same front mine other rest (1 + length q.before) closed two later external rest ∙ sym (ap (kind_of external) old_is))
-          ∙ ap (λ c. is_external (kind_of external (occurrences_of items)) && c) (still_defined d n y same items external) ∙ fine.1
+          ap (λ o. is_some_and (is_kind declared_kinds.Externals) o && is_some (body_in external edited)) (ap (kind_of external) new_is ∙ kinds_same front mine other rest (1 + length q.before) closed two later external rest ∙ sym (ap (kind_of external) old_is))
+          ∙ ap (λ c. is_some_and (is_kind declared_kinds.Externals) (kind_of external (occurrences_of items)) && c) (still_defined d n y same items external) ∙ fine.1
 
       at : IsFirst (occurrences_of edited) f ⊎ (EachPasses (occurrences_of edited) × (has_external edited external (occurrences_of edited) ≡ false) × (f ≡ fault.NoExternal)) → item_of f ≡ Some (1 + length q.before)
       at (inl h) = in_item front mine other rest (1 + length q.before) closed two later (subst EachPasses old_is fine.0) f (subst (λ l. IsFirst l f) new_is h)
@@ -398,7 +401,7 @@ place_of items (terms n) h (Some (macro m b q)) at is = absurd cc
 place_of items (terms n) h (Some (routine m c os)) at is = absurd cc
 
 -- a check that fails tells the item
-check_tells : (s : Source) (e : ScriptEdit) (h : Home) (ts : List Placed) (f : ScriptFault) → WellDeclared s.items s.external → home s.items e ≡ Ok h → IsCheckFaultWith s h ts f →
+check_tells : (s : Source) (e : ScriptEdit) (h : Home) (ts : List Placed) (f : ScriptFault) → WellDeclared s.items s.external → home s.items e ≡ Ok h → IsCheckFault h.text h.around s.external ts f →
     (i : ℕ) × (item_of f ≡ Some i) × (number_of (changes e) s.items ≡ Some i)
 check_tells s e h ts f well there bad =
     let r = place_of s.items e h (first_of (changes e) s.items) refl there bad.tree in

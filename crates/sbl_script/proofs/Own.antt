@@ -9,7 +9,8 @@ use Rattle.sbl_ast.specs.declared.tree.Prefix.TheVariants as prefixes
 use Rattle.sbl_ast.specs.Tree.{Argument, written_out, by_name, Expression, expression, Sums, no_sums, sum, Product, product, Scales, no_scales, scale, Factor, negated, bracketed, numeral, variable, fixed, length_of, Entry, entry, Command, bracket, simple_, literal_, name_, non_, prefixed, counted, move_, named, splice_, setlimit_, assign_, compare_, compare_values_, among_, Rows, no_rows, row, Others, no_others, joined, Starter, no_starter, starter, Groups, bare, group, Term, term, Plain, declaration, escapes, macro, routine, grouping}
 use Rattle.sbl_resolver.specs.declared.occurrences.Use.TheVariants as use_as
 use Rattle.sbl_resolver.specs.declared.occurrences.Site.{Site}
-use Rattle.sbl_resolver.specs.Occurrences.{Occurrence, Notice, put, uses, substring, among, string, backwards, region_end, declares, defines_routine, defines_grouping, amongs_after, amongs_in, noted_string, noted_expression, noted_sums, noted_product, noted_scales, noted_factor, noted_simple, noted_prefix, site_behind, use_of, noted_condition, noted_entry, noted_entries, has_starter, is_empty, noted, noted_rows, noted_others, noted_starter, noted_groups, noted_names, noted_term, noted_terms, noted_plain}
+use Rattle.sbl_resolver.specs.Occurrences.{Occurrence, Notice, put, uses, substring, among, string, backwards, region_end, declares, defines_routine, defines_grouping, amongs_after, amongs_in, noted_expression, noted_sums, noted_product, noted_scales, noted_factor, noted_simple, noted_prefix, site_behind, use_of, noted_condition, noted_entry, noted_entries, has_starter, is_empty, noted, noted_rows, noted_others, noted_starter, noted_groups, noted_terms, noted_plain, noted_name}
+use Rattle.sbl_resolver.specs.OccurrenceView.{noted_names}
 
 -- it holds of each occurrence
 abbrev pub Each : (Occurrence → Type 0) → List Occurrence → Type 0
@@ -101,7 +102,7 @@ module _ (i : ℕ) where
   one : (n : Notice) (p : Site) → p.item ≡ i → is_quiet n ≡ true → Ours (λ s. put n p s)
   one n p h q = put_own HasRoutine routine_more (IsOfCommand i) n p (h, q)
 
-  string_own : (a : Argument) (p : Site) → p.item ≡ i → Ours (λ s. noted_string a p s)
+  string_own : (a : Argument) (p : Site) → p.item ≡ i → Ours (λ s. noted_name use_as.String a p s)
   string_own (written_out q) p h = none
   string_own (by_name n) p h = one (uses use_as.String n) p h refl
 
@@ -258,7 +259,7 @@ names_own k [] p = same Any any_more (IsOfList p.item)
 names_own k (n ∷ ns) p = then_ Any any_more (IsOfList p.item) (put_own Any any_more (IsOfList p.item) (declares k n) p (refl, no_declaration k n)) (names_own k ns p)
 
 module _ (p : Site) (Q : Occurrence → Type 0) (q : (n : List ℕ) → Q (record { site = p; notice = uses use_as.Term n })) where
-  term_own : (a : Argument) → Own Any Q (λ s. noted_term a p s)
+  term_own : (a : Argument) → Own Any Q (λ s. noted_name use_as.Term a p s)
   term_own (written_out l) = same Any any_more Q
   term_own (by_name n) = put_own Any any_more Q (uses use_as.Term n) p (q n)
 

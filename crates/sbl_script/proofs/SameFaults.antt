@@ -3,9 +3,11 @@ use Rattle.std.proofs.Common.{◌≡◌, ℕ, Bool, true, false, not, cond, ◌&
 use Rattle.sbl_text.specs.declared.fault.ScriptFault.{ScriptFault}
 use Rattle.sbl_text.specs.declared.fault.ScriptFault.TheVariants as fault
 use Rattle.sbl_ast.specs.declared.tree.DeclarationKind.{DeclarationKind}
+use Rattle.sbl_ast.specs.declared.mode.Mode.TheVariants.{Backward}
 use Rattle.sbl_resolver.specs.declared.occurrences.Site.{Site}
+use Rattle.sbl_resolver.specs.declared.occurrences.Use.{Use}
 use Rattle.sbl_resolver.specs.Occurrences.{Occurrence, Notice, declares, defines_routine, defines_grouping, uses, substring, among, string, backwards, region_end}
-use Rattle.sbl_resolver.specs.Checks.{kind_of, definition_of, is_followed, is_awaited, has_text, is_declared_twice, is_undeclared, is_wrong_kind, is_defined_twice, is_undefined, is_wrong_mode, is_unpaired, is_started_twice, is_repeated, is_empty_among, is_nested, fault_at, fault_of_use, fault_of_definition}
+use Rattle.sbl_resolver.specs.Checks.{kind_of, definition_of, is_some_and, is_mode, is_routine, is_grouping, may_be, is_earlier, is_in_other, lacks_definition, is_followed, is_awaited, has_text, fault_at, fault_of_use, fault_of_definition}
 use Rattle.sbl_script.specs.OnlyTheItem.{item_of}
 
 -- ---- what decides the fault
@@ -28,9 +30,9 @@ module _ (all after before all' after' before' : List Occurrence) (p : Site) whe
   by_notice : (n : Notice) → Same all after before all' after' before' (at_notice n) → IsSame n
   by_notice (declares k n) s = ap (λ (o : Option DeclarationKind). cond (is_some o) (Some (fault.DeclaredTwice p.item)) None) (s.kinds n)
   by_notice (defines_routine n) s =
-      ap (λ (o : Option DeclarationKind). fault_of_definition p.item false o (definition_of n all)) (s.kinds n) ∙ ap (λ (o : Option Site). fault_of_definition p.item false (kind_of n before') o) (s.definitions n)
+      ap (λ (o : Option DeclarationKind). fault_of_definition p.item is_routine o (definition_of n all)) (s.kinds n) ∙ ap (λ (o : Option Site). fault_of_definition p.item is_routine (kind_of n before') o) (s.definitions n)
   by_notice (defines_grouping n) s =
-      ap (λ (o : Option DeclarationKind). fault_of_definition p.item true o (definition_of n all)) (s.kinds n) ∙ ap (λ (o : Option Site). fault_of_definition p.item true (kind_of n before') o) (s.definitions n)
+      ap (λ (o : Option DeclarationKind). fault_of_definition p.item is_grouping o (definition_of n all)) (s.kinds n) ∙ ap (λ (o : Option Site). fault_of_definition p.item is_grouping (kind_of n before') o) (s.definitions n)
   by_notice (uses u n) s = ap (λ (o : Option DeclarationKind). fault_of_use p u o (definition_of n all)) (s.kinds n) ∙ ap (λ (o : Option Site). fault_of_use p u (kind_of n before') o) (s.definitions n)
   by_notice substring s = ap (λ (b : Bool). cond (not b) (Some (fault.Substring p.item)) None) (s.followed refl)
   by_notice (among has_starter is_empty) s = ap (λ (b : Bool). cond (has_starter && b) (Some (fault.Starter p.item)) (cond is_empty (Some (fault.EmptyAmong p.item)) None)) s.awaited
@@ -50,19 +52,34 @@ tells false g f rest i h more e = more e
 none_tells : (f : ScriptFault) (i : ℕ) → None ≡ Some f → item_of f ≡ Some i
 none_tells f i e = absurd cc
 
+definition_tells : (i : ℕ) (is_allowed : DeclarationKind → Bool) (k : Option DeclarationKind) (d : Option Site) (f : ScriptFault) → fault_of_definition i is_allowed k d ≡ Some f → item_of f ≡ Some i
+definition_tells i is_allowed k d f =
+    tells (not (is_some k)) (fault.Undeclared i) f _ i refl
+    (tells (not (is_some_and is_allowed k)) (fault.WrongKind i) f _ i refl
+    (tells (is_earlier i d) (fault.DefinedTwice i) f None i refl
+    (none_tells f i)))
+
+use_tells : (p : Site) (u : Use) (k : Option DeclarationKind) (d : Option Site) (f : ScriptFault) → fault_of_use p u k d ≡ Some f → item_of f ≡ Some p.item
+use_tells p u k d f =
+    tells (not (is_some k)) (fault.Undeclared p.item) f _ p.item refl
+    (tells (not (is_some_and (may_be u) k)) (fault.WrongKind p.item) f _ p.item refl
+    (tells (lacks_definition u p.item k d) (fault.Undefined p.item) f _ p.item refl
+    (tells (is_some_and is_routine k && is_in_other p.mode d) (fault.WrongMode p.item) f None p.item refl
+    (none_tells f p.item))))
+
+notice_tells : (all before after : List Occurrence) (p : Site) (n : Notice) (f : ScriptFault) → fault_at all before (record { site = p; notice = n }) after ≡ Some f → item_of f ≡ Some p.item
+notice_tells all before after p (declares k n) f = tells (is_some (kind_of n before)) (fault.DeclaredTwice p.item) f None p.item refl (none_tells f p.item)
+notice_tells all before after p (defines_routine n) f = definition_tells p.item is_routine (kind_of n before) (definition_of n all) f
+notice_tells all before after p (defines_grouping n) f = definition_tells p.item is_grouping (kind_of n before) (definition_of n all) f
+notice_tells all before after p (uses u n) f = use_tells p u (kind_of n before) (definition_of n all) f
+notice_tells all before after p substring f = tells (not (is_followed p.mode after)) (fault.Substring p.item) f None p.item refl (none_tells f p.item)
+notice_tells all before after p (among has_starter is_empty) f =
+    tells (has_starter && is_awaited before false) (fault.Starter p.item) f _ p.item refl
+    (tells is_empty (fault.EmptyAmong p.item) f None p.item refl
+    (none_tells f p.item))
+notice_tells all before after p (string k t) f = tells (has_text p.item k t before) (fault.RepeatedString p.item) f None p.item refl (none_tells f p.item)
+notice_tells all before after p backwards f = tells (is_mode Backward p.mode) (fault.NestedBackwards p.item) f None p.item refl (none_tells f p.item)
+notice_tells all before after p region_end f = none_tells f p.item
+
 pub item_told : (all before after : List Occurrence) (m : Occurrence) (f : ScriptFault) → fault_at all before m after ≡ Some f → item_of f ≡ Some m.site.item
-item_told all before after m f e =
-    let i = m.site.item in
-    tells (is_declared_twice before m.notice) (fault.DeclaredTwice i) f _ i refl
-    (tells (is_undeclared before m.notice) (fault.Undeclared i) f _ i refl
-    (tells (is_wrong_kind before m.notice) (fault.WrongKind i) f _ i refl
-    (tells (is_defined_twice all i m.notice) (fault.DefinedTwice i) f _ i refl
-    (tells (is_undefined all before i m.notice) (fault.Undefined i) f _ i refl
-    (tells (is_wrong_mode all before m.site.mode m.notice) (fault.WrongMode i) f _ i refl
-    (tells (is_unpaired m.site.mode m.notice after) (fault.Substring i) f _ i refl
-    (tells (is_started_twice before m.notice) (fault.Starter i) f _ i refl
-    (tells (is_repeated before i m.notice) (fault.RepeatedString i) f _ i refl
-    (tells (is_empty_among m.notice) (fault.EmptyAmong i) f _ i refl
-    (tells (is_nested m.site.mode m.notice) (fault.NestedBackwards i) f None i refl
-    (none_tells f i)))))))))))
-    e
+item_told all before after m f = notice_tells all before after m.site m.notice f

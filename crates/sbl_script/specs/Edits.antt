@@ -1,10 +1,9 @@
 -- What an edit may replace in a script, the place that it changes, the script after the edit, and the faults of an
 -- edit.
-use Rattle.std.specs.Prelude.{◌≡◌, ◌⊎◌, ℕ, Bool, true, false, List, [], ◌∷◌, length, Option, Some, None, Result, Ok, Err, nat_eq, if◌then◌else◌}
+use Rattle.std.specs.Prelude.{◌≡◌, ℕ, Bool, true, false, List, [], ◌∷◌, length, Option, Some, None, Result, Ok, Err, nat_eq, if◌then◌else◌}
 use Rattle.std.specs.List.{list_any}
-use Rattle.std.specs.Option.{option_or}
+use Rattle.std.specs.Option.{ok_or, option_map, option_or}
 use Rattle.std.specs.Str.{bytes_eq, chars}
-use Rattle.sbl_text.specs.declared.fault.ScriptFault.{ScriptFault}
 use Rattle.sbl_text.specs.declared.directives.Coding.{Coding}
 use Rattle.sbl_text.specs.declared.directives.Coding.TheVariants as coding
 use Rattle.sbl_text.specs.Escapes.{InForce, nothing_set, with_inserts}
@@ -24,8 +23,8 @@ use Rattle.sbl_script.specs.declared.edit_fault.ScriptEditFault.TheVariants as e
 use Rattle.sbl_script.specs.declared.edits.DefinitionKind.{DefinitionKind}
 use Rattle.sbl_script.specs.declared.edits.DefinitionKind.TheVariants as kinds
 use Rattle.sbl_ast.specs.Source.{Source}
-use Rattle.sbl_resolver.specs.Checks.{WellDeclared, fault_of}
-use Rattle.sbl_script.specs.Reading.{HasTokens, IsTextFault, IsUnread, first_left_out, terminals}
+use Rattle.sbl_resolver.specs.Checks.{WellDeclared}
+use Rattle.sbl_script.specs.Reading.{HasTokens, IsFaultIn, first_left_out, terminals}
 
 -- ---- what an edit may replace
 
@@ -98,22 +97,15 @@ state_before p is = start_under (escapes_before p is)
 
 -- ---- the items with another definition in its place
 
-abbrev pub holds : (Plain → Bool) → Item → Bool
-holds p (plain x) = p x
-holds p (backward xs) = list_any p xs
-
 abbrev pub plains_with : (Plain → Bool) → Plain → List Plain → List Plain
 plains_with p y [] = []
 plains_with p y (x ∷ xs) = if p x then y ∷ xs else x ∷ plains_with p y xs
 
-abbrev pub item_with : (Plain → Bool) → Plain → Item → Item
-item_with p y (plain x) = plain y
-item_with p y (backward xs) = backward (plains_with p y xs)
-
 -- the items with y in place of the first that passes
 abbrev pub items_with : (Plain → Bool) → Plain → List Item → List Item
 items_with p y [] = []
-items_with p y (i ∷ is) = if holds p i then item_with p y i ∷ is else i ∷ items_with p y is
+items_with p y (plain x ∷ is) = if p x then plain y ∷ is else plain x ∷ items_with p y is
+items_with p y (backward xs ∷ is) = if list_any p xs then backward (plains_with p y xs) ∷ is else backward xs ∷ items_with p y is
 
 -- ---- the place that an edit changes
 
@@ -129,33 +121,18 @@ pub record Home : Type 0 where
 abbrev pub home_at : List Item → (Plain → Bool) → (w : Text) → (TreeOf w → Plain) → (TreeOf w → Bool) → Home
 home_at items p w item keeps = record { text = w; state = state_before p items; around = λ x. items_with p (item x) items; keeps_count = keeps }
 
--- a new body may hold any number of amongs
-abbrev pub home_of_body : List Item → List ℕ → Home
-home_of_body items n = home_at items (defines kinds.Routine n) texts.body (λ b. routine n b.0 b.1) (λ b. true)
-
 -- a new among is read at the depth of the one that it replaces, and has to hold as many amongs
 abbrev pub home_of_among : List Item → List ℕ → RowView → ℕ → Held → Home
 home_of_among items n b k h =
     home_at items (defines kinds.Routine n) (texts.among h.0) (λ a. routine n (put_in_body b k a).0 (put_in_body b k a).1) (λ a. nat_eq (count_in_among a) (count_in_among (h.1, h.2)))
 
-abbrev pub home_of_terms : List Item → List ℕ → Home
-home_of_terms items n = home_at items (defines kinds.Grouping n) texts.terms (λ x. grouping n x.0 x.1) (λ x. true)
-
-abbrev pub home_of_held : List Item → List ℕ → RowView → ℕ → Option Held → Result Home ScriptEditFault
-home_of_held items n b k None = Err edits.NoAmong
-home_of_held items n b k (Some h) = Ok (home_of_among items n b k h)
-
--- the fault if the script lacks the definition that the edit changes
-abbrev pub missing : ScriptEdit → ScriptEditFault
-missing (body n) = edits.NoRoutine
-missing (among n k) = edits.NoRoutine
-missing (terms n) = edits.NoGrouping
-
+-- a new body may hold any number of amongs
 abbrev pub home_in : List Item → Option Plain → ScriptEdit → Result Home ScriptEditFault
-home_in items (Some (routine m c os)) (body n) = Ok (home_of_body items n)
-home_in items (Some (routine m c os)) (among n k) = home_of_held items n (c, os) k (nth_held k (amongs_of_body (c, os)))
-home_in items (Some (grouping m a ts)) (terms n) = Ok (home_of_terms items n)
-home_in items _ e = Err (missing e)
+home_in items (Some (routine m c os)) (body n) = Ok (home_at items (defines kinds.Routine n) texts.body (λ b. routine n b.0 b.1) (λ b. true))
+home_in items (Some (routine m c os)) (among n k) = ok_or (option_map (home_of_among items n (c, os) k) (nth_held k (amongs_of_body (c, os)))) edits.NoAmong
+home_in items (Some (grouping m a ts)) (terms n) = Ok (home_at items (defines kinds.Grouping n) texts.terms (λ x. grouping n x.0 x.1) (λ x. true))
+home_in items _ (terms n) = Err edits.NoGrouping
+home_in items _ e = Err edits.NoRoutine
 
 -- the place that an edit changes; or the fault if the script lacks the definition, or else the among
 abbrev pub home : List Item → ScriptEdit → Result Home ScriptEditFault
@@ -183,24 +160,9 @@ IsEdited s e text t = (h : Home) × (home s.items e ≡ Ok h) × IsSubstituted s
 -- ---- faults, in the order of the checks: no such routine or grouping; no such among; a fault of the text in its
 -- place; another number of amongs
 
--- the tokens form a tree, and a check of the script with this tree fails with fault f
-pub record IsCheckFaultWith (s : Source) (h : Home) (ts : List Placed) (f : ScriptFault) : Type 0 where
-  pub tree : TreeOf h.text
-  pub read : IsReadAs h.text (terminals ts) tree
-  pub is : fault_of (h.around tree) s.external ≡ Some f
-
--- f is the fault of the text in this place: as bytes, else as tokens, else in a check of the script with the text
-abbrev pub IsFaultAt : Source → Home → List ℕ → ScriptFault → Type 0
-IsFaultAt s h text f =
-    IsTextFault h.state text f
-    ⊎ ((ts : List Placed) × HasTokens h.state text ts × IsUnread h.text ts (length text) f)
-    ⊎ ((ts : List Placed) × HasTokens h.state text ts × (first_left_out ts ≡ None) × IsCheckFaultWith s h ts f)
-
 -- what each fault means; running out of memory is not a fault of the edit
 abbrev pub IsEditFault : Source → ScriptEdit → List ℕ → ScriptEditFault → Type 0
-IsEditFault s e text edits.NoRoutine = home s.items e ≡ Err edits.NoRoutine
-IsEditFault s e text edits.NoGrouping = home s.items e ≡ Err edits.NoGrouping
-IsEditFault s e text edits.NoAmong = home s.items e ≡ Err edits.NoAmong
 IsEditFault s e text edits.AmongCount = (h : Home) × (home s.items e ≡ Ok h) × (t : Source) × IsSubstituted s h text false t
-IsEditFault s e text (edits.Script f) = (h : Home) × (home s.items e ≡ Ok h) × IsFaultAt s h text f
+IsEditFault s e text (edits.Script f) = (h : Home) × (home s.items e ≡ Ok h) × IsFaultIn h.text h.state h.around s.external text f
 IsEditFault s e text edits.OutOfMemory = ⊥
+IsEditFault s e text f = home s.items e ≡ Err f

@@ -9,3 +9,4 @@ pub mod OnlyTheItem
 pub mod Printed
 -- what the functions inside the crate promise each other: nothing in these need be believed
 pub mod Refusals
+pub mod Homes

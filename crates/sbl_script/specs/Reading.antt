@@ -7,7 +7,7 @@ use Rattle.sbl_text.specs.Directives.{Directives, start}
 use Rattle.sbl_text.specs.Tokens.{Placed, ArePlacedFrom, IsFirstFaultFrom}
 use Rattle.sbl_ast.specs.Terminal.{Terminal, terminal_of}
 use Rattle.sbl_ast.specs.Tree.{Item}
-use Rattle.sbl_ast.specs.Texts.{Text, script}
+use Rattle.sbl_ast.specs.Texts.{Text, TreeOf, script}
 use Rattle.sbl_parser.specs.Profile.{is_left_out}
 use Rattle.sbl_parser.specs.Reading.{IsReadAs, IsSyntaxAt, IsTooDeepAt, IsOutOfProfileAt}
 use Rattle.sbl_ast.specs.Source.{Source}
@@ -67,19 +67,24 @@ pub record IsGrammarFault (w : Text) (ts : List Placed) (end : ℕ) (f : ScriptF
       ⊎ (IsTooDeepAt w (terminals ts) (terminals rest) × (f ≡ fault.TooDeep (place_of end rest)))
       ⊎ (IsOutOfProfileAt w (terminals ts) (terminals rest) × (f ≡ fault.OutOfProfile (place_of end rest)))
 
--- the tokens form a tree, and a check of it fails with fault f
-pub record IsCheckFault (ts : List Placed) (external : List ℕ) (f : ScriptFault) : Type 0 where
-  pub items : List Item
-  pub tree : IsReadAs script (terminals ts) items
-  pub is : fault_of items external ≡ Some f
-
 -- a token is not supported, or the tokens form no tree
 abbrev pub IsUnread : Text → List Placed → ℕ → ScriptFault → Type 0
 IsUnread w ts end f = ((place : ℕ) × (first_left_out ts ≡ Some place) × (f ≡ fault.OutOfProfile place)) ⊎ ((first_left_out ts ≡ None) × IsGrammarFault w ts end f)
 
--- f is the fault of these bytes: as bytes, else as tokens, else in a check
+-- The tokens form a tree, and a check of the script with this tree fails with fault f. `around` makes the items of the
+-- script from the tree.
+pub record IsCheckFault (w : Text) (around : TreeOf w → List Item) (external : List ℕ) (ts : List Placed) (f : ScriptFault) : Type 0 where
+  pub tree : TreeOf w
+  pub read : IsReadAs w (terminals ts) tree
+  pub is : fault_of (around tree) external ≡ Some f
+
+-- f is the fault of a text that begins in state s: as bytes, else as tokens, else in a check
+abbrev pub IsFaultIn : (w : Text) → Directives → (TreeOf w → List Item) → List ℕ → List ℕ → ScriptFault → Type 0
+IsFaultIn w s around external text f =
+    IsTextFault s text f
+    ⊎ ((ts : List Placed) × HasTokens s text ts × IsUnread w ts (length text) f)
+    ⊎ ((ts : List Placed) × HasTokens s text ts × (first_left_out ts ≡ None) × IsCheckFault w around external ts f)
+
+-- f is the fault of these bytes as a script with this external
 abbrev pub IsFaultOf : List ℕ → List ℕ → ScriptFault → Type 0
-IsFaultOf bytes external f =
-    IsTextFault start bytes f
-    ⊎ ((ts : List Placed) × HasTokens start bytes ts × IsUnread script ts (length bytes) f)
-    ⊎ ((ts : List Placed) × HasTokens start bytes ts × (first_left_out ts ≡ None) × IsCheckFault ts external f)
+IsFaultOf bytes external f = IsFaultIn script start (λ items. items) external bytes f

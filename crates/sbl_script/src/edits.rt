@@ -7,6 +7,7 @@ ghost use Rattle.sbl_ast.specs.Tree as trees;
 ghost use Rattle.sbl_ast.specs.View.{view_argument, view_item, view_items, view_plain, view_row, view_term};
 ghost use Rattle.sbl_script.specs.declared.edits.DefinitionKind.TheVariants as kinds;
 ghost use Rattle.sbl_script.specs.Edits as spec;
+ghost use Rattle.sbl_script.specs.Homes as homes;
 
 use sbl_ast::{Argument, Base, Plain, RowOfCommands, ScriptItem, Term, copy_plain};
 use sbl_text::{Coding, Escapes, ScriptFault, macro_value};
@@ -258,7 +259,7 @@ fn plains_with(
 
 /// Whether the definition is this item, or inside it.
 fn holds(item: &ScriptItem, kind: DefinitionKind, name: &str) -> bool
-    ensures { result ≡ spec.holds (spec.defines kind name.now) (view_item item.now) }
+    ensures { result ≡ homes.holds (spec.defines kind name.now) (view_item item.now) }
 {
     match item {
         ScriptItem::Plain(plain) => defines(plain, kind, name),
@@ -307,7 +308,7 @@ fn item_with(
     name: &str,
     new: &Plain,
 ) -> Result<ScriptItem, AllocError>
-    ensures { IfOk result (λ x. view_item x ≡ spec.item_with (spec.defines kind name.now) (view_plain new.now) (view_item item.now)) }
+    ensures { IfOk result (λ x. view_item x ≡ homes.item_with (spec.defines kind name.now) (view_plain new.now) (view_item item.now)) }
 {
     match item {
         ScriptItem::Plain(_) => Ok(ScriptItem::Plain(copy_plain(alloc, new)?)),
@@ -322,6 +323,7 @@ fn item_with(
 }
 
 /// Returns a copy of the items with `new` in place of the first definition of this kind and name.
+#[tactic(auto, using(crate::proofs::ItemSteps::items_step))]
 pub fn items_with(
     alloc: Global,
     items: &[ScriptItem],

@@ -143,11 +143,10 @@ impl Model for Script {
 }
 
 impl Script {
-    ghost use Rattle.sbl_script.specs.Parsed.{body_of};
-    ghost use Rattle.std.specs.Prelude.{Err};
+    ghost use Rattle.std.specs.Prelude.{Err, string_bytes};
     ghost use Rattle.sbl_ast.specs.Places.{places, AreShallow};
     ghost use Rattle.sbl_ast.specs.Texts.{places_in};
-    ghost use Rattle.std.specs.Prelude.{string_bytes};
+    ghost use Rattle.sbl_script.specs.Parsed.{body_of};
     ghost use Rattle.sbl_print.specs.Canonical.{canonical};
     ghost use Rattle.sbl_script.specs.Reading.{HasTokens};
     ghost use Rattle.sbl_script.specs.Edits.{IsEditFault, IsEdited, among, body, defines, home, items_with, state_before, terms};

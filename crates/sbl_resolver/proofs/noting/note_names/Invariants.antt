@@ -1,6 +1,5 @@
 use Rattle.std.proofs.Common.{◌≡◌, drop, map, string_bytes}
-use Rattle.sbl_resolver.specs.Occurrences.{noted_names}
-use Rattle.sbl_resolver.specs.OccurrenceView.{view_occurrences}
+use Rattle.sbl_resolver.specs.OccurrenceView.{noted_names, view_occurrences}
 use Rattle.sbl_resolver.proofs.noting.note_names.Given as goal
 
 abbrev pub invariant-loop-name : goal.invariant-loop-name

@@ -13,7 +13,8 @@ use Rattle.sbl_script.specs.declared.edits.DefinitionKind.TheVariants as kinds
 use Rattle.sbl_script.specs.Parsed.{source_of}
 use Rattle.sbl_script.specs.Reading.{IsUnread, first_left_out, terminals}
 use Rattle.sbl_script.specs.Spelled.{AreSpelled, IsSpelled}
-use Rattle.sbl_script.specs.Edits.{terms, defines, first_of, home_of_terms, items_with}
+use Rattle.sbl_script.specs.Edits.{terms, defines, first_of, items_with}
+use Rattle.sbl_script.specs.Homes.{home_of_terms}
 use Rattle.sbl_script.proofs.Editing as editing
 use Rattle.sbl_script.proofs.Found.{same_name}
 use Rattle.sbl_script.proofs.Shallow.{grouping_shallow}
