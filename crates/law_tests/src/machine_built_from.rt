@@ -1,8 +1,8 @@
 //! Laws of sbl_machine (specs/BuiltFrom.antt), written out.
 
 ghost use Rattle.sbl_resolver.specs.Checks.{WellDeclared};
-ghost use Rattle.sbl_machine.specs.Touched.{Item'};
-ghost use Rattle.sbl_script.specs.Parsed.{Source};
+ghost use Rattle.sbl_semantics.specs.Touched.{Item'};
+ghost use Rattle.sbl_ast.specs.Source.{Source};
 ghost use Rattle.sbl_machine.specs.BuiltFrom.{IsClosed, affected};
 
 use sbl_machine::laws::affected_is_closed;

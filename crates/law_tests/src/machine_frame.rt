@@ -5,9 +5,9 @@ ghost use Rattle.std.specs.List.{list_any};
 ghost use Rattle.std.specs.List.Sorted.{IsStrictlySortedBy};
 ghost use Rattle.sbl_resolver.specs.Checks.{WellDeclared};
 ghost use Rattle.sbl_machine.specs.BuiltFrom.{IsClosed, affected, affected_by, meets, meets_one};
-ghost use Rattle.sbl_machine.specs.Outcome.{touches_of};
-ghost use Rattle.sbl_machine.specs.Touched.{Item', item_cmp, named, same_item, touched_of, touches, names_of};
-ghost use Rattle.sbl_script.specs.Parsed.{Source};
+ghost use Rattle.sbl_semantics.specs.Outcome.{touches_of};
+ghost use Rattle.sbl_semantics.specs.Touched.{Item', item_cmp, named, same_item, touched_of, touches, names_of};
+ghost use Rattle.sbl_ast.specs.Source.{Source};
 ghost use Rattle.sbl_machine.specs.Frame.{AgreeOutside, RunsAlike, StaysAsItWas};
 
 use sbl_machine::laws::{clear_stay, frame, touches_are_touched, unmet_by_one_stay, unmet_stay};

@@ -3,9 +3,9 @@
 ghost use Rattle.std.specs.Prelude.{◌≡◌, ◌↔◌, ℕ, true, List, ◌∷◌};
 ghost use Rattle.sbl_ast.specs.declared.tree.Additive.TheVariants.{Plus};
 ghost use Rattle.sbl_ast.specs.Tree.{Argument, Term, term};
-ghost use Rattle.sbl_compiler.specs.Items.{class_of, term_has, terms_have};
+ghost use Rattle.sbl_semantics.specs.Items.{class_of, term_has, terms_have};
 ghost use Rattle.sbl_resolver.specs.Checks.{WellDeclared};
-ghost use Rattle.sbl_script.specs.Parsed.{Source};
+ghost use Rattle.sbl_ast.specs.Source.{Source};
 ghost use Rattle.sbl_machine.specs.Groupings.{groupings_of, Defines, IsOfTerms};
 
 use sbl_machine::laws::groupings_are_their_terms;

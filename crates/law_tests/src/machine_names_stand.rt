@@ -4,7 +4,7 @@ ghost use Rattle.std.specs.Prelude.{◌≡◌, ℕ, List, ◌∷◌, ◌++◌};
 ghost use Rattle.sbl_ast.specs.Order.{in_order};
 ghost use Rattle.sbl_resolver.specs.Checks.{WellDeclared};
 ghost use Rattle.sbl_resolver.specs.Occurrences.{Occurrence, uses, occurrences_of};
-ghost use Rattle.sbl_script.specs.Parsed.{Source};
+ghost use Rattle.sbl_ast.specs.Source.{Source};
 ghost use Rattle.sbl_resolver.specs.declared.occurrences.Site.{Site};
 ghost use Rattle.sbl_resolver.specs.declared.occurrences.Use.{Use};
 ghost use Rattle.sbl_machine.specs.NamesStand.{StandsFor};

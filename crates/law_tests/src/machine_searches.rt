@@ -2,10 +2,10 @@
 
 ghost use Rattle.std.specs.Prelude.{◌↔◌, ℕ, List};
 ghost use Rattle.std.specs.List.{AllByRecursion};
-ghost use Rattle.sbl_among_search.specs.Fitting.{fitting};
+ghost use Rattle.sbl_semantics.specs.Fitting.{fitting};
 ghost use Rattle.sbl_among_search.specs.Laws.{AllDiffer, Matches, StandsIn};
 ghost use Rattle.sbl_resolver.specs.Checks.{WellDeclared};
-ghost use Rattle.sbl_script.specs.Parsed.{Source};
+ghost use Rattle.sbl_ast.specs.Source.{Source};
 ghost use Rattle.sbl_machine.specs.Searches.{amongs_of, strings_read};
 
 use sbl_machine::laws::searches_are_exact;

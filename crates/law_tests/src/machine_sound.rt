@@ -1,10 +1,10 @@
 //! Laws of sbl_machine (specs/Sound.antt), written out.
 
 ghost use Rattle.std.specs.Prelude.{◌≡◌, ℕ, List};
-ghost use Rattle.sbl_machine.specs.Meaning.{ending};
+ghost use Rattle.sbl_semantics.specs.Meaning.{ending};
 ghost use Rattle.sbl_interpreter.specs.Start.{ending_of};
 ghost use Rattle.sbl_machine.specs.Numbered.{numbered_script};
-ghost use Rattle.sbl_script.specs.Parsed.{Source};
+ghost use Rattle.sbl_ast.specs.Source.{Source};
 
 use sbl_machine::laws::run_is_sound;
 

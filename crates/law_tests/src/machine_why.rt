@@ -2,10 +2,10 @@
 
 ghost use Rattle.std.specs.Prelude.{◌≡◌, ℕ, List, []};
 ghost use Rattle.std.specs.List.{filter};
-ghost use Rattle.sbl_machine.specs.Meaning.{ending_with_events};
-ghost use Rattle.sbl_machine.specs.Outcome.{Stem, integers_at, integers_of, outcome_at, run_of, touched_at, touches_of, used_at, used_of};
-ghost use Rattle.sbl_script.specs.Parsed.{Source};
-ghost use Rattle.sbl_machine.specs.Why.{events_of, text_after, touches_after, is_no_test};
+ghost use Rattle.sbl_semantics.specs.Meaning.{ending_with_events};
+ghost use Rattle.sbl_semantics.specs.Outcome.{Stem, integers_at, integers_of, outcome_at, run_of, touched_at, touches_of, used_at, used_of, events_of};
+ghost use Rattle.sbl_ast.specs.Source.{Source};
+ghost use Rattle.sbl_machine.specs.Why.{text_after, touches_after, is_no_test};
 
 use sbl_machine::laws::{events_change_nothing, events_touch, puts_give_the_stem};
 

@@ -2,7 +2,7 @@
 
 ghost use Rattle.std.specs.Prelude.{◌≡◌, ℕ, false, List, []};
 ghost use Rattle.sbl_compiler.specs.Ahead.{routines_in};
-ghost use Rattle.sbl_compiler.specs.Items.{body_named, class_of, classes_behind};
+ghost use Rattle.sbl_semantics.specs.Items.{body_named, class_of, classes_behind};
 ghost use Rattle.sbl_compiler.specs.Numbered.{numbered_items, routines_behind};
 ghost use Rattle.sbl_compiler.specs.NumberedAmongs.{found_behind};
 ghost use Rattle.sbl_compiler.specs.NumberedNames.{Names, number_of};

@@ -2,7 +2,7 @@
 
 ghost use Rattle.std.specs.Prelude.{◌≡◌, ℕ, List, Some};
 ghost use Rattle.sbl_text.specs.declared.fault.ScriptFault.{ScriptFault};
-ghost use Rattle.sbl_script.specs.Parsed.{Source};
+ghost use Rattle.sbl_ast.specs.Source.{Source};
 ghost use Rattle.sbl_resolver.specs.Checks.{WellDeclared};
 ghost use Rattle.sbl_script.specs.Edits.{ScriptEdit, changes, IsEditFault};
 ghost use Rattle.sbl_script.specs.OnlyTheItem.{item_of, number_of};

@@ -1,7 +1,7 @@
 //! Laws of sbl_among_search (specs/Laws.antt), written out.
 
 ghost use Rattle.std.specs.Prelude.{◌≡◌, ℕ, suc, ◌<◌, ◌≤◌, List, ◌∷◌, ◌++◌, length, Option, Some, slice_get};
-ghost use Rattle.sbl_among_search.specs.Fitting.{below, fitting, first, length_at};
+ghost use Rattle.sbl_semantics.specs.Fitting.{below, fitting, first, length_at};
 ghost use Rattle.sbl_among_search.specs.Best.{IsBest};
 
 use sbl_among_search::laws::{best_comes_first, fitting_fall, rest_is_its_own};

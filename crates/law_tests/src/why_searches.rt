@@ -2,14 +2,14 @@
 
 ghost use Rattle.std.specs.Prelude.{◌≡◌, ℕ, false, List, [], ◌∷◌, ◌++◌, Option, Some, None};
 ghost use Rattle.std.specs.List.{list_any};
-ghost use Rattle.sbl_machine.specs.Meaning.{Offer, calls, search};
-ghost use Rattle.sbl_machine.specs.Why.{events_at, events_of};
-ghost use Rattle.sbl_compiler.specs.Items.{Body, Known, body_named, class_of, classes_behind, known_in};
-ghost use Rattle.sbl_compiler.specs.Regions.{Among};
-ghost use Rattle.sbl_interpreter.specs.Events.{Event', Searches};
-ghost use Rattle.sbl_interpreter.specs.State.{State, bound_of};
-ghost use Rattle.sbl_script.specs.Parsed.{Source};
-ghost use Rattle.sbl_among_search.specs.Fitting.{ahead_at};
+ghost use Rattle.sbl_semantics.specs.Meaning.{Offer, calls, search};
+ghost use Rattle.sbl_semantics.specs.Outcome.{events_at, events_of};
+ghost use Rattle.sbl_semantics.specs.Items.{Body, Known, body_named, class_of, classes_behind, known_in};
+ghost use Rattle.sbl_semantics.specs.Regions.{Among};
+ghost use Rattle.sbl_semantics.specs.Events.{Event', Searches};
+ghost use Rattle.sbl_semantics.specs.State.{State, bound_of};
+ghost use Rattle.sbl_ast.specs.Source.{Source};
+ghost use Rattle.sbl_semantics.specs.Fitting.{ahead_at};
 ghost use Rattle.sbl_ast.specs.Order.{in_order};
 ghost use Rattle.sbl_ast.specs.declared.mode.Mode.{Mode};
 ghost use Rattle.sbl_why.specs.Searches.{Call, course, fits, is_conditional, AllRefused, OneTaken, EndsWith, IsSearch, first_length};

@@ -5,7 +5,7 @@ use Rattle.std.specs.List.{starts_with, position}
 use Rattle.std.specs.Cmp.Lexicographic.{pointwise}
 use Rattle.std.proofs.lemmas.Bool.{ltb-true, ltb-false}
 use Rattle.std.proofs.lemmas.Option.{get_or_from_slice_get}
-use Rattle.sbl_among_search.specs.Fitting.{below, first, fitting, length_at, onto}
+use Rattle.sbl_semantics.specs.Fitting.{below, first, fitting, length_at, onto}
 use Rattle.sbl_among_search.specs.Laws.{AllDiffer, Matches, StandsIn}
 use Rattle.sbl_among_search.proofs.Fits.{at_number, front_is, front_length, nowhere, rest_after, taken_front, taken_length}
 

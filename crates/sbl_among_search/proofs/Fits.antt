@@ -10,7 +10,7 @@ use Rattle.std.proofs.lemmas.List.{length-take}
 use Rattle.std.proofs.lemmas.List.Quantifiers.{position-Some}
 use Rattle.std.proofs.lemmas.Option.{slice_get-get_or, slice_get_within, get_or_from_slice_get}
 use Rattle.std.proofs.lemmas.Slice.Eq.{slice_eq-Decides}
-use Rattle.sbl_among_search.specs.Fitting.{below, fitting, first, onto}
+use Rattle.sbl_semantics.specs.Fitting.{below, fitting, first, onto}
 use Rattle.sbl_among_search.specs.Best.{IsBest}
 
 -- a test of two strings

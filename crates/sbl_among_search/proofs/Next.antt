@@ -2,7 +2,7 @@
 use Rattle.std.proofs.Common.{◌≡◌, ℕ, ◌<◌, List, [], length, map, get_or, sym, ap, ◌∙◌, arith, rules, Vec, Global}
 use Rattle.std.proofs.lemmas.List.{get_or-map, length-map}
 use Rattle.sbl_ast.specs.declared.mode.Mode.{Mode}
-use Rattle.sbl_among_search.specs.Fitting.{read_as, read_all}
+use Rattle.sbl_semantics.specs.Fitting.{read_as, read_all}
 
 pub next_string : (m : Mode) (items ds : List (Vec ℕ Global)) (v : Vec ℕ Global) (i : ℕ) → ds ≡ items → i < length ds → v ≡ get_or ds i v → (i < length (read_all m (map (λ u. u.items) items))) × (get_or (read_all m (map (λ u. u.items) items)) i [] ≡ read_as m v.items)
 next_string m items ds v i d l e =

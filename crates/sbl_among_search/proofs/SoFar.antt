@@ -6,7 +6,7 @@ use Rattle.std.proofs.lemmas.List.{length-reverse, take_more}
 use Rattle.std.proofs.Common.{get_or}
 use Rattle.sbl_ast.specs.declared.mode.Mode.{Mode}
 use Rattle.sbl_ast.specs.declared.mode.Mode.TheVariants.{Forward, Backward}
-use Rattle.sbl_among_search.specs.Fitting.{read_as}
+use Rattle.sbl_semantics.specs.Fitting.{read_as}
 use Rattle.sbl_among_search.specs.Best.{BestSoFar}
 
 pub read_length : (m : Mode) (w : List ℕ) → length (read_as m w) ≡ length w

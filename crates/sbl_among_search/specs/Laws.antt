@@ -1,7 +1,7 @@
 -- Laws of the matching strings.
 use Rattle.std.specs.Prelude.{◌≡◌, ◌↔◌, ℕ, suc, ◌<◌, ◌≤◌, true, List, ◌∷◌, ◌++◌, length, nat_eq, Option, Some, slice_get}
 use Rattle.std.specs.List.{starts_with}
-use Rattle.sbl_among_search.specs.Fitting.{below, fitting, first, length_at}
+use Rattle.sbl_semantics.specs.Fitting.{below, fitting, first, length_at}
 use Rattle.sbl_among_search.specs.Best.{IsBest}
 
 -- the first of the longest strings that are a prefix of x is the first matching string

@@ -1,5 +1,4 @@
 -- definitions that public contracts depend on
-pub mod Fitting
 pub mod Best
 pub mod Laws
 pub mod Strings

@@ -1,7 +1,7 @@
 -- The strings of a linked table.
 use Rattle.std.specs.Prelude.{ℕ, List, map}
 use Rattle.sbl_ast.specs.declared.mode.Mode.{Mode}
-use Rattle.sbl_among_search.specs.Fitting.{read_all}
+use Rattle.sbl_semantics.specs.Fitting.{read_all}
 use Rattle.sbl_among_search.specs.declared.linked.LinkedTable.{LinkedTable}
 
 abbrev pub entries_of : LinkedTable → List (List ℕ)

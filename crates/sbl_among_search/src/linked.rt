@@ -2,7 +2,7 @@
 
 ghost use Rattle.std.specs.Prelude.{map};
 ghost use Rattle.sbl_char_class.specs.CharacterClasses.{members};
-ghost use Rattle.sbl_among_search.specs.Fitting.{read_all};
+ghost use Rattle.sbl_semantics.specs.Fitting.{read_all};
 ghost use Rattle.sbl_among_search.specs.Beginnings.{AreBeginnings};
 ghost use Rattle.sbl_among_search.specs.Linked.{IsLinked, texts_of};
 
@@ -36,7 +36,7 @@ pub struct LinkedTable {
 
 impl LinkedTable {
     ghost use Rattle.sbl_among_search.specs.Best.{IsBest};
-    ghost use Rattle.sbl_among_search.specs.Fitting.{read_as};
+    ghost use Rattle.sbl_semantics.specs.Fitting.{read_as};
     ghost use Rattle.sbl_among_search.specs.LinkedStrings.{strings_of};
 
     /// Returns the number of the longest string with fewer than `below` characters that is a prefix of the text read.

@@ -2,7 +2,7 @@
 
 ghost use Rattle.std.specs.Prelude.{◌≡◌, ◌≤◌, ◌++◌, ◌∷◌, [], List, ℕ, IfOk, map, nat_eq, length};
 ghost use Rattle.std.specs.List.{starts_with};
-ghost use Rattle.sbl_among_search.specs.Fitting.{ahead_at, read_as};
+ghost use Rattle.sbl_semantics.specs.Fitting.{ahead_at, read_as};
 ghost use Rattle.sbl_among_search.specs.Best.{BestSoFar, IsBest};
 ghost use Rattle.sbl_among_search.specs.Strings.{entries_of, mode_of, strings_of};
 

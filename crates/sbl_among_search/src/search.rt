@@ -1,7 +1,7 @@
 //! Searches of the strings of an among.
 
 ghost use Rattle.std.specs.Prelude.{◌≡◌, ◌++◌, ◌∷◌, ◌≤◌, List, ℕ, length, map, IfOk};
-ghost use Rattle.sbl_among_search.specs.Fitting.{ahead_at, first, fitting, read_all};
+ghost use Rattle.sbl_semantics.specs.Fitting.{ahead_at, first, fitting, read_all};
 ghost use Rattle.sbl_ast.specs.declared.mode.Mode.{Mode as ModeOf};
 
 use sbl_ast::Mode;

@@ -7,17 +7,18 @@ use Rattle.std.proofs.lemmas.Bool.{true≢false}
 use Rattle.std.proofs.lemmas.Bool.Decides.{nat_tests}
 use Rattle.sbl_resolver.specs.Checks.{WellDeclared}
 use Rattle.sbl_script.specs.Edits.{ScriptEdit}
-use Rattle.sbl_script.specs.Parsed.{Source}
+use Rattle.sbl_ast.specs.Source.{Source}
 use Rattle.sbl_script.specs.Reading.{IsScriptOf}
-use Rattle.sbl_interpreter.specs.declared.touch.Touch.{Touch}
+use Rattle.sbl_semantics.specs.declared.touch.Touch.{Touch}
 use Rattle.sbl_machine.specs.BuiltFrom.{affected_by, meets, meets_one}
 use Rattle.sbl_machine.specs.Differs.{differs}
 use Rattle.sbl_machine.specs.EnoughSteps.{UsedStepsSuffice, UsedStepsTouch}
 use Rattle.sbl_machine.specs.DifferLaws.{DifferingStay, OneMeets}
 use Rattle.sbl_machine.specs.Frame.{StaysAsItWas, UntouchedStay}
 use Rattle.sbl_machine.specs.Marks.{AreMarksOf, EditedAreThere, has_item}
-use Rattle.sbl_machine.specs.Outcome.{touches_of, used_of}
-use Rattle.sbl_machine.specs.Touched.{Item', named, names_of, replaced}
+use Rattle.sbl_semantics.specs.Outcome.{touches_of, used_of}
+use Rattle.sbl_semantics.specs.Touched.{Item', named, names_of}
+use Rattle.sbl_machine.specs.EditedItem.{replaced}
 use Rattle.sbl_bench.specs.Affected.{Affected, AreMet, Touching, Above, is_affected}
 use Rattle.sbl_bench.specs.Changes.{Brings, IsExchange, IsTaken}
 use Rattle.sbl_bench.specs.Contents.{Contents}

@@ -15,10 +15,10 @@ use Rattle.std.proofs.lemmas.Map.Views.{All-insert_key}
 use Rattle.std.proofs.lemmas.Slice.Eq.{bytes_eq-Decides}
 use Rattle.std.proofs.lemmas.Map.Text.{is_eq-slice_cmp}
 use Rattle.sbl_bench.specs.Setting.{Setting}
-use Rattle.sbl_machine.specs.Outcome.{Outcome', Stem, Refused, outcome_of}
-use Rattle.sbl_machine.specs.declared.outcome.Outcome.{Outcome}
+use Rattle.sbl_semantics.specs.Outcome.{Outcome', Stem, Refused, outcome_of}
+use Rattle.sbl_semantics.specs.declared.outcome.Outcome.{Outcome}
 use Rattle.sbl_machine.specs.declared.outcome.Traced.{Traced}
-use Rattle.sbl_machine.specs.declared.outcome.Outcome.TheVariants as code
+use Rattle.sbl_semantics.specs.declared.outcome.Outcome.TheVariants as code
 use Rattle.sbl_bench.specs.Classes.{class_of, class_with, in_order, is_stem, stem_of, words_with}
 use Rattle.sbl_bench.specs.Grouping.{Pair, pair_cmp, sorted, stem_pairs, with_pair, words_paired}
 use Rattle.sbl_bench.specs.Kept.{KeptWord, AreFresh, words_in}

@@ -8,7 +8,7 @@ use Rattle.std.proofs.lemmas.Map.Views.{All-insert_key}
 use Rattle.std.proofs.lemmas.Slice.Eq.{bytes_eq-Decides}
 use Rattle.sbl_bench.specs.Classes.{class_with, in_order, is_stem, stem_of, stems_in, words_with}
 use Rattle.sbl_bench.specs.ClassesAreSound.{ClassesAreOfRows, ClassesRise, Rise}
-use Rattle.sbl_machine.specs.Outcome.{Outcome', Stem, Refused}
+use Rattle.sbl_semantics.specs.Outcome.{Outcome', Stem, Refused}
 use Rattle.sbl_bench.specs.Rows.{Row}
 use Rattle.sbl_bench.proofs.OrderFacts.{any-in_order, bytes_eq-back, in_order-sorted, text_cmp}
 

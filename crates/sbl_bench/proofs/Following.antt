@@ -7,7 +7,7 @@ use Rattle.std.specs.BTreeSet.{BTreeSet, Updates}
 use Rattle.std.proofs.Math.Seq.{drop-cons}
 use Rattle.std.proofs.lemmas.List.Elements.{All-cons}
 use Rattle.std.proofs.lemmas.Slice.Eq.{bytes_eq-Decides}
-use Rattle.sbl_machine.specs.Outcome.{Outcome', Stem, Refused, outcome_of}
+use Rattle.sbl_semantics.specs.Outcome.{Outcome', Stem, Refused, outcome_of}
 use Rattle.sbl_machine.specs.declared.outcome.Traced.{Traced}
 use Rattle.sbl_bench.specs.ChangedRows.{same_outcome}
 use Rattle.sbl_bench.specs.Changes.{is_changed}

@@ -11,8 +11,8 @@ use Rattle.std.proofs.lemmas.List.Folds.{list_any_at}
 use Rattle.std.proofs.lemmas.Map.Made.{AllPairs-from_IsDistinct, IsDistinct-keys_filter}
 use Rattle.std.proofs.lemmas.Slice.Eq.{bytes_eq-Decides}
 use denote.Enum.Bare.{true_same}
-use Rattle.sbl_interpreter.specs.contracts.fault.RunFault as fault
-use Rattle.sbl_machine.specs.Outcome.{Outcome', Stem, Refused, outcome_of, run_of}
+use Rattle.sbl_semantics.specs.contracts.fault.RunFault as fault
+use Rattle.sbl_semantics.specs.Outcome.{Outcome', Stem, Refused, outcome_of, run_of}
 use Rattle.sbl_machine.specs.declared.outcome.Traced.{Traced}
 use Rattle.sbl_bench.specs.Affected.{Affected, is_affected}
 use Rattle.sbl_bench.specs.ChangedRows.{ChangedRow, changed_rows, if_changed, outcome_in, same_outcome}

@@ -7,7 +7,7 @@ use Rattle.std.proofs.lemmas.List.{length-map}
 use Rattle.std.proofs.lemmas.List.Elements.{All-cons, All-head, All-tail}
 use Rattle.std.proofs.Math.Path.{fun_ext}
 use Rattle.std.specs.Prelude.{if◌then◌else◌}
-use Rattle.sbl_machine.specs.Outcome.{run_of, touches_of, used_of}
+use Rattle.sbl_semantics.specs.Outcome.{run_of, touches_of, used_of}
 use Rattle.sbl_machine.specs.declared.outcome.Traced.{Traced}
 use Rattle.sbl_bench.specs.Affected.{Affected, is_affected, is_affected_run}
 use Rattle.sbl_bench.specs.Changes.{AreAnew, AreRun, AreStill, Brings, Rerun, is_changed, is_met, met_words, rerun_of, reruns, view_change}

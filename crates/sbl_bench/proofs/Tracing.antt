@@ -2,7 +2,7 @@
 use Rattle.std.proofs.Common.{◌≡◌, ◌∙◌, ℕ, Bool, true, false, cond, List, [], ◌∷◌, Some, None, is_some, refl, sym, ap, subst}
 use Rattle.std.specs.Str.{bytes_eq}
 use Rattle.std.proofs.lemmas.Slice.Eq.{bytes_eq-Decides}
-use Rattle.sbl_machine.specs.Touched.{Item', items_of, names_of, touched_of}
+use Rattle.sbl_semantics.specs.Touched.{Item', items_of, names_of, touched_of}
 use Rattle.sbl_machine.specs.declared.outcome.Traced.{Traced}
 use Rattle.sbl_bench.specs.Setting.{Setting}
 use Rattle.sbl_bench.specs.Kept.{KeptWord, AreFresh, IsFresh, words_in}

@@ -1,11 +1,11 @@
 -- The words that a change of the setting can affect, by their runs.
 use Rattle.std.specs.Prelude.{◌≡◌, ℕ, Bool, true, List, Option, nat_lt}
 use Rattle.std.specs.List.{list_any}
-use Rattle.sbl_machine.specs.Outcome.{touches_of, used_of}
-use Rattle.sbl_interpreter.specs.Touches.{same_touch}
-use Rattle.sbl_interpreter.specs.declared.touch.Touch.{Touch}
-use Rattle.sbl_machine.specs.Touched.{Item'}
-use Rattle.sbl_script.specs.Parsed.{Source}
+use Rattle.sbl_semantics.specs.Outcome.{touches_of, used_of}
+use Rattle.sbl_semantics.specs.Touches.{same_touch}
+use Rattle.sbl_semantics.specs.declared.touch.Touch.{Touch}
+use Rattle.sbl_semantics.specs.Touched.{Item'}
+use Rattle.sbl_ast.specs.Source.{Source}
 use Rattle.sbl_bench.specs.Edits.{meets_listed}
 use Rattle.sbl_bench.specs.Setting.{Setting, under}
 

@@ -4,8 +4,8 @@ use Rattle.std.specs.List.{filter_map, find}
 use Rattle.std.specs.Option.{option_and_then, option_map}
 use Rattle.std.specs.Str.{bytes_eq}
 use denote.Enum.Bare.{sameb}
-use Rattle.sbl_interpreter.specs.contracts.fault.RunFault as fault
-use Rattle.sbl_machine.specs.Outcome.{Outcome', Stem, Refused, outcome_of}
+use Rattle.sbl_semantics.specs.contracts.fault.RunFault as fault
+use Rattle.sbl_semantics.specs.Outcome.{Outcome', Stem, Refused, outcome_of}
 use Rattle.sbl_bench.specs.Rows.{Row}
 use Rattle.sbl_bench.specs.declared.changed_row.ChangedRow as declared
 

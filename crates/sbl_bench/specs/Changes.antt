@@ -3,12 +3,13 @@ use Rattle.std.specs.Prelude.{◌≡◌, ◌⊎◌, ℕ, Bool, true, false, List
 use Rattle.std.specs.List.{All, filter, list_any}
 use Rattle.std.specs.Str.{bytes_eq}
 use Rattle.sbl_script.specs.Edits.{ScriptEdit, IsEdited}
-use Rattle.sbl_script.specs.Parsed.{Source}
+use Rattle.sbl_ast.specs.Source.{Source}
 use Rattle.sbl_machine.specs.Differs.{differs}
-use Rattle.sbl_machine.specs.Touched.{Item', replaced}
+use Rattle.sbl_semantics.specs.Touched.{Item'}
+use Rattle.sbl_machine.specs.EditedItem.{replaced}
 use Rattle.sbl_machine.specs.declared.outcome.Traced.{Traced}
-use Rattle.sbl_interpreter.specs.declared.touch.Touch.{Touch}
-use Rattle.sbl_machine.specs.Outcome.{Outcome', outcome_of, run_of, touches_of, used_of}
+use Rattle.sbl_semantics.specs.declared.touch.Touch.{Touch}
+use Rattle.sbl_semantics.specs.Outcome.{Outcome', outcome_of, run_of, touches_of, used_of}
 use Rattle.sbl_bench.specs.Kept.{KeptWord, IsFresh, words_in}
 use Rattle.sbl_bench.specs.Pairs.{Text, find}
 use Rattle.sbl_bench.specs.Setting.{Setting, RunsSame, under}

@@ -9,7 +9,7 @@ use Rattle.std.specs.Str.{bytes_eq}
 use Rattle.std.specs.declared.vec.Vec.{Vec}
 use Rattle.std.specs.declared.alloc.Global.{Global}
 use Rattle.std.specs.BTreeSet.{insert_key}
-use Rattle.sbl_machine.specs.Outcome.{Outcome', Stem, Refused}
+use Rattle.sbl_semantics.specs.Outcome.{Outcome', Stem, Refused}
 use Rattle.sbl_bench.specs.Rows.{Row}
 use Rattle.sbl_bench.specs.declared.class.Class as declared
 

@@ -1,9 +1,8 @@
 -- The contents of a bench, and what opening it does.
 use Rattle.std.specs.Prelude.{◌≡◌, ℕ, ◌-◌, ◌^◌, Bool, List, [], ◌∷◌, length, Option, Some, None, Result, Ok, Err, nat_lt, nat_le, if◌then◌else◌}
 use Rattle.std.specs.Option.{option_or}
-use Rattle.sbl_script.specs.Parsed.{Source}
-use Rattle.sbl_interpreter.specs.Start.{max_word_length}
-use Rattle.sbl_machine.specs.Limit.{default_limit}
+use Rattle.sbl_ast.specs.Source.{Source}
+use Rattle.sbl_semantics.specs.Limit.{max_word_length, default_limit}
 use Rattle.sbl_bench.specs.Setting.{Setting, under}
 use Rattle.sbl_bench.specs.declared.fault.EditFault.{EditFault}
 use Rattle.sbl_bench.specs.declared.fault.EditFault.TheVariants as fault

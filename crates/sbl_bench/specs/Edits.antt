@@ -5,17 +5,18 @@ use Rattle.std.specs.Str.{bytes_eq}
 use Rattle.sbl_script.specs.declared.edit_fault.ScriptEditFault as declared
 use Rattle.sbl_script.specs.declared.edit_fault.ScriptEditFault.TheVariants as script
 use Rattle.sbl_script.specs.Edits.{ScriptEdit, body, among, terms, IsEdited, IsEditFault}
-use Rattle.sbl_script.specs.Parsed.{Source}
+use Rattle.sbl_ast.specs.Source.{Source}
 use Rattle.sbl_script.specs.Reading.{IsScriptOf, IsFaultOf}
 use Rattle.sbl_text.specs.declared.fault.ScriptFault.{ScriptFault}
-use Rattle.sbl_interpreter.specs.Start.{max_word_length}
+use Rattle.sbl_semantics.specs.Limit.{max_word_length}
 use Rattle.sbl_bench.specs.Contents.{Contents, is_full, max_runs}
 use Rattle.sbl_bench.specs.Setting.{Setting}
 use Rattle.sbl_bench.specs.Vocabulary.{is_word, without}
 use Rattle.sbl_machine.specs.BuiltFrom.{meets, meets_one}
 use Rattle.sbl_machine.specs.Differs.{differs}
-use Rattle.sbl_machine.specs.Outcome.{used_of}
-use Rattle.sbl_machine.specs.Touched.{Item', replaced}
+use Rattle.sbl_semantics.specs.Outcome.{used_of}
+use Rattle.sbl_semantics.specs.Touched.{Item'}
+use Rattle.sbl_machine.specs.EditedItem.{replaced}
 use Rattle.sbl_bench.specs.declared.fault.EditFault.{EditFault}
 use Rattle.sbl_bench.specs.declared.fault.EditFault.TheVariants as fault
 

@@ -4,10 +4,10 @@ use Rattle.std.specs.declared.vec.Vec.{Vec}
 use Rattle.std.specs.declared.alloc.Global.{Global}
 use Rattle.sbl_script.specs.Parsed.{Parsed, source_of}
 use Rattle.sbl_machine.specs.declared.outcome.Traced.{Traced}
-use Rattle.sbl_machine.specs.Outcome.{outcome_of, run_of, touches_of, used_of}
+use Rattle.sbl_semantics.specs.Outcome.{outcome_of, run_of, touches_of, used_of}
 use Rattle.sbl_bench.specs.ChangedRows.{ChangedRow}
 use Rattle.sbl_bench.specs.Setting.{Setting, under}
-use Rattle.sbl_interpreter.specs.Start.{max_word_length}
+use Rattle.sbl_semantics.specs.Limit.{max_word_length}
 use Rattle.sbl_bench.specs.Contents.{Contents, max_words}
 
 pub record Kept : Type 0 where

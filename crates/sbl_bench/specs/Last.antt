@@ -2,7 +2,7 @@
 use Rattle.std.specs.Prelude.{◌≡◌, ◌≢◌, ℕ, false, List, Option, Some, IsSome}
 use Rattle.std.specs.List.{All, AllPairs, filter_map}
 use Rattle.std.specs.Option.{option_and_then}
-use Rattle.sbl_machine.specs.Outcome.{outcome_of, run_of}
+use Rattle.sbl_semantics.specs.Outcome.{outcome_of, run_of}
 use Rattle.sbl_machine.specs.declared.outcome.Traced.{Traced}
 use Rattle.sbl_bench.specs.ChangedRows.{ChangedRow, if_changed}
 use Rattle.sbl_bench.specs.Kept.{KeptWord}

@@ -9,7 +9,7 @@ use Rattle.std.specs.Str.{bytes_eq}
 use Rattle.std.specs.Map.{lookup}
 use Rattle.std.specs.BTreeSet.{BTreeSet, contains}
 use Rattle.sbl_machine.specs.declared.outcome.Traced.{Traced}
-use Rattle.sbl_machine.specs.Outcome.{Outcome', outcome_of}
+use Rattle.sbl_semantics.specs.Outcome.{Outcome', outcome_of}
 use Rattle.sbl_bench.specs.Classes.{is_stem}
 use Rattle.sbl_bench.specs.Kept.{KeptWord}
 

@@ -1,6 +1,6 @@
 -- The rows: each word with the outcome of a fresh run of the script under the limit.
 use Rattle.std.specs.Prelude.{ℕ, List, map}
-use Rattle.sbl_machine.specs.Outcome.{Outcome', outcome_of, run_of}
+use Rattle.sbl_semantics.specs.Outcome.{Outcome', outcome_of, run_of}
 use Rattle.sbl_bench.specs.Setting.{Setting}
 use Rattle.sbl_bench.specs.declared.row.Row as declared
 

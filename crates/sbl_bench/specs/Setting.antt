@@ -1,7 +1,7 @@
 -- What the run of a word depends on besides the word.
 use Rattle.std.specs.Prelude.{◌≡◌, ℕ, List}
-use Rattle.sbl_script.specs.Parsed.{Source}
-use Rattle.sbl_machine.specs.Outcome.{run_of, touches_of, used_of}
+use Rattle.sbl_ast.specs.Source.{Source}
+use Rattle.sbl_semantics.specs.Outcome.{run_of, touches_of, used_of}
 
 -- the current script, and the current limit of steps
 pub record Setting : Type 0 where

@@ -2,7 +2,7 @@
 use Rattle.std.specs.Prelude.{ℕ, List, Option, Some, None, if◌then◌else◌}
 use Rattle.sbl_bench.specs.Setting.{Setting}
 use Rattle.sbl_bench.specs.Vocabulary.{is_word}
-use Rattle.sbl_machine.specs.Touched.{Item', touched_of}
+use Rattle.sbl_semantics.specs.Touched.{Item', touched_of}
 
 -- the items that a fresh run of a word touches, in order; none if the word is not in the vocabulary
 abbrev pub trace_of : Setting → List (List ℕ) → List ℕ → Option (List Item')

@@ -4,11 +4,10 @@ use Rattle.sbl_bench.specs.Setting.{Setting}
 use Rattle.sbl_bench.specs.declared.fault.EditFault.{EditFault}
 use Rattle.sbl_bench.specs.declared.fault.EditFault.TheVariants as fault
 use Rattle.sbl_machine.specs.declared.outcome.Why.{Why}
-use Rattle.sbl_machine.specs.Outcome.{integers_of, outcome_of, run_of, used_of}
-use Rattle.sbl_machine.specs.Touched.{names_of}
-use Rattle.sbl_machine.specs.Why.{events_of}
-use Rattle.sbl_interpreter.specs.Events.{event_of}
-use Rattle.sbl_interpreter.specs.Start.{max_word_length}
+use Rattle.sbl_semantics.specs.Outcome.{integers_of, outcome_of, run_of, used_of, events_of}
+use Rattle.sbl_semantics.specs.Touched.{names_of}
+use Rattle.sbl_semantics.specs.Events.{event_of}
+use Rattle.sbl_semantics.specs.Limit.{max_word_length}
 
 -- why a word cannot be run
 abbrev pub refusal_of_why : List ℕ → Option EditFault

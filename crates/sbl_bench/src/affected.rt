@@ -8,8 +8,8 @@ ghost use Rattle.sbl_bench.specs.Edits.{smaller};
 ghost use Rattle.sbl_machine.specs.Differs.{differs};
 ghost use Rattle.sbl_machine.specs.MachineOf.{IsLinkedMachineOf};
 ghost use Rattle.sbl_machine.specs.Marks.{has_item};
-ghost use Rattle.sbl_machine.specs.Touched.{item_of, names_of};
-ghost use Rattle.sbl_interpreter.specs.Touches.{same_touch};
+ghost use Rattle.sbl_semantics.specs.Touched.{item_of, names_of};
+ghost use Rattle.sbl_semantics.specs.Touches.{same_touch};
 ghost use Rattle.sbl_script.specs.Parsed.{source_of};
 
 use crate::last_run::LastRun;

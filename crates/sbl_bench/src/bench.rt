@@ -62,7 +62,7 @@ impl Bench {
     ghost use Rattle.std.specs.Option.{option_map};
     ghost use Rattle.std.specs.Str.{bytes_eq};
     ghost use Rattle.sbl_bench.specs.Kept.{setting_of};
-    ghost use Rattle.sbl_machine.specs.Touched.{items_in};
+    ghost use Rattle.sbl_semantics.specs.Touched.{items_in};
     ghost use Rattle.sbl_bench.specs.Rows.{rows_of, view_row};
     ghost use Rattle.sbl_bench.specs.Traces.{trace_of};
     ghost use Rattle.sbl_bench.specs.Vocabulary.{is_word};

@@ -2,7 +2,7 @@
 
 ghost use Rattle.std.specs.Prelude.{◌≡◌, ◌++◌, map, OnOk, IfOk};
 ghost use Rattle.std.specs.Option.{option_map, option_to_list};
-ghost use Rattle.sbl_machine.specs.Outcome.{outcome_of};
+ghost use Rattle.sbl_semantics.specs.Outcome.{outcome_of};
 ghost use Rattle.sbl_bench.specs.ChangedRows as spec;
 ghost use Rattle.sbl_bench.specs.ChangedRows.{view_changed_row};
 ghost use Rattle.sbl_bench.specs.Last.{changed_since, last_changes};

@@ -1,14 +1,14 @@
 //! Opening a bench.
 
 ghost use Rattle.std.specs.Prelude.{◌≡◌, ◌≤◌, ◌<◌, ◌+◌, ◌^◌, ◌&&◌, not, map, length, [], None, OnOk, IfOk, IfErr};
-ghost use Rattle.sbl_script.specs.Parsed.{Source};
+ghost use Rattle.sbl_ast.specs.Source.{Source};
 ghost use Rattle.sbl_machine.specs.MachineOf.{IsLinkedMachineOf};
 ghost use Rattle.indexmap.specs.declared.map.entry.Entry.TheVariants.{Occupied};
 ghost use Rattle.indexmap.specs.Entry.{entry_map};
 ghost use Rattle.sbl_bench.specs.Vocabulary.{is_word, with_word};
 ghost use Rattle.sbl_bench.specs.Contents.{is_full, word_fault, IsFaultOrMemory};
 ghost use Rattle.sbl_bench.specs.Kept.{words_in, IsKept};
-ghost use Rattle.sbl_machine.specs.Limit.{default_limit};
+ghost use Rattle.sbl_semantics.specs.Limit.{default_limit};
 ghost use Rattle.sbl_bench.specs.Setting.{under};
 
 use crate::bench::{Bench, MAX_WORDS};

@@ -8,9 +8,9 @@ use Rattle.std.specs.Str.{chars, is_utf8}
 use Rattle.std.specs.Io.KnownBytes.{Appends}
 use Rattle.std.specs.declared.vec.Vec.{Vec}
 use Rattle.std.specs.declared.alloc.Global.{Global}
-use Rattle.sbl_script.specs.Parsed.{Source}
-use Rattle.sbl_machine.specs.Limit.{default_limit}
-use Rattle.sbl_machine.specs.Outcome.{Outcome', run_of}
+use Rattle.sbl_ast.specs.Source.{Source}
+use Rattle.sbl_semantics.specs.Limit.{default_limit}
+use Rattle.sbl_semantics.specs.Outcome.{Outcome', run_of}
 use Rattle.sbl_check.specs.Checking.{Compared, ComparesPair, IsRow, count}
 use Rattle.sbl_check.specs.Differences.{Got, Refused, IsChecked, all_differences, difference, differences, ending, line_fault, made_of, of_outcome, pair_fault, row_of}
 use Rattle.sbl_io.specs.LinesOf.{lines_of}

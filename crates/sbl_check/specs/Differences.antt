@@ -3,12 +3,11 @@ use Rattle.std.specs.Prelude.{◌≡◌, ℕ, ◌+◌, Bool, false, List, [], �
 use Rattle.std.specs.Option.{option_or}
 use Rattle.std.specs.Str.{bytes_eq, chars, encode_utf8_all, is_utf8}
 use Rattle.std.specs.Io.KnownBytes.{Appends}
-use Rattle.sbl_script.specs.Parsed.{Source}
-use Rattle.sbl_interpreter.specs.Names.{name_of}
-use Rattle.sbl_machine.specs.Outcome as machine
-use Rattle.sbl_machine.specs.Limit.{default_limit}
-use Rattle.sbl_machine.specs.Outcome.{Outcome', run_of}
-use Rattle.sbl_interpreter.specs.Start.{max_word_length}
+use Rattle.sbl_ast.specs.Source.{Source}
+use Rattle.sbl_semantics.specs.Names.{name_of}
+use Rattle.sbl_semantics.specs.Outcome as machine
+use Rattle.sbl_semantics.specs.Limit.{default_limit, max_word_length}
+use Rattle.sbl_semantics.specs.Outcome.{Outcome', run_of}
 use Rattle.sbl_io.specs.LinesOf.{lines_of, max_line}
 use Rattle.sbl_io.specs.Records.{records_text}
 use Rattle.sbl_io.specs.declared.faults.ServeFault.{ServeFault}

@@ -2,7 +2,8 @@
 ghost use Rattle.std.specs.Prelude.{◌≡◌, None, Some, IfOk, IfErr, OnOk, string_bytes};
 ghost use Rattle.std.specs.Str.{chars};
 ghost use Rattle.sbl_machine.specs.MachineOf.{IsLinkedMachineOf};
-ghost use Rattle.sbl_script.specs.Parsed.{Source, source_of};
+ghost use Rattle.sbl_ast.specs.Source.{Source};
+ghost use Rattle.sbl_script.specs.Parsed.{source_of};
 ghost use Rattle.sbl_check.specs.Checking.{ComparesPair, IsRow, view_got};
 ghost use Rattle.sbl_io.specs.Devices.{HasStopped, WritesInTime};
 ghost use Rattle.sbl_check.specs.Differences as spec;

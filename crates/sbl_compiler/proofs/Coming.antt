@@ -10,7 +10,7 @@ use Rattle.sbl_ast.specs.declared.tree.Simple.TheVariants as simples
 use Rattle.sbl_compiler.specs.Ahead.{found_as, search_of, search_then, search_next as search_by, simple_by, made, made_rows, made_others, made_starter, made_groups}
 use Rattle.sbl_compiler.specs.NumberedAmongs.{Found}
 use Rattle.sbl_compiler.specs.NumberedNames.{Names}
-use Rattle.sbl_compiler.specs.Regions.{Among, among_at, mode_behind, behind, behind_rows, behind_others, behind_starter, first, first_rows, first_others, waits, waits_rows, waits_others}
+use Rattle.sbl_semantics.specs.Regions.{Among, among_at, mode_behind, behind, behind_rows, behind_others, behind_starter, first, first_rows, first_others, waits, waits_rows, waits_others}
 use Rattle.sbl_compiler.specs.NumberedNumbers.{expression}
 use Rattle.sbl_program.specs.Grouped.{join}
 use Rattle.sbl_compiler.specs.Numbered.{Position, next_of, inside, closed, past, past_simple, past_rows, past_others, past_starter, past_groups, begun, region, search_next, simple, behind_prefix, behind_count, numbered, numbered_rows, numbered_others, numbered_starter, numbered_groups}

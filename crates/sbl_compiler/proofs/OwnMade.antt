@@ -7,7 +7,7 @@ use Rattle.std.specs.Prelude.{◌-◌, None}
 use Rattle.sbl_compiler.specs.Ahead.{found_as, routine_made, routine_in, routines_in}
 use Rattle.sbl_compiler.specs.NumberedAmongs.{Found, found_of, found, found_rows, found_others, found_starter, found_groups, found_plain, found_behind}
 use Rattle.sbl_compiler.specs.NumberedNames.{Names}
-use Rattle.sbl_compiler.specs.Regions.{among_at, mode_behind, behind, behind_rows, behind_others, behind_starter, behind_groups, waits}
+use Rattle.sbl_semantics.specs.Regions.{among_at, mode_behind, behind, behind_rows, behind_others, behind_starter, behind_groups, waits}
 use Rattle.sbl_compiler.specs.Numbered.{Position, closed, past, past_body, past_plain, body_begun, routine_of, with_routine, routines_behind}
 use Rattle.sbl_program.specs.Program as programs
 use Rattle.sbl_ast.specs.Tree.{Command, Rows, Others, Starter, Groups, Plain, declaration, escapes, macro, routine, grouping, bracket, simple_, literal_, name_, non_, prefixed, counted, move_, named, splice_, setlimit_, assign_, compare_, compare_values_, among_, no_rows, row, no_others, joined, no_starter, starter, bare, group}

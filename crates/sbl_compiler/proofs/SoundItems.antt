@@ -8,7 +8,7 @@ use Rattle.sbl_ast.specs.declared.tree.Additive.TheVariants.{Plus, Minus}
 use Rattle.sbl_ast.specs.declared.tree.DeclarationKind.TheVariants as kinds
 use Rattle.sbl_ast.specs.Tree.{Argument, written_out, by_name, Term, term, Plain, declaration, escapes, macro, routine, grouping}
 use Rattle.sbl_compiler.specs.Ahead.{routine_made, routine_in, routines_in}
-use Rattle.sbl_compiler.specs.Items.{is_among, place_of, names_by, known_in, Grouping, class_of, term_has, terms_have, and_grouping, classes_behind, Body, body_or, body_named}
+use Rattle.sbl_semantics.specs.Items.{is_among, place_of, names_by, known_in, Grouping, class_of, term_has, terms_have, and_grouping, classes_behind, Body, body_or, body_named}
 use Rattle.sbl_compiler.specs.NumberedNames.{Names, naming, names_behind, number_from, number_of, is_one_of}
 use Rattle.sbl_compiler.specs.NumberedClasses.{numbered_classes, term_class, with_class, with_terms}
 use Rattle.sbl_program.specs.Program as programs

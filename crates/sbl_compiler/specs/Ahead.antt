@@ -13,7 +13,7 @@ use Rattle.sbl_compiler.specs.NumberedAmongs.{Found, strings_behind, entries_beh
 use Rattle.sbl_compiler.specs.NumberedNames.{Names, number_of}
 use Rattle.sbl_compiler.specs.NumberedNumbers.{expression, text}
 use Rattle.sbl_program.specs.Program as programs
-use Rattle.sbl_compiler.specs.Regions.{Among, among_at, behind, behind_rows, behind_others, behind_starter, first, first_rows, first_others, mode_behind, waits, waits_others}
+use Rattle.sbl_semantics.specs.Regions.{Among, among_at, behind, behind_rows, behind_others, behind_starter, first, first_rows, first_others, mode_behind, waits, waits_others}
 use Rattle.sbl_ast.specs.declared.mode.Mode.{Mode}
 
 abbrev pub found_as : Names → Among → Found

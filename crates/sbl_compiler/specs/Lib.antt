@@ -1,6 +1,4 @@
 -- definitions that public contracts depend on
-pub mod Items
-pub mod Regions
 pub mod NumberedNames
 pub mod NumberedClasses
 pub mod NumberedAmongs

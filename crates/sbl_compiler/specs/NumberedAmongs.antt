@@ -8,7 +8,7 @@ use Rattle.sbl_ast.specs.declared.mode.Mode.{Mode}
 use Rattle.sbl_program.specs.declared.node.Candidate.{Candidate}
 use Rattle.sbl_program.specs.Listed.{Listed, listing}
 use Rattle.sbl_compiler.specs.NumberedNames.{Names, number_of}
-use Rattle.sbl_compiler.specs.Regions.{mode_behind}
+use Rattle.sbl_semantics.specs.Regions.{mode_behind}
 
 pub record Found : Type 0 where
   pub number : ℕ

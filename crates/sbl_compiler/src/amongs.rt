@@ -7,7 +7,7 @@ ghost use Rattle.sbl_ast.specs.Tree as trees;
 ghost use Rattle.sbl_compiler.specs.NumberedAmongs as spec;
 ghost use Rattle.sbl_program.specs.FoundView.{texts};
 ghost use Rattle.sbl_compiler.specs.NumberedView.{view_names, view_found};
-ghost use Rattle.sbl_compiler.specs.Regions.{mode_behind as spec_mode_behind};
+ghost use Rattle.sbl_semantics.specs.Regions.{mode_behind as spec_mode_behind};
 
 use crate::names::SymbolTable;
 use sbl_ast::{

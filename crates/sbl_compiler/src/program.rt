@@ -3,7 +3,7 @@
 ghost use Rattle.std.specs.Prelude.{◌≡◌, [], false, map, OnOk, IfOk, string_bytes};
 ghost use Rattle.sbl_ast.specs.Order.{in_order, view_in_mode};
 ghost use Rattle.sbl_ast.specs.View.{view_items, view_plain, view_row};
-ghost use Rattle.sbl_compiler.specs.Items.{known_in};
+ghost use Rattle.sbl_semantics.specs.Items.{known_in};
 ghost use Rattle.sbl_ast.specs.declared.tree.DeclarationKind.TheVariants as kinds;
 ghost use Rattle.sbl_compiler.specs.Numbered as spec;
 ghost use Rattle.sbl_program.specs.FoundView.{strings_at};

@@ -4,7 +4,7 @@ use Rattle.std.specs.Option.{option_map}
 use Rattle.sbl_bench.specs.Contents.{Contents}
 use Rattle.sbl_bench.specs.Edits.{Edits}
 use Rattle.sbl_bench.specs.Rows.{Row, rows_of}
-use Rattle.sbl_machine.specs.Outcome.{outcome_of}
+use Rattle.sbl_semantics.specs.Outcome.{outcome_of}
 use Rattle.sbl_print.specs.Canonical.{canonical}
 use Rattle.sbl_desk.specs.History.{Past, ToLimit, ToText, Turn, edit_of}
 use Rattle.sbl_desk.specs.declared.desk.Desk.{Desk}

@@ -8,9 +8,9 @@ use Rattle.sbl_changes.specs.Classes.{Class}
 use Rattle.sbl_changes.specs.Largest.{largest_of}
 use Rattle.sbl_changes.specs.Rows.{Outcome, Row, Stem, Refused}
 use Rattle.sbl_changes.specs.Stats.{Stats, stats_of}
-use Rattle.sbl_machine.specs.Outcome as machine
+use Rattle.sbl_semantics.specs.Outcome as machine
 use Rattle.sbl_io.specs.Records.{records_text}
-use Rattle.sbl_interpreter.specs.Names.{name_of}
+use Rattle.sbl_semantics.specs.Names.{name_of}
 use Rattle.sbl_desk.specs.Desks.{State, rows_now}
 
 -- a row of a bench, with the name of a refusal for the refusal

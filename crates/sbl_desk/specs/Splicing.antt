@@ -2,7 +2,7 @@
 use Rattle.std.specs.Prelude.{◌≡◌, ℕ, List, Option, IfSome}
 use Rattle.sbl_bench.specs.Contents.{Contents}
 use Rattle.sbl_print.specs.Canonical.{canonical}
-use Rattle.sbl_script.specs.Parsed.{Source}
+use Rattle.sbl_ast.specs.Source.{Source}
 use Rattle.sbl_script.specs.Reading.{IsScriptOf}
 
 -- for this external, the bytes are a text of a script that has this canonical text

@@ -2,7 +2,7 @@
 ghost use Rattle.std.specs.Prelude.{◌≡◌, IfOk, map};
 ghost use Rattle.sbl_bench.specs.Kept.{contents_of};
 ghost use Rattle.sbl_bench.specs.Rows.{view_row};
-ghost use Rattle.sbl_machine.specs.Outcome.{outcome_of};
+ghost use Rattle.sbl_semantics.specs.Outcome.{outcome_of};
 ghost use Rattle.sbl_desk.specs.Desks.{rows_now, view_marked};
 
 use sbl_bench::{Bench, Row};

@@ -7,7 +7,7 @@ ghost use Rattle.sbl_bench.specs.Rows.{view_row};
 ghost use Rattle.sbl_changes.specs.Changes.{view_change, view_changes};
 ghost use Rattle.sbl_changes.specs.Classes.{view_class as view_stem_class, view_classes as view_stem_classes};
 ghost use Rattle.sbl_changes.specs.Rows.{texts_of, view_outcome, view_rows};
-ghost use Rattle.sbl_machine.specs.Outcome.{outcome_of};
+ghost use Rattle.sbl_semantics.specs.Outcome.{outcome_of};
 ghost use Rattle.sbl_io.specs.Records.{record_line, records_text};
 ghost use Rattle.sbl_desk.specs.Desks.{rows_now, state_of, view_marked};
 ghost use Rattle.sbl_desk.specs.Reports as spec;

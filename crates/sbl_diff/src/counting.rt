@@ -1,7 +1,7 @@
 //! Counts the amongs of a part of a routine.
 
 ghost use Rattle.std.specs.Prelude.{◌≡◌, IfOk};
-ghost use Rattle.sbl_compiler.specs.Regions.{behind};
+ghost use Rattle.sbl_semantics.specs.Regions.{behind};
 ghost use Rattle.sbl_ast.specs.Tree.{among_};
 ghost use Rattle.sbl_ast.specs.View.{view_among};
 

@@ -3,7 +3,7 @@
 ghost use Rattle.std.specs.Prelude.{◌≡◌, ◌∷◌, ◌++◌, [], if◌then◌else◌, IfOk, map, string_bytes};
 ghost use Rattle.sbl_ast.specs.View.{view_item, view_plain};
 ghost use Rattle.sbl_machine.specs.Differs as spec;
-ghost use Rattle.sbl_machine.specs.Touched.{Among, Grouping, item_of};
+ghost use Rattle.sbl_semantics.specs.Touched.{Among, Grouping, item_of};
 ghost use Rattle.sbl_diff.specs.ItemsIn.{items_in};
 ghost use Rattle.sbl_diff.specs.Numbers.{numbers_of};
 

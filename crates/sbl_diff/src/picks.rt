@@ -3,7 +3,7 @@
 ghost use Rattle.std.specs.Prelude.{◌≡◌, ◌++◌, [], ◌∷◌, suc, nat_eq, if◌then◌else◌, IfOk, IfSome, Some, None};
 ghost use Rattle.sbl_diff.specs.Numbers.{numbers_in};
 ghost use Rattle.sbl_machine.specs.Differs as spec;
-ghost use Rattle.sbl_compiler.specs.Regions.{behind};
+ghost use Rattle.sbl_semantics.specs.Regions.{behind};
 ghost use Rattle.sbl_ast.specs.Counts.{count_in_among};
 ghost use Rattle.sbl_ast.specs.Tree.{among_};
 ghost use Rattle.sbl_ast.specs.View.{view_among};

@@ -13,9 +13,9 @@ use Rattle.sbl_io.specs.Held.{BeginsLong, BreaksOff, GivesLine}
 use Rattle.sbl_io.specs.declared.faults.LineFault.{LineFault}
 use Rattle.sbl_io.specs.declared.faults.LineFault.TheVariants as line
 use Rattle.sbl_io.specs.declared.faults.ServeFault.TheVariants as fault
-use Rattle.sbl_machine.specs.Limit.{default_limit}
+use Rattle.sbl_semantics.specs.Limit.{default_limit}
 use Rattle.sbl_io.specs.Records.{record_line}
-use Rattle.sbl_script.specs.Parsed.{Source}
+use Rattle.sbl_ast.specs.Source.{Source}
 use Rattle.sbl_sessions.proofs.BlockFacts.{all_fit-push, no_point-push}
 use Rattle.sbl_sessions.proofs.LoadFacts.{all_text-push, script_unread}
 use Rattle.sbl_sessions.specs.Block.{point}

@@ -18,9 +18,9 @@ use Rattle.sbl_bench.specs.declared.fault.EditFault.TheVariants as edit
 use Rattle.sbl_filter.specs.Filter.{filtered, is_filled}
 use Rattle.sbl_filter.specs.Laws.{NoRepeats, PartsMakeWhole, SameInput, SameWithoutRepeats, StemsAreFiltered}
 use Rattle.sbl_filter.proofs.RowFacts.{filtered-append}
-use Rattle.sbl_machine.specs.Limit.{default_limit}
+use Rattle.sbl_semantics.specs.Limit.{default_limit}
 use Rattle.sbl_io.specs.Records.{records_text}
-use Rattle.sbl_script.specs.Parsed.{Source}
+use Rattle.sbl_ast.specs.Source.{Source}
 use Rattle.sbl_sessions.specs.Loaded.{IsInput, IsLoaded}
 use Rattle.sbl_sessions.specs.OneLoading.{IsToldByBytes, LoadingIsOne}
 use Rattle.sbl_sessions.specs.Rows.{row_fields, stems_text}

@@ -14,7 +14,7 @@ use Rattle.sbl_io.specs.Held.{BeginsLong, StandFirst, Took}
 use Rattle.sbl_io.specs.LinesOf.{lines_of, max_line}
 use Rattle.sbl_io.specs.declared.faults.ServeFault.TheVariants as fault
 use Rattle.sbl_script.specs.OneReading.{FaultIsOne, ScriptIsOne, ScriptOrFault}
-use Rattle.sbl_script.specs.Parsed.{Source}
+use Rattle.sbl_ast.specs.Source.{Source}
 use Rattle.sbl_script.specs.Reading.{IsFaultOf, IsScriptOf}
 use Rattle.sbl_sessions.proofs.InputFacts.{AtEnd, AtLong, AtNoText, AtPoint, LinesEnd, end-end, end-long, end-point, lines_end}
 use Rattle.sbl_sessions.specs.Block.{BlockLines, Breaks, made_text, point}

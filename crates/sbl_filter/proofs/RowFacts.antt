@@ -9,10 +9,10 @@ use Rattle.std.specs.Str.{IsUtf8, chars, encode_utf8_all}
 use Rattle.sbl_bench.specs.Rows.{Row, row_of, rows_of}
 use Rattle.sbl_bench.specs.Setting.{under}
 use Rattle.sbl_filter.specs.Filter.{filtered, is_filled}
-use Rattle.sbl_machine.specs.Limit.{default_limit}
-use Rattle.sbl_machine.specs.Outcome.{Outcome', run_of}
+use Rattle.sbl_semantics.specs.Limit.{default_limit}
+use Rattle.sbl_semantics.specs.Outcome.{Outcome', run_of}
 use Rattle.sbl_io.specs.Records.{record_line, records_text}
-use Rattle.sbl_script.specs.Parsed.{Source}
+use Rattle.sbl_ast.specs.Source.{Source}
 use Rattle.sbl_sessions.specs.Rows.{outcome_fields, row_fields}
 
 pub filtered-none : (s : Source) → filtered s [] ≡ []

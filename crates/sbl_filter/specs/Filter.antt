@@ -9,10 +9,9 @@ use Rattle.sbl_bench.specs.declared.fault.EditFault.TheVariants as edit
 use Rattle.sbl_io.specs.Held.{BeginsLong, BreaksOff, Took}
 use Rattle.sbl_io.specs.LinesOf.{max_line}
 use Rattle.sbl_io.specs.declared.faults.ServeFault.TheVariants as fault
-use Rattle.sbl_machine.specs.Limit.{default_limit}
+use Rattle.sbl_semantics.specs.Limit.{default_limit, max_word_length}
 use Rattle.sbl_io.specs.Records.{records_text}
-use Rattle.sbl_interpreter.specs.Start.{max_word_length}
-use Rattle.sbl_script.specs.Parsed.{Source}
+use Rattle.sbl_ast.specs.Source.{Source}
 use Rattle.sbl_sessions.specs.Block.{point}
 use Rattle.sbl_sessions.specs.Loaded.{IsInput, ReadsScript, TookFault, TookSource, TookWords, WordLines}
 use Rattle.sbl_sessions.specs.Rows.{row_fields}

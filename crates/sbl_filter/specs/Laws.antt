@@ -4,7 +4,7 @@ use Rattle.sbl_bench.specs.Contents.{Contents, opened}
 use Rattle.sbl_bench.specs.Vocabulary.{is_word, vocabulary}
 use Rattle.sbl_filter.specs.Filter.{IsFiltered, filtered, is_filled}
 use Rattle.sbl_io.specs.declared.faults.ServeFault.TheVariants as fault
-use Rattle.sbl_script.specs.Parsed.{Source}
+use Rattle.sbl_ast.specs.Source.{Source}
 use Rattle.sbl_sessions.specs.Loaded.{IsLoaded}
 use Rattle.sbl_sessions.specs.Rows.{stems_text}
 use Rattle.sbl_sessions.specs.declared.faults.LoadFault.{LoadFault}

@@ -8,7 +8,8 @@ ghost use Rattle.sbl_io.specs.Faults.{serve_fault_of};
 ghost use Rattle.sbl_io.specs.Held.{KeepsTime, fault_of, input_of, reads_bound};
 ghost use Rattle.sbl_io.specs.declared.faults.LineFault.{LineFault};
 ghost use Rattle.sbl_machine.specs.MachineOf.{IsLinkedMachineOf};
-ghost use Rattle.sbl_script.specs.Parsed.{Source, source_of};
+ghost use Rattle.sbl_ast.specs.Source.{Source};
+ghost use Rattle.sbl_script.specs.Parsed.{source_of};
 ghost use Rattle.sbl_sessions.specs.Faults.{left_by_load};
 ghost use Rattle.sbl_sessions.specs.Loaded.{HasReason};
 

@@ -4,12 +4,11 @@ ghost use Rattle.std.specs.Str.{chars};
 ghost use Rattle.csv.specs.Records.{fields_of, partial_of};
 ghost use Rattle.sbl_bench.specs.Rows.{row_of};
 ghost use Rattle.sbl_bench.specs.Setting.{under};
-ghost use Rattle.sbl_machine.specs.Limit.{default_limit};
+ghost use Rattle.sbl_semantics.specs.Limit.{default_limit, max_word_length};
 ghost use Rattle.sbl_machine.specs.MachineOf.{IsLinkedMachineOf};
-ghost use Rattle.sbl_machine.specs.Outcome.{outcome_of};
+ghost use Rattle.sbl_semantics.specs.Outcome.{outcome_of};
 ghost use Rattle.sbl_io.specs.Records as texts;
-ghost use Rattle.sbl_interpreter.specs.Start.{max_word_length};
-ghost use Rattle.sbl_script.specs.Parsed.{Source};
+ghost use Rattle.sbl_ast.specs.Source.{Source};
 ghost use Rattle.sbl_filter.specs.LineWriter.{IsBetweenLines};
 ghost use Rattle.sbl_sessions.specs.Rows.{outcome_fields, row_fields};
 

@@ -7,25 +7,28 @@ use Rattle.sbl_program.specs.declared.action.Action.{Action}
 use Rattle.sbl_program.specs.declared.action.Action.TheVariants.{Grouping, NonGrouping}
 use Rattle.sbl_program.specs.declared.action.Arithmetic.{Arithmetic}
 use Rattle.sbl_interpreter.specs.Actions.{test_grouping}
-use Rattle.sbl_interpreter.specs.declared.fault.RunFault.{RunFault}
+use Rattle.sbl_semantics.specs.declared.fault.RunFault.{RunFault}
 use Rattle.sbl_interpreter.specs.declared.halt.Halt.{Halt}
 use Rattle.sbl_program.specs.declared.node.Candidate.{Candidate}
 use Rattle.sbl_program.specs.declared.node.Node.{Node}
 use Rattle.sbl_program.specs.declared.node.Node.TheVariants.{Act, Not, Test, Try, Do, Fail, Backwards, Goto, GoPast, SetLimit, Repeat, Loop, AtLeast, Search, Among, Sequence}
-use Rattle.sbl_interpreter.specs.declared.state.Limits.{Limits}
+use Rattle.sbl_semantics.specs.declared.limits.Limits.{Limits}
 use Rattle.sbl_program.specs.declared.node.Node.TheFolds.{fold_out-Node}
 use Rattle.sbl_program.specs.declared.node.Node.TheViews.{the_lemmas}
 use Rattle.sbl_interpreter.specs.Halts.{fault_of}
 use Rattle.sbl_interpreter.specs.Kept.{Follows, Halts, Tried}
 use Rattle.sbl_program.specs.Listed.{Listed}
-use Rattle.sbl_among_search.specs.Fitting.{first}
-use Rattle.sbl_interpreter.specs.Moves.{next}
-use Rattle.sbl_interpreter.specs.Numbers.{value, given}
+use Rattle.sbl_semantics.specs.Fitting.{first}
+use Rattle.sbl_semantics.specs.Moves.{next}
+use Rattle.sbl_interpreter.specs.Arithmetic.{value}
+use Rattle.sbl_semantics.specs.Numbers.{given}
 use Rattle.sbl_program.specs.ProgramOf.{view_action, view_node, view_nodes, view_number}
 use Rattle.sbl_program.specs.Program as programs
-use Rattle.sbl_interpreter.specs.Run.{paid, runs_paid, turns, times, count_of, seeks, found, backwards_from, backwards_end, calls, runs, all_run, group_runs, nth_runs, leave, back_in, enter, body_does, limits, limited, limit_here, limit_back}
-use Rattle.sbl_interpreter.specs.Search.{choice, search_all, tries, try_one}
-use Rattle.sbl_interpreter.specs.State.{State, Ending, Doing, Signals, Stops, after, then_on, saved_cursor, put_back}
+use Rattle.sbl_semantics.specs.Control.{paid, turns, times, count_of, seeks, found, backwards_from, backwards_end, leave, back_in, enter, limits, limited, limit_here, limit_back}
+use Rattle.sbl_interpreter.specs.Run.{runs_paid, calls, runs, all_run, group_runs, nth_runs, body_does}
+use Rattle.sbl_semantics.specs.Choices.{choice}
+use Rattle.sbl_interpreter.specs.Search.{search_all, tries, try_one}
+use Rattle.sbl_semantics.specs.State.{State, Ending, Doing, Signals, Stops, after, then_on, saved_cursor, put_back}
 use Rattle.sbl_ast.specs.declared.mode.Mode.{Mode}
 use Rattle.sbl_ast.specs.declared.mode.Mode.TheVariants.{Backward}
 

@@ -1,6 +1,6 @@
 -- No string fits where there is none.
 use Rattle.std.proofs.Common.{◌≡◌, ℕ, zero, suc, List, [], length, refl}
-use Rattle.sbl_among_search.specs.Fitting.{below, fitting}
+use Rattle.sbl_semantics.specs.Fitting.{below, fitting}
 
 none_below : (x : List ℕ) (b : ℕ) → below [] x b ≡ []
 none_below x zero = refl

@@ -23,13 +23,14 @@ use Rattle.sbl_program.specs.Grouped.{AddedView, JoinedView, ScaledView, added, 
 use Rattle.sbl_program.specs.Listed.{Listed}
 use Rattle.sbl_program.specs.Program as programs
 use Rattle.sbl_program.specs.ProgramOf.{view_added, view_joined, view_node, view_number, view_scaled}
-use Rattle.sbl_interpreter.specs.declared.fault.RunFault.{RunFault}
-use Rattle.sbl_interpreter.specs.declared.fault.RunFault.TheVariants.{Steps}
-use Rattle.sbl_interpreter.specs.declared.state.SavedCursor.{SavedCursor}
-use Rattle.sbl_interpreter.specs.Numbers.{value, with_both}
+use Rattle.sbl_semantics.specs.declared.fault.RunFault.{RunFault}
+use Rattle.sbl_semantics.specs.declared.fault.RunFault.TheVariants.{Steps}
+use Rattle.sbl_semantics.specs.declared.cursor.SavedCursor.{SavedCursor}
+use Rattle.sbl_interpreter.specs.Arithmetic.{value}
+use Rattle.sbl_semantics.specs.Numbers.{with_both}
 use Rattle.sbl_interpreter.specs.Rows.{joined_after, joined_runs, others_run, pays, product_of, row_runs, scales_to, sum_of, sums_to}
 use Rattle.sbl_interpreter.specs.Run.{runs_paid, act, calls, runs}
-use Rattle.sbl_interpreter.specs.State.{State, Ending, Signals, Stops, after, then_on, pay, saved_cursor}
+use Rattle.sbl_semantics.specs.State.{State, Ending, Signals, Stops, after, then_on, pay, saved_cursor}
 use Rattle.sbl_ast.specs.declared.mode.Mode.{Mode}
 
 -- ---- sums and products

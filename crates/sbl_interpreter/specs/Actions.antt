@@ -1,11 +1,12 @@
 -- What each command without a command inside does after its step is paid.
 use Rattle.std.specs.Prelude.{ℕ, Bool, true, false, List, []}
-use Rattle.sbl_interpreter.specs.Moves.{characters, match, one_of, touch_grouping, next, hop, at_limit, set_mark, at_mark, to_mark, set_boolean, test_boolean}
-use Rattle.sbl_interpreter.specs.Numbers.{value, natural, given, assign, compare}
+use Rattle.sbl_interpreter.specs.Arithmetic.{characters, value, assign, compare}
+use Rattle.sbl_semantics.specs.Moves.{match, one_of, touch_grouping, next, hop, at_limit, set_mark, at_mark, to_mark, set_boolean, test_boolean}
+use Rattle.sbl_semantics.specs.Numbers.{natural, given}
 use Rattle.sbl_program.specs.Program as programs
 use Rattle.sbl_char_class.specs.Terms.{class_at}
-use Rattle.sbl_interpreter.specs.Slices.{left_bracket, right_bracket, replace, keep, insert, attach}
-use Rattle.sbl_interpreter.specs.State.{State, Ending, Signals, Doing, to_limit}
+use Rattle.sbl_semantics.specs.Slices.{left_bracket, right_bracket, replace, keep, insert, attach}
+use Rattle.sbl_semantics.specs.State.{State, Ending, Signals, Doing, to_limit}
 use Rattle.sbl_ast.specs.declared.mode.Mode.{Mode}
 
 -- the test of the grouping with this number and this class touches it

@@ -1,7 +1,7 @@
 -- The faults of halts.
 use Rattle.std.specs.Prelude.{Option, Some, None}
-use Rattle.sbl_interpreter.specs.declared.fault.RunFault.{RunFault}
-use Rattle.sbl_interpreter.specs.declared.fault.RunFault.TheVariants as faults
+use Rattle.sbl_semantics.specs.declared.fault.RunFault.{RunFault}
+use Rattle.sbl_semantics.specs.declared.fault.RunFault.TheVariants as faults
 use Rattle.sbl_interpreter.specs.declared.halt.Halt.{Halt}
 use Rattle.sbl_interpreter.specs.declared.halt.Halt.TheVariants as halts
 

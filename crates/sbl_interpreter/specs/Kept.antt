@@ -1,10 +1,10 @@
 -- How the results of the code represent an ending, and what holds of each state.
 use Rattle.std.specs.Prelude.{◌≡◌, ℕ, ◌+◌, ◌*◌, ◌≤◌, Bool, true, false, List, length, Option, Some, None, Result, Ok, Err}
-use Rattle.sbl_interpreter.specs.declared.fault.RunFault.{RunFault}
+use Rattle.sbl_semantics.specs.declared.fault.RunFault.{RunFault}
 use Rattle.sbl_interpreter.specs.declared.halt.Halt.{Halt}
-use Rattle.sbl_interpreter.specs.declared.state.SavedCursor.{SavedCursor}
+use Rattle.sbl_semantics.specs.declared.cursor.SavedCursor.{SavedCursor}
 use Rattle.sbl_interpreter.specs.Halts.{fault_of}
-use Rattle.sbl_interpreter.specs.State.{State, Ending, Signals, Stops, max_text_length}
+use Rattle.sbl_semantics.specs.State.{State, Ending, Signals, Stops, max_text_length}
 
 -- A command ended early and left this state, as the definition says; memory may be refused at any point.
 abbrev pub Halts : Option RunFault → State → Ending → Type 0

@@ -1,11 +1,5 @@
 -- definitions that public contracts depend on
-pub mod Names
-pub mod Touches
-pub mod Events
-pub mod State
-pub mod Moves
-pub mod Slices
-pub mod Numbers
+pub mod Arithmetic
 pub mod Listing
 pub mod Search
 pub mod Actions

@@ -1,9 +1,9 @@
 -- The bits beside the touches of a run.
 use Rattle.std.specs.Prelude.{◌≡◌, ℕ, Bool, true, false, List, [], slice_index_or}
 use Rattle.std.specs.List.{list_any}
-use Rattle.sbl_interpreter.specs.declared.touch.Touch.{Touch}
-use Rattle.sbl_interpreter.specs.declared.touch.Touch.TheVariants.{Entered, Searched, Tested}
-use Rattle.sbl_interpreter.specs.Touches.{same_touch}
+use Rattle.sbl_semantics.specs.declared.touch.Touch.{Touch}
+use Rattle.sbl_semantics.specs.declared.touch.Touch.TheVariants.{Entered, Searched, Tested}
+use Rattle.sbl_semantics.specs.Touches.{same_touch}
 
 -- a bit; past the end none is set
 abbrev pub is_set : List Bool → ℕ → Bool

@@ -10,10 +10,11 @@ use Rattle.sbl_ast.specs.declared.tree.Multiplicative.TheVariants as multiplicat
 use Rattle.sbl_program.specs.Grouped.{AddedView, JoinedView, ScaledView}
 use Rattle.sbl_program.specs.Program as programs
 use Rattle.sbl_ast.specs.declared.mode.Mode.{Mode}
-use Rattle.sbl_interpreter.specs.declared.state.SavedCursor.{SavedCursor}
-use Rattle.sbl_interpreter.specs.Numbers.{Value, value, fitted, divided, with_both}
+use Rattle.sbl_semantics.specs.declared.cursor.SavedCursor.{SavedCursor}
+use Rattle.sbl_semantics.specs.Numbers.{Value, fitted, divided, with_both}
+use Rattle.sbl_interpreter.specs.Arithmetic.{value}
 use Rattle.sbl_interpreter.specs.Run.{runs}
-use Rattle.sbl_interpreter.specs.State.{State, Ending, Signals, Doing, after, then_on, pay, saved_cursor, put_back}
+use Rattle.sbl_semantics.specs.State.{State, Ending, Signals, Doing, after, then_on, pay, saved_cursor, put_back}
 
 -- ---- sums and products
 

@@ -1,37 +1,17 @@
 -- The search of an among.
-use Rattle.std.specs.Prelude.{ℕ, true, false, List, [], ◌∷◌, length, nat_lt, if◌then◌else◌, Option, Some, None, slice_get, slice_index_or, slice_set}
+use Rattle.std.specs.Prelude.{ℕ, true, false, List, [], ◌∷◌, length, nat_lt, if◌then◌else◌, Option, Some, None, slice_get}
 use Rattle.sbl_program.specs.declared.node.Candidate.{Candidate}
 use Rattle.sbl_program.specs.Listed.{Listed}
 use Rattle.sbl_interpreter.specs.Listing.{fits_at}
-use Rattle.sbl_interpreter.specs.Events.{Searches, Finds}
-use Rattle.sbl_interpreter.specs.declared.touch.Touch.TheVariants.{Searched}
-use Rattle.sbl_interpreter.specs.State.{State, Ending, Signals, Doing, after, then_on, pay, saved_cursor, limit_of, place_after, note_event}
-use Rattle.sbl_interpreter.specs.Touches.{with_touch}
+use Rattle.sbl_semantics.specs.State.{State, Ending, Signals, Doing, after, then_on, pay, saved_cursor, limit_of, place_after}
 use Rattle.sbl_ast.specs.declared.mode.Mode.{Mode}
 use Rattle.sbl_ast.specs.declared.mode.Mode.TheVariants.{Forward, Backward}
-
--- the choice of an among: the group of the string that was taken, or none
-abbrev pub choose : ℕ → Option ℕ → State → State
-choose k g s = record s { choices = slice_set s.choices k g }
-
--- a search takes a string of this many characters and this group, or none
-abbrev pub take_string : ℕ → ℕ → ℕ → State → State
-take_string k n g s = note_event (Finds k (Some n)) (choose k (Some g) s)
-
-abbrev pub take_none : ℕ → State → State
-take_none k s = note_event (Finds k None) (choose k None s)
-
-abbrev pub choice : ℕ → State → Option ℕ
-choice k s = slice_index_or s.choices k None
+use Rattle.sbl_semantics.specs.Choices.{take_string, take_none, touch_among}
 
 -- the end of the part ahead, as an offset of the text
 abbrev pub bound_in : Mode → State → ℕ
 bound_in Forward s = limit_of s
 bound_in Backward s = if nat_lt s.left (length s.text) then s.left else length s.text
-
--- begins a search of the among with this number in the current routine, which touches it
-abbrev pub touch_among : ℕ → Mode → State → State
-touch_among k m s = note_event (Searches s.routine k m s.cursor) (record s { touched = with_touch (Searched s.routine k) s.touched })
 
 -- the condition of a string: a call, which uses a step of its own
 abbrev pub condition_does : (ℕ → Doing) → Option ℕ → Mode → State → Ending

@@ -2,16 +2,9 @@
 use Rattle.std.specs.Prelude.{ℕ, pos, false, List, [], replicate, None}
 use Rattle.sbl_program.specs.Program as programs
 use Rattle.sbl_interpreter.specs.Run.{calls}
-use Rattle.sbl_interpreter.specs.State.{State, Ending}
+use Rattle.sbl_semantics.specs.State.{State, Ending}
 use Rattle.sbl_ast.specs.declared.mode.Mode.TheVariants.{Forward}
-
--- the maximum number of characters of a word
-abbrev pub max_word_length : ℕ
-max_word_length = 255
-
--- the maximum depth of calls of routines, counting the external as 1
-abbrev pub max_levels : ℕ
-max_levels = 32
+use Rattle.sbl_semantics.specs.Limit.{max_levels}
 
 -- a state in which nothing has run: no text, no variables, nothing touched, no events, no steps
 abbrev pub blank : State

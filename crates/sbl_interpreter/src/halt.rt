@@ -3,7 +3,7 @@
 ghost use Rattle.std.specs.Prelude.{◌≡◌};
 ghost use Rattle.sbl_interpreter.specs.Halts.{fault_of, halt_of};
 
-use crate::fault::RunFault;
+use sbl_semantics::RunFault;
 use std::alloc::AllocError;
 
 /// Why a command has no signal. The faults are variants of this type and not of one inside it, so that a result has two

@@ -2,20 +2,24 @@
 
 ghost use Rattle.std.specs.Prelude.{◌≡◌, ◌+◌, ◌<◌, ◌≤◌, true, false, suc, map, IfOk, slice_get};
 ghost use Rattle.sbl_interpreter.specs.Kept.{Follows, IsSaved, Tried};
-ghost use Rattle.sbl_interpreter.specs.Numbers.{value, given};
+ghost use Rattle.sbl_interpreter.specs.Arithmetic.{value};
+ghost use Rattle.sbl_semantics.specs.Numbers.{given};
 ghost use Rattle.sbl_program.specs.ProgramOf.{program_of, view_joined, view_node, view_nodes, view_number};
-ghost use Rattle.sbl_interpreter.specs.Run.{runs, runs_paid, all_run, backwards_end, backwards_from, group_runs, calls, limit_here, limited, limits, turns, times, count_of, seeks};
+ghost use Rattle.sbl_interpreter.specs.Run.{runs, runs_paid, all_run, group_runs, calls};
+ghost use Rattle.sbl_semantics.specs.Control.{backwards_end, backwards_from, limit_here, limited, limits, turns, times, count_of, seeks};
 ghost use Rattle.sbl_ast.specs.declared.mode.Mode.TheVariants.{Backward};
 ghost use Rattle.sbl_interpreter.specs.Rows.{is_settled, joined_runs, row_runs};
-ghost use Rattle.sbl_interpreter.specs.Search.{choice, searched, try_one};
-ghost use Rattle.sbl_interpreter.specs.State.{State as RunState, Ending, Signals, after, then_on, saved_cursor, put_back};
+ghost use Rattle.sbl_semantics.specs.Choices.{choice};
+ghost use Rattle.sbl_interpreter.specs.Search.{searched, try_one};
+ghost use Rattle.sbl_semantics.specs.State.{State as RunState, Ending, Signals, after, then_on, saved_cursor, put_back};
 
 use crate::halt::Halt;
+use crate::state::State;
 use crate::state::numbers::count_of;
-use crate::state::{SavedCursor, State};
 use crate::table::Tables;
 use sbl_ast::{Joiner, Mode};
 use sbl_program::{Action, Arithmetic, Candidate, JoinedNode, Node, Program};
+use sbl_semantics::SavedCursor;
 
 /// The fixed part of the interpreter. A call and `backwards` run their commands with a runner of their own.
 #[derive_where(Clone, Copy)]

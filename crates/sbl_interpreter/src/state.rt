@@ -1,15 +1,16 @@
 //! The state of a run: its text, the offsets in it, and its variables.
 
 ghost use Rattle.std.specs.Prelude.{◌≡◌, ℕ, ◌+◌, ◌-◌, ◌<◌, ◌≤◌, [], length, IfOk, Some, None, false};
-ghost use Rattle.sbl_among_search.specs.Fitting.{read_as};
-ghost use Rattle.sbl_interpreter.specs.State.{State as RunState, pay, at_place, at_difference, to_limit, saved_cursor, put_back, step_over, place_after, ahead, room, note_event};
+ghost use Rattle.sbl_semantics.specs.Fitting.{read_as};
+ghost use Rattle.sbl_semantics.specs.State.{State as RunState, pay, at_place, at_difference, to_limit, saved_cursor, put_back, step_over, place_after, ahead, room, note_event};
 ghost use Rattle.sbl_program.specs.Listed.{Listed};
 ghost use Rattle.sbl_program.specs.ProgramOf.{program_of, view_text};
-ghost use Rattle.sbl_interpreter.specs.Moves.{characters};
-ghost use Rattle.sbl_interpreter.specs.Events.{Event' as RunEvent, event_of, view_events, Puts};
+ghost use Rattle.sbl_interpreter.specs.Arithmetic.{characters};
+ghost use Rattle.sbl_semantics.specs.Events.{Event' as RunEvent, event_of, view_events, Puts};
 ghost use Rattle.sbl_interpreter.specs.Kept.{Leads, IsSaved};
 ghost use Rattle.sbl_interpreter.specs.Rows.{pays};
-ghost use Rattle.sbl_interpreter.specs.Start.{blank, start, max_word_length};
+ghost use Rattle.sbl_interpreter.specs.Start.{blank, start};
+ghost use Rattle.sbl_semantics.specs.Limit.{max_word_length};
 
 mod actions;
 mod control;
@@ -19,7 +20,6 @@ mod seeking;
 mod slices;
 mod variables;
 
-use crate::event::Event;
 use crate::halt::Halt;
 use crate::slots::Slots;
 use crate::state::variables::{
@@ -28,6 +28,7 @@ use crate::state::variables::{
 use crate::touched::Touched;
 use sbl_ast::Mode;
 use sbl_program::{Program, StringTerm};
+use sbl_semantics::{Event, SavedCursor};
 use std::alloc::{AllocError, Global};
 use std::marker::Model;
 use std::mem;
@@ -62,9 +63,9 @@ pub struct State {
 
 impl Model for State {
     ghost use Rattle.std.specs.Prelude.{map, pos, false};
-    ghost use Rattle.sbl_interpreter.specs.State.{State as RunState};
+    ghost use Rattle.sbl_semantics.specs.State.{State as RunState};
     ghost use Rattle.sbl_interpreter.specs.Kept.{IsWithin};
-    ghost use Rattle.sbl_interpreter.specs.Events.{view_events};
+    ghost use Rattle.sbl_semantics.specs.Events.{view_events};
     ghost use Rattle.sbl_interpreter.specs.Slots.{text_or_empty, value_or};
 
     ghost Value = { RunState };
@@ -72,26 +73,6 @@ impl Model for State {
     ghost view = { λ s. record { text = s.text.items; cursor = s.cursor; left = s.left; beyond = s.beyond; bra = s.bra; ket = s.ket; integers = map (value_or (pos 0)) s.integers; booleans = map (value_or false) s.booleans; strings = map text_or_empty s.strings; choices = s.choices; routine = s.routine; touched = s.touched; events = view_events s.events; steps = s.steps } };
 
     ghost invariant = { λ s. IsWithin s.text.items s.cursor s.left s.beyond s.bra s.ket };
-}
-
-/// The limits in both directions.
-#[derive(Clone, Copy)]
-pub struct Limits {
-    /// The left limit.
-    pub left: usize,
-    /// The number of characters beyond the limit.
-    pub beyond: usize,
-}
-
-/// What is needed to put the cursor back.
-#[derive(Clone, Copy)]
-pub struct SavedCursor {
-    /// The cursor.
-    pub cursor: usize,
-    /// The number of characters beyond the limit.
-    pub beyond: usize,
-    /// The number of characters in the text.
-    pub length: usize,
 }
 
 impl State {

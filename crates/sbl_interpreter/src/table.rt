@@ -1,7 +1,7 @@
 //! The tables of a script's amongs, by number.
 
 ghost use Rattle.std.specs.Prelude.{◌≡◌, ◌≤◌, ◌++◌, ◌∷◌, List, ℕ, length, map, slice_get, IfOk};
-ghost use Rattle.sbl_among_search.specs.Fitting.{first};
+ghost use Rattle.sbl_semantics.specs.Fitting.{first};
 ghost use Rattle.sbl_program.specs.Listed.{Listed};
 ghost use Rattle.sbl_program.specs.FoundView.{listing_found};
 ghost use Rattle.sbl_interpreter.specs.Listing.{fits_at, listed_by, listed_of};

@@ -3,10 +3,10 @@
 ghost use Rattle.std.specs.Prelude.{◌≡◌, ◌<◌, ℕ, false, [], ◌++◌, ◌∷◌, length, map, slice_set, slice_index_or, IfOk, MatchResult};
 ghost use Rattle.sbl_interpreter.specs.Marks.{is_set, is_set_in};
 ghost use Rattle.std.specs.List.{list_any};
-ghost use Rattle.sbl_interpreter.specs.Touches.{same_touch, with_touch};
-ghost use Rattle.sbl_interpreter.specs.declared.touch.Touch.TheVariants.{Entered, Searched, Tested};
+ghost use Rattle.sbl_semantics.specs.Touches.{same_touch, with_touch};
+ghost use Rattle.sbl_semantics.specs.declared.touch.Touch.TheVariants.{Entered, Searched, Tested};
 
-use crate::touch::Touch;
+use sbl_semantics::Touch;
 use std::alloc::{AllocError, Global};
 use std::marker::Model;
 
@@ -22,7 +22,7 @@ pub struct Touched {
 
 impl Model for Touched {
     ghost use Rattle.std.specs.Prelude.{map, List};
-    ghost use Rattle.sbl_interpreter.specs.declared.touch.Touch as touch;
+    ghost use Rattle.sbl_semantics.specs.declared.touch.Touch as touch;
     ghost use Rattle.sbl_interpreter.specs.Marks.{AreMarked};
 
     ghost Value = { List touch.Touch };

@@ -5,7 +5,7 @@ use Rattle.std.specs.Str.{bytes_eq}
 use Rattle.std.proofs.lemmas.Bool.{le-ltb, lt-ltb, true≢false}
 use Rattle.std.proofs.lemmas.List.{length-append, length-set}
 use Rattle.std.proofs.lemmas.Slice.Eq.{bytes_eq-Decides}
-use Rattle.sbl_compiler.specs.Items.{is_among, place_of}
+use Rattle.sbl_semantics.specs.Items.{is_among, place_of}
 use Rattle.sbl_compiler.specs.NumberedNames.{number_of}
 use Rattle.sbl_compiler.proofs.SoundItems.{among_is, number_is}
 use Rattle.sbl_machine.specs.AmongList.{AmongList', numbers_of, with_number}

@@ -12,12 +12,12 @@ use Rattle.sbl_ast.specs.declared.tree.DeclarationKind.TheVariants as kinds
 use Rattle.sbl_ast.specs.Tree.{Argument, written_out, by_name, Term, term, Plain, declaration, escapes, macro, routine, grouping, Item}
 use Rattle.sbl_resolver.specs.Laws.{WellDeclaredPasses}
 use Rattle.sbl_resolver.specs.Occurrences.{occurrences_of}
-use Rattle.sbl_compiler.specs.Items.{known_in, names_by, is_among}
+use Rattle.sbl_semantics.specs.Items.{known_in, names_by, is_among}
 use Rattle.sbl_machine.specs.BuiltFrom.{names, any_names, built_on, IsClosed, IsClosedAt, and_built, built_behind, affected, AffectedIsClosed}
-use Rattle.sbl_machine.specs.Touched.{Item', Routine, Among, Grouping}
+use Rattle.sbl_semantics.specs.Touched.{Item', Routine, Among, Grouping}
 use Rattle.sbl_machine.proofs.GroupingNames.{IsKnown, AreKnown, names_are}
 use Rattle.sbl_machine.proofs.NamesStand.{Passing}
-use Rattle.sbl_script.specs.Parsed.{Source}
+use Rattle.sbl_ast.specs.Source.{Source}
 
 -- ---- where no grouping is picked
 

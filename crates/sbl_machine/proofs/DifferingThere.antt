@@ -14,13 +14,13 @@ use Rattle.sbl_ast.specs.Order.{ItemInMode, in_mode, in_order}
 use Rattle.sbl_ast.specs.declared.mode.Mode.TheVariants.{Backward}
 use Rattle.sbl_ast.specs.declared.tree.DeclarationKind.TheVariants as kinds
 use Rattle.sbl_ast.specs.Tree.{Plain, declaration, escapes, macro, routine, grouping, Item, plain, backward}
-use Rattle.sbl_compiler.specs.Items.{is_among, known_in, names_by}
-use Rattle.sbl_compiler.specs.Regions.{behind}
+use Rattle.sbl_semantics.specs.Items.{is_among, known_in, names_by}
+use Rattle.sbl_semantics.specs.Regions.{behind}
 use Rattle.sbl_machine.specs.DifferLaws.{DifferingAreThere}
 use Rattle.sbl_machine.specs.Differs.{when, join, differ, differ_others, items_by, differ_plain, differ_plains, differ_item, differ_items}
 use Rattle.sbl_machine.specs.Marks.{has_item}
 use Rattle.sbl_machine.specs.Same.{same_argument, same_quoted, same_term}
-use Rattle.sbl_machine.specs.Touched.{Item', Among, Grouping, Names', names_of}
+use Rattle.sbl_semantics.specs.Touched.{Item', Among, Grouping, Names', names_of}
 use Rattle.sbl_machine.proofs.DiffersAgree.{halves, if_so, none_listed}
 use Rattle.sbl_machine.proofs.EditsAgree.{first_name, grouping_more, routine_more}
 use Rattle.sbl_machine.proofs.SameSelf.{also, name_self}

@@ -8,16 +8,16 @@ use Rattle.std.proofs.lemmas.Option.{none-some, same_Some}
 use Rattle.std.specs.Cmp.Lexicographic.{pointwise}
 use Rattle.sbl_ast.specs.Counts.{count_in_among}
 use Rattle.sbl_ast.specs.Tree.{Argument, Term, Command, Rows, Others, Starter, Groups, bracket, simple_, literal_, name_, non_, prefixed, counted, move_, named, splice_, setlimit_, assign_, compare_, compare_values_, among_, no_rows, row, no_others, joined, no_starter, starter, bare, group, Plain, declaration, escapes, macro, routine, grouping, Item, plain, backward}
-use Rattle.sbl_compiler.specs.Regions.{behind, behind_rows, behind_others, behind_starter, behind_groups}
+use Rattle.sbl_semantics.specs.Regions.{behind, behind_rows, behind_others, behind_starter, behind_groups}
 use Rattle.sbl_resolver.specs.Laws.{WellDeclaredPasses}
-use Rattle.sbl_script.specs.Parsed.{Source}
+use Rattle.sbl_ast.specs.Source.{Source}
 use Rattle.sbl_machine.specs.Differs.{when, join, differ, differ_rows, differ_others, differ_starter, differ_groups, items_by, differ_plain, differ_plains, differ_item, differ_items, differs}
 use Rattle.sbl_machine.specs.BuiltFrom.{affected_by}
 use Rattle.sbl_machine.specs.DifferLaws.{DifferingAgree, DifferingStay}
 use Rattle.sbl_machine.specs.Frame.{AgreeOutside}
 use Rattle.sbl_machine.specs.Holes.{hole, with_holes, rows_with_holes, others_with_holes, starter_with_holes, groups_with_holes, holed_plain, holed_item}
 use Rattle.sbl_machine.specs.Same.{same_argument, same_term}
-use Rattle.sbl_machine.specs.Touched.{Item', Routine, Among, Grouping}
+use Rattle.sbl_semantics.specs.Touched.{Item', Routine, Among, Grouping}
 use Rattle.sbl_machine.proofs.EditsAgree.{unmet_by_one_stay}
 use Rattle.sbl_machine.proofs.HoledPuts.{behind_is, hole_same}
 use Rattle.sbl_machine.proofs.Several.{all_affected, several_closed}

@@ -10,8 +10,8 @@ use Rattle.sbl_ast.specs.View.{RowView}
 use Rattle.sbl_ast.specs.Counts.{count_in_among}
 use Rattle.sbl_resolver.specs.Laws.{WellDeclaredPasses}
 use Rattle.sbl_amongs.specs.Amongs.{Held, amongs_of_body, nth_held, put_in_body}
-use Rattle.sbl_compiler.specs.Items.{is_among, known_in, names_by}
-use Rattle.sbl_compiler.specs.Regions.{behind}
+use Rattle.sbl_semantics.specs.Items.{is_among, known_in, names_by}
+use Rattle.sbl_semantics.specs.Regions.{behind}
 use Rattle.sbl_ast.specs.Order.{ItemInMode, in_mode, in_order}
 use Rattle.sbl_ast.specs.declared.mode.Mode.TheVariants.{Backward}
 use Rattle.sbl_ast.specs.declared.tree.DeclarationKind.{DeclarationKind}
@@ -21,13 +21,14 @@ use Rattle.sbl_script.specs.Edits.{ScriptEdit, body, among, terms, changes, defi
 use Rattle.sbl_script.proofs.AmongDepths.{home_same}
 use Rattle.sbl_script.specs.Homes.{home_of_among, home_of_body, home_of_held, home_of_terms}
 use Rattle.sbl_script.proofs.Found.{grouping_found, routine_found, some_plain}
-use Rattle.sbl_script.specs.Parsed.{Source}
+use Rattle.sbl_ast.specs.Source.{Source}
 use Rattle.sbl_machine.specs.BuiltFrom.{affected, affected_by, built_from, meets, meets_one}
 use Rattle.sbl_machine.specs.Frame.{AgreeOutside, AgreeingNamesStay, ClearStay, EditsAgree, NamesStay, UnmetByOneStay, UnmetStay, UntouchedStay}
 use Rattle.sbl_machine.specs.Holes.{with_holes, nothing, others_with_holes, holed_plain, holed_item}
-use Rattle.sbl_machine.specs.Meaning.{ending}
-use Rattle.sbl_machine.specs.Outcome.{touched_at, touches_of}
-use Rattle.sbl_machine.specs.Touched.{Item', Routine, Among, Grouping, named, replaced, names_of, same_item}
+use Rattle.sbl_semantics.specs.Meaning.{ending}
+use Rattle.sbl_semantics.specs.Outcome.{touched_at, touches_of}
+use Rattle.sbl_semantics.specs.Touched.{Item', Routine, Among, Grouping, named, names_of, same_item}
+use Rattle.sbl_machine.specs.EditedItem.{replaced}
 use Rattle.sbl_machine.specs.Marks.{EditedAreThere, has_item}
 use Rattle.sbl_machine.proofs.BuiltFrom.{affected_closed, built_more}
 use Rattle.sbl_machine.proofs.NamesStand.{flip}

@@ -3,8 +3,8 @@ use Rattle.std.proofs.Common.{◌≡◌, ℕ, ap, ◌∙◌, Result, Ok, Err}
 use Rattle.std.specs.Prelude.{IfOk}
 use Rattle.std.specs.declared.alloc.AllocError.{AllocError}
 use Rattle.sbl_machine.specs.declared.outcome.Traced.{Traced}
-use Rattle.sbl_machine.specs.Outcome.{outcome_at, outcome_of, touched_at, used_at}
-use Rattle.sbl_interpreter.specs.State.{Ending}
+use Rattle.sbl_semantics.specs.Outcome.{outcome_at, outcome_of, touched_at, used_at}
+use Rattle.sbl_semantics.specs.State.{Ending}
 
 pub same_outcome : (r : Result Traced AllocError) (e f : Ending) → IfOk r (λ traced. outcome_of traced.outcome ≡ outcome_at e) → e ≡ f → IfOk r (λ traced. outcome_of traced.outcome ≡ outcome_at f)
 same_outcome (Ok traced) e f h p = h ∙ ap outcome_at p

@@ -9,19 +9,19 @@ use Rattle.sbl_ast.specs.declared.tree.DeclarationKind.TheVariants as kinds
 use Rattle.sbl_ast.specs.Tree.{bracket, no_rows, no_others}
 use Rattle.sbl_ast.specs.declared.mode.Mode.{Mode}
 use Rattle.sbl_ast.specs.declared.mode.Mode.TheVariants.{Forward}
-use Rattle.sbl_compiler.specs.Items.{Known, known_in, class_of, classes_behind, is_among, place_of, Body, body_named}
-use Rattle.sbl_compiler.specs.Regions.{behind, behind_others}
-use Rattle.sbl_interpreter.specs.declared.fault.RunFault.TheVariants.{Depth}
-use Rattle.sbl_interpreter.specs.declared.touch.Touch.{Touch}
-use Rattle.sbl_interpreter.specs.declared.touch.Touch.TheVariants.{Entered, Tested}
+use Rattle.sbl_semantics.specs.Items.{Known, known_in, class_of, classes_behind, is_among, place_of, Body, body_named}
+use Rattle.sbl_semantics.specs.Regions.{behind, behind_others}
+use Rattle.sbl_semantics.specs.declared.fault.RunFault.TheVariants.{Depth}
+use Rattle.sbl_semantics.specs.declared.touch.Touch.{Touch}
+use Rattle.sbl_semantics.specs.declared.touch.Touch.TheVariants.{Entered, Tested}
 use Rattle.sbl_machine.specs.BuiltFrom.{IsClosed, IsClosedAt}
 use Rattle.sbl_machine.specs.Frame.{AgreeOutside, RunsAlike, Frame}
 use Rattle.sbl_machine.specs.Holes.{with_holes, others_with_holes, holed_script}
-use Rattle.sbl_machine.specs.Meaning.{row_does, body_does, calls, start, ending}
-use Rattle.sbl_machine.specs.Outcome.{outcome_at, used_at, touched_at, run_of, used_of, touches_of}
-use Rattle.sbl_interpreter.specs.Run.{paid, enter, leave}
-use Rattle.sbl_interpreter.specs.State.{State, Ending, Signals, Stops, Doing, pay}
-use Rattle.sbl_machine.specs.Touched.{Item', Routine, Among, Grouping, Names', named, names_of, items_of, touched_of}
+use Rattle.sbl_semantics.specs.Meaning.{row_does, body_does, calls, start, ending}
+use Rattle.sbl_semantics.specs.Outcome.{outcome_at, used_at, touched_at, run_of, used_of, touches_of}
+use Rattle.sbl_semantics.specs.Control.{paid, enter, leave}
+use Rattle.sbl_semantics.specs.State.{State, Ending, Signals, Stops, Doing, pay}
+use Rattle.sbl_semantics.specs.Touched.{Item', Routine, Among, Grouping, Names', named, names_of, items_of, touched_of}
 use Rattle.sbl_machine.proofs.TouchedOrder.{any_ordered, any-mapped}
 use Rattle.sbl_machine.proofs.Touching.{with_chosen, with_grows, not_then, filled}
 use Rattle.sbl_machine.proofs.Stays.{ended, pay_same}
@@ -30,7 +30,7 @@ use Rattle.sbl_machine.proofs.FrameRuns.{row_alike}
 use Rattle.sbl_machine.proofs.HoledTrees.{behind_same, behind_others_same}
 use Rattle.sbl_machine.proofs.HoledScripts.{holed_items, order_holed, known_same, names_same, closed_holed, closed_of_holed, hole_of, holed_body, bodies_holed, name_stands, place_names}
 use Rattle.sbl_machine.proofs.HoledClasses.{classes_same, no_class}
-use Rattle.sbl_script.specs.Parsed.{Source}
+use Rattle.sbl_ast.specs.Source.{Source}
 
 -- ---- calls
 

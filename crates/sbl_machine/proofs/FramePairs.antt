@@ -13,15 +13,15 @@ use Rattle.sbl_ast.specs.declared.tree.Simple.{Simple}
 use Rattle.sbl_ast.specs.declared.tree.Simple.TheVariants as simples
 use Rattle.sbl_ast.specs.declared.mode.Mode.{Mode}
 use Rattle.sbl_ast.specs.declared.mode.Mode.TheVariants.{Forward, Backward}
-use Rattle.sbl_interpreter.specs.declared.touch.Touch.{Touch}
-use Rattle.sbl_interpreter.specs.declared.touch.Touch.TheVariants.{Searched}
-use Rattle.sbl_machine.specs.Meaning.{prefixed_does, counted_does, joined_does, limited_does, simple_does}
-use Rattle.sbl_interpreter.specs.Moves.{next}
-use Rattle.sbl_interpreter.specs.Numbers.{Value, given}
-use Rattle.sbl_interpreter.specs.Run.{turns, times, count_of, seeks, limits, limit_here, limit_back, backwards_from, backwards_end, chosen, paid}
-use Rattle.sbl_interpreter.specs.Search.{choice}
-use Rattle.sbl_interpreter.specs.State.{State, Ending, Signals, Stops, Doing, after, then_on, pay, saved_cursor, put_back}
-use Rattle.sbl_interpreter.specs.Touches.{with_touch}
+use Rattle.sbl_semantics.specs.declared.touch.Touch.{Touch}
+use Rattle.sbl_semantics.specs.declared.touch.Touch.TheVariants.{Searched}
+use Rattle.sbl_semantics.specs.Meaning.{prefixed_does, counted_does, joined_does, limited_does, simple_does}
+use Rattle.sbl_semantics.specs.Moves.{next}
+use Rattle.sbl_semantics.specs.Numbers.{Value, given}
+use Rattle.sbl_semantics.specs.Control.{turns, times, count_of, seeks, limits, limit_here, limit_back, backwards_from, backwards_end, chosen, paid}
+use Rattle.sbl_semantics.specs.Choices.{choice}
+use Rattle.sbl_semantics.specs.State.{State, Ending, Signals, Stops, Doing, after, then_on, pay, saved_cursor, put_back}
+use Rattle.sbl_semantics.specs.Touches.{with_touch}
 use Rattle.sbl_machine.proofs.Touching.{with_grows, with_chosen, not_then}
 use Rattle.sbl_machine.proofs.Stays.{Rest, ended, Same, pay_same, place_same, to_limit_same, back_same, next_same, found_same, here_same, limit_back_same, left_same, right_same, replace_same}
 

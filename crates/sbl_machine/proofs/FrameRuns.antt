@@ -5,17 +5,17 @@ use Rattle.sbl_ast.specs.declared.tree.DeclarationKind.TheVariants as kinds
 use Rattle.sbl_ast.specs.Tree as trees
 use Rattle.sbl_ast.specs.Tree.{bracket, simple_, literal_, name_, non_, prefixed, counted, move_, named, splice_, setlimit_, assign_, compare_, compare_values_, among_, no_rows, row, no_others, joined, no_starter, starter, bare, group, entry}
 use Rattle.sbl_ast.specs.declared.mode.Mode.{Mode}
-use Rattle.sbl_compiler.specs.Items.{Known, place_of, is_among}
-use Rattle.sbl_compiler.specs.Regions.{Among, among_at, behind, behind_rows, behind_others, behind_starter, first, first_rows, first_others, mode_behind, waits, waits_others}
-use Rattle.sbl_interpreter.specs.declared.touch.Touch.{Touch}
-use Rattle.sbl_interpreter.specs.declared.touch.Touch.TheVariants.{Searched, Tested}
+use Rattle.sbl_semantics.specs.Items.{Known, place_of, is_among}
+use Rattle.sbl_semantics.specs.Regions.{Among, among_at, behind, behind_rows, behind_others, behind_starter, first, first_rows, first_others, mode_behind, waits, waits_others}
+use Rattle.sbl_semantics.specs.declared.touch.Touch.{Touch}
+use Rattle.sbl_semantics.specs.declared.touch.Touch.TheVariants.{Searched, Tested}
 use Rattle.sbl_machine.specs.Holes.{blank, blanks, blanks_rows, blanks_others, blanks_starter, blanks_groups, nothing, hole, with_holes, rows_with_holes, others_with_holes, starter_with_holes, groups_with_holes}
-use Rattle.sbl_machine.specs.Meaning as meaning
-use Rattle.sbl_machine.specs.Meaning.{offers, search, tests, worth, text}
-use Rattle.sbl_interpreter.specs.Moves.{match, one_of}
-use Rattle.sbl_interpreter.specs.Numbers.{integer_at}
-use Rattle.sbl_interpreter.specs.Run.{paid}
-use Rattle.sbl_interpreter.specs.State.{State, Signals, Doing, pay}
+use Rattle.sbl_semantics.specs.Meaning as meaning
+use Rattle.sbl_semantics.specs.Meaning.{offers, search, tests, worth, text}
+use Rattle.sbl_semantics.specs.Moves.{match, one_of}
+use Rattle.sbl_semantics.specs.Numbers.{integer_at}
+use Rattle.sbl_semantics.specs.Control.{paid}
+use Rattle.sbl_semantics.specs.State.{State, Signals, Doing, pay}
 use Rattle.sbl_machine.proofs.Stays.{pay_same, match_same, class_same, moves_same, assigned_same, compared_same, named_same, edited_same}
 use Rattle.sbl_machine.proofs.FramePairs.{Grown, Pair, Alike, grown_after, after_pair, from_pair, if_pair, same_grown, same_pair, signals_pair, paid_alike, prefixed_pair, counted_pair, joined_alike, limited_pair, simple_pair, touched_pair, touched_spoiled, touching}
 use Rattle.sbl_machine.proofs.FrameSearches.{finds, finds_grown, finds_alike, finds_spoiled, grown_call', choosing_grown, choosing_pair, hole_pair}

@@ -3,15 +3,15 @@ use Rattle.std.proofs.Common.{◌≡◌, ℕ, zero, suc, Bool, true, false, List
 use Rattle.std.specs.Prelude.{take, ◌≢◌}
 use Rattle.std.proofs.lemmas.Bool.{true≢false}
 use Rattle.std.proofs.lemmas.List.{get_or-set_other}
-use Rattle.sbl_among_search.specs.Fitting.{ahead_at}
+use Rattle.sbl_semantics.specs.Fitting.{ahead_at}
 use Rattle.sbl_ast.specs.declared.mode.Mode.{Mode}
-use Rattle.sbl_interpreter.specs.declared.touch.Touch.{Touch}
-use Rattle.sbl_interpreter.specs.declared.touch.Touch.TheVariants.{Searched}
-use Rattle.sbl_machine.specs.Meaning.{Offer, offering, condition_does, takes, tried, begins}
-use Rattle.sbl_interpreter.specs.Run.{chosen, paid}
-use Rattle.sbl_interpreter.specs.Search.{choose, choice, touch_among}
-use Rattle.sbl_interpreter.specs.Events.{Event', Finds}
-use Rattle.sbl_interpreter.specs.State.{note_event, State, bound_of, Ending, Signals, Doing, after, then_on, pay, saved_cursor, put_back, place_after, step_over}
+use Rattle.sbl_semantics.specs.declared.touch.Touch.{Touch}
+use Rattle.sbl_semantics.specs.declared.touch.Touch.TheVariants.{Searched}
+use Rattle.sbl_semantics.specs.Meaning.{Offer, offering, condition_does, takes, tried, begins}
+use Rattle.sbl_semantics.specs.Control.{chosen, paid}
+use Rattle.sbl_semantics.specs.Choices.{choose, choice, touch_among}
+use Rattle.sbl_semantics.specs.Events.{Event', Finds}
+use Rattle.sbl_semantics.specs.State.{note_event, State, bound_of, Ending, Signals, Doing, after, then_on, pay, saved_cursor, put_back, place_after, step_over}
 use Rattle.sbl_machine.proofs.Touching.{with_chosen, with_grows, not_then}
 use Rattle.sbl_machine.proofs.Stays.{pay_same, back_same, over_same}
 use Rattle.sbl_machine.proofs.FramePairs.{Here, dirty, dirty_at, Grown, Within, Kept, Pair, Alike, here_from, grown_after, dirty_after, within_dirty, after_pair, from_pair, same_grown, same_pair, signals_pair, spoiled_pair, chosen_pair, paid_alike}

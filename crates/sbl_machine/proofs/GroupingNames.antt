@@ -15,7 +15,7 @@ use Rattle.sbl_resolver.specs.declared.occurrences.Use.TheVariants as use_as
 use Rattle.sbl_resolver.specs.Occurrences.{Occurrence, put, uses, defines_routine, defines_grouping, noted_terms, noted_plain, noted_items, occurrences_of, noted_name}
 use Rattle.sbl_resolver.specs.Checks.{kind_of, defined_at, definition_of, is_some_and, is_routine, is_grouping, is_earlier}
 use Rattle.sbl_resolver.proofs.Extends.{Extends, then_, items_more, put_more}
-use Rattle.sbl_compiler.specs.Items.{known_in, names_by, is_among}
+use Rattle.sbl_semantics.specs.Items.{known_in, names_by, is_among}
 use Rattle.sbl_machine.proofs.Noticed.{look, look_kept, kinds_at, site_is, sites_quiet, routine_still, grouping_still}
 use Rattle.sbl_machine.proofs.NamesStand.{names_site, site_put, Passing, at_mark, kind_kept, routine_kind, test_fails, rest_fails, not_false, terms_extend, plain_after, grouping_after, flip, or_true}
 

@@ -12,7 +12,7 @@ use Rattle.sbl_ast.specs.declared.tree.Additive.TheVariants.{Plus, Minus}
 use Rattle.sbl_ast.specs.declared.tree.DeclarationKind.TheVariants as kinds
 use Rattle.sbl_ast.specs.Tree.{Argument, written_out, by_name, Term, term, Plain, declaration, escapes, macro, routine, grouping}
 use Rattle.sbl_resolver.specs.Laws.{WellDeclaredPasses}
-use Rattle.sbl_compiler.specs.Items.{Grouping, and_grouping, class_of, classes_behind, known_in, names_by, is_among, term_has, terms_have}
+use Rattle.sbl_semantics.specs.Items.{Grouping, and_grouping, class_of, classes_behind, known_in, names_by, is_among, term_has, terms_have}
 use Rattle.sbl_machine.specs.Groupings.{groupings_of, Has, Leaves, IsOfTerms, GroupingsAreTheirTerms, GroupingsHaveTheirTerms}
 use Rattle.sbl_machine.proofs.GroupingNames.{IsKnown, AreKnown, AreNames, names_are}
 

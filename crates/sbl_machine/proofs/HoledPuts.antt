@@ -5,7 +5,7 @@ use Rattle.sbl_ast.specs.Tree.{Command, Rows, Others, Starter, Groups, bracket, 
 use Rattle.sbl_ast.specs.Counts.{count_amongs, count_in_rows, count_in_others, count_in_starter, count_in_groups, count_in_among}
 use Rattle.sbl_amongs.specs.Amongs.{Held, amongs, amongs_of_body, amongs_of_rows, amongs_of_others, amongs_of_starter, amongs_of_groups, nth_held, put_among, put_in_rows, put_in_others, put_in_starter, put_in_groups}
 use Rattle.sbl_amongs.proofs.Held.{Counts, none_is_first, tree_counts, rows_count, others_count, starter_counts}
-use Rattle.sbl_compiler.specs.Regions.{behind, behind_rows, behind_others, behind_starter, behind_groups}
+use Rattle.sbl_semantics.specs.Regions.{behind, behind_rows, behind_others, behind_starter, behind_groups}
 use Rattle.sbl_machine.specs.Holes.{blank, blanks, blanks_rows, blanks_others, blanks_starter, blanks_groups, nothing, hole, with_holes, rows_with_holes, others_with_holes, starter_with_holes, groups_with_holes}
 
 -- ---- blanks are as many as there are amongs

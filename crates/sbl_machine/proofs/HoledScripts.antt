@@ -12,12 +12,12 @@ use Rattle.sbl_ast.specs.declared.tree.DeclarationKind.TheVariants as kinds
 use Rattle.sbl_ast.specs.Tree.{Command, Others, Argument, written_out, Term, Plain, Item, bracket, no_rows, no_others, declaration, escapes, macro, routine, grouping, plain, backward}
 use Rattle.sbl_ast.specs.declared.mode.Mode.{Mode}
 use Rattle.sbl_ast.specs.declared.mode.Mode.TheVariants.{Forward, Backward}
-use Rattle.sbl_compiler.specs.Items.{Known, is_among, place_of, names_by, known_in, Body, body_or, body_named}
-use Rattle.sbl_compiler.specs.Regions.{behind}
+use Rattle.sbl_semantics.specs.Items.{Known, is_among, place_of, names_by, known_in, Body, body_or, body_named}
+use Rattle.sbl_semantics.specs.Regions.{behind}
 use Rattle.sbl_machine.specs.BuiltFrom.{IsClosed, IsClosedAt}
 use Rattle.sbl_machine.specs.Holes.{nothing, with_holes, others_with_holes, holed_plain, holed_item, holed_script}
-use Rattle.sbl_machine.specs.Touched.{Item', Routine, Among, Grouping, names_of}
-use Rattle.sbl_script.specs.Parsed.{Source}
+use Rattle.sbl_semantics.specs.Touched.{Item', Routine, Among, Grouping, names_of}
+use Rattle.sbl_ast.specs.Source.{Source}
 
 module _ (picked : Item' → Bool) where
   abbrev pub holed_in_mode : ItemInMode → ItemInMode

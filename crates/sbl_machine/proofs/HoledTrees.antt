@@ -2,9 +2,9 @@
 use Rattle.std.proofs.Common.{◌≡◌, ℕ, suc, ◌+◌, Bool, true, false, ◌∷◌, ◌++◌, map, refl, ap, ◌∙◌}
 use Rattle.std.specs.Prelude.{if◌then◌else◌}
 use Rattle.sbl_ast.specs.Tree.{Command, Rows, Others, Starter, Groups, bracket, simple_, literal_, name_, non_, prefixed, counted, move_, named, splice_, setlimit_, assign_, compare_, compare_values_, among_, no_rows, row, no_others, joined, no_starter, starter, bare, group}
-use Rattle.sbl_compiler.specs.Regions.{behind, behind_rows, behind_others, behind_starter, behind_groups, waits, waits_rows, waits_others}
+use Rattle.sbl_semantics.specs.Regions.{behind, behind_rows, behind_others, behind_starter, behind_groups, waits, waits_rows, waits_others}
 use Rattle.sbl_machine.specs.Holes.{blanks, blanks_rows, blanks_others, blanks_starter, blanks_groups, hole, with_holes, rows_with_holes, others_with_holes, starter_with_holes, groups_with_holes}
-use Rattle.sbl_machine.specs.Meaning.{offer, offers}
+use Rattle.sbl_semantics.specs.Meaning.{offer, offers}
 
 -- ---- the blanks of a command count as its amongs
 

@@ -9,17 +9,17 @@ use Rattle.std.proofs.lemmas.List.Folds.{list_any-append}
 use Rattle.std.proofs.Math.Path.{fun_ext}
 use Rattle.sbl_ast.specs.Order.{ItemInMode, in_order}
 use Rattle.sbl_ast.specs.declared.tree.DeclarationKind.TheVariants as kinds
-use Rattle.sbl_compiler.specs.Items.{is_among, known_in}
+use Rattle.sbl_semantics.specs.Items.{is_among, known_in}
 use Rattle.sbl_compiler.proofs.SoundItems.{among_is}
-use Rattle.sbl_interpreter.specs.declared.touch.Touch.{Touch}
-use Rattle.sbl_interpreter.specs.declared.touch.Touch.TheVariants.{Entered, Searched, Tested}
-use Rattle.sbl_interpreter.specs.Touches.{same_touch, with_touch}
-use Rattle.sbl_script.specs.Parsed.{Source}
+use Rattle.sbl_semantics.specs.declared.touch.Touch.{Touch}
+use Rattle.sbl_semantics.specs.declared.touch.Touch.TheVariants.{Entered, Searched, Tested}
+use Rattle.sbl_semantics.specs.Touches.{same_touch, with_touch}
+use Rattle.sbl_ast.specs.Source.{Source}
 use Rattle.sbl_script.specs.Spelled.{AreSpelled}
 use Rattle.sbl_machine.specs.BuiltFrom.{affected, affected_by, built_behind}
 use Rattle.sbl_machine.specs.Marking.{amongs_behind, amongs_in, groupings_behind, marked, marks_of, routines_behind, searched, searches}
 use Rattle.sbl_machine.specs.Marks.{AreMarksOf, has_item}
-use Rattle.sbl_machine.specs.Touched.{Item', Routine, Among, Grouping, named, names_of}
+use Rattle.sbl_semantics.specs.Touched.{Item', Routine, Among, Grouping, named, names_of}
 use Rattle.sbl_machine.proofs.BuiltFrom.{built_back}
 use Rattle.sbl_machine.proofs.Several.{built_from_several, or_false}
 use Rattle.sbl_machine.proofs.NotEmpty.{groupings_named, routines_named}

@@ -22,7 +22,7 @@ use Rattle.sbl_ast.specs.Tree.{Plain, declaration, escapes, macro, routine, grou
 use Rattle.sbl_ast.specs.declared.mode.Mode.TheVariants.{Backward}
 use Rattle.sbl_ast.specs.declared.tree.DeclarationKind.{DeclarationKind}
 use Rattle.sbl_ast.specs.declared.tree.DeclarationKind.TheVariants as kinds
-use Rattle.sbl_compiler.specs.Items.{is_among, known_in, names_by}
+use Rattle.sbl_semantics.specs.Items.{is_among, known_in, names_by}
 use Rattle.sbl_script.specs.Spelled.{AreSpelled}
 
 -- ---- an empty name is not said

@@ -4,10 +4,10 @@ use Rattle.std.specs.BTreeSet.{insert_key}
 use Rattle.std.specs.declared.cmp.Ordering.{Ordering}
 use Rattle.std.specs.declared.cmp.Ordering.TheVariants.{Less, Equal, Greater}
 use Rattle.std.specs.Ordering.{match_ordering}
-use Rattle.sbl_machine.specs.Touched.{Item', item_cmp, item_of}
-use Rattle.sbl_machine.specs.contracts.item.ItemOrd.TheImpl.{cmp-value}
-use Rattle.sbl_machine.specs.declared.item.Item.{Item}
-use Rattle.sbl_machine.specs.declared.item.Item.TheVariants as code
+use Rattle.sbl_semantics.specs.Touched.{Item', item_cmp, item_of}
+use Rattle.sbl_semantics.specs.contracts.item.ItemOrd.TheImpl.{cmp-value}
+use Rattle.sbl_semantics.specs.declared.item.Item.{Item}
+use Rattle.sbl_semantics.specs.declared.item.Item.TheVariants as code
 
 inserted_step : (cmp : Item → Item → Ordering) (x : Item) (xs : List Item) (k : Item) (ys : List Item') (r : Ordering) → map item_of (insert_key cmp xs k) ≡ ys → map item_of (match_ordering r (k ∷ x ∷ xs) (x ∷ xs) (x ∷ insert_key cmp xs k)) ≡ match_ordering r (item_of k ∷ item_of x ∷ map item_of xs) (item_of x ∷ map item_of xs) (item_of x ∷ ys)
 inserted_step cmp x xs k ys Less e = refl

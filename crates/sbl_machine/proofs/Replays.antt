@@ -27,27 +27,27 @@ use Rattle.sbl_ast.specs.Tree as trees
 use Rattle.sbl_ast.specs.Tree.{bracket, simple_, literal_, name_, non_, prefixed, counted, move_, named, splice_, setlimit_, assign_, compare_, compare_values_, among_, no_rows, row, no_others, joined, no_starter, starter, bare, group}
 use Rattle.sbl_ast.specs.declared.mode.Mode.{Mode}
 use Rattle.sbl_ast.specs.declared.mode.Mode.TheVariants.{Forward, Backward}
-use Rattle.sbl_among_search.specs.Fitting.{read_as, ahead_at}
-use Rattle.sbl_compiler.specs.Items.{Known, Body, place_of, is_among, known_in, class_of, classes_behind, body_named}
-use Rattle.sbl_compiler.specs.Regions.{Among, among_at, behind, behind_rows, behind_others, behind_starter, first, first_rows, first_others, mode_behind, waits, waits_others}
-use Rattle.sbl_interpreter.specs.declared.state.SavedCursor.{SavedCursor}
-use Rattle.sbl_interpreter.specs.declared.state.Limits.{Limits}
-use Rattle.sbl_interpreter.specs.declared.touch.Touch.{Touch}
-use Rattle.sbl_interpreter.specs.declared.touch.Touch.TheVariants.{Entered, Searched, Tested}
-use Rattle.sbl_interpreter.specs.Touches.{same_touch, with_touch}
-use Rattle.sbl_interpreter.specs.Events.{Event', Enters, Leaves, Searches, Finds, Puts, with_event}
-use Rattle.sbl_interpreter.specs.Moves.{match, next_is, one_of, touch_grouping, next, hop, at_mark, to_mark}
-use Rattle.sbl_interpreter.specs.Numbers.{Value, given, natural, with_value, integer_at}
-use Rattle.sbl_interpreter.specs.Run.{turns, times, count_of, seeks, found, limits, limited, limit_here, limit_back, backwards_from, backwards_end, chosen, back_in, enter, leave, paid}
-use Rattle.sbl_interpreter.specs.Search.{choice, choose, take_none, take_string, touch_among}
-use Rattle.sbl_interpreter.specs.Slices.{is_slice, replaced, replace, keep, inserted, put_in}
-use Rattle.sbl_interpreter.specs.State.{State, Ending, Signals, Stops, Doing, bound_of, ahead, room, after, then_on, pay, at_place, at_difference, to_limit, saved_cursor, put_back, step_over, place_after, note_event}
-use Rattle.sbl_machine.specs.Meaning as meaning
-use Rattle.sbl_machine.specs.Meaning.{Offer, prefixed_does, counted_does, joined_does, limited_does, simple_does, moved_does, assigned_does, compared_does, named_does, edited_does, begins, takes, tried, search}
-use Rattle.sbl_machine.specs.Outcome.{Stem, outcome_at, touched_at, run_of}
-use Rattle.sbl_machine.specs.Why.{events_at, events_in, events_of, text_after, text_after_one, PutsGiveTheStem, touches_after, touches_after_one, is_no_test, EventsTouch}
+use Rattle.sbl_semantics.specs.Fitting.{read_as, ahead_at}
+use Rattle.sbl_semantics.specs.Items.{Known, Body, place_of, is_among, known_in, class_of, classes_behind, body_named}
+use Rattle.sbl_semantics.specs.Regions.{Among, among_at, behind, behind_rows, behind_others, behind_starter, first, first_rows, first_others, mode_behind, waits, waits_others}
+use Rattle.sbl_semantics.specs.declared.cursor.SavedCursor.{SavedCursor}
+use Rattle.sbl_semantics.specs.declared.limits.Limits.{Limits}
+use Rattle.sbl_semantics.specs.declared.touch.Touch.{Touch}
+use Rattle.sbl_semantics.specs.declared.touch.Touch.TheVariants.{Entered, Searched, Tested}
+use Rattle.sbl_semantics.specs.Touches.{same_touch, with_touch}
+use Rattle.sbl_semantics.specs.Events.{Event', Enters, Leaves, Searches, Finds, Puts, with_event}
+use Rattle.sbl_semantics.specs.Moves.{match, next_is, one_of, touch_grouping, next, hop, at_mark, to_mark}
+use Rattle.sbl_semantics.specs.Numbers.{Value, given, natural, with_value, integer_at}
+use Rattle.sbl_semantics.specs.Control.{turns, times, count_of, seeks, found, limits, limited, limit_here, limit_back, backwards_from, backwards_end, chosen, back_in, enter, leave, paid}
+use Rattle.sbl_semantics.specs.Choices.{choice, choose, take_none, take_string, touch_among}
+use Rattle.sbl_semantics.specs.Slices.{is_slice, replaced, replace, keep, inserted, put_in}
+use Rattle.sbl_semantics.specs.State.{State, Ending, Signals, Stops, Doing, bound_of, ahead, room, after, then_on, pay, at_place, at_difference, to_limit, saved_cursor, put_back, step_over, place_after, note_event}
+use Rattle.sbl_semantics.specs.Meaning as meaning
+use Rattle.sbl_semantics.specs.Meaning.{Offer, prefixed_does, counted_does, joined_does, limited_does, simple_does, moved_does, assigned_does, compared_does, named_does, edited_does, begins, takes, tried, search}
+use Rattle.sbl_semantics.specs.Outcome.{Stem, outcome_at, touched_at, run_of, events_at, events_in, events_of}
+use Rattle.sbl_machine.specs.Why.{text_after, text_after_one, PutsGiveTheStem, touches_after, touches_after_one, is_no_test, EventsTouch}
 use Rattle.sbl_machine.proofs.WhyLaw.{events_change_nothing}
-use Rattle.sbl_script.specs.Parsed.{Source}
+use Rattle.sbl_ast.specs.Source.{Source}
 
 text_last : (text : List ℕ) (xs : List Event') (x : Event') → text_after text (xs ++ (x ∷ [])) ≡ text_after_one (text_after text xs) x
 text_last text [] x = refl

@@ -9,14 +9,14 @@ use Rattle.sbl_ast.specs.Order.{ItemInMode, in_order}
 use Rattle.sbl_ast.specs.Tree.{Argument, written_out, by_name, Term, term, Plain, declaration, escapes, macro, routine, grouping}
 use Rattle.sbl_resolver.specs.Checks.{WellDeclared}
 use Rattle.sbl_resolver.specs.Laws.{WellDeclaredPasses}
-use Rattle.sbl_compiler.specs.Items.{is_among}
+use Rattle.sbl_semantics.specs.Items.{is_among}
 use Rattle.sbl_machine.specs.BuiltFrom.{names, any_names, built_on, IsClosed, IsClosedAt, and_built, built_behind, affected, affected_by, meets, meets_one}
 use Rattle.sbl_machine.specs.DifferLaws.{OneAffects, OneMeets}
-use Rattle.sbl_machine.specs.Outcome.{touches_of}
-use Rattle.sbl_machine.specs.Touched.{Item', Routine, Among, Grouping, named, names_of}
+use Rattle.sbl_semantics.specs.Outcome.{touches_of}
+use Rattle.sbl_semantics.specs.Touched.{Item', Routine, Among, Grouping, named, names_of}
 use Rattle.sbl_machine.proofs.BuiltFrom.{affected_closed, built_more}
 use Rattle.sbl_machine.proofs.SameSelf.{also, name_self}
-use Rattle.sbl_script.specs.Parsed.{Source}
+use Rattle.sbl_ast.specs.Source.{Source}
 
 -- ---- one of a list
 

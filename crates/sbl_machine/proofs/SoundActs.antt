@@ -22,23 +22,26 @@ use Rattle.sbl_ast.specs.declared.tree.DeclarationKind.TheVariants as kinds
 use Rattle.sbl_ast.specs.Tree as trees
 use Rattle.sbl_ast.specs.Tree.{bracket, simple_, literal_, name_, non_, prefixed, counted, move_, named, splice_, setlimit_, assign_, compare_, compare_values_, among_, no_rows, row, no_others, joined, no_starter, starter, bare, group}
 use Rattle.sbl_compiler.specs.Ahead.{search_next, search_of, found_as, search_then, simple_by, made, made_rows, made_others, made_starter, made_groups}
-use Rattle.sbl_compiler.specs.Items.{Known, place_of, is_among}
-use Rattle.sbl_machine.specs.Meaning.{prefixed_does, counted_does, joined_does, limited_does, simple_does, moved_does, named_does, edited_does, assigned_does, compared_does, begins, worth}
-use Rattle.sbl_machine.specs.Meaning as meaning
-use Rattle.sbl_interpreter.specs.Moves.{characters, one_of, touch_grouping, match, set_mark, set_boolean, test_boolean}
+use Rattle.sbl_semantics.specs.Items.{Known, place_of, is_among}
+use Rattle.sbl_semantics.specs.Meaning.{prefixed_does, counted_does, joined_does, limited_does, simple_does, moved_does, named_does, edited_does, assigned_does, compared_does, begins, worth}
+use Rattle.sbl_semantics.specs.Meaning as meaning
+use Rattle.sbl_interpreter.specs.Arithmetic.{characters, value, changed, holds}
+use Rattle.sbl_semantics.specs.Moves.{one_of, touch_grouping, match, set_mark, set_boolean, test_boolean}
 use Rattle.sbl_compiler.specs.Numbered.{name_alone, behind_prefix, behind_count, move, change_named, edit, change_of, relation_of}
 use Rattle.sbl_program.specs.Grouped.{join}
 use Rattle.sbl_compiler.specs.NumberedNames.{Names, is_one_of, number_of}
 use Rattle.sbl_compiler.specs.NumberedNumbers.{expression, text}
-use Rattle.sbl_interpreter.specs.Numbers.{Value, value, given, changed, holds, integer_at, with_value}
+use Rattle.sbl_semantics.specs.Numbers.{Value, given, integer_at, with_value}
 use Rattle.sbl_program.specs.Program as programs
 use Rattle.sbl_char_class.specs.Terms.{class_at}
-use Rattle.sbl_compiler.specs.Regions.{Among, among_at, behind, behind_rows, behind_others, behind_starter, first, first_rows, first_others, mode_behind, waits, waits_others}
+use Rattle.sbl_semantics.specs.Regions.{Among, among_at, behind, behind_rows, behind_others, behind_starter, first, first_rows, first_others, mode_behind, waits, waits_others}
 use Rattle.sbl_interpreter.specs.Run as run
-use Rattle.sbl_interpreter.specs.Run.{paid, in_turn, nth_does}
-use Rattle.sbl_interpreter.specs.Search.{choice}
-use Rattle.sbl_interpreter.specs.Slices.{keep}
-use Rattle.sbl_interpreter.specs.State.{State, Ending, Signals, Stops, Doing, after}
+use Rattle.sbl_semantics.specs.Control as control
+use Rattle.sbl_semantics.specs.Control.{paid}
+use Rattle.sbl_interpreter.specs.Run.{in_turn, nth_does}
+use Rattle.sbl_semantics.specs.Choices.{choice}
+use Rattle.sbl_semantics.specs.Slices.{keep}
+use Rattle.sbl_semantics.specs.State.{State, Ending, Signals, Stops, Doing, after}
 use Rattle.sbl_compiler.proofs.SoundItems.{among_is, placed_by}
 use Rattle.sbl_machine.proofs.SoundParts.{Agree, text_same, worth_same, search_same, changed_same, holds_same}
 use Rattle.sbl_ast.specs.declared.mode.Mode.{Mode}
@@ -196,9 +199,9 @@ module _ (ns : Names) (known : Known) (agree : Agree ns known) (classes : List (
     sound (among_ st gs) r k w n m s =
         let k' = behind_starter st (suc k) in
         let bodies = made_groups ns r k' gs in
-        let on_t = λ (t : State). run.chosen (choice k t) t (λ g. nth_does classes call bodies g m t) in
+        let on_t = λ (t : State). control.chosen (choice k t) t (λ g. nth_does classes call bodies g m t) in
         ap (λ e. after e on_t (Signals false)) (before_same w (among_at r k gs) (made_starter ns r (suc k) st) (meaning.starter_does known class call' r (suc k) st) m s (fun_ext (λ t. starter_sound st r (suc k) m t)))
-        ∙ ap (λ f. after (begins w (meaning.search call' (among_at r k gs)) (meaning.starter_does known class call' r (suc k) st) m s) (λ t. run.chosen (choice k t) t (λ g. f g t)) (Signals false)) (fun_ext (λ g. fun_ext (λ t. groups_sound gs r k' g m t)))
+        ∙ ap (λ f. after (begins w (meaning.search call' (among_at r k gs)) (meaning.starter_does known class call' r (suc k) st) m s) (λ t. control.chosen (choice k t) t (λ g. f g t)) (Signals false)) (fun_ext (λ g. fun_ext (λ t. groups_sound gs r k' g m t)))
 
     rows_sound : (rs : trees.Rows) (r : Mode) (k : ℕ) (w : Bool) (n : Option Among) (m : Mode) (s : State) → in_turn classes call (made_rows ns r k w n rs) m s ≡ meaning.rows_do known class call' r k w n rs m s
     rows_sound no_rows r k w n m s = refl

@@ -25,21 +25,22 @@ use Rattle.sbl_ast.specs.Tree as trees
 use Rattle.sbl_ast.specs.Tree.{bare, group}
 use Rattle.sbl_program.specs.declared.node.Candidate as code
 use Rattle.sbl_compiler.specs.Ahead.{found_as}
-use Rattle.sbl_among_search.specs.Fitting.{below, fitting, onto, read_as, read_all, ahead_at}
-use Rattle.sbl_compiler.specs.Items.{Known}
-use Rattle.sbl_machine.specs.Meaning as meaning
-use Rattle.sbl_machine.specs.Meaning.{Offer, offer, offers}
-use Rattle.sbl_interpreter.specs.Moves.{characters}
+use Rattle.sbl_semantics.specs.Fitting.{below, fitting, onto, read_as, read_all, ahead_at}
+use Rattle.sbl_semantics.specs.Items.{Known}
+use Rattle.sbl_semantics.specs.Meaning as meaning
+use Rattle.sbl_semantics.specs.Meaning.{Offer, offer, offers}
+use Rattle.sbl_interpreter.specs.Arithmetic.{characters, value, changed, holds}
 use Rattle.sbl_compiler.specs.Numbered.{change_of, relation_of}
 use Rattle.sbl_compiler.specs.NumberedAmongs.{strings_in, strings_behind, condition_of, entries_in, entries_behind}
 use Rattle.sbl_program.specs.Grouped.{added, added_all, scaled, scaled_all}
 use Rattle.sbl_compiler.specs.NumberedNames.{Names, number_of}
 use Rattle.sbl_compiler.specs.NumberedNumbers.{text, constant, expression, sums_in, product, scales_in, factor}
-use Rattle.sbl_interpreter.specs.Numbers.{Value, value, fitted, with_value, changed, holds, integer_at}
+use Rattle.sbl_semantics.specs.Numbers.{Value, fitted, with_value, integer_at}
 use Rattle.sbl_program.specs.Program as programs
-use Rattle.sbl_compiler.specs.Regions.{Among}
-use Rattle.sbl_interpreter.specs.Search.{bound_in, condition_does, take_string, try_one, tries, searched, search_all, touch_among}
-use Rattle.sbl_interpreter.specs.State.{State, bound_of, Ending, Signals, Doing, after, saved_cursor, place_after, then_on, pay}
+use Rattle.sbl_semantics.specs.Regions.{Among}
+use Rattle.sbl_interpreter.specs.Search.{bound_in, condition_does, try_one, tries, searched, search_all}
+use Rattle.sbl_semantics.specs.Choices.{take_string, touch_among}
+use Rattle.sbl_semantics.specs.State.{State, bound_of, Ending, Signals, Doing, after, saved_cursor, place_after, then_on, pay}
 use Rattle.sbl_compiler.proofs.SoundItems.{less_suc, placed_by}
 use Rattle.sbl_ast.specs.declared.mode.Mode.{Mode}
 use Rattle.sbl_ast.specs.declared.mode.Mode.TheVariants.{Forward, Backward}

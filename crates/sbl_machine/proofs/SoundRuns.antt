@@ -3,22 +3,23 @@ use Rattle.std.proofs.Common.{◌≡◌, ℕ, zero, suc, Bool, List, [], Option,
 use Rattle.std.proofs.Math.Path.{fun_ext}
 use Rattle.sbl_ast.specs.Order.{ItemInMode, in_order}
 use Rattle.sbl_ast.specs.declared.tree.DeclarationKind.TheVariants as kinds
-use Rattle.sbl_compiler.specs.Items.{Known, Body, known_in, class_of, classes_behind, body_named}
-use Rattle.sbl_machine.specs.Meaning as meaning
+use Rattle.sbl_semantics.specs.Items.{Known, Body, known_in, class_of, classes_behind, body_named}
+use Rattle.sbl_semantics.specs.Meaning as meaning
 use Rattle.sbl_machine.specs.Numbered.{numbered_script}
 use Rattle.sbl_compiler.specs.Numbered.{numbered_items, plan_with}
 use Rattle.sbl_compiler.specs.NumberedNames.{Names, names_behind, no_names, number_of}
 use Rattle.sbl_interpreter.specs.Start.{ending_of, start}
 use Rattle.sbl_program.specs.Program as programs
-use Rattle.sbl_compiler.specs.Regions.{behind, behind_others}
+use Rattle.sbl_semantics.specs.Regions.{behind, behind_others}
 use Rattle.sbl_interpreter.specs.Run as run
-use Rattle.sbl_interpreter.specs.Run.{enter, leave, paid, does}
-use Rattle.sbl_interpreter.specs.State.{State, Ending, Doing}
+use Rattle.sbl_semantics.specs.Control.{enter, leave, paid}
+use Rattle.sbl_interpreter.specs.Run.{does}
+use Rattle.sbl_semantics.specs.State.{State, Ending, Doing}
 use Rattle.sbl_machine.proofs.SoundActs.{row_sound}
 use Rattle.sbl_compiler.proofs.SoundItems.{strings_are, integers_are, booleans_are, groupings_are, routines_are, placed_by, as_made}
 use Rattle.sbl_machine.proofs.SoundParts.{Agree}
 use Rattle.sbl_compiler.proofs.Own.{class_same, routine_same}
-use Rattle.sbl_script.specs.Parsed.{Source}
+use Rattle.sbl_ast.specs.Source.{Source}
 use Rattle.sbl_ast.specs.declared.mode.Mode.{Mode}
 use Rattle.sbl_ast.specs.declared.mode.Mode.TheVariants.{Forward}
 

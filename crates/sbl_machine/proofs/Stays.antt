@@ -2,7 +2,7 @@
 use Rattle.std.proofs.Common.{◌≡◌, ℕ, ℤ, zero, suc, ◌+◌, ◌-◌, Bool, true, false, List, length, refl, Option, Some, None, Ok, Err}
 use Rattle.std.specs.Prelude.{slice_get, nat_lt, nat_le, nat_eq, if◌then◌else◌, ◌&&◌}
 use Rattle.std.specs.List.{starts_with}
-use Rattle.sbl_among_search.specs.Fitting.{read_as}
+use Rattle.sbl_semantics.specs.Fitting.{read_as}
 use Rattle.sbl_ast.specs.declared.tree.Assignment.{Assignment}
 use Rattle.sbl_ast.specs.declared.tree.Comparison.{Comparison}
 use Rattle.sbl_ast.specs.declared.tree.Move.{Move}
@@ -14,16 +14,16 @@ use Rattle.sbl_ast.specs.declared.tree.Splice.TheVariants as edits
 use Rattle.sbl_ast.specs.declared.tree.DeclarationKind.TheVariants as kinds
 use Rattle.sbl_ast.specs.declared.mode.Mode.{Mode}
 use Rattle.sbl_ast.specs.declared.mode.Mode.TheVariants.{Forward, Backward}
-use Rattle.sbl_compiler.specs.Items.{Known, place_of}
-use Rattle.sbl_interpreter.specs.declared.state.SavedCursor.{SavedCursor}
-use Rattle.sbl_interpreter.specs.declared.state.Limits.{Limits}
-use Rattle.sbl_interpreter.specs.declared.touch.Touch.{Touch}
-use Rattle.sbl_machine.specs.Meaning.{moved_does, assigned_does, altered, compared_does, named_does, edited_does}
-use Rattle.sbl_interpreter.specs.Moves.{match, next_is, one_of, next, hop, at_mark, to_mark}
-use Rattle.sbl_interpreter.specs.Numbers.{Value, with_value, integer_at, natural, given}
-use Rattle.sbl_interpreter.specs.Run.{found, limit_here, limit_back}
-use Rattle.sbl_interpreter.specs.Slices.{is_slice, left_bracket, right_bracket, replace, keep, put_in, insert, attach}
-use Rattle.sbl_interpreter.specs.State.{State, Ending, Signals, Stops, pay, ahead, room, moved, at_place, at_difference, to_limit, put_back, step_over}
+use Rattle.sbl_semantics.specs.Items.{Known, place_of}
+use Rattle.sbl_semantics.specs.declared.cursor.SavedCursor.{SavedCursor}
+use Rattle.sbl_semantics.specs.declared.limits.Limits.{Limits}
+use Rattle.sbl_semantics.specs.declared.touch.Touch.{Touch}
+use Rattle.sbl_semantics.specs.Meaning.{moved_does, assigned_does, altered, compared_does, named_does, edited_does}
+use Rattle.sbl_semantics.specs.Moves.{match, next_is, one_of, next, hop, at_mark, to_mark}
+use Rattle.sbl_semantics.specs.Numbers.{Value, with_value, integer_at, natural, given}
+use Rattle.sbl_semantics.specs.Control.{found, limit_here, limit_back}
+use Rattle.sbl_semantics.specs.Slices.{is_slice, left_bracket, right_bracket, replace, keep, put_in, insert, attach}
+use Rattle.sbl_semantics.specs.State.{State, Ending, Signals, Stops, pay, ahead, room, moved, at_place, at_difference, to_limit, put_back, step_over}
 
 -- the part of a state that only calls and searches change
 pub record Rest : Type 0 where

@@ -1,13 +1,13 @@
 -- What is done with more steps left: the same, unless it ended for want of them.
 use Rattle.std.proofs.Common.{◌≡◌, ℕ, zero, suc, ◌+◌, ◌-◌, ◌<◌, ◌≤◌, Bool, true, false, Ok, Err, None, refl, sym, ap, subst, arith}
 use Rattle.std.specs.Prelude.{ℤ, length, nat_le, nat_lt, if◌then◌else◌}
-use Rattle.sbl_interpreter.specs.declared.fault.RunFault.{RunFault}
-use Rattle.sbl_interpreter.specs.declared.fault.RunFault.TheVariants as faults
-use Rattle.sbl_interpreter.specs.declared.state.SavedCursor.{SavedCursor}
-use Rattle.sbl_interpreter.specs.Moves.{next}
-use Rattle.sbl_interpreter.specs.Numbers.{Value, given}
-use Rattle.sbl_interpreter.specs.Run.{turns, times, seeks, found, paid}
-use Rattle.sbl_interpreter.specs.State.{State, Ending, Signals, Stops, Doing, after, then_on, pay, at_place, at_difference, to_limit, room, saved_cursor, put_back, step_over, place_after}
+use Rattle.sbl_semantics.specs.declared.fault.RunFault.{RunFault}
+use Rattle.sbl_semantics.specs.declared.fault.RunFault.TheVariants as faults
+use Rattle.sbl_semantics.specs.declared.cursor.SavedCursor.{SavedCursor}
+use Rattle.sbl_semantics.specs.Moves.{next}
+use Rattle.sbl_semantics.specs.Numbers.{Value, given}
+use Rattle.sbl_semantics.specs.Control.{turns, times, seeks, found, paid}
+use Rattle.sbl_semantics.specs.State.{State, Ending, Signals, Stops, Doing, after, then_on, pay, at_place, at_difference, to_limit, room, saved_cursor, put_back, step_over, place_after}
 use Rattle.sbl_ast.specs.declared.mode.Mode.{Mode}
 use Rattle.sbl_ast.specs.declared.mode.Mode.TheVariants.{Forward, Backward}
 

@@ -21,19 +21,19 @@ use Rattle.sbl_ast.specs.declared.tree.Simple.TheVariants as simples
 use Rattle.sbl_ast.specs.declared.tree.Splice.{Splice}
 use Rattle.sbl_ast.specs.declared.tree.Splice.TheVariants as edits
 use Rattle.sbl_ast.specs.Tree as trees
-use Rattle.sbl_among_search.specs.Fitting.{read_as, ahead_at}
-use Rattle.sbl_compiler.specs.Items.{Known, place_of}
-use Rattle.sbl_compiler.specs.Regions.{Among}
-use Rattle.sbl_interpreter.specs.declared.fault.RunFault.TheVariants as faults
-use Rattle.sbl_interpreter.specs.declared.state.Limits.{Limits}
-use Rattle.sbl_machine.specs.Meaning as meaning
-use Rattle.sbl_machine.specs.Meaning.{Offer, prefixed_does, counted_does, joined_does, limited_does, simple_does, moved_does, assigned_does, compared_does, named_does, edited_does, begins, takes, tried, search}
-use Rattle.sbl_interpreter.specs.Moves.{match, next_is, one_of, hop, at_mark, to_mark}
-use Rattle.sbl_interpreter.specs.Numbers.{Value, fitted, natural, with_value, integer_at}
-use Rattle.sbl_interpreter.specs.Run.{turns, times, count_of, limits, limited, limit_here, limit_back, backwards_from, backwards_end, chosen, paid}
-use Rattle.sbl_interpreter.specs.Search.{take_string, touch_among}
-use Rattle.sbl_interpreter.specs.Slices.{is_slice, replaced, replace, keep, inserted, put_in}
-use Rattle.sbl_interpreter.specs.State.{State, bound_of, Ending, Signals, Stops, Doing, ahead, after, then_on, room, saved_cursor, place_after, put_back}
+use Rattle.sbl_semantics.specs.Fitting.{read_as, ahead_at}
+use Rattle.sbl_semantics.specs.Items.{Known, place_of}
+use Rattle.sbl_semantics.specs.Regions.{Among}
+use Rattle.sbl_semantics.specs.declared.fault.RunFault.TheVariants as faults
+use Rattle.sbl_semantics.specs.declared.limits.Limits.{Limits}
+use Rattle.sbl_semantics.specs.Meaning as meaning
+use Rattle.sbl_semantics.specs.Meaning.{Offer, prefixed_does, counted_does, joined_does, limited_does, simple_does, moved_does, assigned_does, compared_does, named_does, edited_does, begins, takes, tried, search}
+use Rattle.sbl_semantics.specs.Moves.{match, next_is, one_of, hop, at_mark, to_mark}
+use Rattle.sbl_semantics.specs.Numbers.{Value, fitted, natural, with_value, integer_at}
+use Rattle.sbl_semantics.specs.Control.{turns, times, count_of, limits, limited, limit_here, limit_back, backwards_from, backwards_end, chosen, paid}
+use Rattle.sbl_semantics.specs.Choices.{take_string, touch_among}
+use Rattle.sbl_semantics.specs.Slices.{is_slice, replaced, replace, keep, inserted, put_in}
+use Rattle.sbl_semantics.specs.State.{State, bound_of, Ending, Signals, Stops, Doing, ahead, after, then_on, room, saved_cursor, place_after, put_back}
 use Rattle.sbl_machine.proofs.Steps.{more, Goes, Steady, Pays, signals_go, steady_goes, then_goes, if_goes, given_goes, pays_go, paid_go, at_place_go, to_limit_go, put_back_go, place_after_go, next_go, turns_goes, times_go, seeks_goes}
 use Rattle.std.proofs.Math.Path.{fun_ext}
 use Rattle.sbl_ast.specs.declared.tree.DeclarationKind.TheVariants as kinds

@@ -1,14 +1,14 @@
 -- Where a limit is enough, each limit of at least the steps that were used is.
 use Rattle.std.proofs.Common.{◌≡◌, ◌⊎◌, inl, inr, ℕ, zero, suc, ◌+◌, ◌-◌, ◌<◌, ◌≤◌, List, [], refl, sym, ap, subst, ◌∙◌, arith}
-use Rattle.sbl_interpreter.specs.declared.fault.RunFault.TheVariants as faults
+use Rattle.sbl_semantics.specs.declared.fault.RunFault.TheVariants as faults
 use Rattle.sbl_machine.specs.EnoughSteps.{RefusedForSteps, UsedStepsSuffice, UsedStepsTouch}
-use Rattle.sbl_machine.specs.Meaning as meaning
-use Rattle.sbl_machine.specs.Outcome.{Refused, outcome_at, touched_at, used_at, run_of, touches_of, used_of}
-use Rattle.sbl_interpreter.specs.State.{State, Ending, Signals, Stops}
+use Rattle.sbl_semantics.specs.Meaning as meaning
+use Rattle.sbl_semantics.specs.Outcome.{Refused, outcome_at, touched_at, used_at, run_of, touches_of, used_of}
+use Rattle.sbl_semantics.specs.State.{State, Ending, Signals, Stops}
 use Rattle.sbl_machine.proofs.Steps.{Within, Goes}
 use Rattle.sbl_machine.proofs.StepsRuns.{calls_go}
-use Rattle.sbl_compiler.specs.Items.{known_in, class_of, classes_behind, body_named}
-use Rattle.sbl_script.specs.Parsed.{Source}
+use Rattle.sbl_semantics.specs.Items.{known_in, class_of, classes_behind, body_named}
+use Rattle.sbl_ast.specs.Source.{Source}
 use Rattle.sbl_ast.specs.Order.{in_order}
 use Rattle.sbl_ast.specs.declared.mode.Mode.TheVariants.{Forward}
 

@@ -4,15 +4,15 @@ use Rattle.std.specs.Prelude.{slice_index_or}
 use Rattle.sbl_ast.specs.declared.tree.DeclarationKind.TheVariants as kinds
 use Rattle.sbl_ast.specs.Tree as trees
 use Rattle.sbl_ast.specs.Tree.{bracket, simple_, literal_, name_, non_, prefixed, counted, move_, named, splice_, setlimit_, assign_, compare_, compare_values_, among_, no_rows, row, no_others, joined, no_starter, starter, bare, group}
-use Rattle.sbl_compiler.specs.Items.{Known, Body, place_of, is_among}
-use Rattle.sbl_compiler.specs.Regions.{Among, among_at, behind, behind_rows, behind_others, behind_starter, first, first_rows, first_others, mode_behind, waits, waits_others}
-use Rattle.sbl_machine.specs.Meaning as meaning
-use Rattle.sbl_machine.specs.Meaning.{begins, joined_does, search}
-use Rattle.sbl_interpreter.specs.Moves.{touch_grouping}
-use Rattle.sbl_interpreter.specs.Numbers.{integer_at}
-use Rattle.sbl_interpreter.specs.Run.{chosen, back_in, enter, paid}
-use Rattle.sbl_interpreter.specs.Search.{choice}
-use Rattle.sbl_interpreter.specs.State.{Signals, Doing}
+use Rattle.sbl_semantics.specs.Items.{Known, Body, place_of, is_among}
+use Rattle.sbl_semantics.specs.Regions.{Among, among_at, behind, behind_rows, behind_others, behind_starter, first, first_rows, first_others, mode_behind, waits, waits_others}
+use Rattle.sbl_semantics.specs.Meaning as meaning
+use Rattle.sbl_semantics.specs.Meaning.{begins, joined_does, search}
+use Rattle.sbl_semantics.specs.Moves.{touch_grouping}
+use Rattle.sbl_semantics.specs.Numbers.{integer_at}
+use Rattle.sbl_semantics.specs.Control.{chosen, back_in, enter, paid}
+use Rattle.sbl_semantics.specs.Choices.{choice}
+use Rattle.sbl_semantics.specs.State.{Signals, Doing}
 use Rattle.sbl_machine.proofs.Steps.{more, Goes, Steady, signals_go, steady_goes, if_goes, pays_go, paid_pays}
 use Rattle.sbl_machine.proofs.StepsActs.{edited_go, named_go, match_go, class_go, moved_goes, simple_go, assigned_goes, compared_goes, text_more, worth_more, prefixed_go, counted_goes, joined_go, limited_go, begins_go, chosen_goes, search_go}
 use Rattle.sbl_ast.specs.declared.mode.Mode.{Mode}

@@ -11,9 +11,9 @@ use Rattle.sbl_machine.specs.Searches.{strings_read, amongs_of, TablesDiffer, Se
 use Rattle.sbl_compiler.specs.Laws.{names_in}
 use Rattle.sbl_compiler.specs.NumberedAmongs.{Found, strings_in, strings_behind, found_of, found, found_rows, found_others, found_starter, found_groups, found_plain, found_behind}
 use Rattle.sbl_compiler.specs.NumberedNames.{Names}
-use Rattle.sbl_compiler.specs.Regions.{mode_behind}
+use Rattle.sbl_semantics.specs.Regions.{mode_behind}
 use Rattle.sbl_resolver.specs.Amongs.{text_of, texts_of, IsSound, EachAmong, EachAmongOfRows, EachAmongOfOthers, EachAmongOfStarter, EachAmongOfGroups, EachAmongOfPlain, EachAmongOfPlains, EachAmongOfItems, AmongsAreSound}
-use Rattle.sbl_among_search.specs.Fitting.{fitting, read_all}
+use Rattle.sbl_semantics.specs.Fitting.{fitting, read_all}
 use Rattle.sbl_among_search.specs.Laws.{AllDiffer, FittingAreMatches, Matches, StandsIn}
 use Rattle.sbl_ast.specs.Order.{ItemInMode, in_mode, in_order}
 use Rattle.sbl_ast.specs.Tree as trees

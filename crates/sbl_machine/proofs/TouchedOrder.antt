@@ -7,7 +7,7 @@ use Rattle.std.specs.Ordering.{match_ordering, nat_cmp, ordering_then}
 use Rattle.std.specs.Cmp.Lexicographic.{slice_cmp}
 use Rattle.std.specs.BTreeSet.{insert_key}
 use Rattle.std.proofs.lemmas.Map.Lookups.{exact_bytes, exact_unsigned}
-use Rattle.sbl_machine.specs.Touched.{Item', Routine, Among, Grouping, item_cmp, ordered}
+use Rattle.sbl_semantics.specs.Touched.{Item', Routine, Among, Grouping, item_cmp, ordered}
 
 then_equal : (o p : Ordering) → ordering_then o p ≡ Equal → (o ≡ Equal) × (p ≡ Equal)
 then_equal Less p h = let never : Less ≡ Equal = h in absurd cc

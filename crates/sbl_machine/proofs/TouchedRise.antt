@@ -11,8 +11,8 @@ use Rattle.std.specs.BTreeSet.{insert_key}
 use Rattle.std.proofs.Math.Path.{fun_ext}
 use Rattle.std.proofs.lemmas.Cmp.{nat_cmp_total, nat_list_cmp_total, on_total, then_total}
 use Rattle.sbl_machine.specs.Frame.{TouchedRise}
-use Rattle.sbl_machine.specs.Outcome.{touches_of}
-use Rattle.sbl_machine.specs.Touched.{Item', Routine, Among, Grouping, item_cmp, named, ordered, names_of, touched_of}
+use Rattle.sbl_semantics.specs.Outcome.{touches_of}
+use Rattle.sbl_semantics.specs.Touched.{Item', Routine, Among, Grouping, item_cmp, named, ordered, names_of, touched_of}
 
 -- ---- the order of items is that of their kinds, then of their names, then of their numbers
 

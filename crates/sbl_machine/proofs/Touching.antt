@@ -3,9 +3,9 @@ use Rattle.std.proofs.Common.{◌≡◌, ℕ, zero, suc, Bool, true, false, List
 use Rattle.std.specs.Prelude.{nat_eq, if◌then◌else◌, ◌&&◌, slice_index_or}
 use Rattle.std.specs.List.{list_any}
 use Rattle.std.proofs.lemmas.Bool.{true≢false, or_cases, or_left, or_right, eqb-true}
-use Rattle.sbl_interpreter.specs.declared.touch.Touch.{Touch}
-use Rattle.sbl_interpreter.specs.declared.touch.Touch.TheVariants.{Entered, Searched, Tested}
-use Rattle.sbl_interpreter.specs.Touches.{same_touch, with_touch}
+use Rattle.sbl_semantics.specs.declared.touch.Touch.{Touch}
+use Rattle.sbl_semantics.specs.declared.touch.Touch.TheVariants.{Entered, Searched, Tested}
+use Rattle.sbl_semantics.specs.Touches.{same_touch, with_touch}
 
 pub both_true : (a b : Bool) → (a && b) ≡ true → (a ≡ true) × (b ≡ true)
 both_true true b h = (refl, h)

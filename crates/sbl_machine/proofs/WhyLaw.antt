@@ -1,14 +1,14 @@
 -- A run that records its events gives the same for as many steps, and touches the same.
 use Rattle.std.proofs.Common.{◌≡◌, ℕ, suc, ◌+◌, ◌-◌, ◌<◌, List, [], Some, refl, sym, ap, subst, ◌∙◌, arith}
-use Rattle.sbl_interpreter.specs.declared.fault.RunFault.TheVariants as faults
-use Rattle.sbl_machine.specs.Meaning as meaning
-use Rattle.sbl_machine.specs.Outcome.{integers_at, integers_of, outcome_at, touched_at, used_at, run_of, touches_of, used_of}
+use Rattle.sbl_semantics.specs.declared.fault.RunFault.TheVariants as faults
+use Rattle.sbl_semantics.specs.Meaning as meaning
+use Rattle.sbl_semantics.specs.Outcome.{integers_at, integers_of, outcome_at, touched_at, used_at, run_of, touches_of, used_of}
 use Rattle.sbl_machine.specs.Why.{EventsChangeNothing}
-use Rattle.sbl_interpreter.specs.State.{State, Ending, Signals, Stops}
+use Rattle.sbl_semantics.specs.State.{State, Ending, Signals, Stops}
 use Rattle.sbl_machine.proofs.Steps.{Goes}
 use Rattle.sbl_machine.proofs.StepsRuns.{calls_go}
-use Rattle.sbl_compiler.specs.Items.{known_in, class_of, classes_behind, body_named}
-use Rattle.sbl_script.specs.Parsed.{Source}
+use Rattle.sbl_semantics.specs.Items.{known_in, class_of, classes_behind, body_named}
+use Rattle.sbl_ast.specs.Source.{Source}
 use Rattle.sbl_ast.specs.Order.{in_order}
 use Rattle.sbl_ast.specs.declared.mode.Mode.TheVariants.{Forward}
 

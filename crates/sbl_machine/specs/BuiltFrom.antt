@@ -3,11 +3,11 @@ use Rattle.std.specs.Prelude.{◌≡◌, ℕ, Bool, true, false, ◌||◌, List,
 use Rattle.std.specs.List.{AllByRecursion, list_any}
 use Rattle.sbl_ast.specs.Order.{ItemInMode, in_order}
 use Rattle.sbl_ast.specs.Tree.{Argument, written_out, by_name, Term, term, Plain, grouping}
-use Rattle.sbl_compiler.specs.Items.{is_among}
+use Rattle.sbl_semantics.specs.Items.{is_among}
 use Rattle.sbl_resolver.specs.Checks.{WellDeclared}
-use Rattle.sbl_machine.specs.Outcome.{touches_of}
-use Rattle.sbl_machine.specs.Touched.{Item', Grouping, named, names_of, same_item}
-use Rattle.sbl_script.specs.Parsed.{Source}
+use Rattle.sbl_semantics.specs.Outcome.{touches_of}
+use Rattle.sbl_semantics.specs.Touched.{Item', Grouping, named, names_of, same_item}
+use Rattle.sbl_ast.specs.Source.{Source}
 
 -- ---- terms that name a grouping
 

@@ -6,8 +6,8 @@ use Rattle.sbl_machine.specs.BuiltFrom.{IsClosed, affected, affected_by, meets, 
 use Rattle.sbl_machine.specs.Differs.{differs}
 use Rattle.sbl_machine.specs.Frame.{AgreeOutside, StaysAsItWas}
 use Rattle.sbl_machine.specs.Marks.{has_item}
-use Rattle.sbl_machine.specs.Touched.{Item', names_of}
-use Rattle.sbl_script.specs.Parsed.{Source}
+use Rattle.sbl_semantics.specs.Touched.{Item', names_of}
+use Rattle.sbl_ast.specs.Source.{Source}
 
 -- ---- when there is a list of differing items
 

@@ -1,8 +1,8 @@
 -- A run that does not reach its limit does not depend on it.
 use Rattle.std.specs.Prelude.{◌≡◌, ◌↔◌, ℕ, ◌<◌, ◌≤◌, List}
-use Rattle.sbl_interpreter.specs.declared.fault.RunFault.TheVariants.{Steps}
-use Rattle.sbl_machine.specs.Outcome.{Refused, run_of, touches_of, used_of}
-use Rattle.sbl_script.specs.Parsed.{Source}
+use Rattle.sbl_semantics.specs.declared.fault.RunFault.TheVariants.{Steps}
+use Rattle.sbl_semantics.specs.Outcome.{Refused, run_of, touches_of, used_of}
+use Rattle.sbl_ast.specs.Source.{Source}
 
 -- a run is refused for its steps exactly if it used more than its limit
 abbrev pub RefusedForSteps : Type 0

@@ -5,10 +5,11 @@ use Rattle.std.specs.List.Sorted.{IsStrictlySortedBy}
 use Rattle.sbl_resolver.specs.Checks.{WellDeclared}
 use Rattle.sbl_machine.specs.BuiltFrom.{IsClosed, affected, affected_by, meets, meets_one}
 use Rattle.sbl_machine.specs.Holes.{holed_script}
-use Rattle.sbl_machine.specs.Outcome.{run_of, used_of, touches_of}
-use Rattle.sbl_machine.specs.Touched.{Item', item_cmp, named, replaced, same_item, touched_of, touches, names_of}
+use Rattle.sbl_semantics.specs.Outcome.{run_of, used_of, touches_of}
+use Rattle.sbl_semantics.specs.Touched.{Item', item_cmp, named, same_item, touched_of, touches, names_of}
+use Rattle.sbl_machine.specs.EditedItem.{replaced}
 use Rattle.sbl_script.specs.Edits.{ScriptEdit, IsEdited}
-use Rattle.sbl_script.specs.Parsed.{Source}
+use Rattle.sbl_ast.specs.Source.{Source}
 
 -- Two scripts agree outside the picked items if they are equal after each picked item is replaced by a hole. A hole
 -- keeps the number of amongs of an among.

@@ -5,9 +5,9 @@ use Rattle.sbl_ast.specs.Order.{ItemInMode, in_order}
 use Rattle.sbl_ast.specs.declared.mode.Mode.{Mode}
 use Rattle.sbl_ast.specs.declared.tree.Additive.TheVariants.{Plus, Minus}
 use Rattle.sbl_ast.specs.Tree.{Argument, written_out, by_name, Term, term, grouping}
-use Rattle.sbl_compiler.specs.Items.{Grouping, class_of, classes_behind, term_has, terms_have}
+use Rattle.sbl_semantics.specs.Items.{Grouping, class_of, classes_behind, term_has, terms_have}
 use Rattle.sbl_resolver.specs.Checks.{WellDeclared}
-use Rattle.sbl_script.specs.Parsed.{Source}
+use Rattle.sbl_ast.specs.Source.{Source}
 
 -- all groupings of a script
 abbrev pub groupings_of : Source → List Grouping

@@ -1,9 +1,9 @@
 -- A script with holes in place of some of its items. Of an among the hole keeps only how many amongs it holds; of a
 -- routine or a grouping, only the name.
 use Rattle.std.specs.Prelude.{ℕ, suc, Bool, [], map, None, if◌then◌else◌}
-use Rattle.sbl_machine.specs.Touched.{Item', Routine, Among, Grouping}
-use Rattle.sbl_compiler.specs.Regions.{behind, behind_others, behind_rows, behind_starter}
-use Rattle.sbl_script.specs.Parsed.{Source}
+use Rattle.sbl_semantics.specs.Touched.{Item', Routine, Among, Grouping}
+use Rattle.sbl_semantics.specs.Regions.{behind, behind_others, behind_rows, behind_starter}
+use Rattle.sbl_ast.specs.Source.{Source}
 use Rattle.sbl_ast.specs.Terminal.{Quoted}
 use Rattle.sbl_ast.specs.Tree as trees
 use Rattle.sbl_ast.specs.Tree.{Plain, Item, bracket, prefixed, counted, setlimit_, among_, no_rows, row, no_others, joined, no_starter, starter, bare, group, entry, written_out, routine, grouping, plain, backward}

@@ -1,8 +1,5 @@
 -- definitions that the contracts of public functions use
-pub mod Meaning
-pub mod Outcome
-pub mod Limit
-pub mod Touched
+pub mod EditedItem
 pub mod BuiltFrom
 pub mod Why
 pub mod Holes

@@ -2,12 +2,12 @@
 use Rattle.std.specs.Prelude.{ℕ, zero, suc, Bool, List, [], ◌∷◌, ◌++◌, if◌then◌else◌}
 use Rattle.sbl_ast.specs.Order.{ItemInMode}
 use Rattle.sbl_compiler.specs.NumberedNames.{is_one_of}
-use Rattle.sbl_interpreter.specs.declared.touch.Touch.{Touch}
-use Rattle.sbl_interpreter.specs.declared.touch.Touch.TheVariants.{Entered, Searched, Tested}
-use Rattle.sbl_interpreter.specs.Touches.{with_touch}
+use Rattle.sbl_semantics.specs.declared.touch.Touch.{Touch}
+use Rattle.sbl_semantics.specs.declared.touch.Touch.TheVariants.{Entered, Searched, Tested}
+use Rattle.sbl_semantics.specs.Touches.{with_touch}
 use Rattle.sbl_machine.specs.AmongList.{with_number}
 use Rattle.sbl_machine.specs.BuiltFrom.{built_behind}
-use Rattle.sbl_machine.specs.Touched.{Item', Routine, Among, Grouping, Names'}
+use Rattle.sbl_semantics.specs.Touched.{Item', Routine, Among, Grouping, Names'}
 
 -- ---- the names of the routines and of the groupings among some items, and the amongs of each routine
 

@@ -1,13 +1,14 @@
 -- What an edit affects, by number.
 use Rattle.std.specs.Prelude.{◌≡◌, ℕ, Bool, true, List}
 use Rattle.std.specs.List.{list_any}
-use Rattle.sbl_compiler.specs.Items.{is_among}
-use Rattle.sbl_interpreter.specs.declared.touch.Touch.{Touch}
-use Rattle.sbl_interpreter.specs.Touches.{same_touch}
+use Rattle.sbl_semantics.specs.Items.{is_among}
+use Rattle.sbl_semantics.specs.declared.touch.Touch.{Touch}
+use Rattle.sbl_semantics.specs.Touches.{same_touch}
 use Rattle.sbl_script.specs.Edits.{ScriptEdit, IsEdited}
-use Rattle.sbl_script.specs.Parsed.{Source}
+use Rattle.sbl_ast.specs.Source.{Source}
 use Rattle.sbl_machine.specs.BuiltFrom.{affected_by}
-use Rattle.sbl_machine.specs.Touched.{Item', Routine, Among, Grouping, Names', named, names_of, replaced}
+use Rattle.sbl_semantics.specs.Touched.{Item', Routine, Among, Grouping, Names', named, names_of}
+use Rattle.sbl_machine.specs.EditedItem.{replaced}
 
 -- whether a script defines the routine or the grouping of an item
 abbrev pub has_item : Names' → Item' → Bool

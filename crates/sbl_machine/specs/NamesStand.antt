@@ -3,10 +3,10 @@ use Rattle.std.specs.Prelude.{◌≡◌, ◌⊎◌, ℕ, true, List, ◌∷◌, 
 use Rattle.sbl_ast.specs.Order.{ItemInMode, in_order}
 use Rattle.sbl_ast.specs.declared.tree.DeclarationKind.TheVariants as kinds
 use Rattle.sbl_ast.specs.declared.mode.Mode.{Mode}
-use Rattle.sbl_compiler.specs.Items.{Body, body_named, known_in, is_among}
+use Rattle.sbl_semantics.specs.Items.{Body, body_named, known_in, is_among}
 use Rattle.sbl_resolver.specs.Checks.{WellDeclared}
 use Rattle.sbl_resolver.specs.Occurrences.{Occurrence, uses, occurrences_of}
-use Rattle.sbl_script.specs.Parsed.{Source}
+use Rattle.sbl_ast.specs.Source.{Source}
 use Rattle.sbl_resolver.specs.declared.occurrences.Site.{Site}
 use Rattle.sbl_resolver.specs.declared.occurrences.Use.{Use}
 use Rattle.sbl_resolver.specs.declared.occurrences.Use.TheVariants as use_as

@@ -1,13 +1,13 @@
 -- Searches in a well-declared script.
 use Rattle.std.specs.Prelude.{◌↔◌, ℕ, List, []}
 use Rattle.std.specs.List.{AllByRecursion}
-use Rattle.sbl_among_search.specs.Fitting.{fitting, read_all}
+use Rattle.sbl_semantics.specs.Fitting.{fitting, read_all}
 use Rattle.sbl_among_search.specs.Laws.{AllDiffer, Matches, StandsIn}
 use Rattle.sbl_ast.specs.Order.{in_order}
 use Rattle.sbl_compiler.specs.Laws.{names_in}
 use Rattle.sbl_compiler.specs.NumberedAmongs.{Found, found_behind}
 use Rattle.sbl_resolver.specs.Checks.{WellDeclared}
-use Rattle.sbl_script.specs.Parsed.{Source}
+use Rattle.sbl_ast.specs.Source.{Source}
 
 -- the amongs of a script; each has a table
 abbrev pub amongs_of : Source → List Found

@@ -1,9 +1,9 @@
 -- The program of a script runs as the script does.
 use Rattle.std.specs.Prelude.{◌≡◌, ℕ, List}
-use Rattle.sbl_machine.specs.Meaning.{ending}
+use Rattle.sbl_semantics.specs.Meaning.{ending}
 use Rattle.sbl_interpreter.specs.Start.{ending_of}
 use Rattle.sbl_machine.specs.Numbered.{numbered_script}
-use Rattle.sbl_script.specs.Parsed.{Source}
+use Rattle.sbl_ast.specs.Source.{Source}
 
 -- a run of the program of a script is a run of the script
 abbrev pub RunIsSound : Type 0

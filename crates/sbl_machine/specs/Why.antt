@@ -1,26 +1,13 @@
--- Why a word has its stem: the events of its run, in order.
-use Rattle.std.specs.Prelude.{◌≡◌, ℕ, Bool, true, false, List, [], ◌∷◌, Option, Some, None}
+-- Why a word has its stem: laws of the events of its run.
+use Rattle.std.specs.Prelude.{◌≡◌, ℕ, Bool, true, false, List, [], ◌∷◌}
 use Rattle.std.specs.List.{filter, splice}
-use Rattle.sbl_machine.specs.Meaning.{ending_with_events}
-use Rattle.sbl_machine.specs.Outcome.{Outcome', Stem, integers_at, integers_of, outcome_at, touched_at, used_at, run_of, touches_of, used_of}
-use Rattle.sbl_interpreter.specs.Events.{Event', Enters, Searches, Puts}
-use Rattle.sbl_interpreter.specs.State.{Ending, Signals, Stops}
-use Rattle.sbl_interpreter.specs.Touches.{with_touch}
-use Rattle.sbl_interpreter.specs.declared.touch.Touch.{Touch}
-use Rattle.sbl_interpreter.specs.declared.touch.Touch.TheVariants.{Entered, Searched, Tested}
-use Rattle.sbl_script.specs.Parsed.{Source}
-
-abbrev pub events_in : Option (List Event') → List Event'
-events_in None = []
-events_in (Some xs) = xs
-
-abbrev pub events_at : Ending → List Event'
-events_at (Signals b s) = events_in s.events
-events_at (Stops fault s) = events_in s.events
-
--- the events of a run of a script on a word, with this limit, up to its end or to where it is refused
-unfoldable pub events_of : Source → List ℕ → ℕ → List Event'
-events_of script word limit = events_at (ending_with_events script word limit)
+use Rattle.sbl_semantics.specs.Meaning.{ending_with_events}
+use Rattle.sbl_semantics.specs.Outcome.{Stem, integers_at, integers_of, outcome_at, touched_at, used_at, run_of, touches_of, used_of, events_of}
+use Rattle.sbl_semantics.specs.Events.{Event', Enters, Searches, Puts}
+use Rattle.sbl_semantics.specs.Touches.{with_touch}
+use Rattle.sbl_semantics.specs.declared.touch.Touch.{Touch}
+use Rattle.sbl_semantics.specs.declared.touch.Touch.TheVariants.{Entered, Searched, Tested}
+use Rattle.sbl_ast.specs.Source.{Source}
 
 -- a run that records its events gives the same outcome, uses the same number of steps, touches the same and leaves the
 -- same in the integer variables as the run that does not

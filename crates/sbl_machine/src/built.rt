@@ -2,7 +2,7 @@
 //! is built from one of them.
 
 ghost use Rattle.std.specs.Prelude.{◌≡◌, map, OnOk, IfOk};
-ghost use Rattle.sbl_compiler.specs.Items.{is_among};
+ghost use Rattle.sbl_semantics.specs.Items.{is_among};
 ghost use Rattle.sbl_ast.specs.Order.{in_order};
 ghost use Rattle.sbl_ast.specs.View.{view_argument, view_items, view_plain, view_term};
 ghost use Rattle.sbl_machine.specs.BuiltFrom as spec;

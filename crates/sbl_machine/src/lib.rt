@@ -4,7 +4,6 @@
 mod among_list;
 mod built;
 mod fault;
-mod item;
 pub mod laws;
 mod limit;
 mod machine;
@@ -14,13 +13,13 @@ mod naming;
 mod outcome;
 
 pub use fault::RunStop;
-pub use item::Item;
 pub use limit::DEFAULT_LIMIT;
 pub use machine::Machine;
 pub use meter::Meter;
-pub use outcome::{Outcome, Ran, Traced, Why};
+pub use outcome::{Ran, Traced, Why};
 pub use sbl_among_search::{AmongSearch, LinkedTable, PlainTable};
-pub use sbl_interpreter::{Event, RunFault, Touch, Touched};
+pub use sbl_interpreter::Touched;
+pub use sbl_semantics::{Event, Item, Outcome, RunFault, Touch};
 
 /// The tables that a program searches.
 pub type Table = LinkedTable;

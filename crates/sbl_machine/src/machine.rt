@@ -3,22 +3,21 @@
 ghost use Rattle.std.specs.Prelude.{◌≡◌, ◌<◌, ◌≤◌, ◌+◌, true, length, map, slice_index_or, [], IfOk, MatchResult, ◌↔◌, Err};
 ghost use Rattle.std.specs.List.{list_all, list_any};
 ghost use Rattle.sbl_interpreter.specs.Kept.{Follows};
-ghost use Rattle.sbl_interpreter.specs.Start.{max_word_length};
+ghost use Rattle.sbl_semantics.specs.Limit.{max_word_length};
 ghost use Rattle.sbl_machine.specs.MachineOf.{IsMachineOf};
 ghost use Rattle.sbl_machine.specs.Marks.{AreMarksOf, has_item};
-ghost use Rattle.sbl_machine.specs.Outcome.{integers_at, integers_of, outcome_at, outcome_of, run_of, touched_at, touches_of, used_at, used_of};
-ghost use Rattle.sbl_machine.specs.Touched.{item_of, items_in, items_of, named, names_of, same_item, touched_of};
-ghost use Rattle.sbl_script.specs.Parsed.{Source, source_of};
-ghost use Rattle.sbl_interpreter.specs.State.{Ending};
-ghost use Rattle.sbl_interpreter.specs.Events.{event_of, view_events};
-ghost use Rattle.sbl_machine.specs.Why.{events_at, events_in, events_of};
+ghost use Rattle.sbl_semantics.specs.Outcome.{integers_at, integers_of, outcome_at, outcome_of, run_of, touched_at, touches_of, used_at, used_of, events_at, events_in, events_of};
+ghost use Rattle.sbl_semantics.specs.Touched.{item_of, items_in, items_of, named, names_of, same_item, touched_of};
+ghost use Rattle.sbl_ast.specs.Source.{Source};
+ghost use Rattle.sbl_script.specs.Parsed.{source_of};
+ghost use Rattle.sbl_semantics.specs.State.{Ending};
+ghost use Rattle.sbl_semantics.specs.Events.{event_of, view_events};
 
 use crate::fault::RunStop;
-use crate::item::Item;
 use crate::marks::marks_of;
 use crate::meter::Meter;
 use crate::naming::{Names, is_touched, items_touched, routine_at};
-use crate::outcome::{Outcome, Ran, Traced, Why};
+use crate::outcome::{Ran, Traced, Why};
 use sbl_among_search::AmongSearch;
 use sbl_ast::Mode;
 use sbl_compiler::{Made, numbered};
@@ -26,6 +25,7 @@ use sbl_interpreter::{Event, Halt, RunFault, Runner, State, TableList, Touch, To
 use sbl_program::Program;
 use sbl_script::Script;
 use sbl_script::laws::is_spelled;
+use sbl_semantics::{Item, Outcome};
 use std::alloc::{AllocError, Global};
 use std::collections::BTreeSet;
 

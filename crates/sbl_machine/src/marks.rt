@@ -2,19 +2,19 @@
 
 ghost use Rattle.std.specs.Prelude.{◌≡◌, ℕ, List, [], map, OnOk, IfOk, string_bytes};
 ghost use Rattle.sbl_compiler.specs.NumberedNames.{is_one_of};
-ghost use Rattle.sbl_interpreter.specs.declared.touch.Touch.TheVariants.{Entered, Searched, Tested};
+ghost use Rattle.sbl_semantics.specs.declared.touch.Touch.TheVariants.{Entered, Searched, Tested};
 ghost use Rattle.sbl_ast.specs.Order.{in_order};
 ghost use Rattle.sbl_ast.specs.View.{view_items};
 ghost use Rattle.sbl_machine.specs.Marking.{amongs_in, and_among, and_grouping, and_routine, groupings_behind, marked, marks_of, routines_behind, searched, searches};
 ghost use Rattle.sbl_machine.specs.AmongList.{numbers_of};
-ghost use Rattle.sbl_machine.specs.Touched.{item_of};
+ghost use Rattle.sbl_semantics.specs.Touched.{item_of};
 
 use crate::among_list::AmongList;
 use crate::built::built_from;
-use crate::item::Item;
 use crate::naming::Names;
 use sbl_compiler::NameList;
 use sbl_interpreter::Touched;
+use sbl_semantics::Item;
 use std::alloc::{AllocError, Global};
 
 // Adds the touch that enters each routine that has one of these names.

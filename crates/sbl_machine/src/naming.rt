@@ -3,10 +3,10 @@
 ghost use Rattle.std.specs.Prelude.{◌≡◌, ◌<◌, IfOk, OnOk, map, string_bytes, slice_index_or, []};
 ghost use Rattle.std.specs.BTreeSet.{insert_key};
 ghost use Rattle.std.specs.List.{list_any};
-ghost use Rattle.sbl_machine.specs.Touched.{item_cmp, item_of, items_in, items_of, named, same_item};
+ghost use Rattle.sbl_semantics.specs.Touched.{item_cmp, item_of, items_in, items_of, named, same_item};
 
-use crate::item::Item;
 use sbl_interpreter::Touch;
+use sbl_semantics::Item;
 use std::alloc::{AllocError, Global};
 use std::collections::BTreeSet;
 use std::marker::Model;
@@ -22,7 +22,7 @@ pub struct Names {
 
 impl Model for Names {
     ghost use Rattle.std.specs.Prelude.{map, string_bytes};
-    ghost use Rattle.sbl_machine.specs.Touched.{Names'};
+    ghost use Rattle.sbl_semantics.specs.Touched.{Names'};
 
     ghost Value = { Names' };
 

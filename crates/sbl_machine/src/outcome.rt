@@ -1,17 +1,7 @@
-//! The result of a run.
+//! The results of a run.
 
-use crate::item::Item;
-use sbl_interpreter::{Event, RunFault, Touch};
+use sbl_semantics::{Event, Item, Outcome, Touch};
 use std::collections::BTreeSet;
-
-/// The outcome of a run of a script on a word.
-#[derive(Debug, Drop, PartialEq, Eq)]
-pub enum Outcome {
-    /// The stem of the word: the text when the external ends.
-    Stem(Vec<char>),
-    /// The run was refused.
-    Refused(RunFault),
-}
 
 /// The outcome of a run, the items that it touched, and the steps that it used.
 #[derive(Debug, Drop, PartialEq, Eq)]

@@ -8,7 +8,7 @@ use Rattle.sbl_text.specs.Tokens.{AreTokensFrom, MayEnd}
 use Rattle.sbl_ast.specs.Terminal.{Terminal, lexeme_as, terminal_of}
 use Rattle.sbl_ast.specs.Tree.{Item, lexemes_of, written}
 use Rattle.sbl_print.specs.Canonical.{canonical}
-use Rattle.sbl_script.specs.Parsed.{Source}
+use Rattle.sbl_ast.specs.Source.{Source}
 use Rattle.sbl_script.proofs.Printed.{Known, tokens_back}
 
 terminals_back : ((x : Terminal) → terminal_of (lexeme_as x) ≡ x) → (us : List Terminal) → map terminal_of (map lexeme_as us) ≡ us

@@ -7,7 +7,7 @@ use Rattle.sbl_ast.specs.Texts.{Text, TreeOf}
 use Rattle.sbl_parser.specs.Reading.{IsReadAs}
 use Rattle.sbl_script.specs.declared.edit_fault.ScriptEditFault.{ScriptEditFault}
 use Rattle.sbl_script.specs.declared.edit_fault.ScriptEditFault.TheVariants as edits
-use Rattle.sbl_script.specs.Parsed.{Source}
+use Rattle.sbl_ast.specs.Source.{Source}
 use Rattle.sbl_resolver.specs.Checks.{fault_of}
 use Rattle.sbl_script.specs.Reading.{IsUnread, terminals}
 use Rattle.sbl_script.specs.Edits.{ScriptEdit, Home, IsEdited, IsSubstituted, IsEditFault, home}

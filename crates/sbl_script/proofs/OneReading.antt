@@ -13,7 +13,7 @@ use Rattle.sbl_ast.specs.Tree.{Item}
 use Rattle.sbl_ast.specs.Texts.{Text, TreeOf, script}
 use Rattle.sbl_parser.specs.Reading.{IsReadAs, IsSyntaxAt, IsTooDeepAt, IsOutOfProfileAt}
 use Rattle.sbl_parser.specs.Laws as grammar
-use Rattle.sbl_script.specs.Parsed.{Source}
+use Rattle.sbl_ast.specs.Source.{Source}
 use Rattle.sbl_resolver.specs.Checks.{fault_of}
 use Rattle.sbl_script.specs.Reading.{HasTokens, IsScriptOf, IsTextFault, IsGrammarFault, IsCheckFault, IsUnread, IsFaultIn, IsFaultOf, first_left_out, place_of, terminals}
 

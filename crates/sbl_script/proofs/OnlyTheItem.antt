@@ -14,7 +14,7 @@ use Rattle.sbl_amongs.specs.Amongs.{Held, amongs_of_body, nth_held, put_in_body}
 use Rattle.sbl_resolver.specs.declared.occurrences.Site.{Site}
 use Rattle.sbl_resolver.specs.Occurrences.{Occurrence, Notice, declares, defines_routine, defines_grouping, uses, substring, among, string, backwards, region_end, noted_items, occurrences_of}
 use Rattle.sbl_script.specs.declared.edit_fault.ScriptEditFault.{ScriptEditFault}
-use Rattle.sbl_script.specs.Parsed.{Source}
+use Rattle.sbl_ast.specs.Source.{Source}
 use Rattle.sbl_script.specs.Reading.{IsCheckFault}
 use Rattle.sbl_resolver.specs.Bodies.{body_in}
 use Rattle.sbl_resolver.specs.Checks.{declared_as, kind_of, defined_at, definition_of, waits_after, is_awaited, is_text, is_text_of, has_text, is_some_and, is_kind, has_external, fault_at, fault_of, WellDeclared}

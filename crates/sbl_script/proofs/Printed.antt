@@ -14,7 +14,7 @@ use Rattle.sbl_parser.specs.Laws.{PlacesAreWritten}
 use Rattle.sbl_ast.specs.Places.{places, AreShallow}
 use Rattle.sbl_print.specs.Canonical.{canonical}
 use Rattle.sbl_print.specs.Spaced.{CanonicalIsSpaced}
-use Rattle.sbl_script.specs.Parsed.{Source}
+use Rattle.sbl_ast.specs.Source.{Source}
 use Rattle.sbl_resolver.specs.Checks.{WellDeclared}
 use Rattle.sbl_script.specs.Printed.{CanonicalIsRead}
 use Rattle.sbl_parser.specs.Profile.{is_left_out}

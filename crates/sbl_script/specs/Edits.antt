@@ -22,7 +22,7 @@ use Rattle.sbl_script.specs.declared.edit_fault.ScriptEditFault.{ScriptEditFault
 use Rattle.sbl_script.specs.declared.edit_fault.ScriptEditFault.TheVariants as edits
 use Rattle.sbl_script.specs.declared.edits.DefinitionKind.{DefinitionKind}
 use Rattle.sbl_script.specs.declared.edits.DefinitionKind.TheVariants as kinds
-use Rattle.sbl_script.specs.Parsed.{Source}
+use Rattle.sbl_ast.specs.Source.{Source}
 use Rattle.sbl_resolver.specs.Checks.{WellDeclared}
 use Rattle.sbl_script.specs.Reading.{HasTokens, IsFaultIn, first_left_out, terminals}
 

@@ -11,7 +11,7 @@ use Rattle.sbl_ast.specs.View.{RowView}
 use Rattle.sbl_script.specs.declared.edit_fault.ScriptEditFault.{ScriptEditFault}
 use Rattle.sbl_script.specs.declared.edit_fault.ScriptEditFault.TheVariants as edits
 use Rattle.sbl_script.specs.declared.edits.DefinitionKind.TheVariants as kinds
-use Rattle.sbl_script.specs.Parsed.{Source}
+use Rattle.sbl_ast.specs.Source.{Source}
 use Rattle.sbl_script.specs.Reading.{IsFaultIn}
 use Rattle.sbl_script.specs.Edits.{Home, defines, home_at, plains_with}
 

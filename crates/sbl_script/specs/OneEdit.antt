@@ -1,7 +1,7 @@
 -- An edit has at most one resulting script and at most one fault.
 use Rattle.std.specs.Prelude.{◌≡◌, ℕ, List}
 use Rattle.sbl_script.specs.declared.edit_fault.ScriptEditFault.{ScriptEditFault}
-use Rattle.sbl_script.specs.Parsed.{Source}
+use Rattle.sbl_ast.specs.Source.{Source}
 use Rattle.sbl_script.specs.Edits.{ScriptEdit, IsEdited, IsEditFault}
 
 abbrev pub EditIsOne : Type 0

@@ -1,7 +1,7 @@
 -- Bytes have at most one script and at most one fault.
 use Rattle.std.specs.Prelude.{◌≡◌, ℕ, List}
 use Rattle.sbl_text.specs.declared.fault.ScriptFault.{ScriptFault}
-use Rattle.sbl_script.specs.Parsed.{Source}
+use Rattle.sbl_ast.specs.Source.{Source}
 use Rattle.sbl_script.specs.Reading.{IsScriptOf, IsFaultOf}
 
 abbrev pub ScriptIsOne : Type 0

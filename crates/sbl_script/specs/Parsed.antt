@@ -1,17 +1,12 @@
 -- A script: its items, and the name of the external that is run.
 use Rattle.std.specs.Prelude.{ℕ, List, Option}
 use Rattle.sbl_ast.specs.declared.tree.ScriptItem as declared
-use Rattle.sbl_ast.specs.Tree.{Item}
 use Rattle.sbl_ast.specs.View.{RowView, view_items}
 use Rattle.sbl_resolver.specs.Bodies.{body_in}
+use Rattle.sbl_ast.specs.Source.{Source}
 
 pub record Parsed : Type 0 where
   pub items : List declared.ScriptItem
-  pub external : List ℕ
-
--- the items of a script in text order, and the name of the external that is run
-pub record Source : Type 0 where
-  pub items : List Item
   pub external : List ℕ
 
 -- the script that the code's value represents

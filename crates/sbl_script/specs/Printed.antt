@@ -5,7 +5,7 @@ use Rattle.sbl_text.specs.Directives.{max_macro}
 use Rattle.sbl_text.specs.Laws.{all_literals}
 use Rattle.sbl_ast.specs.Tree.{lexemes_of}
 use Rattle.sbl_print.specs.Canonical.{canonical}
-use Rattle.sbl_script.specs.Parsed.{Source}
+use Rattle.sbl_ast.specs.Source.{Source}
 use Rattle.sbl_script.specs.Reading.{IsScriptOf, max_script}
 
 -- if this text is the canonical text of the script and is not too long, it is read as that script

@@ -6,7 +6,8 @@ use Rattle.std.specs.declared.vec.Vec.{Vec}
 use Rattle.std.specs.declared.alloc.Global.{Global}
 use Rattle.sbl_text.specs.declared.fault.ScriptFault.{ScriptFault}
 use Rattle.sbl_text.specs.declared.fault.ScriptFault.TheVariants as script
-use Rattle.sbl_script.specs.Parsed.{Parsed, Source, source_of}
+use Rattle.sbl_script.specs.Parsed.{Parsed, source_of}
+use Rattle.sbl_ast.specs.Source.{Source}
 use Rattle.sbl_script.specs.Reading.{IsFaultOf, IsScriptOf}
 use Rattle.sbl_bench.specs.Contents.{IsFaultOrMemory, Contents, Opens, opening_fault}
 use Rattle.sbl_bench.specs.declared.fault.EditFault.{EditFault}

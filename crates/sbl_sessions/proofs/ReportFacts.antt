@@ -14,7 +14,7 @@ use Rattle.sbl_bench.specs.Rows.{Row}
 use Rattle.sbl_bench.specs.Traces.{trace_of}
 use Rattle.sbl_bench.specs.Vocabulary.{is_word}
 use Rattle.sbl_bench.specs.declared.fault.EditFault.TheVariants as fault
-use Rattle.sbl_machine.specs.Touched.{Item', touched_of}
+use Rattle.sbl_semantics.specs.Touched.{Item', touched_of}
 use Rattle.sbl_io.specs.Records.{records_text}
 use Rattle.sbl_sessions.specs.Answers.{Enough, IsReport, IsReportOrAbsent, Memory, RefusedAfter, edit_text}
 use Rattle.sbl_sessions.specs.CommandViews.{IsReply}

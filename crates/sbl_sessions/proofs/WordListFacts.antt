@@ -7,8 +7,8 @@ use Rattle.std.specs.declared.vec.Vec.{Vec}
 use Rattle.std.specs.declared.alloc.Global.{Global}
 use Rattle.std.proofs.lemmas.List.{length-map, map-append}
 use Rattle.indexmap.specs.IndexSet.{insert_key}
-use Rattle.sbl_script.specs.Parsed.{Source}
-use Rattle.sbl_machine.specs.Limit.{default_limit}
+use Rattle.sbl_ast.specs.Source.{Source}
+use Rattle.sbl_semantics.specs.Limit.{default_limit}
 use Rattle.sbl_bench.specs.Contents.{Contents, IsFaultOrMemory, Opens, opening_fault, word_fault}
 use Rattle.sbl_bench.specs.Setting.{under}
 use Rattle.sbl_bench.specs.Vocabulary.{is_skipped, is_word, vocabulary, with_all, with_word}

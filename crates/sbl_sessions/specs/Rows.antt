@@ -3,8 +3,8 @@ use Rattle.std.specs.Prelude.{ℕ, List, [], ◌∷◌, map, codes, Option, Some
 use Rattle.std.specs.List.{find}
 use Rattle.std.specs.Option.{option_map}
 use Rattle.std.specs.Str.{bytes_eq, encode_utf8_all}
-use Rattle.sbl_interpreter.specs.Names.{name_of}
-use Rattle.sbl_machine.specs.Outcome.{Outcome', Stem, Refused}
+use Rattle.sbl_semantics.specs.Names.{name_of}
+use Rattle.sbl_semantics.specs.Outcome.{Outcome', Stem, Refused}
 use Rattle.sbl_bench.specs.Classes.{Class, class_of, classes_of}
 use Rattle.sbl_bench.specs.Rows.{Row, rows_of}
 use Rattle.sbl_bench.specs.Contents.{Contents}

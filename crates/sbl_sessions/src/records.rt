@@ -4,7 +4,7 @@ ghost use Rattle.std.specs.Str.{encode_utf8_all};
 ghost use Rattle.csv.specs.Records.{fields_of, partial_of};
 ghost use Rattle.sbl_bench.specs.Classes.{view_class, words_of};
 ghost use Rattle.sbl_bench.specs.Rows.{view_row};
-ghost use Rattle.sbl_machine.specs.Touched.{item_of};
+ghost use Rattle.sbl_semantics.specs.Touched.{item_of};
 ghost use Rattle.sbl_io.specs.Records as texts;
 ghost use Rattle.sbl_sessions.specs.Rows as spec;
 ghost use Rattle.sbl_sessions.specs.Traces.{item_fields};

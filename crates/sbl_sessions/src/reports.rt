@@ -5,7 +5,7 @@ ghost use Rattle.std.specs.Option.{option_map};
 ghost use Rattle.std.specs.Str.{bytes_eq, chars};
 ghost use Rattle.sbl_bench.specs.Kept.{contents_of};
 ghost use Rattle.sbl_bench.specs.Rows.{view_row};
-ghost use Rattle.sbl_machine.specs.Touched.{items_in};
+ghost use Rattle.sbl_semantics.specs.Touched.{items_in};
 ghost use Rattle.sbl_print.specs.Canonical.{canonical};
 ghost use Rattle.sbl_sessions.specs.Answers.{ended};
 ghost use Rattle.sbl_sessions.specs.CommandViews.{IsAnswer};

@@ -4,9 +4,9 @@ use Rattle.std.specs.Prelude.{if◌then◌else◌}
 use Rattle.std.specs.List.{list_any}
 use Rattle.std.specs.Str.{bytes_eq}
 use Rattle.sbl_machine.specs.BuiltFrom.{affected, and_built, any_names, built_behind, built_from, built_on, names}
-use Rattle.sbl_machine.specs.Touched.{Item', Routine, Among, Grouping, same_item}
-use Rattle.sbl_compiler.specs.Items.{is_among}
-use Rattle.sbl_script.specs.Parsed.{Source}
+use Rattle.sbl_semantics.specs.Touched.{Item', Routine, Among, Grouping, same_item}
+use Rattle.sbl_semantics.specs.Items.{is_among}
+use Rattle.sbl_ast.specs.Source.{Source}
 use Rattle.sbl_ast.specs.Order.{ItemInMode, in_order}
 use Rattle.sbl_ast.specs.Tree.{Argument, written_out, by_name, Term, term, Plain, declaration, escapes, macro, routine, grouping}
 use Rattle.sbl_unused.specs.Views.{and_terms}

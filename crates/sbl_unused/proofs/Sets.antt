@@ -13,10 +13,10 @@ use Rattle.std.proofs.lemmas.Map.Text.{is_eq-slice_cmp}
 use Rattle.sbl_bench.proofs.PairFacts.{then_eq}
 use Rattle.sbl_machine.proofs.Order.{inserted}
 use Rattle.sbl_machine.proofs.TouchedOrder.{item_exact}
-use Rattle.sbl_machine.specs.Touched.{Item', Routine, Among, Grouping, item_cmp, item_of, same_item}
-use Rattle.sbl_machine.specs.contracts.item.ItemOrd.TheImpl.{cmp-value}
-use Rattle.sbl_machine.specs.declared.item.Item.{Item}
-use Rattle.sbl_machine.specs.declared.item.Item.TheVariants as code
+use Rattle.sbl_semantics.specs.Touched.{Item', Routine, Among, Grouping, item_cmp, item_of, same_item}
+use Rattle.sbl_semantics.specs.contracts.item.ItemOrd.TheImpl.{cmp-value}
+use Rattle.sbl_semantics.specs.declared.item.Item.{Item}
+use Rattle.sbl_semantics.specs.declared.item.Item.TheVariants as code
 use Rattle.sbl_unused.specs.Unused.{Take, same_take}
 use Rattle.sbl_unused.specs.Views.{Key, take_of}
 

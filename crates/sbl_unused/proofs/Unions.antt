@@ -6,8 +6,8 @@ use Rattle.std.proofs.lemmas.Slice.Eq.{bytes_eq-Decides}
 use Rattle.sbl_bench.specs.Setting.{Setting}
 use Rattle.sbl_bench.specs.Vocabulary.{is_word}
 use Rattle.sbl_machine.specs.BuiltFrom.{affected, meets}
-use Rattle.sbl_machine.specs.Outcome.{touches_of}
-use Rattle.sbl_machine.specs.Touched.{Item', named, names_of, touched_of}
+use Rattle.sbl_semantics.specs.Outcome.{touches_of}
+use Rattle.sbl_semantics.specs.Touched.{Item', named, names_of, touched_of}
 use Rattle.sbl_machine.proofs.TouchedOrder.{any_ordered}
 use Rattle.std.specs.Borrow.{Bor}
 use Rattle.std.proofs.lemmas.List.{drop-map}

@@ -4,10 +4,10 @@ use Rattle.std.specs.List.{flat_map, list_any}
 use Rattle.std.specs.Str.{bytes_eq, encode_utf8_all}
 use Rattle.sbl_bench.specs.Setting.{Setting}
 use Rattle.sbl_machine.specs.BuiltFrom.{meets}
-use Rattle.sbl_machine.specs.Touched.{Item', Routine, Among, Grouping, same_item}
-use Rattle.sbl_machine.specs.Why.{events_of}
+use Rattle.sbl_semantics.specs.Touched.{Item', Routine, Among, Grouping, same_item}
+use Rattle.sbl_semantics.specs.Outcome.{events_of}
 use Rattle.sbl_io.specs.Records.{records_text}
-use Rattle.sbl_interpreter.specs.Events.{Event', Finds}
+use Rattle.sbl_semantics.specs.Events.{Event', Finds}
 use Rattle.sbl_unused.specs.Parts.{Part, parts_of}
 use Rattle.sbl_why.specs.Moments.{Moment, after, at_start, routine_of, string_taken}
 use Rattle.sbl_why.specs.Rows.{routine_names}

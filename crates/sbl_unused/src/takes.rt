@@ -3,8 +3,8 @@
 ghost use Rattle.std.specs.Prelude.{◌≡◌, ◌||◌, Bool, List, ℕ, map, OnOk, IfOk};
 ghost use Rattle.std.specs.List.{list_any};
 ghost use Rattle.sbl_bench.specs.Kept.{setting_of};
-ghost use Rattle.sbl_machine.specs.Touched.{item_of};
-ghost use Rattle.sbl_interpreter.specs.Events.{event_of};
+ghost use Rattle.sbl_semantics.specs.Touched.{item_of};
+ghost use Rattle.sbl_semantics.specs.Events.{event_of};
 ghost use Rattle.sbl_unused.specs.Unused.{Take, same_take, takes_at, takes_from, takes_of};
 ghost use Rattle.sbl_unused.specs.Views.{HasTaken, takes_in, texts_of};
 ghost use Rattle.sbl_why.specs.Moments.{at_start};

@@ -5,7 +5,7 @@ ghost use Rattle.std.specs.List.{flat_map};
 ghost use Rattle.csv.specs.Records.{fields_of, partial_of};
 ghost use Rattle.sbl_bench.specs.Kept.{setting_of};
 ghost use Rattle.sbl_bench.specs.Setting.{Setting};
-ghost use Rattle.sbl_machine.specs.Touched.{item_of};
+ghost use Rattle.sbl_semantics.specs.Touched.{item_of};
 ghost use Rattle.sbl_io.specs.Records.{record_line, records_text};
 ghost use Rattle.sbl_unused.specs.Unused as spec;
 ghost use Rattle.sbl_unused.specs.Views.{HasMet, HasTaken, texts_of, view_parts};

@@ -5,7 +5,7 @@ ghost use Rattle.std.specs.List.{list_any};
 ghost use Rattle.sbl_bench.specs.Kept.{setting_of};
 ghost use Rattle.sbl_bench.specs.Vocabulary.{is_word};
 ghost use Rattle.sbl_machine.specs.BuiltFrom.{affected, any_names, names};
-ghost use Rattle.sbl_machine.specs.Touched.{Item', Grouping, item_of, items_in, same_item, touched_of};
+ghost use Rattle.sbl_semantics.specs.Touched.{Item', Grouping, item_of, items_in, same_item, touched_of};
 ghost use Rattle.sbl_script.specs.Parsed.{source_of};
 ghost use Rattle.sbl_ast.specs.View.{view_argument, view_plain, view_term};
 ghost use Rattle.sbl_unused.specs.Views.{HasMet, and_terms, texts_of};

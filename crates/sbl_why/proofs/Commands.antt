@@ -16,18 +16,18 @@ use Rattle.sbl_ast.specs.declared.tree.Splice.{Splice}
 use Rattle.sbl_ast.specs.declared.tree.Splice.TheVariants as edits
 use Rattle.sbl_ast.specs.declared.mode.Mode.{Mode}
 use Rattle.sbl_ast.specs.declared.mode.Mode.TheVariants.{Forward, Backward}
-use Rattle.sbl_among_search.specs.Fitting.{read_as}
-use Rattle.sbl_compiler.specs.Items.{Known, Body, place_of}
-use Rattle.sbl_interpreter.specs.declared.state.SavedCursor.{SavedCursor}
-use Rattle.sbl_interpreter.specs.Events.{Event', Puts, with_event}
-use Rattle.sbl_interpreter.specs.Moves.{match, next_is, one_of, next, hop, at_mark, to_mark, set_mark, set_boolean}
-use Rattle.sbl_interpreter.specs.Numbers.{Value, given, natural, with_value, integer_at}
-use Rattle.sbl_interpreter.specs.Slices.{is_slice, replaced, replace, keep, inserted, put_in, left_bracket, right_bracket}
-use Rattle.sbl_interpreter.specs.State.{State, Signals, Stops, Doing, ahead, room, at_place, at_difference, to_limit, put_back, step_over, place_after, moved}
-use Rattle.sbl_machine.specs.Meaning as meaning
-use Rattle.sbl_machine.specs.Meaning.{Offer, prefixed_does, counted_does, joined_does, limited_does, simple_does, moved_does, assigned_does, compared_does, named_does, edited_does, begins, takes, tried, search}
-use Rattle.sbl_interpreter.specs.declared.fault.RunFault.{RunFault}
-use Rattle.sbl_interpreter.specs.declared.fault.RunFault.TheVariants as faults
+use Rattle.sbl_semantics.specs.Fitting.{read_as}
+use Rattle.sbl_semantics.specs.Items.{Known, Body, place_of}
+use Rattle.sbl_semantics.specs.declared.cursor.SavedCursor.{SavedCursor}
+use Rattle.sbl_semantics.specs.Events.{Event', Puts, with_event}
+use Rattle.sbl_semantics.specs.Moves.{match, next_is, one_of, next, hop, at_mark, to_mark, set_mark, set_boolean}
+use Rattle.sbl_semantics.specs.Numbers.{Value, given, natural, with_value, integer_at}
+use Rattle.sbl_semantics.specs.Slices.{is_slice, replaced, replace, keep, inserted, put_in, left_bracket, right_bracket}
+use Rattle.sbl_semantics.specs.State.{State, Signals, Stops, Doing, ahead, room, at_place, at_difference, to_limit, put_back, step_over, place_after, moved}
+use Rattle.sbl_semantics.specs.Meaning as meaning
+use Rattle.sbl_semantics.specs.Meaning.{Offer, prefixed_does, counted_does, joined_does, limited_does, simple_does, moved_does, assigned_does, compared_does, named_does, edited_does, begins, takes, tried, search}
+use Rattle.sbl_semantics.specs.declared.fault.RunFault.{RunFault}
+use Rattle.sbl_semantics.specs.declared.fault.RunFault.TheVariants as faults
 use Rattle.sbl_why.specs.Searches.{course}
 use Rattle.sbl_why.proofs.Parts.{Any_refusal, Ends, Family, Good, GoodIn, Part, PartX, Refused, Some_end, at, forget, given_part, here, here_with, if_part, noted_with, signals_good, stop, stop_with}
 use Rattle.sbl_why.proofs.Onward.{after_x, good_grows, grows_by}

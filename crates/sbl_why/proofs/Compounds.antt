@@ -8,16 +8,16 @@ use Rattle.sbl_ast.specs.declared.tree.Prefix.{Prefix}
 use Rattle.sbl_ast.specs.declared.tree.Prefix.TheVariants as prefixes
 use Rattle.sbl_ast.specs.declared.mode.Mode.{Mode}
 use Rattle.sbl_ast.specs.declared.mode.Mode.TheVariants.{Forward, Backward}
-use Rattle.sbl_compiler.specs.Items.{Known, Body}
-use Rattle.sbl_interpreter.specs.declared.state.SavedCursor.{SavedCursor}
-use Rattle.sbl_interpreter.specs.declared.state.Limits.{Limits}
-use Rattle.sbl_interpreter.specs.Moves.{next}
-use Rattle.sbl_interpreter.specs.Numbers.{Value, given}
-use Rattle.sbl_interpreter.specs.Run.{turns, times, count_of, seeks, found, limits, limited, limit_here, limit_back, backwards_from, backwards_end, chosen, paid}
-use Rattle.sbl_interpreter.specs.Search.{choice}
-use Rattle.sbl_interpreter.specs.State.{State, Ending, Signals, Stops, Doing, after, then_on, saved_cursor, put_back}
-use Rattle.sbl_machine.specs.Meaning.{prefixed_does, counted_does, joined_does, limited_does, begins}
-use Rattle.sbl_interpreter.specs.declared.fault.RunFault.TheVariants as faults
+use Rattle.sbl_semantics.specs.Items.{Known, Body}
+use Rattle.sbl_semantics.specs.declared.cursor.SavedCursor.{SavedCursor}
+use Rattle.sbl_semantics.specs.declared.limits.Limits.{Limits}
+use Rattle.sbl_semantics.specs.Moves.{next}
+use Rattle.sbl_semantics.specs.Numbers.{Value, given}
+use Rattle.sbl_semantics.specs.Control.{turns, times, count_of, seeks, found, limits, limited, limit_here, limit_back, backwards_from, backwards_end, chosen, paid}
+use Rattle.sbl_semantics.specs.Choices.{choice}
+use Rattle.sbl_semantics.specs.State.{State, Ending, Signals, Stops, Doing, after, then_on, saved_cursor, put_back}
+use Rattle.sbl_semantics.specs.Meaning.{prefixed_does, counted_does, joined_does, limited_does, begins}
+use Rattle.sbl_semantics.specs.declared.fault.RunFault.TheVariants as faults
 use Rattle.sbl_why.proofs.Parts.{Any_refusal, Family, Good, GoodIn, Part, PartBy, Some_end, at, given_part, part_same, signals_good, stop}
 use Rattle.sbl_why.proofs.Onward.{after_part, then_part}
 use Rattle.sbl_why.proofs.Commands.{back_good, next_good, place_good, still, to_limit_good}

@@ -6,16 +6,17 @@ use Rattle.sbl_ast.specs.declared.tree.DeclarationKind.TheVariants as kinds
 use Rattle.sbl_ast.specs.Order.{in_order}
 use Rattle.sbl_ast.specs.declared.mode.Mode.{Mode}
 use Rattle.sbl_ast.specs.declared.mode.Mode.TheVariants.{Forward}
-use Rattle.sbl_among_search.specs.Fitting.{ahead_at}
-use Rattle.sbl_compiler.specs.Items.{Known, Body, place_of, known_in, class_of, classes_behind, body_named}
-use Rattle.sbl_compiler.specs.Regions.{Among, behind, behind_others, first_others, waits}
-use Rattle.sbl_interpreter.specs.Events.{Event', Enters, Leaves, Searches, Finds, Puts, with_event}
-use Rattle.sbl_interpreter.specs.Run.{found, back_in, enter, leave, paid}
-use Rattle.sbl_interpreter.specs.State.{State, Ending, Signals, Stops, Doing, bound_of}
-use Rattle.sbl_machine.specs.Meaning as meaning
-use Rattle.sbl_machine.specs.Meaning.{Offer, prefixed_does, counted_does, joined_does, limited_does, simple_does, moved_does, assigned_does, compared_does, named_does, edited_does, begins, takes, tried, search}
-use Rattle.sbl_interpreter.specs.declared.fault.RunFault.TheVariants as faults
-use Rattle.sbl_machine.specs.Why.{events_at, events_in, events_of, text_after}
+use Rattle.sbl_semantics.specs.Fitting.{ahead_at}
+use Rattle.sbl_semantics.specs.Items.{Known, Body, place_of, known_in, class_of, classes_behind, body_named}
+use Rattle.sbl_semantics.specs.Regions.{Among, behind, behind_others, first_others, waits}
+use Rattle.sbl_semantics.specs.Events.{Event', Enters, Leaves, Searches, Finds, Puts, with_event}
+use Rattle.sbl_semantics.specs.Control.{found, back_in, enter, leave, paid}
+use Rattle.sbl_semantics.specs.State.{State, Ending, Signals, Stops, Doing, bound_of}
+use Rattle.sbl_semantics.specs.Meaning as meaning
+use Rattle.sbl_semantics.specs.Meaning.{Offer, prefixed_does, counted_does, joined_does, limited_does, simple_does, moved_does, assigned_does, compared_does, named_does, edited_does, begins, takes, tried, search}
+use Rattle.sbl_semantics.specs.declared.fault.RunFault.TheVariants as faults
+use Rattle.sbl_semantics.specs.Outcome.{events_at, events_in, events_of}
+use Rattle.sbl_machine.specs.Why.{text_after}
 use Rattle.sbl_why.specs.RoutineAmongs.{HasAmong, IsInOthers}
 use Rattle.sbl_why.specs.Searches.{IsWhole, Course, EachSearchTakesFirst, EndsWith, SearchesTakeFirst, TakesFirst, call_of, course, fits, with_calls, within}
 use Rattle.sbl_why.proofs.FirstAmongs.{none_is, others_are}

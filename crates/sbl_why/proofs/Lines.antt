@@ -2,10 +2,10 @@
 use Rattle.std.proofs.Common.{◌≡◌, ◌∙◌, ◌++◌, ◌∷◌, ◌-◌, ℕ, List, [], sym, ap, ap₂, length, map, take}
 use Rattle.std.proofs.lemmas.Grind.{flat_map-append}
 use Rattle.std.proofs.lemmas.List.{append_assoc, append-nil, length-map, take-map}
-use Rattle.sbl_machine.specs.Outcome.{Outcome'}
+use Rattle.sbl_semantics.specs.Outcome.{Outcome'}
 use Rattle.sbl_io.specs.Records.{record_line, records_text}
-use Rattle.sbl_interpreter.specs.Events.{Event', event_of}
-use Rattle.sbl_interpreter.specs.declared.event.Event.{Event}
+use Rattle.sbl_semantics.specs.Events.{Event', event_of}
+use Rattle.sbl_semantics.specs.declared.event.Event.{Event}
 use Rattle.sbl_why.specs.Moments.{at_start}
 use Rattle.sbl_why.specs.Rows.{max_events, more_rows, outcome_row, rows_from, why_rows}
 

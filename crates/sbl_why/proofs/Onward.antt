@@ -2,12 +2,12 @@
 use Rattle.std.proofs.Common.{◌≡◌, ◌≤◌, ℕ, zero, suc, ◌+◌, Bool, true, false, List, [], ◌∷◌, ◌++◌, Option, refl, sym, ap, subst, ◌∙◌, append_assoc, append-nil, arith}
 use Rattle.std.specs.Prelude.{⊤}
 use Rattle.sbl_machine.specs.Why.{text_after}
-use Rattle.sbl_compiler.specs.Items.{Body, Known}
-use Rattle.sbl_interpreter.specs.declared.fault.RunFault.{RunFault}
-use Rattle.sbl_interpreter.specs.declared.fault.RunFault.TheVariants as faults
-use Rattle.sbl_interpreter.specs.Events.{Event', Searches}
-use Rattle.sbl_interpreter.specs.Run.{paid}
-use Rattle.sbl_interpreter.specs.State.{State, Ending, Signals, Stops, Doing, after, pay, then_on}
+use Rattle.sbl_semantics.specs.Items.{Body, Known}
+use Rattle.sbl_semantics.specs.declared.fault.RunFault.{RunFault}
+use Rattle.sbl_semantics.specs.declared.fault.RunFault.TheVariants as faults
+use Rattle.sbl_semantics.specs.Events.{Event', Searches}
+use Rattle.sbl_semantics.specs.Control.{paid}
+use Rattle.sbl_semantics.specs.State.{State, Ending, Signals, Stops, Doing, after, pay, then_on}
 use Rattle.sbl_ast.specs.declared.mode.Mode.{Mode}
 use Rattle.sbl_why.specs.Searches.{within}
 use Rattle.sbl_why.proofs.Parts.{Any_refusal, Each, Ends, Family, Good, GoodIn, Moment, Part, PartBy, PartX, Refused, Some_end, add, add_add, add_none, at, each_append, each_go, recorded, signals_good, text_append}

@@ -3,14 +3,14 @@ use Rattle.std.proofs.Common.{◌≡◌, ◌≤◌, ℕ, suc, ◌+◌, Bool, tru
 use Rattle.std.specs.Prelude.{ℤ, ⊤, if◌then◌else◌}
 use Rattle.sbl_ast.specs.declared.mode.Mode.{Mode}
 use Rattle.sbl_machine.specs.Why.{text_after, text_after_one}
-use Rattle.sbl_compiler.specs.Items.{Body, Known}
-use Rattle.sbl_interpreter.specs.declared.fault.RunFault.{RunFault}
-use Rattle.sbl_interpreter.specs.declared.fault.RunFault.TheVariants as faults
-use Rattle.sbl_interpreter.specs.Events.{Event', Enters, Leaves, Searches, Finds, Puts, with_event}
-use Rattle.sbl_interpreter.specs.Numbers.{Value, given}
-use Rattle.sbl_interpreter.specs.State.{State, Ending, Signals, Stops, Doing, bound_of}
+use Rattle.sbl_semantics.specs.Items.{Body, Known}
+use Rattle.sbl_semantics.specs.declared.fault.RunFault.{RunFault}
+use Rattle.sbl_semantics.specs.declared.fault.RunFault.TheVariants as faults
+use Rattle.sbl_semantics.specs.Events.{Event', Enters, Leaves, Searches, Finds, Puts, with_event}
+use Rattle.sbl_semantics.specs.Numbers.{Value, given}
+use Rattle.sbl_semantics.specs.State.{State, Ending, Signals, Stops, Doing, bound_of}
 use Rattle.sbl_why.specs.RoutineAmongs.{HasAmong}
-use Rattle.sbl_compiler.specs.Regions.{Among}
+use Rattle.sbl_semantics.specs.Regions.{Among}
 use Rattle.sbl_why.specs.Searches.{TakesFirst, course, within}
 
 -- ---- events added

@@ -3,7 +3,7 @@ use Rattle.std.proofs.Common.{◌≡◌, ◌∙◌, Bool, true, false, List, [],
 use Rattle.std.specs.Prelude.{◌&&◌, ◌||◌}
 use Rattle.std.specs.List.{list_all, list_any}
 use Rattle.std.proofs.lemmas.Bool.{true≢false}
-use Rattle.sbl_machine.specs.Meaning.{Offer}
+use Rattle.sbl_semantics.specs.Meaning.{Offer}
 use Rattle.sbl_why.specs.Searches.{PlainTakesLongest, PlainTakesOne, first_length, is_conditional}
 
 abbrev conditional : Offer → Bool

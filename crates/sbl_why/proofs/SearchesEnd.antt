@@ -6,22 +6,22 @@ use Rattle.std.specs.Cmp.Lexicographic.{pointwise}
 use Rattle.std.proofs.lemmas.Bool.{lt-ltb, true≢false}
 use Rattle.std.proofs.lemmas.Grind.{flat_map-append}
 use Rattle.std.proofs.lemmas.List.Recursion.{is_position_or_len}
-use Rattle.sbl_machine.specs.Meaning as meaning
-use Rattle.sbl_machine.specs.Meaning.{Offer, offering, offers, search, takes, tried}
-use Rattle.sbl_compiler.specs.Items.{Body, Known}
-use Rattle.sbl_compiler.specs.Regions.{Among}
+use Rattle.sbl_semantics.specs.Meaning as meaning
+use Rattle.sbl_semantics.specs.Meaning.{Offer, offering, offers, search, takes, tried}
+use Rattle.sbl_semantics.specs.Items.{Body, Known}
+use Rattle.sbl_semantics.specs.Regions.{Among}
 use Rattle.sbl_compiler.proofs.SoundItems.{less_suc}
-use Rattle.sbl_interpreter.specs.Events.{Event', Searches, Finds}
-use Rattle.sbl_interpreter.specs.Search.{take_none, take_string, touch_among}
-use Rattle.sbl_interpreter.specs.declared.state.SavedCursor.{SavedCursor}
-use Rattle.sbl_interpreter.specs.State.{State, Ending, Signals, Stops, Doing, after, bound_of, pay, place_after, saved_cursor, then_on}
-use Rattle.sbl_among_search.specs.Fitting.{ahead_at, below, fitting, onto, read_all, read_as}
+use Rattle.sbl_semantics.specs.Events.{Event', Searches, Finds}
+use Rattle.sbl_semantics.specs.Choices.{take_none, take_string, touch_among}
+use Rattle.sbl_semantics.specs.declared.cursor.SavedCursor.{SavedCursor}
+use Rattle.sbl_semantics.specs.State.{State, Ending, Signals, Stops, Doing, after, bound_of, pay, place_after, saved_cursor, then_on}
+use Rattle.sbl_semantics.specs.Fitting.{ahead_at, below, fitting, onto, read_all, read_as}
 use Rattle.sbl_ast.specs.declared.mode.Mode.{Mode}
 use Rattle.sbl_why.specs.RoutineAmongs.{HasAmong}
 use Rattle.sbl_why.specs.Searches.{Call, Course, EndsBy, EndsWith, TakesFirst, condition_calls, course, fits, is_conditional, no_offer, refusals, call_of, string_of, with_calls}
 use Rattle.std.proofs.Math.Path.{fun_ext}
-use Rattle.sbl_interpreter.specs.declared.fault.RunFault.TheVariants as faults
-use Rattle.sbl_interpreter.specs.Run.{paid}
+use Rattle.sbl_semantics.specs.declared.fault.RunFault.TheVariants as faults
+use Rattle.sbl_semantics.specs.Control.{paid}
 use Rattle.sbl_ast.specs.declared.mode.Mode.TheVariants.{Forward, Backward}
 use Rattle.sbl_why.proofs.Parts.{Each, Ends, Family, Moment, Part, PartBy, PartX, Refused, add, add_add, add_none, at, noted_with, part_same, recorded, signals_good, with_one}
 use Rattle.sbl_why.proofs.Onward.{Grows, added_by, after_x, each_shifts, good_grows, grows_by, paid_x}

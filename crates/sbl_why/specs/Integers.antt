@@ -2,8 +2,8 @@
 use Rattle.std.specs.Prelude.{ℕ, ℤ, suc, List, [], ◌∷◌, codes, decimal, slice_index_or}
 use Rattle.std.specs.Fmt.{signed_decimal}
 use Rattle.sbl_bench.specs.Setting.{Setting}
-use Rattle.sbl_machine.specs.Outcome.{integers_of, used_of}
-use Rattle.sbl_compiler.specs.Items.{known_in}
+use Rattle.sbl_semantics.specs.Outcome.{integers_of, used_of}
+use Rattle.sbl_semantics.specs.Items.{known_in}
 use Rattle.sbl_io.specs.Records.{records_text}
 use Rattle.sbl_ast.specs.Order.{in_order}
 use Rattle.sbl_ast.specs.declared.tree.DeclarationKind.TheVariants as kinds

@@ -1,7 +1,7 @@
 -- The amongs of a routine.
 use Rattle.std.specs.Prelude.{◌≡◌, ◌⊎◌, ℕ, suc, List, Option, Some}
-use Rattle.sbl_compiler.specs.Items.{Body, Known, place_of}
-use Rattle.sbl_compiler.specs.Regions.{Among, among_at, behind, behind_others, behind_rows, behind_starter, mode_behind}
+use Rattle.sbl_semantics.specs.Items.{Body, Known, place_of}
+use Rattle.sbl_semantics.specs.Regions.{Among, among_at, behind, behind_others, behind_rows, behind_starter, mode_behind}
 use Rattle.sbl_ast.specs.Tree as trees
 use Rattle.sbl_ast.specs.Tree.{bracket, simple_, literal_, name_, non_, prefixed, counted, move_, named, splice_, setlimit_, assign_, compare_, compare_values_, among_, no_rows, row, no_others, joined, no_starter, starter, bare, group}
 use Rattle.sbl_ast.specs.declared.tree.DeclarationKind.TheVariants as kinds

@@ -2,12 +2,11 @@
 use Rattle.std.specs.Prelude.{ℕ, zero, suc, ◌-◌, Bool, true, false, List, [], ◌∷◌, ◌++◌, Some, None, codes, decimal, length, slice_index_or, take}
 use Rattle.std.specs.Str.{encode_utf8_all}
 use Rattle.sbl_bench.specs.Setting.{Setting}
-use Rattle.sbl_machine.specs.Outcome.{Outcome', Stem, Refused, run_of}
-use Rattle.sbl_machine.specs.Touched.{names_of}
-use Rattle.sbl_machine.specs.Why.{events_of}
+use Rattle.sbl_semantics.specs.Outcome.{Outcome', Stem, Refused, run_of, events_of}
+use Rattle.sbl_semantics.specs.Touched.{names_of}
 use Rattle.sbl_io.specs.Records.{records_text}
-use Rattle.sbl_interpreter.specs.Events.{Event', Enters, Leaves, Searches, Finds, Puts}
-use Rattle.sbl_interpreter.specs.Names.{name_of}
+use Rattle.sbl_semantics.specs.Events.{Event', Enters, Leaves, Searches, Finds, Puts}
+use Rattle.sbl_semantics.specs.Names.{name_of}
 use Rattle.sbl_why.specs.Moments.{Moment, after, at_start, depth_of, routine_of, string_taken}
 
 -- the names of the routines of a script, by their numbers

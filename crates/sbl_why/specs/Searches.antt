@@ -2,15 +2,16 @@
 -- condition signalled t.
 use Rattle.std.specs.Prelude.{◌≡◌, ◌<◌, ℕ, zero, suc, Bool, true, false, List, [], ◌∷◌, ◌++◌, length, map, Option, Some, None, slice_index_or, slice_set, ⊤}
 use Rattle.std.specs.List.{flat_map, list_all, list_any}
-use Rattle.sbl_machine.specs.Meaning.{Offer, calls, ending_with_events, offers, search}
-use Rattle.sbl_machine.specs.Why.{events_at, events_of, text_after}
-use Rattle.sbl_compiler.specs.Items.{Body, Known, body_named, class_of, classes_behind, known_in, place_of}
-use Rattle.sbl_compiler.specs.Regions.{Among}
-use Rattle.sbl_interpreter.specs.Events.{Event', Enters, Leaves, Searches, Finds, Puts}
-use Rattle.sbl_interpreter.specs.declared.fault.RunFault.TheVariants as faults
-use Rattle.sbl_interpreter.specs.State.{State, Ending, Signals, Stops, bound_of}
-use Rattle.sbl_script.specs.Parsed.{Source}
-use Rattle.sbl_among_search.specs.Fitting.{ahead_at, fitting, read_all}
+use Rattle.sbl_semantics.specs.Meaning.{Offer, calls, ending_with_events, offers, search}
+use Rattle.sbl_semantics.specs.Outcome.{events_at, events_of}
+use Rattle.sbl_machine.specs.Why.{text_after}
+use Rattle.sbl_semantics.specs.Items.{Body, Known, body_named, class_of, classes_behind, known_in, place_of}
+use Rattle.sbl_semantics.specs.Regions.{Among}
+use Rattle.sbl_semantics.specs.Events.{Event', Enters, Leaves, Searches, Finds, Puts}
+use Rattle.sbl_semantics.specs.declared.fault.RunFault.TheVariants as faults
+use Rattle.sbl_semantics.specs.State.{State, Ending, Signals, Stops, bound_of}
+use Rattle.sbl_ast.specs.Source.{Source}
+use Rattle.sbl_semantics.specs.Fitting.{ahead_at, fitting, read_all}
 use Rattle.sbl_ast.specs.Order.{in_order}
 use Rattle.sbl_ast.specs.declared.mode.Mode.{Mode}
 use Rattle.sbl_ast.specs.declared.tree.DeclarationKind.TheVariants as kinds

@@ -3,7 +3,7 @@ ghost use Rattle.std.specs.Prelude.{◌≡◌, ◌++◌, ◌∷◌, [], IfErr, I
 ghost use Rattle.sbl_bench.specs.Kept.{setting_of};
 ghost use Rattle.sbl_bench.specs.Whys.{refusal_of_why};
 ghost use Rattle.sbl_bench.specs.declared.fault.EditFault.{EditFault as AnyFault};
-ghost use Rattle.sbl_compiler.specs.Items.{known_in, names_by};
+ghost use Rattle.sbl_semantics.specs.Items.{known_in, names_by};
 ghost use Rattle.sbl_io.specs.Records.{record_line, records_text};
 ghost use Rattle.sbl_script.specs.Parsed.{source_of};
 ghost use Rattle.sbl_ast.specs.Order.{in_order, view_in_mode};

@@ -1,7 +1,7 @@
 //! Where a run is between two of its events.
 ghost use Rattle.std.specs.Prelude.{◌≡◌, ◌-◌, IfOk, OnOk, length, take, drop};
 ghost use Rattle.std.specs.List.{splice};
-ghost use Rattle.sbl_interpreter.specs.Events.{event_of};
+ghost use Rattle.sbl_semantics.specs.Events.{event_of};
 ghost use Rattle.sbl_why.specs.Moments as spec;
 ghost use Rattle.sbl_why.specs.Views.{view_search};
 

@@ -3,9 +3,9 @@ ghost use Rattle.std.specs.Prelude.{◌≡◌, ◌++◌, ◌∷◌, [], OnOk, de
 ghost use Rattle.std.specs.Str.{encode_utf8_all};
 ghost use Rattle.csv.specs.Records.{fields_of, partial_of};
 ghost use Rattle.sbl_bench.specs.Kept.{setting_of};
-ghost use Rattle.sbl_machine.specs.Outcome.{outcome_of};
+ghost use Rattle.sbl_semantics.specs.Outcome.{outcome_of};
 ghost use Rattle.sbl_io.specs.Records.{record_line, records_text};
-ghost use Rattle.sbl_interpreter.specs.Events.{Finds, event_of};
+ghost use Rattle.sbl_semantics.specs.Events.{Finds, event_of};
 ghost use Rattle.sbl_why.specs.Moments.{after};
 ghost use Rattle.sbl_why.specs.Views.{fields_after, fields_before};
 ghost use Rattle.sbl_why.specs.Rows as spec;

@@ -3,9 +3,9 @@ ghost use Rattle.std.specs.Prelude.{◌≡◌, ◌++◌, ◌∷◌, [], IfErr, I
 ghost use Rattle.sbl_bench.specs.Kept.{setting_of};
 ghost use Rattle.sbl_bench.specs.Whys.{refusal_of_why};
 ghost use Rattle.sbl_bench.specs.declared.fault.EditFault.{EditFault as AnyFault};
-ghost use Rattle.sbl_machine.specs.Outcome.{outcome_of};
+ghost use Rattle.sbl_semantics.specs.Outcome.{outcome_of};
 ghost use Rattle.sbl_io.specs.Records.{records_text};
-ghost use Rattle.sbl_interpreter.specs.Events.{event_of};
+ghost use Rattle.sbl_semantics.specs.Events.{event_of};
 ghost use Rattle.sbl_why.specs.Moments.{at_start};
 ghost use Rattle.sbl_why.specs.Rows as spec;
 

@@ -5,7 +5,7 @@ use Rattle.std.specs.Option.{option_or}
 use Rattle.std.specs.Str.{is_utf8}
 use Rattle.sbl_bench.specs.Contents.{Contents}
 use Rattle.sbl_check.specs.Differences.{IsChecked, ending, line_fault, pair_fault}
-use Rattle.sbl_script.specs.Parsed.{Source}
+use Rattle.sbl_ast.specs.Source.{Source}
 use Rattle.sbl_sessions.specs.Loaded as load
 use Rattle.sbl_sessions.specs.Loaded.{AfterSource, IsLoaded, ReadsScript, WordLines}
 use Rattle.sbl_sessions.specs.Block.{BlockLines, Breaks}

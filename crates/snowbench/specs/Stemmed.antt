@@ -4,7 +4,7 @@ use Rattle.std.specs.Str.{chars}
 use Rattle.std.specs.Io.KnownBytes.{Appends}
 use Rattle.sbl_bench.specs.Kept.{contents_of}
 use Rattle.sbl_bench.specs.Contents.{opened, opening_fault}
-use Rattle.sbl_script.specs.Parsed.{Source}
+use Rattle.sbl_ast.specs.Source.{Source}
 use Rattle.sbl_sessions.specs.Loaded.{IsInput, IsLoaded}
 use Rattle.sbl_sessions.specs.Rows.{stems_text}
 use Rattle.sbl_sessions.specs.declared.faults.LoadFault.{LoadFault}

@@ -4,7 +4,7 @@ use Rattle.std.specs.List.{flat_map}
 use Rattle.std.specs.Io.KnownBytes.{Appends, IsAtEnd}
 use Rattle.std.specs.declared.vec.Vec.{Vec}
 use Rattle.std.specs.declared.alloc.Global.{Global}
-use Rattle.sbl_script.specs.Parsed.{Source}
+use Rattle.sbl_ast.specs.Source.{Source}
 use Rattle.sbl_check.specs.Differences.{IsChecked}
 use Rattle.sbl_sessions.specs.Block.{BlockLines, Breaks, TookBlock}
 use Rattle.sbl_sessions.specs.Loaded.{ReadsScript, TookFault, TookSource}

@@ -3,7 +3,7 @@
 ghost use Rattle.std.specs.Prelude.{◌≡◌, ◌||◌, ℕ, true, List, IfOk, OnOk};
 ghost use Rattle.sbl_char_class.specs.CharacterClasses.{members};
 ghost use Rattle.sbl_among_search.specs.Beginnings.{AreBeginnings, may_begin};
-ghost use Rattle.sbl_among_search.specs.Fitting.{read_as};
+ghost use Rattle.sbl_semantics.specs.Fitting.{read_as};
 ghost use Rattle.sbl_among_search.specs.Linked.{texts_of};
 
 use sbl_ast::Mode;

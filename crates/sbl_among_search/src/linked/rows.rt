@@ -1,7 +1,7 @@
 //! The rows of a linked table.
 
 ghost use Rattle.std.specs.Prelude.{◌≡◌, IfOk, map};
-ghost use Rattle.sbl_among_search.specs.Fitting.{read_all, read_as};
+ghost use Rattle.sbl_semantics.specs.Fitting.{read_all, read_as};
 ghost use Rattle.sbl_among_search.specs.Linked.{AreOwn, AreRows, numbers_of, texts_of};
 
 use sbl_ast::Mode;

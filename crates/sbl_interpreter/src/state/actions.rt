@@ -3,8 +3,9 @@
 ghost use Rattle.std.specs.Prelude.{◌≡◌, map, IfOk};
 ghost use Rattle.sbl_char_class.specs.CharacterClasses.{members};
 ghost use Rattle.sbl_interpreter.specs.Actions.{acts};
-ghost use Rattle.sbl_interpreter.specs.Numbers.{given, value, natural};
-ghost use Rattle.sbl_interpreter.specs.Moves.{hop, at_mark, to_mark};
+ghost use Rattle.sbl_semantics.specs.Numbers.{given, natural};
+ghost use Rattle.sbl_interpreter.specs.Arithmetic.{value};
+ghost use Rattle.sbl_semantics.specs.Moves.{hop, at_mark, to_mark};
 ghost use Rattle.sbl_program.specs.ProgramOf.{view_action, view_number};
 ghost use Rattle.sbl_interpreter.specs.Kept.{Follows};
 

@@ -1,19 +1,19 @@
 //! Parts of the state for commands that contain commands: limits, `backwards`, the choices of amongs, and calls.
 
 ghost use Rattle.std.specs.Prelude.{◌≡◌, ◌≤◌, ◌-◌, ℕ, Option, None, length, replicate, IfOk};
-ghost use Rattle.sbl_among_search.specs.Fitting.{ahead_at};
+ghost use Rattle.sbl_semantics.specs.Fitting.{ahead_at};
 ghost use Rattle.sbl_interpreter.specs.Kept.{Leads};
-ghost use Rattle.sbl_interpreter.specs.State.{max_text_length};
-ghost use Rattle.sbl_interpreter.specs.Run.{limits, limit_here, limit_back, backwards_from, backwards_end, back_in, enter};
-ghost use Rattle.sbl_interpreter.specs.Moves.{touch_grouping};
-ghost use Rattle.sbl_interpreter.specs.Search.{choose, choice, bound_in, take_none, take_string, touch_among};
+ghost use Rattle.sbl_semantics.specs.State.{max_text_length};
+ghost use Rattle.sbl_semantics.specs.Control.{limits, limit_here, limit_back, backwards_from, backwards_end, back_in, enter};
+ghost use Rattle.sbl_semantics.specs.Moves.{touch_grouping};
+ghost use Rattle.sbl_semantics.specs.Choices.{choose, choice, take_none, take_string, touch_among};
+ghost use Rattle.sbl_interpreter.specs.Search.{bound_in};
 
-use crate::event::Event;
 use crate::halt::Halt;
 use crate::slots::Slots;
-use crate::state::{Limits, State};
-use crate::touch::Touch;
+use crate::state::State;
 use sbl_ast::Mode;
+use sbl_semantics::{Event, Limits, Touch};
 use std::alloc::AllocError;
 use std::mem;
 

@@ -4,10 +4,11 @@ ghost use Rattle.std.specs.Prelude.{◌≡◌, ◌≤◌, ◌<◌, length, map, 
 ghost use Rattle.std.specs.List.{starts_with};
 ghost use Rattle.sbl_char_class.specs.CharacterClasses.{members};
 ghost use Rattle.sbl_char_class.specs.Terms.{class_at};
-ghost use Rattle.sbl_among_search.specs.Fitting.{read_as};
-ghost use Rattle.sbl_interpreter.specs.State.{Signals, ahead, room, moved};
+ghost use Rattle.sbl_semantics.specs.Fitting.{read_as};
+ghost use Rattle.sbl_semantics.specs.State.{Signals, ahead, room, moved};
 ghost use Rattle.sbl_program.specs.ProgramOf.{view_text};
-ghost use Rattle.sbl_interpreter.specs.Moves.{characters, match, next_is, one_of, next, hop, at_limit, set_mark, at_mark, to_mark, set_boolean, test_boolean};
+ghost use Rattle.sbl_interpreter.specs.Arithmetic.{characters};
+ghost use Rattle.sbl_semantics.specs.Moves.{match, next_is, one_of, next, hop, at_limit, set_mark, at_mark, to_mark, set_boolean, test_boolean};
 
 use crate::state::State;
 use crate::state::variables::{boolean_of, set_boolean, set_integer};

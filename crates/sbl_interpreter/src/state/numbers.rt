@@ -2,18 +2,19 @@
 
 ghost use Rattle.std.specs.Prelude.{◌≡◌, ◌<◌, ℤ, pos, length, map, Ok, SomeIff, FitsSigned, IfOk};
 ghost use Rattle.std.specs.Int.{w32};
-ghost use Rattle.sbl_interpreter.specs.Numbers.{value, with_both, fitted, divided, limit_value, integer_at, changed, holds, assign, compare, natural};
+ghost use Rattle.sbl_interpreter.specs.Arithmetic.{value, changed, holds, assign, compare};
+ghost use Rattle.sbl_semantics.specs.Numbers.{with_both, fitted, divided, limit_value, integer_at, natural};
 ghost use Rattle.sbl_program.specs.ProgramOf.{view_added, view_number, view_scaled};
 ghost use Rattle.sbl_interpreter.specs.Rows.{product_of, scales_to, sum_of, sums_to};
-ghost use Rattle.sbl_interpreter.specs.Run.{count_of};
+ghost use Rattle.sbl_semantics.specs.Control.{count_of};
 ghost use Rattle.sbl_interpreter.specs.Kept.{Leads, Follows};
 
-use crate::fault::RunFault;
 use crate::halt::Halt;
 use crate::state::State;
 use crate::state::variables::{integer_of, set_integer};
 use sbl_ast::{Additive, Mode, Multiplicative};
 use sbl_program::{Addend, Arithmetic, Change, Multiplicand, Relation};
+use sbl_semantics::RunFault;
 
 impl State {
     /// Returns the value of an expression. Returns `Integer` if a number is out of range, and `Divide` if a divisor is

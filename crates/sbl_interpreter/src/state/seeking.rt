@@ -5,7 +5,7 @@ ghost use Rattle.sbl_char_class.specs.CharacterClasses.{members};
 ghost use Rattle.sbl_char_class.specs.Terms.{class_at};
 ghost use Rattle.sbl_interpreter.specs.Kept.{Follows};
 ghost use Rattle.sbl_interpreter.specs.Actions.{test_grouping};
-ghost use Rattle.sbl_interpreter.specs.Run.{paid, seeks};
+ghost use Rattle.sbl_semantics.specs.Control.{paid, seeks};
 
 use crate::halt::Halt;
 use crate::state::State;

@@ -2,17 +2,17 @@
 
 ghost use Rattle.std.specs.Prelude.{◌≡◌, ◌+◌, ◌≤◌, ◌<◌, ◌^◌, [], length, IfOk};
 ghost use Rattle.std.specs.List.{splice};
-ghost use Rattle.sbl_interpreter.specs.Slices.{left_bracket, right_bracket, is_slice, shifted, replace, keep, pushed, put_in, insert, attach};
+ghost use Rattle.sbl_semantics.specs.Slices.{left_bracket, right_bracket, is_slice, shifted, replace, keep, pushed, put_in, insert, attach};
 ghost use Rattle.sbl_program.specs.ProgramOf.{view_text};
-ghost use Rattle.sbl_interpreter.specs.Moves.{characters};
+ghost use Rattle.sbl_interpreter.specs.Arithmetic.{characters};
 ghost use Rattle.sbl_interpreter.specs.Kept.{Leads};
 
-use crate::event::Event;
 use crate::halt::Halt;
 use crate::state::variables::set_string;
 use crate::state::{MAX_TEXT_LENGTH, State};
 use sbl_ast::Mode;
 use sbl_program::StringTerm;
+use sbl_semantics::Event;
 use std::alloc::AllocError;
 use std::mem;
 

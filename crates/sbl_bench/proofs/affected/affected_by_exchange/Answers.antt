@@ -1,7 +1,7 @@
 use Rattle.std.proofs.Common.{◌≡◌, ◌∙◌, List, Option, Some, IfOk, map, ap, sym, refl, subst}
 use Rattle.sbl_script.specs.Parsed.{source_of}
 use Rattle.sbl_machine.specs.Differs.{differs}
-use Rattle.sbl_machine.specs.Touched.{Item', item_of}
+use Rattle.sbl_semantics.specs.Touched.{Item', item_of}
 use Rattle.sbl_diff.specs.ItemsIn.{items_in}
 use Rattle.sbl_bench.specs.Affected.{AreMet, Every}
 use Rattle.sbl_bench.specs.Changes.{affected_of}

@@ -1,6 +1,6 @@
 use Rattle.std.proofs.Common.{map}
 use Rattle.sbl_script.specs.Parsed.{source_of}
-use Rattle.sbl_machine.specs.Touched.{item_of}
+use Rattle.sbl_semantics.specs.Touched.{item_of}
 use Rattle.sbl_bench.proofs.Bringing.{met_by_marks}
 use Rattle.sbl_bench.proofs.affected.affected_by_items.Goals as goal
 

@@ -1,6 +1,6 @@
 use Rattle.std.proofs.Common.{◌≡◌, drop}
 use Rattle.std.specs.List.{list_any}
-use Rattle.sbl_interpreter.specs.Touches.{same_touch}
+use Rattle.sbl_semantics.specs.Touches.{same_touch}
 use Rattle.sbl_bench.proofs.affected.has_one.Given as goal
 
 -- none so far

@@ -1,5 +1,5 @@
 use Rattle.std.proofs.Common.{◌≡◌, ◌+◌, ◌++◌, ◌≤◌, drop, length, map}
-use Rattle.sbl_script.specs.Parsed.{Source}
+use Rattle.sbl_ast.specs.Source.{Source}
 use Rattle.sbl_machine.specs.MachineOf.{IsLinkedMachineOf}
 use Rattle.sbl_bench.specs.Changes.{reruns, view_change}
 use Rattle.sbl_bench.specs.Setting.{under}

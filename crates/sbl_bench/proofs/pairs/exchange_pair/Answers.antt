@@ -1,6 +1,6 @@
 use Rattle.std.proofs.Common.{◌∙◌, ◌||◌, ap, Bool}
 use Rattle.std.proofs.lemmas.Result.{on_ok_weaker}
-use Rattle.sbl_machine.specs.Outcome.{outcome_of}
+use Rattle.sbl_semantics.specs.Outcome.{outcome_of}
 use Rattle.sbl_bench.specs.Pairs.{is_pair_of}
 use Rattle.sbl_bench.proofs.pairs.exchange_pair.Goals as goal
 

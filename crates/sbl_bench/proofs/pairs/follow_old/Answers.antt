@@ -1,5 +1,5 @@
 use Rattle.std.proofs.Common.{◌∙◌, ◌&&◌, not, ap, refl, sym, subst}
-use Rattle.sbl_machine.specs.Outcome.{outcome_of}
+use Rattle.sbl_semantics.specs.Outcome.{outcome_of}
 use Rattle.sbl_bench.specs.Pairs.{IsIndexed, has, is_pair_of}
 use Rattle.sbl_bench.proofs.Following.{one_less}
 use Rattle.sbl_bench.proofs.pairs.follow_old.Goals as goal

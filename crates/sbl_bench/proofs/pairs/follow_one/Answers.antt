@@ -1,5 +1,5 @@
 use Rattle.std.proofs.Common.{◌∙◌, refl, sym}
-use Rattle.sbl_machine.specs.Outcome.{outcome_of}
+use Rattle.sbl_semantics.specs.Outcome.{outcome_of}
 use Rattle.sbl_bench.specs.Pairs.{has}
 use Rattle.sbl_bench.proofs.Following.{exchanged, stays_followed}
 use Rattle.sbl_bench.proofs.pairs.follow_one.Goals as goal

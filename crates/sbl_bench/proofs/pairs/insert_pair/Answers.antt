@@ -1,6 +1,6 @@
 use Rattle.std.proofs.Common.{◌∙◌, ◌||◌, ap, sym, List, ℕ}
-use Rattle.sbl_machine.specs.Outcome as rows
-use Rattle.sbl_machine.specs.Outcome.{outcome_of}
+use Rattle.sbl_semantics.specs.Outcome as rows
+use Rattle.sbl_semantics.specs.Outcome.{outcome_of}
 use Rattle.sbl_bench.specs.Pairs.{has, is_pair_of}
 use Rattle.sbl_bench.proofs.PairFacts.{pair_inserted}
 use Rattle.sbl_bench.proofs.pairs.insert_pair.Goals as goal

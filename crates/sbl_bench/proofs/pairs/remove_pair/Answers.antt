@@ -1,6 +1,6 @@
 use Rattle.std.proofs.Common.{◌∙◌, ◌&&◌, not, ap, sym, List, ℕ}
 use Rattle.std.specs.Str.{bytes_eq}
-use Rattle.sbl_machine.specs.Outcome.{outcome_of}
+use Rattle.sbl_semantics.specs.Outcome.{outcome_of}
 use Rattle.sbl_bench.specs.Pairs.{has, is_pair_of}
 use Rattle.sbl_bench.proofs.pairs.remove_pair.Goals as goal
 

@@ -3,7 +3,7 @@ use Rattle.std.specs.Map.{lookup}
 use Rattle.std.specs.Str.{bytes_eq}
 use Rattle.std.specs.declared.vec.Vec.{Vec}
 use Rattle.std.specs.declared.alloc.Global.{Global}
-use Rattle.sbl_machine.specs.Outcome.{outcome_of, run_of, touches_of, used_of}
+use Rattle.sbl_semantics.specs.Outcome.{outcome_of, run_of, touches_of, used_of}
 use Rattle.sbl_bench.specs.Kept.{KeptWord, words_in, IsKept}
 use Rattle.sbl_bench.specs.Pairs.{IsOneMore}
 use Rattle.sbl_bench.specs.Setting.{under}

@@ -1,9 +1,9 @@
 use Rattle.std.proofs.Common.{rules, ◌≡◌, ◌∙◌, ◌≤◌, ◌<◌, List, ℕ, length, ap, sym, subst}
 use Rattle.std.specs.Str.{chars, encode_utf8_all}
 use Rattle.std.proofs.lemmas.Str.{chars_from_encodes}
-use Rattle.sbl_machine.specs.Limit.{default_limit}
-use Rattle.sbl_machine.specs.Outcome.{outcome_of, run_of}
-use Rattle.sbl_machine.specs.declared.outcome.Outcome.TheVariants as code
+use Rattle.sbl_semantics.specs.Limit.{default_limit}
+use Rattle.sbl_semantics.specs.Outcome.{outcome_of, run_of}
+use Rattle.sbl_semantics.specs.declared.outcome.Outcome.TheVariants as code
 use Rattle.sbl_check.specs.Differences.{Stem, Refused, of_outcome}
 use Rattle.sbl_check.proofs.CheckFacts.{made_by_run, made_too_long}
 use Rattle.sbl_check.proofs.checking.run_word.Goals as goal

@@ -5,7 +5,7 @@ use Rattle.std.proofs.lemmas.Str.{IsUtf8-from_is_utf8, chars_from_encodes, is_ut
 use Rattle.std.specs.Str.{IsUtf8, chars, is_utf8}
 use Rattle.sbl_bench.specs.Rows.{row_of}
 use Rattle.sbl_bench.specs.Setting.{under}
-use Rattle.sbl_machine.specs.Limit.{default_limit}
+use Rattle.sbl_semantics.specs.Limit.{default_limit}
 use Rattle.sbl_io.specs.Records.{record_line}
 use Rattle.sbl_sessions.specs.Rows.{row_fields}
 use Rattle.sbl_filter.proofs.FilterFacts.{is_none, is_some, line-cut, line-empty, line-long, line-row}

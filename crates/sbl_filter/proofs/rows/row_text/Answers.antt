@@ -1,5 +1,5 @@
 use Rattle.std.proofs.Common.{◌≡◌, ◌∙◌, List, ℕ, IfOk, subst}
-use Rattle.sbl_machine.specs.Outcome.{outcome_of}
+use Rattle.sbl_semantics.specs.Outcome.{outcome_of}
 use Rattle.sbl_io.specs.Records as texts
 use Rattle.sbl_filter.proofs.RowFacts.{row-is}
 use Rattle.sbl_filter.proofs.rows.row_text.Goals as goal

@@ -1,5 +1,5 @@
 use Rattle.std.proofs.Common.{◌≡◌, ◌∙◌, ap, sym}
-use Rattle.sbl_compiler.specs.Items.{is_among}
+use Rattle.sbl_semantics.specs.Items.{is_among}
 use Rattle.sbl_compiler.proofs.SoundItems.{among_is}
 use Rattle.sbl_ast.specs.View.{view_argument}
 use Rattle.sbl_machine.specs.BuiltFrom.{names}

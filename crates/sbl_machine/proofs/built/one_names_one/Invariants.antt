@@ -1,5 +1,5 @@
 use Rattle.std.proofs.Common.{◌≡◌, drop, map}
-use Rattle.sbl_compiler.specs.Items.{is_among}
+use Rattle.sbl_semantics.specs.Items.{is_among}
 use Rattle.sbl_ast.specs.View.{view_term}
 use Rattle.sbl_machine.specs.BuiltFrom.{any_names}
 use Rattle.sbl_machine.proofs.built.one_names_one.Given as goal

@@ -1,6 +1,6 @@
 use Rattle.std.proofs.Common.{map}
-use Rattle.sbl_machine.specs.Outcome.{touches_of}
-use Rattle.sbl_machine.specs.Touched.{named, names_of, same_item, touched_of, touches}
+use Rattle.sbl_semantics.specs.Outcome.{touches_of}
+use Rattle.sbl_semantics.specs.Touched.{named, names_of, same_item, touched_of, touches}
 use Rattle.sbl_machine.proofs.TouchedOrder.{any_ordered}
 use Rattle.sbl_machine.proofs.TouchedRise.{touched_rise}
 use Rattle.sbl_machine.proofs.laws.touches_are_touched.Goals as goal

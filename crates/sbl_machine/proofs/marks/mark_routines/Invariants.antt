@@ -1,6 +1,6 @@
 use Rattle.std.proofs.Common.{◌≡◌, drop, map, string_bytes}
 use Rattle.sbl_compiler.specs.NumberedNames.{is_one_of}
-use Rattle.sbl_interpreter.specs.declared.touch.Touch.TheVariants.{Entered}
+use Rattle.sbl_semantics.specs.declared.touch.Touch.TheVariants.{Entered}
 use Rattle.sbl_machine.specs.Marking.{marked}
 use Rattle.sbl_machine.proofs.marks.mark_routines.Given as goal
 

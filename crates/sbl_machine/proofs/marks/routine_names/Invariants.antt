@@ -1,6 +1,6 @@
 use Rattle.std.proofs.Common.{◌≡◌, [], drop, map}
 use Rattle.sbl_machine.specs.Marking.{routines_behind}
-use Rattle.sbl_machine.specs.Touched.{item_of}
+use Rattle.sbl_semantics.specs.Touched.{item_of}
 use Rattle.sbl_machine.proofs.marks.routine_names.Given as goal
 
 -- the names so far, and those of the items still to come

@@ -1,6 +1,6 @@
 use Rattle.std.proofs.Common.{◌≡◌, drop, map}
 use Rattle.std.specs.List.{list_any}
-use Rattle.sbl_machine.specs.Touched.{item_of, named, same_item}
+use Rattle.sbl_semantics.specs.Touched.{item_of, named, same_item}
 use Rattle.sbl_machine.proofs.naming.is_touched.Given as goal
 
 abbrev pub invariant-loop-touch : goal.invariant-loop-touch

@@ -1,6 +1,6 @@
 use Rattle.std.proofs.Common.{◌∙◌, List, ℕ, ap, ap₂}
 use Rattle.std.specs.List.{list_any}
-use Rattle.sbl_machine.specs.Touched.{Item'}
+use Rattle.sbl_semantics.specs.Touched.{Item'}
 use Rattle.sbl_unused.specs.Unused.{Take, same_take}
 use Rattle.sbl_unused.specs.Views.{takes_in}
 use Rattle.sbl_unused.proofs.Sets.{take_held}

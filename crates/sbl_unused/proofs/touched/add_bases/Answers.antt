@@ -1,6 +1,6 @@
 use Rattle.std.proofs.Common.{◌∙◌, List, ℕ, ap, drop, map, sym}
 use Rattle.std.specs.List.{list_any}
-use Rattle.sbl_machine.specs.Touched.{items_in, same_item}
+use Rattle.sbl_semantics.specs.Touched.{items_in, same_item}
 use Rattle.sbl_script.specs.Parsed.{source_of}
 use Rattle.sbl_ast.specs.Order.{ItemInMode, in_order, view_in_mode}
 use Rattle.sbl_ast.specs.View.{view_items}

@@ -1,6 +1,6 @@
 use Rattle.std.proofs.Common.{◌≡◌, ◌≤◌, drop, length, map}
 use Rattle.std.specs.List.{list_any}
-use Rattle.sbl_machine.specs.Touched.{Item', items_in, same_item}
+use Rattle.sbl_semantics.specs.Touched.{Item', items_in, same_item}
 use Rattle.sbl_ast.specs.Order.{view_in_mode}
 use Rattle.sbl_unused.proofs.Bases.{reached}
 use Rattle.sbl_unused.proofs.touched.add_bases.Given as goal

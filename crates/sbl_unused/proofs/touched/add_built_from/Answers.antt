@@ -1,7 +1,7 @@
 use Rattle.std.proofs.Common.{◌≡◌, ◌∙◌, ◌&&◌, ◌||◌, Bool, List, ℕ, ap, map, string_bytes, sym, true}
 use Rattle.std.specs.List.{list_any}
 use Rattle.sbl_machine.specs.BuiltFrom.{any_names, names}
-use Rattle.sbl_machine.specs.Touched.{Grouping, items_in, same_item}
+use Rattle.sbl_semantics.specs.Touched.{Grouping, items_in, same_item}
 use Rattle.sbl_ast.specs.View.{view_argument, view_plain, view_term}
 use Rattle.sbl_ast.specs.declared.tree.Plain as declared-plain
 use Rattle.sbl_ast.specs.declared.tree.Term as declared

@@ -1,6 +1,6 @@
 use Rattle.std.proofs.Common.{◌≡◌, ◌||◌, Bool, length, map}
 use Rattle.std.specs.List.{list_any}
-use Rattle.sbl_machine.specs.Touched.{Item', item_of, items_in}
+use Rattle.sbl_semantics.specs.Touched.{Item', item_of, items_in}
 use Rattle.sbl_unused.proofs.touched.add_items.Given as goal
 
 abbrev pub invariant-loop-item : goal.invariant-loop-item

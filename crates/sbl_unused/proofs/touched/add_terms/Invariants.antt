@@ -1,7 +1,7 @@
 use Rattle.std.proofs.Common.{◌≡◌, ◌||◌, Bool, drop, map}
 use Rattle.std.specs.List.{list_any}
 use Rattle.sbl_machine.specs.BuiltFrom.{any_names}
-use Rattle.sbl_machine.specs.Touched.{Item', Grouping, items_in}
+use Rattle.sbl_semantics.specs.Touched.{Item', Grouping, items_in}
 use Rattle.sbl_ast.specs.View.{view_term}
 use Rattle.sbl_unused.proofs.touched.add_terms.Given as goal
 

@@ -2,7 +2,7 @@ use Rattle.std.proofs.Common.{◌∙◌, ap}
 use Rattle.std.specs.List.{list_any}
 use Rattle.sbl_bench.specs.Kept.{setting_of}
 use Rattle.sbl_machine.specs.BuiltFrom.{affected}
-use Rattle.sbl_machine.specs.Touched.{items_in}
+use Rattle.sbl_semantics.specs.Touched.{items_in}
 use Rattle.sbl_script.specs.Parsed.{Parsed, source_of}
 use Rattle.sbl_unused.proofs.Unions.{met_words}
 use Rattle.sbl_unused.proofs.touched.met_by_words.Goals as goal

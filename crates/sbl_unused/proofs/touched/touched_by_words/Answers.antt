@@ -3,7 +3,7 @@ use Rattle.std.specs.Borrow.{Bor}
 use Rattle.std.specs.List.{list_any}
 use Rattle.sbl_bench.specs.Kept.{setting_of}
 use Rattle.sbl_bench.specs.Vocabulary.{is_word}
-use Rattle.sbl_machine.specs.Touched.{items_in, touched_of}
+use Rattle.sbl_semantics.specs.Touched.{items_in, touched_of}
 use Rattle.sbl_unused.specs.Views.{texts_of}
 use Rattle.sbl_unused.proofs.Loops.{at_index}
 use Rattle.sbl_unused.proofs.Unions.{or_front, word_at}

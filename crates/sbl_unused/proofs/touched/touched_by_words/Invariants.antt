@@ -1,7 +1,7 @@
 use Rattle.std.proofs.Common.{◌≡◌, ◌||◌, ℕ, List, Bool, drop}
 use Rattle.std.specs.List.{list_any}
 use Rattle.sbl_bench.specs.Kept.{setting_of}
-use Rattle.sbl_machine.specs.Touched.{Item', items_in, touched_of}
+use Rattle.sbl_semantics.specs.Touched.{Item', items_in, touched_of}
 use Rattle.sbl_unused.specs.Views.{texts_of}
 use Rattle.sbl_unused.proofs.touched.touched_by_words.Given as goal
 

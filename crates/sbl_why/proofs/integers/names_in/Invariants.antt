@@ -1,5 +1,5 @@
 use Rattle.std.proofs.Common.{◌≡◌, ◌++◌, drop, map}
-use Rattle.sbl_compiler.specs.Items.{known_in}
+use Rattle.sbl_semantics.specs.Items.{known_in}
 use Rattle.sbl_ast.specs.Order.{view_in_mode}
 use Rattle.sbl_ast.specs.declared.tree.DeclarationKind.TheVariants as kinds
 use Rattle.sbl_why.proofs.integers.names_in.Given as goal

@@ -1,9 +1,9 @@
 use Rattle.std.proofs.Common.{◌≡◌, ◌∙◌, ◌++◌, ◌-◌, ℕ, List, ap, ap₂, length, map, sym, take}
 use Rattle.sbl_bench.specs.Kept.{setting_of}
-use Rattle.sbl_machine.specs.Outcome.{outcome_of}
+use Rattle.sbl_semantics.specs.Outcome.{outcome_of}
 use Rattle.sbl_io.specs.Records.{records_text}
-use Rattle.sbl_interpreter.specs.Events.{event_of}
-use Rattle.sbl_interpreter.specs.declared.event.Event.{Event}
+use Rattle.sbl_semantics.specs.Events.{event_of}
+use Rattle.sbl_semantics.specs.declared.event.Event.{Event}
 use Rattle.sbl_why.specs.Moments.{at_start}
 use Rattle.sbl_why.specs.Rows.{max_events, more_rows, routine_names, rows_from}
 use Rattle.sbl_why.proofs.Lines.{lines_are_rows}

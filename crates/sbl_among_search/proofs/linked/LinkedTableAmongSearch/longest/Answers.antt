@@ -2,7 +2,7 @@ use Rattle.std.proofs.Common.{◌≡◌, ◌+◌, false, None, length, ap, refl,
 use Rattle.std.proofs.Props.{props}
 use mathlib.Core.Logic.{∥∥₁_elim}
 use Rattle.sbl_char_class.specs.CharacterClasses.{members}
-use Rattle.sbl_among_search.specs.Fitting.{read_as, first, fitting}
+use Rattle.sbl_semantics.specs.Fitting.{read_as, first, fitting}
 use Rattle.sbl_among_search.specs.Beginnings.{may_begin}
 use Rattle.sbl_among_search.specs.Linked.{numbers_of, texts_of}
 use Rattle.sbl_among_search.specs.LinkedStrings.{strings_of}

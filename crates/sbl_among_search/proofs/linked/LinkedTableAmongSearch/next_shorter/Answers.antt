@@ -2,7 +2,7 @@ use Rattle.std.proofs.Common.{◌≡◌, ◌≤◌, ◌<◌, [], length, sym, ap
 use Rattle.std.proofs.lemmas.Option.{slice_get_past, slice_get-get_or}
 use Rattle.std.proofs.Props.{props}
 use mathlib.Core.Logic.{∥∥₁_elim}
-use Rattle.sbl_among_search.specs.Fitting.{read_as}
+use Rattle.sbl_semantics.specs.Fitting.{read_as}
 use Rattle.sbl_among_search.specs.LinkedStrings.{strings_of}
 use Rattle.sbl_among_search.proofs.Fits.{best_after, none_after}
 use Rattle.sbl_among_search.proofs.Next.{next_string, next_none}

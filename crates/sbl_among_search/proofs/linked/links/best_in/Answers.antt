@@ -2,7 +2,7 @@ use Rattle.std.proofs.Common.{◌≡◌, ◌<◌, length, get_or, refl, arith, S
 use Rattle.std.specs.Prelude.{slice_get}
 use Rattle.std.proofs.lemmas.List.{length-map}
 use Rattle.std.proofs.lemmas.Option.{slice_get-get_or}
-use Rattle.sbl_among_search.specs.Fitting.{read_as}
+use Rattle.sbl_semantics.specs.Fitting.{read_as}
 use Rattle.sbl_among_search.specs.Linked.{Row, numbers_of, texts_of}
 use Rattle.sbl_among_search.proofs.Chain.{best_is, count_stands}
 use Rattle.sbl_among_search.proofs.Sorted.{part_at}

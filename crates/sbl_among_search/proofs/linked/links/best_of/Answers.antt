@@ -1,6 +1,6 @@
 use Rattle.std.proofs.Common.{sym, subst}
 use Rattle.sbl_among_search.specs.Best.{IsBest}
-use Rattle.sbl_among_search.specs.Fitting.{read_as}
+use Rattle.sbl_semantics.specs.Fitting.{read_as}
 use Rattle.sbl_ast.specs.declared.mode.Mode.{Mode}
 use Rattle.sbl_among_search.proofs.linked.links.best_of.Goals as goal
 

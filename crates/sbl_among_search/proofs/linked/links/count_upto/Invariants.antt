@@ -2,7 +2,7 @@ use Rattle.std.proofs.Common.{◌≡◌, ℕ, ◌<◌, ◌≤◌, ◌-◌, true,
 use Rattle.std.specs.Prelude.{slice_get}
 use Rattle.std.specs.Ordering.{is_gt, nat_cmp}
 use Rattle.std.specs.Cmp.Lexicographic.{slice_cmp}
-use Rattle.sbl_among_search.specs.Fitting.{read_as}
+use Rattle.sbl_semantics.specs.Fitting.{read_as}
 use Rattle.sbl_among_search.specs.Linked.{texts_of}
 use Rattle.sbl_among_search.proofs.linked.links.count_upto.Given as goal
 

@@ -2,7 +2,7 @@ use Rattle.std.proofs.Common.{◌≡◌, ◌<◌, ◌≤◌, true, length, get_o
 use Rattle.std.specs.Prelude.{slice_get, nat_eq}
 use Rattle.std.specs.List.{starts_with}
 use Rattle.std.proofs.lemmas.Option.{slice_get-get_or}
-use Rattle.sbl_among_search.specs.Fitting.{read_as}
+use Rattle.sbl_semantics.specs.Fitting.{read_as}
 use Rattle.sbl_among_search.specs.Linked.{Row, StandsAt, texts_of}
 use Rattle.sbl_among_search.proofs.Chain.{down_below, down_row, found, goes_on, some_at, stand_at}
 use Rattle.sbl_among_search.proofs.Sorted.{part_at}

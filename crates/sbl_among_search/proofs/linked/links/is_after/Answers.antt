@@ -1,7 +1,7 @@
 use Rattle.std.proofs.Common.{◌≡◌, ◌<◌, length, sym, ap, ◌∙◌, arith, rules, get_or}
 use Rattle.std.specs.Prelude.{nat_lt}
 use Rattle.std.proofs.lemmas.Grind.{get_or_default_zero}
-use Rattle.sbl_among_search.specs.Fitting.{read_as}
+use Rattle.sbl_semantics.specs.Fitting.{read_as}
 use Rattle.sbl_among_search.proofs.SoFar.{read_length}
 use Rattle.sbl_among_search.proofs.Order.{not_after, after_all, after_by}
 use Rattle.sbl_among_search.proofs.linked.links.is_after.Goals as goal

@@ -1,6 +1,6 @@
 use Rattle.std.proofs.Common.{◌≡◌, ℕ, ◌+◌, ◌++◌, ◌∷◌, [], length, map, take, get_or, refl, sym, ap, ◌∙◌, Vec, Global}
 use Rattle.std.proofs.lemmas.List.{map-append, take_more, length-map, length-append}
-use Rattle.sbl_among_search.specs.Fitting.{read_all, read_as}
+use Rattle.sbl_semantics.specs.Fitting.{read_all, read_as}
 use Rattle.sbl_among_search.specs.Linked.{Row, AreOwn, numbers_of, texts_of}
 use Rattle.sbl_among_search.proofs.Next.{next_string}
 use Rattle.sbl_among_search.proofs.Sorted.{own_more}

@@ -1,5 +1,5 @@
 use Rattle.std.proofs.Common.{◌≡◌, map, take, length}
-use Rattle.sbl_among_search.specs.Fitting.{read_all}
+use Rattle.sbl_semantics.specs.Fitting.{read_all}
 use Rattle.sbl_among_search.specs.Linked.{AreOwn, numbers_of, texts_of}
 use Rattle.sbl_among_search.proofs.linked.rows.numbered.Given as goal
 

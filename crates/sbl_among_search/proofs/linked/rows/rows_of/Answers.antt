@@ -1,5 +1,5 @@
 use Rattle.std.proofs.Common.{map, Vec, Global, ℕ}
-use Rattle.sbl_among_search.specs.Fitting.{read_all}
+use Rattle.sbl_semantics.specs.Fitting.{read_all}
 use Rattle.sbl_among_search.proofs.Sorted.{rows_are}
 use Rattle.sbl_among_search.proofs.linked.rows.rows_of.Goals as goal
 

@@ -1,6 +1,6 @@
 use Rattle.std.proofs.Common.{◌≡◌, length, take, sym, ap, ◌∙◌, arith}
 use Rattle.std.proofs.lemmas.List.{length-take}
-use Rattle.sbl_among_search.specs.Fitting.{read_as}
+use Rattle.sbl_semantics.specs.Fitting.{read_as}
 use Rattle.sbl_among_search.specs.Strings.{strings_of}
 use Rattle.sbl_among_search.proofs.Next.{next_string}
 use Rattle.sbl_among_search.proofs.SoFar.{so_far_next}

@@ -1,5 +1,5 @@
 use Rattle.std.proofs.Common.{take}
-use Rattle.sbl_among_search.specs.Fitting.{read_as}
+use Rattle.sbl_semantics.specs.Fitting.{read_as}
 use Rattle.sbl_among_search.specs.Strings.{strings_of}
 use Rattle.sbl_among_search.specs.Best.{BestSoFar}
 use Rattle.sbl_among_search.proofs.plain.PlainTable.best.Given as goal

@@ -1,5 +1,5 @@
 use Rattle.std.proofs.Common.{◌+◌, length, ap, refl, ◌∙◌}
-use Rattle.sbl_among_search.specs.Fitting.{read_as, first, fitting}
+use Rattle.sbl_semantics.specs.Fitting.{read_as, first, fitting}
 use Rattle.sbl_among_search.specs.Strings.{strings_of}
 use Rattle.sbl_among_search.proofs.Fits.{best_fits}
 use Rattle.sbl_among_search.proofs.SoFar.{read_length}

@@ -1,8 +1,8 @@
 use Rattle.std.proofs.Common.{◌∙◌, List, ℕ, Some, None, ap, map, option_map, sym}
 use Rattle.sbl_script.specs.Parsed.{source_of}
 use Rattle.sbl_bench.specs.Setting.{under}
-use Rattle.sbl_machine.specs.declared.outcome.Outcome.{Outcome}
-use Rattle.sbl_machine.specs.Outcome.{outcome_of}
+use Rattle.sbl_semantics.specs.declared.outcome.Outcome.{Outcome}
+use Rattle.sbl_semantics.specs.Outcome.{outcome_of}
 use Rattle.sbl_bench.specs.Classes.{class_of, class_with, in_order, stem_of, words_with}
 use Rattle.sbl_bench.specs.Kept.{setting_of, Kept, words_in}
 use Rattle.sbl_bench.specs.Rows.{rows_of}

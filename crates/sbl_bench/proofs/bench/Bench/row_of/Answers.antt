@@ -1,8 +1,8 @@
 use Rattle.std.proofs.Common.{◌∙◌, List, ℕ, Option, Some, ap, find}
 use Rattle.std.specs.Str.{bytes_eq}
 use Rattle.sbl_script.specs.Parsed.{source_of}
-use Rattle.sbl_machine.specs.declared.outcome.Outcome.{Outcome}
-use Rattle.sbl_machine.specs.Outcome.{outcome_of}
+use Rattle.sbl_semantics.specs.declared.outcome.Outcome.{Outcome}
+use Rattle.sbl_semantics.specs.Outcome.{outcome_of}
 use Rattle.sbl_bench.specs.Kept.{setting_of, Kept}
 use Rattle.sbl_bench.specs.Rows.{Row, rows_of}
 use Rattle.sbl_bench.specs.Setting.{under}

@@ -1,7 +1,7 @@
 use Rattle.std.proofs.Common.{map, inl, ap, sym, refl, subst}
 use Rattle.std.proofs.lemmas.Result.{err_from_is_err_and}
 use Rattle.sbl_script.specs.Parsed.{source_of}
-use Rattle.sbl_machine.specs.Touched.{item_of}
+use Rattle.sbl_semantics.specs.Touched.{item_of}
 use Rattle.sbl_bench.specs.Changes.{Brings, IsTaken, affected_of}
 use Rattle.sbl_bench.specs.Contents.{Contents}
 use Rattle.sbl_bench.specs.Edits.{Replace}

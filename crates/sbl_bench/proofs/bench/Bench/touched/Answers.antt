@@ -1,6 +1,6 @@
 use Rattle.std.proofs.Common.{◌∙◌, List, ap}
-use Rattle.sbl_machine.specs.Touched.{items_in, items_of, names_of}
-use Rattle.sbl_interpreter.specs.declared.touch.Touch.{Touch}
+use Rattle.sbl_semantics.specs.Touched.{items_in, items_of, names_of}
+use Rattle.sbl_semantics.specs.declared.touch.Touch.{Touch}
 use Rattle.sbl_script.specs.Parsed.{source_of}
 use Rattle.sbl_bench.specs.Kept.{Kept, setting_of}
 use Rattle.sbl_bench.specs.Setting.{under}

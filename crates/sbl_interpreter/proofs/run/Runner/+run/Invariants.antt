@@ -1,11 +1,12 @@
 use Rattle.std.proofs.Common.{◌≡◌, ℕ, suc, ◌+◌, ◌*◌, ◌≤◌, ◌++◌, drop, map}
 use Rattle.std.specs.Prelude.{List}
-use Rattle.sbl_among_search.specs.Fitting.{first}
+use Rattle.sbl_semantics.specs.Fitting.{first}
 use Rattle.sbl_interpreter.specs.Listing.{fits_at}
 use Rattle.sbl_program.specs.ProgramOf.{program_of, view_joined, view_node, view_nodes}
-use Rattle.sbl_interpreter.specs.Run.{runs, all_run, calls, turns, times, seeks}
+use Rattle.sbl_interpreter.specs.Run.{runs, all_run, calls}
+use Rattle.sbl_semantics.specs.Control.{turns, times, seeks}
 use Rattle.sbl_interpreter.specs.Rows.{others_run, row_runs}
-use Rattle.sbl_interpreter.specs.State.{Signals}
+use Rattle.sbl_semantics.specs.State.{Signals}
 use Rattle.sbl_interpreter.specs.Search.{tries, searched, bound_in}
 use Rattle.sbl_interpreter.proofs.run.Runner.+run.Given as goal
 

@@ -1,5 +1,6 @@
 use Rattle.std.proofs.Common.{◌≡◌, ◌+◌, drop, map, Ok, Err, sym, ap, ◌∙◌, rules}
-use Rattle.sbl_interpreter.specs.Numbers.{value, with_both}
+use Rattle.sbl_interpreter.specs.Arithmetic.{value}
+use Rattle.sbl_semantics.specs.Numbers.{with_both}
 use Rattle.sbl_interpreter.specs.Rows.{product_of, scales_to, sum_of, sums_to}
 use Rattle.sbl_program.specs.ProgramOf.{view_added, view_number, view_scaled}
 use Rattle.sbl_interpreter.proofs.Rows.{part_is, product_value, scales_stop, sum_value, sums_stop}

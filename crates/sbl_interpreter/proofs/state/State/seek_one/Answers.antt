@@ -2,9 +2,9 @@ use Rattle.std.proofs.Common.{◌≡◌, ◌<◌, ◌≤◌, suc, true, false, m
 use Rattle.sbl_char_class.specs.CharacterClasses.{members}
 use Rattle.sbl_char_class.specs.Terms.{class_at}
 use Rattle.sbl_interpreter.specs.Actions.{test_grouping}
-use Rattle.sbl_interpreter.specs.Moves.{next}
-use Rattle.sbl_interpreter.specs.Run.{paid, seeks}
-use Rattle.sbl_interpreter.specs.State.{Signals, saved_cursor, put_back}
+use Rattle.sbl_semantics.specs.Moves.{next}
+use Rattle.sbl_semantics.specs.Control.{paid, seeks}
+use Rattle.sbl_semantics.specs.State.{Signals, saved_cursor, put_back}
 use Rattle.sbl_interpreter.proofs.Arms.{one_try}
 use Rattle.sbl_interpreter.proofs.state.State.seek_one.Goals as goal
 

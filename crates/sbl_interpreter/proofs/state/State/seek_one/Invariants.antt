@@ -2,7 +2,7 @@ use Rattle.std.proofs.Common.{◌≡◌, ◌≤◌, ℕ, suc, map}
 use Rattle.sbl_char_class.specs.CharacterClasses.{members}
 use Rattle.sbl_char_class.specs.Terms.{class_at}
 use Rattle.sbl_interpreter.specs.Actions.{test_grouping}
-use Rattle.sbl_interpreter.specs.Run.{paid, seeks}
+use Rattle.sbl_semantics.specs.Control.{paid, seeks}
 use Rattle.sbl_interpreter.proofs.state.State.seek_one.Given as goal
 
 -- tries enough for the steps that are left do from here what all of them do from the start

@@ -3,8 +3,8 @@ use Rattle.std.specs.Prelude.{int_div, if◌then◌else◌}
 use Rattle.std.specs.Int.{w32, IsNonZero}
 use Rattle.std.specs.Ordering.{int_eq}
 use Rattle.std.proofs.lemmas.Int.{ints}
-use Rattle.sbl_interpreter.specs.declared.fault.RunFault.TheVariants as faults
-use Rattle.sbl_interpreter.specs.Numbers.{fitted}
+use Rattle.sbl_semantics.specs.declared.fault.RunFault.TheVariants as faults
+use Rattle.sbl_semantics.specs.Numbers.{fitted}
 use Rattle.sbl_interpreter.proofs.state.numbers.divided.Goals as goal
 
 narrowed : (A B : Type 0) (r : Option ℤ) (z : ℤ) → A → SomeIff r (A × B) z → SomeIff r B z

@@ -1,7 +1,7 @@
 use Rattle.std.proofs.Common.{◌≡◌, ◌≤◌, ◌<◌, ◌++◌, ◌∷◌, [], List, ℕ, rules, arith, length, get_or, refl, sym, ap, ◌∙◌, Some, None}
 use Rattle.std.specs.Prelude.{slice_get}
 use Rattle.std.proofs.lemmas.Option.{slice_get_read, slice_get_past}
-use Rattle.sbl_among_search.specs.Fitting.{ahead_at}
+use Rattle.sbl_semantics.specs.Fitting.{ahead_at}
 use Rattle.sbl_interpreter.specs.Listing.{fits_at, listed_by}
 use Rattle.sbl_ast.specs.declared.mode.Mode.TheVariants.{Forward}
 use Rattle.sbl_interpreter.proofs.Nothing.{none_fits}

@@ -1,5 +1,5 @@
 use Rattle.std.proofs.Common.{◌≡◌, map, [], ◌∷◌, ◌++◌, sym, subst, rules}
-use Rattle.sbl_interpreter.specs.declared.touch.Touch.TheVariants.{Searched}
+use Rattle.sbl_semantics.specs.declared.touch.Touch.TheVariants.{Searched}
 use Rattle.sbl_interpreter.specs.Marks.{AreAmong}
 use Rattle.sbl_interpreter.proofs.Marked.{left_among}
 use Rattle.sbl_interpreter.proofs.touched.Touched.clear.Goals as goal

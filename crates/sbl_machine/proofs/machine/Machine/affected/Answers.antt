@@ -1,12 +1,12 @@
 use Rattle.std.proofs.Common.{◌≡◌, List, Result, Ok, Err, IfOk, map, ap, subst, sym}
-use Rattle.sbl_interpreter.specs.declared.touch.Touch.{Touch}
+use Rattle.sbl_semantics.specs.declared.touch.Touch.{Touch}
 use Rattle.sbl_script.specs.Parsed.{source_of}
 use Rattle.sbl_ast.specs.Order.{in_order}
 use Rattle.sbl_ast.specs.View.{view_items}
 use Rattle.sbl_machine.specs.MachineOf.{IsMachineOf}
 use Rattle.sbl_machine.specs.Marking.{marks_of}
 use Rattle.sbl_machine.specs.Marks.{AreMarksOf}
-use Rattle.sbl_machine.specs.Touched.{Names', item_of, names_of}
+use Rattle.sbl_semantics.specs.Touched.{Names', item_of, names_of}
 use Rattle.sbl_machine.proofs.MarksAre.{are_marks}
 use Rattle.sbl_machine.proofs.machine.Machine.affected.Goals as goal
 

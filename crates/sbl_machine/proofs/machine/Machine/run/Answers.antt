@@ -1,5 +1,5 @@
 use Rattle.std.proofs.Common.{ap, ◌∙◌}
-use Rattle.sbl_machine.specs.Touched.{items_of, names_of, touched_of}
+use Rattle.sbl_semantics.specs.Touched.{items_of, names_of, touched_of}
 use Rattle.sbl_machine.proofs.machine.Machine.run.Goals as goal
 
 pub returns-clause-touched : goal.returns-clause-touched

@@ -1,7 +1,7 @@
 use Rattle.std.proofs.Common.{ap, map, ◌∙◌}
 use Rattle.std.specs.List.{list_any}
 use Rattle.sbl_machine.specs.MachineOf.{IsMachineOf}
-use Rattle.sbl_machine.specs.Touched.{item_of, named, same_item}
+use Rattle.sbl_semantics.specs.Touched.{item_of, named, same_item}
 use Rattle.sbl_machine.proofs.machine.Machine.touched.Goals as goal
 
 pub returns : goal.returns

@@ -4,13 +4,16 @@ use Rattle.sbl_interpreter.specs.Kept.{Follows}
 use Rattle.sbl_interpreter.proofs.Arms.{by_fault, stops_at, sequence_does, not_does, test_does, try_does, do_does, fail_does, either_way, backwards_does, follows_at, repeat_does, loop_does, atleast_does, goto_does, gopast_does, setlimit_does, search_does, among_does, after_halts}
 use Rattle.sbl_interpreter.proofs.Rows.{row_does}
 use Rattle.sbl_interpreter.specs.Rows.{row_runs}
-use Rattle.sbl_interpreter.specs.State.{State, Ending, Signals, after, then_on, saved_cursor, put_back}
+use Rattle.sbl_semantics.specs.State.{State, Ending, Signals, after, then_on, saved_cursor, put_back}
 use Rattle.sbl_program.specs.declared.node.Node.{Node}
 use Rattle.sbl_program.specs.ProgramOf.{program_of, view_joined, view_node, view_nodes, view_number}
-use Rattle.sbl_interpreter.specs.Run.{runs_paid, runs, all_run, backwards_end, backwards_from, calls, turns, times, seeks, count_of, limits, limited, limit_here}
+use Rattle.sbl_interpreter.specs.Run.{runs_paid, runs, all_run, calls}
+use Rattle.sbl_semantics.specs.Control.{backwards_end, backwards_from, turns, times, seeks, count_of, limits, limited, limit_here}
 use Rattle.sbl_ast.specs.declared.mode.Mode.TheVariants.{Backward}
-use Rattle.sbl_interpreter.specs.Numbers.{value, given}
-use Rattle.sbl_interpreter.specs.Search.{searched, touch_among}
+use Rattle.sbl_interpreter.specs.Arithmetic.{value}
+use Rattle.sbl_semantics.specs.Numbers.{given}
+use Rattle.sbl_interpreter.specs.Search.{searched}
+use Rattle.sbl_semantics.specs.Choices.{touch_among}
 use Rattle.sbl_interpreter.proofs.run.Runner.+run.Goals as goal
 
 pub run_paid-returns-in-Repeat-clause-follows : goal.run_paid-returns-in-Repeat-clause-follows

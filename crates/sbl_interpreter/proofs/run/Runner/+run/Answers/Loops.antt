@@ -5,22 +5,25 @@ use Rattle.sbl_char_class.specs.CharacterClasses.{members}
 use Rattle.sbl_char_class.specs.Terms.{class_at}
 use Rattle.sbl_interpreter.specs.Actions.{test_grouping}
 use Rattle.sbl_interpreter.specs.Kept.{Follows}
-use Rattle.sbl_interpreter.specs.Moves.{next}
+use Rattle.sbl_semantics.specs.Moves.{next}
 use Rattle.sbl_interpreter.proofs.Arms.{by_fault, stops_at, turn_is, time_stops, follows_at, one_time, nth_is, nth_past, one_turn, one_try, one_more, halted, called, leave_signals, leave_halts, grouping_does, non_does}
 use Rattle.sbl_interpreter.proofs.Rows.{after_signal, others_stop, part_is}
 use Rattle.sbl_interpreter.specs.Rows.{joined_runs, others_run, pays, row_runs}
 use Rattle.std.proofs.lemmas.List.{drop_all, length-map}
-use Rattle.sbl_interpreter.specs.State.{State, Doing, Signals, after, then_on, saved_cursor, put_back}
+use Rattle.sbl_semantics.specs.State.{State, Doing, Signals, after, then_on, saved_cursor, put_back}
 use Rattle.sbl_program.specs.declared.action.Action.TheVariants.{Grouping, NonGrouping}
 use Rattle.sbl_program.specs.declared.node.Node.{Node}
 use Rattle.sbl_program.specs.declared.node.Node.TheVariants.{Act}
 use Rattle.sbl_program.specs.declared.node.Routine.{Routine}
 use Rattle.sbl_program.specs.ProgramOf.{program_of, view_joined, view_node, view_nodes, view_number, view_routine}
-use Rattle.sbl_interpreter.specs.Run.{paid, runs, all_run, group_runs, nth_runs, calls, turns, times, seeks, count_of, back_in, enter}
-use Rattle.sbl_interpreter.specs.Numbers.{value, given}
-use Rattle.sbl_interpreter.specs.Search.{tries, try_one, bound_in, choice}
+use Rattle.sbl_semantics.specs.Control.{paid, turns, times, seeks, count_of, back_in, enter}
+use Rattle.sbl_interpreter.specs.Run.{runs, all_run, group_runs, nth_runs, calls}
+use Rattle.sbl_interpreter.specs.Arithmetic.{value}
+use Rattle.sbl_semantics.specs.Numbers.{given}
+use Rattle.sbl_interpreter.specs.Search.{tries, try_one, bound_in}
+use Rattle.sbl_semantics.specs.Choices.{choice}
 use Rattle.sbl_interpreter.specs.Listing.{fits_at}
-use Rattle.sbl_among_search.specs.Fitting.{first}
+use Rattle.sbl_semantics.specs.Fitting.{first}
 use Rattle.sbl_interpreter.proofs.run.Runner.+run.Goals as goal
 
 pub run_among-returns-in-Some-get-clause-follows : goal.run_among-returns-in-Some-get-clause-follows

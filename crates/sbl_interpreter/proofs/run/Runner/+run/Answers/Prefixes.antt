@@ -1,11 +1,12 @@
 -- What a command behind a prefix does, and one within a limit.
 use Rattle.std.proofs.Common.{◌≡◌, true, false, Err, sym, ap, ◌∙◌, rules}
 use Rattle.sbl_interpreter.proofs.Arms.{by_fault, stops_at, either_way, follows_at, limited_signals, limited_halts}
-use Rattle.sbl_interpreter.specs.State.{State, Ending, Signals, after, then_on, saved_cursor, put_back}
+use Rattle.sbl_semantics.specs.State.{State, Ending, Signals, after, then_on, saved_cursor, put_back}
 use Rattle.sbl_program.specs.declared.node.Node.{Node}
 use Rattle.sbl_program.specs.ProgramOf.{program_of, view_node}
 use Rattle.sbl_interpreter.specs.Kept.{Follows}
-use Rattle.sbl_interpreter.specs.Run.{backwards_end, limit_here, limit_back, limited, limits, runs}
+use Rattle.sbl_semantics.specs.Control.{backwards_end, limit_here, limit_back, limited, limits}
+use Rattle.sbl_interpreter.specs.Run.{runs}
 use Rattle.sbl_ast.specs.declared.mode.Mode.TheVariants.{Backward}
 use Rattle.sbl_interpreter.proofs.run.Runner.+run.Goals as goal
 

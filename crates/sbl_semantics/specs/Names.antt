@@ -1,7 +1,7 @@
 -- The names of the refusals of a run.
 use Rattle.std.specs.Prelude.{ℕ, List, codes}
-use Rattle.sbl_interpreter.specs.declared.fault.RunFault.{RunFault}
-use Rattle.sbl_interpreter.specs.declared.fault.RunFault.TheVariants.{Steps, Depth, Slice, Cursor, Integer, Divide, TooLong}
+use Rattle.sbl_semantics.specs.declared.fault.RunFault.{RunFault}
+use Rattle.sbl_semantics.specs.declared.fault.RunFault.TheVariants.{Steps, Depth, Slice, Cursor, Integer, Divide, TooLong}
 
 abbrev pub name_of : RunFault → List ℕ
 name_of Steps = codes "Steps"

@@ -1,9 +1,9 @@
 -- The slice, replacement and insertion: what each of these commands does once its step is paid.
 use Rattle.std.specs.Prelude.{ℕ, ◌+◌, ◌-◌, Bool, true, false, ◌&&◌, List, length, take, drop, nat_lt, nat_le, if◌then◌else◌, slice_set}
 use Rattle.std.specs.List.{splice}
-use Rattle.sbl_interpreter.specs.Events.{Puts}
-use Rattle.sbl_interpreter.specs.declared.fault.RunFault.TheVariants.{Slice, Cursor, TooLong}
-use Rattle.sbl_interpreter.specs.State.{State, Ending, Signals, Stops, note_event, max_text_length}
+use Rattle.sbl_semantics.specs.Events.{Puts}
+use Rattle.sbl_semantics.specs.declared.fault.RunFault.TheVariants.{Slice, Cursor, TooLong}
+use Rattle.sbl_semantics.specs.State.{State, Ending, Signals, Stops, note_event, max_text_length}
 use Rattle.sbl_ast.specs.declared.mode.Mode.{Mode}
 use Rattle.sbl_ast.specs.declared.mode.Mode.TheVariants.{Forward, Backward}
 

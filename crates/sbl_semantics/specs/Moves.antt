@@ -1,18 +1,12 @@
 -- Moving and testing: what each of these commands does once its step is paid.
-use Rattle.std.specs.Prelude.{ℕ, pos, ◌+◌, Bool, true, false, not, ◌&&◌, List, [], length, nat_lt, nat_le, nat_eq, if◌then◌else◌, Option, Some, None, slice_get, slice_index_or, slice_set}
+use Rattle.std.specs.Prelude.{ℕ, pos, ◌+◌, Bool, true, false, not, ◌&&◌, List, length, nat_lt, nat_le, nat_eq, if◌then◌else◌, Option, Some, None, slice_get, slice_index_or, slice_set}
 use Rattle.std.specs.List.{starts_with}
-use Rattle.sbl_among_search.specs.Fitting.{read_as}
-use Rattle.sbl_program.specs.Program as programs
-use Rattle.sbl_interpreter.specs.declared.touch.Touch.TheVariants.{Tested}
-use Rattle.sbl_interpreter.specs.State.{State, Ending, Signals, ahead, moved, room}
-use Rattle.sbl_interpreter.specs.Touches.{with_touch}
+use Rattle.sbl_semantics.specs.Fitting.{read_as}
+use Rattle.sbl_semantics.specs.declared.touch.Touch.TheVariants.{Tested}
+use Rattle.sbl_semantics.specs.State.{State, Ending, Signals, ahead, moved, room}
+use Rattle.sbl_semantics.specs.Touches.{with_touch}
 use Rattle.sbl_ast.specs.declared.mode.Mode.{Mode}
 use Rattle.sbl_ast.specs.declared.mode.Mode.TheVariants.{Forward, Backward}
-
--- the characters of a literal or of a string variable
-abbrev pub characters : programs.StringTerm → State → List ℕ
-characters (programs.literal cs) s = cs
-characters (programs.variable i) s = slice_index_or s.strings i []
 
 -- moves over a string that is a prefix of the text ahead
 abbrev pub match : List ℕ → Mode → State → Ending

@@ -1,13 +1,14 @@
--- The outcome of a run on a word, and the steps that it uses.
-use Rattle.std.specs.Prelude.{ℕ, ℤ, ◌+◌, ◌-◌, List}
-use Rattle.sbl_interpreter.specs.declared.fault.RunFault.{RunFault}
-use Rattle.sbl_interpreter.specs.declared.fault.RunFault.TheVariants as faults
-use Rattle.sbl_machine.specs.declared.outcome.Outcome.{Outcome}
-use Rattle.sbl_machine.specs.declared.outcome.Outcome.TheVariants as code
-use Rattle.sbl_interpreter.specs.declared.touch.Touch.{Touch}
-use Rattle.sbl_machine.specs.Meaning.{ending}
-use Rattle.sbl_interpreter.specs.State.{Ending, Signals, Stops}
-use Rattle.sbl_script.specs.Parsed.{Source}
+-- The outcome of a run on a word, the steps that it uses, and its events.
+use Rattle.std.specs.Prelude.{ℕ, ℤ, ◌+◌, ◌-◌, List, [], Option, Some, None}
+use Rattle.sbl_semantics.specs.declared.fault.RunFault.{RunFault}
+use Rattle.sbl_semantics.specs.declared.fault.RunFault.TheVariants as faults
+use Rattle.sbl_semantics.specs.declared.outcome.Outcome.{Outcome}
+use Rattle.sbl_semantics.specs.declared.outcome.Outcome.TheVariants as code
+use Rattle.sbl_semantics.specs.declared.touch.Touch.{Touch}
+use Rattle.sbl_semantics.specs.Meaning.{ending, ending_with_events}
+use Rattle.sbl_semantics.specs.State.{Ending, Signals, Stops}
+use Rattle.sbl_ast.specs.Source.{Source}
+use Rattle.sbl_semantics.specs.Events.{Event'}
 
 -- a stem, or why there is none
 pub data Outcome' : Type 0 where
@@ -54,3 +55,15 @@ touches_of script word limit = touched_at (ending script word limit)
 -- the values of the integer variables at the end of this run, by number
 unfoldable pub integers_of : Source → List ℕ → ℕ → List ℤ
 integers_of script word limit = integers_at (ending script word limit)
+
+abbrev pub events_in : Option (List Event') → List Event'
+events_in None = []
+events_in (Some xs) = xs
+
+abbrev pub events_at : Ending → List Event'
+events_at (Signals b s) = events_in s.events
+events_at (Stops fault s) = events_in s.events
+
+-- the events of a run of a script on a word, with this limit, up to its end or to where it is refused
+unfoldable pub events_of : Source → List ℕ → ℕ → List Event'
+events_of script word limit = events_at (ending_with_events script word limit)

@@ -9,14 +9,13 @@ use Rattle.std.specs.Cmp.Lexicographic.{slice_cmp}
 use Rattle.std.specs.BTreeSet.{BTreeSet, insert_key}
 use Rattle.sbl_ast.specs.Order.{in_order}
 use Rattle.sbl_ast.specs.declared.tree.DeclarationKind.TheVariants as kinds
-use Rattle.sbl_machine.specs.declared.item.Item.{Item}
-use Rattle.sbl_machine.specs.declared.item.Item.TheVariants as code
-use Rattle.sbl_interpreter.specs.declared.touch.Touch.{Touch}
-use Rattle.sbl_interpreter.specs.declared.touch.Touch.TheVariants.{Entered, Searched, Tested}
-use Rattle.sbl_machine.specs.Outcome.{touches_of}
-use Rattle.sbl_compiler.specs.Items.{known_in}
-use Rattle.sbl_script.specs.Edits.{ScriptEdit, body, among, terms}
-use Rattle.sbl_script.specs.Parsed.{Source}
+use Rattle.sbl_semantics.specs.declared.item.Item.{Item}
+use Rattle.sbl_semantics.specs.declared.item.Item.TheVariants as code
+use Rattle.sbl_semantics.specs.declared.touch.Touch.{Touch}
+use Rattle.sbl_semantics.specs.declared.touch.Touch.TheVariants.{Entered, Searched, Tested}
+use Rattle.sbl_semantics.specs.Outcome.{touches_of}
+use Rattle.sbl_semantics.specs.Items.{known_in}
+use Rattle.sbl_ast.specs.Source.{Source}
 
 -- a routine or a grouping by its name; an among by its routine and its number there, counted from 1 in the order of the
 -- words `among`
@@ -30,12 +29,6 @@ abbrev pub item_of : Item → Item'
 item_of (code.Routine name) = Routine (string_bytes name)
 item_of (code.Among name k) = Among (string_bytes name) k
 item_of (code.Grouping name) = Grouping (string_bytes name)
-
--- the item that an edit of a script replaces
-abbrev pub replaced : ScriptEdit → Item'
-replaced (body name) = Routine name
-replaced (among name k) = Among name k
-replaced (terms name) = Grouping name
 
 abbrev pub same_item : Item' → Item' → Bool
 same_item (Routine m) (Routine n) = bytes_eq m n

@@ -1,48 +1,19 @@
--- Numbers: the value of an arithmetic expression, and what is done with it.
-use Rattle.std.specs.Prelude.{ℕ, ℤ, pos, negsuc, ◌+ℤ◌, ◌-ℤ◌, ◌*ℤ◌, neg_ℤ, ◌^◌, Bool, true, not, length, nat_lt, int_lt, int_div, if◌then◌else◌, Result, Ok, Err, Option, Some, None, slice_index_or, slice_set}
+-- The strings and the numbers of a program, and what is done with them.
+use Rattle.std.specs.Prelude.{ℕ, ℤ, pos, negsuc, ◌+ℤ◌, ◌-ℤ◌, ◌*ℤ◌, neg_ℤ, Bool, true, not, List, [], length, int_lt, Ok, slice_index_or, slice_set}
 use Rattle.std.specs.Ordering.{int_eq}
 use Rattle.sbl_program.specs.declared.action.Change.{Change}
 use Rattle.sbl_program.specs.declared.action.Change.TheVariants.{Becomes, Plus, Minus, Times, Over}
 use Rattle.sbl_program.specs.declared.action.Relation.{Relation}
 use Rattle.sbl_program.specs.declared.action.Relation.TheVariants.{Equal, Unequal, Less, LessOrEqual, Greater, GreaterOrEqual}
-use Rattle.sbl_interpreter.specs.declared.fault.RunFault.{RunFault}
-use Rattle.sbl_interpreter.specs.declared.fault.RunFault.TheVariants as faults
-use Rattle.sbl_interpreter.specs.Moves.{characters}
 use Rattle.sbl_program.specs.Program as programs
-use Rattle.sbl_interpreter.specs.State.{State, Ending, Signals, Stops}
+use Rattle.sbl_semantics.specs.Numbers.{Value, fitted, divided, with_value, with_both, limit_value, integer_at, given}
+use Rattle.sbl_semantics.specs.State.{State, Ending, Signals}
 use Rattle.sbl_ast.specs.declared.mode.Mode.{Mode}
-use Rattle.sbl_ast.specs.declared.mode.Mode.TheVariants.{Forward, Backward}
 
--- a number, or why there is none
-abbrev pub Value : Type 0
-Value = Result ℤ RunFault
-
--- a number from -2147483648 to 2147483647
-abbrev pub fitted : ℤ → Value
-fitted (pos n) = if nat_lt n (2 ^ 31) then Ok (pos n) else Err faults.Integer
-fitted (negsuc n) = if nat_lt n (2 ^ 31) then Ok (negsuc n) else Err faults.Integer
-
--- the quotient, rounded towards zero
-abbrev pub divided : ℤ → ℤ → Value
-divided x y = if int_eq y (pos 0) then Err faults.Divide else fitted (int_div x y)
-
--- continues with a number
-abbrev pub with_value : Value → (ℤ → Value) → Value
-with_value (Ok z) go = go z
-with_value (Err fault) go = Err fault
-
--- continues with two numbers, the left one first
-abbrev pub with_both : Value → Value → (ℤ → ℤ → Value) → Value
-with_both a b go = with_value a (λ x. with_value b (go x))
-
--- the limit of the direction
-abbrev pub limit_value : Mode → State → Value
-limit_value Forward s = fitted (pos (length s.text) -ℤ pos s.beyond)
-limit_value Backward s = fitted (pos s.left)
-
--- the value of an integer variable
-abbrev pub integer_at : ℕ → State → ℤ
-integer_at x s = slice_index_or s.integers x (pos 0)
+-- the characters of a literal or of a string variable
+abbrev pub characters : programs.StringTerm → State → List ℕ
+characters (programs.literal cs) s = cs
+characters (programs.variable i) s = slice_index_or s.strings i []
 
 -- the value of an expression
 abbrev pub value : programs.Arithmetic → Mode → State → Value
@@ -76,11 +47,6 @@ holds LessOrEqual x y = not (int_lt y x)
 holds Greater x y = int_lt y x
 holds GreaterOrEqual x y = not (int_lt x y)
 
--- a command continues with a number, or the run is refused
-abbrev pub given : Value → State → (ℤ → Ending) → Ending
-given (Ok z) s go = go z
-given (Err fault) s go = Stops fault s
-
 -- `$x = AE` and similar commands: the expression first
 abbrev pub assign : ℕ → Change → programs.Arithmetic → Mode → State → Ending
 assign x change a m s =
@@ -89,8 +55,3 @@ assign x change a m s =
 -- a comparison of two expressions
 abbrev pub compare : programs.Arithmetic → Relation → programs.Arithmetic → Mode → State → Ending
 compare a relation b m s = given (value a m s) s (λ x. given (value b m s) s (λ y. Signals (holds relation x y) s))
-
--- a number that is not negative
-abbrev pub natural : ℤ → Option ℕ
-natural (pos n) = Some n
-natural (negsuc n) = None

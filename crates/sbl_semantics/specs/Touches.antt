@@ -2,8 +2,8 @@
 -- for whose test it pays.
 use Rattle.std.specs.Prelude.{Bool, false, ◌&&◌, List, [], ◌∷◌, ◌++◌, nat_eq, if◌then◌else◌}
 use Rattle.std.specs.List.{list_any}
-use Rattle.sbl_interpreter.specs.declared.touch.Touch.{Touch}
-use Rattle.sbl_interpreter.specs.declared.touch.Touch.TheVariants.{Entered, Searched, Tested}
+use Rattle.sbl_semantics.specs.declared.touch.Touch.{Touch}
+use Rattle.sbl_semantics.specs.declared.touch.Touch.TheVariants.{Entered, Searched, Tested}
 
 abbrev pub same_touch : Touch → Touch → Bool
 same_touch (Entered i) (Entered j) = nat_eq i j

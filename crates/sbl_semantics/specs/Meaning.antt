@@ -31,18 +31,18 @@ use Rattle.sbl_ast.specs.Tree as trees
 use Rattle.sbl_ast.specs.Tree.{bracket, simple_, literal_, name_, non_, prefixed, counted, move_, named, splice_, setlimit_, assign_, compare_, compare_values_, among_, no_rows, row, no_others, joined, no_starter, starter, bare, group}
 use Rattle.std.specs.Cmp.Lexicographic.{pointwise}
 use Rattle.sbl_ast.specs.declared.tree.DeclarationKind.TheVariants as kinds
-use Rattle.sbl_among_search.specs.Fitting.{read_as, ahead_at}
-use Rattle.sbl_compiler.specs.Items.{Known, Body, is_among, place_of, body_named, class_of, classes_behind, known_in}
-use Rattle.sbl_interpreter.specs.Moves.{match, one_of, touch_grouping, next, hop, at_limit, set_mark, at_mark, to_mark, set_boolean, test_boolean}
-use Rattle.sbl_interpreter.specs.Numbers.{Value, natural, given, fitted, divided, with_value, with_both, limit_value, integer_at}
-use Rattle.sbl_compiler.specs.Regions.{Among, among_at, behind, behind_rows, behind_others, behind_starter, first, first_rows, first_others, mode_behind, waits, waits_others}
-use Rattle.sbl_interpreter.specs.Run.{at_end, turns, times, count_of, seeks, limits, limit_here, limit_back, backwards_from, backwards_end, chosen as go_on, enter, leave, paid}
-use Rattle.sbl_interpreter.specs.Search.{choice, take_none, take_string, touch_among}
-use Rattle.sbl_interpreter.specs.Slices.{left_bracket, right_bracket, replace, keep, insert, attach}
-use Rattle.sbl_interpreter.specs.Start.{max_levels}
-use Rattle.sbl_interpreter.specs.State.{State, Ending, Signals, Stops, Doing, bound_of, after, then_on, saved_cursor, place_after, put_back, to_limit}
-use Rattle.sbl_interpreter.specs.declared.fault.RunFault.TheVariants.{Depth}
-use Rattle.sbl_script.specs.Parsed.{Source}
+use Rattle.sbl_semantics.specs.Fitting.{read_as, ahead_at}
+use Rattle.sbl_semantics.specs.Items.{Known, Body, is_among, place_of, body_named, class_of, classes_behind, known_in}
+use Rattle.sbl_semantics.specs.Moves.{match, one_of, touch_grouping, next, hop, at_limit, set_mark, at_mark, to_mark, set_boolean, test_boolean}
+use Rattle.sbl_semantics.specs.Numbers.{Value, natural, given, fitted, divided, with_value, with_both, limit_value, integer_at}
+use Rattle.sbl_semantics.specs.Regions.{Among, among_at, behind, behind_rows, behind_others, behind_starter, first, first_rows, first_others, mode_behind, waits, waits_others}
+use Rattle.sbl_semantics.specs.Control.{at_end, turns, times, count_of, seeks, limits, limit_here, limit_back, backwards_from, backwards_end, chosen as go_on, enter, leave, paid}
+use Rattle.sbl_semantics.specs.Choices.{choice, take_none, take_string, touch_among}
+use Rattle.sbl_semantics.specs.Slices.{left_bracket, right_bracket, replace, keep, insert, attach}
+use Rattle.sbl_semantics.specs.Limit.{max_levels}
+use Rattle.sbl_semantics.specs.State.{State, Ending, Signals, Stops, Doing, bound_of, after, then_on, saved_cursor, place_after, put_back, to_limit}
+use Rattle.sbl_semantics.specs.declared.fault.RunFault.TheVariants.{Depth}
+use Rattle.sbl_ast.specs.Source.{Source}
 use Rattle.sbl_ast.specs.declared.mode.Mode.{Mode}
 use Rattle.sbl_ast.specs.declared.mode.Mode.TheVariants.{Forward, Backward}
 

@@ -2,8 +2,8 @@
 use Rattle.std.specs.Prelude.{ℕ, Bool, List, [], ◌∷◌, ◌++◌, map, Option, Some, None}
 use Rattle.std.specs.declared.alloc.Global.{Global}
 use Rattle.std.specs.declared.vec.Vec.{Vec}
-use Rattle.sbl_interpreter.specs.declared.event.Event.{Event}
-use Rattle.sbl_interpreter.specs.declared.event.Event.TheVariants as code
+use Rattle.sbl_semantics.specs.declared.event.Event.{Event}
+use Rattle.sbl_semantics.specs.declared.event.Event.TheVariants as code
 use Rattle.sbl_ast.specs.declared.mode.Mode.{Mode}
 
 pub data Event' : Type 0 where

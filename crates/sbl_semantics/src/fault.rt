@@ -31,7 +31,7 @@ pub enum RunFault {
 }
 
 impl RunFault {
-    ghost use Rattle.sbl_interpreter.specs.Names.{name_of};
+    ghost use Rattle.sbl_semantics.specs.Names.{name_of};
 
     /// Returns the name without the code.
     pub fn name(self) -> &'static str

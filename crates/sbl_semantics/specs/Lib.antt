@@ -1,0 +1,17 @@
+-- definitions that public contracts depend on
+pub mod Names
+pub mod Touches
+pub mod Events
+pub mod Fitting
+pub mod State
+pub mod Moves
+pub mod Slices
+pub mod Numbers
+pub mod Control
+pub mod Choices
+pub mod Limit
+pub mod Items
+pub mod Regions
+pub mod Meaning
+pub mod Outcome
+pub mod Touched
