@@ -17,8 +17,9 @@ use Rattle.sbl_ast.specs.declared.mode.Mode.TheVariants.{Backward}
 use Rattle.sbl_ast.specs.declared.tree.DeclarationKind.{DeclarationKind}
 use Rattle.sbl_ast.specs.declared.tree.DeclarationKind.TheVariants as kinds
 use Rattle.sbl_script.specs.declared.edits.DefinitionKind.TheVariants as defined
-use Rattle.sbl_script.specs.Edits.{ScriptEdit, body, among, terms, changes, defines, first_in, first_of, plain_if, plains_with, items_with, Home, home_in, home_of_among, IsSubstituted}
-use Rattle.sbl_script.specs.Homes.{home_of_body, home_of_held, home_of_terms}
+use Rattle.sbl_script.specs.Edits.{ScriptEdit, body, among, terms, changes, defines, first_in, first_of, plain_if, plains_with, items_with, Home, home_in, IsSubstituted}
+use Rattle.sbl_script.proofs.AmongDepths.{home_same}
+use Rattle.sbl_script.specs.Homes.{home_of_among, home_of_body, home_of_held, home_of_terms}
 use Rattle.sbl_script.proofs.Found.{grouping_found, routine_found, some_plain}
 use Rattle.sbl_ast.specs.Source.{Source}
 use Rattle.sbl_machine.specs.BuiltFrom.{affected, affected_by, built_from, meets, meets_one}
@@ -223,7 +224,7 @@ edit_by s t (body n) text h (Some (routine m c os)) at is z =
     let same : home_of_body s.items n ≡ h = cc in
     (body_agree s t n text (c, os) h (routine_found n s.items m c os at) same z, routine_known n s.items (routine m c os) at)
 edit_by s t (among n k) text h (Some (routine m c os)) at is z =
-    (among_by s t n k text (c, os) h (routine_found n s.items m c os at) (nth_held k (amongs_of_body (c, os))) refl is z, routine_known n s.items (routine m c os) at)
+    (among_by s t n k text (c, os) h (routine_found n s.items m c os at) (nth_held k (amongs_of_body (c, os))) refl (sym (home_same s.items n (c, os) k) ∙ is) z, routine_known n s.items (routine m c os) at)
 edit_by s t (terms n) text h (Some (grouping m a ts)) at is z =
     let same : home_of_terms s.items n ≡ h = cc in
     (terms_agree s t n text a ts h (grouping_found n s.items m a ts at) same z, grouping_known n s.items (grouping m a ts) at)

@@ -18,8 +18,9 @@ use Rattle.sbl_ast.specs.Source.{Source}
 use Rattle.sbl_resolver.specs.Checks.{WellDeclared, fault_of}
 use Rattle.sbl_script.specs.Reading.{HasTokens, IsTextFault, IsUnread, first_left_out, max_script, terminals}
 use Rattle.sbl_script.specs.Refusals.{Refuses}
-use Rattle.sbl_script.specs.Edits.{ScriptEdit, body, among, terms, Home, IsEditFault, IsSubstituted, defines, first_of, home, home_in, home_of_among}
-use Rattle.sbl_script.specs.Homes.{IsFaultAt, home_of_body, home_of_held, home_of_terms}
+use Rattle.sbl_script.specs.Edits.{ScriptEdit, body, among, terms, Home, IsEditFault, IsSubstituted, defines, first_of, home, home_in}
+use Rattle.sbl_script.specs.Homes.{home_of_among, IsFaultAt, home_of_body, home_of_held, home_of_terms}
+use Rattle.sbl_script.proofs.AmongDepths.{home_same}
 
 pub tokens_there : (e f : InForce) (text bytes : List ℕ) (ts : List Placed) → e ≡ f → text ≡ bytes → length bytes ≤ max_script → IsUtf8 bytes → ArePlacedFrom (start_under e) (chars text) ts → HasTokens (start_under f) bytes ts
 tokens_there e f text bytes ts same is short utf8 cut = record {
@@ -43,10 +44,10 @@ pub body_home : (items : List Item) (n : List ℕ) (b : RowView) → first_of (d
 body_home items n b is = ap (λ (o : Option Plain). home_in items o (body n)) is
 
 pub no_among : (items : List Item) (n : List ℕ) (k : ℕ) (b : RowView) → first_of (defines kinds.Routine n) items ≡ Some (routine n b.0 b.1) → nth_held k (amongs_of_body b) ≡ None → home items (among n k) ≡ Err edits.NoAmong
-no_among items n k b is none = ap (λ (o : Option Plain). home_in items o (among n k)) is ∙ ap (home_of_held items n b k) none
+no_among items n k b is none = ap (λ (o : Option Plain). home_in items o (among n k)) is ∙ home_same items n b k ∙ ap (home_of_held items n b k) none
 
 pub among_home : (items : List Item) (n : List ℕ) (k : ℕ) (b : RowView) (h : Held) → first_of (defines kinds.Routine n) items ≡ Some (routine n b.0 b.1) → nth_held k (amongs_of_body b) ≡ Some h → home items (among n k) ≡ Ok (home_of_among items n b k h)
-among_home items n k b h is there = ap (λ (o : Option Plain). home_in items o (among n k)) is ∙ ap (home_of_held items n b k) there
+among_home items n k b h is there = ap (λ (o : Option Plain). home_in items o (among n k)) is ∙ home_same items n b k ∙ ap (home_of_held items n b k) there
 
 pub terms_home : (items : List Item) (n : List ℕ) (a : Argument) (ts : List Term) → first_of (defines kinds.Grouping n) items ≡ Some (grouping n a ts) → home items (terms n) ≡ Ok (home_of_terms items n)
 terms_home items n a ts is = ap (λ (o : Option Plain). home_in items o (terms n)) is

@@ -17,3 +17,4 @@ pub mod Offered
 pub mod Printed
 pub mod Compared
 pub mod ItemSteps
+pub mod AmongDepths

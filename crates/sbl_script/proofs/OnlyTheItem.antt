@@ -21,11 +21,12 @@ use Rattle.sbl_resolver.specs.Checks.{declared_as, kind_of, defined_at, definiti
 use Rattle.sbl_resolver.specs.Laws.{EachPasses, IsFirst}
 use Rattle.sbl_script.specs.declared.edits.DefinitionKind.{DefinitionKind}
 use Rattle.sbl_script.specs.declared.edits.DefinitionKind.TheVariants as kinds
-use Rattle.sbl_script.specs.Edits.{ScriptEdit, body, terms, Home, changes, defines, first_of, home, home_in, home_of_among, items_with}
-use Rattle.sbl_script.specs.Homes.{home_of_body, home_of_held, home_of_terms, IsFaultAt}
+use Rattle.sbl_script.specs.Edits.{ScriptEdit, body, terms, Home, changes, defines, first_of, home, home_in, items_with}
+use Rattle.sbl_script.specs.Homes.{home_of_among, home_of_body, home_of_held, home_of_terms, IsFaultAt}
 use Rattle.sbl_script.specs.Edits as script
 use Rattle.sbl_script.specs.OnlyTheItem.{item_of, number_of, OnlyTheItem, ExternalStays}
 use Rattle.sbl_resolver.proofs.FirstFault as first
+use Rattle.sbl_script.proofs.AmongDepths.{home_same}
 use Rattle.sbl_script.proofs.Found.{grouping_is, routine_is, same_name}
 use Rattle.sbl_script.proofs.Own.{Each, each_as, is_quiet, IsOfCommand, RoutineParts, routine_parts, is_use, IsUse, GroupingParts, grouping_parts}
 use Rattle.sbl_script.proofs.RoundItem.{Closed, followed_same, decided_at, own, InItem, NotBefore, plain_sites, routine_sites, items_closed, items_sites, round_item}
@@ -375,7 +376,7 @@ place_of : (items : List Item) (e : ScriptEdit) (h : Home) (o : Option Plain) �
 place_of items (body n) h (Some (routine m c os)) at is =
     subst (IsPlaced items (body n)) (home_one (home_in items (Some (routine m c os)) (body n)) (home_of_body items n) h refl is)
     (λ b. record { kind = kinds.Routine; name = n; item = routine n b.0 b.1; which = refl; there = is_there (first_of (defines kinds.Routine n) items) (routine m c os) at; same = same_name n; is = refl })
-place_of items (script.among n k) h (Some (routine m c os)) at is = held (nth_held k (amongs_of_body (c, os))) is where
+place_of items (script.among n k) h (Some (routine m c os)) at is = held (nth_held k (amongs_of_body (c, os))) (sym (home_same items n (c, os) k) ∙ is) where
   held : (o : Option Held) → home_of_held items n (c, os) k o ≡ Ok h → IsPlaced items (script.among n k) h
   held None e = absurd cc
   held (Some g) e =

@@ -1,7 +1,7 @@
 -- What an edit may replace in a script, the place that it changes, the script after the edit, and the faults of an
 -- edit.
-use Rattle.std.specs.Prelude.{◌≡◌, ℕ, Bool, true, false, List, [], ◌∷◌, length, Option, Some, None, Result, Ok, Err, nat_eq, if◌then◌else◌}
-use Rattle.std.specs.List.{list_any}
+use Rattle.std.specs.Prelude.{◌≡◌, ℕ, ◌-◌, Bool, true, false, List, [], ◌∷◌, length, map, Option, Some, None, Result, Ok, Err, nat_eq, if◌then◌else◌}
+use Rattle.std.specs.List.{filter, list_any}
 use Rattle.std.specs.Option.{ok_or, option_map, option_or}
 use Rattle.std.specs.Str.{bytes_eq, chars}
 use Rattle.sbl_text.specs.declared.directives.Coding.{Coding}
@@ -11,11 +11,11 @@ use Rattle.sbl_text.specs.Directives.{Directives, start_under, coded, defined_as
 use Rattle.sbl_text.specs.Tokens.{Placed}
 use Rattle.sbl_ast.specs.declared.tree.Base.{Base}
 use Rattle.sbl_ast.specs.declared.tree.Base.TheVariants as bases
-use Rattle.sbl_ast.specs.Counts.{count_in_among}
-use Rattle.sbl_amongs.specs.Amongs.{Held, amongs_of_body, nth_held, put_in_body}
+use Rattle.sbl_amongs.specs.Amongs.{put_in_body}
+use Rattle.sbl_amongs.specs.Replaced.{is_among}
 use Rattle.sbl_ast.specs.Tree.{Plain, escapes, macro, routine, grouping, Item, plain, backward}
 use Rattle.sbl_ast.specs.View.{RowView}
-use Rattle.sbl_ast.specs.Texts.{Text, TreeOf}
+use Rattle.sbl_ast.specs.Texts.{Text, TreeOf, places_in}
 use Rattle.sbl_ast.specs.Texts as texts
 use Rattle.sbl_parser.specs.Reading.{IsReadAs}
 use Rattle.sbl_script.specs.declared.edit_fault.ScriptEditFault.{ScriptEditFault}
@@ -121,15 +121,25 @@ pub record Home : Type 0 where
 abbrev pub home_at : List Item → (Plain → Bool) → (w : Text) → (TreeOf w → Plain) → (TreeOf w → Bool) → Home
 home_at items p w item keeps = record { text = w; state = state_before p items; around = λ x. items_with p (item x) items; keeps_count = keeps }
 
--- a new among is read at the depth of the one that it replaces, and has to hold as many amongs
-abbrev pub home_of_among : List Item → List ℕ → RowView → ℕ → Held → Home
-home_of_among items n b k h =
-    home_at items (defines kinds.Routine n) (texts.among h.0) (λ a. routine n (put_in_body b k a).0 (put_in_body b k a).1) (λ a. nat_eq (count_in_among a) (count_in_among (h.1, h.2)))
+-- the nesting depths of the words `among` in a routine's body
+abbrev pub among_depths : RowView → List ℕ
+among_depths b = map (λ p. p.1) (filter (λ p. is_among p.0) (places_in texts.body b))
+
+-- the one with number k, counted from 1
+abbrev pub nth : ℕ → List ℕ → Option ℕ
+nth k [] = None
+nth k (d ∷ ds) = if nat_eq k 1 then Some d else nth (k - 1) ds
+
+-- a new among is read at the depth of the one that it replaces, and the body has to hold as many amongs as before
+abbrev pub home_at_among : List Item → List ℕ → RowView → ℕ → ℕ → Home
+home_at_among items n b k d =
+    home_at items (defines kinds.Routine n) (texts.among d) (λ a. routine n (put_in_body b k a).0 (put_in_body b k a).1)
+    (λ a. nat_eq (length (among_depths (put_in_body b k a))) (length (among_depths b)))
 
 -- a new body may hold any number of amongs
 abbrev pub home_in : List Item → Option Plain → ScriptEdit → Result Home ScriptEditFault
 home_in items (Some (routine m c os)) (body n) = Ok (home_at items (defines kinds.Routine n) texts.body (λ b. routine n b.0 b.1) (λ b. true))
-home_in items (Some (routine m c os)) (among n k) = ok_or (option_map (home_of_among items n (c, os) k) (nth_held k (amongs_of_body (c, os)))) edits.NoAmong
+home_in items (Some (routine m c os)) (among n k) = ok_or (option_map (home_at_among items n (c, os) k) (nth k (among_depths (c, os)))) edits.NoAmong
 home_in items (Some (grouping m a ts)) (terms n) = Ok (home_at items (defines kinds.Grouping n) texts.terms (λ x. grouping n x.0 x.1) (λ x. true))
 home_in items _ (terms n) = Err edits.NoGrouping
 home_in items _ e = Err edits.NoRoutine

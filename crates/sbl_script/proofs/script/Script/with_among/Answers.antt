@@ -1,4 +1,4 @@
-use Rattle.std.proofs.Common.{rules, ◌≡◌, ◌⊎◌, List, [], None, Some, true, false, length, map, inr, sym, ap, subst, ◌∙◌}
+use Rattle.std.proofs.Common.{rules, refl, ◌≡◌, ◌⊎◌, List, [], None, Some, true, false, length, map, inr, sym, ap, subst, ◌∙◌}
 use Rattle.std.proofs.lemmas.Result.{err_from_is_err_and}
 use Rattle.sbl_text.specs.declared.fault.ScriptFault.TheVariants as fault
 use Rattle.sbl_token.specs.declared.token.Token.{Token}
@@ -13,7 +13,9 @@ use Rattle.sbl_resolver.specs.Checks.{fault_of}
 use Rattle.sbl_script.specs.Parsed.{source_of}
 use Rattle.sbl_script.specs.Reading.{IsUnread, first_left_out, terminals}
 use Rattle.sbl_script.specs.declared.edits.DefinitionKind.TheVariants as kinds
-use Rattle.sbl_script.specs.Edits.{among, defines, first_of, home_of_among, items_with, state_before}
+use Rattle.sbl_script.specs.declared.edit_fault.ScriptEditFault.TheVariants as edits
+use Rattle.sbl_script.specs.Homes.{home_of_among}
+use Rattle.sbl_script.specs.Edits.{among, defines, first_of, items_with, state_before}
 use Rattle.sbl_script.proofs.Editing as editing
 use Rattle.sbl_script.specs.Spelled.{AreSpelled, IsSpelled}
 use Rattle.sbl_script.proofs.Found.{same_name}
@@ -160,3 +162,110 @@ returns-clause-fault c =
     let items = c.in_ok-script.ensures.items ∙ ap (λ (y : Plain). items_with (defines kinds.Routine n) y s.items) new in
     let counted : h.keeps_count x ≡ false = search rules in
     inr (h, there, u, editing.substituted s u h text ts x false c.in_ok-found.ensures.tokens offered read items c.in_ok-script.ensures.external c.in_ok-script.ensures.well_declared counted)
+
+pub returns-in_err-found-clause-missing : goal.returns-in_err-found-clause-missing
+returns-in_err-found-clause-missing c =
+    let s = source_of c.args.self.now in
+    let n = c.args.routine.now in
+    let k = c.args.k in
+    let b = view_row c.in-Some.body.now in
+    let old = view_among c.in-Some-nth_among.replaced.now in
+    let d : Held = (c.in-Some-nth_among.depth, old.0, old.1) in
+    let h = home_of_among s.items n b k d in
+    let found : first_of (defines kinds.Routine n) s.items ≡ Some (routine n b.0 b.1) = search rules in
+    let there = editing.among_home s.items n k b d found c.in-Some-nth_among.ensures.held in
+    λ f missing. editing.not_missing s.items (among n k) h _ there f missing
+
+pub returns-in_err-among-clause-missing : goal.returns-in_err-among-clause-missing
+returns-in_err-among-clause-missing c =
+    let s = source_of c.args.self.now in
+    let n = c.args.routine.now in
+    let k = c.args.k in
+    let b = view_row c.in-Some.body.now in
+    let old = view_among c.in-Some-nth_among.replaced.now in
+    let d : Held = (c.in-Some-nth_among.depth, old.0, old.1) in
+    let h = home_of_among s.items n b k d in
+    let found : first_of (defines kinds.Routine n) s.items ≡ Some (routine n b.0 b.1) = search rules in
+    let there = editing.among_home s.items n k b d found c.in-Some-nth_among.ensures.held in
+    λ f missing. editing.not_missing s.items (among n k) h _ there f missing
+
+pub returns-in_err-body-clause-missing : goal.returns-in_err-body-clause-missing
+returns-in_err-body-clause-missing c =
+    let s = source_of c.args.self.now in
+    let n = c.args.routine.now in
+    let k = c.args.k in
+    let b = view_row c.in-Some.body.now in
+    let old = view_among c.in-Some-nth_among.replaced.now in
+    let d : Held = (c.in-Some-nth_among.depth, old.0, old.1) in
+    let h = home_of_among s.items n b k d in
+    let found : first_of (defines kinds.Routine n) s.items ≡ Some (routine n b.0 b.1) = search rules in
+    let there = editing.among_home s.items n k b d found c.in-Some-nth_among.ensures.held in
+    λ f missing. editing.not_missing s.items (among n k) h _ there f missing
+
+pub returns-in_err-new-clause-missing : goal.returns-in_err-new-clause-missing
+returns-in_err-new-clause-missing c =
+    let s = source_of c.args.self.now in
+    let n = c.args.routine.now in
+    let k = c.args.k in
+    let b = view_row c.in-Some.body.now in
+    let old = view_among c.in-Some-nth_among.replaced.now in
+    let d : Held = (c.in-Some-nth_among.depth, old.0, old.1) in
+    let h = home_of_among s.items n b k d in
+    let found : first_of (defines kinds.Routine n) s.items ≡ Some (routine n b.0 b.1) = search rules in
+    let there = editing.among_home s.items n k b d found c.in-Some-nth_among.ensures.held in
+    λ f missing. editing.not_missing s.items (among n k) h _ there f missing
+
+pub returns-in_err-script-clause-missing : goal.returns-in_err-script-clause-missing
+returns-in_err-script-clause-missing c =
+    let s = source_of c.args.self.now in
+    let n = c.args.routine.now in
+    let k = c.args.k in
+    let b = view_row c.in-Some.body.now in
+    let old = view_among c.in-Some-nth_among.replaced.now in
+    let d : Held = (c.in-Some-nth_among.depth, old.0, old.1) in
+    let h = home_of_among s.items n b k d in
+    let found : first_of (defines kinds.Routine n) s.items ≡ Some (routine n b.0 b.1) = search rules in
+    let there = editing.among_home s.items n k b d found c.in-Some-nth_among.ensures.held in
+    λ f missing. editing.not_missing s.items (among n k) h _ there f missing
+
+pub returns-then-has_as_many_amongs-clause-missing : goal.returns-then-has_as_many_amongs-clause-missing
+returns-then-has_as_many_amongs-clause-missing c =
+    let s = source_of c.args.self.now in
+    let n = c.args.routine.now in
+    let k = c.args.k in
+    let b = view_row c.in-Some.body.now in
+    let old = view_among c.in-Some-nth_among.replaced.now in
+    let d : Held = (c.in-Some-nth_among.depth, old.0, old.1) in
+    let h = home_of_among s.items n b k d in
+    let found : first_of (defines kinds.Routine n) s.items ≡ Some (routine n b.0 b.1) = search rules in
+    let there = editing.among_home s.items n k b d found c.in-Some-nth_among.ensures.held in
+    λ f missing. editing.not_missing s.items (among n k) h _ there f missing
+
+pub returns-clause-missing : goal.returns-clause-missing
+returns-clause-missing c =
+    let s = source_of c.args.self.now in
+    let n = c.args.routine.now in
+    let k = c.args.k in
+    let b = view_row c.in-Some.body.now in
+    let old = view_among c.in-Some-nth_among.replaced.now in
+    let d : Held = (c.in-Some-nth_among.depth, old.0, old.1) in
+    let h = home_of_among s.items n b k d in
+    let found : first_of (defines kinds.Routine n) s.items ≡ Some (routine n b.0 b.1) = search rules in
+    let there = editing.among_home s.items n k b d found c.in-Some-nth_among.ensures.held in
+    λ f missing. editing.not_missing s.items (among n k) h _ there f missing
+
+pub returns-in_default-nth_among-clause-fault : goal.returns-in_default-nth_among-clause-fault
+returns-in_default-nth_among-clause-fault c =
+    let s = source_of c.args.self.now in
+    let n = c.args.routine.now in
+    let b = view_row c.in-Some.body.now in
+    let found : first_of (defines kinds.Routine n) s.items ≡ Some (routine n b.0 b.1) = search rules in
+    inr (editing.no_among s.items n c.args.k b found (rw c.in_default-nth_among.is at c.nth_among.ensures.held))
+
+pub returns-in_default-nth_among-clause-missing : goal.returns-in_default-nth_among-clause-missing
+returns-in_default-nth_among-clause-missing c =
+    let s = source_of c.args.self.now in
+    let n = c.args.routine.now in
+    let b = view_row c.in-Some.body.now in
+    let found : first_of (defines kinds.Routine n) s.items ≡ Some (routine n b.0 b.1) = search rules in
+    λ f missing. editing.missing_told s.items (among n c.args.k) edits.NoAmong _ (editing.no_among s.items n c.args.k b found (rw c.in_default-nth_among.is at c.nth_among.ensures.held)) refl f missing
