@@ -1,12 +1,12 @@
 -- What a command does, from its step on: the forms that the search leaves.
 use Rattle.std.proofs.Common.{◌≡◌, ℕ, ◌+◌, ◌-◌, ◌<◌, ◌≤◌, zero, suc, Bool, true, false, List, [], ◌∷◌, Option, Some, None, Result, Err, refl, sym, ap, ◌∙◌, arith, rules, length, get_or, Vec, Box, Global}
-use Rattle.std.specs.Prelude.{slice_get, drop}
-use Rattle.std.proofs.lemmas.List.{drop_more}
+use Rattle.std.specs.Prelude.{slice_get, drop, take}
+use Rattle.std.proofs.lemmas.List.{drop_more, take_all}
 use Rattle.sbl_char_class.specs.Terms.{class_at}
 use Rattle.sbl_program.specs.declared.action.Action.{Action}
 use Rattle.sbl_program.specs.declared.action.Action.TheVariants.{Grouping, NonGrouping}
 use Rattle.sbl_program.specs.declared.action.Arithmetic.{Arithmetic}
-use Rattle.sbl_interpreter.specs.Actions.{test_grouping}
+use Rattle.sbl_interpreter.specs.Actions.{acts, test_grouping}
 use Rattle.sbl_semantics.specs.declared.fault.RunFault.{RunFault}
 use Rattle.sbl_interpreter.specs.declared.halt.Halt.{Halt}
 use Rattle.sbl_program.specs.declared.node.Candidate.{Candidate}
@@ -186,6 +186,18 @@ time_stops (suc k) c m s new fault l e = ap (λ r. after r (times k c m) (Signal
 
 view_act : (T : ℕ → Listed) (a : Action) → view_node T (Act a) ≡ programs.act (view_action a)
 view_act T a = first_of (search (rules, the_lemmas), search (rules, the_lemmas, fold_out-Node))
+
+-- commands of which the first holds no command
+pub act_first : (T : ℕ → Listed) (p : programs.Program) (levels : ℕ) (cs : List Node) (a : Action) (m : Mode) (s : State) → slice_get cs 0 ≡ Some (Act a) → all_run p levels (view_nodes T cs) m s ≡ after (paid (acts p.groupings (view_action a)) m s) (all_run p levels (view_nodes T (drop 1 cs)) m) (Signals false)
+act_first T p levels [] a m s e = let no : ⊥ = cc in absurd no
+act_first T p levels (x ∷ cs) a m s e =
+    let same : x ≡ Act a = cc in
+    let rest = λ (v : programs.Node). after (runs p levels v m s) (all_run p levels (view_nodes T cs) m) (Signals false) in
+    ap (λ y. rest (view_node T y)) same ∙ ap rest (view_act T a)
+
+pub but_first : (cs : List Node) → take (length cs - 1) (drop 1 cs) ≡ drop 1 cs
+but_first [] = refl
+but_first (c ∷ cs) = take_all (length (c ∷ cs) - 1) cs (omega arith)
 
 -- a command that is the test of a grouping
 pub grouping_does : (T : ℕ → Listed) (p : programs.Program) (levels g : ℕ) → runs p levels (view_node T (Act (Grouping g))) ≡ paid (test_grouping true (class_at p.groupings g) g)

@@ -4,3 +4,4 @@ pub mod Nothing
 pub mod NumberingTables
 pub mod Marked
 pub mod SlotValues
+pub mod Seeking

@@ -1,5 +1,5 @@
 -- A row, a sum and a product grouped from the left do what their parts do one after another.
-use Rattle.std.proofs.Common.{◌≡◌, ℕ, zero, suc, ◌+◌, ◌-◌, ◌<◌, Bool, true, false, List, [], ◌∷◌, length, map, drop, get_or, Err, refl, sym, ap, ◌∙◌, arith, Box, Vec, Global, rules}
+use Rattle.std.proofs.Common.{◌≡◌, ℕ, zero, suc, ◌+◌, ◌-◌, ◌<◌, ◌≤◌, Bool, true, false, List, [], ◌∷◌, length, map, drop, get_or, Err, refl, sym, ap, ◌∙◌, arith, Box, Vec, Global, rules}
 use Rattle.std.proofs.Math.Path.{fun_ext}
 use Rattle.std.proofs.lemmas.List.{drop_more}
 use Rattle.sbl_ast.specs.declared.tree.Joiner.{Joiner}
@@ -97,15 +97,18 @@ pays_last : (n : ℕ) (s : State) → pays (suc n) s ≡ then_on (pays n s) (λ 
 pays_last zero s = and_nothing (pay s.steps s)
 pays_last (suc n) s = ap (λ f. then_on (pay s.steps s) f) (fun_ext (λ u. pays_last n u)) ∙ sym (then_then (pay s.steps s) (pays n) (λ u. pay u.steps u))
 
-pub one_pay : (l : ℕ) (s new : State) (w : Ending) → 0 < l → pay s.steps s ≡ Signals true new → pays l s ≡ w → pays (l - 1) new ≡ w
-one_pay zero s new w l e h = absurd (omega arith)
-one_pay (suc k) s new w l e h =
-    let j : suc k - 1 ≡ k = omega arith in
-    ap (λ n. pays n new) j ∙ sym (ap (λ r. then_on r (pays k)) e) ∙ h
+-- some steps at once, if there are enough, and if there are not
+pub pays_all : (n k : ℕ) (s : State) → n ≤ k → pays n (record s { steps = k }) ≡ Signals true (record s { steps = k - n })
+pays_all zero k s l = let e : k ≡ k - 0 = omega arith in ap (λ j. Signals true (record s { steps = j })) e
+pays_all (suc n) zero s l = absurd (omega arith)
+pays_all (suc n) (suc k) s l =
+    let e : k - n ≡ suc k - suc n = omega arith in
+    pays_all n k s (omega arith) ∙ ap (λ j. Signals true (record s { steps = j })) e
 
-pub pay_stops : (l : ℕ) (s new : State) (fault : RunFault) → 0 < l → pay s.steps s ≡ Stops fault new → pays l s ≡ Stops fault new
-pay_stops zero s new fault l e = absurd (omega arith)
-pay_stops (suc k) s new fault l e = ap (λ r. then_on r (pays k)) e
+pub pays_short : (n k : ℕ) (s : State) → k < n → pays n (record s { steps = k }) ≡ Stops Steps (record s { steps = 0 })
+pays_short zero k s l = absurd (omega arith)
+pays_short (suc n) zero s l = refl
+pays_short (suc n) (suc k) s l = pays_short n k s (omega arith)
 
 module _ (p : programs.Program) (levels : ℕ) (m : Mode) where
   pub others_stop : (from : SavedCursor) (os : List JoinedView) (fault : RunFault) (s : State) → others_run p levels m from os (Stops fault s) ≡ Stops fault s

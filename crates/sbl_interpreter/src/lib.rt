@@ -2,6 +2,7 @@
 #![tactic(auto)]
 
 mod halt;
+mod parts;
 mod run;
 mod slots;
 mod state;

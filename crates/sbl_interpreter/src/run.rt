@@ -8,16 +8,17 @@ ghost use Rattle.sbl_program.specs.ProgramOf.{program_of, view_joined, view_node
 ghost use Rattle.sbl_interpreter.specs.Run.{runs, runs_paid, all_run, group_runs, calls};
 ghost use Rattle.sbl_semantics.specs.Control.{backwards_end, backwards_from, limit_here, limited, limits, turns, times, count_of, seeks};
 ghost use Rattle.sbl_ast.specs.declared.mode.Mode.TheVariants.{Backward};
-ghost use Rattle.sbl_interpreter.specs.Rows.{is_settled, joined_runs, row_runs};
+ghost use Rattle.sbl_interpreter.specs.Rows.{joined_runs, row_runs};
 ghost use Rattle.sbl_semantics.specs.Choices.{choice};
-ghost use Rattle.sbl_interpreter.specs.Search.{searched, try_one};
+ghost use Rattle.sbl_interpreter.specs.Search.{search_all, searched, try_one};
 ghost use Rattle.sbl_semantics.specs.State.{State as RunState, Ending, Signals, after, then_on, saved_cursor, put_back};
 
 use crate::halt::Halt;
+use crate::parts::{first_action, is_settled};
 use crate::state::State;
 use crate::state::numbers::count_of;
 use crate::table::Tables;
-use sbl_ast::{Joiner, Mode};
+use sbl_ast::Mode;
 use sbl_program::{Action, Arithmetic, Candidate, JoinedNode, Node, Program};
 use sbl_semantics::SavedCursor;
 
@@ -35,8 +36,7 @@ pub struct Runner<'a, T> {
 }
 
 impl<'a, T: Tables> Runner<'a, T> {
-    /// Runs a command and returns its signal, or why it has none. The commands that are most of a run are done here, without
-    /// a call of `run_paid`.
+    /// Runs a command and returns its signal, or why it has none.
     #[cycle(run)]
     #[inline(always)]
     fn run_command(&self, command: &Node, state: &mut State) -> Result<bool, Halt>
@@ -44,41 +44,29 @@ impl<'a, T: Tables> Runner<'a, T> {
         ensures fewer { IfOk result (λ _. state.new.steps < state.old.steps) }
     {
         state.pay()?;
-        match command {
-            Node::Act(action) => state.act_here(&self.program.groupings, self.mode, action),
-            Node::Sequence(commands) => self.run_in_turn(commands, state),
-            Node::Call(number) => self.run_call(*number, state),
-            _ => self.run_paid(command, state),
-        }
+        self.run_paid(command, state)
     }
 
-    /// Runs a command whose step is already paid.
+    /// Runs a command whose step is already paid. Each command that holds others has a function of its own, which is not
+    /// compiled in here, so that this one can be compiled in wherever a command is run.
     #[cycle(run)]
-    #[inline(never)]
+    #[inline(always)]
     fn run_paid(&self, command: &Node, state: &mut State) -> Result<bool, Halt>
         ensures follows { Follows result state.new (runs_paid (program_of (T.listed self.now.tables.now) self.now.program.now) self.now.levels (view_node (T.listed self.now.tables.now) command.now) self.now.mode state.old) }
         ensures no_more { IfOk result (λ _. state.new.steps ≤ state.old.steps) }
     {
         match command {
-            Node::Act(action) => state.act(&self.program.groupings, self.mode, action),
-            Node::Sequence(commands) => self.run_in_turn(commands, state),
+            Node::Act(action) => state.act_here(&self.program.groupings, self.mode, action),
+            Node::Sequence(commands) => self.run_sequence(commands, state),
             Node::Row { first, others } => { self.run_row(first, others, state) }
             Node::Not(inner) => self.run_not(inner, state),
             Node::Test(inner) => self.run_test(inner, state),
             Node::Try(inner) => self.run_try(inner, state),
             Node::Do(inner) => self.run_do(inner, state),
-            Node::Fail(inner) => {
-                self.run_command(inner, state)?;
-                Ok(false)
-            }
+            Node::Fail(inner) => self.run_fail(inner, state),
             Node::Repeat(inner) => self.run_turns(inner, state),
             Node::Loop(count, inner) => self.run_times(count, inner, state),
-            Node::AtLeast(count, inner) => {
-                if !self.run_times(count, inner, state)? {
-                    return Ok(false);
-                }
-                self.run_turns(inner, state)
-            }
+            Node::AtLeast(count, inner) => self.run_at_least(count, inner, state),
             Node::Goto(inner) => self.run_seek(false, inner, state),
             Node::GoPast(inner) => self.run_seek(true, inner, state),
             Node::Backwards(inner) => self.run_backwards(inner, state),
@@ -88,10 +76,7 @@ impl<'a, T: Tables> Runner<'a, T> {
                 among,
                 table,
                 entries,
-            } => {
-                state.touch_among(*among, self.mode)?;
-                self.run_search(*among, *table, entries, state)
-            }
+            } => self.run_search_all(*among, *table, entries, state),
             Node::Among {
                 among,
                 before,
@@ -102,6 +87,7 @@ impl<'a, T: Tables> Runner<'a, T> {
 
     /// Runs a command. Returns f if it signals t; if it signals f, puts the cursor back and returns t.
     #[cycle(run)]
+    #[inline(never)]
     fn run_not(&self, inner: &Node, state: &mut State) -> Result<bool, Halt>
         ensures follows { Follows result state.new (after (runs (program_of (T.listed self.now.tables.now) self.now.program.now) self.now.levels (view_node (T.listed self.now.tables.now) inner.now) self.now.mode state.old) (Signals false) (put_back self.now.mode (saved_cursor state.old))) }
         ensures no_more { IfOk result (λ _. state.new.steps ≤ state.old.steps) }
@@ -116,6 +102,7 @@ impl<'a, T: Tables> Runner<'a, T> {
 
     /// Runs a command and returns its signal. If it signals t, puts the cursor back.
     #[cycle(run)]
+    #[inline(never)]
     fn run_test(&self, inner: &Node, state: &mut State) -> Result<bool, Halt>
         ensures follows { Follows result state.new (after (runs (program_of (T.listed self.now.tables.now) self.now.program.now) self.now.levels (view_node (T.listed self.now.tables.now) inner.now) self.now.mode state.old) (put_back self.now.mode (saved_cursor state.old)) (Signals false)) }
         ensures no_more { IfOk result (λ _. state.new.steps ≤ state.old.steps) }
@@ -130,6 +117,7 @@ impl<'a, T: Tables> Runner<'a, T> {
 
     /// Runs a command and returns t. If it signals f, puts the cursor back.
     #[cycle(run)]
+    #[inline(never)]
     fn run_try(&self, inner: &Node, state: &mut State) -> Result<bool, Halt>
         ensures follows { Follows result state.new (after (runs (program_of (T.listed self.now.tables.now) self.now.program.now) self.now.levels (view_node (T.listed self.now.tables.now) inner.now) self.now.mode state.old) (Signals true) (put_back self.now.mode (saved_cursor state.old))) }
         ensures no_more { IfOk result (λ _. state.new.steps ≤ state.old.steps) }
@@ -143,6 +131,7 @@ impl<'a, T: Tables> Runner<'a, T> {
 
     /// Runs a command, puts the cursor back whatever it signals, and returns t.
     #[cycle(run)]
+    #[inline(never)]
     fn run_do(&self, inner: &Node, state: &mut State) -> Result<bool, Halt>
         ensures follows { Follows result state.new (after (runs (program_of (T.listed self.now.tables.now) self.now.program.now) self.now.levels (view_node (T.listed self.now.tables.now) inner.now) self.now.mode state.old) (put_back self.now.mode (saved_cursor state.old)) (put_back self.now.mode (saved_cursor state.old))) }
         ensures no_more { IfOk result (λ _. state.new.steps ≤ state.old.steps) }
@@ -153,8 +142,20 @@ impl<'a, T: Tables> Runner<'a, T> {
         Ok(true)
     }
 
+    /// Runs a command and returns f.
+    #[cycle(run)]
+    #[inline(never)]
+    fn run_fail(&self, inner: &Node, state: &mut State) -> Result<bool, Halt>
+        ensures follows { Follows result state.new (after (runs (program_of (T.listed self.now.tables.now) self.now.program.now) self.now.levels (view_node (T.listed self.now.tables.now) inner.now) self.now.mode state.old) (Signals false) (Signals false)) }
+        ensures no_more { IfOk result (λ _. state.new.steps ≤ state.old.steps) }
+    {
+        self.run_command(inner, state)?;
+        Ok(false)
+    }
+
     /// Runs a command backwards, on the text between the cursor and the limit.
     #[cycle(run)]
+    #[inline(never)]
     fn run_backwards(&self, inner: &Node, state: &mut State) -> Result<bool, Halt>
         ensures follows { Follows result state.new (then_on (backwards_from state.old) (λ b. after (runs (program_of (T.listed self.now.tables.now) self.now.program.now) self.now.levels (view_node (T.listed self.now.tables.now) inner.now) Backward b) backwards_end (Signals false))) }
         ensures no_more { IfOk result (λ _. state.new.steps ≤ state.old.steps) }
@@ -173,6 +174,7 @@ impl<'a, T: Tables> Runner<'a, T> {
 
     /// Runs a command that sets the limit, and then another one within that limit, from where the cursor was before.
     #[cycle(run)]
+    #[inline(never)]
     fn run_limited(&self, first: &Node, second: &Node, state: &mut State) -> Result<bool, Halt>
         ensures follows { Follows result state.new (after (runs (program_of (T.listed self.now.tables.now) self.now.program.now) self.now.levels (view_node (T.listed self.now.tables.now) first.now) self.now.mode state.old) (λ t. then_on (put_back self.now.mode (saved_cursor state.old) (limit_here self.now.mode t)) (λ u. limited self.now.mode (limits state.old) (runs (program_of (T.listed self.now.tables.now) self.now.program.now) self.now.levels (view_node (T.listed self.now.tables.now) second.now) self.now.mode u))) (Signals false)) }
         ensures no_more { IfOk result (λ _. state.new.steps ≤ state.old.steps) }
@@ -191,6 +193,7 @@ impl<'a, T: Tables> Runner<'a, T> {
 
     /// Runs a row, grouped from left to right. Its first step is already paid.
     #[cycle(run)]
+    #[inline(never)]
     fn run_row(&self, first: &Node, others: &[JoinedNode], state: &mut State) -> Result<bool, Halt>
         ensures follows { Follows result state.new (row_runs (program_of (T.listed self.now.tables.now) self.now.program.now) self.now.levels (view_node (T.listed self.now.tables.now) first.now) (map (view_joined (T.listed self.now.tables.now)) others.now) self.now.mode state.old) }
         ensures no_more { IfOk result (λ _. state.new.steps ≤ state.old.steps) }
@@ -225,10 +228,53 @@ impl<'a, T: Tables> Runner<'a, T> {
         self.run_command(&joined.command, state)
     }
 
-    /// Runs commands one after another, up to the first f.
+    /// Runs commands one after another, up to the first f. If the first one holds no command and signals f, no function is
+    /// called.
+    #[cycle(run)]
+    #[inline(always)]
+    fn run_sequence(&self, commands: &[Node], state: &mut State) -> Result<bool, Halt>
+        ensures follows { Follows result state.new (all_run (program_of (T.listed self.now.tables.now) self.now.program.now) self.now.levels (view_nodes (T.listed self.now.tables.now) commands.now) self.now.mode state.old) }
+        ensures no_more { IfOk result (λ _. state.new.steps ≤ state.old.steps) }
+    {
+        if let Some(action) = first_action(commands) {
+            if !state.pay_and_act(&self.program.groupings, self.mode, action)? {
+                return Ok(false);
+            }
+            return self.run_in_turn(&commands[1..], state);
+        }
+        self.run_in_turn(commands, state)
+    }
+
+    /// Runs commands one after another, up to the first f, in a frame of its own.
     #[cycle(run)]
     #[inline(never)]
     fn run_in_turn(&self, commands: &[Node], state: &mut State) -> Result<bool, Halt>
+        ensures follows { Follows result state.new (all_run (program_of (T.listed self.now.tables.now) self.now.program.now) self.now.levels (view_nodes (T.listed self.now.tables.now) commands.now) self.now.mode state.old) }
+        ensures no_more { IfOk result (λ _. state.new.steps ≤ state.old.steps) }
+    {
+        self.run_each(commands, state)
+    }
+
+    /// Runs the body of a routine. A sequence is run in the frame of the call.
+    #[cycle(run)]
+    #[inline(always)]
+    fn run_body(&self, body: &Node, state: &mut State) -> Result<bool, Halt>
+        ensures follows { Follows result state.new (runs (program_of (T.listed self.now.tables.now) self.now.program.now) self.now.levels (view_node (T.listed self.now.tables.now) body.now) self.now.mode state.old) }
+        ensures no_more { IfOk result (λ _. state.new.steps ≤ state.old.steps) }
+    {
+        match body {
+            Node::Sequence(commands) => {
+                state.pay()?;
+                self.run_each(commands, state)
+            }
+            _ => self.run_command(body, state),
+        }
+    }
+
+    /// Runs commands one after another, up to the first f.
+    #[cycle(run)]
+    #[inline(always)]
+    fn run_each(&self, commands: &[Node], state: &mut State) -> Result<bool, Halt>
         ensures follows { Follows result state.new (all_run (program_of (T.listed self.now.tables.now) self.now.program.now) self.now.levels (view_nodes (T.listed self.now.tables.now) commands.now) self.now.mode state.old) }
         ensures no_more { IfOk result (λ _. state.new.steps ≤ state.old.steps) }
     {
@@ -242,6 +288,7 @@ impl<'a, T: Tables> Runner<'a, T> {
 
     /// Runs a command again and again up to its first f, and puts the cursor back to where it was before that.
     #[cycle(run)]
+    #[inline(never)]
     fn run_turns(&self, inner: &Node, state: &mut State) -> Result<bool, Halt>
         ensures follows { Follows result state.new (turns (suc state.old.steps) (runs (program_of (T.listed self.now.tables.now) self.now.program.now) self.now.levels (view_node (T.listed self.now.tables.now) inner.now)) self.now.mode state.old) }
         ensures no_more { IfOk result (λ _. state.new.steps ≤ state.old.steps) }
@@ -257,6 +304,7 @@ impl<'a, T: Tables> Runner<'a, T> {
 
     /// Runs a command as often as `count` says, up to the first f.
     #[cycle(run)]
+    #[inline(never)]
     fn run_times(&self, count: &Arithmetic, inner: &Node, state: &mut State) -> Result<bool, Halt>
         ensures follows { Follows result state.new (given (value (view_number count.now) self.now.mode state.old) state.old (λ z. times (count_of z) (runs (program_of (T.listed self.now.tables.now) self.now.program.now) self.now.levels (view_node (T.listed self.now.tables.now) inner.now)) self.now.mode state.old)) }
         ensures no_more { IfOk result (λ _. state.new.steps ≤ state.old.steps) }
@@ -272,9 +320,28 @@ impl<'a, T: Tables> Runner<'a, T> {
         Ok(true)
     }
 
+    /// Runs a command as often as `count` says, up to the first f, and then again and again as `run_turns` does.
+    #[cycle(run)]
+    #[inline(never)]
+    fn run_at_least(
+        &self,
+        count: &Arithmetic,
+        inner: &Node,
+        state: &mut State,
+    ) -> Result<bool, Halt>
+        ensures follows { Follows result state.new (after (given (value (view_number count.now) self.now.mode state.old) state.old (λ z. times (count_of z) (runs (program_of (T.listed self.now.tables.now) self.now.program.now) self.now.levels (view_node (T.listed self.now.tables.now) inner.now)) self.now.mode state.old)) (λ t. turns (suc t.steps) (runs (program_of (T.listed self.now.tables.now) self.now.program.now) self.now.levels (view_node (T.listed self.now.tables.now) inner.now)) self.now.mode t) (Signals false)) }
+        ensures no_more { IfOk result (λ _. state.new.steps ≤ state.old.steps) }
+    {
+        if !self.run_times(count, inner, state)? {
+            return Ok(false);
+        }
+        self.run_turns(inner, state)
+    }
+
     /// Tries a command at the cursor and further on, up to its first t. The cursor stays after the match, or goes
     /// before it. A grouping is tried without a call of `run_command` for each character.
     #[cycle(run)]
+    #[inline(never)]
     fn run_seek(&self, past: bool, inner: &Node, state: &mut State) -> Result<bool, Halt>
         ensures follows { Follows result state.new (seeks (suc state.old.steps) past (runs (program_of (T.listed self.now.tables.now) self.now.program.now) self.now.levels (view_node (T.listed self.now.tables.now) inner.now)) self.now.mode state.old) }
         ensures no_more { IfOk result (λ _. state.new.steps ≤ state.old.steps) }
@@ -319,6 +386,7 @@ impl<'a, T: Tables> Runner<'a, T> {
     /// Returns `Depth` if no level is left, `OutOfMemory` if an allocation fails or a number to be touched is above
     /// `u32::MAX`, and else the fault of a command in the routine. After a fault the state is the one at the fault.
     #[cycle(run)]
+    #[inline(never)]
     pub fn run_call(&self, number: usize, state: &mut State) -> Result<bool, Halt>
         ensures follows { Follows result state.new (calls (program_of (T.listed self.now.tables.now) self.now.program.now) self.now.levels number self.now.mode state.old) }
         ensures no_more { IfOk result (λ _. state.new.steps ≤ state.old.steps) }
@@ -335,7 +403,7 @@ impl<'a, T: Tables> Runner<'a, T> {
                     levels: self.levels - 1,
                     ..*self
                 };
-                let signal = deeper.run_command(&routine.body, state)?;
+                let signal = deeper.run_body(&routine.body, state)?;
                 state.leave(caller, kept, signal)?;
                 Ok(signal)
             }
@@ -344,6 +412,7 @@ impl<'a, T: Tables> Runner<'a, T> {
 
     /// Runs what an among does before the command of its group, and then the command of the chosen group.
     #[cycle(run)]
+    #[inline(never)]
     fn run_among(
         &self,
         among: usize,
@@ -366,9 +435,26 @@ impl<'a, T: Tables> Runner<'a, T> {
         }
     }
 
-    /// Tries the strings that match, the longest first.
+    /// Searches an among, which touches it.
     #[cycle(run)]
     #[inline(never)]
+    fn run_search_all(
+        &self,
+        among: usize,
+        table: usize,
+        entries: &[Candidate],
+        state: &mut State,
+    ) -> Result<bool, Halt>
+        ensures follows { Follows result state.new (search_all (calls (program_of (T.listed self.now.tables.now) self.now.program.now) self.now.levels) among entries.now (T.listed self.now.tables.now table) self.now.mode state.old) }
+        ensures no_more { IfOk result (λ _. state.new.steps ≤ state.old.steps) }
+    {
+        state.touch_among(among, self.mode)?;
+        self.run_search(among, table, entries, state)
+    }
+
+    /// Tries the strings that match, the longest first.
+    #[cycle(run)]
+    #[inline(always)]
     fn run_search(
         &self,
         among: usize,
@@ -423,16 +509,5 @@ impl<'a, T: Tables> Runner<'a, T> {
         state.place_after(self.mode, from, entry.length)?;
         state.take_string(among, entry.length, entry.group)?;
         Ok(true)
-    }
-}
-
-// Returns whether the signal decides the row so far, whatever the next command does.
-#[inline(always)]
-fn is_settled(joiner: Joiner, signal: bool) -> bool
-    ensures { result ≡ is_settled joiner signal }
-{
-    match joiner {
-        Joiner::Or => signal,
-        Joiner::And => !signal,
     }
 }

@@ -213,15 +213,16 @@ impl State {
     }
 
     // Uses this many steps. Returns `Steps` if fewer are left; then these are used.
+    #[inline(always)]
     pub(crate) fn pay_for(&mut self, count: usize) -> Result<(), Halt>
         ensures leads { Leads result self.new (pays count self.old) }
         ensures no_more { IfOk result (λ _. self.new.steps ≤ self.old.steps) }
     {
-        let mut left = count;
-        while 0 < left {
-            self.pay()?;
-            left -= 1;
+        if count > self.steps as usize {
+            self.steps = 0;
+            return Err(Halt::Steps);
         }
+        self.steps -= count as u32;
         Ok(())
     }
 
@@ -253,6 +254,7 @@ impl State {
     pub fn saved_cursor(&self) -> SavedCursor
         ensures value { result ≡ saved_cursor self.now }
         ensures small { IsSaved result }
+        ensures within { result.cursor ≤ result.length }
     {
         SavedCursor {
             cursor: self.cursor,

@@ -1,8 +1,9 @@
 //! Commands that contain no command.
 
-ghost use Rattle.std.specs.Prelude.{◌≡◌, map, IfOk};
+ghost use Rattle.std.specs.Prelude.{◌≡◌, ◌<◌, map, IfOk};
 ghost use Rattle.sbl_char_class.specs.CharacterClasses.{members};
 ghost use Rattle.sbl_interpreter.specs.Actions.{acts};
+ghost use Rattle.sbl_semantics.specs.Control.{paid};
 ghost use Rattle.sbl_semantics.specs.Numbers.{given, natural};
 ghost use Rattle.sbl_interpreter.specs.Arithmetic.{value};
 ghost use Rattle.sbl_semantics.specs.Moves.{hop, at_mark, to_mark};
@@ -41,6 +42,21 @@ impl State {
             Action::Grouping(number) => self.take_grouping(mode, groupings, *number, true),
             _ => self.act(groupings, mode, action),
         }
+    }
+
+    /// Uses a step, and does a command as `act` does. Returns `Steps` if no step is left.
+    #[inline(always)]
+    pub(crate) fn pay_and_act(
+        &mut self,
+        groupings: &[CharacterClass],
+        mode: Mode,
+        action: &Action,
+    ) -> Result<bool, Halt>
+        ensures follows { Follows result self.new (paid (acts (map members groupings.now) (view_action action.now)) mode self.old) }
+        ensures fewer { IfOk result (λ _. self.new.steps < self.old.steps) }
+    {
+        self.pay()?;
+        self.act_here(groupings, mode, action)
     }
 
     /// Does a command without a command inside, after its step is paid, and returns its signal. `groupings` has the

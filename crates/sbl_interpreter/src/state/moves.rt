@@ -1,6 +1,6 @@
 //! Moving and testing.
 
-ghost use Rattle.std.specs.Prelude.{◌≡◌, ◌≤◌, ◌<◌, length, map, nat_eq, IfOk, IsTrue, slice_get};
+ghost use Rattle.std.specs.Prelude.{◌≡◌, ℕ, List, false, ◌≤◌, ◌<◌, length, map, nat_eq, IfOk, IsTrue, slice_get};
 ghost use Rattle.std.specs.List.{starts_with};
 ghost use Rattle.sbl_char_class.specs.CharacterClasses.{members};
 ghost use Rattle.sbl_char_class.specs.Terms.{class_at};
@@ -42,11 +42,15 @@ impl State {
     }
 
     /// Moves over a literal or the value of a string variable, and returns whether it is a prefix of the text ahead.
+    #[inline(always)]
     pub fn take_term(&mut self, mode: Mode, term: &StringTerm) -> bool
         ensures leads { match (characters (view_text term.now) self.old) mode self.old ≡ Signals result self.new }
         ensures same_steps { self.new.steps ≡ self.old.steps }
     {
         let string = self.characters(term);
+        if is_other(self.next_character(mode), first_read(mode, string)) {
+            return false;
+        }
         let found = is_front(mode, self.part_ahead(mode), string);
         let length = string.len();
         if found {
@@ -60,11 +64,7 @@ impl State {
     fn next_character(&self, mode: Mode) -> Option<char>
         ensures value { result ≡ slice_get (ahead mode self.now) 0 }
     {
-        let part = self.part_ahead(mode);
-        match mode {
-            Mode::Forward => part.first().copied(),
-            Mode::Backward => part.last().copied(),
-        }
+        first_read(mode, self.part_ahead(mode))
     }
 
     /// Moves over one character that is in the class with this number, or over one that is not, as `wanted` says, and
@@ -177,7 +177,34 @@ impl State {
     }
 }
 
+// Returns the character of `part` that the mode reads first, if any.
+#[inline(always)]
+fn first_read(mode: Mode, part: &[char]) -> Option<char>
+    ensures { result ≡ slice_get (read_as mode part.now) 0 }
+{
+    match mode {
+        Mode::Forward => part.first().copied(),
+        Mode::Backward => part.last().copied(),
+    }
+}
+
+// Returns whether a string with this first character, if it has one, begins in no text with that first character, if it has
+// one.
+#[inline(always)]
+fn is_other(character: Option<char>, wanted: Option<char>) -> bool
+    ensures { (text string : List ℕ) → IsTrue result → character ≡ slice_get text 0 → wanted ≡ slice_get string 0 → starts_with nat_eq text string ≡ false }
+{
+    match wanted {
+        None => false,
+        Some(wanted) => match character {
+            None => true,
+            Some(character) => character != wanted,
+        },
+    }
+}
+
 // Returns whether `string` is a prefix of `part` as read in the mode.
+#[inline(never)]
 fn is_front(mode: Mode, part: &[char], string: &[char]) -> bool
     ensures value { result ≡ starts_with nat_eq (read_as mode part.now) (read_as mode string.now) }
     ensures bound { IsTrue result → length string.now ≤ length part.now }

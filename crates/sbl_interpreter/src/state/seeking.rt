@@ -68,7 +68,6 @@ impl State {
                 }
                 return Ok(true);
             }
-            self.put_back(mode, from)?;
             if !self.take_next(mode) {
                 return Ok(false);
             }

@@ -13,18 +13,6 @@ run_paid-returns-in-Repeat-clause-follows = commands.run_paid-returns-in-Repeat-
 pub run_paid-returns-in-Loop-clause-follows : goal.run_paid-returns-in-Loop-clause-follows
 run_paid-returns-in-Loop-clause-follows = commands.run_paid-returns-in-Loop-clause-follows
 
-pub run_paid-returns-in_ok-touch_among-in-Search-clause-follows : goal.run_paid-returns-in_ok-touch_among-in-Search-clause-follows
-run_paid-returns-in_ok-touch_among-in-Search-clause-follows = commands.run_paid-returns-in_ok-touch_among-in-Search-clause-follows
-
-pub run_paid-returns-in_err-run_times-in-AtLeast-clause-follows : goal.run_paid-returns-in_err-run_times-in-AtLeast-clause-follows
-run_paid-returns-in_err-run_times-in-AtLeast-clause-follows = commands.run_paid-returns-in_err-run_times-in-AtLeast-clause-follows
-
-pub run_paid-returns-then-not-branch-clause-follows : goal.run_paid-returns-then-not-branch-clause-follows
-run_paid-returns-then-not-branch-clause-follows = commands.run_paid-returns-then-not-branch-clause-follows
-
-pub run_paid-returns-else-not-branch-clause-follows : goal.run_paid-returns-else-not-branch-clause-follows
-run_paid-returns-else-not-branch-clause-follows = commands.run_paid-returns-else-not-branch-clause-follows
-
 pub run_paid-returns-in-Goto-clause-follows : goal.run_paid-returns-in-Goto-clause-follows
 run_paid-returns-in-Goto-clause-follows = commands.run_paid-returns-in-Goto-clause-follows
 
@@ -58,11 +46,14 @@ run_paid-returns-in-Backwards-clause-follows = commands.run_paid-returns-in-Back
 pub run_paid-returns-in-SetLimit-clause-follows : goal.run_paid-returns-in-SetLimit-clause-follows
 run_paid-returns-in-SetLimit-clause-follows = commands.run_paid-returns-in-SetLimit-clause-follows
 
-pub run_paid-returns-in_err-run_command-in-Fail-clause-follows : goal.run_paid-returns-in_err-run_command-in-Fail-clause-follows
-run_paid-returns-in_err-run_command-in-Fail-clause-follows = commands.run_paid-returns-in_err-run_command-in-Fail-clause-follows
+pub run_paid-returns-in-Fail-clause-follows : goal.run_paid-returns-in-Fail-clause-follows
+run_paid-returns-in-Fail-clause-follows = commands.run_paid-returns-in-Fail-clause-follows
 
-pub run_paid-returns-in_ok-run_command-in-Fail-clause-follows : goal.run_paid-returns-in_ok-run_command-in-Fail-clause-follows
-run_paid-returns-in_ok-run_command-in-Fail-clause-follows = commands.run_paid-returns-in_ok-run_command-in-Fail-clause-follows
+pub run_paid-returns-in-AtLeast-clause-follows : goal.run_paid-returns-in-AtLeast-clause-follows
+run_paid-returns-in-AtLeast-clause-follows = commands.run_paid-returns-in-AtLeast-clause-follows
+
+pub run_paid-returns-in-Search-clause-follows : goal.run_paid-returns-in-Search-clause-follows
+run_paid-returns-in-Search-clause-follows = commands.run_paid-returns-in-Search-clause-follows
 
 pub run_not-returns-in_err-run_command-clause-follows : goal.run_not-returns-in_err-run_command-clause-follows
 run_not-returns-in_err-run_command-clause-follows = prefixes.run_not-returns-in_err-run_command-clause-follows
@@ -99,6 +90,12 @@ run_do-returns-in_err-put_back-clause-follows = prefixes.run_do-returns-in_err-p
 
 pub run_do-returns-clause-follows : goal.run_do-returns-clause-follows
 run_do-returns-clause-follows = prefixes.run_do-returns-clause-follows
+
+pub run_fail-returns-in_err-run_command-clause-follows : goal.run_fail-returns-in_err-run_command-clause-follows
+run_fail-returns-in_err-run_command-clause-follows = prefixes.run_fail-returns-in_err-run_command-clause-follows
+
+pub run_fail-returns-clause-follows : goal.run_fail-returns-clause-follows
+run_fail-returns-clause-follows = prefixes.run_fail-returns-clause-follows
 
 pub run_backwards-returns-in_err-run_command-clause-follows : goal.run_backwards-returns-in_err-run_command-clause-follows
 run_backwards-returns-in_err-run_command-clause-follows = prefixes.run_backwards-returns-in_err-run_command-clause-follows
@@ -154,11 +151,11 @@ run_among-returns-in-None-clause-follows = loops.run_among-returns-in-None-claus
 pub run_times-loop-left-preserved : goal.run_times-loop-left-preserved
 run_times-loop-left-preserved = loops.run_times-loop-left-preserved
 
-pub run_in_turn-returns-in_err-run_command-clause-follows : goal.run_in_turn-returns-in_err-run_command-clause-follows
-run_in_turn-returns-in_err-run_command-clause-follows = loops.run_in_turn-returns-in_err-run_command-clause-follows
+pub run_each-returns-in_err-run_command-clause-follows : goal.run_each-returns-in_err-run_command-clause-follows
+run_each-returns-in_err-run_command-clause-follows = loops.run_each-returns-in_err-run_command-clause-follows
 
-pub run_in_turn-loop-one-preserved : goal.run_in_turn-loop-one-preserved
-run_in_turn-loop-one-preserved = loops.run_in_turn-loop-one-preserved
+pub run_each-loop-one-preserved : goal.run_each-loop-one-preserved
+run_each-loop-one-preserved = loops.run_each-loop-one-preserved
 
 pub run_times-returns-in_err-run_command-clause-follows : goal.run_times-returns-in_err-run_command-clause-follows
 run_times-returns-in_err-run_command-clause-follows = loops.run_times-returns-in_err-run_command-clause-follows
@@ -183,3 +180,15 @@ run_seek-returns-in-Grouping-clause-follows = loops.run_seek-returns-in-Grouping
 
 pub run_seek-returns-in-NonGrouping-clause-follows : goal.run_seek-returns-in-NonGrouping-clause-follows
 run_seek-returns-in-NonGrouping-clause-follows = loops.run_seek-returns-in-NonGrouping-clause-follows
+
+pub run_body-returns-in_ok-pay-in-Sequence-clause-follows : goal.run_body-returns-in_ok-pay-in-Sequence-clause-follows
+run_body-returns-in_ok-pay-in-Sequence-clause-follows = loops.run_body-returns-in_ok-pay-in-Sequence-clause-follows
+
+pub run_sequence-returns-in_err-pay_and_act-clause-follows : goal.run_sequence-returns-in_err-pay_and_act-clause-follows
+run_sequence-returns-in_err-pay_and_act-clause-follows = loops.run_sequence-returns-in_err-pay_and_act-clause-follows
+
+pub run_sequence-returns-then-not-branch-clause-follows : goal.run_sequence-returns-then-not-branch-clause-follows
+run_sequence-returns-then-not-branch-clause-follows = loops.run_sequence-returns-then-not-branch-clause-follows
+
+pub run_sequence-returns-in-Some-clause-follows : goal.run_sequence-returns-in-Some-clause-follows
+run_sequence-returns-in-Some-clause-follows = loops.run_sequence-returns-in-Some-clause-follows

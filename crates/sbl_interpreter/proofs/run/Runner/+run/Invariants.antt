@@ -11,65 +11,83 @@ use Rattle.sbl_interpreter.specs.Search.{tries, searched, bound_in}
 use Rattle.sbl_interpreter.proofs.run.Runner.+run.Given as goal
 
 abbrev pub decreases-run_command : goal.decreases-run_command
-decreases-run_command g l = 5 * l.state.now.steps
+decreases-run_command g l = 6 * l.state.now.steps
 
 abbrev pub decreases-run_paid : goal.decreases-run_paid
-decreases-run_paid g l = 5 * l.state.now.steps + 4
+decreases-run_paid g l = 6 * l.state.now.steps + 5
 
 abbrev pub decreases-run_not : goal.decreases-run_not
-decreases-run_not g l = 5 * l.state.now.steps + 1
+decreases-run_not g l = 6 * l.state.now.steps + 1
 
 abbrev pub decreases-run_test : goal.decreases-run_test
-decreases-run_test g l = 5 * l.state.now.steps + 1
+decreases-run_test g l = 6 * l.state.now.steps + 1
 
 abbrev pub decreases-run_try : goal.decreases-run_try
-decreases-run_try g l = 5 * l.state.now.steps + 1
+decreases-run_try g l = 6 * l.state.now.steps + 1
 
 abbrev pub decreases-run_do : goal.decreases-run_do
-decreases-run_do g l = 5 * l.state.now.steps + 1
+decreases-run_do g l = 6 * l.state.now.steps + 1
+
+abbrev pub decreases-run_fail : goal.decreases-run_fail
+decreases-run_fail g l = 6 * l.state.now.steps + 1
+
+abbrev pub decreases-run_sequence : goal.decreases-run_sequence
+decreases-run_sequence g l = 6 * l.state.now.steps + 3
+
+abbrev pub decreases-run_at_least : goal.decreases-run_at_least
+decreases-run_at_least g l = 6 * l.state.now.steps + 2
+
+abbrev pub decreases-run_search_all : goal.decreases-run_search_all
+decreases-run_search_all g l = 6 * l.state.now.steps + 4
 
 abbrev pub decreases-run_backwards : goal.decreases-run_backwards
-decreases-run_backwards g l = 5 * l.state.now.steps + 1
+decreases-run_backwards g l = 6 * l.state.now.steps + 1
 
 abbrev pub decreases-run_limited : goal.decreases-run_limited
-decreases-run_limited g l = 5 * l.state.now.steps + 1
+decreases-run_limited g l = 6 * l.state.now.steps + 1
 
 abbrev pub decreases-run_row : goal.decreases-run_row
-decreases-run_row g l = 5 * l.state.now.steps + 3
+decreases-run_row g l = 6 * l.state.now.steps + 3
 
 abbrev pub decreases-run_joined : goal.decreases-run_joined
-decreases-run_joined g l = 5 * l.state.now.steps + 1
+decreases-run_joined g l = 6 * l.state.now.steps + 1
 
 abbrev pub decreases-run_in_turn : goal.decreases-run_in_turn
-decreases-run_in_turn g l = 5 * l.state.now.steps + 1
+decreases-run_in_turn g l = 6 * l.state.now.steps + 2
+
+abbrev pub decreases-run_each : goal.decreases-run_each
+decreases-run_each g l = 6 * l.state.now.steps + 1
+
+abbrev pub decreases-run_body : goal.decreases-run_body
+decreases-run_body g l = 6 * l.state.now.steps + 1
 
 abbrev pub decreases-run_turns : goal.decreases-run_turns
-decreases-run_turns g l = 5 * l.state.now.steps + 1
+decreases-run_turns g l = 6 * l.state.now.steps + 1
 
 abbrev pub decreases-run_times : goal.decreases-run_times
-decreases-run_times g l = 5 * l.state.now.steps + 1
+decreases-run_times g l = 6 * l.state.now.steps + 1
 
 abbrev pub decreases-run_seek : goal.decreases-run_seek
-decreases-run_seek g l = 5 * l.state.now.steps + 2
+decreases-run_seek g l = 6 * l.state.now.steps + 2
 
 abbrev pub decreases-run_tries : goal.decreases-run_tries
-decreases-run_tries g l = 5 * l.state.now.steps + 1
+decreases-run_tries g l = 6 * l.state.now.steps + 1
 
 abbrev pub decreases-run_call : goal.decreases-run_call
-decreases-run_call g l = 5 * l.state.now.steps + 1
+decreases-run_call g l = 6 * l.state.now.steps + 2
 
 abbrev pub decreases-run_among : goal.decreases-run_among
-decreases-run_among g l = 5 * l.state.now.steps + 2
+decreases-run_among g l = 6 * l.state.now.steps + 3
 
 abbrev pub decreases-run_search : goal.decreases-run_search
-decreases-run_search g l = 5 * l.state.now.steps + 3
+decreases-run_search g l = 6 * l.state.now.steps + 3
 
 abbrev pub decreases-try_string : goal.decreases-try_string
-decreases-try_string g l = 5 * l.state.now.steps + 2
+decreases-try_string g l = 6 * l.state.now.steps + 2
 
 -- the commands that are left do from here what all of them do from the start
-abbrev pub invariant-run_in_turn-loop-one : goal.invariant-run_in_turn-loop-one
-invariant-run_in_turn-loop-one g l =
+abbrev pub invariant-run_each-loop-one : goal.invariant-run_each-loop-one
+invariant-run_each-loop-one g l =
     let T = g.T.Tables.listed l.self.tables.now in
     let p = program_of T l.self.program.now in
     (all_run p l.self.levels (view_nodes T (drop l.one-index l.commands)) l.self.mode l.state ≡ all_run p l.self.levels (view_nodes T l.commands) l.self.mode l.initial.state) × (l.state.steps ≤ l.initial.state.steps)

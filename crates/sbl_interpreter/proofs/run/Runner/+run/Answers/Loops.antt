@@ -3,21 +3,21 @@ use Rattle.std.proofs.Common.{◌≡◌, ◌+◌, drop, map, suc, true, false, S
 use Rattle.std.specs.Prelude.{slice_get, ◌-◌}
 use Rattle.sbl_char_class.specs.CharacterClasses.{members}
 use Rattle.sbl_char_class.specs.Terms.{class_at}
-use Rattle.sbl_interpreter.specs.Actions.{test_grouping}
+use Rattle.sbl_interpreter.specs.Actions.{acts, test_grouping}
 use Rattle.sbl_interpreter.specs.Kept.{Follows}
 use Rattle.sbl_semantics.specs.Moves.{next}
-use Rattle.sbl_interpreter.proofs.Arms.{by_fault, stops_at, turn_is, time_stops, follows_at, one_time, nth_is, nth_past, one_turn, one_try, one_more, halted, called, leave_signals, leave_halts, grouping_does, non_does}
+use Rattle.sbl_interpreter.proofs.Arms.{by_fault, stops_at, turn_is, time_stops, follows_at, one_time, nth_is, nth_past, one_turn, one_try, one_more, halted, called, leave_signals, leave_halts, sequence_does, act_first, but_first, grouping_does, non_does}
 use Rattle.sbl_interpreter.proofs.Rows.{after_signal, others_stop, part_is}
 use Rattle.sbl_interpreter.specs.Rows.{joined_runs, others_run, pays, row_runs}
 use Rattle.std.proofs.lemmas.List.{drop_all, length-map}
-use Rattle.sbl_semantics.specs.State.{State, Doing, Signals, after, then_on, saved_cursor, put_back}
+use Rattle.sbl_semantics.specs.State.{State, Doing, Signals, after, then_on, pay, saved_cursor, put_back}
 use Rattle.sbl_program.specs.declared.action.Action.TheVariants.{Grouping, NonGrouping}
 use Rattle.sbl_program.specs.declared.node.Node.{Node}
-use Rattle.sbl_program.specs.declared.node.Node.TheVariants.{Act}
+use Rattle.sbl_program.specs.declared.node.Node.TheVariants.{Act, Sequence}
 use Rattle.sbl_program.specs.declared.node.Routine.{Routine}
-use Rattle.sbl_program.specs.ProgramOf.{program_of, view_joined, view_node, view_nodes, view_number, view_routine}
+use Rattle.sbl_program.specs.ProgramOf.{program_of, view_action, view_joined, view_node, view_nodes, view_number, view_routine}
 use Rattle.sbl_semantics.specs.Control.{paid, turns, times, seeks, count_of, back_in, enter}
-use Rattle.sbl_interpreter.specs.Run.{runs, all_run, group_runs, nth_runs, calls}
+use Rattle.sbl_interpreter.specs.Run.{runs, runs_paid, all_run, group_runs, nth_runs, calls}
 use Rattle.sbl_interpreter.specs.Arithmetic.{value}
 use Rattle.sbl_semantics.specs.Numbers.{given}
 use Rattle.sbl_interpreter.specs.Search.{tries, try_one, bound_in}
@@ -133,7 +133,7 @@ run_call-returns-in_err-signal-in-Some-clause-follows g t c =
     let m = c.args.self.now.mode in
     let s = c.args.state.now in
     let routine = c.in-Some.routine.now in
-    let new = c.run_command.new.state in
+    let new = c.run_body.new.state in
     let some : 0 < c.args.self.now.levels = omega (arith, c.if-self-eq0.false) in
     let is : slice_get p.routines c.args.number ≡ Some (view_routine T routine) = c.routine.ensures T ∙ ap (option_map (λ (r : Bor Routine). view_routine T r.now)) c.in-Some.is in
     let q = called p c.args.self.now.levels c.args.number m s (view_routine T routine) some is in
@@ -150,7 +150,7 @@ run_call-returns-in_ok-leave-in-Some-clause-follows g t c =
     let m = c.args.self.now.mode in
     let s = c.args.state.now in
     let routine = c.in-Some.routine.now in
-    let new = c.run_command.new.state in
+    let new = c.run_body.new.state in
     let some : 0 < c.args.self.now.levels = omega (arith, c.if-self-eq0.false) in
     let is : slice_get p.routines c.args.number ≡ Some (view_routine T routine) = c.routine.ensures T ∙ ap (option_map (λ (r : Bor Routine). view_routine T r.now)) c.in-Some.is in
     let q = called p c.args.self.now.levels c.args.number m s (view_routine T routine) some is in
@@ -191,8 +191,8 @@ run_times-loop-left-preserved g t c =
     let steps : new.steps ≤ c.args.state.now.steps = omega (arith, fewer, inv.1) in
     (one_time c.loop-left.left D m s new _ some e inv.0, steps)
 
-pub run_in_turn-returns-in_err-run_command-clause-follows : goal.run_in_turn-returns-in_err-run_command-clause-follows
-run_in_turn-returns-in_err-run_command-clause-follows g t c =
+pub run_each-returns-in_err-run_command-clause-follows : goal.run_each-returns-in_err-run_command-clause-follows
+run_each-returns-in_err-run_command-clause-follows g t c =
     let T = g.T.Tables.listed c.args.self.now.tables.now in
     let P = program_of T c.args.self.now.program.now in
     let levels = c.args.self.now.levels in
@@ -210,8 +210,8 @@ run_in_turn-returns-in_err-run_command-clause-follows g t c =
     let r : c.from_residual.result ≡ Err halt = search rules in
     rw r (by_fault halt u _ (λ fault is. sym inv.0 ∙ turn ∙ ap (λ r. after r rest (Signals false)) (stops_at halt u _ fault is c.in_err-run_command.ensures.follows)))
 
-pub run_in_turn-loop-one-preserved : goal.run_in_turn-loop-one-preserved
-run_in_turn-loop-one-preserved g t c =
+pub run_each-loop-one-preserved : goal.run_each-loop-one-preserved
+run_each-loop-one-preserved g t c =
     let T = g.T.Tables.listed c.args.self.now.tables.now in
     let P = program_of T c.args.self.now.program.now in
     let levels = c.args.self.now.levels in
@@ -374,3 +374,64 @@ run_seek-returns-in-NonGrouping-clause-follows g t c =
     let p = ap (λ x. seek (runs P levels (view_node T x))) c.in-Act.is ∙ ap (λ x. seek (runs P levels (view_node T (Act x)))) c.in-NonGrouping.is ∙ ap seek (non_does T P levels n) in
     let k = ap (λ cs. seek (paid (test_grouping false (class_at (map members cs) n) n))) (sym c.deref-in-NonGrouping.ensures.value) in
     follows_at c.seek_one-in-NonGrouping.result c.seek_one-in-NonGrouping.new.self _ _ (p ∙ k) c.seek_one-in-NonGrouping.ensures.follows
+
+pub run_body-returns-in_ok-pay-in-Sequence-clause-follows : goal.run_body-returns-in_ok-pay-in-Sequence-clause-follows
+run_body-returns-in_ok-pay-in-Sequence-clause-follows g t c =
+    let T = g.T.Tables.listed c.args.self.now.tables.now in
+    let P = program_of T c.args.self.now.program.now in
+    let levels = c.args.self.now.levels in
+    let m = c.args.self.now.mode in
+    let q = c.args.state.now in
+    let a = c.in-Sequence in
+    let u = c.pay.new.self in
+    let e : pay q.steps q ≡ Signals true u = c.in_ok-pay-in-Sequence.ensures in
+    let go = runs_paid P levels (view_node T (Sequence a.commands)) m in
+    let p = ap (λ n. runs P levels (view_node T n) m q) a.is ∙ ap (λ r. then_on r go) e ∙ sequence_does T P levels a.commands m u in
+    follows_at c.run_each.result c.run_each.new.state _ _ (p ∙ ap (λ ns. all_run P levels (view_nodes T ns) m u) (sym c.deref.ensures.value)) c.run_each.ensures.follows
+
+pub run_sequence-returns-in_err-pay_and_act-clause-follows : goal.run_sequence-returns-in_err-pay_and_act-clause-follows
+run_sequence-returns-in_err-pay_and_act-clause-follows g t c =
+    let T = g.T.Tables.listed c.args.self.now.tables.now in
+    let P = program_of T c.args.self.now.program.now in
+    let levels = c.args.self.now.levels in
+    let m = c.args.self.now.mode in
+    let q = c.args.state.now in
+    let cs = c.args.commands.now in
+    let a = c.in-Some.action.now in
+    let u = c.pay_and_act.new.self in
+    let rest = all_run P levels (view_nodes T (drop 1 cs)) m in
+    let whole = act_first T P levels cs a m q c.in-Some.ensures ∙ ap (λ gs. after (paid (acts (map members gs) (view_action a)) m q) rest (Signals false)) (sym c.deref.ensures.value) in
+    let halt = c.in_err-pay_and_act.field-0.0 in
+    let r : c.from_residual.result ≡ Err halt = search rules in
+    rw r (by_fault halt u _ (λ fault is. whole ∙ ap (λ r. after r rest (Signals false)) (stops_at halt u _ fault is c.in_err-pay_and_act.ensures.follows)))
+
+pub run_sequence-returns-then-not-branch-clause-follows : goal.run_sequence-returns-then-not-branch-clause-follows
+run_sequence-returns-then-not-branch-clause-follows g t c =
+    let T = g.T.Tables.listed c.args.self.now.tables.now in
+    let P = program_of T c.args.self.now.program.now in
+    let levels = c.args.self.now.levels in
+    let m = c.args.self.now.mode in
+    let q = c.args.state.now in
+    let cs = c.args.commands.now in
+    let a = c.in-Some.action.now in
+    let u = c.pay_and_act.new.self in
+    let rest = all_run P levels (view_nodes T (drop 1 cs)) m in
+    let whole = act_first T P levels cs a m q c.in-Some.ensures ∙ ap (λ gs. after (paid (acts (map members gs) (view_action a)) m q) rest (Signals false)) (sym c.deref.ensures.value) in
+    let b : c.in_ok-pay_and_act.field-0 ≡ false = search rules in
+    whole ∙ ap (λ r. after r rest (Signals false)) (c.in_ok-pay_and_act.ensures.follows ∙ ap (λ v. Signals v u) b)
+
+pub run_sequence-returns-in-Some-clause-follows : goal.run_sequence-returns-in-Some-clause-follows
+run_sequence-returns-in-Some-clause-follows g t c =
+    let T = g.T.Tables.listed c.args.self.now.tables.now in
+    let P = program_of T c.args.self.now.program.now in
+    let levels = c.args.self.now.levels in
+    let m = c.args.self.now.mode in
+    let q = c.args.state.now in
+    let cs = c.args.commands.now in
+    let a = c.in-Some.action.now in
+    let u = c.pay_and_act.new.self in
+    let rest = all_run P levels (view_nodes T (drop 1 cs)) m in
+    let whole = act_first T P levels cs a m q c.in-Some.ensures ∙ ap (λ gs. after (paid (acts (map members gs) (view_action a)) m q) rest (Signals false)) (sym c.deref.ensures.value) in
+    let b : c.in_ok-pay_and_act.field-0 ≡ true = search rules in
+    let p = whole ∙ ap (λ r. after r rest (Signals false)) (c.in_ok-pay_and_act.ensures.follows ∙ ap (λ v. Signals v u) b) ∙ ap (λ xs. all_run P levels (view_nodes T xs) m u) (sym (but_first cs)) in
+    follows_at c.run_in_turn.result c.run_in_turn.new.state _ _ p c.run_in_turn.ensures.follows

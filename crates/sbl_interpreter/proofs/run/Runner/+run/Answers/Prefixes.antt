@@ -208,6 +208,33 @@ run_do-returns-clause-follows g t c =
     let x = ap (λ r. after r on_t on_f) c.in_ok-run_command.ensures.follows ∙ either_way b u on_t ∙ ap (λ r. put_back m r u) (sym c.saved_cursor-from.ensures.value) in
     x ∙ c.in_ok-put_back.ensures.leads
 
+pub run_fail-returns-in_err-run_command-clause-follows : goal.run_fail-returns-in_err-run_command-clause-follows
+run_fail-returns-in_err-run_command-clause-follows g t c =
+    let T = g.T.Tables.listed c.args.self.now.tables.now in
+    let P = program_of T c.args.self.now.program.now in
+    let levels = c.args.self.now.levels in
+    let D = λ (n : Node). runs P levels (view_node T n) in
+    let m = c.args.self.now.mode in
+    let q = c.args.state.now in
+    let fails : State → Ending = Signals false in
+    let u = c.run_command.new.state in
+    let halt = c.in_err-run_command.field-0.0 in
+    let r : c.from_residual.result ≡ Err halt = search rules in
+    rw r (by_fault halt u _ (λ fault is. ap (λ r. after r fails fails) (stops_at halt u _ fault is c.in_err-run_command.ensures.follows)))
+
+pub run_fail-returns-clause-follows : goal.run_fail-returns-clause-follows
+run_fail-returns-clause-follows g t c =
+    let T = g.T.Tables.listed c.args.self.now.tables.now in
+    let P = program_of T c.args.self.now.program.now in
+    let levels = c.args.self.now.levels in
+    let D = λ (n : Node). runs P levels (view_node T n) in
+    let m = c.args.self.now.mode in
+    let q = c.args.state.now in
+    let fails : State → Ending = Signals false in
+    let u = c.run_command.new.state in
+    let b = c.in_ok-run_command.field-0 in
+    ap (λ r. after r fails fails) c.in_ok-run_command.ensures.follows ∙ either_way b u fails
+
 pub run_backwards-returns-in_err-run_command-clause-follows : goal.run_backwards-returns-in_err-run_command-clause-follows
 run_backwards-returns-in_err-run_command-clause-follows g t c =
     let T = g.T.Tables.listed c.args.self.now.tables.now in
