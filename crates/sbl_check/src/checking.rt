@@ -127,10 +127,10 @@ fn compare<W: Sink>(
     writer: &mut W,
 ) -> Result<bool, ServeFault>
     ensures compares { (script : Source) → IsLinkedMachineOf machine.now script → ComparesPair script number word.now expected.now (W.held writer.old) (W.held writer.new) result }
-    ensures steady { OnOk result (W.failures writer.new ≡ W.failures writer.old) }
-    ensures why { IfErr result (λ fault. fault ≡ ServeFault.Write → HasStopped W.failures W.interruptions writer.old writer.new) }
-    ensures in_time { WritesInTime W.late W.interruptions writer.old writer.new }
-    ensures rested { OnOk result (W.interruptions writer.old ≡ 0 → W.interruptions writer.new ≡ 0) }
+    ensures steady { OnOk result ((W.tally writer.new).failures ≡ (W.tally writer.old).failures) }
+    ensures why { IfErr result (λ fault. fault ≡ ServeFault.Write → HasStopped W.tally writer.old writer.new) }
+    ensures in_time { WritesInTime W.tally writer.old writer.new }
+    ensures rested { OnOk result ((W.tally writer.old).interruptions ≡ 0 → (W.tally writer.new).interruptions ≡ 0) }
 {
     let word = text_line(word)?;
     let expected = text_line(expected)?;
@@ -167,9 +167,9 @@ pub fn check<W: Sink>(
     writer: &mut W,
 ) -> Result<u64, ServeFault>
     ensures checked { IsChecked (source_of script.now) words.now expected.now (W.held writer.old) (W.held writer.new) result }
-    ensures steady { OnOk result (W.failures writer.new ≡ W.failures writer.old) }
-    ensures why { IfErr result (λ fault. fault ≡ ServeFault.Write → HasStopped W.failures W.interruptions writer.old writer.new) }
-    ensures writes_in_time { WritesInTime W.late W.interruptions writer.old writer.new }
+    ensures steady { OnOk result ((W.tally writer.new).failures ≡ (W.tally writer.old).failures) }
+    ensures why { IfErr result (λ fault. fault ≡ ServeFault.Write → HasStopped W.tally writer.old writer.new) }
+    ensures writes_in_time { WritesInTime W.tally writer.old writer.new }
 {
     let machine = Machine::new(alloc, script)?;
     let mut meter = Meter::new();

@@ -9,10 +9,11 @@ ghost use Rattle.sbl_io.specs.Records.{record_line, records_text};
 ghost use Rattle.sbl_desk.specs.Families as spec;
 ghost use Rattle.sbl_desk.specs.FamilyReader.{families_read, read_by, read_on, with_word, words_read};
 
-use crate::reports::{named_rows, push_line, push_stems, push_text};
+use crate::reports::{named_rows, push_stems};
 use csv::ByteRecord;
 use sbl_bench::Bench;
 use sbl_changes::{FamilyRow, families};
+use sbl_io::{push_line, push_text};
 use std::alloc::{AllocError, Global};
 
 /// The families that are being read: those of the lines before, the words of the current line, and the current word.

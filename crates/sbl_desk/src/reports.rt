@@ -19,7 +19,7 @@ use sbl_bench::{Bench, Row};
 use sbl_changes::{
     ChangeRow, RowStats, StemClass, WordOutcome, WordRow, changes, largest_classes, stats,
 };
-use sbl_io::{record_line, set_text};
+use sbl_io::{push_line, push_text};
 use sbl_machine::Outcome;
 use std::alloc::{AllocError, Global};
 
@@ -62,20 +62,6 @@ fn named_marks(alloc: Global, rows: &[MarkedRow]) -> Result<Vec<WordRow<'_>>, Al
         })?;
     }
     Ok(named)
-}
-
-/// Appends characters to a record, as one field. Returns `AllocError` if an allocation fails.
-pub(crate) fn push_text(
-    text: &mut String,
-    csv_record: &mut ByteRecord,
-    characters: &[char],
-) -> Result<(), AllocError>
-    requires { partial_of csv_record.old ≡ [] }
-    ensures fields { OnOk result (fields_of csv_record.new ≡ fields_of csv_record.old ++ encode_utf8_all characters.now ∷ []) }
-    ensures partial { OnOk result (partial_of csv_record.new ≡ []) }
-{
-    set_text(text, characters)?;
-    csv_record.push_field(text.as_bytes())
 }
 
 /// Appends stems to a record, each as one field. Returns `AllocError` if an allocation fails.
@@ -161,18 +147,6 @@ fn fill_change(
             push_text(text, csv_record, to)
         }
     }
-}
-
-/// Appends the line of a record. Returns `AllocError` if an allocation fails.
-pub(crate) fn push_line(
-    alloc: Global,
-    out: &mut Vec<u8>,
-    csv_record: &ByteRecord,
-) -> Result<(), AllocError>
-    ensures { OnOk result (out.new.items ≡ out.old.items ++ record_line (fields_of csv_record.now)) }
-{
-    let line = record_line(alloc, csv_record)?;
-    out.extend_from_slice(&line)
 }
 
 /// Appends the line of a change. Returns `AllocError` if an allocation fails.

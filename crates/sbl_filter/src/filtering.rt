@@ -35,10 +35,10 @@ fn filter_line<W: Sink>(
     requires between { IsBetweenLines rows.old.lines }
     ensures between { OnOk result (IsBetweenLines rows.new.lines) }
     ensures writes { (s : Source) → IsLinkedMachineOf machine.now s → WritesLine s line.now (W.held writer.old) (W.held writer.new) result }
-    ensures steady { OnOk result (W.failures writer.new ≡ W.failures writer.old) }
-    ensures why { IfErr result (λ fault. fault ≡ LoadFault.Input ServeFault.Write → HasStopped W.failures W.interruptions writer.old writer.new) }
-    ensures in_time { WritesInTime W.late W.interruptions writer.old writer.new }
-    ensures rested { OnOk result (W.interruptions writer.old ≡ 0 → W.interruptions writer.new ≡ 0) }
+    ensures steady { OnOk result ((W.tally writer.new).failures ≡ (W.tally writer.old).failures) }
+    ensures why { IfErr result (λ fault. fault ≡ LoadFault.Input ServeFault.Write → HasStopped W.tally writer.old writer.new) }
+    ensures in_time { WritesInTime W.tally writer.old writer.new }
+    ensures rested { OnOk result ((W.tally writer.old).interruptions ≡ 0 → (W.tally writer.new).interruptions ≡ 0) }
 {
     let Ok(word) = str::from_utf8(line) else {
         return Err(LoadFault::Input(ServeFault::NotText));
@@ -64,13 +64,13 @@ fn filter_words<R: Source + Drop, W: Sink>(
 ) -> Result<(), LoadFault>
     ensures filters { fault_of lines.old ≡ None → Filters (source_of script.now) (input_of R.left lines.old) (input_of R.left lines.new) (W.held writer.old) (W.held writer.new) result }
     ensures remembered { fault_of lines.old ≡ None → fault_of lines.new ≡ left_by_load result }
-    ensures bound { reads_bound R.reads lines.new ≡ reads_bound R.reads lines.old }
-    ensures steady { OnOk result ((R.failures lines.new.reader ≡ R.failures lines.old.reader) × (W.failures writer.new ≡ W.failures writer.old)) }
-    ensures later { R.failures lines.old.reader ≤ R.failures lines.new.reader }
-    ensures why { IfErr result (λ fault. HasReason R.failures R.interruptions R.reads lines.old lines.new fault) }
-    ensures why_write { IfErr result (λ fault. fault ≡ LoadFault.Input ServeFault.Write → HasStopped W.failures W.interruptions writer.old writer.new) }
-    ensures reads_in_time { KeepsTime R.ended R.late R.interruptions R.reads lines.old lines.new }
-    ensures writes_in_time { WritesInTime W.late W.interruptions writer.old writer.new }
+    ensures bound { reads_bound R.tally lines.new ≡ reads_bound R.tally lines.old }
+    ensures steady { OnOk result (((R.tally lines.new.reader).failures ≡ (R.tally lines.old.reader).failures) × ((W.tally writer.new).failures ≡ (W.tally writer.old).failures)) }
+    ensures later { (R.tally lines.old.reader).failures ≤ (R.tally lines.new.reader).failures }
+    ensures why { IfErr result (λ fault. HasReason R.tally lines.old lines.new fault) }
+    ensures why_write { IfErr result (λ fault. fault ≡ LoadFault.Input ServeFault.Write → HasStopped W.tally writer.old writer.new) }
+    ensures reads_in_time { KeepsTime R.tally lines.old lines.new }
+    ensures writes_in_time { WritesInTime W.tally writer.old writer.new }
 {
     let alloc = lines.alloc();
     let machine = Machine::new(alloc, script)?;
@@ -110,20 +110,17 @@ pub fn filter<R: Source + Drop, W: Sink>(
     writer: &mut W,
 ) -> Result<(), LoadFault>
     ensures filtered { fault_of lines.old ≡ None → IsFiltered (input_of R.left lines.old) (input_of R.left lines.new) external.now (W.held writer.old) (W.held writer.new) result }
-    ensures steady { OnOk result ((R.failures lines.new.reader ≡ R.failures lines.old.reader) × (W.failures writer.new ≡ W.failures writer.old)) }
-    ensures why_read { IfErr result (λ fault. HasReason R.failures R.interruptions R.reads lines.old lines.new fault) }
-    ensures why_write { IfErr result (λ fault. fault ≡ LoadFault.Input ServeFault.Write → HasStopped W.failures W.interruptions writer.old writer.new) }
+    ensures steady { OnOk result (((R.tally lines.new.reader).failures ≡ (R.tally lines.old.reader).failures) × ((W.tally writer.new).failures ≡ (W.tally writer.old).failures)) }
+    ensures why_read { IfErr result (λ fault. HasReason R.tally lines.old lines.new fault) }
+    ensures why_write { IfErr result (λ fault. fault ≡ LoadFault.Input ServeFault.Write → HasStopped W.tally writer.old writer.new) }
     ensures remembered { fault_of lines.new ≡ left_by_load result }
     ensures again { (fault : LineFault) → fault_of lines.old ≡ Some fault → (result ≡ Err (LoadFault.Input (serve_fault_of fault))) × Keeps (input_of R.left lines.old) (input_of R.left lines.new) × Keeps (W.held writer.old) (W.held writer.new) }
-    ensures bound { reads_bound R.reads lines.new ≡ reads_bound R.reads lines.old }
-    ensures reads_in_time { KeepsTime R.ended R.late R.interruptions R.reads lines.old lines.new }
-    ensures writes_in_time { WritesInTime W.late W.interruptions writer.old writer.new }
+    ensures bound { reads_bound R.tally lines.new ≡ reads_bound R.tally lines.old }
+    ensures reads_in_time { KeepsTime R.tally lines.old lines.new }
+    ensures writes_in_time { WritesInTime W.tally writer.old writer.new }
 {
     let text = read_script(lines)?;
-    let script = match Script::parse(lines.alloc(), &text, external) {
-        Ok(script) => script,
-        Err(fault) => return Err(LoadFault::Script(fault)),
-    };
+    let script = Script::parse(lines.alloc(), &text, external)?;
     let filtered = filter_words(lines, &script, writer);
     script.discard();
     filtered

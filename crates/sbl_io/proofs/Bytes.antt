@@ -9,7 +9,7 @@ use Rattle.sbl_io.specs.declared.lines.LineEnd.TheVariants.{Feed, Input, Beyond}
 use Rattle.sbl_io.specs.LinesOf.{AreWhole, chomped, lines_of, onto_first, raw_lines}
 use Rattle.std.proofs.lemmas.Bool.{ne_eqb}
 use Rattle.std.proofs.lemmas.List.{append-nil, drop-drop, drop-take, map-append, take-append-drop}
-use Rattle.std.proofs.KnownBytes.{prepend_known-nil}
+use Rattle.std.proofs.KnownBytes.{Consumes-nil, Consumes-trans, prepend_known-nil}
 
 pub empty_range : (xs : List ℕ) (a b : ℕ) → a ≡ b → slice_range xs a b ≡ []
 empty_range xs a b e = let none : b - a ≡ 0 = omega arith in rw none refl
@@ -220,22 +220,15 @@ gives_line (Some xs) (Some ys) (c ∷ line) Input takes free within some = recor
 
 -- a line that a line feed ended is whole
 pub takes_whole : (a b : Option (List ℕ)) (line : List ℕ) (end : LineEnd) → TakesLine a b line end → (end ≢ Beyond) → (end ≢ Input) → TookWhole a b
-takes_whole None b line end takes within fed = tt
-takes_whole (Some xs) None line Feed takes within fed = absurd takes
-takes_whole (Some xs) (Some ys) line Feed takes within fed = (line ++ 10 ∷ [], takes, whole-feed line)
-takes_whole (Some xs) b line Input takes within fed = absurd (fed refl)
-takes_whole (Some xs) b line Beyond takes within fed = absurd (within refl)
+takes_whole a b line Feed takes within fed = (line ++ 10 ∷ [], takes, whole-feed line)
+takes_whole a b line Input takes within fed = absurd (fed refl)
+takes_whole a b line Beyond takes within fed = absurd (within refl)
 
 pub whole_none : (a : Option (List ℕ)) → TookWhole a a
-whole_none None = tt
-whole_none (Some xs) = ([], refl, tt)
+whole_none a = ([], Consumes-nil a, tt)
 
 pub whole_trans : (a b c : Option (List ℕ)) → TookWhole a b → TookWhole b c → TookWhole a c
-whole_trans None b c p q = tt
-whole_trans (Some xs) None c p q = absurd p
-whole_trans (Some xs) (Some ys) None p q = absurd q
-whole_trans (Some xs) (Some ys) (Some zs) p q =
-    (p.0 ++ q.0, p.1 ∙ ap (λ (x : List ℕ). p.0 ++ x) q.1 ∙ sym (append_assoc p.0 q.0 zs), whole-append p.0 q.0 p.2 q.2)
+whole_trans a b c p q = (p.0 ++ q.0, Consumes-trans a b c p.0 q.0 p.1 q.1, whole-append p.0 q.0 p.2 q.2)
 
 -- the first of the lines begins with whatever stands before the first line feed
 begins-with : (front rest : List ℕ) → NoFeed front → front ≢ [] → (more : List ℕ) × (others : List (List ℕ)) × (raw_lines (front ++ rest) ≡ (front ++ more) ∷ others)

@@ -60,16 +60,25 @@ is_late_read ended row reads = ended || (nat_le max_tries row || nat_le max_read
 abbrev pub is_late_write : ℕ → Bool
 is_late_write row = nat_le max_tries row
 
--- if no write before was late and the last one was not interrupted, no write up to now is late
-abbrev pub WritesInTime : {W : Type 0} → (W → Bool) → (W → ℕ) → W → W → Type 0
-WritesInTime late row old new = late old ≡ false → row old ≡ 0 → late new ≡ false
+-- What a device counts: its failures, the latest interruptions in a row and the reads, the latter two up to their limits; and
+-- whether a read has returned the end, and whether a read or a write was late.
+pub record Tally : Type 0 where
+  pub failures : ℕ
+  pub interruptions : ℕ
+  pub reads : ℕ
+  pub ended : Bool
+  pub late : Bool
 
--- a device that was not used: it has not returned the end, no read was late, and it was neither interrupted nor read
-pub record IsUnasked {R : Type 0} (ended late : R → Bool) (row reads : R → ℕ) (reader : R) : Type 0 where
-  pub not_ended : ended reader ≡ false
-  pub in_time : late reader ≡ false
-  pub rested : row reader ≡ 0
-  pub none : reads reader ≡ 0
+-- if no write before was late and the last one was not interrupted, no write up to now is late
+abbrev pub WritesInTime : {W : Type 0} → (W → Tally) → W → W → Type 0
+WritesInTime tally old new = (tally old).late ≡ false → (tally old).interruptions ≡ 0 → (tally new).late ≡ false
+
+-- the tally of a device that was not used: it has not returned the end, no read was late, and it was neither interrupted nor read
+pub record IsUnused (tally : Tally) : Type 0 where
+  pub not_ended : tally.ended ≡ false
+  pub in_time : tally.late ≡ false
+  pub rested : tally.interruptions ≡ 0
+  pub none : tally.reads ≡ 0
 
 -- ---- errors of std
 
@@ -94,5 +103,5 @@ JudgedWrite failures bytes (Ok n) judged =
 JudgedWrite failures bytes (Err e) judged = Judged failures (Err e) judged
 
 -- the writer has failed since, or it was interrupted more than 1,000 times in a row
-abbrev pub HasStopped : {W : Type 0} → (W → ℕ) → (W → ℕ) → W → W → Type 0
-HasStopped failures interruptions old new = (failures old < failures new) ⊎ (max_tries ≤ interruptions new)
+abbrev pub HasStopped : {W : Type 0} → (W → Tally) → W → W → Type 0
+HasStopped tally old new = ((tally old).failures < (tally new).failures) ⊎ (max_tries ≤ (tally new).interruptions)

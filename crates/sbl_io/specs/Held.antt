@@ -1,8 +1,9 @@
 -- The input that is left of a `Lines`: the bytes in its buffer, and then the bytes left in its reader.
-use Rattle.std.specs.Prelude.{◌≡◌, ◌≢◌, ◌⊎◌, ◌<◌, ◌≤◌, ◌++◌, ℕ, Bool, true, false, List, [], ◌∷◌, Option, Some, None, ⊤, slice_range, length, min, ◌+◌, ◌*◌, ◌-◌}
+use Rattle.std.specs.Prelude.{◌≡◌, ◌≢◌, ◌⊎◌, ◌<◌, ◌≤◌, ◌++◌, ℕ, Bool, true, false, List, [], ◌∷◌, Option, Some, None, Result, Err, IfErr, OnOk, ⊤, slice_range, length, min, ◌+◌, ◌*◌, ◌-◌}
 use Rattle.std.specs.Option.{option_map}
 use Rattle.std.specs.Io.KnownBytes.{Consumes, IsAtEnd, prepend_known}
-use Rattle.sbl_io.specs.Devices.{max_reads, max_tries}
+use Rattle.sbl_io.specs.Devices.{Tally, max_reads, max_tries}
+use Rattle.sbl_io.specs.Faults.{left_by}
 use Rattle.sbl_io.specs.LinesOf.{AreWhole, lines_of, max_line}
 use Rattle.sbl_io.specs.declared.lines.Lines.{Lines}
 use Rattle.sbl_io.specs.declared.lines.LineEnd.{LineEnd}
@@ -20,9 +21,7 @@ to_be_read true left = option_map (λ bytes. []) left
 
 -- the bytes that were taken are whole lines, if they are known
 abbrev pub TookWhole : Option (List ℕ) → Option (List ℕ) → Type 0
-TookWhole None new = ⊤
-TookWhole (Some bytes) None = ⊥
-TookWhole (Some bytes) (Some rest) = (front : List ℕ) × (bytes ≡ front ++ rest) × AreWhole front
+TookWhole old new = (front : List ℕ) × Consumes old new front × AreWhole front
 
 module _ {R : Type 0} where
   -- the bytes that were read but not taken yet
@@ -56,34 +55,50 @@ module _ {R : Type 0} where
   fuel_of l = l.reads_left * 4096 + (l.end - l.at)
 
   -- the limit on reads: the count of the reader when these lines stop reading
-  abbrev pub reads_bound : (R → ℕ) → Lines R → ℕ
-  reads_bound reads l = min (reads l.reader + l.reads_left) max_reads
+  abbrev pub reads_bound : (R → Tally) → Lines R → ℕ
+  reads_bound tally l = min ((tally l.reader).reads + l.reads_left) max_reads
 
   -- the reader has failed since, or was read up to the limit, or was interrupted more than 1,000 times in a row
-  abbrev pub HasCause : (R → ℕ) → (R → ℕ) → (R → ℕ) → Lines R → Lines R → Type 0
-  HasCause failures interruptions reads old new = (failures old.reader < failures new.reader) ⊎ (reads_bound reads old ≤ reads new.reader) ⊎ (max_tries ≤ interruptions new.reader)
+  abbrev pub HasCause : (R → Tally) → Lines R → Lines R → Type 0
+  HasCause tally old new =
+      ((tally old.reader).failures < (tally new.reader).failures) ⊎ (reads_bound tally old ≤ (tally new.reader).reads)
+      ⊎ (max_tries ≤ (tally new.reader).interruptions)
 
   -- No read was late, and none will be: the lines know if the reader has returned its end, and they stop at the limit
   -- on reads.
-  pub record AreAsked (ended late : R → Bool) (reads : R → ℕ) (l : Lines R) : Type 0 where
-    pub in_time : late l.reader ≡ false
-    pub known : ended l.reader ≡ true → l.ended ≡ true
-    pub within : reads l.reader + l.reads_left ≤ max_reads
+  pub record AreAsked (tally : R → Tally) (l : Lines R) : Type 0 where
+    pub in_time : (tally l.reader).late ≡ false
+    pub known : (tally l.reader).ended ≡ true → l.ended ≡ true
+    pub within : (tally l.reader).reads + l.reads_left ≤ max_reads
 
   -- the same; and if the lines have no fault, the last read of the reader was not interrupted
-  abbrev pub InTime : (R → Bool) → (R → Bool) → (R → ℕ) → (R → ℕ) → Lines R → Type 0
-  InTime ended late row reads l = AreAsked ended late reads l × (fault_of l ≡ None → row l.reader ≡ 0)
+  abbrev pub InTime : (R → Tally) → Lines R → Type 0
+  InTime tally l = AreAsked tally l × (fault_of l ≡ None → (tally l.reader).interruptions ≡ 0)
 
-  abbrev pub KeepsTime : (R → Bool) → (R → Bool) → (R → ℕ) → (R → ℕ) → Lines R → Lines R → Type 0
-  KeepsTime ended late row reads old new = InTime ended late row reads old → InTime ended late row reads new
+  abbrev pub KeepsTime : (R → Tally) → Lines R → Lines R → Type 0
+  KeepsTime tally old new = InTime tally old → InTime tally new
 
   -- if no read before was late and the last one was not interrupted, no read up to now is late
-  abbrev pub AsksInTime : (R → Bool) → (R → Bool) → (R → ℕ) → (R → ℕ) → Lines R → Lines R → Type 0
-  AsksInTime ended late row reads old new = AreAsked ended late reads old → row old.reader ≡ 0 → AreAsked ended late reads new
+  abbrev pub AsksInTime : (R → Tally) → Lines R → Lines R → Type 0
+  AsksInTime tally old new = AreAsked tally old → (tally old.reader).interruptions ≡ 0 → AreAsked tally new
 
   -- a fault `Read` is caused by the reader or a limit, or the lines return an earlier fault again
-  abbrev pub HasReason : (R → ℕ) → (R → ℕ) → (R → ℕ) → Lines R → Lines R → ServeFault → Type 0
-  HasReason failures row reads lines new_lines f = f ≡ serve.Read → HasCause failures row reads lines new_lines ⊎ (fault_of lines ≡ Some read.Read)
+  abbrev pub HasReason : (R → Tally) → Lines R → Lines R → ServeFault → Type 0
+  HasReason tally lines new_lines f = f ≡ serve.Read → HasCause tally lines new_lines ⊎ (fault_of lines ≡ Some read.Read)
+
+  -- What a call that reads whole lines does to them, besides what it takes. With a result that is no fault, the reader has not
+  -- failed, and the lines that were taken end with line feeds unless the end of input was reached.
+  pub record Reading {A : Type 0} (left : R → Option (List ℕ)) (tally : R → Tally) (old new : Lines R) (result : Result A ServeFault) : Type 0 where
+    pub remembered : fault_of new ≡ left_by result
+    pub drained : result ≡ Err serve.Read → fault_of old ≡ None → IsDrained new
+    pub fuel : OnOk result (fuel_of new ≤ fuel_of old)
+    pub later : (tally old.reader).failures ≤ (tally new.reader).failures
+    pub stays : StaysEnded old new
+    pub feeds : OnOk result (TakesFeeds left old new)
+    pub steady : OnOk result ((tally new.reader).failures ≡ (tally old.reader).failures)
+    pub bound : reads_bound tally new ≡ reads_bound tally old
+    pub why : IfErr result (λ fault. HasReason tally old new fault)
+    pub in_time : KeepsTime tally old new
 
 -- no byte is a line feed
 abbrev pub NoFeed : List ℕ → Type 0
@@ -118,16 +133,12 @@ Took (Some bytes) (Some rest) lines = StandFirst bytes lines rest
 abbrev pub GivesLine : Option (List ℕ) → Option (List ℕ) → List ℕ → Type 0
 GivesLine old new line = Took old new (line ∷ [])
 
--- a line has too many bytes, without its line end
-abbrev pub IsTooLong : List ℕ → Type 0
-IsTooLong line = max_line < length line
-
 -- no line has too many bytes
 abbrev pub AllFit : List (List ℕ) → Type 0
 AllFit [] = ⊤
 AllFit (line ∷ lines) = (length line ≤ max_line) × AllFit lines
 
--- the first line has too many bytes
+-- the first line has too many bytes, without its line end
 abbrev pub BeginsLong : Option (List ℕ) → Type 0
 BeginsLong None = ⊤
-BeginsLong (Some bytes) = (line : List ℕ) × (rest : List (List ℕ)) × (lines_of bytes ≡ line ∷ rest) × IsTooLong line
+BeginsLong (Some bytes) = (line : List ℕ) × (rest : List (List ℕ)) × (lines_of bytes ≡ line ∷ rest) × (max_line < length line)

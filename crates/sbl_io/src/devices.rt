@@ -1,7 +1,7 @@
 //! Readers and writers that may fail or be interrupted. Failures, interruptions and reads are counted.
 ghost use Rattle.std.specs.Prelude.{◌≡◌, ◌≤◌, ◌<◌, ◌^◌, ◌-◌, ◌||◌, ℕ, Bool, false, List, Option, length, IfOk, Err};
 ghost use Rattle.std.specs.Io.KnownBytes.{Keeps};
-ghost use Rattle.sbl_io.specs.Devices.{Reads, Writes, Counts, CountsRead, CountsRow, Judged, JudgedWrite, is_late_read, is_late_write, max_reads, max_tries, tells_end};
+ghost use Rattle.sbl_io.specs.Devices.{Tally, Reads, Writes, Counts, CountsRead, CountsRow, Judged, JudgedWrite, is_late_read, is_late_write, max_reads, max_tries, tells_end};
 
 use std::io;
 use std::io::{ErrorKind, Read, Write};
@@ -26,32 +26,21 @@ pub trait Source {
     /// The bytes that are left, or `None` if they are not known.
     ghost left: { Self → Option (List ℕ) };
 
-    /// The number of reads that failed.
-    ghost failures: { Self → ℕ };
-
-    /// The number of the latest reads in a row that were interrupted, up to 1001.
-    ghost interruptions: { Self → ℕ };
-
-    /// The number of reads, up to 1,099,511,627,776.
-    ghost reads: { Self → ℕ };
-
-    /// Whether a read has returned the end of the bytes.
-    ghost ended: { Self → Bool };
-
-    /// Whether there was a read after the end was returned, after 1,001 interruptions in a row, or after
-    /// 1,099,511,627,776 reads.
-    ghost late: { Self → Bool };
+    /// The number of reads that failed, the number of the latest reads in a row that were interrupted, up to 1001, and the
+    /// number of reads, up to 1,099,511,627,776; whether a read has returned the end of the bytes; and whether there was a
+    /// read after that, after 1,001 interruptions in a row, or after 1,099,511,627,776 reads.
+    ghost tally: { Self → Tally };
 
     /// Reads the next bytes into `buf` and returns their number; 0 with a `buf` that is not empty means the end of the
     /// bytes. Reads no bytes if it is stopped.
     fn read(&mut self, buf: &mut [u8]) -> Result<usize, Stop>
         ensures bound { IfOk result (λ n. n ≤ length buf.new) }
         ensures bytes { Reads (left self.old) (left self.new) result buf.new }
-        ensures counts { Counts (failures self.old) (failures self.new) result }
-        ensures row { CountsRow (interruptions self.old) (interruptions self.new) result }
-        ensures asked { CountsRead (reads self.old) (reads self.new) }
-        ensures end { ended self.new ≡ (ended self.old || tells_end result buf.new) }
-        ensures late { late self.new ≡ (late self.old || is_late_read (ended self.old) (interruptions self.old) (reads self.old)) };
+        ensures counts { Counts (tally self.old).failures (tally self.new).failures result }
+        ensures row { CountsRow (tally self.old).interruptions (tally self.new).interruptions result }
+        ensures asked { CountsRead (tally self.old).reads (tally self.new).reads }
+        ensures end { (tally self.new).ended ≡ ((tally self.old).ended || tells_end result buf.new) }
+        ensures late { (tally self.new).late ≡ ((tally self.old).late || is_late_read (tally self.old).ended (tally self.old).interruptions (tally self.old).reads) };
 }
 
 /// A sink for bytes.
@@ -59,23 +48,18 @@ pub trait Sink {
     /// The bytes that the sink holds, or `None` if they are not known.
     ghost held: { Self → Option (List ℕ) };
 
-    /// The number of writes that failed.
-    ghost failures: { Self → ℕ };
-
-    /// The number of the latest writes in a row that were interrupted, up to 1001.
-    ghost interruptions: { Self → ℕ };
-
-    /// Whether there was a write after 1,001 interruptions in a row.
-    ghost late: { Self → Bool };
+    /// The number of writes that failed, and the number of the latest writes in a row that were interrupted, up to 1001; and
+    /// whether there was a write after 1,001 interruptions in a row.
+    ghost tally: { Self → Tally };
 
     /// Writes a prefix of `bytes`, at least one byte unless `bytes` is empty, and returns its length. Writes nothing if
     /// it is stopped.
     fn write(&mut self, bytes: &[u8]) -> Result<usize, Stop>
         ensures bound { IfOk result (λ n. n ≤ length bytes.now) }
         ensures bytes { Writes (held self.old) (held self.new) result bytes.now }
-        ensures counts { Counts (failures self.old) (failures self.new) result }
-        ensures row { CountsRow (interruptions self.old) (interruptions self.new) result }
-        ensures late { late self.new ≡ (late self.old || is_late_write (interruptions self.old)) };
+        ensures counts { Counts (tally self.old).failures (tally self.new).failures result }
+        ensures row { CountsRow (tally self.old).interruptions (tally self.new).interruptions result }
+        ensures late { (tally self.new).late ≡ ((tally self.old).late || is_late_write (tally self.old).interruptions) };
 }
 
 /// A reader or a writer of `std::io`. An error of kind `Interrupted` is an interruption, and every other error is a
@@ -196,16 +180,16 @@ pub fn judge_write(failures: u64, bytes: &[u8], answer: io::Result<usize>) -> Re
 }
 
 impl<D> Device<D> {
-    ghost use Rattle.sbl_io.specs.Counted.{failures_of, has_ended, inner_of, interruptions_of, is_late, reads_of};
+    ghost use Rattle.sbl_io.specs.Counted.{inner_of, tally_of};
 
     /// Returns a device with no failures, interruptions or reads.
     pub fn new(inner: D) -> Device<D>
         ensures inner { inner_of result ≡ inner }
-        ensures failures { failures_of result ≡ 0 }
-        ensures interruptions { interruptions_of result ≡ 0 }
-        ensures reads { reads_of result ≡ 0 }
-        ensures ended { has_ended result ≡ false }
-        ensures late { is_late result ≡ false }
+        ensures failures { (tally_of result).failures ≡ 0 }
+        ensures interruptions { (tally_of result).interruptions ≡ 0 }
+        ensures reads { (tally_of result).reads ≡ 0 }
+        ensures ended { (tally_of result).ended ≡ false }
+        ensures late { (tally_of result).late ≡ false }
     {
         let stops = Stops::new();
         Device { inner, stops }
@@ -220,19 +204,11 @@ impl<D> Device<D> {
 }
 
 impl<D: Read> Source for Device<D> {
-    ghost use Rattle.sbl_io.specs.Counted.{failures_of, has_ended, inner_of, interruptions_of, is_late, reads_of};
+    ghost use Rattle.sbl_io.specs.Counted.{inner_of, tally_of};
 
     ghost left = { λ d. D.remaining (inner_of d) };
 
-    ghost failures = { λ d. failures_of d };
-
-    ghost interruptions = { λ d. interruptions_of d };
-
-    ghost reads = { λ d. reads_of d };
-
-    ghost ended = { λ d. has_ended d };
-
-    ghost late = { λ d. is_late d };
+    ghost tally = { λ d. tally_of d };
 
     fn read(&mut self, buf: &mut [u8]) -> Result<usize, Stop> {
         self.stops.ask_read();
@@ -247,15 +223,11 @@ impl<D: Read> Source for Device<D> {
 }
 
 impl<D: Write> Sink for Device<D> {
-    ghost use Rattle.sbl_io.specs.Counted.{failures_of, inner_of, interruptions_of, is_late};
+    ghost use Rattle.sbl_io.specs.Counted.{inner_of, tally_of};
 
     ghost held = { λ d. D.contents (inner_of d) };
 
-    ghost failures = { λ d. failures_of d };
-
-    ghost interruptions = { λ d. interruptions_of d };
-
-    ghost late = { λ d. is_late d };
+    ghost tally = { λ d. tally_of d };
 
     fn write(&mut self, bytes: &[u8]) -> Result<usize, Stop> {
         self.stops.ask_write();

@@ -12,6 +12,6 @@ mod writing;
 pub use devices::{Device, Sink, Source, Stop, judge_read, judge_write};
 pub use faults::{LineFault, ServeFault};
 pub use lines::{Lines, MAX_LINE};
-pub use records::{record_line, set_text, text_of};
+pub use records::{push_line, push_text, record_line, set_text, text_of};
 pub use text_lines::first_line;
 pub use writing::write_all;

@@ -45,7 +45,7 @@ pub struct Lines<R> {
 }
 
 impl<R: Source + Drop> Lines<R> {
-    ghost use Rattle.sbl_io.specs.Devices.{IsUnasked, max_reads};
+    ghost use Rattle.sbl_io.specs.Devices.{IsUnused, max_reads};
     ghost use Rattle.sbl_io.specs.Held.{fuel_of, line_of, fault_of, input_of, reads_bound, AsksInTime, BeginsLong, BreaksOff, HasCause, InTime, IsDrained, KeepsTime, StaysEnded, TakesFeeds, TakesLine, NoFeed, GivesLine};
 
     /// Returns the lines of `reader`, which is read at most 1,099,511,627,776 times. Allocates all buffers. Returns
@@ -53,8 +53,8 @@ impl<R: Source + Drop> Lines<R> {
     pub fn new(alloc: Global, reader: R) -> Result<Lines<R>, AllocError>
         ensures input { IfOk result (λ lines. input_of R.left lines ≡ R.left reader) }
         ensures fault { IfOk result (λ lines. fault_of lines ≡ None) }
-        ensures bound { IfOk result (λ lines. reads_bound R.reads lines ≡ max_reads) }
-        ensures in_time { IsUnasked R.ended R.late R.interruptions R.reads reader → IfOk result (λ lines. InTime R.ended R.late R.interruptions R.reads lines) }
+        ensures bound { IfOk result (λ lines. reads_bound R.tally lines ≡ max_reads) }
+        ensures in_time { IsUnused (R.tally reader) → IfOk result (λ lines. InTime R.tally lines) }
     {
         Lines::with_reads(alloc, reader, MAX_READS)
     }
@@ -64,8 +64,8 @@ impl<R: Source + Drop> Lines<R> {
     pub fn with_reads(alloc: Global, reader: R, most: u64) -> Result<Lines<R>, AllocError>
         ensures input { IfOk result (λ lines. input_of R.left lines ≡ R.left reader) }
         ensures fault { IfOk result (λ lines. fault_of lines ≡ None) }
-        ensures bound { IfOk result (λ lines. reads_bound R.reads lines ≡ min (R.reads reader + most) max_reads) }
-        ensures in_time { IsUnasked R.ended R.late R.interruptions R.reads reader → IfOk result (λ lines. InTime R.ended R.late R.interruptions R.reads lines) }
+        ensures bound { IfOk result (λ lines. reads_bound R.tally lines ≡ min ((R.tally reader).reads + most) max_reads) }
+        ensures in_time { IsUnused (R.tally reader) → IfOk result (λ lines. InTime R.tally lines) }
     {
         let chunk = vec![in alloc; 0u8; CHUNK]?;
         let line = Vec::with_capacity(alloc, MAX_LINE + 1)?;
@@ -105,14 +105,14 @@ impl<R: Source + Drop> Lines<R> {
         ensures fault { fault_of self.new ≡ fault_of self.old }
         ensures drained { OnErr result (IsDrained self.new) }
         ensures fuel { fuel_of self.new ≤ fuel_of self.old }
-        ensures later { R.failures self.old.reader ≤ R.failures self.new.reader }
+        ensures later { (R.tally self.old.reader).failures ≤ (R.tally self.new.reader).failures }
         ensures stays { StaysEnded self.old self.new }
         ensures told { OnOk result (self.new.at ≡ self.new.end → self.new.ended ≡ true) }
-        ensures steady { OnOk result (R.failures self.new.reader ≡ R.failures self.old.reader) }
-        ensures bound { reads_bound R.reads self.new ≡ reads_bound R.reads self.old }
-        ensures why { IfErr result (λ fault. (fault ≡ LineFault.Read) × HasCause R.failures R.interruptions R.reads self.old self.new) }
-        ensures asks { AsksInTime R.ended R.late R.interruptions R.reads self.old self.new }
-        ensures rested { OnOk result (R.interruptions self.old.reader ≡ 0 → R.interruptions self.new.reader ≡ 0) }
+        ensures steady { OnOk result ((R.tally self.new.reader).failures ≡ (R.tally self.old.reader).failures) }
+        ensures bound { reads_bound R.tally self.new ≡ reads_bound R.tally self.old }
+        ensures why { IfErr result (λ fault. (fault ≡ LineFault.Read) × HasCause R.tally self.old self.new) }
+        ensures asks { AsksInTime R.tally self.old self.new }
+        ensures rested { OnOk result ((R.tally self.old.reader).interruptions ≡ 0 → (R.tally self.new.reader).interruptions ≡ 0) }
     {
         if self.ended {
             return Ok(());
@@ -145,14 +145,14 @@ impl<R: Source + Drop> Lines<R> {
         ensures fault { fault_of self.new ≡ fault_of self.old }
         ensures fuel { fuel_of self.new ≤ fuel_of self.old }
         ensures falls { IfOk result (λ o. MatchOption o Unit (λ b. fuel_of self.new < fuel_of self.old)) }
-        ensures later { R.failures self.old.reader ≤ R.failures self.new.reader }
+        ensures later { (R.tally self.old.reader).failures ≤ (R.tally self.new.reader).failures }
         ensures stays { StaysEnded self.old self.new }
         ensures told { IfOk result (λ o. MatchOption o (self.new.ended ≡ true) (λ b. Unit)) }
-        ensures steady { OnOk result (R.failures self.new.reader ≡ R.failures self.old.reader) }
-        ensures bound { reads_bound R.reads self.new ≡ reads_bound R.reads self.old }
-        ensures why { IfErr result (λ fault. (fault ≡ LineFault.Read) × HasCause R.failures R.interruptions R.reads self.old self.new) }
-        ensures asks { AsksInTime R.ended R.late R.interruptions R.reads self.old self.new }
-        ensures rested { OnOk result (R.interruptions self.old.reader ≡ 0 → R.interruptions self.new.reader ≡ 0) }
+        ensures steady { OnOk result ((R.tally self.new.reader).failures ≡ (R.tally self.old.reader).failures) }
+        ensures bound { reads_bound R.tally self.new ≡ reads_bound R.tally self.old }
+        ensures why { IfErr result (λ fault. (fault ≡ LineFault.Read) × HasCause R.tally self.old self.new) }
+        ensures asks { AsksInTime R.tally self.old self.new }
+        ensures rested { OnOk result ((R.tally self.old.reader).interruptions ≡ 0 → (R.tally self.new.reader).interruptions ≡ 0) }
     {
         if self.at == self.end {
             self.fill()?;
@@ -192,14 +192,14 @@ impl<R: Source + Drop> Lines<R> {
         ensures fault { fault_of self.new ≡ fault_of self.old }
         ensures fuel { OnOk result (vec_len self.new.line + fuel_of self.new ≤ fuel_of self.old) }
         ensures falls { IfOk result (λ end. end ≢ LineEnd.Input → fuel_of self.new < fuel_of self.old) }
-        ensures later { R.failures self.old.reader ≤ R.failures self.new.reader }
+        ensures later { (R.tally self.old.reader).failures ≤ (R.tally self.new.reader).failures }
         ensures stays { StaysEnded self.old self.new }
         ensures told { IfOk result (λ end. end ≡ LineEnd.Input → self.new.ended ≡ true) }
-        ensures steady { OnOk result (R.failures self.new.reader ≡ R.failures self.old.reader) }
-        ensures bound { reads_bound R.reads self.new ≡ reads_bound R.reads self.old }
-        ensures why { IfErr result (λ fault. (fault ≡ LineFault.Read) × HasCause R.failures R.interruptions R.reads self.old self.new) }
-        ensures asks { AsksInTime R.ended R.late R.interruptions R.reads self.old self.new }
-        ensures rested { OnOk result (R.interruptions self.old.reader ≡ 0 → R.interruptions self.new.reader ≡ 0) }
+        ensures steady { OnOk result ((R.tally self.new.reader).failures ≡ (R.tally self.old.reader).failures) }
+        ensures bound { reads_bound R.tally self.new ≡ reads_bound R.tally self.old }
+        ensures why { IfErr result (λ fault. (fault ≡ LineFault.Read) × HasCause R.tally self.old self.new) }
+        ensures asks { AsksInTime R.tally self.old self.new }
+        ensures rested { OnOk result ((R.tally self.old.reader).interruptions ≡ 0 → (R.tally self.new.reader).interruptions ≡ 0) }
     {
         self.line.clear();
         loop {
@@ -227,14 +227,14 @@ impl<R: Source + Drop> Lines<R> {
         ensures drained { IfErr result (λ fault. fault ≡ LineFault.Read → IsDrained self.new) }
         ensures falls { IfOk result (λ more. more ≡ true → fuel_of self.new < fuel_of self.old) }
         ensures fault { fault_of self.new ≡ fault_of self.old }
-        ensures later { R.failures self.old.reader ≤ R.failures self.new.reader }
+        ensures later { (R.tally self.old.reader).failures ≤ (R.tally self.new.reader).failures }
         ensures stays { StaysEnded self.old self.new }
         ensures feeds { IfOk result (λ more. more ≡ true → TakesFeeds R.left self.old self.new) }
-        ensures steady { OnOk result (R.failures self.new.reader ≡ R.failures self.old.reader) }
-        ensures bound { reads_bound R.reads self.new ≡ reads_bound R.reads self.old }
-        ensures why { IfErr result (λ fault. fault ≡ LineFault.Read → HasCause R.failures R.interruptions R.reads self.old self.new) }
-        ensures asks { AsksInTime R.ended R.late R.interruptions R.reads self.old self.new }
-        ensures rested { OnOk result (R.interruptions self.old.reader ≡ 0 → R.interruptions self.new.reader ≡ 0) }
+        ensures steady { OnOk result ((R.tally self.new.reader).failures ≡ (R.tally self.old.reader).failures) }
+        ensures bound { reads_bound R.tally self.new ≡ reads_bound R.tally self.old }
+        ensures why { IfErr result (λ fault. fault ≡ LineFault.Read → HasCause R.tally self.old self.new) }
+        ensures asks { AsksInTime R.tally self.old self.new }
+        ensures rested { OnOk result ((R.tally self.old.reader).interruptions ≡ 0 → (R.tally self.new.reader).interruptions ≡ 0) }
     {
         let end = self.take_line()?;
         if end == LineEnd::Input && self.line.is_empty() {
@@ -266,13 +266,13 @@ impl<R: Source + Drop> Lines<R> {
         ensures again { IsSome (fault_of self.old) → (fault_of self.new ≡ fault_of self.old) × Keeps (input_of R.left self.old) (input_of R.left self.new) }
         ensures ready { OnOk result ((fault_of self.old ≡ None) × (fault_of self.new ≡ None)) }
         ensures fault { IfErr result (λ fault. fault_of self.new ≡ Some fault) }
-        ensures later { R.failures self.old.reader ≤ R.failures self.new.reader }
+        ensures later { (R.tally self.old.reader).failures ≤ (R.tally self.new.reader).failures }
         ensures stays { StaysEnded self.old self.new }
         ensures feeds { IfOk result (λ more. more ≡ true → TakesFeeds R.left self.old self.new) }
-        ensures steady { OnOk result (R.failures self.new.reader ≡ R.failures self.old.reader) }
-        ensures bound { reads_bound R.reads self.new ≡ reads_bound R.reads self.old }
-        ensures why { IfErr result (λ fault. fault ≡ LineFault.Read → HasCause R.failures R.interruptions R.reads self.old self.new ⊎ (fault_of self.old ≡ Some fault)) }
-        ensures in_time { KeepsTime R.ended R.late R.interruptions R.reads self.old self.new }
+        ensures steady { OnOk result ((R.tally self.new.reader).failures ≡ (R.tally self.old.reader).failures) }
+        ensures bound { reads_bound R.tally self.new ≡ reads_bound R.tally self.old }
+        ensures why { IfErr result (λ fault. fault ≡ LineFault.Read → HasCause R.tally self.old self.new ⊎ (fault_of self.old ≡ Some fault)) }
+        ensures in_time { KeepsTime R.tally self.old self.new }
     {
         if let Some(fault) = self.fault {
             return Err(fault);

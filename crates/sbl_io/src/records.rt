@@ -1,7 +1,7 @@
 //! The text of a record, written with `csv`.
-ghost use Rattle.std.specs.Prelude.{◌≡◌, IfOk, OnOk, string_bytes};
+ghost use Rattle.std.specs.Prelude.{◌≡◌, ◌++◌, [], ◌∷◌, IfOk, OnOk, string_bytes};
 ghost use Rattle.std.specs.Str.{encode_utf8_all};
-ghost use Rattle.csv.specs.Records.{fields_of};
+ghost use Rattle.csv.specs.Records.{fields_of, partial_of};
 ghost use Rattle.sbl_io.specs.Records as spec;
 
 use csv::{ByteRecord, WriterBuilder};
@@ -27,6 +27,20 @@ pub fn set_text(text: &mut String, characters: &[char]) -> Result<(), AllocError
     Ok(())
 }
 
+/// Appends characters to a record, as one field. `text` is a buffer. Returns `AllocError` if an allocation fails.
+pub fn push_text(
+    text: &mut String,
+    csv_record: &mut ByteRecord,
+    characters: &[char],
+) -> Result<(), AllocError>
+    requires { partial_of csv_record.old ≡ [] }
+    ensures fields { OnOk result (fields_of csv_record.new ≡ fields_of csv_record.old ++ encode_utf8_all characters.now ∷ []) }
+    ensures partial { OnOk result (partial_of csv_record.new ≡ []) }
+{
+    set_text(text, characters)?;
+    csv_record.push_field(text.as_bytes())
+}
+
 /// Returns the text of one record: its fields, quoted if `csv` quotes them, and a line feed. Returns `AllocError` if an
 /// allocation fails.
 pub fn record_line(alloc: Global, row: &ByteRecord) -> Result<Vec<u8>, AllocError>
@@ -42,4 +56,16 @@ pub fn record_line(alloc: Global, row: &ByteRecord) -> Result<Vec<u8>, AllocErro
         Ok(text) => Ok(text),
         Err(_) => Err(AllocError),
     }
+}
+
+/// Appends the text of one record. Returns `AllocError` if an allocation fails.
+pub fn push_line(
+    alloc: Global,
+    out: &mut Vec<u8>,
+    csv_record: &ByteRecord,
+) -> Result<(), AllocError>
+    ensures { OnOk result (out.new.items ≡ out.old.items ++ spec.record_line (fields_of csv_record.now)) }
+{
+    let line = record_line(alloc, csv_record)?;
+    out.extend_from_slice(&line)
 }

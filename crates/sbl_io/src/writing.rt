@@ -13,11 +13,11 @@ fn write_some<W: Sink>(writer: &mut W, bytes: &[u8]) -> Result<usize, ServeFault
     ensures some { IfOk result (λ n. (0 < n) × (n ≤ length bytes.now)) }
     ensures takes { IfOk result (λ n. Appends (W.held writer.old) (W.held writer.new) (take n bytes.now)) }
     ensures keeps { OnErr result (Keeps (W.held writer.old) (W.held writer.new)) }
-    ensures later { W.failures writer.old ≤ W.failures writer.new }
-    ensures steady { OnOk result (W.failures writer.new ≡ W.failures writer.old) }
-    ensures why { IfErr result (λ fault. (fault ≡ ServeFault.Write) × HasStopped W.failures W.interruptions writer.old writer.new) }
-    ensures in_time { WritesInTime W.late W.interruptions writer.old writer.new }
-    ensures rested { OnOk result (W.interruptions writer.new ≡ 0) }
+    ensures later { (W.tally writer.old).failures ≤ (W.tally writer.new).failures }
+    ensures steady { OnOk result ((W.tally writer.new).failures ≡ (W.tally writer.old).failures) }
+    ensures why { IfErr result (λ fault. (fault ≡ ServeFault.Write) × HasStopped W.tally writer.old writer.new) }
+    ensures in_time { WritesInTime W.tally writer.old writer.new }
+    ensures rested { OnOk result ((W.tally writer.new).interruptions ≡ 0) }
 {
     for _ in 0..MAX_TRIES {
         match writer.write(bytes) {
@@ -34,11 +34,11 @@ fn write_some<W: Sink>(writer: &mut W, bytes: &[u8]) -> Result<usize, ServeFault
 pub fn write_all<W: Sink>(writer: &mut W, bytes: &[u8]) -> Result<(), ServeFault>
     ensures all { OnOk result (Appends (W.held writer.old) (W.held writer.new) bytes.now) }
     ensures front { (n : ℕ) × Appends (W.held writer.old) (W.held writer.new) (take n bytes.now) }
-    ensures later { W.failures writer.old ≤ W.failures writer.new }
-    ensures steady { OnOk result (W.failures writer.new ≡ W.failures writer.old) }
-    ensures why { IfErr result (λ fault. (fault ≡ ServeFault.Write) × HasStopped W.failures W.interruptions writer.old writer.new) }
-    ensures in_time { WritesInTime W.late W.interruptions writer.old writer.new }
-    ensures rested { OnOk result (W.interruptions writer.old ≡ 0 → W.interruptions writer.new ≡ 0) }
+    ensures later { (W.tally writer.old).failures ≤ (W.tally writer.new).failures }
+    ensures steady { OnOk result ((W.tally writer.new).failures ≡ (W.tally writer.old).failures) }
+    ensures why { IfErr result (λ fault. (fault ≡ ServeFault.Write) × HasStopped W.tally writer.old writer.new) }
+    ensures in_time { WritesInTime W.tally writer.old writer.new }
+    ensures rested { OnOk result ((W.tally writer.old).interruptions ≡ 0 → (W.tally writer.new).interruptions ≡ 0) }
 {
     let mut written = 0;
     while written < bytes.len() {

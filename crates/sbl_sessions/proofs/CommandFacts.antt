@@ -7,7 +7,7 @@ use Rattle.std.specs.Option.{is_some, option_and_then}
 use Rattle.std.specs.Str.{IsUtf8, is_utf8}
 use Rattle.std.specs.declared.alloc.AllocError.{AllocError}
 use Rattle.sbl_sessions.specs.CommandViews.{FindsTarget, view_found}
-use Rattle.sbl_sessions.specs.Commands.{target_by, target_of, target_of_text}
+use Rattle.sbl_sessions.specs.Commands.{target_by, target_of}
 use Rattle.sbl_sessions.specs.Requests.{BlockWord, block_word}
 use Rattle.sbl_sessions.specs.Words.{argument, command_word, is_space}
 use Rattle.sbl_sessions.specs.declared.commands.Target.{Target}
@@ -41,7 +41,7 @@ finds_none line bytes = rw bytes refl
 
 target_is : (line given : List ℕ) (word : BlockWord) → is_utf8 line ≡ true → block_word line ≡ Some word → given ≡ argument line → target_by word given ≡ target_of line
 target_is line given word utf8 asked is =
-    ap (target_by word) is ∙ sym (ap (λ (b : Bool). if b then target_of_text line else None) utf8 ∙ ap (option_and_then (λ (w : BlockWord). target_by w (argument line))) asked)
+    ap (target_by word) is ∙ sym (ap (λ (b : Bool). if b then option_and_then (λ (w : BlockWord). target_by w (argument line)) (block_word line) else None) utf8 ∙ ap (option_and_then (λ (w : BlockWord). target_by w (argument line))) asked)
 
 -- what was found for the word and the argument is what the line wants
 pub finds : (r : Result (Option Target) AllocError) (line given : List ℕ) (word : BlockWord) → is_utf8 line ≡ true → block_word line ≡ Some word → given ≡ argument line

@@ -2,7 +2,7 @@
 use Rattle.std.proofs.Common.{codes, if◌then◌else◌, ◌≡◌, ◌⊎◌, inl, inr, ◌∙◌, ◌≤◌, ◌<◌, ◌+◌, ℕ, Bool, true, false, List, [], ◌∷◌, length, take, Option, Some, None, Result, Ok, Err, refl, sym, ap, subst, arith, nat_lt, length-take}
 use Rattle.std.proofs.lemmas.Bool.Decides.{nat_tests}
 use Rattle.std.proofs.lemmas.Grind.{common_steps}
-use Rattle.std.specs.Option.{is_some}
+use Rattle.std.specs.Option.{is_some, option_map_or}
 use Rattle.std.specs.Str.{is_utf8}
 use Rattle.sbl_bench.specs.Contents.{Contents}
 use Rattle.sbl_bench.specs.Edits.{Edit, Edits, Add, Replace, IsAccepted, IsBrokenOff, IsMeterFull, IsOutOfMemory, IsRefused, IsVerdict, PassesTests, refusal_of_add}
@@ -14,7 +14,7 @@ use Rattle.sbl_text.specs.declared.fault.ScriptFault.TheVariants as script
 use Rattle.sbl_sessions.specs.Answers.{BlockRefused, Enough, RefusedAfter, edit_text, ended}
 use Rattle.sbl_sessions.specs.Block.{HasText, made_text, max_script}
 use Rattle.sbl_sessions.specs.CommandViews.{IsEditAnswer, IsTextAnswer}
-use Rattle.sbl_sessions.specs.Commands.{Command, block_command, target_of, text_of_block, with_target, with_text}
+use Rattle.sbl_sessions.specs.Commands.{Bad, Command, block_command, target_of, text_of_block, with_text}
 use Rattle.sbl_sessions.specs.Edits.{fault_in}
 
 -- where memory was refused
@@ -122,6 +122,10 @@ text_is lines few b is = let test : nat_lt max_script (length (made_text lines))
 
 text_long : (lines : List (List ℕ)) → max_script < length (made_text lines) → text_of_block lines ≡ Err script.ScriptTooLong
 text_long lines long = let test : nat_lt max_script (length (made_text lines)) ≡ true = grind (arith, nat_tests) in rw test refl
+
+-- the command of what a line replaces and its block
+abbrev with_target : Option ScriptEdit → List (List ℕ) → Command
+with_target what lines = option_map_or (λ (w : ScriptEdit). with_text w (text_of_block lines)) what Bad
 
 -- the line is bad, whatever its block is
 pub bad_line : (s : Contents) (line : List ℕ) (lines : List (List ℕ)) → None ≡ target_of line → IsTextAnswer s (block_command line lines) (ended (codes "no 52 BadCommand")) s

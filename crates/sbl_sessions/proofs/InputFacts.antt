@@ -4,7 +4,7 @@ use Rattle.std.proofs.lemmas.List.{append-nil, length-map}
 use Rattle.std.proofs.lemmas.Slice.Eq.{bytes_eq-Decides}
 use Rattle.std.specs.Str.{bytes_eq, is_utf8}
 use Rattle.sbl_sessions.specs.Block.{AllText, BlockLines, point}
-use Rattle.sbl_io.specs.Held.{IsTooLong, StandFirst}
+use Rattle.sbl_io.specs.Held.{StandFirst}
 use Rattle.sbl_io.specs.LinesOf.{AreWhole, chomped, max_line, onto_first, raw_lines}
 use Rattle.sbl_io.proofs.Bytes.{raw-feed, raw-other, raw-some}
 
@@ -164,7 +164,7 @@ end-end text (line ∷ lines) good are = good-first text line lines lines good a
 no_long_point : (line : List ℕ) → max_line < length line → line ≢ point
 no_long_point line long e = let one : length line ≡ 1 = ap length e in grind (arith, one, long)
 
-pub end-long : (text : Bool) (lines : List (List ℕ)) (line : List ℕ) (rest : List (List ℕ)) → BlockLines lines → AreText text lines → IsTooLong line
+pub end-long : (text : Bool) (lines : List (List ℕ)) (line : List ℕ) (rest : List (List ℕ)) → BlockLines lines → AreText text lines → max_line < length line
     → lines_end text (lines ++ line ∷ rest) ≡ AtLong
 end-long text [] line rest good are long = rw (no_bytes_eq line point (no_long_point line long), too_long (length line) long) refl
 end-long text (l ∷ lines) line rest good are long =

@@ -6,7 +6,7 @@ use Rattle.sbl_bench.specs.OneVerdict.{VerdictIsOne}
 use Rattle.sbl_bench.specs.declared.fault.EditFault.{EditFault}
 use Rattle.sbl_bench.specs.declared.fault.EditFault.TheVariants as fault
 use Rattle.sbl_print.specs.Canonical.{canonical}
-use Rattle.sbl_sessions.specs.Answers.{Answers, BlockRefused, Enough, IsEdit, IsNoText, IsReplyTo, IsReport, IsReportOrAbsent, Memory, RefusedAfter, Tells, edit_text, ended}
+use Rattle.sbl_sessions.specs.Answers.{Answers, BlockRefused, Enough, IsEdit, IsNoText, IsReplyTo, IsReport, Memory, RefusedAfter, Tells, edit_text, ended}
 use Rattle.sbl_sessions.specs.Commands.{Command, Nothing, Makes, Stems, Classes, Script, Class, Trace, Runs, HasNoNumber, HasNoText, Bad, command_of}
 use Rattle.sbl_sessions.specs.OneAnswer.{AnswersAreOne}
 use Rattle.sbl_sessions.specs.Rows.{class_text, classes_text, stems_text}
@@ -20,14 +20,11 @@ edit-one one s e Enough f g t u p q = one s e f g t u p q
 edit-one one s e BlockRefused f g t u p q = (p.1 ∙ sym q.1, p.2 ∙ sym q.2)
 edit-one one s e (RefusedAfter n) f g t u p q = (p.0 ∙ sym q.0, p.1 ∙ sym q.1)
 
-report-one : (s : Contents) (report : List ℕ) (m : Memory) (a b : List ℕ) (t u : Contents) → IsReport s report m a t → IsReport s report m b u → (a ≡ b) × (t ≡ u)
-report-one s report Enough a b t u p q = tells-one s report a b t u p q
-report-one s report BlockRefused a b t u p q = absurd p
-report-one s report (RefusedAfter n) a b t u p q = tells-one s (edit_text (Some fault.OutOfMemory)) a b t u p q
-
-report_or_absent-one : (s : Contents) (report : Option (List ℕ)) (m : Memory) (a b : List ℕ) (t u : Contents) → IsReportOrAbsent s report m a t → IsReportOrAbsent s report m b u → (a ≡ b) × (t ≡ u)
-report_or_absent-one s None m a b t u p q = tells-one s (edit_text (Some fault.Absent)) a b t u p q
-report_or_absent-one s (Some report) m a b t u p q = report-one s report m a b t u p q
+report-one : (s : Contents) (report : Option (List ℕ)) (m : Memory) (a b : List ℕ) (t u : Contents) → IsReport s report m a t → IsReport s report m b u → (a ≡ b) × (t ≡ u)
+report-one s None m a b t u p q = tells-one s (edit_text (Some fault.Absent)) a b t u p q
+report-one s (Some report) Enough a b t u p q = tells-one s report a b t u p q
+report-one s (Some report) BlockRefused a b t u p q = absurd p
+report-one s (Some report) (RefusedAfter n) a b t u p q = tells-one s (edit_text (Some fault.OutOfMemory)) a b t u p q
 
 no_text-one : (s : Contents) (f : EditFault) (m : Memory) (a b : List ℕ) (t u : Contents) → IsNoText s f m a t → IsNoText s f m b u → (a ≡ b) × (t ≡ u)
 no_text-one s f Enough a b t u p q = tells-one s (edit_text (Some f)) a b t u p q
@@ -39,12 +36,12 @@ reply-one one s Nothing m a b t u p q = tells-one s [] a b t u p q
 reply-one one s (Makes e) m a b t u p q =
     let o = edit-one one s e m p.0 q.0 t u p.1 q.1 in
     (p.2 ∙ ap edit_text o.0 ∙ sym q.2, o.1)
-reply-one one s Stems m a b t u p q = report-one s (stems_text s) m a b t u p q
-reply-one one s Classes m a b t u p q = report-one s (classes_text s) m a b t u p q
-reply-one one s Script m a b t u p q = report-one s (canonical s.setting.script.items) m a b t u p q
-reply-one one s (Class word) m a b t u p q = report_or_absent-one s (class_text s word) m a b t u p q
-reply-one one s (Trace word) m a b t u p q = report_or_absent-one s (trace_text s word) m a b t u p q
-reply-one one s Runs m a b t u p q = report-one s (ended (decimal s.count)) m a b t u p q
+reply-one one s Stems m a b t u p q = report-one s (Some (stems_text s)) m a b t u p q
+reply-one one s Classes m a b t u p q = report-one s (Some (classes_text s)) m a b t u p q
+reply-one one s Script m a b t u p q = report-one s (Some (canonical s.setting.script.items)) m a b t u p q
+reply-one one s (Class word) m a b t u p q = report-one s (class_text s word) m a b t u p q
+reply-one one s (Trace word) m a b t u p q = report-one s (trace_text s word) m a b t u p q
+reply-one one s Runs m a b t u p q = report-one s (Some (ended (decimal s.count))) m a b t u p q
 reply-one one s HasNoNumber m a b t u p q = tells-one s (edit_text (Some fault.BadLimit)) a b t u p q
 reply-one one s (HasNoText f) m a b t u p q = no_text-one s (fault.Script f) m a b t u p q
 reply-one one s Bad m a b t u p q = tells-one s (ended (codes "no 52 BadCommand")) a b t u p q

@@ -7,7 +7,7 @@ use Rattle.std.specs.declared.alloc.Global.{Global}
 use Rattle.std.specs.declared.alloc.AllocError.{AllocError}
 use Rattle.sbl_bench.specs.Contents.{Contents}
 use Rattle.std.proofs.lemmas.List.{map-append, take_more}
-use Rattle.std.specs.Option.{option_map}
+use Rattle.std.specs.Option.{option_map, option_map_or}
 use Rattle.std.specs.Str.{bytes_eq, encode_utf8_all}
 use Rattle.sbl_bench.specs.Classes.{Class, class_of, words_of}
 use Rattle.sbl_bench.specs.Rows.{Row}
@@ -16,9 +16,9 @@ use Rattle.sbl_bench.specs.Vocabulary.{is_word}
 use Rattle.sbl_bench.specs.declared.fault.EditFault.TheVariants as fault
 use Rattle.sbl_semantics.specs.Touched.{Item', touched_of}
 use Rattle.sbl_io.specs.Records.{records_text}
-use Rattle.sbl_sessions.specs.Answers.{Enough, IsReport, IsReportOrAbsent, Memory, RefusedAfter, edit_text}
+use Rattle.sbl_sessions.specs.Answers.{Enough, IsReport, Memory, RefusedAfter, edit_text}
 use Rattle.sbl_sessions.specs.CommandViews.{IsReply}
-use Rattle.sbl_sessions.specs.Rows.{class_fields, class_or_row, class_or_row_text, class_text, row_fields, rows_now}
+use Rattle.sbl_sessions.specs.Rows.{class_fields, class_or_row_text, class_text, row_fields, rows_now}
 use Rattle.sbl_sessions.specs.Traces.{items_text, trace_text}
 use Rattle.sbl_sessions.specs.declared.replies.Reply.{Reply}
 
@@ -36,7 +36,7 @@ text_of_views (Err e) fields view given shown are h = tt
 -- a report that was made, or whose memory was refused
 pub report_answer : (r : Result (Vec ℕ Global) AllocError) (reply : Reply) (s : Contents) (expected : List ℕ) → IfOk r (λ text. text.items ≡ expected)
     → IfOk r (λ made. IsReply reply made.items) → OnErr r (IsReply reply (edit_text (Some fault.OutOfMemory)))
-    → (memory : Memory) × (text : List ℕ) × IsReply reply text × IsReport s expected memory text s
+    → (memory : Memory) × (text : List ℕ) × IsReply reply text × IsReport s (Some expected) memory text s
 report_answer (Ok text) reply s expected is made refused = (Enough, text.items, made, (is, refl))
 report_answer (Err e) reply s expected is made refused = (RefusedAfter 0, edit_text (Some fault.OutOfMemory), refused, (refl, refl))
 
@@ -44,12 +44,12 @@ report_answer (Err e) reply s expected is made refused = (RefusedAfter 0, edit_t
 
 pub text_of_class : (r : Result (Vec ℕ Global) AllocError) (s : Contents) (word : List ℕ) (row : Row) (class : Class) → Some class ≡ class_of (rows_now s) word
     → IfOk r (λ text. text.items ≡ records_text (class_fields class ∷ [])) → IfOk r (λ text. text.items ≡ class_or_row_text s word row)
-text_of_class (Ok text) s word row class is h = h ∙ ap (λ (o : Option Class). records_text (class_or_row o row ∷ [])) is
+text_of_class (Ok text) s word row class is h = h ∙ ap (λ (o : Option Class). records_text (option_map_or class_fields o (row_fields row) ∷ [])) is
 text_of_class (Err e) s word row class is h = tt
 
 pub text_of_row : (r : Result (Vec ℕ Global) AllocError) (s : Contents) (word : List ℕ) (row : Row) → None ≡ class_of (rows_now s) word
     → IfOk r (λ text. text.items ≡ records_text (row_fields row ∷ [])) → IfOk r (λ text. text.items ≡ class_or_row_text s word row)
-text_of_row (Ok text) s word row is h = h ∙ ap (λ (o : Option Class). records_text (class_or_row o row ∷ [])) is
+text_of_row (Ok text) s word row is h = h ∙ ap (λ (o : Option Class). records_text (option_map_or class_fields o (row_fields row) ∷ [])) is
 text_of_row (Err e) s word row is h = tt
 
 -- ---- the row of a word
@@ -104,26 +104,26 @@ trace_text_is s word items is = ap (option_map items_text) (sym is)
 -- its items, or want of memory for their text
 pub trace_answer : (s : Contents) (word : List ℕ) (items : List Item') (r : Result (Vec ℕ Global) AllocError) (reply : Reply) → Some items ≡ trace_of s.setting s.words word
     → IfOk r (λ text. text.items ≡ items_text items) → IfOk r (λ made. IsReply reply made.items) → OnErr r (IsReply reply (edit_text (Some fault.OutOfMemory)))
-    → (memory : Memory) × (text : List ℕ) × IsReply reply text × IsReportOrAbsent s (trace_text s word) memory text s
+    → (memory : Memory) × (text : List ℕ) × IsReply reply text × IsReport s (trace_text s word) memory text s
 trace_answer s word items r reply is text made refused =
-    subst (λ (o : Option (List ℕ)). (memory : Memory) × (text : List ℕ) × IsReply reply text × IsReportOrAbsent s o memory text s) (sym (trace_text_is s word (Some items) is))
+    subst (λ (o : Option (List ℕ)). (memory : Memory) × (text : List ℕ) × IsReply reply text × IsReport s o memory text s) (sym (trace_text_is s word (Some items) is))
     (report_answer r reply s (items_text items) text made refused)
 
 -- the word is not there
 pub trace_absent : (s : Contents) (word told : List ℕ) → None ≡ trace_of s.setting s.words word → told ≡ edit_text (Some fault.Absent)
-    → (memory : Memory) × (text : List ℕ) × (told ≡ text) × IsReportOrAbsent s (trace_text s word) memory text s
+    → (memory : Memory) × (text : List ℕ) × (told ≡ text) × IsReport s (trace_text s word) memory text s
 trace_absent s word told is absent =
-    subst (λ (o : Option (List ℕ)). (memory : Memory) × (text : List ℕ) × (told ≡ text) × IsReportOrAbsent s o memory text s) (sym (trace_text_is s word None is)) (Enough, told, refl, (absent, refl))
+    subst (λ (o : Option (List ℕ)). (memory : Memory) × (text : List ℕ) × (told ≡ text) × IsReport s o memory text s) (sym (trace_text_is s word None is)) (Enough, told, refl, (absent, refl))
 
 -- the word is there, and the memory of its items was refused
 pub trace_refused : (s : Contents) (word : List ℕ) (reply : Reply) → (is_word word s.words ≡ false → ⊥) → IsReply reply (edit_text (Some fault.OutOfMemory))
-    → (memory : Memory) × (text : List ℕ) × IsReply reply text × IsReportOrAbsent s (trace_text s word) memory text s
+    → (memory : Memory) × (text : List ℕ) × IsReply reply text × IsReport s (trace_text s word) memory text s
 trace_refused s word reply there refused = by (is_word word s.words) refl
   where
-    by : (b : Bool) → is_word word s.words ≡ b → (memory : Memory) × (text : List ℕ) × IsReply reply text × IsReportOrAbsent s (trace_text s word) memory text s
+    by : (b : Bool) → is_word word s.words ≡ b → (memory : Memory) × (text : List ℕ) × IsReply reply text × IsReport s (trace_text s word) memory text s
     by false absent = absurd (there absent)
     by true e =
         let items = touched_of s.setting.script word s.setting.limit in
         let is : Some items ≡ trace_of s.setting s.words word = rw e refl in
-        subst (λ (o : Option (List ℕ)). (memory : Memory) × (text : List ℕ) × IsReply reply text × IsReportOrAbsent s o memory text s) (sym (trace_text_is s word (Some items) is))
+        subst (λ (o : Option (List ℕ)). (memory : Memory) × (text : List ℕ) × IsReply reply text × IsReport s o memory text s) (sym (trace_text_is s word (Some items) is))
         (RefusedAfter 0, edit_text (Some fault.OutOfMemory), refused, (refl, refl))

@@ -51,17 +51,7 @@ answered-more s t u done r h i j q reply so writes is = record {
 -- one more edit was made, and a front of its answer was written
 half-more : (s t u : Contents) (done : List Request) (r : Request) (h i j : Option (List ℕ)) (q : Memory) (reply : List ℕ) (n : ℕ)
     → Answered s done h i t → Appends i j (take n reply) → IsReplyTo t (command_of r) q reply u → HalfAnswered s done r h j u
-half-more s t u done r h i j q reply n so writes is = record {
-  m = so.m;
-  text = so.text;
-  between = t;
-  answers = so.answers;
-  memory = q;
-  reply = reply;
-  is = is;
-  count = n;
-  written = Appends-trans h i j so.text (take n reply) so.written writes;
-}
+half-more s t u done r h i j q reply n so writes is = (t, i, so, q, reply, is, n, writes)
 
 -- ---- requests
 

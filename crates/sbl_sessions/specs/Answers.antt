@@ -50,16 +50,13 @@ IsEdit s e Enough f t = IsVerdict s e f t
 IsEdit s e BlockRefused f t = (is_of_script e ≡ true) × (f ≡ Some fault.OutOfMemory) × (t ≡ s)
 IsEdit s e (RefusedAfter n) f t = (f ≡ Some fault.OutOfMemory) × (t ≡ counted n s) × IsOutOfMemory s e t
 
--- A report is written whole, or an allocation for it fails.
-abbrev pub IsReport : Contents → List ℕ → Memory → List ℕ → Contents → Type 0
-IsReport s report Enough text t = Tells s report text t
-IsReport s report BlockRefused text t = ⊥
-IsReport s report (RefusedAfter n) text t = Tells s (edit_text (Some fault.OutOfMemory)) text t
-
--- a report of a word, or `no 41 Absent` if the word is not in the vocabulary; the latter does not allocate
-abbrev pub IsReportOrAbsent : Contents → Option (List ℕ) → Memory → List ℕ → Contents → Type 0
-IsReportOrAbsent s None memory text t = Tells s (edit_text (Some fault.Absent)) text t
-IsReportOrAbsent s (Some report) memory text t = IsReport s report memory text t
+-- A report is written whole, or an allocation for it fails. There is no report of a word that is not in the vocabulary; that is
+-- said without an allocation.
+abbrev pub IsReport : Contents → Option (List ℕ) → Memory → List ℕ → Contents → Type 0
+IsReport s None memory text t = Tells s (edit_text (Some fault.Absent)) text t
+IsReport s (Some report) Enough text t = Tells s report text t
+IsReport s (Some report) BlockRefused text t = ⊥
+IsReport s (Some report) (RefusedAfter n) text t = Tells s (edit_text (Some fault.OutOfMemory)) text t
 
 -- a block that is not a text is refused for that, or an allocation for it fails
 abbrev pub IsNoText : Contents → EditFault → Memory → List ℕ → Contents → Type 0
@@ -71,12 +68,12 @@ IsNoText s f (RefusedAfter n) text t = ⊥
 abbrev pub IsReplyTo : Contents → Command → Memory → List ℕ → Contents → Type 0
 IsReplyTo s Nothing memory text t = Tells s [] text t
 IsReplyTo s (Makes e) memory text t = (f : Option EditFault) × IsEdit s e memory f t × (text ≡ edit_text f)
-IsReplyTo s Stems memory text t = IsReport s (stems_text s) memory text t
-IsReplyTo s Classes memory text t = IsReport s (classes_text s) memory text t
-IsReplyTo s Script memory text t = IsReport s (canonical s.setting.script.items) memory text t
-IsReplyTo s (Class word) memory text t = IsReportOrAbsent s (class_text s word) memory text t
-IsReplyTo s (Trace word) memory text t = IsReportOrAbsent s (trace_text s word) memory text t
-IsReplyTo s Runs memory text t = IsReport s (ended (decimal s.count)) memory text t
+IsReplyTo s Stems memory text t = IsReport s (Some (stems_text s)) memory text t
+IsReplyTo s Classes memory text t = IsReport s (Some (classes_text s)) memory text t
+IsReplyTo s Script memory text t = IsReport s (Some (canonical s.setting.script.items)) memory text t
+IsReplyTo s (Class word) memory text t = IsReport s (class_text s word) memory text t
+IsReplyTo s (Trace word) memory text t = IsReport s (trace_text s word) memory text t
+IsReplyTo s Runs memory text t = IsReport s (Some (ended (decimal s.count))) memory text t
 IsReplyTo s HasNoNumber memory text t = Tells s (edit_text (Some fault.BadLimit)) text t
 IsReplyTo s (HasNoText f) memory text t = IsNoText s (fault.Script f) memory text t
 IsReplyTo s Bad memory text t = Tells s (ended (codes "no 52 BadCommand")) text t

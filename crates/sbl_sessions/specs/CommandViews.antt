@@ -81,7 +81,7 @@ pub record IsAnswered (input new_input : Option (List ℕ)) (line : List ℕ) (s
   pub formed : IsRequest (record { line = line; block = block })
   pub fit : AllFit (block_lines block)
   pub took : Took input new_input (block_lines block)
-  pub answer : IsAnswer s (command.by_block line block) r t
+  pub answer : IsAnswer s (command.command_of (record { line = line; block = block })) r t
 
 -- the block that the line asks for was not read to its end
 abbrev pub BreaksBlock : Option (List ℕ) → Option (List ℕ) → List ℕ → ServeFault → Type 0

@@ -1,6 +1,6 @@
 -- The commands of requests.
 use Rattle.std.specs.Prelude.{ℕ, List, [], ◌∷◌, codes, if◌then◌else◌, length, nat_lt, Option, Some, None, Result, Ok, Err}
-use Rattle.std.specs.Option.{option_and_then}
+use Rattle.std.specs.Option.{option_and_then, option_map, option_map_or}
 use Rattle.std.specs.Str.{bytes_eq, chars, is_utf8}
 use Rattle.sbl_bench.specs.Edits as edits
 use Rattle.sbl_script.specs.Edits.{ScriptEdit, among, body, terms}
@@ -28,19 +28,14 @@ pub data Command : Type 0 where
 
 -- ---- a line alone
 
--- a limit, written in decimal digits
-abbrev pub limit_command : Option ℕ → Command
-limit_command None = HasNoNumber
-limit_command (Some n) = Makes (edits.Limit n)
-
--- the command of a line that is UTF-8
+-- the command of a line that is UTF-8; a limit is written in decimal digits
 abbrev pub text_command : List ℕ → Command
 text_command line =
     if bytes_eq (command_word line) (codes "add") then Makes (edits.Add (chars (argument line)))
     else (if bytes_eq (command_word line) (codes "remove") then Makes (edits.Remove (chars (argument line)))
     else (if bytes_eq (command_word line) (codes "class") then Class (chars (argument line))
     else (if bytes_eq (command_word line) (codes "trace") then Trace (chars (argument line))
-    else (if bytes_eq (command_word line) (codes "limit") then limit_command (number_in (argument line))
+    else (if bytes_eq (command_word line) (codes "limit") then option_map_or (λ n. Makes (edits.Limit n)) (number_in (argument line)) HasNoNumber
     else (if bytes_eq line (codes "stems") then Stems
     else (if bytes_eq line (codes "classes") then Classes
     else (if bytes_eq line (codes "script") then Script
@@ -59,43 +54,26 @@ text_of_block lines =
     if nat_lt max_script (length (made_text lines)) then Err fault.ScriptTooLong
     else (if is_utf8 (made_text lines) then Ok (made_text lines) else Err fault.NotUtf8)
 
--- the among of this number in this routine
-abbrev pub numbered : List ℕ → Option ℕ → Option ScriptEdit
-numbered name None = None
-numbered name (Some k) = Some (among name k)
-
 -- what a block word and its argument replace: the body of the routine of this name; an among, with a name, a space and a number
 -- as the argument; the terms of the grouping of this name; none if the line is bad
 abbrev pub target_by : BlockWord → List ℕ → Option ScriptEdit
 target_by Routine name = Some (body name)
-target_by Among text = numbered (command_word text) (number_in (argument text))
+target_by Among text = option_map (among (command_word text)) (number_in (argument text))
 target_by Grouping name = Some (terms name)
 
--- what a line that is UTF-8 replaces
-abbrev pub target_of_text : List ℕ → Option ScriptEdit
-target_of_text line = option_and_then (λ word. target_by word (argument line)) (block_word line)
-
--- a line that is not UTF-8 is bad
+-- what a line replaces; a line that is not UTF-8 is bad
 abbrev pub target_of : List ℕ → Option ScriptEdit
-target_of line = if is_utf8 line then target_of_text line else None
+target_of line = if is_utf8 line then option_and_then (λ word. target_by word (argument line)) (block_word line) else None
 
 abbrev pub with_text : ScriptEdit → Result (List ℕ) ScriptFault → Command
 with_text what (Ok text) = Makes (edits.Replace what text)
 with_text what (Err f) = HasNoText f
 
-abbrev pub with_target : Option ScriptEdit → List (List ℕ) → Command
-with_target None lines = Bad
-with_target (Some what) lines = with_text what (text_of_block lines)
-
 -- a bad line comes before a fault of its block
 abbrev pub block_command : List ℕ → List (List ℕ) → Command
-block_command line lines = with_target (target_of line) lines
+block_command line lines = option_map_or (λ what. with_text what (text_of_block lines)) (target_of line) Bad
 
 -- ---- both
 
-abbrev pub by_block : List ℕ → Option (List (List ℕ)) → Command
-by_block line None = line_command line
-by_block line (Some lines) = block_command line lines
-
 abbrev pub command_of : Request → Command
-command_of r = by_block r.line r.block
+command_of r = option_map_or (block_command r.line) r.block (line_command r.line)

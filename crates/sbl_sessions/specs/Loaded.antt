@@ -11,6 +11,7 @@ use Rattle.sbl_script.specs.Reading.{IsFaultOf, IsScriptOf}
 use Rattle.sbl_text.specs.declared.fault.ScriptFault.{ScriptFault}
 use Rattle.sbl_text.specs.declared.fault.ScriptFault.TheVariants as script
 use Rattle.sbl_sessions.specs.Block.{AllText, BlockLines, Breaks, TookBlock, made_text, max_script, point}
+use Rattle.sbl_io.specs.Devices.{Tally}
 use Rattle.sbl_io.specs.Held.{HasCause, Took, fault_of}
 use Rattle.sbl_io.specs.LinesOf.{max_line}
 use Rattle.sbl_io.specs.declared.lines.Lines.{Lines}
@@ -90,5 +91,5 @@ IsLoaded old new external state (Err (Input fault.OutOfMemory)) =
 IsLoaded old new external state (Err (Input f)) = Breaks BlockLines old new f ⊎ AfterSource old external (λ between. Breaks WordLines between new f)
 
 -- a fault of reading is caused by the reader or a bound, or the lines returned it before
-abbrev pub HasReason : {R : Type 0} → (R → ℕ) → (R → ℕ) → (R → ℕ) → Lines R → Lines R → LoadFault → Type 0
-HasReason failures row reads lines new_lines f = f ≡ Input fault.Read → HasCause failures row reads lines new_lines ⊎ (fault_of lines ≡ Some line.Read)
+abbrev pub HasReason : {R : Type 0} → (R → Tally) → Lines R → Lines R → LoadFault → Type 0
+HasReason tally lines new_lines f = f ≡ Input fault.Read → HasCause tally lines new_lines ⊎ (fault_of lines ≡ Some line.Read)

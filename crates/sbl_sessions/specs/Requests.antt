@@ -18,15 +18,12 @@ pub data BlockWord : Type 0 where
   Among : BlockWord
   Grouping : BlockWord
 
--- the block word that these bytes are, if they are one
-abbrev pub as_block_word : List ℕ → Option BlockWord
-as_block_word word =
-    if bytes_eq word (codes "routine") then Some Routine
-    else (if bytes_eq word (codes "among") then Some Among
-    else (if bytes_eq word (codes "grouping") then Some Grouping else None))
-
+-- the block word that the command word of a line is, if it is one
 abbrev pub block_word : List ℕ → Option BlockWord
-block_word line = as_block_word (command_word line)
+block_word line =
+    if bytes_eq (command_word line) (codes "routine") then Some Routine
+    else (if bytes_eq (command_word line) (codes "among") then Some Among
+    else (if bytes_eq (command_word line) (codes "grouping") then Some Grouping else None))
 
 -- whether a block follows the line, whatever else the line contains
 abbrev pub asks_block : List ℕ → Bool

@@ -1,7 +1,7 @@
 -- The text of rows and of classes, each a record.
 use Rattle.std.specs.Prelude.{ℕ, List, [], ◌∷◌, map, codes, Option, Some, None}
 use Rattle.std.specs.List.{find}
-use Rattle.std.specs.Option.{option_map}
+use Rattle.std.specs.Option.{option_map, option_map_or}
 use Rattle.std.specs.Str.{bytes_eq, encode_utf8_all}
 use Rattle.sbl_semantics.specs.Names.{name_of}
 use Rattle.sbl_semantics.specs.Outcome.{Outcome', Stem, Refused}
@@ -33,13 +33,9 @@ class_fields c = map encode_utf8_all (c.stem ∷ c.words)
 unfoldable pub classes_text : Contents → List ℕ
 classes_text s = records_text (map class_fields (classes_of (rows_now s)))
 
--- the fields of a word's class, or of its row if its run is refused and it has no class
-abbrev pub class_or_row : Option Class → Row → List (List ℕ)
-class_or_row (Some class) row = class_fields class
-class_or_row None row = row_fields row
-
+-- the record of a word's class, or of its row if its run is refused and it has no class
 abbrev pub class_or_row_text : Contents → List ℕ → Row → List ℕ
-class_or_row_text s word row = records_text (class_or_row (class_of (rows_now s) word) row ∷ [])
+class_or_row_text s word row = records_text (option_map_or class_fields (class_of (rows_now s) word) (row_fields row) ∷ [])
 
 -- the report of a word's class; none if the word is not in the vocabulary
 unfoldable pub class_text : Contents → List ℕ → Option (List ℕ)

@@ -5,7 +5,7 @@ use Rattle.sbl_bench.specs.Contents.{Contents}
 use Rattle.sbl_sessions.specs.Answers.{Answers, IsReplyTo, Memory}
 use Rattle.sbl_sessions.specs.Block.{Breaks}
 use Rattle.sbl_sessions.specs.Commands.{command_of}
-use Rattle.sbl_io.specs.Devices.{HasStopped}
+use Rattle.sbl_io.specs.Devices.{HasStopped, Tally}
 use Rattle.sbl_io.specs.Held.{HasCause, TookWhole, fault_of}
 use Rattle.sbl_sessions.specs.Requests.{IsBegun, IsOpen, Request, TookRequests}
 use Rattle.sbl_io.specs.declared.lines.Lines.{Lines}
@@ -22,16 +22,11 @@ pub record Answered (s : Contents) (requests : List Request) (held new_held : Op
   pub written : Appends held new_held text
 
 -- After the replies to these requests, the edit of one more was made, and a prefix of its reply was written.
-pub record HalfAnswered (s : Contents) (requests : List Request) (request : Request) (held new_held : Option (List ℕ)) (t : Contents) : Type 0 where
-  pub m : List Memory
-  pub text : List ℕ
-  pub between : Contents
-  pub answers : Answers s requests m text between
-  pub memory : Memory
-  pub reply : List ℕ
-  pub is : IsReplyTo between (command_of request) memory reply t
-  pub count : ℕ
-  pub written : Appends held new_held (text ++ take count reply)
+abbrev pub HalfAnswered : Contents → List Request → Request → Option (List ℕ) → Option (List ℕ) → Contents → Type 0
+HalfAnswered s requests request held new_held t =
+    (between : Contents) × (middle : Option (List ℕ)) × Answered s requests held middle between
+    × (memory : Memory) × (reply : List ℕ) × IsReplyTo between (command_of request) memory reply t
+    × (count : ℕ) × Appends middle new_held (take count reply)
 
 -- Requests were taken from the input, and exactly these have their replies.
 abbrev pub Served : Option (List ℕ) → Option (List ℕ) → Option (List ℕ) → Option (List ℕ) → Contents → Contents → Type 0
@@ -55,12 +50,10 @@ IsSession input new_input held new_held s t (Err f) =
 
 -- Why a session may end. A fault of reading or writing is caused by the device or a bound, or the lines returned it before. A
 -- line that is too long, or a block that the end of input cuts off, is in the input, as defined above.
-abbrev pub Ends : {R W : Type 0} → (R → ℕ) → (R → ℕ) → (R → ℕ) → (W → ℕ) → (W → ℕ) → Lines R → Lines R → W → W → Result (Unit {0}) ServeFault → Type 0
-Ends read_failures read_row reads write_failures write_row lines new_lines writer new_writer (Ok u) = ⊤
-Ends read_failures read_row reads write_failures write_row lines new_lines writer new_writer (Err fault.Read) =
-    HasCause read_failures read_row reads lines new_lines ⊎ (fault_of lines ≡ Some line.Read)
-Ends read_failures read_row reads write_failures write_row lines new_lines writer new_writer (Err fault.Write) =
-    HasStopped write_failures write_row writer new_writer
-Ends read_failures read_row reads write_failures write_row lines new_lines writer new_writer (Err fault.LineTooLong) = ⊤
-Ends read_failures read_row reads write_failures write_row lines new_lines writer new_writer (Err fault.Cut) = ⊤
-Ends read_failures read_row reads write_failures write_row lines new_lines writer new_writer (Err f) = ⊥
+abbrev pub Ends : {R W : Type 0} → (R → Tally) → (W → Tally) → Lines R → Lines R → W → W → Result (Unit {0}) ServeFault → Type 0
+Ends reads writes lines new_lines writer new_writer (Ok u) = ⊤
+Ends reads writes lines new_lines writer new_writer (Err fault.Read) = HasCause reads lines new_lines ⊎ (fault_of lines ≡ Some line.Read)
+Ends reads writes lines new_lines writer new_writer (Err fault.Write) = HasStopped writes writer new_writer
+Ends reads writes lines new_lines writer new_writer (Err fault.LineTooLong) = ⊤
+Ends reads writes lines new_lines writer new_writer (Err fault.Cut) = ⊤
+Ends reads writes lines new_lines writer new_writer (Err f) = ⊥

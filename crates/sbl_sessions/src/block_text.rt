@@ -2,8 +2,8 @@
 ghost use Rattle.std.specs.Prelude.{◌≡◌, ◌<◌, ◌≤◌, ◌++◌, [], ◌∷◌, List, ℕ, OnOk, IfOk, IfErr, None, Some, length};
 ghost use Rattle.std.specs.Io.KnownBytes.{Keeps};
 ghost use Rattle.sbl_sessions.specs.Block.{HasText, HoldsText, ReadsBlock, made_text, max_script};
-ghost use Rattle.sbl_io.specs.Faults.{left_by, serve_fault_of};
-ghost use Rattle.sbl_io.specs.Held.{HasReason, IsDrained, KeepsTime, StaysEnded, TakesFeeds, fault_of, fuel_of, input_of, reads_bound};
+ghost use Rattle.sbl_io.specs.Faults.{serve_fault_of};
+ghost use Rattle.sbl_io.specs.Held.{Reading, fault_of, input_of};
 ghost use Rattle.sbl_io.specs.declared.faults.LineFault.{LineFault};
 
 use sbl_io::{Lines, ServeFault, Source};
@@ -81,17 +81,8 @@ fn push_ended(bytes: &mut Vec<u8>, line: &[u8]) -> Result<(), AllocError>
 pub fn read_block<R: Source + Drop>(lines: &mut Lines<R>) -> Result<BlockText, ServeFault>
     ensures reads { fault_of lines.old ≡ None → ReadsBlock (input_of R.left lines.old) (input_of R.left lines.new) result }
     ensures ready { OnOk result (fault_of lines.old ≡ None) }
-    ensures remembered { fault_of lines.new ≡ left_by result }
     ensures again { (fault : LineFault) → fault_of lines.old ≡ Some fault → (result ≡ Err (serve_fault_of fault)) × Keeps (input_of R.left lines.old) (input_of R.left lines.new) }
-    ensures drained { result ≡ Err ServeFault.Read → fault_of lines.old ≡ None → IsDrained lines.new }
-    ensures fuel { OnOk result (fuel_of lines.new ≤ fuel_of lines.old) }
-    ensures later { R.failures lines.old.reader ≤ R.failures lines.new.reader }
-    ensures stays { StaysEnded lines.old lines.new }
-    ensures feeds { OnOk result (TakesFeeds R.left lines.old lines.new) }
-    ensures steady { OnOk result (R.failures lines.new.reader ≡ R.failures lines.old.reader) }
-    ensures bound { reads_bound R.reads lines.new ≡ reads_bound R.reads lines.old }
-    ensures why { IfErr result (λ fault. HasReason R.failures R.interruptions R.reads lines.old lines.new fault) }
-    ensures in_time { KeepsTime R.ended R.late R.interruptions R.reads lines.old lines.new }
+    ensures reading { Reading R.left R.tally lines.old lines.new result }
 {
     let mut text = BlockText::new(lines.alloc());
     while lines.next_line()? {

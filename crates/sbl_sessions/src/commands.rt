@@ -1,6 +1,7 @@
 //! The commands of a session.
 ghost use Rattle.std.specs.Prelude.{◌≡◌, IfOk, OnErr, Some, true};
-ghost use Rattle.std.specs.Option.{is_some};
+ghost use Rattle.std.specs.Option.{is_some, option_map_or};
+ghost use Rattle.sbl_bench.specs.Edits as edits;
 ghost use Rattle.sbl_sessions.specs.Commands as spec;
 ghost use Rattle.sbl_sessions.specs.Requests as requests;
 ghost use Rattle.sbl_sessions.specs.Words as words;
@@ -92,7 +93,7 @@ fn text_command(text: &str) -> Command<'_>
 
 /// Returns the command that sets the limit of steps to the number in the argument.
 fn limit_command(argument: &str) -> Command<'static>
-    ensures { view_command result ≡ spec.limit_command (numbers.number_in argument.now) }
+    ensures { view_command result ≡ option_map_or (λ n. spec.Makes (edits.Limit n)) (numbers.number_in argument.now) spec.HasNoNumber }
 {
     match number_in(argument.as_bytes()) {
         Some(number) => Command::Limit(number),

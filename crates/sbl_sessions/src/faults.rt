@@ -43,6 +43,16 @@ impl From<ServeFault> for LoadFault {
     }
 }
 
+impl From<ScriptFault> for LoadFault {
+    ghost use Rattle.sbl_sessions.specs.declared.faults.LoadFault.TheVariants as load;
+
+    ghost from_gives = { λ fault e. e ≡ load.Script fault };
+
+    fn from(fault: ScriptFault) -> LoadFault {
+        LoadFault::Script(fault)
+    }
+}
+
 impl From<AllocError> for LoadFault {
     ghost use Rattle.sbl_sessions.specs.declared.faults.LoadFault.TheVariants as load;
     ghost use Rattle.sbl_io.specs.declared.faults.ServeFault.TheVariants as serve;

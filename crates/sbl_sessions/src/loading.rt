@@ -34,11 +34,11 @@ pub fn read_script<R: Source + Drop>(lines: &mut Lines<R>) -> Result<Vec<u8>, Lo
     ensures ready { OnOk result (fault_of lines.old ≡ None) }
     ensures remembered { fault_of lines.new ≡ left_by_load result }
     ensures again { (fault : LineFault) → fault_of lines.old ≡ Some fault → (result ≡ Err (LoadFault.Input (serve_fault_of fault))) × Keeps (input_of R.left lines.old) (input_of R.left lines.new) }
-    ensures later { R.failures lines.old.reader ≤ R.failures lines.new.reader }
-    ensures bound { reads_bound R.reads lines.new ≡ reads_bound R.reads lines.old }
-    ensures steady { OnOk result (R.failures lines.new.reader ≡ R.failures lines.old.reader) }
-    ensures why { IfErr result (λ fault. HasReason R.failures R.interruptions R.reads lines.old lines.new fault) }
-    ensures in_time { KeepsTime R.ended R.late R.interruptions R.reads lines.old lines.new }
+    ensures later { (R.tally lines.old.reader).failures ≤ (R.tally lines.new.reader).failures }
+    ensures bound { reads_bound R.tally lines.new ≡ reads_bound R.tally lines.old }
+    ensures steady { OnOk result ((R.tally lines.new.reader).failures ≡ (R.tally lines.old.reader).failures) }
+    ensures why { IfErr result (λ fault. HasReason R.tally lines.old lines.new fault) }
+    ensures in_time { KeepsTime R.tally lines.old lines.new }
 {
     let text = match read_block(lines) {
         Ok(text) => text,
@@ -71,11 +71,11 @@ fn read_words<R: Source + Drop>(
 ) -> Result<WordList, LoadFault>
     ensures reads { fault_of lines.old ≡ None → ReadsWords (input_of R.left lines.old) (input_of R.left lines.new) result }
     ensures remembered { fault_of lines.new ≡ left_by_load result }
-    ensures later { R.failures lines.old.reader ≤ R.failures lines.new.reader }
-    ensures bound { reads_bound R.reads lines.new ≡ reads_bound R.reads lines.old }
-    ensures steady { OnOk result (R.failures lines.new.reader ≡ R.failures lines.old.reader) }
-    ensures why { IfErr result (λ fault. HasReason R.failures R.interruptions R.reads lines.old lines.new fault) }
-    ensures in_time { KeepsTime R.ended R.late R.interruptions R.reads lines.old lines.new }
+    ensures later { (R.tally lines.old.reader).failures ≤ (R.tally lines.new.reader).failures }
+    ensures bound { reads_bound R.tally lines.new ≡ reads_bound R.tally lines.old }
+    ensures steady { OnOk result ((R.tally lines.new.reader).failures ≡ (R.tally lines.old.reader).failures) }
+    ensures why { IfErr result (λ fault. HasReason R.tally lines.old lines.new fault) }
+    ensures in_time { KeepsTime R.tally lines.old lines.new }
 {
     let mut words = WordList::new(lines.alloc(), keys);
     while lines.next_line()? {
@@ -128,19 +128,16 @@ pub fn load<R: Source + Drop>(
     external: &str,
 ) -> Result<Bench, LoadFault>
     ensures loaded { fault_of lines.old ≡ None → IsLoaded (input_of R.left lines.old) (input_of R.left lines.new) external.now (λ b. contents_of b) result }
-    ensures later { R.failures lines.old.reader ≤ R.failures lines.new.reader }
-    ensures steady { OnOk result (R.failures lines.new.reader ≡ R.failures lines.old.reader) }
-    ensures why { IfErr result (λ fault. HasReason R.failures R.interruptions R.reads lines.old lines.new fault) }
-    ensures in_time { KeepsTime R.ended R.late R.interruptions R.reads lines.old lines.new }
+    ensures later { (R.tally lines.old.reader).failures ≤ (R.tally lines.new.reader).failures }
+    ensures steady { OnOk result ((R.tally lines.new.reader).failures ≡ (R.tally lines.old.reader).failures) }
+    ensures why { IfErr result (λ fault. HasReason R.tally lines.old lines.new fault) }
+    ensures in_time { KeepsTime R.tally lines.old lines.new }
     ensures remembered { fault_of lines.new ≡ left_by_load result }
     ensures again { (fault : LineFault) → fault_of lines.old ≡ Some fault → (result ≡ Err (LoadFault.Input (serve_fault_of fault))) × Keeps (input_of R.left lines.old) (input_of R.left lines.new) }
-    ensures bound { reads_bound R.reads lines.new ≡ reads_bound R.reads lines.old }
+    ensures bound { reads_bound R.tally lines.new ≡ reads_bound R.tally lines.old }
 {
     let text = read_script(lines)?;
-    let script = match Script::parse(lines.alloc(), &text, external) {
-        Ok(script) => script,
-        Err(fault) => return Err(LoadFault::Script(fault)),
-    };
+    let script = Script::parse(lines.alloc(), &text, external)?;
     let words = match read_words(lines, keys) {
         Ok(words) => words,
         Err(fault) => {

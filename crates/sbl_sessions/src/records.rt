@@ -1,5 +1,5 @@
 //! The text of rows, classes and items as records, written with `csv`.
-ghost use Rattle.std.specs.Prelude.{◌≡◌, ◌++◌, ◌∷◌, [], ℕ, List, IfOk, OnOk, map};
+ghost use Rattle.std.specs.Prelude.{◌≡◌, ◌++◌, [], ℕ, List, IfOk, OnOk, map};
 ghost use Rattle.std.specs.Str.{encode_utf8_all};
 ghost use Rattle.csv.specs.Records.{fields_of, partial_of};
 ghost use Rattle.sbl_bench.specs.Classes.{view_class, words_of};
@@ -11,7 +11,7 @@ ghost use Rattle.sbl_sessions.specs.Traces.{item_fields};
 
 use csv::{ByteRecord, WriterBuilder};
 use sbl_bench::{Class, Row};
-use sbl_io::set_text;
+use sbl_io::push_text;
 use sbl_machine::{Item, Outcome};
 use std::alloc::{AllocError, Global};
 
@@ -78,20 +78,6 @@ impl Record for Item {
             }
         }
     }
-}
-
-/// Appends characters to a record, as one field. Returns `AllocError` if an allocation fails.
-fn push_text(
-    text: &mut String,
-    csv_record: &mut ByteRecord,
-    characters: &[char],
-) -> Result<(), AllocError>
-    requires { partial_of csv_record.old ≡ [] }
-    ensures fields { OnOk result (fields_of csv_record.new ≡ fields_of csv_record.old ++ encode_utf8_all characters.now ∷ []) }
-    ensures partial { OnOk result (partial_of csv_record.new ≡ []) }
-{
-    set_text(text, characters)?;
-    csv_record.push_field(text.as_bytes())
 }
 
 /// Appends words to a record, each as one field. Returns `AllocError` if an allocation fails.

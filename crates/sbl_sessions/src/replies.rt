@@ -93,11 +93,11 @@ fn script_fault_text(fault: ScriptFault) -> &'static str
 pub fn write_reply<W: Sink>(writer: &mut W, reply: &Reply) -> Result<(), ServeFault>
     ensures all { OnOk result ((text : List ℕ) → IsReply reply.now text → Appends (W.held writer.old) (W.held writer.new) text) }
     ensures front { (n : ℕ) × ((text : List ℕ) → IsReply reply.now text → Appends (W.held writer.old) (W.held writer.new) (take n text)) }
-    ensures later { W.failures writer.old ≤ W.failures writer.new }
-    ensures steady { OnOk result (W.failures writer.new ≡ W.failures writer.old) }
-    ensures why { IfErr result (λ fault. (fault ≡ ServeFault.Write) × HasStopped W.failures W.interruptions writer.old writer.new) }
-    ensures in_time { WritesInTime W.late W.interruptions writer.old writer.new }
-    ensures rested { OnOk result (W.interruptions writer.old ≡ 0 → W.interruptions writer.new ≡ 0) }
+    ensures later { (W.tally writer.old).failures ≤ (W.tally writer.new).failures }
+    ensures steady { OnOk result ((W.tally writer.new).failures ≡ (W.tally writer.old).failures) }
+    ensures why { IfErr result (λ fault. (fault ≡ ServeFault.Write) × HasStopped W.tally writer.old writer.new) }
+    ensures in_time { WritesInTime W.tally writer.old writer.new }
+    ensures rested { OnOk result ((W.tally writer.old).interruptions ≡ 0 → (W.tally writer.new).interruptions ≡ 0) }
 {
     match reply {
         Reply::Report(text) => write_all(writer, text),

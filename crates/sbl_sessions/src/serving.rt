@@ -2,17 +2,16 @@
 ghost use Rattle.std.specs.Prelude.{◌≡◌, ◌≤◌, None, Some, Err, IfOk, IfErr, OnOk};
 ghost use Rattle.std.specs.Io.KnownBytes.{IsAtEnd, Keeps};
 ghost use Rattle.sbl_bench.specs.Kept.{contents_of};
-ghost use Rattle.sbl_sessions.specs.CommandViews.{BreaksBlock, IsAnswer, IsAnswered, view_word};
+ghost use Rattle.sbl_sessions.specs.CommandViews.{BreaksBlock, IsAnswer, IsAnswered};
 ghost use Rattle.sbl_sessions.specs.Commands.{line_command};
 ghost use Rattle.sbl_io.specs.Devices.{WritesInTime};
 ghost use Rattle.sbl_io.specs.Faults.{left_by, serve_fault_of};
 ghost use Rattle.sbl_io.specs.declared.faults.LineFault.{LineFault};
-ghost use Rattle.sbl_io.specs.Held.{HasReason, IsDrained, KeepsTime, StaysEnded, TakesFeeds, fault_of, fuel_of, input_of, line_of, reads_bound};
-ghost use Rattle.sbl_sessions.specs.Requests as requests;
+ghost use Rattle.sbl_io.specs.Held.{IsDrained, KeepsTime, Reading, fault_of, input_of, line_of, reads_bound};
 ghost use Rattle.sbl_sessions.specs.Session.{Ends, IsSession};
 
 use crate::block_text::read_block;
-use crate::commands::{BlockWord, Command, block_word, command_of, target_of};
+use crate::commands::{Command, block_word, command_of, target_of};
 use crate::edits::{add_word, edit_script, remove_word};
 use crate::replies::{BAD_COMMAND, Reply, edit_text, report, write_reply};
 use crate::reports::{
@@ -48,54 +47,22 @@ pub fn answer_line(alloc: Global, bench: &mut Bench, line: &[u8]) -> Reply
     }
 }
 
-/// Reads the block of the current line, which has this block word, makes the edit, and returns the reply. If the block is not
-/// read to its end, makes no edit and returns the fault: `Cut` if the input ends before the line `.`, and `Read` and
-/// `LineTooLong` as the lines return them.
-fn answer_block<R: Source + Drop>(
-    bench: &mut Bench,
-    lines: &mut Lines<R>,
-    word: BlockWord,
-) -> Result<Reply, ServeFault>
-    requires asked { requests.block_word (line_of lines.old) ≡ Some (view_word word) }
-    requires ready { fault_of lines.old ≡ None }
-    ensures answered { IfOk result (λ reply. IsAnswered (input_of R.left lines.old) (input_of R.left lines.new) (line_of lines.old) (contents_of bench.old) reply (contents_of bench.new)) }
-    ensures broken { IfErr result (λ fault. BreaksBlock (input_of R.left lines.old) (input_of R.left lines.new) (line_of lines.old) fault × (contents_of bench.new ≡ contents_of bench.old)) }
-    ensures remembered { fault_of lines.new ≡ left_by result }
-    ensures drained { result ≡ Err ServeFault.Read → IsDrained lines.new }
-    ensures fuel { OnOk result (fuel_of lines.new ≤ fuel_of lines.old) }
-    ensures later { R.failures lines.old.reader ≤ R.failures lines.new.reader }
-    ensures stays { StaysEnded lines.old lines.new }
-    ensures feeds { OnOk result (TakesFeeds R.left lines.old lines.new) }
-    ensures steady { OnOk result (R.failures lines.new.reader ≡ R.failures lines.old.reader) }
-    ensures bound { reads_bound R.reads lines.new ≡ reads_bound R.reads lines.old }
-    ensures why { IfErr result (λ fault. HasReason R.failures R.interruptions R.reads lines.old lines.new fault) }
-    ensures in_time { KeepsTime R.ended R.late R.interruptions R.reads lines.old lines.new }
-{
-    let target = target_of(lines.alloc(), word, lines.line());
-    let block = read_block(lines)?;
-    Ok(Reply::Fixed(edit_script(bench, target, block)))
-}
-
 /// Makes the edit or the report that the current line asks for, with the block after it if it asks for one, and returns the
-/// reply, as `answer_line` and `answer_block` do.
+/// reply. If the block is not read to its end, makes no edit and returns the fault: `Cut` if the input ends before the line `.`,
+/// and `Read` and `LineTooLong` as the lines return them.
 fn answer<R: Source + Drop>(bench: &mut Bench, lines: &mut Lines<R>) -> Result<Reply, ServeFault>
     requires ready { fault_of lines.old ≡ None }
     ensures answered { IfOk result (λ reply. IsAnswered (input_of R.left lines.old) (input_of R.left lines.new) (line_of lines.old) (contents_of bench.old) reply (contents_of bench.new)) }
     ensures broken { IfErr result (λ fault. BreaksBlock (input_of R.left lines.old) (input_of R.left lines.new) (line_of lines.old) fault × (contents_of bench.new ≡ contents_of bench.old)) }
-    ensures remembered { fault_of lines.new ≡ left_by result }
-    ensures drained { result ≡ Err ServeFault.Read → IsDrained lines.new }
-    ensures fuel { OnOk result (fuel_of lines.new ≤ fuel_of lines.old) }
-    ensures later { R.failures lines.old.reader ≤ R.failures lines.new.reader }
-    ensures stays { StaysEnded lines.old lines.new }
-    ensures feeds { OnOk result (TakesFeeds R.left lines.old lines.new) }
-    ensures steady { OnOk result (R.failures lines.new.reader ≡ R.failures lines.old.reader) }
-    ensures bound { reads_bound R.reads lines.new ≡ reads_bound R.reads lines.old }
-    ensures why { IfErr result (λ fault. HasReason R.failures R.interruptions R.reads lines.old lines.new fault) }
-    ensures in_time { KeepsTime R.ended R.late R.interruptions R.reads lines.old lines.new }
+    ensures reading { Reading R.left R.tally lines.old lines.new result }
 {
     match block_word(lines.line()) {
-        Some(word) => answer_block(bench, lines, word),
         None => Ok(answer_line(lines.alloc(), bench, lines.line())),
+        Some(word) => {
+            let target = target_of(lines.alloc(), word, lines.line());
+            let block = read_block(lines)?;
+            Ok(Reply::Fixed(edit_script(bench, target, block)))
+        }
     }
 }
 
@@ -129,16 +96,16 @@ pub fn serve<R: Source + Drop, W: Sink>(
     writer: &mut W,
 ) -> Result<(), ServeFault>
     ensures session { fault_of lines.old ≡ None → IsSession (input_of R.left lines.old) (input_of R.left lines.new) (W.held writer.old) (W.held writer.new) (contents_of bench.old) (contents_of bench.new) result }
-    ensures ends { Ends R.failures R.interruptions R.reads W.failures W.interruptions lines.old lines.new writer.old writer.new result }
-    ensures steady { OnOk result ((R.failures lines.new.reader ≡ R.failures lines.old.reader) × (W.failures writer.new ≡ W.failures writer.old)) }
+    ensures ends { Ends R.tally W.tally lines.old lines.new writer.old writer.new result }
+    ensures steady { OnOk result (((R.tally lines.new.reader).failures ≡ (R.tally lines.old.reader).failures) × ((W.tally writer.new).failures ≡ (W.tally writer.old).failures)) }
     ensures whole { OnOk result (IsAtEnd (input_of R.left lines.new)) }
     ensures drained { result ≡ Err ServeFault.Read → fault_of lines.old ≡ None → IsDrained lines.new }
     ensures remembered { fault_of lines.new ≡ left_by result }
     ensures again { (fault : LineFault) → fault_of lines.old ≡ Some fault → (result ≡ Err (serve_fault_of fault)) × (contents_of bench.new ≡ contents_of bench.old)
         × Keeps (W.held writer.old) (W.held writer.new) × Keeps (input_of R.left lines.old) (input_of R.left lines.new) }
-    ensures bound { reads_bound R.reads lines.new ≡ reads_bound R.reads lines.old }
-    ensures reads_in_time { KeepsTime R.ended R.late R.interruptions R.reads lines.old lines.new }
-    ensures writes_in_time { WritesInTime W.late W.interruptions writer.old writer.new }
+    ensures bound { reads_bound R.tally lines.new ≡ reads_bound R.tally lines.old }
+    ensures reads_in_time { KeepsTime R.tally lines.old lines.new }
+    ensures writes_in_time { WritesInTime W.tally writer.old writer.new }
 {
     while lines.next_line()? {
         let reply = answer(bench, lines)?;

@@ -11,11 +11,11 @@ ghost use Rattle.sbl_ast.specs.View.{view_plain};
 ghost use Rattle.sbl_ast.specs.declared.tree.DeclarationKind.TheVariants as kinds;
 ghost use Rattle.sbl_why.specs.Integers as spec;
 
-use crate::rows::push_line;
 use csv::ByteRecord;
 use sbl_ast::{DeclarationKind, ItemInMode, Plain, items_in_order};
 use sbl_bench::{Bench, EditFault};
 use sbl_compiler::NameList;
+use sbl_io::push_line;
 use sbl_script::Script;
 use sbl_script::laws::is_spelled;
 use std::alloc::{AllocError, Global};

@@ -1,6 +1,5 @@
 //! The row of an event.
 ghost use Rattle.std.specs.Prelude.{◌≡◌, ◌++◌, ◌∷◌, [], OnOk, decimal};
-ghost use Rattle.std.specs.Str.{encode_utf8_all};
 ghost use Rattle.csv.specs.Records.{fields_of, partial_of};
 ghost use Rattle.sbl_bench.specs.Kept.{setting_of};
 ghost use Rattle.sbl_semantics.specs.Outcome.{outcome_of};
@@ -14,24 +13,9 @@ use crate::moment::Moment;
 use csv::ByteRecord;
 use sbl_bench::Bench;
 use sbl_interpreter::Event;
-use sbl_io::{record_line, set_text};
+use sbl_io::{push_line, push_text};
 use sbl_machine::Outcome;
 use std::alloc::{AllocError, Global};
-
-/// Appends characters to a record, as one field. Returns `AllocError` if an allocation fails.
-fn push_text(
-    alloc: Global,
-    csv_record: &mut ByteRecord,
-    characters: &[char],
-) -> Result<(), AllocError>
-    requires { partial_of csv_record.old ≡ [] }
-    ensures fields { OnOk result (fields_of csv_record.new ≡ fields_of csv_record.old ++ encode_utf8_all characters.now ∷ []) }
-    ensures partial { OnOk result (partial_of csv_record.new ≡ []) }
-{
-    let mut text = String::new(alloc);
-    set_text(&mut text, characters)?;
-    csv_record.push_field(text.as_bytes())
-}
 
 /// Appends a number to a record, as one field. Returns `AllocError` if an allocation fails.
 fn push_number(alloc: Global, csv_record: &mut ByteRecord, number: usize) -> Result<(), AllocError>
@@ -110,7 +94,11 @@ fn push_end(
     };
     csv_record.push_field(b"taken")?;
     push_among(alloc, csv_record, bench, moment, among)?;
-    push_text(alloc, csv_record, moment.string_taken(length))
+    push_text(
+        &mut String::new(alloc),
+        csv_record,
+        moment.string_taken(length),
+    )
 }
 
 /// Appends what the row of an event has of the time before it to an empty record. Returns `AllocError` if an allocation fails.
@@ -145,7 +133,7 @@ fn fill_before(
             push_place(alloc, csv_record, bench, moment)?;
             push_number(alloc, csv_record, *from)?;
             push_number(alloc, csv_record, *to)?;
-            push_text(alloc, csv_record, put)
+            push_text(&mut String::new(alloc), csv_record, put)
         }
     }
 }
@@ -163,21 +151,9 @@ fn fill_after(
 {
     match event {
         Event::Enters(_) => push_place(alloc, csv_record, bench, moment),
-        Event::Puts(_, _, _) => push_text(alloc, csv_record, moment.text()),
+        Event::Puts(_, _, _) => push_text(&mut String::new(alloc), csv_record, moment.text()),
         _ => Ok(()),
     }
-}
-
-/// Appends the line of a record. Returns `AllocError` if an allocation fails.
-pub(crate) fn push_line(
-    alloc: Global,
-    out: &mut Vec<u8>,
-    csv_record: &ByteRecord,
-) -> Result<(), AllocError>
-    ensures { OnOk result (out.new.items ≡ out.old.items ++ record_line (fields_of csv_record.now)) }
-{
-    let line = record_line(alloc, csv_record)?;
-    out.extend_from_slice(&line)
 }
 
 /// Appends the line of an event, and goes past it. Returns `AllocError` if an allocation fails.
@@ -224,7 +200,7 @@ fn fill_outcome(
     match outcome {
         Outcome::Stem(stem) => {
             csv_record.push_field(b"stem")?;
-            push_text(alloc, csv_record, stem)
+            push_text(&mut String::new(alloc), csv_record, stem)
         }
         Outcome::Refused(fault) => {
             csv_record.push_field(b"refused")?;

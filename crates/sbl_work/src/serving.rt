@@ -4,14 +4,13 @@ ghost use Rattle.std.specs.Io.KnownBytes.{Appends};
 ghost use Rattle.std.specs.Prelude.{◌≡◌, ◌≤◌, ℕ, List, [], IfErr, IfOk, None, OnOk, Some, Err, string_bytes, take};
 ghost use Rattle.sbl_bench.specs.Kept.{contents_of};
 ghost use Rattle.sbl_io.specs.Devices.{HasStopped, WritesInTime};
-ghost use Rattle.sbl_io.specs.Faults.{left_by};
-ghost use Rattle.sbl_io.specs.Held.{HasReason, IsDrained, KeepsTime, StaysEnded, TakesFeeds, fault_of, fuel_of, input_of, line_of, reads_bound};
+ghost use Rattle.sbl_io.specs.Held.{KeepsTime, Reading, fault_of, input_of, line_of};
 ghost use Rattle.sbl_sessions.specs.CommandViews.{IsReply};
 ghost use Rattle.sbl_sessions.specs.Session.{Ends};
 ghost use Rattle.sbl_work.specs.Answering.{BreaksWork, IsWorkAnswered};
 ghost use Rattle.sbl_work.specs.Commands as spec;
 ghost use Rattle.sbl_desk.specs.Desks.{state_of};
-ghost use Rattle.sbl_work.specs.ReplyViews.{FindsBlock, IsFileAnswer};
+ghost use Rattle.sbl_work.specs.ReplyViews.{IsFileAnswer};
 ghost use Rattle.sbl_work.specs.Serving as serving;
 ghost use Rattle.sbl_work.specs.Serving.{IsWork, with_prompt};
 ghost use Rattle.sbl_work.specs.WholeWork.{IsWholeWork, WorksOrMemory, status_of};
@@ -20,7 +19,7 @@ use crate::answers::answer_line;
 use crate::files::{OpenFault, Paths, open, save};
 use crate::parts::answer_block;
 use crate::replies::edit_reply;
-use crate::requests::{BlockRequest, Request, block_request, is_quit, request_of};
+use crate::requests::{Request, block_request, is_quit, request_of};
 use sbl_bench::{Bench, EditFault};
 use sbl_desk::Desk;
 use sbl_io::{Lines, ServeFault, Sink, Source, write_all};
@@ -116,33 +115,6 @@ fn answer_alone<F: Files + AllocGlobal>(
     }
 }
 
-/// Reads the block of the current line, for which `request` is found, makes the edit or the report, and returns the reply. If the
-/// block is not read to its end, makes no edit and returns the fault.
-fn answer_request<R: Source + Drop>(
-    desk: &mut Desk,
-    bench: &mut Bench,
-    lines: &mut Lines<R>,
-    request: BlockRequest,
-) -> Result<Reply, ServeFault>
-    requires asked { FindsBlock request (line_of lines.old) }
-    requires ready { fault_of lines.old ≡ None }
-    ensures answered { IfOk result (λ reply. IsWorkAnswered (input_of R.left lines.old) (input_of R.left lines.new) (line_of lines.old) (contents_of bench.old) (state_of desk.old) reply (contents_of bench.new) (state_of desk.new)) }
-    ensures broken { IfErr result (λ fault. BreaksWork (input_of R.left lines.old) (input_of R.left lines.new) (line_of lines.old) fault × (contents_of bench.new ≡ contents_of bench.old) × (state_of desk.new ≡ state_of desk.old)) }
-    ensures remembered { fault_of lines.new ≡ left_by result }
-    ensures drained { result ≡ Err ServeFault.Read → IsDrained lines.new }
-    ensures fuel { OnOk result (fuel_of lines.new ≤ fuel_of lines.old) }
-    ensures later { R.failures lines.old.reader ≤ R.failures lines.new.reader }
-    ensures stays { StaysEnded lines.old lines.new }
-    ensures feeds { OnOk result (TakesFeeds R.left lines.old lines.new) }
-    ensures steady { OnOk result (R.failures lines.new.reader ≡ R.failures lines.old.reader) }
-    ensures bound { reads_bound R.reads lines.new ≡ reads_bound R.reads lines.old }
-    ensures why { IfErr result (λ fault. HasReason R.failures R.interruptions R.reads lines.old lines.new fault) }
-    ensures in_time { KeepsTime R.ended R.late R.interruptions R.reads lines.old lines.new }
-{
-    let block = read_block(lines)?;
-    Ok(answer_block(lines.alloc(), desk, bench, request, block))
-}
-
 /// Makes the edit or the report that the current line asks for, with the block after it if it asks for one, and returns the
 /// reply. If the block is not read to its end, makes no edit and returns the fault.
 fn answer<F: Files + AllocGlobal, R: Source + Drop>(
@@ -154,20 +126,14 @@ fn answer<F: Files + AllocGlobal, R: Source + Drop>(
     requires ready { fault_of lines.old ≡ None }
     ensures answered { IfOk result (λ reply. IsWorkAnswered (input_of R.left lines.old) (input_of R.left lines.new) (line_of lines.old) (contents_of bench.old) (state_of desk.old) reply (contents_of bench.new) (state_of desk.new)) }
     ensures broken { IfErr result (λ fault. BreaksWork (input_of R.left lines.old) (input_of R.left lines.new) (line_of lines.old) fault × (contents_of bench.new ≡ contents_of bench.old) × (state_of desk.new ≡ state_of desk.old)) }
-    ensures remembered { fault_of lines.new ≡ left_by result }
-    ensures drained { result ≡ Err ServeFault.Read → IsDrained lines.new }
-    ensures fuel { OnOk result (fuel_of lines.new ≤ fuel_of lines.old) }
-    ensures later { R.failures lines.old.reader ≤ R.failures lines.new.reader }
-    ensures stays { StaysEnded lines.old lines.new }
-    ensures feeds { OnOk result (TakesFeeds R.left lines.old lines.new) }
-    ensures steady { OnOk result (R.failures lines.new.reader ≡ R.failures lines.old.reader) }
-    ensures bound { reads_bound R.reads lines.new ≡ reads_bound R.reads lines.old }
-    ensures why { IfErr result (λ fault. HasReason R.failures R.interruptions R.reads lines.old lines.new fault) }
-    ensures in_time { KeepsTime R.ended R.late R.interruptions R.reads lines.old lines.new }
+    ensures reading { Reading R.left R.tally lines.old lines.new result }
 {
     match block_request(lines.alloc(), lines.line()) {
-        Some(request) => answer_request(desk, bench, lines, request),
         None => Ok(answer_alone(folder, desk, bench, lines.alloc(), lines.line())),
+        Some(request) => {
+            let block = read_block(lines)?;
+            Ok(answer_block(lines.alloc(), desk, bench, request, block))
+        }
     }
 }
 
@@ -176,11 +142,11 @@ fn answer<F: Files + AllocGlobal, R: Source + Drop>(
 fn write_prompted<W: Sink>(writer: &mut W, reply: &Reply, prompt: &[u8]) -> Result<(), ServeFault>
     ensures all { OnOk result ((text : List ℕ) → IsReply reply.now text → Appends (W.held writer.old) (W.held writer.new) (with_prompt prompt.now text)) }
     ensures front { (text : List ℕ) → IsReply reply.now text → (n : ℕ) × Appends (W.held writer.old) (W.held writer.new) (take n (with_prompt prompt.now text)) }
-    ensures later { W.failures writer.old ≤ W.failures writer.new }
-    ensures steady { OnOk result (W.failures writer.new ≡ W.failures writer.old) }
-    ensures why { IfErr result (λ fault. (fault ≡ ServeFault.Write) × HasStopped W.failures W.interruptions writer.old writer.new) }
-    ensures in_time { WritesInTime W.late W.interruptions writer.old writer.new }
-    ensures rested { OnOk result (W.interruptions writer.old ≡ 0 → W.interruptions writer.new ≡ 0) }
+    ensures later { (W.tally writer.old).failures ≤ (W.tally writer.new).failures }
+    ensures steady { OnOk result ((W.tally writer.new).failures ≡ (W.tally writer.old).failures) }
+    ensures why { IfErr result (λ fault. (fault ≡ ServeFault.Write) × HasStopped W.tally writer.old writer.new) }
+    ensures in_time { WritesInTime W.tally writer.old writer.new }
+    ensures rested { OnOk result ((W.tally writer.old).interruptions ≡ 0 → (W.tally writer.new).interruptions ≡ 0) }
 {
     write_reply(writer, reply)?;
     write_all(writer, prompt)
@@ -202,9 +168,9 @@ fn serve<F: Files + AllocGlobal, R: Source + Drop, W: Sink>(
     writer: &mut W,
 ) -> Result<(), ServeFault>
     ensures work { fault_of lines.old ≡ None → IsWork prompt.now (input_of R.left lines.old) (input_of R.left lines.new) (W.held writer.old) (W.held writer.new) (contents_of bench.old) (state_of desk.old) (contents_of bench.new) (state_of desk.new) result }
-    ensures ends { Ends R.failures R.interruptions R.reads W.failures W.interruptions lines.old lines.new writer.old writer.new result }
-    ensures reads_in_time { KeepsTime R.ended R.late R.interruptions R.reads lines.old lines.new }
-    ensures writes_in_time { WritesInTime W.late W.interruptions writer.old writer.new }
+    ensures ends { Ends R.tally W.tally lines.old lines.new writer.old writer.new result }
+    ensures reads_in_time { KeepsTime R.tally lines.old lines.new }
+    ensures writes_in_time { WritesInTime W.tally writer.old writer.new }
 {
     write_all(writer, prompt)?;
     while lines.next_line()? {
@@ -219,7 +185,7 @@ fn serve<F: Files + AllocGlobal, R: Source + Drop, W: Sink>(
 
 /// Writes why there is no desk.
 fn write_fault<E: Sink>(alloc: Global, errors: &mut E, fault: &OpenFault)
-    ensures { WritesInTime E.late E.interruptions errors.old errors.new }
+    ensures { WritesInTime E.tally errors.old errors.new }
 {
     let line = match fault {
         OpenFault::File(path, error) => format!(in alloc; "snowbench: {path}: {error}\n"),
@@ -240,9 +206,9 @@ fn serve_bench<F: Files + AllocGlobal, R: Source + Drop, W: Sink>(
     lines: &mut Lines<R>,
     writer: &mut W,
 ) -> Result<(), ServeFault>
-    ensures works { fault_of lines.old ≡ None → WorksOrMemory (Ends R.failures R.interruptions R.reads W.failures W.interruptions lines.old lines.new writer.old writer.new) folder.old.seen.items prompt.now (input_of R.left lines.old) (input_of R.left lines.new) (W.held writer.old) (W.held writer.new) (contents_of bench.old) result }
-    ensures reads_in_time { KeepsTime R.ended R.late R.interruptions R.reads lines.old lines.new }
-    ensures writes_in_time { WritesInTime W.late W.interruptions writer.old writer.new }
+    ensures works { fault_of lines.old ≡ None → WorksOrMemory (Ends R.tally W.tally lines.old lines.new writer.old writer.new) folder.old.seen.items prompt.now (input_of R.left lines.old) (input_of R.left lines.new) (W.held writer.old) (W.held writer.new) (contents_of bench.old) result }
+    ensures reads_in_time { KeepsTime R.tally lines.old lines.new }
+    ensures writes_in_time { WritesInTime W.tally writer.old writer.new }
 {
     let text = Vec::from_slice(lines.alloc(), folder.seen.as_slice())?;
     let mut desk = Desk::new(lines.alloc(), bench, text)?;
@@ -265,9 +231,9 @@ fn work_on<F: Files + AllocGlobal, R: Source + Drop, W: Sink>(
     lines: &mut Lines<R>,
     writer: &mut W,
 ) -> Result<(), OpenFault>
-    ensures works { fault_of lines.old ≡ None → IsWholeWork (Ends R.failures R.interruptions R.reads W.failures W.interruptions lines.old lines.new writer.old writer.new) (string_bytes paths.now.external) (serving.prompt_of prompts) (input_of R.left lines.old) (input_of R.left lines.new) (W.held writer.old) (W.held writer.new) (status_of result) }
-    ensures reads_in_time { KeepsTime R.ended R.late R.interruptions R.reads lines.old lines.new }
-    ensures writes_in_time { WritesInTime W.late W.interruptions writer.old writer.new }
+    ensures works { fault_of lines.old ≡ None → IsWholeWork (Ends R.tally W.tally lines.old lines.new writer.old writer.new) (string_bytes paths.now.external) (serving.prompt_of prompts) (input_of R.left lines.old) (input_of R.left lines.new) (W.held writer.old) (W.held writer.new) (status_of result) }
+    ensures reads_in_time { KeepsTime R.tally lines.old lines.new }
+    ensures writes_in_time { WritesInTime W.tally writer.old writer.new }
 {
     let (mut bench, seen) = open(files, keys, paths)?;
     let mut folder = Folder { files, paths, seen };
@@ -294,12 +260,12 @@ pub fn work<F: Files + AllocGlobal, R: Source + Drop, W: Sink, E: Sink>(
     writer: &mut W,
     errors: &mut E,
 ) -> u8
-    ensures works { fault_of lines.old ≡ None → IsWholeWork (Ends R.failures R.interruptions R.reads W.failures W.interruptions lines.old lines.new writer.old writer.new) (string_bytes paths.now.external) (serving.prompt_of prompts) (input_of R.left lines.old) (input_of R.left lines.new) (W.held writer.old) (W.held writer.new) result }
+    ensures works { fault_of lines.old ≡ None → IsWholeWork (Ends R.tally W.tally lines.old lines.new writer.old writer.new) (string_bytes paths.now.external) (serving.prompt_of prompts) (input_of R.left lines.old) (input_of R.left lines.new) (W.held writer.old) (W.held writer.new) result }
     ensures quiet { result ≡ 0 → E.held errors.new ≡ E.held errors.old }
     ensures status { result ≤ 1 }
-    ensures reads_in_time { KeepsTime R.ended R.late R.interruptions R.reads lines.old lines.new }
-    ensures writes_in_time { WritesInTime W.late W.interruptions writer.old writer.new }
-    ensures errors_in_time { WritesInTime E.late E.interruptions errors.old errors.new }
+    ensures reads_in_time { KeepsTime R.tally lines.old lines.new }
+    ensures writes_in_time { WritesInTime W.tally writer.old writer.new }
+    ensures errors_in_time { WritesInTime E.tally errors.old errors.new }
 {
     match work_on(files, keys, paths, prompts, lines, writer) {
         Ok(()) => 0,

@@ -21,7 +21,7 @@ use Rattle.snowbench.specs.Stemmed.{IsStemmed}
 use Rattle.snowbench.specs.Program.{IsAnswer, IsReported, IsWritten, fault_line}
 use Rattle.snowbench.specs.declared.command_line.Verb.{Verb}
 use Rattle.snowbench.specs.declared.command_line.Verb.TheVariants as verb
-use Rattle.sbl_io.specs.Devices.{HasStopped}
+use Rattle.sbl_io.specs.Devices.{HasStopped, Tally}
 use Rattle.std.specs.Prelude.{◌==◌, IfErr, OnOk, if◌then◌else◌, take}
 use Rattle.std.specs.Io.KnownBytes.{Appends}
 
@@ -130,19 +130,19 @@ answer_work v e a h is = subst (λ (k : Verb). IsAnswer k e a a h h (Ok 0)) (sym
 
 -- ---- the report of an answer
 
-module _ {E : Type 0} (held : E → Option (List ℕ)) (failures row : E → ℕ) where
-  pub reported : (e : E) (status n : ℕ) (r : Result ℕ LoadFault) → r ≡ Ok n → status ≡ (if n == 0 then 0 else 1) → IsReported held failures row e e status r
-  reported e status n r is so = subst (λ (x : Result ℕ LoadFault). IsReported held failures row e e status x) (sym is) (so, Appends-nil (held e))
+module _ {E : Type 0} (held : E → Option (List ℕ)) (tally : E → Tally) where
+  pub reported : (e : E) (status n : ℕ) (r : Result ℕ LoadFault) → r ≡ Ok n → status ≡ (if n == 0 then 0 else 1) → IsReported held tally e e status r
+  reported e status n r is so = subst (λ (x : Result ℕ LoadFault). IsReported held tally e e status x) (sym is) (so, Appends-nil (held e))
 
   written : (e v : E) (bytes line : List ℕ) (r : Result (Unit {0}) ServeFault) → bytes ≡ line → OnOk r (Appends (held e) (held v) bytes)
-      → ((n : ℕ) × Appends (held e) (held v) (take n bytes)) → IfErr r (λ f. (f ≡ fault.Write) × HasStopped failures row e v)
-      → IsWritten held failures row e v line
+      → ((n : ℕ) × Appends (held e) (held v) (take n bytes)) → IfErr r (λ f. (f ≡ fault.Write) × HasStopped tally e v)
+      → IsWritten held tally e v line
   written e v bytes line (Ok u) is all front why = inl (subst (λ (t : List ℕ). Appends (held e) (held v) t) is all)
   written e v bytes line (Err f) is all front why =
       inr (front.0, subst (λ (t : List ℕ). Appends (held e) (held v) (take front.0 t)) is front.1, why.1)
 
   pub reported_fault : (e v : E) (f : LoadFault) (a : Result ℕ LoadFault) (text bytes : List ℕ) (r : Result (Unit {0}) ServeFault) → a ≡ Err f
       → bytes ≡ fault_line text → OnOk r (Appends (held e) (held v) bytes) → ((n : ℕ) × Appends (held e) (held v) (take n bytes))
-      → IfErr r (λ f. (f ≡ fault.Write) × HasStopped failures row e v) → IsReported held failures row e v 1 a
+      → IfErr r (λ f. (f ≡ fault.Write) × HasStopped tally e v) → IsReported held tally e v 1 a
   reported_fault e v f a text bytes r is line all front why =
-      subst (λ (x : Result ℕ LoadFault). IsReported held failures row e v 1 x) (sym is) (refl, text, written e v bytes (fault_line text) r line all front why)
+      subst (λ (x : Result ℕ LoadFault). IsReported held tally e v 1 x) (sym is) (refl, text, written e v bytes (fault_line text) r line all front why)

@@ -12,7 +12,7 @@ use Rattle.sbl_sessions.specs.Block.{BlockLines, Breaks}
 use Rattle.sbl_sessions.specs.Session.{Ends}
 use Rattle.sbl_sessions.specs.declared.faults.LoadFault.{LoadFault}
 use Rattle.sbl_sessions.specs.declared.faults.LoadFault.TheVariants.{Input}
-use Rattle.sbl_io.specs.Devices.{HasStopped}
+use Rattle.sbl_io.specs.Devices.{HasStopped, Tally}
 use Rattle.sbl_io.specs.Held.{HasCause, HasReason, fault_of, reads_bound}
 use Rattle.sbl_io.specs.LinesOf.{max_line}
 use Rattle.sbl_io.specs.declared.lines.Lines.{Lines}
@@ -66,24 +66,24 @@ ending_not_read (w ∷ ws) (x ∷ es) e =
 
 -- ---- reasons
 
-module _ {R W : Type 0} (failures row reads : R → ℕ) (write_failures write_row : W → ℕ) where
-  cause_later : (a b c : Lines R) → failures b.reader ≡ failures a.reader → reads_bound reads b ≡ reads_bound reads a → HasCause failures row reads b c
-      → HasCause failures row reads a c
-  cause_later a b c steady bound (inl more) = inl (subst (λ (n : ℕ). n < failures c.reader) steady more)
-  cause_later a b c steady bound (inr (inl most)) = inr (inl (subst (λ (n : ℕ). n ≤ reads c.reader) bound most))
+module _ {R W : Type 0} (reads : R → Tally) (writes : W → Tally) where
+  cause_later : (a b c : Lines R) → (reads b.reader).failures ≡ (reads a.reader).failures → reads_bound reads b ≡ reads_bound reads a → HasCause reads b c
+      → HasCause reads a c
+  cause_later a b c steady bound (inl more) = inl (subst (λ (n : ℕ). n < (reads c.reader).failures) steady more)
+  cause_later a b c steady bound (inr (inl most)) = inr (inl (subst (λ (n : ℕ). n ≤ (reads c.reader).reads) bound most))
   cause_later a b c steady bound (inr (inr many)) = inr (inr many)
 
   -- lines that were read without a fault before give no reason
-  pub reasons_later : (a b c : Lines R) (w v : W) (f : LoadFault) → failures b.reader ≡ failures a.reader → reads_bound reads b ≡ reads_bound reads a
-      → HasReasons failures row reads write_failures write_row b c w v f → HasReasons failures row reads write_failures write_row a c w v f
+  pub reasons_later : (a b c : Lines R) (w v : W) (f : LoadFault) → (reads b.reader).failures ≡ (reads a.reader).failures → reads_bound reads b ≡ reads_bound reads a
+      → HasReasons reads writes b c w v f → HasReasons reads writes a c w v f
   reasons_later a b c w v f steady bound why = (λ is. cause_later a b c steady bound (why.0 is), why.1)
 
   -- a fault of reading
-  pub read_reasons : (a b : Lines R) (w v : W) (f : ServeFault) → fault_of a ≡ None → HasReason failures row reads a b f → (f ≡ fault.Write → ⊥)
-      → HasReasons failures row reads write_failures write_row a b w v (Input f)
+  pub read_reasons : (a b : Lines R) (w v : W) (f : ServeFault) → fault_of a ≡ None → HasReason reads a b f → (f ≡ fault.Write → ⊥)
+      → HasReasons reads writes a b w v (Input f)
   read_reasons a b w v fault.Read none why other = (λ is. by (why refl), λ is. cc is)
     where
-      by : HasCause failures row reads a b ⊎ (fault_of a ≡ Some line.Read) → HasCause failures row reads a b
+      by : HasCause reads a b ⊎ (fault_of a ≡ Some line.Read) → HasCause reads a b
       by (inl cause) = cause
       by (inr some) = no_fault (fault_of a) line.Read none some
   read_reasons a b w v fault.Write none why other = absurd (other refl)
@@ -93,38 +93,38 @@ module _ {R W : Type 0} (failures row reads : R → ℕ) (write_failures write_r
   read_reasons a b w v fault.NotText none why other = (λ is. cc is, λ is. cc is)
   read_reasons a b w v fault.OutOfMemory none why other = (λ is. cc is, λ is. cc is)
 
-  load_reasons : (a b : Lines R) (w v : W) (f : LoadFault) → fault_of a ≡ None → load.HasReason failures row reads a b f → (f ≡ Input fault.Write → ⊥)
-      → HasReasons failures row reads write_failures write_row a b w v f
+  load_reasons : (a b : Lines R) (w v : W) (f : LoadFault) → fault_of a ≡ None → load.HasReason reads a b f → (f ≡ Input fault.Write → ⊥)
+      → HasReasons reads writes a b w v f
   load_reasons a b w v f none why other = (λ is. by (why is), λ is. absurd (other is))
     where
-      by : HasCause failures row reads a b ⊎ (fault_of a ≡ Some line.Read) → HasCause failures row reads a b
+      by : HasCause reads a b ⊎ (fault_of a ≡ Some line.Read) → HasCause reads a b
       by (inl cause) = cause
       by (inr some) = no_fault (fault_of a) line.Read none some
 
   -- there is no bench
   pub loaded_reasons : {B : Type 0} (a b : Lines R) (w v : W) (f : LoadFault) (old new : Option (List ℕ)) (external : List ℕ) (state : B → Contents)
-      → fault_of a ≡ None → load.HasReason failures row reads a b f → IsLoaded old new external state (Err f)
-      → HasReasons failures row reads write_failures write_row a b w v f
+      → fault_of a ≡ None → load.HasReason reads a b f → IsLoaded old new external state (Err f)
+      → HasReasons reads writes a b w v f
   loaded_reasons a b w v f old new external state none why loaded = load_reasons a b w v f none why (loaded_not_write old new external state f loaded)
 
   -- there is no text of a script
-  pub script_reasons : (a b : Lines R) (w v : W) (f : LoadFault) (old new : Option (List ℕ)) → fault_of a ≡ None → load.HasReason failures row reads a b f
-      → ReadsScript old new (Err f) → HasReasons failures row reads write_failures write_row a b w v f
+  pub script_reasons : (a b : Lines R) (w v : W) (f : LoadFault) (old new : Option (List ℕ)) → fault_of a ≡ None → load.HasReason reads a b f
+      → ReadsScript old new (Err f) → HasReasons reads writes a b w v f
   script_reasons a b w v f old new none why read = load_reasons a b w v f none why (script_not_write old new f read)
 
   -- there are no words, or no expected stems
-  pub words_reasons : (a b : Lines R) (w v : W) (f : ServeFault) (old new : Option (List ℕ)) → fault_of a ≡ None → HasReason failures row reads a b f
-      → ReadsWords old new (Err f) → HasReasons failures row reads write_failures write_row a b w v (Input f)
+  pub words_reasons : (a b : Lines R) (w v : W) (f : ServeFault) (old new : Option (List ℕ)) → fault_of a ≡ None → HasReason reads a b f
+      → ReadsWords old new (Err f) → HasReasons reads writes a b w v (Input f)
   words_reasons a b w v f old new none why read = read_reasons a b w v f none why (words_not_write old new f read)
 
-  pub expected_reasons : (a b : Lines R) (w v : W) (f : ServeFault) (old new : Option (List ℕ)) → fault_of a ≡ None → HasReason failures row reads a b f
-      → ReadsExpected old new (Err f) → HasReasons failures row reads write_failures write_row a b w v (Input f)
+  pub expected_reasons : (a b : Lines R) (w v : W) (f : ServeFault) (old new : Option (List ℕ)) → fault_of a ≡ None → HasReason reads a b f
+      → ReadsExpected old new (Err f) → HasReasons reads writes a b w v (Input f)
   expected_reasons a b w v f old new none why read = read_reasons a b w v f none why (expected_not_write old new f read)
 
   -- a fault of the comparison
   pub check_reasons : (a b : Lines R) (w v : W) (f : ServeFault) (s : Source) (words expected : List ℕ) (old new : Option (List ℕ))
-      → IsChecked s words expected old new (Err f) → (f ≡ fault.Write → HasStopped write_failures write_row w v)
-      → HasReasons failures row reads write_failures write_row a b w v (Input f)
+      → IsChecked s words expected old new (Err f) → (f ≡ fault.Write → HasStopped writes w v)
+      → HasReasons reads writes a b w v (Input f)
   check_reasons a b w v fault.Read s words expected old new checked stopped = absurd (ending_not_read _ _ checked.0)
   check_reasons a b w v fault.Write s words expected old new checked stopped = (λ is. cc is, λ is. stopped refl)
   check_reasons a b w v fault.LineTooLong s words expected old new checked stopped = (λ is. cc is, λ is. cc is)
@@ -134,18 +134,18 @@ module _ {R W : Type 0} (failures row reads : R → ℕ) (write_failures write_r
   check_reasons a b w v fault.OutOfMemory s words expected old new checked stopped = (λ is. cc is, λ is. cc is)
 
   pub check_result_reasons : (a b : Lines R) (w v : W) (r : Result ℕ ServeFault) (s : Source) (words expected : List ℕ) (old new : Option (List ℕ))
-      → IsChecked s words expected old new r → IfErr r (λ f. f ≡ fault.Write → HasStopped write_failures write_row w v)
-      → IfErr r (λ f. HasReasons failures row reads write_failures write_row a b w v (Input f))
+      → IsChecked s words expected old new r → IfErr r (λ f. f ≡ fault.Write → HasStopped writes w v)
+      → IfErr r (λ f. HasReasons reads writes a b w v (Input f))
   check_result_reasons a b w v (Ok n) s words expected old new checked stopped = tt
   check_result_reasons a b w v (Err f) s words expected old new checked stopped = check_reasons a b w v f s words expected old new checked stopped
 
   -- a fault of a session from its bench on
-  pub serve_reasons : (a b c : Lines R) (w v : W) (f : ServeFault) → fault_of b ≡ None → failures b.reader ≡ failures a.reader
-      → reads_bound reads b ≡ reads_bound reads a → Ends failures row reads write_failures write_row b c w v (Err f)
-      → HasReasons failures row reads write_failures write_row a c w v (Input f)
+  pub serve_reasons : (a b c : Lines R) (w v : W) (f : ServeFault) → fault_of b ≡ None → (reads b.reader).failures ≡ (reads a.reader).failures
+      → reads_bound reads b ≡ reads_bound reads a → Ends reads writes b c w v (Err f)
+      → HasReasons reads writes a c w v (Input f)
   serve_reasons a b c w v fault.Read none steady bound ends = (λ is. by ends, λ is. cc is)
     where
-      by : HasCause failures row reads b c ⊎ (fault_of b ≡ Some line.Read) → HasCause failures row reads a c
+      by : HasCause reads b c ⊎ (fault_of b ≡ Some line.Read) → HasCause reads a c
       by (inl cause) = cause_later a b c steady bound cause
       by (inr some) = no_fault (fault_of b) line.Read none some
   serve_reasons a b c w v fault.Write none steady bound ends = (λ is. cc is, λ is. ends)

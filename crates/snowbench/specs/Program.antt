@@ -5,7 +5,7 @@ use Rattle.snowbench.specs.declared.command_line.Verb.{Verb}
 use Rattle.snowbench.specs.declared.command_line.Verb.TheVariants.{Session, Stem, Filter, Check, Work}
 use Rattle.sbl_sessions.specs.declared.faults.LoadFault.{LoadFault}
 use Rattle.sbl_sessions.specs.declared.faults.LoadFault.TheVariants.{Input}
-use Rattle.sbl_io.specs.Devices.{HasStopped}
+use Rattle.sbl_io.specs.Devices.{HasStopped, Tally}
 use Rattle.sbl_io.specs.Held.{HasCause}
 use Rattle.sbl_io.specs.declared.lines.Lines.{Lines}
 use Rattle.sbl_io.specs.declared.faults.ServeFault.TheVariants as fault
@@ -31,10 +31,9 @@ IsAnswer Work external input left held new_held result = (result ≡ Ok 0) × Ke
 -- ---- why it ends with a fault
 
 -- A fault of reading or writing is caused by the device or a limit.
-abbrev pub HasReasons : {R W : Type 0} → (R → ℕ) → (R → ℕ) → (R → ℕ) → (W → ℕ) → (W → ℕ) → Lines R → Lines R → W → W → LoadFault → Type 0
-HasReasons read_failures read_row reads write_failures write_row lines new_lines writer new_writer f =
-    (f ≡ Input fault.Read → HasCause read_failures read_row reads lines new_lines)
-    × (f ≡ Input fault.Write → HasStopped write_failures write_row writer new_writer)
+abbrev pub HasReasons : {R W : Type 0} → (R → Tally) → (W → Tally) → Lines R → Lines R → W → W → LoadFault → Type 0
+HasReasons reads writes lines new_lines writer new_writer f =
+    (f ≡ Input fault.Read → HasCause reads lines new_lines) × (f ≡ Input fault.Write → HasStopped writes writer new_writer)
 
 -- ---- the line of a fault, and the status
 
@@ -43,15 +42,15 @@ abbrev pub fault_line : List ℕ → List ℕ
 fault_line text = codes "snowbench: " ++ text ++ 10 ∷ []
 
 -- The line is written, or a prefix of it if the device stops.
-abbrev pub IsWritten : {E : Type 0} → (E → Option (List ℕ)) → (E → ℕ) → (E → ℕ) → E → E → List ℕ → Type 0
-IsWritten held failures row errors new_errors text =
+abbrev pub IsWritten : {E : Type 0} → (E → Option (List ℕ)) → (E → Tally) → E → E → List ℕ → Type 0
+IsWritten held tally errors new_errors text =
     Appends (held errors) (held new_errors) text
-    ⊎ ((n : ℕ) × Appends (held errors) (held new_errors) (take n text) × HasStopped failures row errors new_errors)
+    ⊎ ((n : ℕ) × Appends (held errors) (held new_errors) (take n text) × HasStopped tally errors new_errors)
 
 -- The status is 0 if there is neither a difference nor a fault, and 1 otherwise. A fault is one line in `errors`; without a
 -- fault nothing is written there.
-abbrev pub IsReported : {E : Type 0} → (E → Option (List ℕ)) → (E → ℕ) → (E → ℕ) → E → E → ℕ → Result ℕ LoadFault → Type 0
-IsReported held failures row errors new_errors status (Ok n) =
+abbrev pub IsReported : {E : Type 0} → (E → Option (List ℕ)) → (E → Tally) → E → E → ℕ → Result ℕ LoadFault → Type 0
+IsReported held tally errors new_errors status (Ok n) =
     (status ≡ (if n == 0 then 0 else 1)) × Appends (held errors) (held new_errors) []
-IsReported held failures row errors new_errors status (Err f) =
-    (status ≡ 1) × (text : List ℕ) × IsWritten held failures row errors new_errors (fault_line text)
+IsReported held tally errors new_errors status (Err f) =
+    (status ≡ 1) × (text : List ℕ) × IsWritten held tally errors new_errors (fault_line text)

@@ -6,6 +6,7 @@ ghost use Rattle.sbl_io.specs.Faults.{left_by};
 ghost use Rattle.sbl_io.specs.Held.{KeepsTime, HasReason, fault_of, input_of, reads_bound};
 ghost use Rattle.sbl_script.specs.Parsed.{source_of};
 ghost use Rattle.sbl_sessions.specs.declared.faults.LoadFault.{LoadFault};
+ghost use Rattle.snowbench.specs.Answering.{Answering};
 ghost use Rattle.snowbench.specs.Program.{HasReasons, IsAnswer, IsReported, fault_line};
 ghost use Rattle.snowbench.specs.Stemmed.{IsStemmed};
 ghost use Rattle.snowbench.specs.WholeCheck.{ChecksLists, IsWholeCheck, ReadsExpected, ReadsWords};
@@ -47,12 +48,12 @@ pub fn run<R: Source + Drop, W: Sink, E: Sink>(
     errors: &mut E,
 ) -> u8
     ensures runs { fault_of lines.old ≡ None → (answer : Result ℕ LoadFault) × IsAnswer command_line.now.verb (string_bytes command_line.now.external) (input_of R.left lines.old) (input_of R.left lines.new) (W.held writer.old) (W.held writer.new) answer
-        × IfErr answer (λ fault. HasReasons R.failures R.interruptions R.reads W.failures W.interruptions lines.old lines.new writer.old writer.new fault)
-        × IsReported E.held E.failures E.interruptions errors.old errors.new result answer }
+        × IfErr answer (λ fault. HasReasons R.tally W.tally lines.old lines.new writer.old writer.new fault)
+        × IsReported E.held E.tally errors.old errors.new result answer }
     ensures status { result ≤ 1 }
-    ensures reads_in_time { KeepsTime R.ended R.late R.interruptions R.reads lines.old lines.new }
-    ensures writes_in_time { WritesInTime W.late W.interruptions writer.old writer.new }
-    ensures errors_in_time { WritesInTime E.late E.interruptions errors.old errors.new }
+    ensures reads_in_time { KeepsTime R.tally lines.old lines.new }
+    ensures writes_in_time { WritesInTime W.tally writer.old writer.new }
+    ensures errors_in_time { WritesInTime E.tally errors.old errors.new }
 {
     match answer(command_line, keys, lines, writer) {
         Ok(0) => 0,
@@ -85,9 +86,7 @@ fn answer<R: Source + Drop, W: Sink>(
     writer: &mut W,
 ) -> Result<u64, LoadFault>
     ensures answers { fault_of lines.old ≡ None → IsAnswer command_line.now.verb (string_bytes command_line.now.external) (input_of R.left lines.old) (input_of R.left lines.new) (W.held writer.old) (W.held writer.new) result }
-    ensures why { fault_of lines.old ≡ None → IfErr result (λ fault. HasReasons R.failures R.interruptions R.reads W.failures W.interruptions lines.old lines.new writer.old writer.new fault) }
-    ensures reads_in_time { KeepsTime R.ended R.late R.interruptions R.reads lines.old lines.new }
-    ensures writes_in_time { WritesInTime W.late W.interruptions writer.old writer.new }
+    ensures answering { Answering R.tally W.tally lines.old lines.new writer.old writer.new result }
 {
     let external = command_line.external.as_str();
     match command_line.verb {
@@ -117,9 +116,7 @@ fn session<R: Source + Drop, W: Sink>(
     writer: &mut W,
 ) -> Result<(), LoadFault>
     ensures session { fault_of lines.old ≡ None → IsWholeSession (input_of R.left lines.old) (input_of R.left lines.new) external.now (W.held writer.old) (W.held writer.new) result }
-    ensures why { fault_of lines.old ≡ None → IfErr result (λ fault. HasReasons R.failures R.interruptions R.reads W.failures W.interruptions lines.old lines.new writer.old writer.new fault) }
-    ensures reads_in_time { KeepsTime R.ended R.late R.interruptions R.reads lines.old lines.new }
-    ensures writes_in_time { WritesInTime W.late W.interruptions writer.old writer.new }
+    ensures answering { Answering R.tally W.tally lines.old lines.new writer.old writer.new result }
 {
     let mut bench = load(lines, keys, external)?;
     let served = serve(&mut bench, lines, writer);
@@ -136,9 +133,7 @@ fn stem<R: Source + Drop, W: Sink>(
     writer: &mut W,
 ) -> Result<(), LoadFault>
     ensures stemmed { fault_of lines.old ≡ None → IsStemmed (input_of R.left lines.old) (input_of R.left lines.new) external.now (W.held writer.old) (W.held writer.new) result }
-    ensures why { fault_of lines.old ≡ None → IfErr result (λ fault. HasReasons R.failures R.interruptions R.reads W.failures W.interruptions lines.old lines.new writer.old writer.new fault) }
-    ensures reads_in_time { KeepsTime R.ended R.late R.interruptions R.reads lines.old lines.new }
-    ensures writes_in_time { WritesInTime W.late W.interruptions writer.old writer.new }
+    ensures answering { Answering R.tally W.tally lines.old lines.new writer.old writer.new result }
 {
     let bench = load(lines, keys, external)?;
     let text = stems_text(lines.alloc(), &bench);
@@ -155,15 +150,10 @@ fn check_input<R: Source + Drop, W: Sink>(
     writer: &mut W,
 ) -> Result<u64, LoadFault>
     ensures checked { fault_of lines.old ≡ None → IsWholeCheck (input_of R.left lines.old) (input_of R.left lines.new) external.now (W.held writer.old) (W.held writer.new) result }
-    ensures why { fault_of lines.old ≡ None → IfErr result (λ fault. HasReasons R.failures R.interruptions R.reads W.failures W.interruptions lines.old lines.new writer.old writer.new fault) }
-    ensures reads_in_time { KeepsTime R.ended R.late R.interruptions R.reads lines.old lines.new }
-    ensures writes_in_time { WritesInTime W.late W.interruptions writer.old writer.new }
+    ensures answering { Answering R.tally W.tally lines.old lines.new writer.old writer.new result }
 {
     let text = read_script(lines)?;
-    let script = match Script::parse(lines.alloc(), &text, external) {
-        Ok(script) => script,
-        Err(fault) => return Err(LoadFault::Script(fault)),
-    };
+    let script = Script::parse(lines.alloc(), &text, external)?;
     let differences = check_lists(lines, &script, writer);
     script.discard();
     Ok(differences?)
@@ -177,9 +167,9 @@ fn check_lists<R: Source + Drop, W: Sink>(
     writer: &mut W,
 ) -> Result<u64, ServeFault>
     ensures checked { fault_of lines.old ≡ None → ChecksLists (source_of script.now) (input_of R.left lines.old) (input_of R.left lines.new) (W.held writer.old) (W.held writer.new) result }
-    ensures why { fault_of lines.old ≡ None → IfErr result (λ fault. HasReasons R.failures R.interruptions R.reads W.failures W.interruptions lines.old lines.new writer.old writer.new (LoadFault.Input fault)) }
-    ensures reads_in_time { KeepsTime R.ended R.late R.interruptions R.reads lines.old lines.new }
-    ensures writes_in_time { WritesInTime W.late W.interruptions writer.old writer.new }
+    ensures why { fault_of lines.old ≡ None → IfErr result (λ fault. HasReasons R.tally W.tally lines.old lines.new writer.old writer.new (LoadFault.Input fault)) }
+    ensures reads_in_time { KeepsTime R.tally lines.old lines.new }
+    ensures writes_in_time { WritesInTime W.tally writer.old writer.new }
 {
     let words = read_words(lines)?;
     let expected = read_expected(lines)?;
@@ -191,10 +181,10 @@ fn check_lists<R: Source + Drop, W: Sink>(
 fn read_words<R: Source + Drop>(lines: &mut Lines<R>) -> Result<Vec<u8>, ServeFault>
     ensures reads { fault_of lines.old ≡ None → ReadsWords (input_of R.left lines.old) (input_of R.left lines.new) result }
     ensures remembered { fault_of lines.new ≡ left_by result }
-    ensures steady { OnOk result (R.failures lines.new.reader ≡ R.failures lines.old.reader) }
-    ensures bound { reads_bound R.reads lines.new ≡ reads_bound R.reads lines.old }
-    ensures why { IfErr result (λ fault. HasReason R.failures R.interruptions R.reads lines.old lines.new fault) }
-    ensures in_time { KeepsTime R.ended R.late R.interruptions R.reads lines.old lines.new }
+    ensures steady { OnOk result ((R.tally lines.new.reader).failures ≡ (R.tally lines.old.reader).failures) }
+    ensures bound { reads_bound R.tally lines.new ≡ reads_bound R.tally lines.old }
+    ensures why { IfErr result (λ fault. HasReason R.tally lines.old lines.new fault) }
+    ensures in_time { KeepsTime R.tally lines.old lines.new }
 {
     let mut text = Vec::new(lines.alloc());
     while lines.next_line()? {
@@ -209,8 +199,8 @@ fn read_words<R: Source + Drop>(lines: &mut Lines<R>) -> Result<Vec<u8>, ServeFa
 /// Reads the lines up to the end of input and returns them, each as `push_line` appends it.
 fn read_expected<R: Source + Drop>(lines: &mut Lines<R>) -> Result<Vec<u8>, ServeFault>
     ensures reads { fault_of lines.old ≡ None → ReadsExpected (input_of R.left lines.old) (input_of R.left lines.new) result }
-    ensures why { IfErr result (λ fault. HasReason R.failures R.interruptions R.reads lines.old lines.new fault) }
-    ensures in_time { KeepsTime R.ended R.late R.interruptions R.reads lines.old lines.new }
+    ensures why { IfErr result (λ fault. HasReason R.tally lines.old lines.new fault) }
+    ensures in_time { KeepsTime R.tally lines.old lines.new }
 {
     let mut stems = Vec::new(lines.alloc());
     while lines.next_line()? {

@@ -9,9 +9,9 @@ abbrev pub invariant-loop-word : goal.invariant-loop-word
 invariant-loop-word g l = record {
   made : IsLinkedMachineOf l.machine (source_of l.script);
   compared : Compared (source_of l.script) l.words l.expected l.words_left l.expected_left (l.number + 1) l.differences (g.W.Sink.held l.fn.writer) (g.W.Sink.held l.writer);
-  steady : g.W.Sink.failures l.writer ≡ g.W.Sink.failures l.fn.writer;
-  writes : WritesInTime g.W.Sink.late g.W.Sink.interruptions l.fn.writer l.writer;
-  rested : g.W.Sink.interruptions l.fn.writer ≡ 0 → g.W.Sink.interruptions l.writer ≡ 0;
+  steady : (g.W.Sink.tally l.writer).failures ≡ (g.W.Sink.tally l.fn.writer).failures;
+  writes : WritesInTime g.W.Sink.tally l.fn.writer l.writer;
+  rested : (g.W.Sink.tally l.fn.writer).interruptions ≡ 0 → (g.W.Sink.tally l.writer).interruptions ≡ 0;
   numbered : l.number + length l.words_left ≤ length l.words;
   few : l.differences ≤ l.number;
 }

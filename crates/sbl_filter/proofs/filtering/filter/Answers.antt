@@ -21,8 +21,10 @@ returns-in_err-text-clause-again g c = λ fault is.
     let before = c.read_script.ensures.again fault is in
     (search (rules, before.0), before.1, Keeps-refl (g.W.Sink.held c.args.writer.now))
 
-pub returns-in-Err-clause-filtered : goal.returns-in-Err-clause-filtered
-returns-in-Err-clause-filtered g c = λ none. (
-  script_refused _ _ c.in_ok-text.text c.deref.result.now c.args.external.now c.in-Err.fault (c.in_ok-text.ensures.reads none) c.deref.ensures.value c.in-Err.ensures.fault,
-  Appends-nil (g.W.Sink.held c.args.writer.now),
-)
+pub returns-in_err-script-clause-filtered : goal.returns-in_err-script-clause-filtered
+returns-in_err-script-clause-filtered g c = λ none.
+    let p = err_from_is_err_and c.from_residual-in_err-script.result c.from_residual-in_err-script.ensures.1 in
+    rw (p.1, p.2) (
+      script_refused _ _ c.in_ok-text.text c.deref.result.now c.args.external.now c.in_err-script.field-0.0 (c.in_ok-text.ensures.reads none) c.deref.ensures.value c.in_err-script.ensures.fault,
+      Appends-nil (g.W.Sink.held c.args.writer.now),
+    )

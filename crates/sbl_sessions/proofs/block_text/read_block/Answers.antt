@@ -22,10 +22,21 @@ returns-then-eq-clause-reads g c = λ _.
     subst (λ (x : List ℕ). GivesLine (input_of left c.loop-text.lines) (input_of left c.next_line.new.self) x) line (c.in_ok-next_line.ensures.more c.if-branch.true) in
     (so.0, (so.1, took-trans _ (input_of left c.loop-text.lines) _ so.0 (point ∷ []) so.2 gives), so.3)
 
-pub returns-then-eq-clause-feeds : goal.returns-then-eq-clause-feeds
-returns-then-eq-clause-feeds g c = λ untold.
+pub returns-then-eq-clause-reading : goal.returns-then-eq-clause-reading
+returns-then-eq-clause-reading g c =
     let so = c.loop-text.invariant in
-    whole_trans _ (input_of g.R.Source.left c.loop-text.lines) _ (so.10 (c.next_line.ensures.stays untold)) (c.in_ok-next_line.ensures.feeds c.if-branch.true untold)
+    record {
+      remembered = c.in_ok-next_line.ensures.ready.1;
+      drained = λ is. cc is;
+      fuel = omega (arith, so.7, c.in_ok-next_line.ensures.falls c.if-branch.true);
+      later = omega (arith, so.5, c.next_line.ensures.later);
+      stays = λ untold. so.9 (c.next_line.ensures.stays untold);
+      feeds = λ untold. whole_trans _ (input_of g.R.Source.left c.loop-text.lines) _ (so.10 (c.next_line.ensures.stays untold)) (c.in_ok-next_line.ensures.feeds c.if-branch.true untold);
+      steady = c.in_ok-next_line.ensures.steady ∙ so.5;
+      bound = c.next_line.ensures.bound ∙ so.6;
+      why = tt;
+      in_time = λ timely. c.next_line.ensures.in_time (so.11 timely);
+    }
 
 pub loop-text-preserved : goal.loop-text-preserved
 loop-text-preserved g c =

@@ -6,11 +6,11 @@ use Rattle.sbl_sessions.proofs.block_text.read_block.Given as goal
 
 abbrev pub invariant-loop-text : goal.invariant-loop-text
 invariant-loop-text g l = (taken : List (List ℕ)) × BlockLines taken × Took (input_of g.R.Source.left l.fn.lines) (input_of g.R.Source.left l.lines) taken
-    × HoldsText l.text taken × (fault_of l.lines ≡ fault_of l.fn.lines) × (g.R.Source.failures l.lines.reader ≡ g.R.Source.failures l.fn.lines.reader)
-    × (reads_bound g.R.Source.reads l.lines ≡ reads_bound g.R.Source.reads l.fn.lines) × (fuel_of l.lines ≤ fuel_of l.fn.lines)
+    × HoldsText l.text taken × (fault_of l.lines ≡ fault_of l.fn.lines) × ((g.R.Source.tally l.lines.reader).failures ≡ (g.R.Source.tally l.fn.lines.reader).failures)
+    × (reads_bound g.R.Source.tally l.lines ≡ reads_bound g.R.Source.tally l.fn.lines) × (fuel_of l.lines ≤ fuel_of l.fn.lines)
     × (IsSome (fault_of l.fn.lines) → Keeps (input_of g.R.Source.left l.fn.lines) (input_of g.R.Source.left l.lines))
     × StaysEnded l.fn.lines l.lines × TakesFeeds g.R.Source.left l.fn.lines l.lines
-    × KeepsTime g.R.Source.ended g.R.Source.late g.R.Source.interruptions g.R.Source.reads l.fn.lines l.lines
+    × KeepsTime g.R.Source.tally l.fn.lines l.lines
 
 abbrev pub decreases-loop-text : goal.decreases-loop-text
 decreases-loop-text g l = fuel_of l.lines

@@ -19,23 +19,24 @@ returns-in_err-text-clause-loaded g c = λ none.
     let p = err_from_is_err_and c.from_residual.result c.from_residual.ensures.1 in
     rw (p.1, p.2) (script_unread (input_of left c.args.lines.now) _ c.args.external.now (λ b. contents_of b) c.in_err-text.field-0.0 (c.in_err-text.ensures.reads none))
 
+pub returns-in_err-script-clause-loaded : goal.returns-in_err-script-clause-loaded
+returns-in_err-script-clause-loaded g c = λ none.
+    let p = err_from_is_err_and c.from_residual-in_err-script.result c.from_residual-in_err-script.ensures.1 in
+    rw (p.1, p.2) (script_refused _ _ c.in_ok-text.text c.deref.result.now c.args.external.now c.in_err-script.field-0.0 (c.in_ok-text.ensures.reads none) c.deref.ensures.value c.in_err-script.ensures.fault)
+
 pub returns-in-Err-clause-loaded : goal.returns-in-Err-clause-loaded
 returns-in-Err-clause-loaded g c = λ none.
-    script_refused _ _ c.in_ok-text.text c.deref.result.now c.args.external.now c.in-Err.fault (c.in_ok-text.ensures.reads none) c.deref.ensures.value c.in-Err.ensures.fault
-
-pub returns-in-Err-read_words-clause-loaded : goal.returns-in-Err-read_words-clause-loaded
-returns-in-Err-read_words-clause-loaded g c = λ none.
     let left = g.R.Source.left in
-    let source = script_parsed _ _ c.in_ok-text.text c.deref.result.now c.args.external.now c.in-Ok.script (c.in_ok-text.ensures.reads none) c.deref.ensures.value c.in-Ok.ensures.script in
+    let source = script_parsed _ _ c.in_ok-text.text c.deref.result.now c.args.external.now c.in_ok-script.script (c.in_ok-text.ensures.reads none) c.deref.ensures.value c.in_ok-script.ensures.script in
     let ready = c.read_script.ensures.remembered ∙ ap left_by_load c.in_ok-text.was in
-    words_refused (input_of left c.args.lines.now) _ (input_of left c.read_words.new.lines) c.args.external.now (source_of c.in-Ok.script) (λ b. contents_of b) c.in-Err-read_words.fault
-    source (c.in-Err-read_words.ensures.reads ready)
+    words_refused (input_of left c.args.lines.now) _ (input_of left c.read_words.new.lines) c.args.external.now (source_of c.in_ok-script.script) (λ b. contents_of b) c.in-Err.fault
+    source (c.in-Err.ensures.reads ready)
 
 pub returns-clause-loaded : goal.returns-clause-loaded
 returns-clause-loaded g c = λ none.
     let left = g.R.Source.left in
-    let source = script_parsed _ _ c.in_ok-text.text c.deref.result.now c.args.external.now c.in-Ok.script (c.in_ok-text.ensures.reads none) c.deref.ensures.value c.in-Ok.ensures.script in
+    let source = script_parsed _ _ c.in_ok-text.text c.deref.result.now c.args.external.now c.in_ok-script.script (c.in_ok-text.ensures.reads none) c.deref.ensures.value c.in_ok-script.ensures.script in
     let ready = c.read_script.ensures.remembered ∙ ap left_by_load c.in_ok-text.was in
-    let reads = c.in-Ok-read_words.ensures.reads ready in
-    bench_refused (input_of left c.args.lines.now) _ (input_of left c.read_words.new.lines) c.args.external.now (source_of c.in-Ok.script) reads.0 (λ b. contents_of b) c.in-Err-open_words.fault
+    let reads = c.in-Ok.ensures.reads ready in
+    bench_refused (input_of left c.args.lines.now) _ (input_of left c.read_words.new.lines) c.args.external.now (source_of c.in_ok-script.script) reads.0 (λ b. contents_of b) c.in-Err-open_words.fault
     source reads.1 (c.in-Err-open_words.ensures (map chars reads.0) reads.2)

@@ -8,10 +8,10 @@ use Rattle.sbl_sessions.proofs.loading.read_words.Given as goal
 abbrev pub invariant-loop-words : goal.invariant-loop-words
 invariant-loop-words g l = (taken : List (List ℕ)) × NoPoint taken × AllText taken × Took (input_of g.R.Source.left l.fn.lines) (input_of g.R.Source.left l.lines) taken
     × HoldsWords l.words (map chars taken) × (fault_of l.lines ≡ fault_of l.fn.lines)
-    × (g.R.Source.failures l.fn.lines.reader ≤ g.R.Source.failures l.lines.reader)
-    × AllFit taken × (reads_bound g.R.Source.reads l.lines ≡ reads_bound g.R.Source.reads l.fn.lines)
-    × KeepsTime g.R.Source.ended g.R.Source.late g.R.Source.interruptions g.R.Source.reads l.fn.lines l.lines
-    × (g.R.Source.failures l.lines.reader ≡ g.R.Source.failures l.fn.lines.reader)
+    × ((g.R.Source.tally l.fn.lines.reader).failures ≤ (g.R.Source.tally l.lines.reader).failures)
+    × AllFit taken × (reads_bound g.R.Source.tally l.lines ≡ reads_bound g.R.Source.tally l.fn.lines)
+    × KeepsTime g.R.Source.tally l.fn.lines l.lines
+    × ((g.R.Source.tally l.lines.reader).failures ≡ (g.R.Source.tally l.fn.lines.reader).failures)
 
 abbrev pub decreases-loop-words : goal.decreases-loop-words
 decreases-loop-words g l = fuel_of l.lines

@@ -3,7 +3,7 @@ use Rattle.std.specs.List.{find}
 use Rattle.std.specs.Str.{bytes_eq, chars}
 use Rattle.sbl_bench.specs.Kept.{contents_of}
 use Rattle.sbl_bench.specs.Rows.{Row, view_row}
-use Rattle.sbl_sessions.specs.Answers.{Enough, IsReportOrAbsent, Memory}
+use Rattle.sbl_sessions.specs.Answers.{Enough, IsReport, Memory}
 use Rattle.sbl_sessions.specs.CommandViews.{IsReply}
 use Rattle.sbl_sessions.specs.Rows.{class_or_row_text, class_text, rows_now}
 use Rattle.sbl_sessions.proofs.FirstFacts.{looks, row_first, whole_of}
@@ -26,7 +26,7 @@ returns-in-Some c =
     let same : take 256 word ≡ word = whole_of s.setting s.words word row seen here in
     let made : IfOk c.class_or_row_text.result (λ t. t.items ≡ class_or_row_text s word row) =
     subst (λ (w : List ℕ). IfOk c.class_or_row_text.result (λ t. t.items ≡ class_or_row_text s w row)) (first ∙ same) c.class_or_row_text.ensures in
-    subst (λ (o : Option (List ℕ)). (memory : Memory) × (text : List ℕ) × IsReply c.report.result text × IsReportOrAbsent s o memory text s) (sym text)
+    subst (λ (o : Option (List ℕ)). (memory : Memory) × (text : List ℕ) × IsReply c.report.result text × IsReport s o memory text s) (sym text)
     (report_answer c.class_or_row_text.result c.report.result s (class_or_row_text s word row) made c.report.ensures.made c.report.ensures.refused)
 
 pub returns-in-None : goal.returns-in-None
@@ -41,4 +41,4 @@ returns-in-None c =
     let here : None ≡ find (λ (r : Row). bytes_eq word r.word) (rows_now s) = cut ∙ row_first s.setting s.words word (looks s.words c.words_fit.ensures word) in
     let text : class_text s word ≡ None = class_text_is s word None (sym here) in
     let told = c.edit_text.result.now in
-    subst (λ (o : Option (List ℕ)). (memory : Memory) × (text : List ℕ) × (told ≡ text) × IsReportOrAbsent s o memory text s) (sym text) (Enough, told, refl, (c.edit_text.ensures, refl))
+    subst (λ (o : Option (List ℕ)). (memory : Memory) × (text : List ℕ) × (told ≡ text) × IsReport s o memory text s) (sym text) (Enough, told, refl, (c.edit_text.ensures, refl))

@@ -24,16 +24,16 @@ loop-bench-preserved-in_ok-write_reply g c = record {
   session =
       session_goes_on _ (input_of g.R.Source.left c.loop-bench.lines) (input_of g.R.Source.left c.next_line.new.self) _ _ (g.W.Sink.held c.loop-bench.writer) _ _ (contents_of c.loop-bench.bench) _ _ c.in_ok-reply.reply
       c.loop-bench.invariant.session (c.in_ok-next_line.ensures.more c.if-branch.true) (c.in_ok-next_line.ensures.fits c.if-branch.true) c.in_ok-reply.ensures.answered c.in_ok-write_reply.ensures.all;
-  fault = c.in_ok-reply.ensures.remembered ∙ sym c.in_ok-next_line.ensures.ready.0 ∙ c.loop-bench.invariant.fault;
+  fault = c.in_ok-reply.ensures.reading.remembered ∙ sym c.in_ok-next_line.ensures.ready.0 ∙ c.loop-bench.invariant.fault;
   feeds = λ untold.
-      let before = c.answer.ensures.stays untold in
+      let before = c.answer.ensures.reading.stays untold in
       whole_trans _ (input_of g.R.Source.left c.loop-bench.lines) _ (c.loop-bench.invariant.feeds (c.next_line.ensures.stays before))
-      (whole_trans _ (input_of g.R.Source.left c.next_line.new.self) _ (c.in_ok-next_line.ensures.feeds c.if-branch.true before) (c.in_ok-reply.ensures.feeds untold));
-  read = c.in_ok-reply.ensures.steady ∙ c.in_ok-next_line.ensures.steady ∙ c.loop-bench.invariant.read;
+      (whole_trans _ (input_of g.R.Source.left c.next_line.new.self) _ (c.in_ok-next_line.ensures.feeds c.if-branch.true before) (c.in_ok-reply.ensures.reading.feeds untold));
+  read = c.in_ok-reply.ensures.reading.steady ∙ c.in_ok-next_line.ensures.steady ∙ c.loop-bench.invariant.read;
   written = c.in_ok-write_reply.ensures.steady ∙ c.loop-bench.invariant.written;
-  bound = c.answer.ensures.bound ∙ c.next_line.ensures.bound ∙ c.loop-bench.invariant.bound;
+  bound = c.answer.ensures.reading.bound ∙ c.next_line.ensures.bound ∙ c.loop-bench.invariant.bound;
   untouched = λ some. absurd (no_fault (sym c.loop-bench.invariant.fault ∙ c.in_ok-next_line.ensures.ready.0) some);
-  reads = λ timely. c.answer.ensures.in_time (c.next_line.ensures.in_time (c.loop-bench.invariant.reads timely));
+  reads = λ timely. c.answer.ensures.reading.in_time (c.next_line.ensures.in_time (c.loop-bench.invariant.reads timely));
   writes = λ fair rest. c.write_reply.ensures.in_time (c.loop-bench.invariant.writes fair rest) (c.loop-bench.invariant.rested rest);
   rested = λ rest. c.in_ok-write_reply.ensures.rested (c.loop-bench.invariant.rested rest);
 }
@@ -43,16 +43,16 @@ loop-bench-preserved g c = record {
   session =
       session_goes_on _ (input_of g.R.Source.left c.loop-bench.lines) (input_of g.R.Source.left c.next_line.new.self) _ _ (g.W.Sink.held c.loop-bench.writer) _ _ (contents_of c.loop-bench.bench) _ _ c.in_ok-reply.reply
       c.loop-bench.invariant.session (c.in_ok-next_line.ensures.more c.if-branch.true) (c.in_ok-next_line.ensures.fits c.if-branch.true) c.in_ok-reply.ensures.answered c.in_ok-write_reply.ensures.all;
-  fault = c.in_ok-reply.ensures.remembered ∙ sym c.in_ok-next_line.ensures.ready.0 ∙ c.loop-bench.invariant.fault;
+  fault = c.in_ok-reply.ensures.reading.remembered ∙ sym c.in_ok-next_line.ensures.ready.0 ∙ c.loop-bench.invariant.fault;
   feeds = λ untold.
-      let before = c.answer.ensures.stays untold in
+      let before = c.answer.ensures.reading.stays untold in
       whole_trans _ (input_of g.R.Source.left c.loop-bench.lines) _ (c.loop-bench.invariant.feeds (c.next_line.ensures.stays before))
-      (whole_trans _ (input_of g.R.Source.left c.next_line.new.self) _ (c.in_ok-next_line.ensures.feeds c.if-branch.true before) (c.in_ok-reply.ensures.feeds untold));
-  read = c.in_ok-reply.ensures.steady ∙ c.in_ok-next_line.ensures.steady ∙ c.loop-bench.invariant.read;
+      (whole_trans _ (input_of g.R.Source.left c.next_line.new.self) _ (c.in_ok-next_line.ensures.feeds c.if-branch.true before) (c.in_ok-reply.ensures.reading.feeds untold));
+  read = c.in_ok-reply.ensures.reading.steady ∙ c.in_ok-next_line.ensures.steady ∙ c.loop-bench.invariant.read;
   written = c.in_ok-write_reply.ensures.steady ∙ c.loop-bench.invariant.written;
-  bound = c.answer.ensures.bound ∙ c.next_line.ensures.bound ∙ c.loop-bench.invariant.bound;
+  bound = c.answer.ensures.reading.bound ∙ c.next_line.ensures.bound ∙ c.loop-bench.invariant.bound;
   untouched = λ some. absurd (no_fault (sym c.loop-bench.invariant.fault ∙ c.in_ok-next_line.ensures.ready.0) some);
-  reads = λ timely. c.answer.ensures.in_time (c.next_line.ensures.in_time (c.loop-bench.invariant.reads timely));
+  reads = λ timely. c.answer.ensures.reading.in_time (c.next_line.ensures.in_time (c.loop-bench.invariant.reads timely));
   writes = λ fair rest. c.write_reply.ensures.in_time (c.loop-bench.invariant.writes fair rest) (c.loop-bench.invariant.rested rest);
   rested = λ rest. c.in_ok-write_reply.ensures.rested (c.loop-bench.invariant.rested rest);
 }
@@ -79,7 +79,7 @@ returns-in_err-reply-clause-session g c = λ _.
     let p = err_from_is_err_and c.from_residual-in_err-reply.result c.from_residual-in_err-reply.ensures.1 in
     let broken = c.in_err-reply.ensures.broken in
     let whole : f ≡ fault.Read → TookWhole (input_of left c.args.lines.now) (input_of left c.loop-bench.lines) =
-    λ is. c.loop-bench.invariant.feeds (c.next_line.ensures.stays (c.answer.ensures.stays (c.in_err-reply.ensures.drained (ap (λ (x : ServeFault). Err x) is)).1)) in
+    λ is. c.loop-bench.invariant.feeds (c.next_line.ensures.stays (c.answer.ensures.reading.stays (c.in_err-reply.ensures.reading.drained (ap (λ (x : ServeFault). Err x) is) c.in_ok-next_line.ensures.ready.1).1)) in
     rw (p.1, p.2)
     (subst (λ (x : Contents). IsSession (input_of left c.args.lines.now) (input_of left c.answer.new.lines) (held c.args.writer.now) (held c.loop-bench.writer) (contents_of c.args.bench.now) x (Err f)) (sym broken.1)
     (session_open _ (input_of left c.loop-bench.lines) (input_of left c.next_line.new.self) _ _ _ _ _ (line_of c.next_line.new.self) f c.loop-bench.invariant.session

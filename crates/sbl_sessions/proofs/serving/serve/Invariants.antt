@@ -11,14 +11,14 @@ invariant-loop-bench g l = record {
   session : Served (input_of g.R.Source.left l.fn.lines) (input_of g.R.Source.left l.lines) (g.W.Sink.held l.fn.writer) (g.W.Sink.held l.writer) (contents_of l.fn.bench) (contents_of l.bench);
   fault : fault_of l.lines ≡ fault_of l.fn.lines;
   feeds : TakesFeeds g.R.Source.left l.fn.lines l.lines;
-  read : g.R.Source.failures l.lines.reader ≡ g.R.Source.failures l.fn.lines.reader;
-  written : g.W.Sink.failures l.writer ≡ g.W.Sink.failures l.fn.writer;
-  bound : reads_bound g.R.Source.reads l.lines ≡ reads_bound g.R.Source.reads l.fn.lines;
+  read : (g.R.Source.tally l.lines.reader).failures ≡ (g.R.Source.tally l.fn.lines.reader).failures;
+  written : (g.W.Sink.tally l.writer).failures ≡ (g.W.Sink.tally l.fn.writer).failures;
+  bound : reads_bound g.R.Source.tally l.lines ≡ reads_bound g.R.Source.tally l.fn.lines;
   untouched : IsSome (fault_of l.fn.lines) → (contents_of l.bench ≡ contents_of l.fn.bench) × Keeps (g.W.Sink.held l.fn.writer) (g.W.Sink.held l.writer)
       × Keeps (input_of g.R.Source.left l.fn.lines) (input_of g.R.Source.left l.lines);
-  reads : KeepsTime g.R.Source.ended g.R.Source.late g.R.Source.interruptions g.R.Source.reads l.fn.lines l.lines;
-  writes : WritesInTime g.W.Sink.late g.W.Sink.interruptions l.fn.writer l.writer;
-  rested : g.W.Sink.interruptions l.fn.writer ≡ 0 → g.W.Sink.interruptions l.writer ≡ 0;
+  reads : KeepsTime g.R.Source.tally l.fn.lines l.lines;
+  writes : WritesInTime g.W.Sink.tally l.fn.writer l.writer;
+  rested : (g.W.Sink.tally l.fn.writer).interruptions ≡ 0 → (g.W.Sink.tally l.writer).interruptions ≡ 0;
 }
 
 abbrev pub decreases-loop-bench : goal.decreases-loop-bench

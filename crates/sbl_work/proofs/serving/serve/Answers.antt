@@ -37,15 +37,15 @@ loop-lines-preserved-in_ok-write_prompted g c =
       work =
           work_goes_on _ _ (input_of left c.loop-lines.lines) (input_of left c.next_line.new.self) _ _ (g.W.Sink.held c.loop-lines.writer) _ _ (contents_of c.loop-lines.bench) _ _ (state_of c.loop-lines.desk) _ _ c.in_ok-reply.reply
           c.loop-lines.invariant.work (c.in_ok-next_line.ensures.more c.if-branch.true) (c.in_ok-next_line.ensures.fits c.if-branch.true) other c.in_ok-reply.ensures.answered c.in_ok-write_prompted.ensures.all;
-      fault = c.in_ok-reply.ensures.remembered ∙ sym c.in_ok-next_line.ensures.ready.0 ∙ c.loop-lines.invariant.fault;
+      fault = c.in_ok-reply.ensures.reading.remembered ∙ sym c.in_ok-next_line.ensures.ready.0 ∙ c.loop-lines.invariant.fault;
       feeds = λ untold.
-          let before = c.answer.ensures.stays untold in
+          let before = c.answer.ensures.reading.stays untold in
           whole_trans _ (input_of left c.loop-lines.lines) _ (c.loop-lines.invariant.feeds (c.next_line.ensures.stays before))
-          (whole_trans _ (input_of left c.next_line.new.self) _ (c.in_ok-next_line.ensures.feeds c.if-branch.true before) (c.in_ok-reply.ensures.feeds untold));
-      read = c.in_ok-reply.ensures.steady ∙ c.in_ok-next_line.ensures.steady ∙ c.loop-lines.invariant.read;
+          (whole_trans _ (input_of left c.next_line.new.self) _ (c.in_ok-next_line.ensures.feeds c.if-branch.true before) (c.in_ok-reply.ensures.reading.feeds untold));
+      read = c.in_ok-reply.ensures.reading.steady ∙ c.in_ok-next_line.ensures.steady ∙ c.loop-lines.invariant.read;
       written = c.in_ok-write_prompted.ensures.steady ∙ c.loop-lines.invariant.written;
-      bound = c.answer.ensures.bound ∙ c.next_line.ensures.bound ∙ c.loop-lines.invariant.bound;
-      reads = λ timely. c.answer.ensures.in_time (c.next_line.ensures.in_time (c.loop-lines.invariant.reads timely));
+      bound = c.answer.ensures.reading.bound ∙ c.next_line.ensures.bound ∙ c.loop-lines.invariant.bound;
+      reads = λ timely. c.answer.ensures.reading.in_time (c.next_line.ensures.in_time (c.loop-lines.invariant.reads timely));
       writes = λ fair rest. c.write_prompted.ensures.in_time (c.loop-lines.invariant.writes fair rest) (c.loop-lines.invariant.rested rest);
       rested = λ rest. c.in_ok-write_prompted.ensures.rested (c.loop-lines.invariant.rested rest);
     }
@@ -58,15 +58,15 @@ loop-lines-preserved g c =
       work =
           work_goes_on _ _ (input_of left c.loop-lines.lines) (input_of left c.next_line.new.self) _ _ (g.W.Sink.held c.loop-lines.writer) _ _ (contents_of c.loop-lines.bench) _ _ (state_of c.loop-lines.desk) _ _ c.in_ok-reply.reply
           c.loop-lines.invariant.work (c.in_ok-next_line.ensures.more c.if-branch.true) (c.in_ok-next_line.ensures.fits c.if-branch.true) other c.in_ok-reply.ensures.answered c.in_ok-write_prompted.ensures.all;
-      fault = c.in_ok-reply.ensures.remembered ∙ sym c.in_ok-next_line.ensures.ready.0 ∙ c.loop-lines.invariant.fault;
+      fault = c.in_ok-reply.ensures.reading.remembered ∙ sym c.in_ok-next_line.ensures.ready.0 ∙ c.loop-lines.invariant.fault;
       feeds = λ untold.
-          let before = c.answer.ensures.stays untold in
+          let before = c.answer.ensures.reading.stays untold in
           whole_trans _ (input_of left c.loop-lines.lines) _ (c.loop-lines.invariant.feeds (c.next_line.ensures.stays before))
-          (whole_trans _ (input_of left c.next_line.new.self) _ (c.in_ok-next_line.ensures.feeds c.if-branch.true before) (c.in_ok-reply.ensures.feeds untold));
-      read = c.in_ok-reply.ensures.steady ∙ c.in_ok-next_line.ensures.steady ∙ c.loop-lines.invariant.read;
+          (whole_trans _ (input_of left c.next_line.new.self) _ (c.in_ok-next_line.ensures.feeds c.if-branch.true before) (c.in_ok-reply.ensures.reading.feeds untold));
+      read = c.in_ok-reply.ensures.reading.steady ∙ c.in_ok-next_line.ensures.steady ∙ c.loop-lines.invariant.read;
       written = c.in_ok-write_prompted.ensures.steady ∙ c.loop-lines.invariant.written;
-      bound = c.answer.ensures.bound ∙ c.next_line.ensures.bound ∙ c.loop-lines.invariant.bound;
-      reads = λ timely. c.answer.ensures.in_time (c.next_line.ensures.in_time (c.loop-lines.invariant.reads timely));
+      bound = c.answer.ensures.reading.bound ∙ c.next_line.ensures.bound ∙ c.loop-lines.invariant.bound;
+      reads = λ timely. c.answer.ensures.reading.in_time (c.next_line.ensures.in_time (c.loop-lines.invariant.reads timely));
       writes = λ fair rest. c.write_prompted.ensures.in_time (c.loop-lines.invariant.writes fair rest) (c.loop-lines.invariant.rested rest);
       rested = λ rest. c.in_ok-write_prompted.ensures.rested (c.loop-lines.invariant.rested rest);
     }
@@ -93,7 +93,7 @@ returns-in_err-reply-clause-work g c = λ _.
     let p = err_from_is_err_and c.from_residual-in_err-reply.result c.from_residual-in_err-reply.ensures.1 in
     let broken = c.in_err-reply.ensures.broken in
     let whole : f ≡ fault.Read → TookWhole (input_of left c.args.lines.now) (input_of left c.loop-lines.lines) =
-    λ is. c.loop-lines.invariant.feeds (c.next_line.ensures.stays (c.answer.ensures.stays (c.in_err-reply.ensures.drained (ap (λ (x : ServeFault). Err x) is)).1)) in
+    λ is. c.loop-lines.invariant.feeds (c.next_line.ensures.stays (c.answer.ensures.reading.stays (c.in_err-reply.ensures.reading.drained (ap (λ (x : ServeFault). Err x) is) c.in_ok-next_line.ensures.ready.1).1)) in
     let opened = work_open _ _ (input_of left c.loop-lines.lines) (input_of left c.next_line.new.self) (input_of left c.answer.new.lines) _ _ _ _ _ _ (line_of c.next_line.new.self) f c.loop-lines.invariant.work
     (c.in_ok-next_line.ensures.more c.if-branch.true) (c.in_ok-next_line.ensures.fits c.if-branch.true) broken.0.0 whole broken.0.1 in
     rw (p.1, p.2)

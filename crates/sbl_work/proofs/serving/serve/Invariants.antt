@@ -12,12 +12,12 @@ invariant-loop-lines g l = record {
   work : Worked l.prompt (input_of g.R.Source.left l.fn.lines) (input_of g.R.Source.left l.lines) (g.W.Sink.held l.fn.writer) (g.W.Sink.held l.writer) (contents_of l.fn.bench) (state_of l.fn.desk) (contents_of l.bench) (state_of l.desk);
   fault : fault_of l.lines ≡ fault_of l.fn.lines;
   feeds : TakesFeeds g.R.Source.left l.fn.lines l.lines;
-  read : g.R.Source.failures l.lines.reader ≡ g.R.Source.failures l.fn.lines.reader;
-  written : g.W.Sink.failures l.writer ≡ g.W.Sink.failures l.fn.writer;
-  bound : reads_bound g.R.Source.reads l.lines ≡ reads_bound g.R.Source.reads l.fn.lines;
-  reads : KeepsTime g.R.Source.ended g.R.Source.late g.R.Source.interruptions g.R.Source.reads l.fn.lines l.lines;
-  writes : WritesInTime g.W.Sink.late g.W.Sink.interruptions l.fn.writer l.writer;
-  rested : g.W.Sink.interruptions l.fn.writer ≡ 0 → g.W.Sink.interruptions l.writer ≡ 0;
+  read : (g.R.Source.tally l.lines.reader).failures ≡ (g.R.Source.tally l.fn.lines.reader).failures;
+  written : (g.W.Sink.tally l.writer).failures ≡ (g.W.Sink.tally l.fn.writer).failures;
+  bound : reads_bound g.R.Source.tally l.lines ≡ reads_bound g.R.Source.tally l.fn.lines;
+  reads : KeepsTime g.R.Source.tally l.fn.lines l.lines;
+  writes : WritesInTime g.W.Sink.tally l.fn.writer l.writer;
+  rested : (g.W.Sink.tally l.fn.writer).interruptions ≡ 0 → (g.W.Sink.tally l.writer).interruptions ≡ 0;
 }
 
 abbrev pub decreases-loop-lines : goal.decreases-loop-lines

@@ -11,7 +11,7 @@ returns-clause-works g c = λ none.
     let read = g.R.Source in
     let write = g.W.Sink in
     let served = c.serve_bench-served in
-    whole_fault (Ends read.failures read.interruptions read.reads write.failures write.interruptions c.args.lines.now served.new.lines c.args.writer.now served.new.writer)
+    whole_fault (Ends read.tally write.tally c.args.lines.now served.new.lines c.args.writer.now served.new.writer)
     (string_bytes c.args.paths.now.external) c.in_ok-bench.seen.items (prompt_of c.args.prompts) c.prompt_of.result.now (input_of read.left c.args.lines.now) (input_of read.left served.new.lines)
     (write.held c.args.writer.now) (write.held served.new.writer) (contents_of c.in_ok-bench.bench) c.in-Err.fault c.in_ok-bench.ensures c.prompt_of.ensures (c.in-Err.ensures.works none)
 
@@ -20,6 +20,6 @@ returns-in-Ok-clause-works g c = λ none.
     let read = g.R.Source in
     let write = g.W.Sink in
     let served = c.serve_bench-served in
-    whole_end (Ends read.failures read.interruptions read.reads write.failures write.interruptions c.args.lines.now served.new.lines c.args.writer.now served.new.writer)
+    whole_end (Ends read.tally write.tally c.args.lines.now served.new.lines c.args.writer.now served.new.writer)
     (string_bytes c.args.paths.now.external) c.in_ok-bench.seen.items (prompt_of c.args.prompts) c.prompt_of.result.now (input_of read.left c.args.lines.now) (input_of read.left served.new.lines)
     (write.held c.args.writer.now) (write.held served.new.writer) (contents_of c.in_ok-bench.bench) _ c.in_ok-bench.ensures c.prompt_of.ensures (c.in-Ok.ensures.works none)

@@ -17,7 +17,7 @@ pub returns-in_err-words-clause-why : goal.returns-in_err-words-clause-why
 returns-in_err-words-clause-why g c = λ none.
     let left = g.R.Source.left in
     let p = err_from_is_err_and c.from_residual.result c.from_residual.ensures.1 in
-    rw (p.1, p.2) (words_reasons g.R.Source.failures g.R.Source.interruptions g.R.Source.reads g.W.Sink.failures g.W.Sink.interruptions c.args.lines.now c.read_words.new.lines c.args.writer.now c.args.writer.now
+    rw (p.1, p.2) (words_reasons g.R.Source.tally g.W.Sink.tally c.args.lines.now c.read_words.new.lines c.args.writer.now c.args.writer.now
     c.in_err-words.field-0.0 (input_of left c.args.lines.now) (input_of left c.read_words.new.lines) none c.in_err-words.ensures.why (c.in_err-words.ensures.reads none))
 
 pub returns-in_err-expected-clause-checked : goal.returns-in_err-expected-clause-checked
@@ -32,9 +32,9 @@ returns-in_err-expected-clause-why g c = λ none.
     let left = g.R.Source.left in
     let ready = c.in_ok-words.ensures.remembered in
     let p = err_from_is_err_and c.from_residual-in_err-expected.result c.from_residual-in_err-expected.ensures.1 in
-    rw (p.1, p.2) (reasons_later g.R.Source.failures g.R.Source.interruptions g.R.Source.reads g.W.Sink.failures g.W.Sink.interruptions c.args.lines.now c.read_words.new.lines c.read_expected.new.lines
+    rw (p.1, p.2) (reasons_later g.R.Source.tally g.W.Sink.tally c.args.lines.now c.read_words.new.lines c.read_expected.new.lines
     c.args.writer.now c.args.writer.now (Input c.in_err-expected.field-0.0) c.in_ok-words.ensures.steady c.read_words.ensures.bound
-    (expected_reasons g.R.Source.failures g.R.Source.interruptions g.R.Source.reads g.W.Sink.failures g.W.Sink.interruptions c.read_words.new.lines c.read_expected.new.lines c.args.writer.now c.args.writer.now
+    (expected_reasons g.R.Source.tally g.W.Sink.tally c.read_words.new.lines c.read_expected.new.lines c.args.writer.now c.args.writer.now
     c.in_err-expected.field-0.0 (input_of left c.read_words.new.lines) (input_of left c.read_expected.new.lines) ready c.in_err-expected.ensures.why (c.in_err-expected.ensures.reads ready)))
 
 pub returns-clause-checked : goal.returns-clause-checked
@@ -48,5 +48,5 @@ returns-clause-checked g c = λ none.
 pub returns-clause-why : goal.returns-clause-why
 returns-clause-why g c = λ none.
     let held = g.W.Sink.held in
-    check_result_reasons g.R.Source.failures g.R.Source.interruptions g.R.Source.reads g.W.Sink.failures g.W.Sink.interruptions c.args.lines.now c.read_expected.new.lines c.args.writer.now c.check.new.writer c.check.result
+    check_result_reasons g.R.Source.tally g.W.Sink.tally c.args.lines.now c.read_expected.new.lines c.args.writer.now c.check.new.writer c.check.result
     (source_of c.args.script.now) c.deref.result.now c.deref-2.result.now (held c.args.writer.now) (held c.check.new.writer) c.check.ensures.checked c.check.ensures.why

@@ -7,9 +7,9 @@ use Rattle.snowbench.proofs.program.read_expected.Given as goal
 abbrev pub invariant-loop-stems : goal.invariant-loop-stems
 invariant-loop-stems g l = (taken : List (List ℕ)) × AllFit taken × Took (input_of g.R.Source.left l.fn.lines) (input_of g.R.Source.left l.lines) taken
     × (l.stems.items ≡ list_text taken) × (fault_of l.lines ≡ fault_of l.fn.lines)
-    × (g.R.Source.failures l.lines.reader ≡ g.R.Source.failures l.fn.lines.reader)
-    × (reads_bound g.R.Source.reads l.lines ≡ reads_bound g.R.Source.reads l.fn.lines)
-    × KeepsTime g.R.Source.ended g.R.Source.late g.R.Source.interruptions g.R.Source.reads l.fn.lines l.lines
+    × ((g.R.Source.tally l.lines.reader).failures ≡ (g.R.Source.tally l.fn.lines.reader).failures)
+    × (reads_bound g.R.Source.tally l.lines ≡ reads_bound g.R.Source.tally l.fn.lines)
+    × KeepsTime g.R.Source.tally l.fn.lines l.lines
 
 abbrev pub decreases-loop-stems : goal.decreases-loop-stems
 decreases-loop-stems g l = fuel_of l.lines

@@ -8,9 +8,9 @@ use Rattle.snowbench.proofs.program.read_words.Given as goal
 abbrev pub invariant-loop-text : goal.invariant-loop-text
 invariant-loop-text g l = (taken : List (List ℕ)) × BlockLines taken × Took (input_of g.R.Source.left l.fn.lines) (input_of g.R.Source.left l.lines) taken
     × (l.text.items ≡ list_text taken) × (fault_of l.lines ≡ fault_of l.fn.lines)
-    × (g.R.Source.failures l.lines.reader ≡ g.R.Source.failures l.fn.lines.reader)
-    × (reads_bound g.R.Source.reads l.lines ≡ reads_bound g.R.Source.reads l.fn.lines)
-    × KeepsTime g.R.Source.ended g.R.Source.late g.R.Source.interruptions g.R.Source.reads l.fn.lines l.lines
+    × ((g.R.Source.tally l.lines.reader).failures ≡ (g.R.Source.tally l.fn.lines.reader).failures)
+    × (reads_bound g.R.Source.tally l.lines ≡ reads_bound g.R.Source.tally l.fn.lines)
+    × KeepsTime g.R.Source.tally l.fn.lines l.lines
 
 abbrev pub decreases-loop-text : goal.decreases-loop-text
 decreases-loop-text g l = fuel_of l.lines

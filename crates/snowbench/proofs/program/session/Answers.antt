@@ -1,4 +1,4 @@
-use Rattle.std.proofs.Common.{Ok, Err}
+use Rattle.std.proofs.Common.{rules, Ok, Err}
 use Rattle.std.proofs.lemmas.Result.{err_from_is_err_and}
 use Rattle.sbl_bench.specs.Kept.{contents_of}
 use Rattle.sbl_io.specs.Held.{input_of}
@@ -13,12 +13,16 @@ returns-in_err-bench-clause-session g c = λ none.
     rw (p.1, p.2) (session_refused (input_of left c.args.lines.now) (input_of left c.load.new.lines) c.args.external.now (g.W.Sink.held c.args.writer.now) (λ b. contents_of b) c.in_err-bench.field-0.0
     (c.in_err-bench.ensures.loaded none))
 
-pub returns-in_err-bench-clause-why : goal.returns-in_err-bench-clause-why
-returns-in_err-bench-clause-why g c = λ none.
-    let left = g.R.Source.left in
-    let p = err_from_is_err_and c.from_residual.result c.from_residual.ensures.1 in
-    rw (p.1, p.2) (loaded_reasons g.R.Source.failures g.R.Source.interruptions g.R.Source.reads g.W.Sink.failures g.W.Sink.interruptions c.args.lines.now c.load.new.lines c.args.writer.now c.args.writer.now
-    c.in_err-bench.field-0.0 (input_of left c.args.lines.now) (input_of left c.load.new.lines) c.args.external.now (λ b. contents_of b) none c.in_err-bench.ensures.why (c.in_err-bench.ensures.loaded none))
+pub returns-in_err-bench-clause-answering : goal.returns-in_err-bench-clause-answering
+returns-in_err-bench-clause-answering g c = record {
+  why = λ none.
+      let left = g.R.Source.left in
+      let p = err_from_is_err_and c.from_residual.result c.from_residual.ensures.1 in
+      rw (p.1, p.2) (loaded_reasons g.R.Source.tally g.W.Sink.tally c.args.lines.now c.load.new.lines c.args.writer.now c.args.writer.now
+      c.in_err-bench.field-0.0 (input_of left c.args.lines.now) (input_of left c.load.new.lines) c.args.external.now (λ b. contents_of b) none c.in_err-bench.ensures.why (c.in_err-bench.ensures.loaded none));
+  reads_in_time = search rules;
+  writes_in_time = search rules;
+}
 
 pub returns-in_err-served-clause-session : goal.returns-in_err-served-clause-session
 returns-in_err-served-clause-session g c = λ none.
@@ -28,11 +32,15 @@ returns-in_err-served-clause-session g c = λ none.
     rw (p.1, p.2) (session_served (input_of left c.args.lines.now) (input_of left c.load.new.lines) (input_of left c.serve-served.new.lines) c.args.external.now (held c.args.writer.now) (held c.serve-served.new.writer)
     (λ b. contents_of b) c.in_ok-bench.bench (contents_of c.serve-served.new.bench) (Err c.in_err-served.field-0.0) (c.in_ok-bench.ensures.loaded none) (c.in_err-served.ensures.session c.in_ok-bench.ensures.remembered))
 
-pub returns-in_err-served-clause-why : goal.returns-in_err-served-clause-why
-returns-in_err-served-clause-why g c = λ none.
-    let p = err_from_is_err_and c.from_residual-in_err-served.result c.from_residual-in_err-served.ensures.1 in
-    rw (p.1, p.2) (serve_reasons g.R.Source.failures g.R.Source.interruptions g.R.Source.reads g.W.Sink.failures g.W.Sink.interruptions c.args.lines.now c.load.new.lines c.serve-served.new.lines c.args.writer.now
-    c.serve-served.new.writer c.in_err-served.field-0.0 c.in_ok-bench.ensures.remembered c.in_ok-bench.ensures.steady c.load.ensures.bound c.in_err-served.ensures.ends)
+pub returns-in_err-served-clause-answering : goal.returns-in_err-served-clause-answering
+returns-in_err-served-clause-answering g c = record {
+  why = λ none.
+      let p = err_from_is_err_and c.from_residual-in_err-served.result c.from_residual-in_err-served.ensures.1 in
+      rw (p.1, p.2) (serve_reasons g.R.Source.tally g.W.Sink.tally c.args.lines.now c.load.new.lines c.serve-served.new.lines c.args.writer.now
+      c.serve-served.new.writer c.in_err-served.field-0.0 c.in_ok-bench.ensures.remembered c.in_ok-bench.ensures.steady c.load.ensures.bound c.in_err-served.ensures.ends);
+  reads_in_time = search rules;
+  writes_in_time = search rules;
+}
 
 pub returns-clause-session : goal.returns-clause-session
 returns-clause-session g c = λ none.

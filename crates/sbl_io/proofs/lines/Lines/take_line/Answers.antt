@@ -2,6 +2,7 @@ use Rattle.std.proofs.Common.{rules, length, length-append, arith, ap, ◌≡◌
 use Rattle.std.specs.Result.{is_ok}
 use Rattle.std.specs.Io.KnownBytes.{Consumes}
 use Rattle.std.proofs.KnownBytes.{Consumes-trans}
+use Rattle.sbl_io.specs.Devices.{Tally}
 use Rattle.sbl_io.specs.Held.{line_of, input_of}
 use Rattle.sbl_io.proofs.Bytes.{no_feed_push}
 use Rattle.sbl_io.proofs.lines.Lines.take_line.Goals as goal
@@ -20,7 +21,7 @@ loop-byte-preserved g c =
       rw line (Consumes-trans _ _ _ _ _ (c.take_held.ensures.takes _ invariant.0) step),
       rw line (no_feed_push _ _ (c.take_held.ensures.no_feed invariant.1) other),
       search rules,
-      c.in_ok-next_byte.ensures.steady ∙ ap g.R.Source.failures same.0 ∙ invariant.3,
+      c.in_ok-next_byte.ensures.steady ∙ ap (λ (t : Tally). t.failures) (ap g.R.Source.tally same.0) ∙ invariant.3,
       c.next_byte.ensures.fault ∙ same.3 ∙ invariant.4,
       omega (arith, length-append {A = ℕ}, falls, ap length line, ap length c.next_byte.ensures.line, c.take_held.ensures.fuel),
       search rules,

@@ -5,12 +5,12 @@ use Rattle.sbl_io.proofs.lines.Lines.take_line.Given as goal
 
 abbrev pub invariant-loop-byte : goal.invariant-loop-byte
 invariant-loop-byte g l = Consumes (input_of g.R.Source.left l.fn.self) (input_of g.R.Source.left l.self) (line_of l.self)
-    × NoFeed (line_of l.self) × (vec_len l.self.line ≤ 65537) × (g.R.Source.failures l.self.reader ≡ g.R.Source.failures l.fn.self.reader)
+    × NoFeed (line_of l.self) × (vec_len l.self.line ≤ 65537) × ((g.R.Source.tally l.self.reader).failures ≡ (g.R.Source.tally l.fn.self.reader).failures)
     × (l.self.fault ≡ l.fn.self.fault)
     × (vec_len l.self.line + fuel_of l.self ≤ fuel_of l.fn.self)
-    × (reads_bound g.R.Source.reads l.self ≡ reads_bound g.R.Source.reads l.fn.self)
-    × AsksInTime g.R.Source.ended g.R.Source.late g.R.Source.interruptions g.R.Source.reads l.fn.self l.self
-    × (g.R.Source.interruptions l.fn.self.reader ≡ 0 → g.R.Source.interruptions l.self.reader ≡ 0)
+    × (reads_bound g.R.Source.tally l.self ≡ reads_bound g.R.Source.tally l.fn.self)
+    × AsksInTime g.R.Source.tally l.fn.self l.self
+    × ((g.R.Source.tally l.fn.self.reader).interruptions ≡ 0 → (g.R.Source.tally l.self.reader).interruptions ≡ 0)
     × StaysEnded l.fn.self l.self
 
 abbrev pub decreases-loop-byte : goal.decreases-loop-byte
