@@ -1,9 +1,9 @@
 //! Work on the files of a script and of words.
 
 use crate::messages::{FAILED, NO_KEYS, REFUSED, fail_memory, print_line};
-use crate::places::fault_of;
 use crate::talk::{Lead, Talk};
 use crate::watching::{Context, Quiet, Watched, file_text};
+use sbl_diagnostics::fault_of;
 use sbl_work::{Paths, work};
 use snowbench::{CommandLine, Device, Face, Lines};
 use std::alloc::{AllocError, Global};

@@ -41,20 +41,6 @@ pub(crate) fn line_count(text: &[u8]) -> u64 {
     count
 }
 
-/// Returns the line with this number, from 1, or an empty one if there are fewer.
-pub(crate) fn line_at(text: &[u8], number: usize) -> &[u8] {
-    let mut rest = text;
-    let mut left = number;
-    while let Some((line, after)) = first_line(rest) {
-        if left <= 1 {
-            return line;
-        }
-        left -= 1;
-        rest = after;
-    }
-    rest
-}
-
 /// Returns the number of the first line, from 1, that has too many characters for a word.
 pub(crate) fn long_line(text: &[u8]) -> Option<u64> {
     let mut rest = text;

@@ -1,12 +1,11 @@
 //! What to say on the fault of a run over an input: where it is, or what is missing.
 
 use crate::blocks::{after_point, long_line, point_line};
-use crate::encodings::push_conversion;
 use crate::file_names::{FileNames, STANDARD_INPUT, file_name};
-use crate::messages::{counted, push_named};
-use crate::places::{fault_of, offset_of_byte, script_fault_text};
+use crate::messages::counted;
 use crate::run_result::RunResult;
 use sbl_bench::MAX_WORD_LENGTH;
+use sbl_diagnostics::{fault_of, offset_of_byte, push_conversion, push_named, script_fault_text};
 use sbl_places::position_of;
 use sbl_sessions::read_script;
 use snowbench::{CommandLine, Device, Lines, Verb};

@@ -3,25 +3,18 @@
 
 mod at_work;
 mod blocks;
-mod declared;
-mod encodings;
 mod faults;
 mod file_names;
 mod messages;
-mod near;
-mod places;
-mod reasons;
 mod run_result;
-mod sentences;
 mod sessions;
 mod streams;
 mod talk;
-mod typed;
 mod watching;
 
 use crate::at_work::start_work;
 use crate::file_names::{FileNames, reads_twice};
-use crate::messages::{NO_MEMORY, REFUSED, fail_memory, plain_text};
+use crate::messages::{NO_MEMORY, REFUSED, fail_memory, print_text};
 use crate::sessions::{run_check, run_filter, run_input, run_session};
 use clap::error::ErrorKind;
 use snowbench::{CommandLine, Verb, read_command_line};
@@ -74,17 +67,7 @@ fn refuse_words(rt: &HostRuntime, error: &io::Error) -> ExitCode {
 
 /// Prints why the command line is refused, and returns the exit status.
 fn refuse_line(rt: &HostRuntime, error: &clap::Error) -> u8 {
-    let text = match format!(in rt.alloc(); "{error}") {
-        Ok(text) => plain_text(rt.alloc(), text.as_str()),
-        Err(error) => Err(error),
-    };
-    match text {
-        Ok(text) => {
-            let _ = eprint!(rt; "{text}");
-            REFUSED
-        }
-        Err(_) => fail_memory(rt),
-    }
+    print_text(rt, format!(in rt.alloc(); "{error}"), "", REFUSED)
 }
 
 /// Does what the command line asks for, and returns the exit status.

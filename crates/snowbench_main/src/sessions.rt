@@ -160,13 +160,24 @@ fn read_named(rt: &HostRuntime, path: &str, what: &str) -> Result<Vec<u8>, u8> {
     }
     match fs::read(rt, path) {
         Ok(bytes) => Ok(bytes),
-        Err(error) if error.kind() == io::ErrorKind::OutOfMemory => Err(fail_memory(rt)),
-        Err(_) => Err(print_line(
-            rt,
-            format!(in rt.alloc(); "snowbench: {path} is no file that can be read"),
-            REFUSED,
-        )),
+        Err(error) => {
+            let text = format!(in rt.alloc(); "snowbench: {path} is no file that can be read");
+            Err(print_unread(rt, &error, text, REFUSED))
+        }
     }
+}
+
+/// Prints that something cannot be read, and returns the status. If an allocation has failed, it prints that.
+fn print_unread(
+    rt: &HostRuntime,
+    error: &io::Error,
+    text: Result<String, AllocError>,
+    status: u8,
+) -> u8 {
+    if error.kind() == io::ErrorKind::OutOfMemory {
+        return fail_memory(rt);
+    }
+    print_line(rt, text, status)
 }
 
 /// Returns the bytes of standard input. At a terminal it says which lines are to be typed.
@@ -179,12 +190,10 @@ fn read_input(rt: &HostRuntime, what: &str) -> Result<Vec<u8>, u8> {
     let mut bytes = Vec::new(rt.alloc());
     match rt.stdin().read_to_end(&mut bytes) {
         Ok(_) => Ok(bytes),
-        Err(error) if error.kind() == io::ErrorKind::OutOfMemory => Err(fail_memory(rt)),
-        Err(error) => Err(print_line(
-            rt,
-            format!(in rt.alloc(); "snowbench: standard input cannot be read: {error}"),
-            FAILED,
-        )),
+        Err(error) => {
+            let text = format!(in rt.alloc(); "snowbench: standard input cannot be read: {error}");
+            Err(print_unread(rt, &error, text, FAILED))
+        }
     }
 }
 

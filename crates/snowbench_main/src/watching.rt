@@ -4,10 +4,10 @@
 ghost use Rattle.std.specs.Io.{ReadsAtMost};
 
 use crate::messages::print_line;
-use crate::places::{fault_of, script_fault_text};
 use crate::talk::{PROMPT, Talk};
-use crate::typed::{Typed, part_text, whole_text};
+use sbl_diagnostics::{TypedBlock, fault_of, part_text, script_fault_text, whole_text};
 use sbl_sessions::{block_word, target_of};
+use sbl_work::part_of;
 use std::alloc::{AllocError, Global};
 use std::cell::RefCell;
 use std::io::{Read, Write};
@@ -92,7 +92,7 @@ fn block_text<'x>(
     talk: &'x Talk,
 ) -> Result<Option<String>, AllocError> {
     let source = context.input.map(|name| (name, talk.block_row()));
-    let typed = Typed {
+    let typed = TypedBlock {
         block: talk.block(),
         script: talk.script(),
         external: context.external,
@@ -107,7 +107,7 @@ fn block_text<'x>(
         return Ok(None);
     };
     match target_of(alloc, word, command)? {
-        Some(target) => part_text(alloc, typed, &target),
+        Some(target) => part_text(alloc, typed, part_of(&target)),
         None => Ok(None),
     }
 }

@@ -4,105 +4,57 @@ use sbl_places::{Part, ScriptFault, cut_at_part, offset_in_block};
 use std::alloc::{AllocError, Global};
 use std::test::Fail;
 
-const BEFORE: &str = "externals ( stem )\nroutines ( r )\ndefine r as ";
+const UNDECLARED: ScriptFault = ScriptFault::Undeclared { item: 3 };
 
-const AFTER: &str = "\ndefine stem as r\n";
+const REPEATED: ScriptFault = ScriptFault::RepeatedString { item: 3 };
 
-const OUTSIDE: ScriptFault = ScriptFault::Undeclared { item: 2 };
-
-/// What is before a block, the block, what is after it, a fault, and its offset in the block.
-const BLOCKS: &[(&str, &str, &str, ScriptFault, Option<usize>)] = &[
-    (
-        BEFORE,
-        "( do true do x )",
-        AFTER,
-        ScriptFault::Undeclared { item: 3 },
-        Some(13),
-    ),
-    (
-        BEFORE,
-        "x",
-        AFTER,
-        ScriptFault::Undeclared { item: 3 },
-        Some(0),
-    ),
+/// A body of `r`, a fault, and its offset in the body.
+const BODIES: &[(&str, ScriptFault, Option<usize>)] = &[
+    ("( do true do x )", UNDECLARED, Some(13)),
+    ("x", UNDECLARED, Some(0)),
     // a condition, and the string after it that is there twice
-    (
-        BEFORE,
-        "among ( 'a' y (delete) 'b' )",
-        AFTER,
-        ScriptFault::Undeclared { item: 3 },
-        Some(12),
-    ),
-    (
-        BEFORE,
-        "among ( 'a' r (delete) 'b' 'a' )",
-        AFTER,
-        ScriptFault::RepeatedString { item: 3 },
-        Some(27),
-    ),
+    ("among ( 'a' y (delete) 'b' )", UNDECLARED, Some(12)),
+    ("among ( 'a' r (delete) 'b' 'a' )", REPEATED, Some(27)),
     // a string of an among in the command of another
     (
-        BEFORE,
         "among ( 'a' ( 'b' [ among ( 'b' 'c' 'b' () ) ] ) )",
-        AFTER,
-        ScriptFault::RepeatedString { item: 3 },
+        REPEATED,
         Some(36),
     ),
     // the text has another fault, or none
-    (
-        BEFORE,
-        "( do x )",
-        AFTER,
-        ScriptFault::Undeclared { item: 4 },
-        None,
-    ),
-    (
-        BEFORE,
-        "( do true )",
-        AFTER,
-        ScriptFault::Undeclared { item: 3 },
-        None,
-    ),
+    ("( do x )", ScriptFault::Undeclared { item: 4 }, None),
+    ("( do true )", UNDECLARED, None),
     // a fault with a place of its own
-    (
-        BEFORE,
-        "( do true",
-        AFTER,
-        ScriptFault::Syntax { place: 9 },
-        Some(9),
-    ),
-    // a fault outside the block is at no offset
-    (
-        "externals ( stem )\ndefine stem as ( x do ",
-        "true",
-        " )\n",
-        OUTSIDE,
-        None,
-    ),
-    (
-        "externals ( stem )\ndefine stem as ( do ",
-        "true",
-        " x )\n",
-        OUTSIDE,
-        None,
-    ),
-    // the token right after the block is outside
-    (
-        "externals ( stem )\ndefine stem as ( do ",
-        "true ",
-        "x )\n",
-        OUTSIDE,
-        None,
-    ),
+    ("( do true", ScriptFault::Syntax { place: 9 }, Some(9)),
+];
+
+/// A block between two parts of the body of `stem`: the fault is before it, after it, or right after it.
+const BLOCKS: &[(&str, &str, &str)] = &[
+    ("( x do ", "true", " )\n"),
+    ("( do ", "true", " x )\n"),
+    ("( do ", "true ", "x )\n"),
 ];
 
 #[test]
 fn a_fault_of_the_checks_is_at_its_token_in_the_block(rt: HostRuntime) -> Result<(), Fail> {
-    for (before, block, after, fault, want) in BLOCKS {
-        let (front, text, back) = (before.as_bytes(), block.as_bytes(), after.as_bytes());
-        let offset = offset_in_block(rt.alloc(), front, text, back, *fault)?;
-        assert_eq!(rt; offset, *want, "{before}{block}");
+    let front = b"externals ( stem )\nroutines ( r )\ndefine r as ";
+    for (body, fault, want) in BODIES {
+        let after = b"\ndefine stem as r\n";
+        let offset = offset_in_block(rt.alloc(), front, body.as_bytes(), after, *fault)?;
+        assert_eq!(rt; offset, *want, "{body}");
+    }
+    Ok(())
+}
+
+#[test]
+fn a_fault_outside_the_block_is_at_no_offset(rt: HostRuntime) -> Result<(), Fail> {
+    let alloc = rt.alloc();
+    for (before, block, after) in BLOCKS {
+        let front = format!(in alloc; "externals ( stem )\ndefine stem as {before}")?;
+        let (front, block, after) = (front.as_bytes(), block.as_bytes(), after.as_bytes());
+        let fault = ScriptFault::Undeclared { item: 2 };
+        let offset = offset_in_block(alloc, front, block, after, fault)?;
+        assert_eq!(rt; offset, None, "{before}");
     }
     Ok(())
 }

@@ -5,57 +5,103 @@ use crate::tests::script::{fault_in, repeated, script_of};
 use crate::tests::script_edits::{AMONG_TEXTS, SCRIPT_EDITS};
 use sbl_script::laws::canonical_is_read;
 use sbl_script::{Script, ScriptEditFault, ScriptFault};
-use std::alloc::Global;
+use std::alloc::{AllocError, Global};
 use std::process::Abort;
 use std::test::Fail;
-use test_scripts::{FRONT, PORTER};
+use test_scripts::{FRONT, PLURALS, PORTER, field, printed, with_line_feeds, with_scripts};
 
 /// What an edit replaces: the body of a routine, an among of a routine, or the terms of a grouping.
 #[derive(Clone, Copy, Debug)]
-pub(crate) enum Part<'a> {
+enum Part<'a> {
     Body(&'a str),
     Among(&'a str, u64),
     Terms(&'a str),
 }
 
-/// An edit, and why it is refused (empty if it is accepted).
-pub(crate) type Row<'a> = (Part<'a>, &'a str, &'a str);
-
-/// A script, and edits of it.
-pub(crate) type Case<'a> = (&'a str, &'a [Row<'a>]);
+/// The part of a text such as `routine NAME`, `among NAME 2` and `grouping NAME`.
+fn part_in(text: &str) -> Part<'_> {
+    let (word, name) = text.split_once(' ').unwrap_or((text, ""));
+    if word == "routine" {
+        return Part::Body(name);
+    }
+    match name.split_once(' ') {
+        Some((name, number)) => Part::Among(name, number.parse().unwrap_or(0)),
+        None => Part::Terms(name),
+    }
+}
 
 /// Makes an edit.
-pub(crate) fn edited(
+fn edited(
     alloc: Global,
     script: &Script,
-    part: &Part,
+    part: Part,
     text: &str,
 ) -> Result<Script, ScriptEditFault> {
     match part {
         Part::Body(name) => script.with_routine(alloc, name, text),
-        Part::Among(name, k) => script.with_among(alloc, name, *k, text),
+        Part::Among(name, k) => script.with_among(alloc, name, k, text),
         Part::Terms(name) => script.with_grouping(alloc, name, text),
     }
 }
 
-/// Asserts that each edit is refused with its fault, or accepted.
-fn are_refused(rt: &impl Abort, alloc: Global, case: &Case) {
-    let script = script_of(rt, alloc, case.0);
-    for (part, text, want) in case.1 {
-        let taken = edited(alloc, &script, part, text);
-        let fault = fault_in(alloc, taken).expect(rt, "memory");
-        assert_eq!(rt; fault.as_str(), *want, "{part:?}: {text}");
+/// Returns the script of a text. The names of two scripts are texts, too.
+fn script_named(rt: &impl Abort, alloc: Global, text: &str) -> Script {
+    if text == "PORTER" {
+        return script_of(rt, alloc, PORTER);
     }
-    script.discard();
+    if text == "PLURALS" {
+        return script_of(rt, alloc, PLURALS);
+    }
+    let text = with_line_feeds(alloc, text).expect(rt, "memory");
+    script_of(rt, alloc, text.as_str())
+}
+
+/// Asserts that an edit is refused with this fault, or accepted if the fault is empty.
+fn is_refused(rt: &impl Abort, alloc: Global, script: &Script, part: Part, text: &str, want: &str) {
+    let taken = edited(alloc, script, part, text);
+    let fault = fault_in(alloc, taken).expect(rt, "memory");
+    assert_eq!(rt; fault.as_str(), want, "{part:?}: {text}");
+}
+
+/// An edit of a script, and what is wanted of it.
+#[derive(Drop)]
+struct Row<'a> {
+    script: &'a str,
+    part: Part<'a>,
+    text: String,
+    want: &'a str,
+}
+
+/// Returns the rows of a text: what is replaced, the text, and what is wanted.
+fn rows_in<'a>(alloc: Global, text: &'a str) -> Result<Vec<Row<'a>>, AllocError> {
+    let mut rows = Vec::new(alloc);
+    for (script, row) in with_scripts(alloc, text)? {
+        rows.push(Row {
+            script,
+            part: part_in(field(row, 0)),
+            text: with_line_feeds(alloc, field(row, 1))?,
+            want: field(row, 2),
+        })?;
+    }
+    Ok(rows)
+}
+
+/// Asserts that each edit is refused with the fault that is wanted, or accepted.
+fn are_refused(rt: &impl Abort, alloc: Global, text: &str) -> Result<(), Fail> {
+    for row in &rows_in(alloc, text)? {
+        let script = script_named(rt, alloc, row.script);
+        is_refused(rt, alloc, &script, row.part, row.text.as_str(), row.want);
+        script.discard();
+    }
+    Ok(())
 }
 
 #[test]
-fn edits_are_refused_or_accepted(rt: HostRuntime) {
-    for cases in [SCRIPT_EDITS, GROUPING_EDITS] {
-        for case in cases {
-            are_refused(&rt, rt.alloc(), case);
-        }
+fn edits_are_refused_or_accepted(rt: HostRuntime) -> Result<(), Fail> {
+    for text in [SCRIPT_EDITS, GROUPING_EDITS] {
+        are_refused(&rt, rt.alloc(), text)?;
     }
+    Ok(())
 }
 
 #[test]
@@ -67,23 +113,22 @@ fn depth_counts_from_the_place_and_length_from_the_text(rt: HostRuntime) -> Resu
     let at_65 = "among ( 'a' ( not not not next ) )";
     let at_64 = "among ( 'a' ( not not next ) )";
     let too_long = "48 24 ScriptTooLong";
-    let rows: [Row; 2] = [
-        (Part::Among("stem", 1), at_65, "48 8 TooDeep at 26"),
-        (Part::Among("stem", 1), at_64, ""),
-    ];
-    are_refused(&rt, alloc, &(deep.as_str(), &rows));
-    let rows: [Row; 3] = [
-        (Part::Among("stem", 1), long.as_str(), too_long),
-        (Part::Body("stem"), long.as_str(), too_long),
-        (Part::Among("stem", 1), at_65, ""),
-    ];
-    let short = "externals ( stem ) define stem as among ( 'a' )";
-    are_refused(&rt, alloc, &(short, &rows));
+    let among = Part::Among("stem", 1);
+    let script = script_of(&rt, alloc, deep.as_str());
+    is_refused(&rt, alloc, &script, among, at_65, "48 8 TooDeep at 26");
+    is_refused(&rt, alloc, &script, among, at_64, "");
+    script.discard();
+    let script = script_of(
+        &rt,
+        alloc,
+        "externals ( stem ) define stem as among ( 'a' )",
+    );
+    is_refused(&rt, alloc, &script, among, &long, too_long);
+    is_refused(&rt, alloc, &script, Part::Body("stem"), &long, too_long);
+    is_refused(&rt, alloc, &script, among, at_65, "");
+    script.discard();
     Ok(())
 }
-
-/// A script, an edit of it, another script, and whether the edit makes that.
-pub(crate) type Made<'a> = (&'a str, Part<'a>, &'a str, &'a str, bool);
 
 /// Asserts that a script is read back from its canonical text.
 fn is_read_back(rt: &impl Abort, alloc: Global, script: &Script) {
@@ -95,27 +140,41 @@ fn is_read_back(rt: &impl Abort, alloc: Global, script: &Script) {
     assert!(rt; is_read, "{text}");
 }
 
-/// Asserts what an edit makes.
-fn makes(rt: &impl Abort, alloc: Global, row: &Made) {
-    let (before, part, text, after, want) = row;
-    let script = script_of(rt, alloc, before);
-    let made = edited(alloc, &script, part, text).expect(rt, "an edit");
+/// Asserts that an edit of a script makes the script `after`, or another one.
+fn makes(
+    rt: &impl Abort,
+    alloc: Global,
+    before: &str,
+    edit: (Part, &str),
+    after: &str,
+    want: bool,
+) {
+    let script = script_named(rt, alloc, before);
+    let made = edited(alloc, &script, edit.0, edit.1).expect(rt, "an edit");
     script.discard();
     is_read_back(rt, alloc, &made);
-    let other = script_of(rt, alloc, after);
+    let other = script_named(rt, alloc, after);
     let is_same = other.is_same(alloc, &made).expect(rt, "memory");
     made.discard();
     other.discard();
-    assert_eq!(rt; is_same, *want, "{part:?}: {text}");
+    assert_eq!(rt; is_same, want, "{edit:?}");
+}
+
+/// Asserts what each edit makes: the same script, another one, or the script that is wanted.
+fn all_make(rt: &impl Abort, alloc: Global, text: &str) -> Result<(), Fail> {
+    for row in &rows_in(alloc, text)? {
+        let is_named = row.want == "same" || row.want == "another";
+        let after = if is_named { row.script } else { row.want };
+        let edit = (row.part, row.text.as_str());
+        makes(rt, alloc, row.script, edit, after, row.want != "another");
+    }
+    Ok(())
 }
 
 #[test]
-fn an_edit_makes_the_script_with_its_text(rt: HostRuntime) {
-    for rows in [AMONG_TEXTS, GROUPING_TEXTS] {
-        for row in rows {
-            makes(&rt, rt.alloc(), row);
-        }
-    }
+fn an_edit_makes_the_script_with_its_text(rt: HostRuntime) -> Result<(), Fail> {
+    all_make(&rt, rt.alloc(), AMONG_TEXTS)?;
+    all_make(&rt, rt.alloc(), GROUPING_TEXTS)
 }
 
 #[test]
@@ -130,33 +189,26 @@ fn a_routine_with_its_own_text_is_the_same(rt: HostRuntime) {
             continue;
         };
         let name = front.strip_prefix("define ").expect(&rt, "a name");
-        makes(&rt, alloc, &(PORTER, Part::Body(name), body, PORTER, true));
-        makes(
-            &rt,
-            alloc,
-            &(PORTER, Part::Body(name), "fail true", PORTER, false),
-        );
+        let part = Part::Body(name);
+        makes(&rt, alloc, "PORTER", (part, body), "PORTER", true);
+        makes(&rt, alloc, "PORTER", (part, "fail true"), "PORTER", false);
         routines = routines.saturating_add(1);
     }
     assert_eq!(rt; routines, 12);
 }
 
-const FAULTS: &[(ScriptEditFault, &str)] = &[
-    (ScriptEditFault::NoRoutine, "45 NoRoutine"),
-    (ScriptEditFault::NoAmong, "46 NoAmong"),
-    (ScriptEditFault::AmongCount, "47 AmongCount"),
-    (
-        ScriptEditFault::Script(ScriptFault::Undeclared { item: 2 }),
-        "48 10 Undeclared in item 2",
-    ),
-    (ScriptEditFault::OutOfMemory, "49 OutOfMemory"),
-    (ScriptEditFault::NoGrouping, "53 NoGrouping"),
-];
-
 #[test]
 fn faults_of_edits_are_printed_with_their_numbers(rt: HostRuntime) -> Result<(), Fail> {
-    for (fault, want) in FAULTS {
-        assert_eq!(rt; format!(in rt.alloc(); "{fault}")?.as_str(), *want);
-    }
+    let faults = [
+        ScriptEditFault::NoRoutine,
+        ScriptEditFault::NoAmong,
+        ScriptEditFault::AmongCount,
+        ScriptEditFault::Script(ScriptFault::Undeclared { item: 2 }),
+        ScriptEditFault::OutOfMemory,
+        ScriptEditFault::NoGrouping,
+    ];
+    let want =
+        "45 NoRoutine;46 NoAmong;47 AmongCount;48 10 Undeclared in item 2;49 OutOfMemory;53 NoGrouping;";
+    assert_eq!(rt; printed(rt.alloc(), &faults)?.as_str(), want);
     Ok(())
 }

@@ -6,7 +6,7 @@ use sbl_script::{Command, Plain, ScriptItem};
 use sbl_text::{ScriptFault, tokens};
 use std::alloc::{AllocError, Global};
 use std::test::Fail;
-use test_scripts::{FRONT, PLURALS, PORTER, discard};
+use test_scripts::{FRONT, PLURALS, PORTER, discard, field};
 
 fn read(alloc: Global, text: &str) -> Result<Vec<ScriptItem>, ScriptFault> {
     let tokens = tokens(alloc, text)?;
@@ -38,71 +38,45 @@ fn shown(alloc: Global, front: &str, body: &str) -> Result<String, AllocError> {
     }
 }
 
-const TEXTS: &[(&str, &str, &str)] = &[
-    // whole scripts
-    ("", PLURALS, "4"),
-    ("", PORTER, "9"),
-    ("", "", "0"),
-    ("", "backwardmode ( )", "1"),
-    // each form
-    (FRONT, "( )", "2"),
-    (FRONT, "next", "2"),
-    (FRONT, "non v", "2"),
-    (FRONT, "non - v", "2"),
-    (FRONT, "next or next and next", "2"),
-    (
-        FRONT,
-        "not test try do fail repeat goto gopast backwards next",
-        "2",
-    ),
-    (FRONT, "loop 2 next", "2"),
-    (FRONT, "atleast x - 1 * 2 next", "2"),
-    (FRONT, "( hop 2 atmark - x tomark ( x + 1 ) / 2 )", "2"),
-    (FRONT, "( setmark x set b unset b -> s )", "2"),
-    (FRONT, "( <- 'a' <+ s insert 'a' attach s )", "2"),
-    (FRONT, "setlimit tomark x for ( [ delete ] )", "2"),
-    (FRONT, "( $x = 1 $x += 1 $x -= 1 $x *= 2 $x /= 2 )", "2"),
-    (
-        FRONT,
-        "( $x == 1 $x != 1 $x < 1 $x <= 1 $x > 1 $x >= 1 )",
-        "2",
-    ),
-    (
-        FRONT,
-        "$( lenof 'a' + len >= lenof s - cursor * limit / maxint + minint )",
-        "2",
-    ),
-    (FRONT, "among ( )", "2"),
-    (FRONT, "among ( ( next ) )", "2"),
-    (
-        FRONT,
-        "among ( ( next ) 'a' 'b' r ( delete ) 'c' ( ) 'd' r 'e' )",
-        "2",
-    ),
-    (
-        FRONT,
-        "( substring next tolimit atlimit true false 'a' )",
-        "2",
-    ),
-    (
-        "",
-        "strings ( a b ) integers ( ) define v 'abc' + w - 'x' define w v",
-        "4",
-    ),
-    // the minus after `non` is kept
-    ("", "define r as non v", "1 non"),
-    ("", "define r as non - v", "1 non -"),
-    // the first fault
-    (FRONT, "( next next", "7 Syntax at 45"),
-    (FRONT, "( $x 3 )", "20 OutOfProfile at 36"),
-    (FRONT, "get", "7 Syntax at 34"),
-];
+/// What is before a text, the text, and the number of items with how the first begins, or the fault: an empty script, each form, a
+/// minus that is kept after `non`, and first faults.
+const TEXTS: &str = "||0
+|backwardmode ( )|1
+stem|( )|2
+stem|next|2
+stem|non v|2
+stem|non - v|2
+stem|next or next and next|2
+stem|not test try do fail repeat goto gopast backwards next|2
+stem|loop 2 next|2
+stem|atleast x - 1 * 2 next|2
+stem|( hop 2 atmark - x tomark ( x + 1 ) / 2 )|2
+stem|( setmark x set b unset b -> s )|2
+stem|( <- 'a' <+ s insert 'a' attach s )|2
+stem|setlimit tomark x for ( [ delete ] )|2
+stem|( $x = 1 $x += 1 $x -= 1 $x *= 2 $x /= 2 )|2
+stem|( $x == 1 $x != 1 $x < 1 $x <= 1 $x > 1 $x >= 1 )|2
+stem|$( lenof 'a' + len >= lenof s - cursor * limit / maxint + minint )|2
+stem|among ( )|2
+stem|among ( ( next ) )|2
+stem|among ( ( next ) 'a' 'b' r ( delete ) 'c' ( ) 'd' r 'e' )|2
+stem|( substring next tolimit atlimit true false 'a' )|2
+|strings ( a b ) integers ( ) define v 'abc' + w - 'x' define w v|4
+|define r as non v|1 non
+|define r as non - v|1 non -
+stem|( next next|7 Syntax at 45
+stem|( $x 3 )|20 OutOfProfile at 36
+stem|get|7 Syntax at 34";
 
 #[test]
 fn texts_are_read_or_have_a_fault(rt: HostRuntime) -> Result<(), Fail> {
     let alloc = rt.alloc();
-    for (front, body, want) in TEXTS {
-        assert_eq!(rt; shown(alloc, front, body)?.as_str(), *want, "{body}");
+    assert_eq!(rt; shown(alloc, "", PLURALS)?.as_str(), "4");
+    assert_eq!(rt; shown(alloc, "", PORTER)?.as_str(), "9");
+    for row in TEXTS.split('\n') {
+        let front = if field(row, 0) == "stem" { FRONT } else { "" };
+        let shown = shown(alloc, front, field(row, 1))?;
+        assert_eq!(rt; shown.as_str(), field(row, 2), "{row}");
     }
     let deep = repeated(alloc, "", "(", 100_000)?;
     assert_eq!(rt; shown(alloc, FRONT, &deep)?.as_str(), "8 TooDeep at 98");

@@ -11,7 +11,7 @@ use std::alloc::{AllocError, Global};
 use std::fmt::Display;
 use std::process::Abort;
 use std::test::Fail;
-use test_scripts::{FRONT, PORTER};
+use test_scripts::{FRONT, PORTER, field};
 
 /// Returns the fault as text, which is empty for a script. The script is discarded.
 pub(crate) fn fault_in<E: Display + Drop>(
@@ -47,51 +47,27 @@ pub(crate) fn repeated(
 }
 
 /// A text, an external, and the fault (empty if the script is accepted).
-const TEXTS: &[(&str, &str, &str)] = &[
-    (PORTER, "stem", ""),
-    ("externals ( stem ) define stem as stem", "stem", ""),
-    ("! \"", "stem", "1 BadCharacter at 0"),
-    ("externals ( ) ) $x 3 size", "stem", "20 OutOfProfile at 21"),
-    (
-        "externals ( stem ) define stem as",
-        "stem",
-        "7 Syntax at 33",
-    ),
-    (
-        "define stem as next externals ( stem )",
-        "stem",
-        "10 Undeclared in item 1",
-    ),
-    ("", "stem", "21 NoExternal"),
-    (
-        "externals ( stem ) define stem as next",
-        "",
-        "21 NoExternal",
-    ),
-    (
-        "externals ( stem ) define stem as next",
-        "2x",
-        "21 NoExternal",
-    ),
-    (
-        "externals ( stem ) define stem as next",
-        "next",
-        "21 NoExternal",
-    ),
-    (
-        "externals ( stem ) define stem as next",
-        "Stem",
-        "21 NoExternal",
-    ),
-];
+const TEXTS: &str = "externals ( stem ) define stem as stem|stem|
+! \"|stem|1 BadCharacter at 0
+externals ( ) ) $x 3 size|stem|20 OutOfProfile at 21
+externals ( stem ) define stem as|stem|7 Syntax at 33
+define stem as next externals ( stem )|stem|10 Undeclared in item 1
+|stem|21 NoExternal
+externals ( stem ) define stem as next||21 NoExternal
+externals ( stem ) define stem as next|2x|21 NoExternal
+externals ( stem ) define stem as next|next|21 NoExternal
+externals ( stem ) define stem as next|Stem|21 NoExternal";
 
 #[test]
 fn a_script_is_accepted_or_has_its_first_fault(rt: HostRuntime) -> Result<(), Fail> {
     let alloc = rt.alloc();
-    for (text, external, want) in TEXTS {
-        let fault = fault_in(alloc, Script::parse(alloc, text.as_bytes(), external))?;
-        assert_eq!(rt; fault.as_str(), *want, "{external}: {text}");
+    for row in TEXTS.split('\n') {
+        let text = field(row, 0).as_bytes();
+        let fault = fault_in(alloc, Script::parse(alloc, text, field(row, 1)))?;
+        assert_eq!(rt; fault.as_str(), field(row, 2), "{row}");
     }
+    let fault = fault_in(alloc, Script::parse(alloc, PORTER.as_bytes(), "stem"))?;
+    assert_eq!(rt; fault.as_str(), "");
     let fault = fault_in(alloc, Script::parse(alloc, b"\xff", "stem"))?;
     assert_eq!(rt; fault.as_str(), "23 NotUtf8");
     Ok(())

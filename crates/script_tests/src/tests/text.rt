@@ -6,6 +6,7 @@ use sbl_text::{
 };
 use std::alloc::{AllocError, Global};
 use std::test::Fail;
+use test_scripts::printed;
 
 /// A token as its kind, its first byte, the byte after it, and its value if it has one.
 fn token_text(alloc: Global, token: &Token<'_>) -> Result<String, AllocError> {
@@ -159,60 +160,41 @@ fn a_fault_and_the_end_are_given_again(rt: HostRuntime) -> Result<(), Fail> {
     Ok(())
 }
 
-const FAULTS: &[(ScriptFault, &str)] = &[
-    (
-        ScriptFault::UnknownEscape { place: 7 },
-        "4 UnknownEscape at 7",
-    ),
-    (ScriptFault::BadCode { place: 16 }, "5 BadCode at 16"),
-    (ScriptFault::Syntax { place: 30 }, "7 Syntax at 30"),
-    (ScriptFault::TooDeep { place: 1 }, "8 TooDeep at 1"),
-    (
-        ScriptFault::DeclaredTwice { item: 1 },
-        "9 DeclaredTwice in item 1",
-    ),
-    (
-        ScriptFault::Undeclared { item: 2 },
-        "10 Undeclared in item 2",
-    ),
-    (ScriptFault::WrongKind { item: 2 }, "11 WrongKind in item 2"),
-    (
-        ScriptFault::DefinedTwice { item: 3 },
-        "12 DefinedTwice in item 3",
-    ),
-    (ScriptFault::Undefined { item: 3 }, "13 Undefined in item 3"),
-    (ScriptFault::WrongMode { item: 4 }, "14 WrongMode in item 4"),
-    (ScriptFault::Substring { item: 4 }, "15 Substring in item 4"),
-    (ScriptFault::Starter { item: 5 }, "16 Starter in item 5"),
-    (
-        ScriptFault::RepeatedString { item: 5 },
-        "17 RepeatedString in item 5",
-    ),
-    (
-        ScriptFault::EmptyAmong { item: 6 },
-        "18 EmptyAmong in item 6",
-    ),
-    (
-        ScriptFault::NestedBackwards { item: 6 },
-        "19 NestedBackwards in item 6",
-    ),
-    (
-        ScriptFault::OutOfProfile { place: 9 },
-        "20 OutOfProfile at 9",
-    ),
-    (ScriptFault::NoExternal, "21 NoExternal"),
-    (ScriptFault::NotUtf8, "23 NotUtf8"),
-    (ScriptFault::ScriptTooLong, "24 ScriptTooLong"),
-    (ScriptFault::OutOfMemory, "49 OutOfMemory"),
-];
-
 #[test]
 fn faults_are_printed_with_number_and_place(rt: HostRuntime) -> Result<(), Fail> {
-    for (fault, want) in FAULTS {
-        assert_eq!(rt; format!(in rt.alloc(); "{fault}")?.as_str(), *want);
-    }
+    let placed = [
+        ScriptFault::UnknownEscape { place: 7 },
+        ScriptFault::BadCode { place: 16 },
+        ScriptFault::Syntax { place: 30 },
+        ScriptFault::TooDeep { place: 1 },
+        ScriptFault::DeclaredTwice { item: 1 },
+        ScriptFault::Undeclared { item: 2 },
+        ScriptFault::WrongKind { item: 2 },
+        ScriptFault::DefinedTwice { item: 3 },
+        ScriptFault::Undefined { item: 3 },
+        ScriptFault::WrongMode { item: 4 },
+        ScriptFault::Substring { item: 4 },
+        ScriptFault::Starter { item: 5 },
+        ScriptFault::RepeatedString { item: 5 },
+        ScriptFault::EmptyAmong { item: 6 },
+        ScriptFault::NestedBackwards { item: 6 },
+        ScriptFault::OutOfProfile { place: 9 },
+    ];
+    assert_eq!(rt; printed(rt.alloc(), &placed)?.as_str(), PLACED);
+    let others = [
+        ScriptFault::NoExternal,
+        ScriptFault::NotUtf8,
+        ScriptFault::ScriptTooLong,
+        ScriptFault::OutOfMemory,
+    ];
+    let want = "21 NoExternal;23 NotUtf8;24 ScriptTooLong;49 OutOfMemory;";
+    assert_eq!(rt; printed(rt.alloc(), &others)?.as_str(), want);
     Ok(())
 }
+
+/// The texts of faults that are at a place or in an item.
+const PLACED: &str =
+    "4 UnknownEscape at 7;5 BadCode at 16;7 Syntax at 30;8 TooDeep at 1;9 DeclaredTwice in item 1;10 Undeclared in item 2;11 WrongKind in item 2;12 DefinedTwice in item 3;13 Undefined in item 3;14 WrongMode in item 4;15 Substring in item 4;16 Starter in item 5;17 RepeatedString in item 5;18 EmptyAmong in item 6;19 NestedBackwards in item 6;20 OutOfProfile at 9;";
 
 #[test]
 fn words_and_signs_know_how_they_are_written(rt: HostRuntime) {

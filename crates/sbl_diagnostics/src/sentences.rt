@@ -1,8 +1,8 @@
 //! What is wrong at the place of a fault, in a sentence.
 
-use crate::declared::{declaration_of, declared_in, kind_text, names_of};
+use crate::characters::{push_hexadecimal, push_named};
+use crate::declared::{Declared, declaration_of, declared_in, kind_text, names_of};
 use crate::encodings::push_conversion;
-use crate::messages::{push_hexadecimal, push_named};
 use crate::near::{push_listed, push_near, push_near_word};
 use crate::reasons::{begins_sentence, reason};
 use sbl_places::{Part, Position, ScriptFault, begins_item, position_of};
@@ -220,43 +220,48 @@ fn push_closing(shown: &mut String, part: Option<Part<'_>>) -> Result<(), AllocE
     shown.push_str(": take it away, or put a ( before it")
 }
 
+/// Appends what is wrong with a name: that it is not declared, or is declared as something that cannot be used here.
+fn push_name(
+    alloc: Global,
+    shown: &mut String,
+    faulty: Faulty<'_>,
+    name: &str,
+) -> Result<(), AllocError> {
+    let declared = declared_in(alloc, faulty.script)?;
+    match (faulty.fault, declaration_of(&declared, name)) {
+        (ScriptFault::Undeclared { .. }, _) => {
+            push_undeclared(alloc, shown, &declared, name, faulty.external)
+        }
+        (_, Some(declaration)) => {
+            shown.push_str(" is declared as ")?;
+            shown.push_str(kind_text(declaration.word))?;
+            shown.push_str(", which cannot be used here")
+        }
+        (fault, None) => {
+            shown.push_str(" ")?;
+            shown.push_str(reason(fault))
+        }
+    }
+}
+
 /// Appends that a name is not declared, and which declared name or reserved word may be meant.
 fn push_undeclared(
     alloc: Global,
     shown: &mut String,
-    faulty: Faulty<'_>,
-    spot: Spot<'_>,
+    declared: &[Declared<'_>],
+    name: &str,
+    external: &str,
 ) -> Result<(), AllocError> {
-    push_thing(shown, spot)?;
     shown.push_str(" is not declared.")?;
-    let declared = declared_in(alloc, faulty.script)?;
-    if spot.token == faulty.external && names_of(alloc, &declared, true)?.is_empty() {
-        let text = format!(in alloc; " Declare it: externals ( {} )", spot.token)?;
+    if name == external && names_of(alloc, declared, true)?.is_empty() {
+        let text = format!(in alloc; " Declare it: externals ( {name} )")?;
         return shown.push_str(text.as_str());
     }
-    let names = names_of(alloc, &declared, false)?;
-    if push_near(alloc, shown, spot.token, &names)? {
+    let names = names_of(alloc, declared, false)?;
+    if push_near(alloc, shown, name, &names)? {
         return Ok(());
     }
     shown.push_str(" Declare it, or use another name.")
-}
-
-/// Appends that a name is declared as something that cannot be used here.
-fn push_wrong_kind(
-    alloc: Global,
-    shown: &mut String,
-    faulty: Faulty<'_>,
-    spot: Spot<'_>,
-) -> Result<(), AllocError> {
-    push_thing(shown, spot)?;
-    let declared = declared_in(alloc, faulty.script)?;
-    let Some(found) = declaration_of(&declared, spot.token) else {
-        shown.push_str(" ")?;
-        return shown.push_str(reason(faulty.fault));
-    };
-    shown.push_str(" is declared as ")?;
-    shown.push_str(kind_text(found.word))?;
-    shown.push_str(", which cannot be used here")
 }
 
 /// Appends why the external that is to be run is not there.
@@ -308,8 +313,10 @@ pub(crate) fn push_sentence(
 ) -> Result<(), AllocError> {
     match faulty.fault {
         ScriptFault::Syntax { .. } => push_syntax(alloc, shown, faulty, spot),
-        ScriptFault::Undeclared { .. } => push_undeclared(alloc, shown, faulty, spot),
-        ScriptFault::WrongKind { .. } => push_wrong_kind(alloc, shown, faulty, spot),
+        ScriptFault::Undeclared { .. } | ScriptFault::WrongKind { .. } => {
+            push_thing(shown, spot)?;
+            push_name(alloc, shown, faulty, spot.token)
+        }
         ScriptFault::NotUtf8 => push_byte(shown, faulty, spot.begin),
         fault => {
             if !begins_sentence(fault) {

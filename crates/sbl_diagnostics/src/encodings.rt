@@ -1,6 +1,6 @@
 //! Texts that are not UTF-8: how they may be encoded, and how to make them UTF-8.
 
-use crate::messages::push_named;
+use crate::characters::push_named;
 use std::alloc::AllocError;
 
 /// How a text that is not UTF-8 may be encoded.
@@ -19,12 +19,9 @@ fn encoding_of(text: &[u8]) -> Encoding {
     }
 }
 
-/// Appends what the text may be, and how to make it UTF-8. `name` is the name of its file.
-pub(crate) fn push_conversion(
-    shown: &mut String,
-    text: &[u8],
-    name: &str,
-) -> Result<(), AllocError> {
+/// Appends what the text may be, and how to make it UTF-8. `name` is the name of its file. Returns `AllocError` if an allocation
+/// fails.
+pub fn push_conversion(shown: &mut String, text: &[u8], name: &str) -> Result<(), AllocError> {
     let (guess, command) = match encoding_of(text) {
         Encoding::Gzip => ("If gzip compressed it: ", "gzip -d < "),
         Encoding::Latin1 => ("If it is Latin-1: ", "iconv -f latin1 -t utf-8 "),

@@ -4,23 +4,22 @@ use crate::places::{Title, fault_of, fault_text, offset_of_byte, push_title, scr
 use crate::sentences::Faulty;
 use sbl_places::{Part, cut_at_part, offset_in_block};
 use sbl_script::{Script, ScriptEditFault, ScriptFault};
-use sbl_sessions::Target;
 use sbl_text::{Kind, Lexer, Token, Word, tokens};
-use sbl_work::part_of;
 use std::alloc::{AllocError, Global};
 
 /// A block that was refused, and what was in force then.
 #[derive(Clone, Copy)]
-pub(crate) struct Typed<'a> {
+pub struct TypedBlock<'a> {
     /// The lines of the block.
-    pub(crate) block: &'a [u8],
+    pub block: &'a [u8],
     /// The script in force.
-    pub(crate) script: &'a [u8],
-    pub(crate) external: &'a str,
+    pub script: &'a [u8],
+    /// The external of the script.
+    pub external: &'a str,
     /// Whether the block may begin as the definition does that it is put into.
-    pub(crate) takes_heads: bool,
+    pub takes_heads: bool,
     /// The name of the input that has the block, and the line of the input in which the block begins.
-    pub(crate) source: Option<(&'a str, usize)>,
+    pub source: Option<(&'a str, usize)>,
 }
 
 /// Returns the command of an edit.
@@ -140,7 +139,7 @@ fn count_text(
 /// begins at the offset `skipped` of the block.
 fn fault_in_part<'x>(
     alloc: Global,
-    typed: Typed<'x>,
+    typed: TypedBlock<'x>,
     title: Title<'_>,
     script: &Script,
     part: Part<'x>,
@@ -174,7 +173,7 @@ fn fault_in_part<'x>(
 }
 
 /// Returns the block as a text with this fault.
-fn faulty_of<'a>(typed: Typed<'a>, part: Part<'a>, fault: ScriptFault) -> Faulty<'a> {
+fn faulty_of<'a>(typed: TypedBlock<'a>, part: Part<'a>, fault: ScriptFault) -> Faulty<'a> {
     Faulty {
         text: typed.block,
         fault,
@@ -184,13 +183,13 @@ fn faulty_of<'a>(typed: Typed<'a>, part: Part<'a>, fault: ScriptFault) -> Faulty
     }
 }
 
-/// Returns the lines on the fault of a block that was to replace a part, if it has one.
-pub(crate) fn part_text<'x>(
+/// Returns the lines on the fault of a block that was to replace this part, if it has one. Returns `AllocError` if an allocation
+/// fails.
+pub fn part_text<'x>(
     alloc: Global,
-    typed: Typed<'x>,
-    target: &'x Target,
+    typed: TypedBlock<'x>,
+    part: Part<'x>,
 ) -> Result<Option<String>, AllocError> {
-    let part = part_of(target);
     let title = title_of(alloc, part)?;
     let title = Title {
         title: title.as_str(),
@@ -214,8 +213,9 @@ pub(crate) fn part_text<'x>(
     shown
 }
 
-/// Returns the lines on the fault of a block that was to replace the whole script, if it has one.
-pub(crate) fn whole_text(alloc: Global, typed: Typed<'_>) -> Result<Option<String>, AllocError> {
+/// Returns the lines on the fault of a block that was to replace the whole script, if it has one. Returns `AllocError` if an
+/// allocation fails.
+pub fn whole_text(alloc: Global, typed: TypedBlock<'_>) -> Result<Option<String>, AllocError> {
     match fault_of(alloc, typed.block, typed.external) {
         Some(fault) => Ok(Some(script_fault_text(
             alloc,

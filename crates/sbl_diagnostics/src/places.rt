@@ -1,7 +1,12 @@
 //! The place of a fault: the line of a text, and carets below its token.
 
-use crate::blocks::line_at;
-use crate::messages::{plain, push_named, width};
+ghost use Rattle.std.specs.Prelude.{◌≡◌, ◌⊎◌, IfNone, IfSome};
+ghost use Rattle.std.specs.Str.{IsUtf8, IsValidUpTo};
+ghost use Rattle.sbl_ast.specs.Source.{Source};
+ghost use Rattle.sbl_script.specs.Reading.{IsFaultOf, IsScriptOf};
+
+use crate::characters::{plain, push_named, width};
+use crate::lines::line_at;
 use crate::sentences::{Faulty, Spot, is_blank, push_reason, push_sentence};
 use sbl_places::{Position, ScriptFault, offset_of_fault, position_of};
 use sbl_script::Script;
@@ -17,8 +22,11 @@ const BEFORE: usize = 60;
 /// How many characters of a line are shown (our own choice).
 const SHOWN: usize = 120;
 
-/// Returns the fault of a script, if it has one.
-pub(crate) fn fault_of(alloc: Global, text: &[u8], external: &str) -> Option<ScriptFault> {
+/// Returns the fault of a script, if it has one. Returns `OutOfMemory` if an allocation fails.
+pub fn fault_of(alloc: Global, text: &[u8], external: &str) -> Option<ScriptFault>
+    ensures fault { IfSome result (λ f. (f ≡ ScriptFault.OutOfMemory) ⊎ IsFaultOf text.now external.now f) }
+    ensures script { IfNone result ((s : Source) × IsScriptOf text.now external.now s) }
+{
     match Script::parse(alloc, text, external) {
         Ok(script) => {
             script.discard();
@@ -28,8 +36,11 @@ pub(crate) fn fault_of(alloc: Global, text: &[u8], external: &str) -> Option<Scr
     }
 }
 
-/// Returns the offset of a byte that is not UTF-8, if there is one.
-pub(crate) fn offset_of_byte(text: &[u8]) -> Option<usize> {
+/// Returns the offset of the first byte that is not UTF-8, if there is one.
+pub fn offset_of_byte(text: &[u8]) -> Option<usize>
+    ensures offset { IfSome result (λ offset. IsValidUpTo text.now offset) }
+    ensures none { IfNone result (IsUtf8 text.now) }
+{
     match str::from_utf8(text) {
         Ok(_) => None,
         Err(error) => Some(error.valid_up_to()),
@@ -237,8 +248,8 @@ pub(crate) fn fault_text(
     Ok(shown)
 }
 
-/// Returns the lines on a fault of a whole script. `title` is the name of the script.
-pub(crate) fn script_fault_text<'x>(
+/// Returns the lines on a fault of a whole script. `title` is the name of the script. Returns `AllocError` if an allocation fails.
+pub fn script_fault_text<'x>(
     alloc: Global,
     title: &str,
     text: &'x [u8],

@@ -1,0 +1,138 @@
+//! Characters at a terminal: which it obeys, how wide they are, and texts without those that it obeys.
+
+use std::alloc::{AllocError, Global};
+
+/// Characters that a terminal obeys, from the first to the last: control characters but the tab and the line feed, and marks that
+/// turn the direction of writing or have no width.
+const HIDDEN: [(char, char); 10] = [
+    ('\0', '\x08'),
+    ('\x0B', '\x1F'),
+    ('\x7F', '\u{9F}'),
+    ('\u{61C}', '\u{61C}'),
+    ('\u{200B}', '\u{200B}'),
+    ('\u{200E}', '\u{200F}'),
+    ('\u{2028}', '\u{202E}'),
+    ('\u{2060}', '\u{2060}'),
+    ('\u{2066}', '\u{2069}'),
+    ('\u{FEFF}', '\u{FEFF}'),
+];
+
+/// Combining marks, which take no column of a terminal.
+const COMBINING: [(char, char); 10] = [
+    ('\u{300}', '\u{36F}'),
+    ('\u{483}', '\u{489}'),
+    ('\u{591}', '\u{5BD}'),
+    ('\u{610}', '\u{61A}'),
+    ('\u{64B}', '\u{65F}'),
+    ('\u{1AB0}', '\u{1AFF}'),
+    ('\u{1DC0}', '\u{1DFF}'),
+    ('\u{20D0}', '\u{20FF}'),
+    ('\u{3099}', '\u{309A}'),
+    ('\u{FE20}', '\u{FE2F}'),
+];
+
+/// Wide characters, which take two columns of a terminal.
+const WIDE: [(char, char); 11] = [
+    ('\u{1100}', '\u{115F}'),
+    ('\u{2E80}', '\u{303E}'),
+    ('\u{3041}', '\u{A4CF}'),
+    ('\u{AC00}', '\u{D7A3}'),
+    ('\u{F900}', '\u{FAFF}'),
+    ('\u{FE30}', '\u{FE6F}'),
+    ('\u{FF00}', '\u{FF60}'),
+    ('\u{FFE0}', '\u{FFE6}'),
+    ('\u{1F300}', '\u{1F64F}'),
+    ('\u{1F900}', '\u{1F9FF}'),
+    ('\u{20000}', '\u{3FFFD}'),
+];
+
+/// Returns whether the character is in one of these ranges.
+fn is_in(ranges: &[(char, char)], character: char) -> bool {
+    for (first, last) in ranges {
+        if *first <= character && character <= *last {
+            return true;
+        }
+    }
+    false
+}
+
+/// Returns the character, or `?` if a terminal obeys it.
+pub(crate) fn plain(character: char) -> char {
+    if is_in(&HIDDEN, character) {
+        '?'
+    } else {
+        character
+    }
+}
+
+/// Returns how many columns of a terminal a character takes.
+pub(crate) fn width(character: char) -> usize {
+    if is_in(&COMBINING, character) {
+        0
+    } else if is_in(&WIDE, character) {
+        2
+    } else {
+        1
+    }
+}
+
+/// The powers of 16 below 2 ^ 32.
+const POWERS: [u32; 8] = [
+    268_435_456,
+    16_777_216,
+    1_048_576,
+    65_536,
+    4_096,
+    256,
+    16,
+    1,
+];
+
+/// Appends a number with hexadecimal digits. Zeros before it are written from the digit of the power `first` on.
+pub(crate) fn push_hexadecimal(
+    shown: &mut String,
+    number: u32,
+    first: u32,
+) -> Result<(), AllocError> {
+    let mut has_begun = false;
+    for power in POWERS {
+        let digit = number.checked_div(power).unwrap_or(0) % 16;
+        has_begun = has_begun || digit > 0 || power <= first;
+        if has_begun {
+            shown.push(
+                char::from_digit(digit, 16)
+                    .unwrap_or('?')
+                    .to_ascii_uppercase(),
+            )?;
+        }
+    }
+    Ok(())
+}
+
+/// Appends a text; for each character that a terminal obeys it has the number: `<U+202E>`. Returns `AllocError` if an allocation
+/// fails.
+pub fn push_named(shown: &mut String, text: &str) -> Result<(), AllocError> {
+    for character in text.chars() {
+        push_named_character(shown, character)?;
+    }
+    Ok(())
+}
+
+/// Appends a character, or its number if a terminal obeys it.
+fn push_named_character(shown: &mut String, character: char) -> Result<(), AllocError> {
+    if !is_in(&HIDDEN, character) {
+        return shown.push(character);
+    }
+    shown.push_str("<U+")?;
+    push_hexadecimal(shown, u32::from(character), 4_096)?;
+    shown.push('>')
+}
+
+/// Returns the text with `?` for each character that a terminal obeys. Returns `AllocError` if an allocation fails.
+pub fn plain_text(alloc: Global, text: &str) -> Result<String, AllocError> {
+    let mut shown = String::new(alloc);
+    for character in text.chars() {
+        shown.push(plain(character))?;
+    }
+    Ok(shown)
+}

@@ -1,0 +1,17 @@
+//! The lines on a fault that people read: its place, what is wrong in a sentence, and the line of the text with carets.
+#![tactic(auto)]
+
+mod block_faults;
+mod characters;
+mod declared;
+mod encodings;
+mod lines;
+mod near;
+mod places;
+mod reasons;
+mod sentences;
+
+pub use block_faults::{TypedBlock, part_text, whole_text};
+pub use characters::{plain_text, push_named};
+pub use encodings::push_conversion;
+pub use places::{fault_of, offset_of_byte, script_fault_text};
