@@ -1,8 +1,9 @@
-//! Readers and writers that handle a few bytes at a time, and that are interrupted and fail as a test requires.
+//! Readers and writers that handle a few bytes at a time, and that are interrupted and fail as a test requires. What was written to them.
 #![tactic(auto)]
 
 ghost use Rattle.std.specs.Prelude.{◌≡◌, ◌<◌};
 
+use std::alloc::{AllocError, Global};
 use std::io;
 use std::io::{ErrorKind, Read, Write};
 use std::random::RandomSource;
@@ -86,6 +87,41 @@ pub fn in_pieces<D>(inner: D, piece: usize, fails_at: u64, interruptions: u64) -
         fails_at,
     };
     Pieces { inner, piece, plan }
+}
+
+/// What was written, and how it ended.
+#[derive(Debug, Drop)]
+pub struct Written<E> {
+    /// The bytes that were written.
+    pub text: Vec<u8>,
+    /// How it ended.
+    pub ending: E,
+}
+
+impl<E: PartialEq> Written<E> {
+    /// Returns whether this text was written and it ended so.
+    pub fn is(&self, text: &[u8], ending: &E) -> bool {
+        self.text.as_slice() == text && self.ending == *ending
+    }
+}
+
+/// Returns, one after another, the outputs of those lines that are whole in the first `bytes` bytes of an input, in which they follow
+/// `begin` bytes. Returns `AllocError` if an allocation fails.
+pub fn outputs_within(
+    alloc: Global,
+    begin: usize,
+    lines: &[(&[u8], &[u8])],
+    bytes: u64,
+) -> Result<Vec<u8>, AllocError> {
+    let mut text = Vec::new(alloc);
+    let mut end = begin as u64;
+    for (line, output) in lines {
+        end = end.saturating_add(line.len() as u64);
+        if end <= bytes {
+            text.extend_from_slice(output)?;
+        }
+    }
+    Ok(text)
 }
 
 /// A source that gives the same bytes again and again, so that tests take the same keys in each run.

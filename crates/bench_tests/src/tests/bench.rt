@@ -1,6 +1,10 @@
 //! The words of a bench: refusals, and refused growths. What else is answered stands in tests/cases.
 
 use crate::tests::characters::{text_of, word_of};
+use sbl_bench::EditFault::{
+    Absent, AmongCount, BadLimit, EmptyWord, Full, MeterFull, NoAmong, NoGrouping, NoRoutine,
+    OutOfMemory, Present, WordTooLong,
+};
 use sbl_bench::{Bench, EditFault, Row};
 use sbl_machine::Outcome;
 use sbl_script::{Script, ScriptFault};
@@ -9,7 +13,7 @@ use std::hash::RandomState;
 use std::process::Abort;
 use std::test::Fail;
 use test_devices::SameBytes;
-use test_scripts::PREFIXES;
+use test_scripts::{PREFIXES, printed};
 
 /// A bench over this script and these words.
 pub(crate) fn bench_of(alloc: Global, script: &str, words: &[&str]) -> Result<Bench, Fail> {
@@ -108,30 +112,18 @@ fn a_refused_growth_changes_nothing(rt: HostRuntime) -> Result<(), Fail> {
     taken
 }
 
-const FAULTS: &[(EditFault, &str)] = &[
-    (EditFault::Present, "40 Present"),
-    (EditFault::Absent, "41 Absent"),
-    (EditFault::EmptyWord, "42 EmptyWord"),
-    (EditFault::WordTooLong, "43 WordTooLong"),
-    (EditFault::Full, "44 Full"),
-    (EditFault::NoRoutine, "45 NoRoutine"),
-    (EditFault::NoAmong, "46 NoAmong"),
-    (EditFault::AmongCount, "47 AmongCount"),
-    (
-        EditFault::Script(ScriptFault::Undeclared { item: 2 }),
-        "48 Undeclared",
-    ),
-    (EditFault::Script(ScriptFault::NoExternal), "48 NoExternal"),
-    (EditFault::OutOfMemory, "49 OutOfMemory"),
-    (EditFault::MeterFull, "50 MeterFull"),
-    (EditFault::BadLimit, "51 BadLimit"),
-    (EditFault::NoGrouping, "53 NoGrouping"),
-];
-
 #[test]
 fn faults_are_printed_with_their_numbers(rt: HostRuntime) -> Result<(), Fail> {
-    for (fault, text) in FAULTS {
-        assert_eq!(rt; format!(in rt.alloc(); "{fault}")?.as_str(), *text);
-    }
+    let words = [Present, Absent, EmptyWord, WordTooLong, Full];
+    let want = "40 Present;41 Absent;42 EmptyWord;43 WordTooLong;44 Full;";
+    assert_eq!(rt; printed(rt.alloc(), &words)?.as_str(), want);
+    let edits = [NoRoutine, NoAmong, AmongCount, NoGrouping, BadLimit];
+    let want = "45 NoRoutine;46 NoAmong;47 AmongCount;53 NoGrouping;51 BadLimit;";
+    assert_eq!(rt; printed(rt.alloc(), &edits)?.as_str(), want);
+    let undeclared = EditFault::Script(ScriptFault::Undeclared { item: 2 });
+    let no_external = EditFault::Script(ScriptFault::NoExternal);
+    let others = [undeclared, no_external, OutOfMemory, MeterFull];
+    let want = "48 Undeclared;48 NoExternal;49 OutOfMemory;50 MeterFull;";
+    assert_eq!(rt; printed(rt.alloc(), &others)?.as_str(), want);
     Ok(())
 }

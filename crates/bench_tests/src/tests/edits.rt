@@ -5,7 +5,6 @@ use crate::tests::changes::CHANGES;
 use crate::tests::characters::word_of;
 use crate::tests::groupings::GROUPINGS;
 use crate::tests::limits::LIMITS;
-use crate::tests::whole_scripts::WHOLE_SCRIPTS;
 use sbl_bench::{Bench, EditFault, Row as BenchRow};
 use std::alloc::Global;
 use std::process::Abort;
@@ -105,7 +104,7 @@ pub(crate) fn tries(rt: &impl Abort, alloc: Global, case: &Case) -> Result<u32, 
 
 #[test]
 fn edits_give_their_rows_changes_and_runs(rt: HostRuntime) -> Result<(), Fail> {
-    for cases in [CHANGES, GROUPINGS, LIMITS, WHOLE_SCRIPTS] {
+    for cases in [CHANGES, GROUPINGS, LIMITS] {
         for case in cases {
             tries(&rt, rt.alloc(), case)?;
         }

@@ -1,10 +1,10 @@
 //! Whole scripts as edits, with the rows and the count of runs after each.
 
 use crate::tests::bench::{bench_of, rows_shown};
-use crate::tests::edits::{ANY, Case, Edit, tries};
+use crate::tests::edits::{ANY, Edit, tries};
 use sbl_bench::Bench;
 use sbl_script::Script;
-use std::alloc::Global;
+use std::alloc::{AllocError, Global};
 use std::process::Abort;
 use std::test::Fail;
 
@@ -34,120 +34,54 @@ define u v+'y' define head as([u]delete)
 define tail as('d'or([among('b'()'c'())]delete))
 define stem as('x'head)or('a'tail)or([non w]delete)";
 
-/// `head` takes nothing off.
-const OTHER_ROUTINE: &str = "groupings ( v w u )
-routines ( head tail )
-externals ( stem )
-define v 'a'
-define w v + 'b'
-define u v + 'y'
-define head as ( u )
-define tail as ( 'd' or ( [ among ( 'b' () 'c' () ) ] delete ) )
-define stem as ( 'x' head ) or ( 'a' tail ) or ( [ non w ] delete )
-";
-
-/// And the among of `tail` puts an `e` after a `b`.
-const OTHER_AMONG: &str = "groupings ( v w u )
-routines ( head tail )
-externals ( stem )
-define v 'a'
-define w v + 'b'
-define u v + 'y'
-define head as ( u )
-define tail as ( 'd' or ( [ among ( 'b' ( attach 'e' ) 'c' () ) ] delete ) )
-define stem as ( 'x' head ) or ( 'a' tail ) or ( [ non w ] delete )
-";
-
-/// And `v` has a `q`.
-const OTHER_GROUPING: &str = "groupings ( v w u )
-routines ( head tail )
-externals ( stem )
-define v 'aq'
-define w v + 'b'
-define u v + 'y'
-define head as ( u )
-define tail as ( 'd' or ( [ among ( 'b' ( attach 'e' ) 'c' () ) ] delete ) )
-define stem as ( 'x' head ) or ( 'a' tail ) or ( [ non w ] delete )
-";
-
-/// `head` and the among of `tail` are the first ones again.
-const TWO_ITEMS: &str = "groupings ( v w u )
-routines ( head tail )
-externals ( stem )
-define v 'aq'
-define w v + 'b'
-define u v + 'y'
-define head as ( [ u ] delete )
-define tail as ( 'd' or ( [ among ( 'b' () 'c' () ) ] delete ) )
-define stem as ( 'x' head ) or ( 'a' tail ) or ( [ non w ] delete )
-";
-
-/// `u` is before `w`.
-const MOVED: &str = "groupings ( v w u )
-routines ( head tail )
-externals ( stem )
-define v 'aq'
-define u v + 'y'
-define w v + 'b'
-define head as ( [ u ] delete )
-define tail as ( 'd' or ( [ among ( 'b' () 'c' () ) ] delete ) )
-define stem as ( 'x' head ) or ( 'a' tail ) or ( [ non w ] delete )
-";
-
-/// And an integer is declared.
-const DECLARED: &str = "groupings ( v w u )
-routines ( head tail )
-externals ( stem )
-integers ( n )
-define v 'aq'
-define u v + 'y'
-define w v + 'b'
-define head as ( [ u ] delete )
-define tail as ( 'd' or ( [ among ( 'b' () 'c' () ) ] delete ) )
-define stem as ( 'x' head ) or ( 'a' tail ) or ( [ non w ] delete )
-";
-
 const OTHER_EXTERNAL: &str = "externals ( other ) define other as next";
 
-const AFTER: &str = "xyb xb;ab a;xb b;q q;ad ad;";
+/// Returns the text with `new` in place of the first `old`.
+fn changed(alloc: Global, text: &str, old: &str, new: &str) -> Result<String, AllocError> {
+    let (front, back) = text.split_once(old).unwrap_or(("", ""));
+    format!(in alloc; "{front}{new}{back}")
+}
 
-// The first two run nothing, the next four what met the items that differ, then two run all, and three are refused.
-pub(crate) const WHOLE_SCRIPTS: &[Case] = &[(
-    FIRST,
-    WORDS,
-    &[
-        (Edit::Whole(FIRST), "", ROWS, ANY, 5),
-        (Edit::Whole(LAID_OUT), "", ROWS, ANY, 5),
-        (
-            Edit::Whole(OTHER_ROUTINE),
-            "",
-            "xyb xyb;ab a;xb b;q ;ad ad;",
-            ANY,
-            7,
-        ),
-        (
-            Edit::Whole(OTHER_AMONG),
-            "",
-            "xyb xyb;ab ae;xb b;q ;ad ad;",
-            ANY,
-            8,
-        ),
-        (
-            Edit::Whole(OTHER_GROUPING),
-            "",
-            "xyb xyb;ab ae;xb b;q q;ad ad;",
-            ANY,
-            11,
-        ),
-        (Edit::Whole(TWO_ITEMS), "", AFTER, ANY, 14),
-        (Edit::Whole(MOVED), "", AFTER, ANY, 19),
-        (Edit::Whole(DECLARED), "", AFTER, ANY, 24),
-        (Edit::Whole("define"), "48 Syntax", AFTER, ANY, 24),
-        (Edit::Whole(OTHER_EXTERNAL), "48 NoExternal", AFTER, ANY, 24),
-        (Edit::Whole(""), "48 NoExternal", AFTER, ANY, 24),
-        (Edit::Whole(FIRST), "", ROWS, ANY, 29),
-    ],
-)];
+/// Returns the first script with a `head` that takes nothing off.
+fn other_routine(alloc: Global) -> Result<String, AllocError> {
+    changed(alloc, FIRST, "( [ u ] delete )", "( u )")
+}
+
+// The first two scripts run nothing, the next four what met the items that differ, then two run all, and three are refused.
+#[test]
+fn a_whole_script_runs_what_met_the_items_that_differ(rt: HostRuntime) -> Result<(), Fail> {
+    let alloc = rt.alloc();
+    // Each script but the last is the one before with one more difference: in a routine, in the among of `tail`, in a grouping; the
+    // first two are taken back; two groupings are exchanged; an integer is declared.
+    let routine = other_routine(alloc)?;
+    let among = changed(alloc, &routine, "'b' ()", "'b' ( attach 'e' )")?;
+    let grouping = changed(alloc, &among, "v 'a'", "v 'aq'")?;
+    let two_items = changed(alloc, FIRST, "v 'a'", "v 'aq'")?;
+    let moved = changed(alloc, &two_items, "define u v + 'y'\n", "")?;
+    let moved = changed(alloc, &moved, "define w", "define u v + 'y'\ndefine w")?;
+    let declared = changed(alloc, &moved, "define v", "integers ( n )\ndefine v")?;
+    let after = "xyb xb;ab a;xb b;q q;ad ad;";
+    let rows: [(&str, &str, &str, u64); 12] = [
+        (FIRST, "", ROWS, 5),
+        (LAID_OUT, "", ROWS, 5),
+        (&routine, "", "xyb xyb;ab a;xb b;q ;ad ad;", 7),
+        (&among, "", "xyb xyb;ab ae;xb b;q ;ad ad;", 8),
+        (&grouping, "", "xyb xyb;ab ae;xb b;q q;ad ad;", 11),
+        (&two_items, "", after, 14),
+        (&moved, "", after, 19),
+        (&declared, "", after, 24),
+        ("define", "48 Syntax", after, 24),
+        (OTHER_EXTERNAL, "48 NoExternal", after, 24),
+        ("", "48 NoExternal", after, 24),
+        (FIRST, "", ROWS, 29),
+    ];
+    let mut edits = Vec::new(alloc);
+    for (text, want, rows, runs) in rows {
+        edits.push((Edit::Whole(text), want, rows, ANY, runs))?;
+    }
+    tries(&rt, alloc, &(FIRST, WORDS, &edits))?;
+    Ok(())
+}
 
 // The longest script has 1,048,576 bytes.
 #[test]
@@ -183,7 +117,8 @@ fn installs(
 /// Installs an edited script and takes it back. The two words run that enter the routine which differs.
 fn installs_an_edited_one(rt: &impl Abort, alloc: Global, bench: &mut Bench) -> Result<(), Fail> {
     let rows = [("xyb xyb;ab a;xb b;q ;ad ad;", 7), (ROWS, 9)];
-    let mut script = Script::parse(alloc, OTHER_ROUTINE.as_bytes(), "stem")?;
+    let text = other_routine(alloc)?;
+    let mut script = Script::parse(alloc, text.as_bytes(), "stem")?;
     let done = installs(rt, alloc, bench, &mut script, rows);
     script.discard();
     done

@@ -5,7 +5,7 @@ use sbl_io::{Device, ServeFault};
 use sbl_script::Script;
 use std::alloc::Global;
 use std::test::Fail;
-use test_devices::{Pieces, in_pieces};
+use test_devices::{Pieces, Written, in_pieces};
 
 const PREFIXES: &[u8] =
     b"externals ( stem )\ndefine stem as ( [ among ( 'un' () 're' () ) ] delete )\n";
@@ -20,12 +20,8 @@ fn interrupted(alloc: Global, interruptions: u64) -> Device<Pieces<Vec<u8>>> {
     Device::new(in_pieces(Vec::new(alloc), 2, 0, interruptions))
 }
 
-/// What a check wrote, and how it ended.
-#[derive(Drop)]
-struct Checked {
-    text: Vec<u8>,
-    ending: Result<u64, ServeFault>,
-}
+/// How a check ends: with the number of differences, or a fault.
+type Ending = Result<u64, ServeFault>;
 
 /// Checks two lists of lines by a script that deletes a first `un` or `re`.
 fn check_of(
@@ -33,11 +29,11 @@ fn check_of(
     mut writer: Device<Pieces<Vec<u8>>>,
     words: &[u8],
     expected: &[u8],
-) -> Result<Checked, Fail> {
+) -> Result<Written<Ending>, Fail> {
     let script = Script::parse(alloc, PREFIXES, "stem")?;
     let ending = check(alloc, &script, words, expected, &mut writer);
     script.discard();
-    Ok(Checked {
+    Ok(Written {
         text: writer.into_inner().inner,
         ending,
     })
@@ -61,12 +57,7 @@ const ROWS: [(&[u8], &[u8], &[u8], Result<u64, ServeFault>); 4] = [
 fn a_check_writes_a_row_for_each_difference(rt: HostRuntime) -> Result<(), Fail> {
     for (number, (words, expected, text, ending)) in ROWS.iter().enumerate() {
         let checked = check_of(rt.alloc(), writer(rt.alloc(), 0), words, expected)?;
-        assert!(rt; checked.ending == *ending, "{number}: {:?}", checked.ending);
-        assert!(rt;
-            checked.text.as_slice() == *text,
-            "{number}: {:?}",
-            checked.text
-        );
+        assert!(rt; checked.is(text, ending), "{number}: {checked:?}");
     }
     Ok(())
 }
@@ -83,14 +74,10 @@ fn a_word_and_a_line_of_a_check_have_a_longest_length(rt: HostRuntime) -> Result
         (b"\xFF", &line, Err(ServeFault::NotText), 0),
         (&line, b"\xFF", Err(ServeFault::LineTooLong), 0),
     ];
-    for (number, (words, expected, ending, length)) in rows.iter().enumerate() {
+    for (words, expected, ending, length) in rows {
         let checked = check_of(rt.alloc(), writer(rt.alloc(), 0), words, expected)?;
-        assert!(rt; checked.ending == *ending, "{number}: {:?}", checked.ending);
-        assert!(rt;
-            checked.text.len() == *length,
-            "{number}: {}",
-            checked.text.len()
-        );
+        assert!(rt; checked.ending == ending, "{length}: {:?}", checked.ending);
+        assert!(rt; checked.text.len() == length, "{length}");
     }
     Ok(())
 }
@@ -100,13 +87,10 @@ fn a_word_and_a_line_of_a_check_have_a_longest_length(rt: HostRuntime) -> Result
 fn a_check_ends_if_its_writer_fails(rt: HostRuntime) -> Result<(), Fail> {
     let alloc = rt.alloc();
     let failing = check_of(alloc, writer(alloc, 2), b"undo\n", b"x\n")?;
-    assert!(rt; failing.ending == Err(ServeFault::Write));
-    assert!(rt; failing.text.as_slice() == b"1,un".as_slice());
+    assert!(rt; failing.is(b"1,un", &Err(ServeFault::Write)));
     let patient = check_of(alloc, interrupted(alloc, 1_000), b"undo\n", b"x\n")?;
-    assert!(rt; patient.ending == Ok(1));
-    assert!(rt; patient.text.as_slice() == b"1,undo,x,do\n".as_slice());
+    assert!(rt; patient.is(b"1,undo,x,do\n", &Ok(1)));
     let weary = check_of(alloc, interrupted(alloc, 1_001), b"undo\n", b"x\n")?;
-    assert!(rt; weary.ending == Err(ServeFault::Write));
-    assert!(rt; weary.text.is_empty());
+    assert!(rt; weary.is(b"", &Err(ServeFault::Write)));
     Ok(())
 }

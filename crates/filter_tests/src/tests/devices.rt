@@ -3,63 +3,54 @@
 use sbl_filter::filter;
 use sbl_io::{Device, Lines, ServeFault};
 use sbl_sessions::LoadFault;
-use std::alloc::Global;
+use std::alloc::{AllocError, Global};
 use std::test::Fail;
-use test_devices::in_pieces;
+use test_devices::{Written, in_pieces, outputs_within};
+
+/// What a filter wrote, and how it ended.
+type Ended = Written<Result<(), LoadFault>>;
 
 const SCRIPT: &[u8] =
     b"externals ( stem )\ndefine stem as ( [ among ( 'un' () 're' () ) ] delete )\n.\n";
 
-const WORDS: [&[u8]; 4] = [b"undo\n", b"\n", b"redo\n", b"x\n"];
-
-const ROWS: [&[u8]; 4] = [b"undo,stem,do\n", b"", b"redo,stem,do\n", b"x,stem,x\n"];
-
-/// What a filter wrote, and how it ended.
-#[derive(Drop)]
-struct Ended {
-    text: Vec<u8>,
-    ending: Result<(), LoadFault>,
-}
+/// Lines of words, each with its row.
+const WORDS: [(&[u8], &[u8]); 4] = [
+    (b"undo\n", b"undo,stem,do\n"),
+    (b"\n", b""),
+    (b"redo\n", b"redo,stem,do\n"),
+    (b"x\n", b"x,stem,x\n"),
+];
 
 // Filters the words by reads and writes of one byte, each interrupted so many times before. The reader fails at read
 // `read` and the writer at write `write`, both counted from 1 (0 for never).
 fn filtered(alloc: Global, read: u64, write: u64, interruptions: u64) -> Result<Ended, Fail> {
     let mut input = Vec::from_slice(alloc, SCRIPT)?;
-    for word in WORDS {
+    for (word, _) in WORDS {
         input.extend_from_slice(word)?;
     }
     let mut writer = Device::new(in_pieces(Vec::new(alloc), 1, write, interruptions));
     let reader = Device::new(in_pieces(input.as_slice(), 1, read, interruptions));
     let mut lines = Lines::new(alloc, reader)?;
     let ending = filter(&mut lines, "stem", &mut writer);
-    Ok(Ended {
+    Ok(Written {
         text: writer.into_inner().inner,
         ending,
     })
 }
 
 // Returns the rows of the words that this many bytes of the input hold with their line feeds.
-fn rows_of(alloc: Global, bytes: u64) -> Result<Vec<u8>, Fail> {
-    let mut text = Vec::new(alloc);
-    let mut end = SCRIPT.len() as u64;
-    for (word, row) in WORDS.iter().zip(ROWS.iter()) {
-        end = end.saturating_add(word.len() as u64);
-        if end <= bytes {
-            text.extend_from_slice(row)?;
-        }
-    }
-    Ok(text)
+fn rows_of(alloc: Global, bytes: u64) -> Result<Vec<u8>, AllocError> {
+    outputs_within(alloc, SCRIPT.len(), &WORDS, bytes)
 }
 
 #[test]
 fn each_row_is_written_before_the_next_read(rt: HostRuntime) -> Result<(), Fail> {
+    let ending = Err(LoadFault::Input(ServeFault::Read));
     // The input has 90 bytes, and the read after them returns its end.
     for read in 1..92 {
-        let ended = filtered(rt.alloc(), read, 0, 0)?;
         let rows = rows_of(rt.alloc(), read - 1)?;
-        assert!(rt; ended.text == rows, "{read} {:?}", ended.text);
         assert!(rt;
-            ended.ending == Err(LoadFault::Input(ServeFault::Read)),
+            filtered(rt.alloc(), read, 0, 0)?.is(&rows, &ending),
             "{read}"
         );
     }
@@ -89,10 +80,8 @@ fn a_filter_ends_if_its_writer_fails(rt: HostRuntime) -> Result<(), Fail> {
 fn a_filter_bears_a_thousand_interruptions_in_a_row(rt: HostRuntime) -> Result<(), Fail> {
     let rows = rows_of(rt.alloc(), 1_000)?;
     let patient = filtered(rt.alloc(), 0, 0, 1_000)?;
-    assert!(rt; patient.ending == Ok(()));
-    assert!(rt; patient.text == rows);
+    assert!(rt; patient.is(&rows, &Ok(())));
     let weary = filtered(rt.alloc(), 0, 0, 1_001)?;
-    assert!(rt; weary.ending == Err(LoadFault::Input(ServeFault::Read)));
-    assert!(rt; weary.text.is_empty());
+    assert!(rt; weary.is(b"", &Err(LoadFault::Input(ServeFault::Read))));
     Ok(())
 }

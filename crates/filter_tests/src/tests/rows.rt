@@ -7,7 +7,7 @@ use sbl_script::ScriptFault;
 use sbl_sessions::LoadFault;
 use std::alloc::Global;
 use std::test::Fail;
-use test_devices::in_pieces;
+use test_devices::{Written, in_pieces};
 
 const UN: &[u8] =
     b"externals ( stem )\ndefine stem as ( [ among ( 'un' () 're' () ) ] delete )\n.\n";
@@ -15,15 +15,14 @@ const UN: &[u8] =
 const LOOP: &[u8] = b"externals ( stem ) define stem as ( 'a' repeat true )\n.\n";
 
 /// What a filter wrote, how it ended, and the line after what it has read.
-#[derive(Drop)]
-struct Ended {
-    text: Vec<u8>,
-    ending: Result<(), LoadFault>,
+#[derive(Debug, Drop)]
+struct Filtered {
+    written: Written<Result<(), LoadFault>>,
     next: Vec<u8>,
 }
 
 // Filters this input with the external `stem`.
-fn filtered(alloc: Global, script: &[u8], rest: &[u8]) -> Result<Ended, Fail> {
+fn filtered(alloc: Global, script: &[u8], rest: &[u8]) -> Result<Filtered, Fail> {
     let mut input = Vec::from_slice(alloc, script)?;
     input.extend_from_slice(rest)?;
     let mut writer = Device::new(in_pieces(Vec::new(alloc), 4, 0, 0));
@@ -33,9 +32,9 @@ fn filtered(alloc: Global, script: &[u8], rest: &[u8]) -> Result<Ended, Fail> {
     if let Ok(true) = lines.next_line() {
         next.extend_from_slice(lines.line())?;
     }
-    Ok(Ended {
-        text: writer.into_inner().inner,
-        ending,
+    let text = writer.into_inner().inner;
+    Ok(Filtered {
+        written: Written { text, ending },
         next,
     })
 }
@@ -126,17 +125,8 @@ const ROWS: [Row<'static>; 13] = [
 fn a_filter_writes_a_row_for_each_word_up_to_a_fault(rt: HostRuntime) -> Result<(), Fail> {
     for (number, (script, rest, text, ending, next)) in ROWS.iter().enumerate() {
         let ended = filtered(rt.alloc(), script, rest)?;
-        assert!(rt; ended.ending == *ending, "{number}: {:?}", ended.ending);
-        assert!(rt;
-            ended.text.as_slice() == *text,
-            "{number}: {:?}",
-            ended.text
-        );
-        assert!(rt;
-            ended.next.as_slice() == *next,
-            "{number}: {:?}",
-            ended.next
-        );
+        let is_so = ended.written.is(text, ending) && ended.next.as_slice() == *next;
+        assert!(rt; is_so, "{number}: {ended:?}");
     }
     Ok(())
 }
@@ -173,9 +163,10 @@ fn a_word_and_a_line_have_a_longest_length(rt: HostRuntime) -> Result<(), Fail> 
         words.extend_from_slice(vec![in rt.alloc(); b'a'; length]?.as_slice())?;
         words.extend_from_slice(rest)?;
         let ended = filtered(rt.alloc(), UN, words.as_slice())?;
-        assert!(rt; ended.ending == ending, "{length}: {:?}", ended.ending);
-        assert!(rt; ended.text.starts_with(b"undo,stem,do\n"), "{length}");
-        assert!(rt; ended.text.len() == written, "{length}");
+        let Written { text, ending: end } = &ended.written;
+        assert!(rt; *end == ending, "{length}: {end:?}");
+        assert!(rt; text.starts_with(b"undo,stem,do\n"), "{length}");
+        assert!(rt; text.len() == written, "{length}");
         assert!(rt; ended.next.as_slice() == next, "{length}");
     }
     Ok(())

@@ -4,18 +4,17 @@ use snowbench::{CommandLine, Device, Lines, Verb, run};
 use std::alloc::Global;
 use std::hash::RandomState;
 use std::test::Fail;
-use test_devices::{Pieces, SameBytes, in_pieces};
+use test_devices::{Pieces, SameBytes, Written, in_pieces};
 
 /// Returns a writer in memory that takes four bytes at each write and fails at write `fails_at` (0 for never).
 fn writer(alloc: Global, fails_at: u64) -> Device<Pieces<Vec<u8>>> {
     Device::new(in_pieces(Vec::new(alloc), 4, fails_at, 0))
 }
 
-/// What a run of the program wrote, and its status.
-#[derive(Drop)]
+/// What a run of the program wrote, its status, and what it wrote to the writer of faults.
+#[derive(Debug, Drop)]
 struct Ran {
-    status: u8,
-    text: Vec<u8>,
+    written: Written<u8>,
     errors: Vec<u8>,
 }
 
@@ -45,10 +44,10 @@ fn run_of(
         shows_places: false,
         face: None,
     };
-    let status = run(&command_line, keys, &mut lines, &mut text, &mut errors);
+    let ending = run(&command_line, keys, &mut lines, &mut text, &mut errors);
+    let text = text.into_inner().inner;
     Ok(Ran {
-        status,
-        text: text.into_inner().inner,
+        written: Written { text, ending },
         errors: errors.into_inner().inner,
     })
 }
@@ -267,13 +266,8 @@ const ROWS: [Row<'static>; 22] = [
 fn a_subcommand_writes_its_text_and_ends_with_its_status(rt: HostRuntime) -> Result<(), Fail> {
     for (number, (verb, external, script, rest, status, text, errors)) in ROWS.iter().enumerate() {
         let ran = run_of(rt.alloc(), *verb, external, script, rest, 0)?;
-        assert!(rt; ran.status == *status, "{number}: {}", ran.status);
-        assert!(rt; ran.text.as_slice() == *text, "{number}: {:?}", ran.text);
-        assert!(rt;
-            ran.errors.as_slice() == *errors,
-            "{number}: {:?}",
-            ran.errors
-        );
+        let is_so = ran.written.is(text, status) && ran.errors.as_slice() == *errors;
+        assert!(rt; is_so, "{number}: {ran:?}");
     }
     Ok(())
 }
@@ -281,7 +275,7 @@ fn a_subcommand_writes_its_text_and_ends_with_its_status(rt: HostRuntime) -> Res
 #[test]
 fn a_fault_has_its_status_without_its_line(rt: HostRuntime) -> Result<(), Fail> {
     let cut = run_of(rt.alloc(), Verb::Stem, "stem", b"externals", b"", 1)?;
-    assert!(rt; cut.status == 1);
+    assert!(rt; cut.written.ending == 1);
     assert!(rt; cut.errors.is_empty());
     Ok(())
 }

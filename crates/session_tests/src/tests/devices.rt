@@ -3,17 +3,24 @@
 use crate::tests::served::{Ended, UN, joined, served};
 use sbl_io::{Device, Lines, ServeFault};
 use sbl_sessions::LoadFault;
-use std::alloc::Global;
+use std::alloc::{AllocError, Global};
 use std::test::Fail;
-use test_devices::in_pieces;
+use test_devices::{in_pieces, outputs_within};
 
-const COMMANDS: [&[u8]; 3] = [b"add undo\n", b"add redo\n", b"stems\n"];
-
-const REPLIES: [&[u8]; 3] = [b"ok\n", b"ok\n", b"undo,stem,do\nredo,stem,do\n"];
+/// Commands, each with its reply.
+const COMMANDS: [(&[u8], &[u8]); 3] = [
+    (b"add undo\n", b"ok\n"),
+    (b"add redo\n", b"ok\n"),
+    (b"stems\n", b"undo,stem,do\nredo,stem,do\n"),
+];
 
 // Returns the input of the session.
 fn input_of(alloc: Global) -> Result<Vec<u8>, Fail> {
-    joined(alloc, &[UN, b".\n", COMMANDS[0], COMMANDS[1], COMMANDS[2]])
+    let mut input = joined(alloc, &[UN, b".\n"])?;
+    for (command, _) in COMMANDS {
+        input.extend_from_slice(command)?;
+    }
+    Ok(input)
 }
 
 // Runs the session by reads and writes of one byte. It is read at most `most` times. The reader fails at read `read` and
@@ -26,17 +33,9 @@ fn session(alloc: Global, most: u64, read: u64, write: u64) -> Result<Ended, Fai
 }
 
 // Returns the replies to the commands that this many bytes of the input hold with their line feeds.
-fn replies_to(alloc: Global, bytes: u64) -> Result<Vec<u8>, Fail> {
-    let mut text = Vec::new(alloc);
+fn replies_to(alloc: Global, bytes: u64) -> Result<Vec<u8>, AllocError> {
     // (the line that ends the words follows the script)
-    let mut end = UN.len() as u64 + 2;
-    for (command, reply) in COMMANDS.iter().zip(REPLIES.iter()) {
-        end = end.saturating_add(command.len() as u64);
-        if end <= bytes {
-            text.extend_from_slice(reply)?;
-        }
-    }
-    Ok(text)
+    outputs_within(alloc, UN.len() + 2, &COMMANDS, bytes)
 }
 
 #[test]
@@ -45,33 +44,19 @@ fn a_reader_may_fail_at_each_of_its_reads(rt: HostRuntime) -> Result<(), Fail> {
     for bytes in 0..input.len() as u64 + 1 {
         let ended = session(rt.alloc(), u64::MAX, bytes + 1, 0)?;
         let text = replies_to(rt.alloc(), bytes)?;
-        assert!(rt;
-            ended.ending == Err(LoadFault::Input(ServeFault::Read)),
-            "{bytes}"
-        );
-        assert!(rt;
-            ended.text.as_slice() == text.as_slice(),
-            "{bytes}: {:?}",
-            ended.text
-        );
+        let ending = Err(LoadFault::Input(ServeFault::Read));
+        assert!(rt; ended.is(&text, &ending), "{bytes}: {ended:?}");
     }
     Ok(())
 }
 
 #[test]
 fn a_writer_may_fail_after_each_of_its_bytes(rt: HostRuntime) -> Result<(), Fail> {
-    let replies = joined(rt.alloc(), REPLIES.as_slice())?;
+    let replies = replies_to(rt.alloc(), 1_000)?;
     for bytes in 0..replies.len() {
         let ended = session(rt.alloc(), u64::MAX, 0, bytes as u64 + 1)?;
-        assert!(rt;
-            ended.ending == Err(LoadFault::Input(ServeFault::Write)),
-            "{bytes}"
-        );
-        assert!(rt;
-            ended.text.as_slice() == &replies.as_slice()[..bytes],
-            "{bytes}: {:?}",
-            ended.text
-        );
+        let ending = Err(LoadFault::Input(ServeFault::Write));
+        assert!(rt; ended.is(&replies[..bytes], &ending), "{bytes}: {ended:?}");
     }
     Ok(())
 }
@@ -87,12 +72,7 @@ fn lines_stop_at_their_limit_on_reads(rt: HostRuntime) -> Result<(), Fail> {
     ] {
         let ended = session(rt.alloc(), most, 0, 0)?;
         let text = replies_to(rt.alloc(), most)?;
-        assert!(rt; ended.ending == ending, "{most}");
-        assert!(rt;
-            ended.text.as_slice() == text.as_slice(),
-            "{most}: {:?}",
-            ended.text
-        );
+        assert!(rt; ended.is(&text, &ending), "{most}: {ended:?}");
     }
     Ok(())
 }

@@ -5,18 +5,14 @@ use sbl_sessions::{LoadFault, load, serve};
 use std::alloc::Global;
 use std::hash::RandomState;
 use std::test::Fail;
-use test_devices::{Pieces, SameBytes};
+use test_devices::{Pieces, SameBytes, Written};
 
 /// A script that deletes a first `un` or `re`.
 pub(crate) const UN: &[u8] =
     b"externals ( stem )\ndefine stem as ( [ among ( 'un' () 're' () ) ] delete )\n.\n";
 
 /// What a session wrote, and how it ended.
-#[derive(Drop)]
-pub(crate) struct Ended {
-    pub(crate) text: Vec<u8>,
-    pub(crate) ending: Result<(), LoadFault>,
-}
+pub(crate) type Ended = Written<Result<(), LoadFault>>;
 
 /// Runs the session of these lines.
 pub(crate) fn served(
@@ -32,7 +28,7 @@ pub(crate) fn served(
         }
         Err(fault) => Err(fault),
     };
-    Ok(Ended {
+    Ok(Written {
         text: writer.into_inner().inner,
         ending,
     })

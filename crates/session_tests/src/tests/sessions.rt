@@ -114,7 +114,7 @@ fn first_wrong(alloc: Global, rows: &[Row<'_>]) -> Result<Option<usize>, Fail> {
     for (number, (script, rest, text, ending)) in rows.iter().enumerate() {
         let input = joined(alloc, &[script, rest])?;
         let ended = session(alloc, input.as_slice(), 0, 0)?;
-        if ended.ending != *ending || ended.text.as_slice() != *text {
+        if !ended.is(text, ending) {
             return Ok(Some(number));
         }
     }
@@ -174,8 +174,7 @@ fn a_fault_of_reading_or_writing_ends_a_session(rt: HostRuntime) -> Result<(), F
     ];
     for (read, write, fault, text) in rows {
         let ended = session(rt.alloc(), input.as_slice(), read, write)?;
-        assert!(rt; ended.ending == Err(LoadFault::Input(fault)));
-        assert!(rt; ended.text.as_slice() == text, "{:?}", ended.text);
+        assert!(rt; ended.is(text, &Err(LoadFault::Input(fault))), "{ended:?}");
     }
     Ok(())
 }
@@ -227,8 +226,7 @@ fn a_writer_may_be_interrupted_a_thousand_times_in_a_row(rt: HostRuntime) -> Res
         )?;
         let writer = Device::new(in_pieces(Vec::new(rt.alloc()), 2, 0, interruptions));
         let ended = served(lines, writer)?;
-        assert!(rt; ended.ending == ending, "{interruptions}");
-        assert!(rt; ended.text.as_slice() == text, "{interruptions}");
+        assert!(rt; ended.is(text, &ending), "{interruptions}");
     }
     Ok(())
 }
