@@ -4,7 +4,6 @@ mod amongs;
 mod control;
 mod runs;
 mod slices;
-mod stems;
 mod tables;
 mod touched;
 mod whys;

@@ -64,6 +64,10 @@ impl<S: AmongSearch> Machine<S> {
         })
     }
 
+    /// Frees the machine, as a drop does. A crate that drops a machine has to prove its destructors again; a crate that
+    /// calls this instead does not. Does not allocate.
+    pub fn discard(self) {}
+
     /// Runs the script on a word with at most `limit` steps, and returns the items that the run touched, too. Adds one
     /// to the count of the meter.
     ///

@@ -1,23 +1,19 @@
 //! Runs of scripts over words, on both searches.
 
+ghost use Rattle.std.specs.Prelude.{◌≤◌, length, IfOk};
+ghost use Rattle.sbl_semantics.specs.Limit.{max_word_length};
+
 use crate::tests::amongs::AMONGS;
 use crate::tests::control::CONTROL;
-use crate::tests::slices::SLICES;
-use crate::tests::stems::STEMS;
-use sbl_machine::{AmongSearch, LinkedTable, Machine, Meter, Outcome, PlainTable, RunFault};
+use crate::tests::slices::{SLICES, STEMS};
+use crate::tests::touched::touches;
+use crate::tests::whys::does;
+use sbl_machine::{AmongSearch, LinkedTable, Machine, Meter, Outcome, PlainTable};
 use sbl_script::Script;
 use std::alloc::{AllocError, Global};
 use std::process::Abort;
 use std::test::Fail;
-
-/// A word, the steps that its run is given, what the run gives, and the steps that it uses (0: not asked).
-pub(crate) type Row<'a> = (&'a str, u32, Result<&'a str, RunFault>, u64);
-
-/// A script, and the runs of it.
-pub(crate) type Case<'a> = (&'a str, &'a [Row<'a>]);
-
-/// The steps that a run is given if its row is not about them.
-pub(crate) const MOST: u32 = 100_000;
+use test_scripts::{PLURALS, field, with_line_feeds, with_scripts};
 
 /// The machine of a script, with a search.
 pub(crate) fn machine_of<S: AmongSearch>(
@@ -29,56 +25,98 @@ pub(crate) fn machine_of<S: AmongSearch>(
     machine
 }
 
-fn outcome_of(alloc: Global, want: Result<&str, RunFault>) -> Result<Outcome, AllocError> {
-    Ok(match want {
-        Ok(stem) => Outcome::Stem(stem.chars().collect(alloc)?),
-        Err(fault) => Outcome::Refused(fault),
-    })
+/// The machine of a text. The name of a script is a text, too.
+fn machine_named<S: AmongSearch>(alloc: Global, text: &str) -> Result<Machine<S>, Fail> {
+    let text = if text == "PLURALS" { PLURALS } else { text };
+    let text = with_line_feeds(alloc, text)?;
+    let script = Script::parse(alloc, text.as_bytes(), "stem")?;
+    Ok(machine_of(alloc, script)?)
 }
 
-/// Makes the runs of a script on a machine.
-fn run_all<S: AmongSearch>(
-    rt: &impl Abort,
-    alloc: Global,
-    machine: &Machine<S>,
-    case: Case,
-) -> Result<(), Fail> {
-    let (script, rows) = case;
-    for row in rows {
-        let (text, limit, want, used) = *row;
-        let word: Vec<char> = text.chars().collect(alloc)?;
-        assert!(rt; word.len() <= 255);
-        let mut meter = Meter::new();
-        let ran = machine.run(alloc, &mut meter, &word, limit)?;
-        let outcome = outcome_of(alloc, want)?;
-        assert_eq!(rt; &ran.outcome, &outcome, "{text} at {limit}: {script}");
-        assert!(rt;
-            used == 0 || ran.used == used,
-            "{text} at {limit}: {script}"
-        );
-        assert_eq!(rt; meter.count(), 1);
+/// The word of a row, which is its first field.
+pub(crate) fn word_in(rt: &impl Abort, alloc: Global, row: &str) -> Result<Vec<char>, AllocError>
+    ensures { IfOk result (λ word. length word.items ≤ max_word_length) }
+{
+    let word: Vec<char> = field(row, 0).chars().collect(alloc)?;
+    assert!(rt; word.len() <= 255);
+    Ok(word)
+}
+
+/// The steps that the run of a row is given, which are its second field; 100,000 if the row is not about them.
+pub(crate) fn limit_in(row: &str) -> u32 {
+    field(row, 1).parse().unwrap_or(100_000)
+}
+
+/// A stem, or a fault after `!`.
+pub(crate) fn outcome_text(alloc: Global, outcome: &Outcome) -> Result<String, AllocError> {
+    match outcome {
+        Outcome::Stem(stem) => stem.iter().collect(alloc),
+        Outcome::Refused(fault) => format!(in alloc; "!{fault}"),
     }
+}
+
+/// Asserts that a number is the last field of a row, if that is not empty.
+pub(crate) fn has_used(rt: &impl Abort, alloc: Global, used: u64, row: &str) -> Result<(), Fail> {
+    let used = format!(in alloc; "{used}")?;
+    assert!(rt;
+        field(row, 3).is_empty() || field(row, 3) == used.as_str(),
+        "{row}: {used}"
+    );
     Ok(())
 }
 
-/// Makes the runs of scripts with each search.
-fn runs(rt: &impl Abort, alloc: Global, cases: &[Case]) -> Result<(), Fail> {
-    for case in cases {
-        let script = Script::parse(alloc, case.0.as_bytes(), "stem")?;
-        let plain: Machine<PlainTable> = machine_of(alloc, script)?;
-        run_all(rt, alloc, &plain, *case)?;
-        let script = Script::parse(alloc, case.0.as_bytes(), "stem")?;
-        let linked: Machine<LinkedTable> = machine_of(alloc, script)?;
-        run_all(rt, alloc, &linked, *case)?;
+/// Makes the run of a row: the word, the limit of steps, what the run gives, and the steps that it uses.
+fn run_row<S: AmongSearch>(
+    rt: &impl Abort,
+    alloc: Global,
+    machine: &Machine<S>,
+    row: &str,
+) -> Result<(), Fail> {
+    let word = word_in(rt, alloc, row)?;
+    let mut meter = Meter::new();
+    let ran = machine.run(alloc, &mut meter, &word, limit_in(row))?;
+    assert_eq!(rt;
+        outcome_text(alloc, &ran.outcome)?.as_str(),
+        field(row, 2),
+        "{row}"
+    );
+    assert_eq!(rt; meter.count(), 1);
+    has_used(rt, alloc, ran.used, row)
+}
+
+/// What is asked of a machine about each row.
+#[derive(Clone, Copy)]
+pub(crate) enum Asked {
+    Outcome,
+    Items,
+    Events,
+}
+
+/// Asks machines, with a search, about rows. On no path is a machine dropped, whose destructors would be proved here again.
+pub(crate) fn ask<S: AmongSearch>(
+    rt: &impl Abort,
+    alloc: Global,
+    asked: Asked,
+    rows: &str,
+) -> Result<(), Fail> {
+    for (script, row) in with_scripts(alloc, rows)? {
+        let machine: Machine<S> = machine_named(alloc, script)?;
+        let done = match asked {
+            Asked::Outcome => run_row(rt, alloc, &machine, row),
+            Asked::Items => touches(rt, alloc, &machine, row),
+            Asked::Events => does(rt, alloc, &machine, row),
+        };
+        machine.discard();
+        done?;
     }
     Ok(())
 }
 
 #[test]
 fn runs_give_stems_or_are_refused(rt: HostRuntime) -> Result<(), Fail> {
-    let alloc = rt.alloc();
-    runs(&rt, alloc, AMONGS)?;
-    runs(&rt, alloc, CONTROL)?;
-    runs(&rt, alloc, SLICES)?;
-    runs(&rt, alloc, STEMS)
+    for rows in [AMONGS, CONTROL, SLICES, STEMS] {
+        ask::<PlainTable>(&rt, rt.alloc(), Asked::Outcome, rows)?;
+        ask::<LinkedTable>(&rt, rt.alloc(), Asked::Outcome, rows)?;
+    }
+    Ok(())
 }

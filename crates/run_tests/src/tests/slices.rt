@@ -1,41 +1,34 @@
-//! Slices. More rows are in tests/cases.
+//! Slices, and a whole script. More rows are in tests/cases.
 
-use crate::tests::runs::{Case, MOST};
-use sbl_machine::RunFault;
+/// A slice that was set forwards is used backwards; it may not go past the limit; a cursor in the slice goes to its beginning, one
+/// after it moves with the text.
+pub(crate) const SLICES: &str = "= externals ( stem ) define stem as ( next ] tolimit [ delete )
+ab||!62 Slice|6
+a||a|6
+= strings ( s ) externals ( stem ) define stem as ( [ next ] -> s tolimit insert s )
+ab||aba|7
+= externals ( stem ) define stem as ( [ next ] backwards delete )
+ab||b|6
+= externals ( stem ) define stem as ( test ( [ tolimit ] ) setlimit next for delete )
+ab||!62 Slice|
+= externals ( stem ) define stem as ( test ( [ tolimit ] ) hop 2 <- 'xy' <+ '.' )
+abc||.xy|
+= externals ( stem ) define stem as ( [ next ] next <- 'xyz' <+ '.' )
+abc||xyzb.c|
+= externals ( stem ) define stem as ( [ next ] <- 'x' <- 'yz' )
+abc||yzbc|";
 
-pub(crate) const SLICES: &[Case] = &[
-    (
-        "externals ( stem ) define stem as ( next ] tolimit [ delete )",
-        &[
-            ("ab", MOST, Err(RunFault::Slice), 6),
-            ("a", MOST, Ok("a"), 6),
-        ],
-    ),
-    (
-        "strings ( s ) externals ( stem ) define stem as ( [ next ] -> s tolimit insert s )",
-        &[("ab", MOST, Ok("aba"), 7)],
-    ),
-    // a slice that was set forwards is used backwards
-    (
-        "externals ( stem ) define stem as ( [ next ] backwards delete )",
-        &[("ab", MOST, Ok("b"), 6)],
-    ),
-    // it may not go past the limit
-    (
-        "externals ( stem ) define stem as ( test ( [ tolimit ] ) setlimit next for delete )",
-        &[("ab", MOST, Err(RunFault::Slice), 0)],
-    ),
-    // a cursor in the slice goes to its beginning, one after it moves with the text
-    (
-        "externals ( stem ) define stem as ( test ( [ tolimit ] ) hop 2 <- 'xy' <+ '.' )",
-        &[("abc", MOST, Ok(".xy"), 0)],
-    ),
-    (
-        "externals ( stem ) define stem as ( [ next ] next <- 'xyz' <+ '.' )",
-        &[("abc", MOST, Ok("xyzb.c"), 0)],
-    ),
-    (
-        "externals ( stem ) define stem as ( [ next ] <- 'x' <- 'yz' )",
-        &[("abc", MOST, Ok("yzbc"), 0)],
-    ),
-];
+/// A whole script, with the steps that its runs pay.
+pub(crate) const STEMS: &str = "= PLURALS
+boxes||box|
+cakes||cak|
+cake||cak|
+cats||cat|
+s|||16
+dog||dog|12
+s|16||16
+s|15|!60 Steps|16
+s|12|!60 Steps|13
+dog|12|dog|12
+s|11|!60 Steps|12
+dog|11|!60 Steps|12";

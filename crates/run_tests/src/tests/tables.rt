@@ -1,10 +1,12 @@
 //! Searches of the strings of an among, and what is printed of a run's faults.
 
 use sbl_ast::Mode;
-use sbl_machine::{AmongSearch, LinkedTable, PlainTable, RunFault, RunStop};
+use sbl_machine::RunFault::{Cursor, Depth, Divide, Integer, Slice, Steps, TooLong};
+use sbl_machine::{AmongSearch, LinkedTable, PlainTable, RunStop};
 use std::alloc::{AllocError, Global};
 use std::process::Abort;
 use std::test::Fail;
+use test_scripts::printed;
 
 fn table_of<S: AmongSearch>(alloc: Global, mode: Mode, strings: &[&str]) -> Result<S, AllocError> {
     let mut all = Vec::new(alloc);
@@ -44,22 +46,10 @@ fn a_table_finds_the_longest_and_then_the_next_shorter(rt: HostRuntime) -> Resul
 
 #[test]
 fn faults_of_runs_are_printed_with_their_numbers(rt: HostRuntime) -> Result<(), Fail> {
-    let alloc = rt.alloc();
-    let faults = [
-        (RunFault::Steps, "60 Steps"),
-        (RunFault::Depth, "61 Depth"),
-        (RunFault::Slice, "62 Slice"),
-        (RunFault::Cursor, "63 Cursor"),
-        (RunFault::Integer, "64 Integer"),
-        (RunFault::Divide, "65 Divide"),
-        (RunFault::TooLong, "66 TooLong"),
-    ];
-    for (fault, text) in faults {
-        assert_eq!(rt; format!(in alloc; "{fault}")?.as_str(), text);
-    }
-    assert_eq!(rt;
-        format!(in alloc; "{}", RunStop::MeterFull)?.as_str(),
-        "50 MeterFull"
-    );
+    let faults = [Steps, Depth, Slice, Cursor, Integer, Divide, TooLong];
+    let want = "60 Steps;61 Depth;62 Slice;63 Cursor;64 Integer;65 Divide;66 TooLong;";
+    assert_eq!(rt; printed(rt.alloc(), &faults)?.as_str(), want);
+    let stop = printed(rt.alloc(), &[RunStop::MeterFull])?;
+    assert_eq!(rt; stop.as_str(), "50 MeterFull;");
     Ok(())
 }
