@@ -38,8 +38,8 @@ returns-in_err-served-clause-answering g c = record {
       let p = err_from_is_err_and c.from_residual-in_err-served.result c.from_residual-in_err-served.ensures.1 in
       rw (p.1, p.2) (serve_reasons g.R.Source.tally g.W.Sink.tally c.args.lines.now c.load.new.lines c.serve-served.new.lines c.args.writer.now
       c.serve-served.new.writer c.in_err-served.field-0.0 c.in_ok-bench.ensures.remembered c.in_ok-bench.ensures.steady c.load.ensures.bound c.in_err-served.ensures.ends);
-  reads_in_time = search rules;
-  writes_in_time = search rules;
+  reads_in_time = λ timely. c.serve-served.ensures.reads_in_time (c.load.ensures.in_time timely);
+  writes_in_time = c.serve-served.ensures.writes_in_time;
 }
 
 pub returns-clause-session : goal.returns-clause-session
