@@ -16,13 +16,13 @@ const LOOP: &[u8] = b"externals ( stem ) define stem as ( 'a' repeat true )\n.\n
 
 /// What a filter wrote, how it ended, and the line after what it has read.
 #[derive(Debug, Drop)]
-struct Filtered {
+struct FilterEnd {
     written: Written<Result<(), LoadFault>>,
     next: Vec<u8>,
 }
 
 // Filters this input with the external `stem`.
-fn filtered(alloc: Global, script: &[u8], rest: &[u8]) -> Result<Filtered, Fail> {
+fn filtered(alloc: Global, script: &[u8], rest: &[u8]) -> Result<FilterEnd, Fail> {
     let mut input = Vec::from_slice(alloc, script)?;
     input.extend_from_slice(rest)?;
     let mut writer = Device::new(in_pieces(Vec::new(alloc), 4, 0, 0));
@@ -33,7 +33,7 @@ fn filtered(alloc: Global, script: &[u8], rest: &[u8]) -> Result<Filtered, Fail>
         next.extend_from_slice(lines.line())?;
     }
     let text = writer.into_inner().inner;
-    Ok(Filtered {
+    Ok(FilterEnd {
         written: Written { text, ending },
         next,
     })
